@@ -1,0 +1,10 @@
+pub mod Padded
+pub mod Equal
+pub mod EqualJudgements
+pub mod Unions
+pub mod StageLaws
+pub mod JudgementLaws
+pub mod StepLaws
+pub mod Places
+pub mod Examples
+pub mod HeapLaws

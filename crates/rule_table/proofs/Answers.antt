@@ -1,0 +1,41 @@
+-- A rule's answer is sound where the table's is.
+use Rattle.std.proofs.Common.{◌≡◌, List, Option, Bool, true, false, refl, subst, sym, ap}
+use Rattle.heap_formula.specs.declared.proof_rules.RuleFault.TheVariants.{TooManyAtoms, NoFreshVariable}
+use Rattle.std.specs.Prelude.{Result, Ok, Err, Vec, IfOk}
+use Rattle.std.specs.declared.alloc.Global.{Global}
+use Rattle.heap_formula.specs.declared.commands.Command.{Command}
+use Rattle.heap_formula.specs.declared.judgements.Judgement.{Judgement}
+use Rattle.heap_formula.specs.declared.judgements.Premise.{Premise}
+use Rattle.heap_formula.specs.declared.proof_rules.RuleError.{RuleError}
+use Rattle.heap_formula.specs.declared.proof_rules.RuleError.TheVariants.{Fault, OutOfMemory}
+use Rattle.heap_formula.specs.Definitions.{Definition}
+use Rattle.heap_formula.specs.Judgements.{IsLocallySound}
+use Rattle.rule_table.specs.Answer.{Answer, needs, limited, each_heap, is_short, has_numbers}
+use Rattle.rule_table.specs.Answered.{IsAnswer}
+use Rattle.rule_table.specs.Soundness.{IsSound}
+
+pub sound_answer : (ds : List Definition) (lines : List Command) (j : Judgement) (r : Result (Vec Premise Global) RuleError) (answer : Answer) → IsAnswer r answer → IsSound ds lines j answer → IfOk r (λ v. IsLocallySound ds lines j v.items)
+sound_answer ds lines j (Ok v) answer is sound = subst (λ x. IsSound ds lines j x) is sound
+sound_answer ds lines j (Err e) answer is sound = tt
+
+pub sound_answer_all : (j : Judgement) (r : Result (Vec Premise Global) RuleError) (answer : Answer) → IsAnswer r answer → ((ds : List Definition) (lines : List Command) → IsSound ds lines j answer) → IfOk r (λ v. (ds : List Definition) (lines : List Command) → IsLocallySound ds lines j v.items)
+sound_answer_all j (Ok v) answer is sound = λ ds lines. subst (λ x. IsSound ds lines j x) is (sound ds lines)
+sound_answer_all j (Err e) answer is sound = tt
+
+-- ---- the last two faults
+
+pub limited_long : (ps : List Premise) → each_heap is_short ps ≡ false → limited ps ≡ Err TooManyAtoms
+limited_long ps long = ap (λ b. needs b TooManyAtoms (needs (each_heap has_numbers ps) NoFreshVariable (Ok ps))) long
+
+pub limited_short : (r : Result (Vec Premise Global) RuleError) (ps qs : List Premise) → qs ≡ ps → each_heap is_short ps ≡ true → IsAnswer r (needs (each_heap has_numbers qs) NoFreshVariable (Ok qs)) → IsAnswer r (limited ps)
+limited_short r ps qs same short is =
+    let is' : IsAnswer r (needs (each_heap has_numbers ps) NoFreshVariable (Ok ps)) = subst (λ xs. IsAnswer r (needs (each_heap has_numbers xs) NoFreshVariable (Ok xs))) same is in
+    subst (λ b. IsAnswer r (needs b TooManyAtoms (needs (each_heap has_numbers ps) NoFreshVariable (Ok ps)))) (sym short) is'
+
+pub sound_answer_for : (ds : List Definition) (j : Judgement) (r : Result (Vec Premise Global) RuleError) (answer : Answer) (Q : List Command → Type 0) → IsAnswer r answer → ((lines : List Command) → Q lines → IsSound ds lines j answer) → IfOk r (λ v. (lines : List Command) → Q lines → IsLocallySound ds lines j v.items)
+sound_answer_for ds j (Ok v) answer Q is sound = λ lines q. subst (λ x. IsSound ds lines j x) is (sound lines q)
+sound_answer_for ds j (Err e) answer Q is sound = tt
+
+pub sound_answer_any : (j : Judgement) (r : Result (Vec Premise Global) RuleError) (answer : Answer) (Q : List Command → Type 0) → IsAnswer r answer → ((ds : List Definition) (lines : List Command) → Q lines → IsSound ds lines j answer) → IfOk r (λ v. (ds : List Definition) (lines : List Command) → Q lines → IsLocallySound ds lines j v.items)
+sound_answer_any j (Ok v) answer Q is sound = λ ds lines q. subst (λ x. IsSound ds lines j x) is (sound ds lines q)
+sound_answer_any j (Err e) answer Q is sound = tt

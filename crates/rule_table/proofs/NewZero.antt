@@ -1,0 +1,58 @@
+-- Exec at `new 0` is unsound: the premise's cell without fields holds of nothing.
+use Rattle.std.proofs.Common.{◌≡◌, ℕ, zero, suc, ◌<◌, List, [], ◌∷◌, Some, None, refl, sym, ap, ◌∙◌, subst, inl, inr, arith}
+use Rattle.std.specs.Prelude.{slice_get}
+use Rattle.std.specs.FinMap.{insert, get-empty}
+use Rattle.std.specs.Ordering.{nat_cmp}
+use Rattle.heap_formula.specs.declared.terms.Term.TheVariants.{Univ}
+use Rattle.heap_formula.specs.declared.atoms.Spatial.TheVariants.{Cell}
+use Rattle.heap_formula.specs.declared.commands.Command.{Command}
+use Rattle.heap_formula.specs.declared.commands.Command.TheVariants.{New, Load, Stop}
+use Rattle.heap_formula.specs.declared.judgements.Judgement.{Judgement}
+use Rattle.heap_formula.specs.declared.judgements.Judgement.TheVariants.{Term as Runs}
+use Rattle.heap_formula.specs.declared.judgements.Premise.{Premise}
+use Rattle.heap_formula.specs.Symbolic.{SymbolicHeap}
+use Rattle.heap_formula.specs.Cells.{Cells, no_cells, one_cell, cell_at}
+use Rattle.heap_formula.specs.Programs.{Config, Halts, MayPick, Goes, Faults, command_at, field_at, field_of, counted_from_one, start_at, next_line, greatest}
+use Rattle.heap_formula.specs.Judgements.{IsLocallySound}
+use Rattle.heap_formula.proofs.Unions.{empty_union}
+use Rattle.rule_table.specs.Answer.{one}
+use Rattle.rule_table.specs.ExecTable.{at_line, with_cell, renamed}
+use Rattle.rule_table.proofs.CellsIn.{one_cell_has}
+
+-- $0 := new 0; $0 := $0.1
+abbrev lines : List Command
+lines = New 0 0 ∷ Load 0 (Univ 0) 1 ∷ []
+
+abbrev nothing : SymbolicHeap
+nothing = record { pure = []; spatial = [] }
+
+-- what the table would give: from 2 given true : $0 -> ()
+abbrev premise : Premise
+premise = at_line 2 nothing (with_cell (renamed 0 1 nothing) 0 [])
+
+abbrev picked : Config
+picked = record { line = 2; stack = 1 ∷ []; heap = one_cell 1 [] }
+
+load_faults : Faults (Load 0 (Univ 0) 1) picked
+load_faults = ap (λ o. field_of o 1) (one_cell_has 1 [])
+
+stuck : (n : ℕ) → Halts lines 1 n picked → ⊥
+stuck zero h = cc
+stuck (suc n) (inl h) = cc
+stuck (suc n) (inr r) =
+    let is : Load 0 (Univ 0) 1 ≡ r.0 = (let e = r.1 in cc) in
+    r.2 (subst (λ (x : Command). Faults x picked) is load_faults)
+
+runs_on : (n : ℕ) → Halts lines 1 n (start_at lines 1 [] no_cells) → ⊥
+runs_on zero h = cc
+runs_on (suc n) (inl h) = cc
+runs_on (suc n) (inr r) =
+    let is : New 0 0 ≡ r.0 = (let e = r.1 in cc) in
+    let pick : MayPick 1 (start_at lines 1 [] no_cells) 0 1 [] = record { positive = omega arith; within = omega arith; free = get-empty nat_cmp 1; count = refl; values_within = tt } in
+    let way : Goes (New 0 0) 1 (start_at lines 1 [] no_cells) picked = (1, [], pick, refl) in
+    stuck n (r.3 picked (subst (λ (x : Command). Goes x 1 (start_at lines 1 [] no_cells) picked) is way))
+
+pub new_zero_is_unsound : IsLocallySound [] lines (Runs 1 nothing) (one premise) → ⊥
+new_zero_is_unsound sound =
+    let r = sound (λ _. 0) ((λ below follows s h o w pos g part. absurd (let c : 0 < 0 = o.1.1.first.1 in omega arith)), tt) [] no_cells ([], (tt, refl)) 1 (omega arith) no_cells (no_cells, empty_union no_cells) in
+    runs_on r.0 r.1

@@ -1,0 +1,94 @@
+-- Rewrite is sound.
+use Rattle.std.proofs.Common.{◌≡◌, ℕ, zero, suc, ◌⊎◌, Bool, true, false, List, [], ◌∷◌, Some, refl, sym, ap, ◌∙◌, subst, inl, inr, map, cond}
+use Rattle.std.proofs.lemmas.Bool.Decides.{Decides-eqb}
+use Rattle.std.specs.Prelude.{slice_get, slice_index, nat_eq}
+use Rattle.heap_formula.specs.declared.terms.Term.{Term}
+use Rattle.heap_formula.specs.declared.terms.Term.TheVariants.{Nil, Univ, Exist}
+use Rattle.heap_formula.specs.declared.atoms.Pure.{Pure}
+use Rattle.heap_formula.specs.declared.atoms.Pure.TheVariants.{Eq, Neq}
+use Rattle.heap_formula.specs.declared.atoms.Spatial.{Spatial}
+use Rattle.heap_formula.specs.declared.atoms.Spatial.TheVariants.{Cell, Pred}
+use Rattle.heap_formula.specs.declared.commands.Command.{Command}
+use Rattle.heap_formula.specs.declared.judgements.Judgement.TheVariants.{Entail}
+use Rattle.heap_formula.specs.Symbolic.{SymbolicHeap}
+use Rattle.heap_formula.specs.Definitions.{Definition}
+use Rattle.heap_formula.specs.Words.{Each, OneOf}
+use Rattle.heap_formula.specs.Values.{Stack, value}
+use Rattle.heap_formula.specs.Meaning.{PureHolds, Holds, at_stage, Satisfies}
+use Rattle.heap_formula.specs.Judgements.{IsLocallySound}
+use Rattle.heap_formula.specs.Positions.{without, same_pairs}
+use Rattle.heap_formula.specs.Closedness.{InPure, InSpatial, InHeap, IsUniversal}
+use Rattle.heap_formula.specs.Substitution.{apply_term, apply_heap}
+use Rattle.rule_table.proofs.Substitutes.{holds_same, along, back_along}
+use Rattle.rule_table.proofs.Frames.{value_universal, pairs_follow}
+
+abbrev pub AnyTerm : Term → Type 0
+AnyTerm _ = Unit {0}
+
+any_terms : (ts : List Term) → Each AnyTerm ts
+any_terms [] = tt
+any_terms (t ∷ ts) = (tt, any_terms ts)
+
+any_pure : (x : Pure) → InPure AnyTerm x
+any_pure (Eq t u) = (tt, tt)
+any_pure (Neq t u) = (tt, tt)
+
+any_spatial : (x : Spatial) → InSpatial AnyTerm x
+any_spatial (Cell t ts) = (tt, any_terms ts)
+any_spatial (Pred p ts) = any_terms ts
+
+each : {X : Type 0} (P : X → Type 0) → ((x : X) → P x) → (xs : List X) → Each P xs
+each P f [] = tt
+each P f (x ∷ xs) = (f x, each P f xs)
+
+pub any_heap : (a : SymbolicHeap) → InHeap AnyTerm a
+any_heap a = (each (InPure AnyTerm) any_pure a.pure, each (InSpatial AnyTerm) any_spatial a.spatial)
+
+pub Each-get : {X : Type 0} (P : X → Type 0) (xs : List X) (k : ℕ) (x : X) → slice_get xs k ≡ Some x → Each P xs → P x
+Each-get P [] k x at e = cc
+Each-get P (y ∷ xs) zero x at e = let same : y ≡ x = cc in subst P same e.0
+Each-get P (y ∷ xs) (suc k) x at e = Each-get P xs k x at e.1
+
+pub Each-without : {X : Type 0} (P : X → Type 0) (xs : List X) (k : ℕ) → Each P xs → Each P (without k xs)
+Each-without P [] k e = tt
+Each-without P (x ∷ xs) zero e = e.1
+Each-without P (x ∷ xs) (suc k) e = (e.0, Each-without P xs k e.1)
+
+pub OneOf-unmap : {X Y : Type 0} (P : Y → Type 0) (Q : X → Type 0) (f : X → Y) → ((x : X) → P (f x) → Q x) → (xs : List X) → OneOf P (map f xs) → OneOf Q xs
+OneOf-unmap P Q f g [] o = o
+OneOf-unmap P Q f g (x ∷ xs) (inl a) = inl (g x a)
+OneOf-unmap P Q f g (x ∷ xs) (inr o) = inr (OneOf-unmap P Q f g xs o)
+
+one_pair : (b : Bool) (s e : Stack) (n v : ℕ) (u : Term) → nat_eq n v ≡ b → value s e u ≡ slice_index s v → value s e (cond b u (Univ n)) ≡ slice_index s n
+one_pair true s e n v u test same = same ∙ ap (slice_index s) (sym ((Decides-eqb n v).0 test))
+one_pair false s e n v u test same = refl
+
+-- a variable and a term that have one value
+pub value_replaced : (s e : Stack) (v : ℕ) (u : Term) → value s e u ≡ slice_index s v → (t : Term) → AnyTerm t → value s e (apply_term ((v, u) ∷ []) t) ≡ value s e t
+value_replaced s e v u same Nil q = refl
+value_replaced s e v u same (Exist n) q = refl
+value_replaced s e v u same (Univ n) q = one_pair (nat_eq n v) s e n v u refl same
+
+-- an equation between a variable and a term, either way round
+abbrev pub Equates : ℕ → Term → Pure → Type 0
+Equates v u x = (x ≡ Eq (Univ v) u) ⊎ (x ≡ Eq u (Univ v))
+
+equated : (s e : Stack) (v : ℕ) (u : Term) (x : Pure) → Equates v u x → PureHolds s e x → value s e u ≡ slice_index s v
+equated s e v u x (inl q) h = sym (subst (PureHolds s e) q h)
+equated s e v u x (inr q) h = subst (PureHolds s e) q h
+
+abbrev pub rewritten : ℕ → ℕ → Term → SymbolicHeap → SymbolicHeap
+rewritten k v u a = apply_heap ((v, u) ∷ []) (record { pure = without k a.pure; spatial = a.spatial })
+
+pub rewrite_sound : (ds : List Definition) (lines : List Command) (a : SymbolicHeap) (bs : List SymbolicHeap) (k v : ℕ) (u : Term) (x : Pure) → slice_get a.pure k ≡ Some x → Equates v u x → IsUniversal u → IsLocallySound ds lines (Entail a bs) (record { judgement = Entail (rewritten k v u a) (map (apply_heap ((v, u) ∷ [])) bs); pairs = same_pairs a.spatial } ∷ [])
+rewrite_sound ds lines a bs k v u x at equates universal stages premises s h o =
+    let same = equated s o.0 v u x equates (Each-get (PureHolds s o.0) a.pure k x at o.1.0) in
+    let a' : SymbolicHeap = record { pure = without k a.pure; spatial = a.spatial } in
+    let smaller : Holds (λ m. at_stage ds (stages m)) s o.0 a' h = (Each-without (PureHolds s o.0) a.pure k o.1.0, o.1.1) in
+    let moved : Holds (λ m. at_stage ds (stages m)) s o.0 (rewritten k v u a) h =
+    back_along (holds_same AnyTerm (apply_term ((v, u) ∷ [])) s o.0 s o.0 (value_replaced s o.0 v u same) (λ m. at_stage ds (stages m)) a' (any_heap a') h) smaller in
+    let r = premises.0 stages (pairs_follow (λ m. m) stages 0 a.spatial) s h (o.0, moved) in
+    OneOf-unmap (Satisfies ds s h) (Satisfies ds s h) (apply_heap ((v, u) ∷ [])) (λ b t.
+    let e' = t.1.0 in
+    let same' : value s e' u ≡ slice_index s v = value_universal s e' o.0 u universal ∙ same in
+    (t.0, (e', along (holds_same AnyTerm (apply_term ((v, u) ∷ [])) s e' s e' (value_replaced s e' v u same') (λ m. at_stage ds (t.0 m)) b (any_heap b) h) t.1.1))) bs r

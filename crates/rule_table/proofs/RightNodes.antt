@@ -1,0 +1,90 @@
+-- A node without a fault holds where the nodes that its edges lead to do.
+use Rattle.std.proofs.Common.{◌≡◌, ℕ, suc, Bool, true, false, ◌&&◌, List, [], ◌∷◌, length, Option, Some, None, refl, sym, ap, ◌∙◌, subst}
+use Rattle.std.specs.Prelude.{Ok, Err, slice_get, nat_eq, nat_lt}
+use Rattle.std.proofs.lemmas.Bool.Decides.{Decides-eqb}
+use Rattle.heap_formula.specs.declared.atoms.Pure.{Pure}
+use Rattle.heap_formula.specs.declared.atoms.Spatial.{Spatial}
+use Rattle.heap_formula.specs.declared.commands.Command.{Command}
+use Rattle.heap_formula.specs.declared.judgements.Judgement.{Judgement}
+use Rattle.heap_formula.specs.declared.judgements.Judgement.TheVariants.{Entail, Term as Runs}
+use Rattle.heap_formula.specs.declared.judgements.Premise.{Premise}
+use Rattle.heap_formula.specs.declared.proof_rules.Link.{Link}
+use Rattle.heap_formula.specs.declared.proof_rules.Rule.{Rule}
+use Rattle.heap_formula.specs.declared.proof_rules.Reason.{Reason}
+use Rattle.heap_formula.specs.declared.proof_rules.Reason.TheVariants.{Step, Back}
+use Rattle.heap_formula.specs.declared.proof_rules.RuleFault.{RuleFault}
+use Rattle.heap_formula.specs.declared.proof_rules.RuleFault.TheVariants.{PremiseCount, PremiseDiffers, NoSuchNode}
+use Rattle.heap_formula.specs.Symbolic.{SymbolicHeap}
+use Rattle.heap_formula.specs.Definitions.{Definition}
+use Rattle.heap_formula.specs.Words.{Each}
+use Rattle.heap_formula.specs.Closedness.{IsUniversalHeap}
+use Rattle.heap_formula.specs.Meaning.{Stages}
+use Rattle.heap_formula.specs.Judgements.{HoldsAt, PremiseHolds, IsLocallySound, antecedent}
+use Rattle.rule_table.specs.Answer.{Answer, one}
+use Rattle.rule_table.specs.Tests.{same_pure, same_spatial}
+use Rattle.rule_table.specs.LinkTable.{first_of, fault_unless, link_fault, link_premise}
+use Rattle.rule_table.specs.RuleBook.{variables_of, rule_answer}
+use Rattle.rule_table.specs.Soundness.{IsSound, IsCommand, AreUniversal}
+use Rattle.rule_table.specs.Nodes.{Node, all_same, same_heap, same_judgement, differs, premises_fault, answer_fault, target_fault, reason_fault, node_fault, Edge, edges_to, answer_edges, link_edges, reason_edges, edges_of, EdgeHolds, IsReadable}
+use Rattle.rule_table.proofs.Reflects.{both, same_pure_is, same_spatial_is}
+use Rattle.rule_table.proofs.LinkRule.{none_of_two, no_fault, link_is_sound}
+use Rattle.rule_table.proofs.AllRules.{has_variables, rule_is_sound}
+
+all_same_are : {X : Type 0} (same : X → X → Bool) → ((x y : X) → same x y ≡ true → x ≡ y) → (xs ys : List X) → all_same same xs ys ≡ true → xs ≡ ys
+all_same_are same f [] [] e = refl
+all_same_are same f [] (y ∷ ys) e = cc
+all_same_are same f (x ∷ xs) [] e = cc
+all_same_are same f (x ∷ xs) (y ∷ ys) e =
+    let b = both (same x y) (all_same same xs ys) e in λ i. f x y b.0 i ∷ all_same_are same f xs ys b.1 i
+
+same_heap_is : (a b : SymbolicHeap) → same_heap a b ≡ true → a ≡ b
+same_heap_is a b e =
+    let t = both (all_same same_pure a.pure b.pure) (all_same same_spatial a.spatial b.spatial) e in
+    let p = all_same_are same_pure same_pure_is a.pure b.pure t.0 in
+    let s = all_same_are same_spatial same_spatial_is a.spatial b.spatial t.1 in λ i. record { pure = p i; spatial = s i }
+
+pub same_judgement_is : (j k : Judgement) → same_judgement j k ≡ true → j ≡ k
+same_judgement_is (Entail a bs) (Entail b cs) e =
+    let t = both (same_heap a b) (all_same same_heap bs cs) e in
+    λ i. Entail (same_heap_is a b t.0 i) (all_same_are same_heap same_heap_is bs cs t.1 i)
+same_judgement_is (Runs m a) (Runs n b) e =
+    let t = both (nat_eq m n) (same_heap a b) e in λ i. Runs ((Decides-eqb m n).0 t.0 i) (same_heap_is a b t.1 i)
+same_judgement_is (Entail a bs) (Runs n b) e = cc
+same_judgement_is (Runs m a) (Entail b cs) e = cc
+
+module _ (ds : List Definition) (lines : List Command) (nodes : List Node) where
+  pub found_same : (i u : ℕ) (p : Premise) (o : Option Node) → differs nodes i u p o ≡ None → (node : Node) × (o ≡ Some node) × (p.judgement ≡ node.judgement)
+  found_same i u p None e = cc
+  found_same i u p (Some node) e =
+      (node, refl, same_judgement_is p.judgement node.judgement (no_fault (same_judgement p.judgement node.judgement) (PremiseDiffers i) e))
+
+  premises_hold : (v i : ℕ) (ps : List Premise) (us : List ℕ) (stages : Stages) → premises_fault nodes v i ps us ≡ None → Each (EdgeHolds ds lines nodes stages) (edges_to ps us) → Each (PremiseHolds ds lines stages) ps
+  premises_hold v i [] us stages e h = tt
+  premises_hold v i (p ∷ ps) [] stages e h = cc
+  premises_hold v i (p ∷ ps) (u ∷ us) stages e h =
+      let f = none_of_two (fault_unless (nat_lt v u) NoSuchNode) (first_of (differs nodes i u p (slice_get nodes u)) (premises_fault nodes v (suc i) ps us)) e in
+      let g = none_of_two (differs nodes i u p (slice_get nodes u)) (premises_fault nodes v (suc i) ps us) f.1 in
+      let found = found_same i u p (slice_get nodes u) g.0 in
+      (λ below follows. subst (HoldsAt ds lines below) (sym found.2) (h.0 below follows found.0 found.1), premises_hold v (suc i) ps us stages g.1 h.1)
+
+  answer_holds : (j : Judgement) (v : ℕ) (us : List ℕ) (answer : Answer) (stages : Stages) → IsSound ds lines j answer → answer_fault nodes v us answer ≡ None → Each (EdgeHolds ds lines nodes stages) (answer_edges us answer) → HoldsAt ds lines stages j
+  answer_holds j v us (Err f) stages sound e h = cc
+  answer_holds j v us (Ok ps) stages sound e h =
+      let f = none_of_two (fault_unless (nat_eq (length ps) (length us)) PremiseCount) (premises_fault nodes v 0 ps us) e in
+      sound stages (premises_hold v 0 ps us stages f.1 h)
+
+  target_holds : (j : Judgement) (link : Link) (o : Option Node) (stages : Stages) → AreUniversal link.subst → slice_get nodes link.target ≡ o → target_fault j link (variables_of lines j) o ≡ None → Each (EdgeHolds ds lines nodes stages) (link_edges link o) → HoldsAt ds lines stages j
+  target_holds j link None stages u at e h = cc
+  target_holds j link (Some node) stages u at e h =
+      link_is_sound ds lines j node.judgement link (variables_of lines j) u (has_variables lines j) e stages (λ below follows. h.0 below follows node at, tt)
+
+  reason_holds : (v : ℕ) (j : Judgement) (us : List ℕ) (reason : Reason) (stages : Stages) → Each IsCommand lines → IsReadable j reason → reason_fault ds lines nodes v j us reason ≡ None → Each (EdgeHolds ds lines nodes stages) (reason_edges ds lines nodes j us reason) → HoldsAt ds lines stages j
+  reason_holds v j us (Step rule) stages commands readable e h =
+      answer_holds j v us (rule_answer ds lines j rule) stages (rule_is_sound ds lines j rule readable commands) e h
+  reason_holds v j us (Back link) stages commands readable e h =
+      let f = none_of_two (target_fault j link (variables_of lines j) (slice_get nodes link.target)) _ e in
+      target_holds j link (slice_get nodes link.target) stages readable refl f.0 h
+
+  pub node_holds : (v : ℕ) (node : Node) (stages : Stages) → Each IsCommand lines → IsReadable node.judgement node.reason → node_fault ds lines nodes v node ≡ None → Each (EdgeHolds ds lines nodes stages) (edges_of ds lines nodes node) → HoldsAt ds lines stages node.judgement
+  node_holds v node stages commands readable e h =
+      reason_holds v node.judgement node.premises node.reason stages commands readable e h

@@ -1,0 +1,116 @@
+-- The faults of a node of a proof, and its edges.
+use Rattle.std.specs.Prelude.{◌≡◌, ℕ, suc, List, [], ◌∷◌, length, Bool, true, false, ◌&&◌, nat_eq, nat_lt, cond, Option, Some, None, Ok, Err, slice_get}
+use Rattle.heap_formula.specs.declared.atoms.Pure.{Pure}
+use Rattle.heap_formula.specs.declared.atoms.Spatial.{Spatial}
+use Rattle.heap_formula.specs.declared.commands.Command.{Command}
+use Rattle.heap_formula.specs.declared.judgements.Judgement.{Judgement}
+use Rattle.heap_formula.specs.declared.judgements.Judgement.TheVariants.{Entail, Term as Runs}
+use Rattle.heap_formula.specs.declared.judgements.Pair.{Pair}
+use Rattle.heap_formula.specs.declared.judgements.Premise.{Premise}
+use Rattle.heap_formula.specs.declared.proof_rules.Link.{Link}
+use Rattle.heap_formula.specs.declared.proof_rules.Rule.{Rule}
+use Rattle.heap_formula.specs.declared.proof_rules.Reason.{Reason}
+use Rattle.heap_formula.specs.declared.proof_rules.Reason.TheVariants.{Step, Back}
+use Rattle.heap_formula.specs.declared.proof_rules.RuleFault.{RuleFault}
+use Rattle.heap_formula.specs.declared.proof_rules.RuleFault.TheVariants.{PremiseCount, PremiseDiffers, NoSuchNode}
+use Rattle.heap_formula.specs.Symbolic.{SymbolicHeap}
+use Rattle.heap_formula.specs.Definitions.{Definition}
+use Rattle.heap_formula.specs.Closedness.{IsUniversalHeap}
+use Rattle.heap_formula.specs.Judgements.{HoldsAt, Follows, antecedent}
+use Rattle.rule_table.specs.Soundness.{AreUniversal}
+use Rattle.heap_formula.specs.Meaning.{Stages}
+use Rattle.rule_table.specs.Answer.{Answer}
+use Rattle.rule_table.specs.Tests.{same_pure, same_spatial}
+use Rattle.rule_table.specs.LinkTable.{first_of, fault_unless, link_fault, link_premise}
+use Rattle.rule_table.specs.RuleBook.{variables_of, rule_answer}
+
+pub record Node : Type 0 where
+  pub judgement : Judgement
+  pub reason : Reason
+  pub premises : List ℕ
+
+-- ---- judgements that are one as they stand
+
+abbrev pub all_same : {X : Type 0} → (X → X → Bool) → List X → List X → Bool
+all_same same [] [] = true
+all_same same [] (y ∷ ys) = false
+all_same same (x ∷ xs) [] = false
+all_same same (x ∷ xs) (y ∷ ys) = same x y && all_same same xs ys
+
+abbrev pub same_heap : SymbolicHeap → SymbolicHeap → Bool
+same_heap a b = all_same same_pure a.pure b.pure && all_same same_spatial a.spatial b.spatial
+
+abbrev pub same_judgement : Judgement → Judgement → Bool
+same_judgement (Entail a bs) (Entail b cs) = same_heap a b && all_same same_heap bs cs
+same_judgement (Runs i a) (Runs k b) = nat_eq i k && same_heap a b
+same_judgement (Entail a bs) (Runs k b) = false
+same_judgement (Runs i a) (Entail b cs) = false
+
+-- ---- faults
+
+-- the node of this number, if it is above v
+abbrev pub differs : List Node → ℕ → ℕ → Premise → Option Node → Option RuleFault
+differs nodes i u premise None = Some NoSuchNode
+differs nodes i u premise (Some node) = fault_unless (same_judgement premise.judgement node.judgement) (PremiseDiffers i)
+
+-- the first premise whose number is not above v, or is no node's, or whose judgement is another; both lists begin at place i
+abbrev pub premises_fault : List Node → ℕ → ℕ → List Premise → List ℕ → Option RuleFault
+premises_fault nodes v i [] [] = None
+premises_fault nodes v i [] (u ∷ us) = Some PremiseCount
+premises_fault nodes v i (p ∷ ps) [] = Some PremiseCount
+premises_fault nodes v i (p ∷ ps) (u ∷ us) =
+    first_of (fault_unless (nat_lt v u) NoSuchNode) (first_of (differs nodes i u p (slice_get nodes u)) (premises_fault nodes v (suc i) ps us))
+
+abbrev pub answer_fault : List Node → ℕ → List ℕ → Answer → Option RuleFault
+answer_fault nodes v us (Err f) = Some f
+answer_fault nodes v us (Ok ps) =
+    first_of (fault_unless (nat_eq (length ps) (length us)) PremiseCount) (premises_fault nodes v 0 ps us)
+
+abbrev pub target_fault : Judgement → Link → ℕ → Option Node → Option RuleFault
+target_fault bud link p None = Some NoSuchNode
+target_fault bud link p (Some node) = link_fault bud node.judgement link p
+
+-- the first fault of node v
+abbrev pub reason_fault : List Definition → List Command → List Node → ℕ → Judgement → List ℕ → Reason → Option RuleFault
+reason_fault ds lines nodes v j us (Step rule) = answer_fault nodes v us (rule_answer ds lines j rule)
+reason_fault ds lines nodes v j us (Back link) =
+    first_of (target_fault j link (variables_of lines j) (slice_get nodes link.target)) (fault_unless (nat_eq (length us) 0) PremiseCount)
+
+abbrev pub node_fault : List Definition → List Command → List Node → ℕ → Node → Option RuleFault
+node_fault ds lines nodes v node = reason_fault ds lines nodes v node.judgement node.premises node.reason
+
+-- ---- edges
+
+pub record Edge : Type 0 where
+  pub target : ℕ
+  pub pairs : List Pair
+
+abbrev pub edges_to : List Premise → List ℕ → List Edge
+edges_to [] us = []
+edges_to (p ∷ ps) [] = []
+edges_to (p ∷ ps) (u ∷ us) = record { target = u; pairs = p.pairs } ∷ edges_to ps us
+
+abbrev pub answer_edges : List ℕ → Answer → List Edge
+answer_edges us (Err f) = []
+answer_edges us (Ok ps) = edges_to ps us
+
+abbrev pub link_edges : Link → Option Node → List Edge
+link_edges link None = []
+link_edges link (Some node) = record { target = link.target; pairs = (link_premise node.judgement link).pairs } ∷ []
+
+abbrev pub reason_edges : List Definition → List Command → List Node → Judgement → List ℕ → Reason → List Edge
+reason_edges ds lines nodes j us (Step rule) = answer_edges us (rule_answer ds lines j rule)
+reason_edges ds lines nodes j us (Back link) = link_edges link (slice_get nodes link.target)
+
+abbrev pub edges_of : List Definition → List Command → List Node → Node → List Edge
+edges_of ds lines nodes node = reason_edges ds lines nodes node.judgement node.premises node.reason
+
+-- the edge's target holds at all stages that follow these
+abbrev pub EdgeHolds : List Definition → List Command → List Node → Stages → Edge → Type 0
+EdgeHolds ds lines nodes stages edge =
+    (below : Stages) → Follows edge.pairs stages below → (node : Node) → slice_get nodes edge.target ≡ Some node → HoldsAt ds lines below node.judgement
+
+-- what the reader of a file sees to: no existential in an antecedent, nor in a substitution
+abbrev pub IsReadable : Judgement → Reason → Type 0
+IsReadable j (Step rule) = IsUniversalHeap (antecedent j)
+IsReadable j (Back link) = AreUniversal link.subst

@@ -1,0 +1,34 @@
+-- The whole table.
+use Rattle.std.specs.Prelude.{ℕ, List}
+use Rattle.heap_formula.specs.declared.commands.Command.{Command}
+use Rattle.heap_formula.specs.declared.judgements.Judgement.{Judgement}
+use Rattle.heap_formula.specs.declared.judgements.Judgement.TheVariants.{Entail, Term as Runs}
+use Rattle.heap_formula.specs.declared.proof_rules.Rule.{Rule}
+use Rattle.heap_formula.specs.declared.proof_rules.Rule.TheVariants.{Absurd, Rewrite, Split, Distinct, Weaken, Unfold, Cut, Done, Choose, PureRight, Instantiate, Frame, UnfoldRight, Exec, Drop}
+use Rattle.heap_formula.specs.Definitions.{Definition}
+use Rattle.heap_formula.specs.Programs.{program_variables}
+use Rattle.rule_table.specs.Answer.{Answer}
+use Rattle.rule_table.specs.Table.{absurd_answer, rewrite_answer, split_answer, distinct_answer, weaken_answer, unfold_answer, cut_answer, done_answer, choose_answer, pure_right_answer, instantiate_answer, frame_answer, unfold_right_answer, drop_answer}
+use Rattle.rule_table.specs.ExecTable.{exec_answer}
+
+-- the number of program variables for a `from` judgement, 0 for an entailment
+abbrev pub variables_of : List Command → Judgement → ℕ
+variables_of lines (Entail a bs) = 0
+variables_of lines (Runs i a) = program_variables lines
+
+abbrev pub rule_answer : List Definition → List Command → Judgement → Rule → Answer
+rule_answer ds lines j Absurd = absurd_answer j
+rule_answer ds lines j (Rewrite k side) = rewrite_answer (variables_of lines j) j k side
+rule_answer ds lines j (Split t u) = split_answer j t u
+rule_answer ds lines j (Distinct i k) = distinct_answer j i k
+rule_answer ds lines j (Weaken k) = weaken_answer j k
+rule_answer ds lines j (Unfold k) = unfold_answer ds (variables_of lines j) j k
+rule_answer ds lines j (Cut places f) = cut_answer (variables_of lines j) j places f
+rule_answer ds lines j Done = done_answer j
+rule_answer ds lines j (Choose k) = choose_answer j k
+rule_answer ds lines j (PureRight k) = pure_right_answer j k
+rule_answer ds lines j (Instantiate v t) = instantiate_answer j v t
+rule_answer ds lines j (Frame i k) = frame_answer j i k
+rule_answer ds lines j (UnfoldRight k c) = unfold_right_answer ds j k c
+rule_answer ds lines j Exec = exec_answer lines j
+rule_answer ds lines j (Drop k) = drop_answer j k

@@ -1,0 +1,125 @@
+// Terms in place of others.
+ghost use Rattle.std.specs.Prelude.{◌≡◌, ◌+◌, ◌≤◌, ◌++◌, min, map, IfOk, OnOk, length, slice_index_or};
+ghost use Rattle.heap_formula.specs.declared.terms.Term.TheVariants.{Nil};
+ghost use Rattle.heap_formula.specs.Substitution.{in_pure, in_spatial};
+ghost use Rattle.rule_table.specs.Changes.{changed, IsSmall};
+
+use heap_formula::{Args, Pure, Spatial, Term};
+use std::alloc::{AllocError, Global};
+
+/// What stands for the variables of a formula.
+#[derive(Clone, Copy)]
+pub enum Change {
+    /// Arguments for the parameters of a case, and universal variables from a number on for its locals.
+    Left(Args, u32),
+    /// Arguments for the parameters of a case, and existential variables from a number on for its locals.
+    Right(Args, u32),
+    /// Universal variables from a number on for the existential ones.
+    Opened(u32),
+}
+
+/// The number after the greatest stands for all that pass it.
+fn number(from: u32, j: u16) -> u16
+    requires { from ≤ 65536 }
+    ensures { result ≡ min (from + j) 65535 }
+{
+    (from + j as u32).min(65535) as u16
+}
+
+fn argument(args: &Args, j: u16) -> Term
+    ensures { result ≡ slice_index_or args.now j Nil }
+{
+    let terms = args.as_slice();
+    if (j as usize) < terms.len() {
+        terms[j as usize]
+    } else {
+        Term::Nil
+    }
+}
+
+fn of_term(change: &Change, term: Term) -> Term
+    requires { IsSmall change.now }
+    ensures { result ≡ changed change.now term }
+{
+    match (change, term) {
+        (_, Term::Nil) => Term::Nil,
+        (Change::Left(args, _), Term::Univ(j)) => argument(args, j),
+        (Change::Right(args, _), Term::Univ(j)) => argument(args, j),
+        (Change::Opened(_), Term::Univ(j)) => Term::Univ(j),
+        (Change::Left(_, n), Term::Exist(j)) => Term::Univ(number(*n, j)),
+        (Change::Right(_, n), Term::Exist(j)) => Term::Exist(number(*n, j)),
+        (Change::Opened(n), Term::Exist(j)) => Term::Univ(number(*n, j)),
+    }
+}
+
+fn of_args(change: &Change, args: &Args) -> Args
+    requires { IsSmall change.now }
+    ensures { result ≡ map (changed change.now) args.now }
+{
+    let mut terms = [Term::Nil; 8];
+    let count = args.len();
+    for (i, term) in args.as_slice().iter().enumerate() {
+        terms[i] = of_term(change, *term);
+    }
+    Args::from_slice(&terms[..count])
+}
+
+fn of_pure(change: &Change, atom: Pure) -> Pure
+    requires { IsSmall change.now }
+    ensures { result ≡ in_pure (changed change.now) atom }
+{
+    match atom {
+        Pure::Eq(t, u) => Pure::Eq(of_term(change, t), of_term(change, u)),
+        Pure::Neq(t, u) => Pure::Neq(of_term(change, t), of_term(change, u)),
+    }
+}
+
+fn of_spatial(change: &Change, atom: &Spatial) -> Spatial
+    requires { IsSmall change.now }
+    ensures { result ≡ in_spatial (changed change.now) atom.now }
+{
+    match atom {
+        Spatial::Cell(t, args) => Spatial::Cell(of_term(change, *t), of_args(change, args)),
+        Spatial::Pred(p, args) => Spatial::Pred(*p, of_args(change, args)),
+    }
+}
+
+/// The atoms with the change, after others.
+pub fn push_pures(all: &mut Vec<Pure>, change: &Change, atoms: &[Pure]) -> Result<(), AllocError>
+    requires { IsSmall change.now }
+    ensures { OnOk result (all.new.items ≡ all.old.items ++ map (in_pure (changed change.now)) atoms.now) }
+{
+    for atom in atoms {
+        all.push(of_pure(change, *atom))?;
+    }
+    Ok(())
+}
+
+/// The atoms with the change, after others.
+pub fn push_spatials(
+    all: &mut Vec<Spatial>,
+    change: &Change,
+    atoms: &[Spatial],
+) -> Result<(), AllocError>
+    requires { IsSmall change.now }
+    ensures { OnOk result (all.new.items ≡ all.old.items ++ map (in_spatial (changed change.now)) atoms.now) }
+{
+    for atom in atoms {
+        all.push(of_spatial(change, atom))?;
+    }
+    Ok(())
+}
+
+/// The atoms with the change.
+pub fn changed_spatials(
+    alloc: Global,
+    change: &Change,
+    atoms: &[Spatial],
+) -> Result<Vec<Spatial>, AllocError>
+    requires { IsSmall change.now }
+    ensures { IfOk result (λ v. v.items ≡ map (in_spatial (changed change.now)) atoms.now) }
+{
+    let mut all = Vec::new(alloc);
+    push_spatials(&mut all, change, atoms)?;
+    Ok(all)
+}

@@ -1,0 +1,151 @@
+// The limits that premises keep.
+ghost use Rattle.std.specs.Prelude.{◌≡◌, ◌≤◌, ◌<◌, true, ◌+◌, ◌&&◌, max, map, length, nat_le};
+ghost use Rattle.heap_formula.specs.Words.{max_of};
+ghost use Rattle.heap_formula.specs.declared.proof_rules.RuleFault.TheVariants.{NoFreshVariable};
+ghost use Rattle.rule_table.specs.Answer.{needs, every, is_short, has_numbers, each_heap, heaps_of, number_bound, terms_numbers, pure_numbers, spatial_numbers, heap_numbers};
+ghost use Rattle.rule_table.specs.Answered.{IsAnswer};
+ghost use Rattle.rule_table.specs.Table.{with_pure};
+ghost use Rattle.heap_formula.specs.Judgements.{antecedent};
+ghost use Rattle.heap_formula.specs.declared.atoms.Pure.{Pure};
+
+use heap_formula::{Heap, Judgement, Premise, Pure, RuleError, RuleFault, Spatial, Term};
+
+fn of_term(term: Term) -> u32
+    ensures value { result ≡ number_bound term }
+    ensures fits { result ≤ 65536 }
+{
+    match term {
+        Term::Univ(n) | Term::Exist(n) => n as u32 + 1,
+        Term::Nil => 0,
+    }
+}
+
+fn of_terms(terms: &[Term]) -> u32
+    ensures value { result ≡ terms_numbers terms.now }
+    ensures fits { result ≤ 65536 }
+{
+    let mut most = 0;
+    for term in terms {
+        most = most.max(of_term(*term));
+    }
+    most
+}
+
+fn of_pure(atom: Pure) -> u32
+    ensures value { result ≡ pure_numbers atom }
+    ensures fits { result ≤ 65536 }
+{
+    match atom {
+        Pure::Eq(t, u) | Pure::Neq(t, u) => of_term(t).max(of_term(u)),
+    }
+}
+
+fn of_spatial(atom: &Spatial) -> u32
+    ensures value { result ≡ spatial_numbers atom.now }
+    ensures fits { result ≤ 65536 }
+{
+    match atom {
+        Spatial::Cell(t, args) => of_term(*t).max(of_terms(args.as_slice())),
+        Spatial::Pred(_, args) => of_terms(args.as_slice()),
+    }
+}
+
+fn of_pures(atoms: &[Pure]) -> u32
+    ensures value { result ≡ max_of (map pure_numbers atoms.now) }
+    ensures fits { result ≤ 65536 }
+{
+    let mut most = 0;
+    for atom in atoms {
+        most = most.max(of_pure(*atom));
+    }
+    most
+}
+
+fn of_spatials(atoms: &[Spatial]) -> u32
+    ensures value { result ≡ max_of (map spatial_numbers atoms.now) }
+    ensures fits { result ≤ 65536 }
+{
+    let mut most = 0;
+    for atom in atoms {
+        most = most.max(of_spatial(atom));
+    }
+    most
+}
+
+fn are_small(heap: &Heap) -> bool
+    ensures { result ≡ has_numbers heap.now }
+{
+    of_pures(heap.pure()).max(of_spatials(heap.spatial())) <= 65535
+}
+
+fn all_small(heaps: &[Heap]) -> bool
+    ensures { result ≡ every has_numbers heaps.now }
+{
+    for heap in heaps {
+        if !are_small(heap) {
+            return false;
+        }
+    }
+    true
+}
+
+fn judgement_small(judgement: &Judgement) -> bool
+    ensures { result ≡ every has_numbers (heaps_of judgement.now) }
+{
+    match judgement {
+        Judgement::Entail(a, bs) => are_small(a) && all_small(bs.heaps()),
+        Judgement::Term(_, a) => are_small(a),
+    }
+}
+
+fn premises_small(premises: &[Premise]) -> bool
+    ensures { result ≡ each_heap has_numbers premises.now }
+{
+    for premise in premises {
+        if !judgement_small(&premise.judgement) {
+            return false;
+        }
+    }
+    true
+}
+
+/// The premises, if no variable's number passes the limit.
+pub fn numbered(premises: Vec<Premise>) -> Result<Vec<Premise>, RuleError>
+    ensures { IsAnswer result (needs (each_heap has_numbers premises.items) NoFreshVariable (Ok premises.items)) }
+{
+    if premises_small(&premises) {
+        Ok(premises)
+    } else {
+        Err(RuleError::Fault(RuleFault::NoFreshVariable))
+    }
+}
+
+fn is_short_heap(heap: &Heap) -> bool
+    ensures { result ≡ is_short heap.now }
+{
+    heap.pure().len() <= 64 && heap.spatial().len() <= 16
+}
+
+pub fn all_short(heaps: &[Heap]) -> bool
+    ensures { result ≡ every is_short heaps.now }
+{
+    for heap in heaps {
+        if !is_short_heap(heap) {
+            return false;
+        }
+    }
+    true
+}
+
+/// Whether one more pure atom on the left keeps the limits.
+pub fn has_room(judgement: &Judgement) -> bool
+    ensures each { (x : Pure) → result ≡ every is_short (heaps_of (with_pure judgement.now x).judgement) }
+    ensures room { result ≡ true → length (antecedent judgement.now).pure < 64 }
+{
+    match judgement {
+        Judgement::Entail(a, bs) => a.pure().len() < 64
+            && a.spatial().len() <= 16
+            && all_short(bs.heaps()),
+        Judgement::Term(_, a) => a.pure().len() < 64 && a.spatial().len() <= 16,
+    }
+}
