@@ -1,0 +1,9 @@
+use Rattle.std.proofs.Common.{◌≡◌, ◌+◌, ◌≤◌, map, take, drop, length}
+use Rattle.heap_formula.specs.Words.{max_of}
+use Rattle.heap_formula.specs.Fresh.{exist_bound, pure_exists, spatial_exists}
+use Rattle.heap_formula.specs.Substitution.{in_pure, in_spatial}
+use Rattle.pred_defs.specs.Bodies.{body_term, first_fresh}
+use Rattle.pred_defs.proofs.bodies.of_pures.Given as goal
+
+abbrev pub invariant-loop-atom : goal.invariant-loop-atom
+invariant-loop-atom l = (l.made.items ≡ map (in_pure (body_term l.args l.fresh)) (take l.atom-index l.atoms)) × (first_fresh l.fresh + max_of (map pure_exists (drop l.atom-index l.atoms)) ≤ 65536)
