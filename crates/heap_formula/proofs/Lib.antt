@@ -6,5 +6,5 @@ pub mod StageLaws
 pub mod JudgementLaws
 pub mod StepLaws
 pub mod Places
-pub mod Examples
 pub mod HeapLaws
+pub mod Insertions

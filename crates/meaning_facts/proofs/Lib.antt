@@ -1,0 +1,4 @@
+pub mod Segments
+pub mod Endless
+pub mod Free
+pub mod Allocates
