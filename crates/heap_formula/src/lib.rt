@@ -14,6 +14,8 @@ mod questions;
 mod short_lists;
 mod substitution;
 mod terms;
+#[cfg(test)]
+mod tests;
 
 pub use atoms::{Atom, Pure, Spatial};
 pub use commands::Command;

@@ -130,8 +130,8 @@ fn definition(alloc: Global, name: &str, arity: u32, cases: &[Heap]) -> Result<D
 fn has_name(defs: &[Def], name: &str) -> bool
     ensures { result ≡ list_has_name defs.now name.now }
 {
-    for def in defs {
-        if def.name.as_text() == name {
+    for known in defs {
+        if known.name.as_text() == name {
             return true;
         }
     }

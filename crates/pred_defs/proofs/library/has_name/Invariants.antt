@@ -2,5 +2,5 @@ use Rattle.std.proofs.Common.{◌≡◌, drop}
 use Rattle.pred_defs.specs.Faults.{has_name}
 use Rattle.pred_defs.proofs.library.has_name.Given as goal
 
-abbrev pub invariant-loop-def : goal.invariant-loop-def
-invariant-loop-def l = has_name (drop l.def-index l.defs) l.name ≡ has_name l.defs l.name
+abbrev pub invariant-loop-known : goal.invariant-loop-known
+invariant-loop-known l = has_name (drop l.known-index l.defs) l.name ≡ has_name l.defs l.name
