@@ -1,0 +1,5 @@
+pub mod Tests
+pub mod Pieces
+pub mod Lexed
+pub mod LaidOut
+pub mod Written

@@ -1,0 +1,6 @@
+pub mod Placed
+pub mod Characters
+pub mod Word
+pub mod Lexing
+pub mod Answer
+pub mod Spacing
