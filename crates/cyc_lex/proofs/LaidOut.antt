@@ -11,6 +11,7 @@ use Rattle.cyc_lex.specs.declared.place.Piece.TheVariants as pieces
 use Rattle.cyc_lex.specs.Placed.{Placed}
 use Rattle.cyc_lex.specs.Word.{Word, word_of, end_word}
 use Rattle.cyc_lex.specs.Characters.{is_space}
+use Rattle.cyc_lex.specs.Spelling.{HasWords}
 use Rattle.cyc_lex.specs.Lexing.{pass, pass_all, piece_at, taken, token_at, with_token, len_fault, lex, ended}
 use Rattle.cyc_lex.proofs.Pieces.{skip}
 use Rattle.cyc_lex.proofs.Lexed.{taken-token}
@@ -34,10 +35,6 @@ AllSpaces (c ∷ cs) = (is_space c ≡ true) × AllSpaces cs
 pub data Laid : List Word → List ℕ → Type 0 where
   blank : (gap : List ℕ) → AllSpaces gap → Laid [] gap
   laid : (gap : List ℕ) (w : Word) (joins : ℕ → Bool) (c : ℕ) (cs rest : List ℕ) (ws : List Word) → AllSpaces gap → IsToken w joins c cs → NotJoined joins rest → Laid ws rest → Laid (w ∷ ws) (gap ++ ((c ∷ cs) ++ rest))
-
--- the tokens have these words, and then the end
-abbrev pub HasWords : Result (List Placed) (Bad × Place) → List Word → Type 0
-HasWords r ws = (ts : List Placed) × (r ≡ Ok ts) × (map word_of ts ≡ ws ++ end_word ∷ [])
 
 space-passed : (p : Place) (c : ℕ) (cs : List ℕ) → is_space c ≡ true → lex true p 0 (c ∷ cs) ≡ lex true (pass p c) 0 cs
 unfolding lex

@@ -3,3 +3,5 @@ pub mod Pieces
 pub mod Lexed
 pub mod LaidOut
 pub mod Written
+pub mod Symbols
+pub mod Lexemes

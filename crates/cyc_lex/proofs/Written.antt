@@ -6,7 +6,7 @@ use lib.Utf8.{scalar, encode}
 use Rattle.std.proofs.Common.{lit<, subst, eqb-true, ◌<◌}
 use Rattle.std.proofs.lemmas.Bool.{le-ltb}
 use Rattle.std.specs.List.{list_all, prefix_len}
-use Rattle.cyc_lex.specs.declared.token.Kind.TheVariants.{Name, Number}
+use Rattle.cyc_lex.specs.declared.token.Kind.TheVariants.{Name, Number, End}
 use Rattle.std.specs.Char.{is_ascii_digit, is_ascii_alphabetic}
 use Rattle.std.proofs.lemmas.Bool.{ne_eqb}
 use Rattle.std.proofs.lemmas.Bool.Decides.{nat_tests}
@@ -14,12 +14,15 @@ use Rattle.cyc_lex.specs.Characters.{starts_name, is_space, is_double}
 use Rattle.unicode_ident.specs.Ident.{is_xid_continue}
 use Rattle.unicode_ident.proofs.IdentLemmas.{is_xid_start-ascii, is_xid_continue-ascii}
 use Rattle.std.specs.Str.{encode_utf8_all, all_scalars, chars}
-use Rattle.std.proofs.lemmas.Str.{encodes-append, chars-encodes}
+use Rattle.std.proofs.lemmas.Str.{encodes-append, chars-encodes, chars-nil}
 use Rattle.cyc_lex.specs.Word.{Word, is_name, is_symbol}
 use Rattle.cyc_lex.specs.Spacing.{is_text, closes_up, is_closed_up, ends_line, text_behind, text_of}
-use Rattle.cyc_lex.specs.Lexing.{lex, start}
+use Rattle.cyc_lex.specs.Lexing.{lex, start, token_at}
 use Rattle.cyc_lex.proofs.Tests.{and-parts, or-parts}
-use Rattle.cyc_lex.proofs.LaidOut.{IsToken, NotJoined, AllSpaces, Laid, blank, laid, HasWords, laid-read}
+use Rattle.cyc_lex.proofs.LaidOut.{IsToken, NotJoined, AllSpaces, Laid, blank, laid, laid-read}
+use Rattle.cyc_lex.specs.Spelling.{HasWords, Spells}
+use Rattle.cyc_lex.proofs.Lexed.{whole-text}
+use Rattle.cyc_lex.specs.Lexing.{tokens_of}
 
 -- one of , ) ] . ;
 abbrev pub IsCloser : ℕ → Type 0
@@ -99,16 +102,21 @@ behind u [] all hu = last (ends_line u)
 behind u (v ∷ vs) all hu = step u v vs hu all.0 (behind v vs all.1 all.0)
 
 -- what is written is read again
-pub written-read : (w : Word) (ws : List Word) → IsWritten w → AllWritten ws → HasWords (lex true start 0 (chars (text_of (w ∷ ws)))) (w ∷ ws)
-unfolding text_of
-written-read w ws hw all =
-    let b = behind w ws all hw in
+pub written-read : (ws : List Word) → AllWritten ws → Spells (text_of ws) ws
+unfolding text_of lex
+written-read [] all = (token_at End start [] ∷ [], sym (whole-text [] [] refl ([], (refl, refl))) ∙ ap (lex true start 0) chars-nil, refl)
+written-read (w ∷ ws) all =
+    let hw = all.0 in
+    let b = behind w ws all.1 hw in
     let cs = (hw.head ∷ hw.others) ++ b.cs in
     let bytes : encode_utf8_all cs ≡ w.text ++ text_behind w ws = encodes-append (hw.head ∷ hw.others) b.cs ∙ ap (λ x. x ++ encode_utf8_all b.cs) (sym hw.token.text) ∙ ap (λ x. w.text ++ x) b.bytes in
-    let same : chars (w.text ++ text_behind w ws) ≡ cs = ap chars (sym bytes) ∙ chars-encodes cs (scalars-join (hw.head ∷ hw.others) b.cs hw.scalars b.scalars) in
-    rw same (laid-read (w ∷ ws) cs start (laid [] w hw.joins hw.head hw.others b.cs ws tt hw.token b.apart b.lays))
+    let good : all_scalars cs ≡ true = scalars-join (hw.head ∷ hw.others) b.cs hw.scalars b.scalars in
+    let same : chars (w.text ++ text_behind w ws) ≡ cs = ap chars (sym bytes) ∙ chars-encodes cs good in
+    let whole : lex true start 0 (chars (w.text ++ text_behind w ws)) ≡ tokens_of (w.text ++ text_behind w ws) = whole-text (w.text ++ text_behind w ws) (w.text ++ text_behind w ws) refl (cs, (good, bytes)) in
+    let read : HasWords (lex true start 0 cs) (w ∷ ws) = laid-read (w ∷ ws) cs start (laid [] w hw.joins hw.head hw.others b.cs ws tt hw.token b.apart b.lays) in
+    (read.0, sym whole ∙ ap (lex true start 0) same ∙ read.1, read.2)
 
-closer-cases : (P : ℕ → Type 0) → P 44 → P 41 → P 93 → P 46 → P 59 → (v : ℕ) → IsCloser v → P v
+pub closer-cases : (P : ℕ → Type 0) → P 44 → P 41 → P 93 → P 46 → P 59 → (v : ℕ) → IsCloser v → P v
 closer-cases P a b c d e v h =
     elim (or-parts (v == 44) ((v == 41) || ((v == 93) || ((v == 46) || ((v == 59) || false)))) h) [
       | inl p ↦ subst P (sym (eqb-true v 44 p)) a

@@ -4,3 +4,4 @@ pub mod Word
 pub mod Lexing
 pub mod Answer
 pub mod Spacing
+pub mod Spelling
