@@ -5,3 +5,5 @@ pub mod LaidOut
 pub mod Written
 pub mod Symbols
 pub mod Lexemes
+pub mod TokenLaws
+pub mod WritingLaws

@@ -34,7 +34,7 @@ unfolding pass_all
 pass_all-append p [] ys = refl
 pass_all-append p (x ∷ xs) ys = pass_all-append (pass p x) xs ys
 
-pass_all-one : (p : Place) (c : ℕ) → pass_all p (c ∷ []) ≡ pass p c
+pub pass_all-one : (p : Place) (c : ℕ) → pass_all p (c ∷ []) ≡ pass p c
 unfolding pass_all
 pass_all-one p c = refl
 
@@ -124,7 +124,7 @@ can-pass r p text i q c utf8 h lt at room =
 
 -- ---- cutting a piece off
 
-scalars-parts : (xs ys : List ℕ) → all_scalars (xs ++ ys) ≡ true → (all_scalars xs ≡ true) × (all_scalars ys ≡ true)
+pub scalars-parts : (xs ys : List ℕ) → all_scalars (xs ++ ys) ≡ true → (all_scalars xs ≡ true) × (all_scalars ys ≡ true)
 scalars-parts [] ys h = (refl, h)
 scalars-parts (x ∷ xs) ys h =
     let p = and-parts (scalar x) (all_scalars (xs ++ ys)) h in

@@ -5,3 +5,5 @@ pub mod Lexing
 pub mod Answer
 pub mod Spacing
 pub mod Spelling
+pub mod Slices
+pub mod Writing

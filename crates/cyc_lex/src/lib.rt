@@ -6,7 +6,12 @@ mod fault;
 mod lexing;
 mod place;
 mod token;
+mod writer;
 
 pub use cutting::tokens;
 pub use fault::{IllFault, LexFault, ReadFault, What};
 pub use token::{Kind, Token, Tokens};
+pub use writer::WordWriter;
+
+#[cfg(test)]
+mod tests;
