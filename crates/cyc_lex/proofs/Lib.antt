@@ -1,0 +1,9 @@
+pub mod Tests
+pub mod Pieces
+pub mod Lexed
+pub mod LaidOut
+pub mod Written
+pub mod Symbols
+pub mod Lexemes
+pub mod TokenLaws
+pub mod WritingLaws

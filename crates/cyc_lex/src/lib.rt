@@ -1,0 +1,17 @@
+//! Texts as tokens: cutting a text into them, the faults that its readers answer, and writing words back as a text.
+#![tactic(auto)]
+
+mod cutting;
+mod fault;
+mod lexing;
+mod place;
+mod token;
+mod writer;
+
+pub use cutting::tokens;
+pub use fault::{IllFault, LexFault, ReadFault, What};
+pub use token::{Kind, Token, Tokens};
+pub use writer::WordWriter;
+
+#[cfg(test)]
+mod tests;
