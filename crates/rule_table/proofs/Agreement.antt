@@ -1,4 +1,4 @@
--- Stacks that agree below a number.
+-- Stacks that agree below a number: by `holds_agrees` a stack may be changed at a number above all that occur.
 use Rattle.std.proofs.Common.{◌≡◌, ℕ, zero, suc, ◌+◌, ◌<◌, ◌≤◌, List, [], ◌∷◌, ◌++◌, length, refl, sym, ap, ◌∙◌, arith, map}
 use Rattle.std.specs.Prelude.{slice_index}
 use Rattle.std.proofs.Math.ListN.{get_or-append}

@@ -1,6 +1,6 @@
 -- Rule by rule: the trace pairs join predicate atoms.
-use Rattle.std.proofs.Common.{◌≡◌, ℕ, zero, suc, ◌+◌, ◌-◌, max, Bool, true, false, cond, List, [], ◌∷◌, ◌++◌, map, length, Option, Some, None, refl, sym, ap, ◌∙◌, subst}
-use Rattle.std.specs.Prelude.{Ok, Err, slice_get, slice_set, slice_index, nat_eq, nat_le, if◌then◌else◌}
+use Rattle.std.proofs.Common.{◌≡◌, ℕ, zero, suc, ◌+◌, ◌-◌, max, Bool, true, false, cond, List, [], ◌∷◌, ◌++◌, map, length, Some, None, refl, ap, ◌∙◌}
+use Rattle.std.specs.Prelude.{Ok, slice_get, slice_set, slice_index, nat_eq, nat_le, if◌then◌else◌}
 use Rattle.heap_formula.specs.declared.terms.Term.{Term}
 use Rattle.heap_formula.specs.declared.terms.Term.TheVariants.{Nil, Univ, Exist}
 use Rattle.heap_formula.specs.declared.atoms.Pure.{Pure}
@@ -17,7 +17,7 @@ use Rattle.heap_formula.specs.declared.proof_rules.Link.{Link}
 use Rattle.heap_formula.specs.declared.proof_rules.Side.{Side}
 use Rattle.heap_formula.specs.declared.proof_rules.Rule.{Rule}
 use Rattle.heap_formula.specs.declared.proof_rules.Rule.TheVariants.{Absurd, Rewrite, Split, Distinct, Weaken, Unfold, Cut, Done, Choose, PureRight, Instantiate, Frame, UnfoldRight, Exec, Drop}
-use Rattle.heap_formula.specs.declared.proof_rules.RuleFault.TheVariants.{NoSuchAtom, NotEquation, AtomsDiffer, HasExistential, NotFollowing, NotAbsurd, NotEmpty, NoSuchCase, NoCell, WrongJudgement}
+use Rattle.heap_formula.specs.declared.proof_rules.RuleFault.TheVariants.{NoSuchAtom, AtomsDiffer, HasExistential, NotFollowing, NotAbsurd, NoSuchCase, NoCell, WrongJudgement}
 use Rattle.heap_formula.specs.Symbolic.{SymbolicHeap}
 use Rattle.heap_formula.specs.Definitions.{Definition}
 use Rattle.heap_formula.specs.Words.{Each}
@@ -25,22 +25,22 @@ use Rattle.heap_formula.specs.Meaning.{cases_of}
 use Rattle.heap_formula.specs.Fresh.{heap_bound, fresh_number}
 use Rattle.heap_formula.specs.Programs.{counted_from_one, program_variables}
 use Rattle.heap_formula.specs.Judgements.{antecedent, with_antecedent}
-use Rattle.heap_formula.specs.Positions.{without, same_pairs, kept_pairs, child_pairs, chosen, chosen_place, others_of, pairs_from}
-use Rattle.heap_formula.specs.Substitution.{in_heap, in_spatial, apply_term, apply_spatial, apply_judgement, case_body}
+use Rattle.heap_formula.specs.Positions.{without, same_pairs, kept_pairs, child_pairs, chosen, others_of}
+use Rattle.heap_formula.specs.Substitution.{in_heap, apply_term, apply_spatial, case_body}
 use Rattle.rule_table.specs.RuleUnfold.{unfold_premise, unfolded}
 use Rattle.rule_table.specs.RuleCut.{cut_left, cut_right}
 use Rattle.rule_table.specs.RuleLink.{MapsInto, IsMatch}
 use Rattle.rule_table.proofs.Appends.{Each-append}
-use Rattle.rule_table.specs.Answer.{Answer, finds, limited, one, two}
+use Rattle.rule_table.specs.Answer.{finds, limited, one, two}
 use Rattle.rule_table.specs.Tests.{same_term, same_spatial, is_universal_pure, is_universal_spatial, follows, is_absurd, address_of, has_number, ascend_from}
 use Rattle.heap_formula.specs.Fresh.{heap_exists}
-use Rattle.rule_table.specs.Table.{with_pures, with_pure, with_right, without_pure, without_spatial, rewritten, rewrite_side, rewrite_atom, named, unnamed, calls, are_empty, unfolded_right, right_term, instance_term, absurd_answer, rewrite_answer, split_answer, distinct_answer, weaken_answer, unfold_answer, cut_answer, drop_answer, done_answer, choose_answer, pure_right_answer, instantiate_answer, frame_answer, unfold_right_answer}
-use Rattle.rule_table.specs.ExecTable.{Found, cell_of, renamed, renamed_term, with_atom, variables_from, with_cell, with_field, at_line, command_answer, exec_answer}
+use Rattle.rule_table.specs.Table.{with_pures, with_pure, with_right, without_pure, without_spatial, rewritten, rewrite_side, rewrite_atom, named, unnamed, calls, are_empty, unfolded_right, right_term, instance_term}
+use Rattle.rule_table.specs.ExecTable.{cell_of, renamed, renamed_term, with_atom, variables_from, with_cell, with_field, at_line, command_answer}
 use Rattle.rule_table.specs.LinkTable.{link_fault, link_premise}
 use Rattle.rule_table.specs.RuleBook.{variables_of, rule_answer}
 use Rattle.rule_table.specs.Fits.{IsPredAt, PairsFit, PremiseFits, OnPremises}
 use Rattle.rule_table.proofs.Fits.{needs_on, finds_on, limited_on, entails_on, single_on, runs_on, get_front, get_back, get_mapped, get_written, pairs_fit_0, same_fit, kept_fit, chosen_fit, children_fit}
-use Rattle.rule_table.proofs.Commands.{IsFound, found_is}
+use Rattle.rule_table.proofs.Commands.{found_is}
 use Rattle.rule_table.proofs.LinkRule.{parts_are, none_of_two}
 
 pred_front : (xs ys : List Spatial) (i : ℕ) → IsPredAt xs i → IsPredAt (xs ++ ys) i
@@ -91,10 +91,10 @@ unfold_cases_fit : (j : Judgement) (k q : ℕ) (ts : List Term) (n : ℕ) (cases
 unfold_cases_fit j k q ts n [] at = tt
 unfold_cases_fit j k q ts n (c ∷ cs) at = (unfold_one_fits j k q ts n c at, unfold_cases_fit j k q ts n cs at)
 
-unfold_fits : (ds : List Definition) (p : ℕ) (j : Judgement) (k : ℕ) (x : Spatial) → slice_get (antecedent j).spatial k ≡ Some x → OnPremises (PremiseFits j) (calls x (λ q ts. limited (map (unfold_premise j k ts (fresh_number p j)) (cases_of ds q))))
-unfold_fits ds p j k (Cell t ts) at = tt
-unfold_fits ds p j k (Pred q ts) at =
-    limited_on (PremiseFits j) (map (unfold_premise j k ts (fresh_number p j)) (cases_of ds q)) (unfold_cases_fit j k q ts (fresh_number p j) (cases_of ds q) at)
+unfold_fits : (most : ℕ) (ds : List Definition) (p : ℕ) (j : Judgement) (k : ℕ) (x : Spatial) → slice_get (antecedent j).spatial k ≡ Some x → OnPremises (PremiseFits j) (calls x (λ q ts. limited most (map (unfold_premise j k ts (fresh_number p j)) (cases_of ds q))))
+unfold_fits most ds p j k (Cell t ts) at = tt
+unfold_fits most ds p j k (Pred q ts) at =
+    limited_on (PremiseFits j) most (map (unfold_premise j k ts (fresh_number p j)) (cases_of ds q)) (unfold_cases_fit j k q ts (fresh_number p j) (cases_of ds q) at)
 
 cut_right_fits : (j : Judgement) (p : ℕ → Bool) (f : SymbolicHeap) (n : ℕ) → PremiseFits j (cut_right j p f n)
 cut_right_fits (Entail a bs) p f n = chosen_fit (others_of p) a.spatial _ (λ i q. pred_front (chosen (others_of p) a.spatial) _ i q)
@@ -106,78 +106,78 @@ empty_fits P [] [] (y ∷ ys) = tt
 empty_fits P [] (p ∷ ps) ys = tt
 empty_fits P (x ∷ xs) ps ys = tt
 
-unfold_right_fits : (ds : List Definition) (a b : SymbolicHeap) (k c : ℕ) (x : Spatial) → OnPremises (PremiseFits (Entail a (b ∷ []))) (calls x (λ q ts. finds (slice_get (cases_of ds q) c) NoSuchCase (λ case. limited (one (with_right a (unfolded_right b k (in_heap (right_term ts (heap_exists b)) case) ∷ []))))))
-unfold_right_fits ds a b k c (Cell t ts) = tt
-unfold_right_fits ds a b k c (Pred q ts) =
+unfold_right_fits : (most : ℕ) (ds : List Definition) (a b : SymbolicHeap) (k c : ℕ) (x : Spatial) → OnPremises (PremiseFits (Entail a (b ∷ []))) (calls x (λ q ts. finds (slice_get (cases_of ds q) c) NoSuchCase (λ case. limited most (one (with_right a (unfolded_right b k (in_heap (right_term ts (heap_exists b)) case) ∷ []))))))
+unfold_right_fits most ds a b k c (Cell t ts) = tt
+unfold_right_fits most ds a b k c (Pred q ts) =
     finds_on (PremiseFits (Entail a (b ∷ []))) (slice_get (cases_of ds q) c) NoSuchCase _ (λ case at.
-    limited_on (PremiseFits (Entail a (b ∷ []))) (one (with_right a (unfolded_right b k (in_heap (right_term ts (heap_exists b)) case) ∷ []))) (right_fits a (b ∷ []) (unfolded_right b k (in_heap (right_term ts (heap_exists b)) case) ∷ []), tt))
+    limited_on (PremiseFits (Entail a (b ∷ []))) most (one (with_right a (unfolded_right b k (in_heap (right_term ts (heap_exists b)) case) ∷ []))) (right_fits a (b ∷ []) (unfolded_right b k (in_heap (right_term ts (heap_exists b)) case) ∷ []), tt))
 
 renamed_pred : (x n : ℕ) (a : SymbolicHeap) (i : ℕ) → IsPredAt a.spatial i → IsPredAt (renamed x n a).spatial i
 renamed_pred x n a i p = get_mapped (apply_term ((x, Univ n) ∷ [])) a.spatial i p
 
-command_fits : (i : ℕ) (a : SymbolicHeap) (n : ℕ) (c : Command) → OnPremises (PremiseFits (Runs i a)) (command_answer i a n c)
-command_fits i a n Stop = tt
-command_fits i a n (Goto j) = limited_on (PremiseFits (Runs i a)) (one (at_line j a a)) (same_fit a.spatial a.spatial (λ k p. p), tt)
-command_fits i a n (IfEq t u j) =
-    limited_on (PremiseFits (Runs i a)) (two (at_line j a (with_atom a (Eq t u))) (at_line (i + 1) a (with_atom a (Neq t u)))) (same_fit a.spatial a.spatial (λ k p. p), (same_fit a.spatial a.spatial (λ k p. p), tt))
-command_fits i a n (IfNeq t u j) =
-    limited_on (PremiseFits (Runs i a)) (two (at_line j a (with_atom a (Neq t u))) (at_line (i + 1) a (with_atom a (Eq t u)))) (same_fit a.spatial a.spatial (λ k p. p), (same_fit a.spatial a.spatial (λ k p. p), tt))
-command_fits i a n (Assign x t) =
-    limited_on (PremiseFits (Runs i a)) (one (at_line (i + 1) a (with_atom (renamed x n a) (Eq (Univ x) (renamed_term x n t))))) (same_fit a.spatial (renamed x n a).spatial (λ k p. renamed_pred x n a k p), tt)
-command_fits i a n (Load x t k) =
+command_fits : (most : ℕ) (i : ℕ) (a : SymbolicHeap) (n : ℕ) (c : Command) → OnPremises (PremiseFits (Runs i a)) (command_answer most i a n c)
+command_fits most i a n Stop = tt
+command_fits most i a n (Goto j) = limited_on (PremiseFits (Runs i a)) most (one (at_line j a a)) (same_fit a.spatial a.spatial (λ k p. p), tt)
+command_fits most i a n (IfEq t u j) =
+    limited_on (PremiseFits (Runs i a)) most (two (at_line j a (with_atom a (Eq t u))) (at_line (i + 1) a (with_atom a (Neq t u)))) (same_fit a.spatial a.spatial (λ k p. p), (same_fit a.spatial a.spatial (λ k p. p), tt))
+command_fits most i a n (IfNeq t u j) =
+    limited_on (PremiseFits (Runs i a)) most (two (at_line j a (with_atom a (Neq t u))) (at_line (i + 1) a (with_atom a (Eq t u)))) (same_fit a.spatial a.spatial (λ k p. p), (same_fit a.spatial a.spatial (λ k p. p), tt))
+command_fits most i a n (Assign x t) =
+    limited_on (PremiseFits (Runs i a)) most (one (at_line (i + 1) a (with_atom (renamed x n a) (Eq (Univ x) (renamed_term x n t))))) (same_fit a.spatial (renamed x n a).spatial (λ k p. renamed_pred x n a k p), tt)
+command_fits most i a n (Load x t k) =
     finds_on (PremiseFits (Runs i a)) (cell_of a.pure t a.spatial) NoCell _ (λ c found.
     finds_on (PremiseFits (Runs i a)) (counted_from_one c.fields k) NoCell _ (λ f field.
-    limited_on (PremiseFits (Runs i a)) (one (at_line (i + 1) a (with_atom (renamed x n a) (Eq (Univ x) (renamed_term x n f))))) (same_fit a.spatial (renamed x n a).spatial (λ m p. renamed_pred x n a m p), tt)))
-command_fits i a n (Store t k u) =
+    limited_on (PremiseFits (Runs i a)) most (one (at_line (i + 1) a (with_atom (renamed x n a) (Eq (Univ x) (renamed_term x n f))))) (same_fit a.spatial (renamed x n a).spatial (λ m p. renamed_pred x n a m p), tt)))
+command_fits most i a n (Store t k u) =
     finds_on (PremiseFits (Runs i a)) (cell_of a.pure t a.spatial) NoCell _ (λ c found.
     finds_on (PremiseFits (Runs i a)) (counted_from_one c.fields k) NoCell _ (λ f field.
-    limited_on (PremiseFits (Runs i a)) (one (at_line (i + 1) a (with_field a c k u))) (same_fit a.spatial (with_field a c k u).spatial (λ m p. get_written a.spatial c.place m c.address c.address c.fields (slice_set c.fields (k - 1) u) (found_is a.pure t a.spatial c found).at p), tt)))
-command_fits i a n (New x k) =
-    limited_on (PremiseFits (Runs i a)) (one (at_line (i + 1) a (with_cell (renamed x n a) x (variables_from (n + 1) k)))) (same_fit a.spatial (with_cell (renamed x n a) x (variables_from (n + 1) k)).spatial (λ m p. pred_front (renamed x n a).spatial (Cell (Univ x) (variables_from (n + 1) k) ∷ []) m (renamed_pred x n a m p)), tt)
-command_fits i a n (Free t) =
+    limited_on (PremiseFits (Runs i a)) most (one (at_line (i + 1) a (with_field a c k u))) (same_fit a.spatial (with_field a c k u).spatial (λ m p. get_written a.spatial c.place m c.address c.address c.fields (slice_set c.fields (k - 1) u) (found_is a.pure t a.spatial c found).at p), tt)))
+command_fits most i a n (New x k) =
+    limited_on (PremiseFits (Runs i a)) most (one (at_line (i + 1) a (with_cell (renamed x n a) x (variables_from (n + 1) k)))) (same_fit a.spatial (with_cell (renamed x n a) x (variables_from (n + 1) k)).spatial (λ m p. pred_front (renamed x n a).spatial (Cell (Univ x) (variables_from (n + 1) k) ∷ []) m (renamed_pred x n a m p)), tt)
+command_fits most i a n (Free t) =
     finds_on (PremiseFits (Runs i a)) (cell_of a.pure t a.spatial) NoCell _ (λ c found.
-    limited_on (PremiseFits (Runs i a)) (one (record { judgement = Runs (i + 1) (without_spatial c.place a); pairs = kept_pairs c.place a.spatial })) (kept_fit c.place a.spatial (without c.place a.spatial) (λ m p. p), tt))
+    limited_on (PremiseFits (Runs i a)) most (one (record { judgement = Runs (i + 1) (without_spatial c.place a); pairs = kept_pairs c.place a.spatial })) (kept_fit c.place a.spatial (without c.place a.spatial) (λ m p. p), tt))
 
-pub rule_fits : (ds : List Definition) (lines : List Command) (j : Judgement) (rule : Rule) → OnPremises (PremiseFits j) (rule_answer ds lines j rule)
-rule_fits ds lines j Absurd = needs_on (PremiseFits j) (is_absurd (antecedent j)) NotAbsurd (Ok []) (λ _. tt)
-rule_fits ds lines j (Rewrite k side) =
+pub rule_fits : (most : ℕ) (ds : List Definition) (lines : List Command) (j : Judgement) (rule : Rule) → OnPremises (PremiseFits j) (rule_answer most ds lines j rule)
+rule_fits most ds lines j Absurd = needs_on (PremiseFits j) (is_absurd (antecedent j)) NotAbsurd (Ok []) (λ _. tt)
+rule_fits most ds lines j (Rewrite k side) =
     finds_on (PremiseFits j) (slice_get (antecedent j).pure k) NoSuchAtom _ (λ x at. rewrite_fits (variables_of lines j) j k side x)
-rule_fits ds lines j (Split t u) =
-    limited_on (PremiseFits j) (two (with_pure j (Eq t u)) (with_pure j (Neq t u))) (pures_fit j ((antecedent j).pure ++ Eq t u ∷ []), (pures_fit j ((antecedent j).pure ++ Neq t u ∷ []), tt))
-rule_fits ds lines j (Distinct i k) =
+rule_fits most ds lines j (Split t u) =
+    limited_on (PremiseFits j) 32 (two (with_pure j (Eq t u)) (with_pure j (Neq t u))) (pures_fit j ((antecedent j).pure ++ Eq t u ∷ []), (pures_fit j ((antecedent j).pure ++ Neq t u ∷ []), tt))
+rule_fits most ds lines j (Distinct i k) =
     finds_on (PremiseFits j) (slice_get (antecedent j).spatial i) NoSuchAtom _ (λ x at_i.
     finds_on (PremiseFits j) (slice_get (antecedent j).spatial k) NoSuchAtom _ (λ y at_k.
     finds_on (PremiseFits j) (address_of x) NoCell _ (λ t is_t.
     finds_on (PremiseFits j) (address_of y) NoCell _ (λ u is_u.
-    limited_on (PremiseFits j) (one (with_pure j (Neq t (if nat_eq i k then Nil else u)))) (pures_fit j ((antecedent j).pure ++ Neq t (if nat_eq i k then Nil else u) ∷ []), tt)))))
-rule_fits ds lines j (Weaken k) =
+    limited_on (PremiseFits j) 32 (one (with_pure j (Neq t (if nat_eq i k then Nil else u)))) (pures_fit j ((antecedent j).pure ++ Neq t (if nat_eq i k then Nil else u) ∷ []), tt)))))
+rule_fits most ds lines j (Weaken k) =
     finds_on (PremiseFits j) (slice_get (antecedent j).pure k) NoSuchAtom _ (λ x at. (pures_fit j (without k (antecedent j).pure), tt))
-rule_fits ds lines j (Unfold k) =
-    finds_on (PremiseFits j) (slice_get (antecedent j).spatial k) NoSuchAtom _ (λ x at. unfold_fits ds (variables_of lines j) j k x at)
-rule_fits ds lines j (Cut places f) =
+rule_fits most ds lines j (Unfold k) =
+    finds_on (PremiseFits j) (slice_get (antecedent j).spatial k) NoSuchAtom _ (λ x at. unfold_fits most ds (variables_of lines j) j k x at)
+rule_fits most ds lines j (Cut places f) =
     needs_on (PremiseFits j) (ascend_from 0 (length (antecedent j).spatial) places) NoSuchAtom _ (λ _.
-    limited_on (PremiseFits j) (two (cut_left (antecedent j) (has_number places) f) (cut_right j (has_number places) f (max (fresh_number (variables_of lines j) j) (heap_bound f)))) (chosen_fit (has_number places) (antecedent j).spatial (chosen (has_number places) (antecedent j).spatial) (λ i q. q), (cut_right_fits j (has_number places) f (max (fresh_number (variables_of lines j) j) (heap_bound f)), tt)))
-rule_fits ds lines j Done = single_on PremiseFits j _ (λ a b. empty_fits (PremiseFits (Entail a (b ∷ []))) a.spatial b.pure b.spatial)
-rule_fits ds lines j (Choose k) =
+    limited_on (PremiseFits j) most (two (cut_left (antecedent j) (has_number places) f) (cut_right j (has_number places) f (max (fresh_number (variables_of lines j) j) (heap_bound f)))) (chosen_fit (has_number places) (antecedent j).spatial (chosen (has_number places) (antecedent j).spatial) (λ i q. q), (cut_right_fits j (has_number places) f (max (fresh_number (variables_of lines j) j) (heap_bound f)), tt)))
+rule_fits most ds lines j Done = single_on PremiseFits j _ (λ a b. empty_fits (PremiseFits (Entail a (b ∷ []))) a.spatial b.pure b.spatial)
+rule_fits most ds lines j (Choose k) =
     entails_on PremiseFits j _ (λ a bs. finds_on (PremiseFits (Entail a bs)) (slice_get bs k) NoSuchAtom _ (λ b at. (right_fits a bs (b ∷ []), tt)))
-rule_fits ds lines j (PureRight k) =
+rule_fits most ds lines j (PureRight k) =
     single_on PremiseFits j _ (λ a b.
     finds_on (PremiseFits (Entail a (b ∷ []))) (slice_get b.pure k) NoSuchAtom _ (λ x at.
     needs_on (PremiseFits (Entail a (b ∷ []))) (is_universal_pure x) HasExistential _ (λ _.
     needs_on (PremiseFits (Entail a (b ∷ []))) (follows a.pure x) NotFollowing _ (λ _. (right_fits a (b ∷ []) (without_pure k b ∷ []), tt)))))
-rule_fits ds lines j (Instantiate v t) =
+rule_fits most ds lines j (Instantiate v t) =
     single_on PremiseFits j _ (λ a b. (right_fits a (b ∷ []) (in_heap (instance_term v t) b ∷ []), tt))
-rule_fits ds lines j (Frame i k) =
+rule_fits most ds lines j (Frame i k) =
     single_on PremiseFits j _ (λ a b.
     finds_on (PremiseFits (Entail a (b ∷ []))) (slice_get a.spatial i) NoSuchAtom _ (λ x at_i.
     finds_on (PremiseFits (Entail a (b ∷ []))) (slice_get b.spatial k) NoSuchAtom _ (λ y at_k.
     needs_on (PremiseFits (Entail a (b ∷ []))) (is_universal_spatial y) HasExistential _ (λ _.
     needs_on (PremiseFits (Entail a (b ∷ []))) (same_spatial x y) AtomsDiffer _ (λ _. (kept_fit i a.spatial (without i a.spatial) (λ m p. p), tt))))))
-rule_fits ds lines j (UnfoldRight k c) =
-    single_on PremiseFits j _ (λ a b. finds_on (PremiseFits (Entail a (b ∷ []))) (slice_get b.spatial k) NoSuchAtom _ (λ x at. unfold_right_fits ds a b k c x))
-rule_fits ds lines j Exec =
-    runs_on PremiseFits j _ (λ i a. finds_on (PremiseFits (Runs i a)) (counted_from_one lines i) WrongJudgement _ (λ c at. command_fits i a (fresh_number (program_variables lines) j) c))
-rule_fits ds lines j (Drop k) =
+rule_fits most ds lines j (UnfoldRight k c) =
+    single_on PremiseFits j _ (λ a b. finds_on (PremiseFits (Entail a (b ∷ []))) (slice_get b.spatial k) NoSuchAtom _ (λ x at. unfold_right_fits most ds a b k c x))
+rule_fits most ds lines j Exec =
+    runs_on PremiseFits j _ (λ i a. finds_on (PremiseFits (Runs i a)) (counted_from_one lines i) WrongJudgement _ (λ c at. command_fits most i a (fresh_number (program_variables lines) j) c))
+rule_fits most ds lines j (Drop k) =
     runs_on PremiseFits j _ (λ i a. finds_on (PremiseFits (Runs i a)) (slice_get a.spatial k) NoSuchAtom _ (λ x at. (kept_fit k a.spatial (without k a.spatial) (λ m p. p), tt)))
 
 -- ---- Link

@@ -20,19 +20,19 @@ pub has_variables : (lines : List Command) (j : Judgement) → HasVariables line
 has_variables lines (Entail a bs) = tt
 has_variables lines (Runs i a) = let le : program_variables lines ≤ program_variables lines = omega arith in le
 
-pub rule_is_sound : (ds : List Definition) (lines : List Command) (j : Judgement) (rule : Rule) → IsUniversalHeap (antecedent j) → Each IsCommand lines → IsSound ds lines j (rule_answer ds lines j rule)
-rule_is_sound ds lines j Absurd u c = absurd_is_sound ds lines j
-rule_is_sound ds lines j (Rewrite k side) u c = rewrite_is_sound ds lines (variables_of lines j) j k side u
-rule_is_sound ds lines j (Split t v) u c = split_is_sound ds lines j t v
-rule_is_sound ds lines j (Distinct i k) u c = distinct_is_sound ds lines j i k
-rule_is_sound ds lines j (Weaken k) u c = weaken_is_sound ds lines j k
-rule_is_sound ds lines j (Unfold k) u c = unfold_is_sound ds lines (variables_of lines j) j k (has_variables lines j)
-rule_is_sound ds lines j (Cut places f) u c = cut_is_sound ds lines (variables_of lines j) j places f (has_variables lines j)
-rule_is_sound ds lines j Done u c = done_is_sound ds lines j
-rule_is_sound ds lines j (Choose k) u c = choose_is_sound ds lines j k
-rule_is_sound ds lines j (PureRight k) u c = pure_right_is_sound ds lines j k
-rule_is_sound ds lines j (Instantiate v t) u c = instantiate_is_sound ds lines j v t
-rule_is_sound ds lines j (Frame i k) u c = frame_is_sound ds lines j i k
-rule_is_sound ds lines j (UnfoldRight k n) u c = unfold_right_is_sound ds lines j k n
-rule_is_sound ds lines j Exec u c = exec_is_sound ds lines j c
-rule_is_sound ds lines j (Drop k) u c = drop_is_sound ds lines j k
+pub rule_is_sound : (most : ℕ) (ds : List Definition) (lines : List Command) (j : Judgement) (rule : Rule) → IsUniversalHeap (antecedent j) → Each IsCommand lines → IsSound ds lines j (rule_answer most ds lines j rule)
+rule_is_sound most ds lines j Absurd u c = absurd_is_sound ds lines j
+rule_is_sound most ds lines j (Rewrite k side) u c = rewrite_is_sound ds lines (variables_of lines j) j k side u
+rule_is_sound most ds lines j (Split t v) u c = split_is_sound ds lines j t v
+rule_is_sound most ds lines j (Distinct i k) u c = distinct_is_sound ds lines j i k
+rule_is_sound most ds lines j (Weaken k) u c = weaken_is_sound ds lines j k
+rule_is_sound most ds lines j (Unfold k) u c = unfold_is_sound ds lines most (variables_of lines j) j k (has_variables lines j)
+rule_is_sound most ds lines j (Cut places f) u c = cut_is_sound ds lines most (variables_of lines j) j places f (has_variables lines j)
+rule_is_sound most ds lines j Done u c = done_is_sound ds lines j
+rule_is_sound most ds lines j (Choose k) u c = choose_is_sound ds lines j k
+rule_is_sound most ds lines j (PureRight k) u c = pure_right_is_sound ds lines j k
+rule_is_sound most ds lines j (Instantiate v t) u c = instantiate_is_sound ds lines j v t
+rule_is_sound most ds lines j (Frame i k) u c = frame_is_sound ds lines j i k
+rule_is_sound most ds lines j (UnfoldRight k n) u c = unfold_right_is_sound ds lines most j k n
+rule_is_sound most ds lines j Exec u c = exec_is_sound ds lines most j c
+rule_is_sound most ds lines j (Drop k) u c = drop_is_sound ds lines j k

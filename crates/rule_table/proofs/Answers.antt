@@ -1,5 +1,5 @@
 -- A rule's answer is sound where the table's is.
-use Rattle.std.proofs.Common.{◌≡◌, List, Option, Bool, true, false, refl, subst, sym, ap}
+use Rattle.std.proofs.Common.{ℕ, ◌≡◌, List, true, false, subst, sym, ap}
 use Rattle.heap_formula.specs.declared.proof_rules.RuleFault.TheVariants.{TooManyAtoms, NoFreshVariable}
 use Rattle.std.specs.Prelude.{Result, Ok, Err, Vec, IfOk}
 use Rattle.std.specs.declared.alloc.Global.{Global}
@@ -7,7 +7,6 @@ use Rattle.heap_formula.specs.declared.commands.Command.{Command}
 use Rattle.heap_formula.specs.declared.judgements.Judgement.{Judgement}
 use Rattle.heap_formula.specs.declared.judgements.Premise.{Premise}
 use Rattle.heap_formula.specs.declared.proof_rules.RuleError.{RuleError}
-use Rattle.heap_formula.specs.declared.proof_rules.RuleError.TheVariants.{Fault, OutOfMemory}
 use Rattle.heap_formula.specs.Definitions.{Definition}
 use Rattle.heap_formula.specs.Judgements.{IsLocallySound}
 use Rattle.rule_table.specs.Answer.{Answer, needs, limited, each_heap, is_short, has_numbers}
@@ -24,11 +23,11 @@ sound_answer_all j (Err e) answer is sound = tt
 
 -- ---- the last two faults
 
-pub limited_long : (ps : List Premise) → each_heap is_short ps ≡ false → limited ps ≡ Err TooManyAtoms
-limited_long ps long = ap (λ b. needs b TooManyAtoms (needs (each_heap has_numbers ps) NoFreshVariable (Ok ps))) long
+pub limited_long : (most : ℕ) (ps : List Premise) → each_heap (is_short most) ps ≡ false → limited most ps ≡ Err TooManyAtoms
+limited_long most ps long = ap (λ b. needs b TooManyAtoms (needs (each_heap has_numbers ps) NoFreshVariable (Ok ps))) long
 
-pub limited_short : (r : Result (Vec Premise Global) RuleError) (ps qs : List Premise) → qs ≡ ps → each_heap is_short ps ≡ true → IsAnswer r (needs (each_heap has_numbers qs) NoFreshVariable (Ok qs)) → IsAnswer r (limited ps)
-limited_short r ps qs same short is =
+pub limited_short : (most : ℕ) (r : Result (Vec Premise Global) RuleError) (ps qs : List Premise) → qs ≡ ps → each_heap (is_short most) ps ≡ true → IsAnswer r (needs (each_heap has_numbers qs) NoFreshVariable (Ok qs)) → IsAnswer r (limited most ps)
+limited_short most r ps qs same short is =
     let is' : IsAnswer r (needs (each_heap has_numbers ps) NoFreshVariable (Ok ps)) = subst (λ xs. IsAnswer r (needs (each_heap has_numbers xs) NoFreshVariable (Ok xs))) same is in
     subst (λ b. IsAnswer r (needs b TooManyAtoms (needs (each_heap has_numbers ps) NoFreshVariable (Ok ps)))) (sym short) is'
 

@@ -1,11 +1,11 @@
 -- The cells of a spatial list stand in each heap of which it holds, and no two at one address.
-use Rattle.std.proofs.Common.{◌≡◌, ◌≢◌, ℕ, zero, suc, ◌+◌, ◌<◌, ◌≤◌, Bool, true, false, cond, ◌||◌, List, [], ◌∷◌, length, Option, Some, None, refl, sym, ap, ◌∙◌, subst, inl, inr, arith}
+use Rattle.std.proofs.Common.{◌≡◌, ◌≢◌, ℕ, zero, suc, ◌<◌, true, cond, ◌||◌, List, [], ◌∷◌, Option, Some, None, refl, sym, ap, ◌∙◌, subst, inl, inr, arith}
 use Rattle.std.specs.Prelude.{slice_get}
 use Rattle.std.specs.Ordering.{nat_cmp, eq_by_cmp}
 use Rattle.std.specs.Cmp.{nat_cmp_total, eq_by_cmp_equiv}
-use Rattle.std.specs.FinMap.{get-insert, get-empty, empty}
+use Rattle.std.specs.FinMap.{get-insert, empty}
 use Rattle.heap_formula.specs.declared.terms.Term.{Term}
-use Rattle.heap_formula.specs.declared.terms.Term.TheVariants.{Nil, Univ, Exist}
+use Rattle.heap_formula.specs.declared.terms.Term.TheVariants.{Nil}
 use Rattle.heap_formula.specs.declared.atoms.Pure.{Pure}
 use Rattle.heap_formula.specs.declared.atoms.Pure.TheVariants.{Eq, Neq}
 use Rattle.heap_formula.specs.declared.atoms.Spatial.{Spatial}
@@ -13,10 +13,10 @@ use Rattle.heap_formula.specs.declared.atoms.Spatial.TheVariants.{Cell, Pred}
 use Rattle.heap_formula.specs.Symbolic.{SymbolicHeap}
 use Rattle.heap_formula.specs.Words.{Each}
 use Rattle.heap_formula.specs.Values.{Stack, value, values}
-use Rattle.heap_formula.specs.Cells.{Cells, cell_at, one_cell, Joins, IsUnion, IsPart}
+use Rattle.heap_formula.specs.Cells.{Cells, cell_at, one_cell, Joins, IsUnion}
 use Rattle.heap_formula.specs.Meaning.{Family, PureHolds, IsCell, AtomHolds, SpatialHolds, Holds}
-use Rattle.rule_table.specs.Tests.{same_term, is_contradiction, some_contradiction, is_cell_at, some_cell_at, also_later, two_cells, is_absurd}
-use Rattle.rule_table.proofs.Reflects.{both, either, same_term_is}
+use Rattle.rule_table.specs.Tests.{same_term, is_contradiction, some_contradiction, some_cell_at, two_cells, is_absurd}
+use Rattle.rule_table.proofs.Reflects.{either, same_term_is}
 
 -- ---- what a union has
 

@@ -1,6 +1,6 @@
 -- Exec is sound.
-use Rattle.std.proofs.Common.{◌≡◌, ◌≢◌, ℕ, zero, suc, ◌+◌, ◌-◌, ◌<◌, ◌≤◌, max, Bool, true, false, cond, List, [], ◌∷◌, ◌++◌, map, length, Option, Some, None, refl, sym, ap, ◌∙◌, subst, inl, inr, arith}
-use Rattle.std.specs.Prelude.{Ok, slice_get, slice_set, slice_index, nat_eq, if◌then◌else◌}
+use Rattle.std.proofs.Common.{◌≡◌, ◌≢◌, ℕ, zero, suc, ◌+◌, ◌-◌, ◌<◌, ◌≤◌, Bool, true, false, cond, List, [], ◌∷◌, map, length, Option, Some, None, refl, sym, ap, ◌∙◌, subst, arith}
+use Rattle.std.specs.Prelude.{slice_get, slice_set, slice_index, nat_eq, if◌then◌else◌}
 use Rattle.std.proofs.lemmas.List.{length-set, length-map, map-set}
 use Rattle.std.specs.Ordering.{nat_cmp, eq_by_cmp}
 use Rattle.std.specs.Cmp.{nat_cmp_total}
@@ -16,20 +16,19 @@ use Rattle.heap_formula.specs.declared.commands.Command.{Command}
 use Rattle.heap_formula.specs.declared.commands.Command.TheVariants.{Assign, Load, Store, New, Free, IfEq, IfNeq, Goto, Stop}
 use Rattle.heap_formula.specs.declared.judgements.Judgement.{Judgement}
 use Rattle.heap_formula.specs.declared.judgements.Judgement.TheVariants.{Entail, Term as Runs}
-use Rattle.heap_formula.specs.declared.judgements.Premise.{Premise}
 use Rattle.heap_formula.specs.declared.proof_rules.RuleFault.TheVariants.{NoCell, WrongJudgement}
 use Rattle.heap_formula.specs.Symbolic.{SymbolicHeap}
 use Rattle.heap_formula.specs.Definitions.{Definition}
-use Rattle.heap_formula.specs.Words.{Each, max_of}
+use Rattle.heap_formula.specs.Words.{Each}
 use Rattle.heap_formula.specs.Values.{Stack, value, values}
-use Rattle.heap_formula.specs.Cells.{Cells, cell_at, one_cell, Joins, Star, IsUnion, IsPart}
+use Rattle.heap_formula.specs.Cells.{Cells, cell_at, one_cell, Joins, IsUnion, IsPart}
 use Rattle.heap_formula.specs.Meaning.{Family, PureHolds, IsCell, AtomHolds, SpatialHolds, Holds, Stages, SatisfiesAt, at_stage}
-use Rattle.heap_formula.specs.Fresh.{heap_bound, fresh_number, univ_bound}
-use Rattle.heap_formula.specs.Programs.{Config, Halts, Goes, Faults, next_line, jump, value_in, field_at, field_of, counted_from_one, first_values, program_variables, command_bound, term_bound, start_at}
-use Rattle.heap_formula.specs.Judgements.{PremiseHolds, IsLocallySound, Follows}
-use Rattle.heap_formula.specs.Positions.{without, before, same_pairs, kept_pairs}
-use Rattle.heap_formula.specs.Closedness.{InSpatial, InHeap, IsUniversal}
-use Rattle.heap_formula.specs.Substitution.{apply_term, apply_heap}
+use Rattle.heap_formula.specs.Fresh.{heap_bound, fresh_number}
+use Rattle.heap_formula.specs.Programs.{Config, Halts, Goes, next_line, jump, value_in, field_at, field_of, counted_from_one, first_values, program_variables, command_bound, term_bound, start_at}
+use Rattle.heap_formula.specs.Judgements.{PremiseHolds, IsLocallySound}
+use Rattle.heap_formula.specs.Positions.{without, before, kept_pairs}
+use Rattle.heap_formula.specs.Closedness.{InSpatial, IsUniversal}
+use Rattle.heap_formula.specs.Substitution.{apply_term}
 use Rattle.heap_formula.proofs.Unions.{same_cells, union_comm}
 use Rattle.rule_table.proofs.Substitutes.{holds_same, back_along}
 use Rattle.rule_table.proofs.Agreement.{IsBelow, heap_below, first_at}
@@ -39,14 +38,14 @@ use Rattle.rule_table.proofs.Appends.{Each-append}
 use Rattle.rule_table.proofs.Links.{equated_value}
 use Rattle.rule_table.proofs.Runs.{one_way}
 use Rattle.rule_table.proofs.ExecNew.{after_new, after_at_x, renamed as renamed_is, first_set, joins_put, same_address, exec_new_sound}
-use Rattle.rule_table.specs.Answer.{Answer, limited, one, two}
+use Rattle.rule_table.specs.Answer.{one, two}
 use Rattle.rule_table.specs.Tests.{equated}
 use Rattle.rule_table.specs.Table.{without_spatial}
 use Rattle.rule_table.specs.ExecTable.{Found, later, cell_of, renamed, renamed_term, with_atom, variables_from, with_cell, with_field, at_line, command_answer, exec_answer}
 use Rattle.rule_table.specs.Soundness.{IsSound, IsCommand}
-use Rattle.rule_table.proofs.Steps.{finds_sound, limited_sound, runs_sound}
+use Rattle.rule_table.proofs.Steps.{finds_sound, limited_sound}
 use Rattle.rule_table.proofs.Reflects.{equated_is}
-use Rattle.rule_table.proofs.CellsIn.{HasCell, cell_there, left_has, is_cell_has, itself}
+use Rattle.rule_table.proofs.CellsIn.{HasCell, cell_there, left_has, is_cell_has}
 
 -- ---- the command at a line
 
@@ -340,33 +339,33 @@ module _ (ds : List Definition) (lines : List Command) (i : ℕ) (a : SymbolicHe
       let b = bound_of_command lines i (New x k) at in
       exec_new_sound ds lines i a x k n at fields (omega arith) p_below a_below
 
-  command_sound : (c : Command) → counted_from_one lines i ≡ Some c → IsCommand c → IsSound ds lines (Runs i a) (command_answer i a n c)
-  command_sound Stop at good = stop_sound at
-  command_sound (Goto j) at good = limited_sound ds lines (Runs i a) (one (at_line j a a)) (goto_sound j at)
-  command_sound (IfEq t u j) at good =
-      limited_sound ds lines (Runs i a) (two (at_line j a (with_atom a (Eq t u))) (at_line (i + 1) a (with_atom a (Neq t u)))) (if_eq_sound t u j at good)
-  command_sound (IfNeq t u j) at good =
-      limited_sound ds lines (Runs i a) (two (at_line j a (with_atom a (Neq t u))) (at_line (i + 1) a (with_atom a (Eq t u)))) (if_neq_sound t u j at good)
-  command_sound (Assign x t) at good =
-      limited_sound ds lines (Runs i a) (one (at_line (i + 1) a (with_atom (renamed x n a) (Eq (Univ x) (renamed_term x n t))))) (assign_sound x t at good)
-  command_sound (Load x t k) at good =
+  command_sound : (most : ℕ) (c : Command) → counted_from_one lines i ≡ Some c → IsCommand c → IsSound ds lines (Runs i a) (command_answer most i a n c)
+  command_sound most Stop at good = stop_sound at
+  command_sound most (Goto j) at good = limited_sound ds lines most (Runs i a) (one (at_line j a a)) (goto_sound j at)
+  command_sound most (IfEq t u j) at good =
+      limited_sound ds lines most (Runs i a) (two (at_line j a (with_atom a (Eq t u))) (at_line (i + 1) a (with_atom a (Neq t u)))) (if_eq_sound t u j at good)
+  command_sound most (IfNeq t u j) at good =
+      limited_sound ds lines most (Runs i a) (two (at_line j a (with_atom a (Neq t u))) (at_line (i + 1) a (with_atom a (Eq t u)))) (if_neq_sound t u j at good)
+  command_sound most (Assign x t) at good =
+      limited_sound ds lines most (Runs i a) (one (at_line (i + 1) a (with_atom (renamed x n a) (Eq (Univ x) (renamed_term x n t))))) (assign_sound x t at good)
+  command_sound most (Load x t k) at good =
       finds_sound ds lines (Runs i a) (cell_of a.pure t a.spatial) NoCell _ (λ c found.
       finds_sound ds lines (Runs i a) (counted_from_one c.fields k) NoCell _ (λ f field.
-      limited_sound ds lines (Runs i a) (one (at_line (i + 1) a (with_atom (renamed x n a) (Eq (Univ x) (renamed_term x n f))))) (load_sound x t k c f at good found field)))
-  command_sound (Store t k u) at good =
+      limited_sound ds lines most (Runs i a) (one (at_line (i + 1) a (with_atom (renamed x n a) (Eq (Univ x) (renamed_term x n f))))) (load_sound x t k c f at good found field)))
+  command_sound most (Store t k u) at good =
       finds_sound ds lines (Runs i a) (cell_of a.pure t a.spatial) NoCell _ (λ c found.
       finds_sound ds lines (Runs i a) (counted_from_one c.fields k) NoCell _ (λ f field.
-      limited_sound ds lines (Runs i a) (one (at_line (i + 1) a (with_field a c k u))) (store_sound t k u c f at good found field)))
-  command_sound (New x k) at good =
-      limited_sound ds lines (Runs i a) (one (at_line (i + 1) a (with_cell (renamed x n a) x (variables_from (n + 1) k)))) (new_sound x k at good)
-  command_sound (Free t) at good =
+      limited_sound ds lines most (Runs i a) (one (at_line (i + 1) a (with_field a c k u))) (store_sound t k u c f at good found field)))
+  command_sound most (New x k) at good =
+      limited_sound ds lines most (Runs i a) (one (at_line (i + 1) a (with_cell (renamed x n a) x (variables_from (n + 1) k)))) (new_sound x k at good)
+  command_sound most (Free t) at good =
       finds_sound ds lines (Runs i a) (cell_of a.pure t a.spatial) NoCell _ (λ c found.
-      limited_sound ds lines (Runs i a) (one (record { judgement = Runs (i + 1) (without_spatial c.place a); pairs = kept_pairs c.place a.spatial })) (free_sound t c at good found))
+      limited_sound ds lines most (Runs i a) (one (record { judgement = Runs (i + 1) (without_spatial c.place a); pairs = kept_pairs c.place a.spatial })) (free_sound t c at good found))
 
 module _ (ds : List Definition) (lines : List Command) where
-  pub exec_is_sound : (j : Judgement) → Each IsCommand lines → IsSound ds lines j (exec_answer lines j)
-  exec_is_sound (Entail a bs) good = tt
-  exec_is_sound (Runs i a) good =
+  pub exec_is_sound : (most : ℕ) (j : Judgement) → Each IsCommand lines → IsSound ds lines j (exec_answer most lines j)
+  exec_is_sound most (Entail a bs) good = tt
+  exec_is_sound most (Runs i a) good =
       let n = fresh_number (program_variables lines) (Runs i a) in
       finds_sound ds lines (Runs i a) (counted_from_one lines i) WrongJudgement _ (λ c at.
-      command_sound ds lines i a n (omega arith) (omega arith) c at (command_is lines i c good at))
+      command_sound ds lines i a n (omega arith) (omega arith) most c at (command_is lines i c good at))

@@ -1,18 +1,17 @@
 -- Cut is sound.
-use Rattle.std.proofs.Common.{◌≡◌, ℕ, suc, ◌+◌, ◌≤◌, Bool, true, false, not, List, [], ◌∷◌, ◌++◌, refl, sym, subst, arith, inl, inr, map}
+use Rattle.std.proofs.Common.{◌≡◌, ℕ, suc, ◌+◌, ◌≤◌, Bool, true, false, not, List, [], ◌∷◌, ◌++◌, refl, sym, subst, arith, inl, inr}
 use Rattle.heap_formula.specs.declared.terms.Term.{Term}
 use Rattle.heap_formula.specs.declared.terms.Term.TheVariants.{Nil, Univ, Exist}
 use Rattle.heap_formula.specs.declared.atoms.Spatial.{Spatial}
 use Rattle.heap_formula.specs.declared.commands.Command.{Command}
-use Rattle.heap_formula.specs.declared.judgements.Judgement.TheVariants.{Entail}
 use Rattle.heap_formula.specs.Symbolic.{SymbolicHeap}
 use Rattle.heap_formula.specs.Definitions.{Definition}
-use Rattle.heap_formula.specs.Words.{Each, max_of}
+use Rattle.heap_formula.specs.Words.{Each}
 use Rattle.heap_formula.specs.Values.{Stack, value}
 use Rattle.heap_formula.specs.Cells.{Cells, no_cells, IsUnion, Star}
-use Rattle.heap_formula.specs.Meaning.{Family, PureHolds, AtomHolds, SpatialHolds, Holds, at_stage, Stages, Satisfies, SatisfiesOne}
+use Rattle.heap_formula.specs.Meaning.{Family, PureHolds, AtomHolds, SpatialHolds, Holds, at_stage, Stages, Satisfies}
 use Rattle.heap_formula.specs.declared.judgements.Judgement.{Judgement}
-use Rattle.heap_formula.specs.Judgements.{Follows, IsLocallySound, Concludes, antecedent}
+use Rattle.heap_formula.specs.Judgements.{IsLocallySound, Concludes, antecedent}
 use Rattle.heap_formula.specs.Positions.{chosen, chosen_step, chosen_place, place_step, others_of}
 use Rattle.heap_formula.specs.Closedness.{InHeap, InSpatial}
 use Rattle.heap_formula.specs.Substitution.{opened_term, in_heap}

@@ -1,23 +1,20 @@
 -- The trace pairs of every rule join predicate atoms.
-use Rattle.std.proofs.Common.{◌≡◌, ◌≢◌, ℕ, zero, suc, ◌+◌, ◌<◌, ◌≤◌, Bool, true, false, cond, List, [], ◌∷◌, ◌++◌, map, length, Option, Some, None, refl, sym, ap, ◌∙◌, subst, arith}
-use Rattle.std.specs.Prelude.{Ok, Err, slice_get, slice_set, slice_index}
+use Rattle.std.proofs.Common.{◌≡◌, ℕ, zero, suc, ◌+◌, Bool, true, false, List, [], ◌∷◌, ◌++◌, map, length, Option, Some, None, refl, sym, ap, ◌∙◌, subst, arith}
+use Rattle.std.specs.Prelude.{slice_get, slice_set}
 use Rattle.heap_formula.specs.declared.terms.Term.{Term}
-use Rattle.heap_formula.specs.declared.atoms.Pure.{Pure}
 use Rattle.heap_formula.specs.declared.atoms.Spatial.{Spatial}
 use Rattle.heap_formula.specs.declared.atoms.Spatial.TheVariants.{Cell, Pred}
 use Rattle.heap_formula.specs.declared.judgements.Judgement.{Judgement}
 use Rattle.heap_formula.specs.declared.judgements.Judgement.TheVariants.{Entail, Term as Runs}
-use Rattle.heap_formula.specs.declared.judgements.Pair.{Pair}
 use Rattle.heap_formula.specs.declared.judgements.Premise.{Premise}
 use Rattle.heap_formula.specs.declared.proof_rules.RuleFault.{RuleFault}
 use Rattle.heap_formula.specs.declared.proof_rules.RuleFault.TheVariants.{TooManyAtoms, NoFreshVariable}
 use Rattle.heap_formula.specs.Symbolic.{SymbolicHeap}
 use Rattle.heap_formula.specs.Words.{Each}
-use Rattle.heap_formula.specs.Judgements.{antecedent, with_antecedent}
 use Rattle.heap_formula.specs.Positions.{without, before, pairs_from, same_pairs, kept_pairs, child_pairs, chosen, chosen_step, chosen_place, place_step}
 use Rattle.heap_formula.specs.Substitution.{in_spatial}
 use Rattle.rule_table.specs.Answer.{Answer, needs, finds, entails, one_heap, single, runs, limited, each_heap, is_short, has_numbers}
-use Rattle.rule_table.specs.Fits.{IsPredAt, PairsFit, PremiseFits, OnPremises}
+use Rattle.rule_table.specs.Fits.{IsPredAt, PairsFit, OnPremises}
 
 -- ---- answers
 
@@ -30,8 +27,8 @@ module _ (P : Premise → Type 0) where
   finds_on None f rest g = tt
   finds_on (Some x) f rest g = g x refl
 
-  pub limited_on : (ps : List Premise) → Each P ps → OnPremises P (limited ps)
-  limited_on ps all = needs_on (each_heap is_short ps) TooManyAtoms _ (λ _. needs_on (each_heap has_numbers ps) NoFreshVariable _ (λ _. all))
+  pub limited_on : (most : ℕ) (ps : List Premise) → Each P ps → OnPremises P (limited most ps)
+  limited_on most ps all = needs_on (each_heap (is_short most) ps) TooManyAtoms _ (λ _. needs_on (each_heap has_numbers ps) NoFreshVariable _ (λ _. all))
 
 module _ (P : Judgement → Premise → Type 0) where
   pub entails_on : (j : Judgement) (rest : SymbolicHeap → List SymbolicHeap → Answer) → ((a : SymbolicHeap) (bs : List SymbolicHeap) → OnPremises (P (Entail a bs)) (rest a bs)) → OnPremises (P j) (entails j rest)

@@ -1,6 +1,6 @@
 -- Rule by rule: no existential stands in a premise's antecedent.
-use Rattle.std.proofs.Common.{◌≡◌, ℕ, zero, suc, ◌+◌, ◌-◌, max, Bool, true, false, cond, List, [], ◌∷◌, ◌++◌, map, length, Option, Some, None, refl, sym, ap, ◌∙◌, subst}
-use Rattle.std.specs.Prelude.{Ok, Err, slice_get, slice_set, slice_index, nat_eq, nat_le, if◌then◌else◌}
+use Rattle.std.proofs.Common.{◌≡◌, ℕ, zero, suc, ◌+◌, ◌-◌, max, Bool, true, false, cond, List, [], ◌∷◌, map, length, Some, subst}
+use Rattle.std.specs.Prelude.{Ok, Err, slice_get, slice_set, nat_eq, nat_le, if◌then◌else◌}
 use Rattle.heap_formula.specs.declared.terms.Term.{Term}
 use Rattle.heap_formula.specs.declared.terms.Term.TheVariants.{Nil, Univ, Exist}
 use Rattle.heap_formula.specs.declared.atoms.Pure.{Pure}
@@ -11,14 +11,12 @@ use Rattle.heap_formula.specs.declared.commands.Command.{Command}
 use Rattle.heap_formula.specs.declared.commands.Command.TheVariants.{Assign, Load, Store, New, Free, IfEq, IfNeq, Goto, Stop}
 use Rattle.heap_formula.specs.declared.judgements.Judgement.{Judgement}
 use Rattle.heap_formula.specs.declared.judgements.Judgement.TheVariants.{Entail, Term as Runs}
-use Rattle.heap_formula.specs.declared.judgements.Pair.{Pair}
 use Rattle.heap_formula.specs.declared.judgements.Premise.{Premise}
-use Rattle.heap_formula.specs.declared.proof_rules.Link.{Link}
 use Rattle.heap_formula.specs.declared.proof_rules.Side.{Side}
 use Rattle.heap_formula.specs.declared.proof_rules.Side.TheVariants.{Left, Right}
 use Rattle.heap_formula.specs.declared.proof_rules.Rule.{Rule}
 use Rattle.heap_formula.specs.declared.proof_rules.Rule.TheVariants.{Absurd, Rewrite, Split, Distinct, Weaken, Unfold, Cut, Done, Choose, PureRight, Instantiate, Frame, UnfoldRight, Exec, Drop}
-use Rattle.heap_formula.specs.declared.proof_rules.RuleFault.TheVariants.{NoSuchAtom, NotEquation, AtomsDiffer, HasExistential, NotFollowing, NotAbsurd, NotEmpty, NoSuchCase, NoCell, WrongJudgement}
+use Rattle.heap_formula.specs.declared.proof_rules.RuleFault.TheVariants.{NoSuchAtom, AtomsDiffer, HasExistential, NotFollowing, NotAbsurd, NoSuchCase, NoCell, WrongJudgement}
 use Rattle.heap_formula.specs.Symbolic.{SymbolicHeap}
 use Rattle.heap_formula.specs.Definitions.{Definition}
 use Rattle.heap_formula.specs.Words.{Each}
@@ -26,17 +24,16 @@ use Rattle.heap_formula.specs.Meaning.{cases_of}
 use Rattle.heap_formula.specs.Fresh.{heap_bound, fresh_number}
 use Rattle.heap_formula.specs.Programs.{counted_from_one, program_variables}
 use Rattle.heap_formula.specs.Judgements.{antecedent, with_antecedent}
-use Rattle.heap_formula.specs.Positions.{without, same_pairs, kept_pairs, child_pairs, chosen, chosen_step, chosen_place, others_of, pairs_from}
-use Rattle.heap_formula.specs.Substitution.{in_heap, in_spatial, apply_term, apply_spatial, apply_judgement, case_body}
-use Rattle.rule_table.specs.RuleUnfold.{unfold_premise, unfolded}
+use Rattle.heap_formula.specs.Positions.{without, kept_pairs, chosen, chosen_step, others_of}
+use Rattle.heap_formula.specs.Substitution.{in_heap, in_spatial, apply_term, apply_judgement, case_body}
+use Rattle.rule_table.specs.RuleUnfold.{unfold_premise}
 use Rattle.rule_table.specs.RuleCut.{cut_left, cut_right}
 use Rattle.rule_table.proofs.Appends.{Each-append}
 use Rattle.rule_table.specs.Answer.{Answer, finds, limited, one, two}
 use Rattle.rule_table.specs.Tests.{same_term, same_spatial, is_universal_pure, is_universal_spatial, follows, is_absurd, address_of, has_number, ascend_from}
 use Rattle.heap_formula.specs.Fresh.{heap_exists}
-use Rattle.rule_table.specs.Table.{with_pures, with_pure, with_right, without_pure, without_spatial, rewritten, rewrite_side, rewrite_atom, named, unnamed, calls, are_empty, unfolded_right, right_term, instance_term, absurd_answer, rewrite_answer, split_answer, distinct_answer, weaken_answer, unfold_answer, cut_answer, drop_answer, done_answer, choose_answer, pure_right_answer, instantiate_answer, frame_answer, unfold_right_answer}
+use Rattle.rule_table.specs.Table.{with_pures, with_pure, with_right, without_spatial, rewrite_side, rewrite_atom, named, unnamed, calls, are_empty, unfolded_right, right_term, drop_answer, done_answer, choose_answer, pure_right_answer, instantiate_answer, frame_answer, unfold_right_answer}
 use Rattle.rule_table.specs.ExecTable.{Found, cell_of, renamed, renamed_term, with_atom, variables_from, with_cell, with_field, at_line, command_answer, exec_answer}
-use Rattle.rule_table.specs.LinkTable.{link_fault, link_premise}
 use Rattle.rule_table.specs.RuleBook.{variables_of, rule_answer}
 use Rattle.rule_table.specs.Fits.{OnPremises}
 use Rattle.rule_table.specs.Soundness.{IsCommand, HasUniversalTerms, IsUniversalPremise}
@@ -46,7 +43,7 @@ use Rattle.heap_formula.specs.Substitution.{in_pure, opened_term, case_term, app
 use Rattle.std.specs.Prelude.{slice_index_or}
 use Rattle.std.proofs.Math.ListN.{get_or}
 use Rattle.rule_table.proofs.Fits.{needs_on, finds_on, limited_on, entails_on, single_on, runs_on}
-use Rattle.rule_table.proofs.Commands.{IsFound, found_is}
+use Rattle.rule_table.proofs.Commands.{found_is}
 
 module _ (Q : Term → Type 0) (f : Term → Term) (g : (t : Term) → Q t → IsUniversal (f t)) where
   terms_after : (ts : List Term) → Each Q ts → Each IsUniversal (map f ts)
@@ -138,10 +135,10 @@ unfold_cases_universal : (j : Judgement) (k : ℕ) (ts : List Term) (n : ℕ) (c
 unfold_cases_universal j k ts n [] h q = tt
 unfold_cases_universal j k ts n (c ∷ cs) h q = (unfold_one_universal j k ts n c h q, unfold_cases_universal j k ts n cs h q)
 
-unfold_universal : (ds : List Definition) (p : ℕ) (j : Judgement) (k : ℕ) (x : Spatial) → IsUniversalHeap (antecedent j) → InSpatial IsUniversal x → OnPremises IsUniversalPremise (calls x (λ q ts. limited (map (unfold_premise j k ts (fresh_number p j)) (cases_of ds q))))
-unfold_universal ds p j k (Cell t ts) h q = tt
-unfold_universal ds p j k (Pred r ts) h q =
-    limited_on IsUniversalPremise (map (unfold_premise j k ts (fresh_number p j)) (cases_of ds r)) (unfold_cases_universal j k ts (fresh_number p j) (cases_of ds r) h q)
+unfold_universal : (most : ℕ) (ds : List Definition) (p : ℕ) (j : Judgement) (k : ℕ) (x : Spatial) → IsUniversalHeap (antecedent j) → InSpatial IsUniversal x → OnPremises IsUniversalPremise (calls x (λ q ts. limited most (map (unfold_premise j k ts (fresh_number p j)) (cases_of ds q))))
+unfold_universal most ds p j k (Cell t ts) h q = tt
+unfold_universal most ds p j k (Pred r ts) h q =
+    limited_on IsUniversalPremise most (map (unfold_premise j k ts (fresh_number p j)) (cases_of ds r)) (unfold_cases_universal j k ts (fresh_number p j) (cases_of ds r) h q)
 
 chosen_universal : (xs : List Spatial) (p : ℕ → Bool) → Each (InSpatial IsUniversal) xs → Each (InSpatial IsUniversal) (chosen p xs)
 chosen_universal [] p q = tt
@@ -183,30 +180,30 @@ module _ (i : ℕ) (a : SymbolicHeap) (n : ℕ) (h : IsUniversalHeap a) where
   cell_universal : (t : Term) (c : Found) → cell_of a.pure t a.spatial ≡ Some c → InSpatial IsUniversal (Cell c.address c.fields)
   cell_universal t c found = Each-get (InSpatial IsUniversal) a.spatial c.place (Cell c.address c.fields) (found_is a.pure t a.spatial c found).at h.1
 
-  command_universal : (c : Command) → IsCommand c → OnPremises IsUniversalPremise (command_answer i a n c)
-  command_universal Stop good = tt
-  command_universal (Goto j) good = limited_on IsUniversalPremise (one (at_line j a a)) (h, tt)
-  command_universal (IfEq t u j) good =
-      limited_on IsUniversalPremise (two (at_line j a (with_atom a (Eq t u))) (at_line (i + 1) a (with_atom a (Neq t u)))) (atom_universal a (Eq t u) h good, (atom_universal a (Neq t u) h good, tt))
-  command_universal (IfNeq t u j) good =
-      limited_on IsUniversalPremise (two (at_line j a (with_atom a (Neq t u))) (at_line (i + 1) a (with_atom a (Eq t u)))) (atom_universal a (Neq t u) h good, (atom_universal a (Eq t u) h good, tt))
-  command_universal (Assign x t) good =
-      limited_on IsUniversalPremise (one (at_line (i + 1) a (with_atom (renamed x n a) (Eq (Univ x) (renamed_term x n t))))) (set_universal x t good, tt)
-  command_universal (Load x t k) good =
+  command_universal : (most : ℕ) (c : Command) → IsCommand c → OnPremises IsUniversalPremise (command_answer most i a n c)
+  command_universal most Stop good = tt
+  command_universal most (Goto j) good = limited_on IsUniversalPremise most (one (at_line j a a)) (h, tt)
+  command_universal most (IfEq t u j) good =
+      limited_on IsUniversalPremise most (two (at_line j a (with_atom a (Eq t u))) (at_line (i + 1) a (with_atom a (Neq t u)))) (atom_universal a (Eq t u) h good, (atom_universal a (Neq t u) h good, tt))
+  command_universal most (IfNeq t u j) good =
+      limited_on IsUniversalPremise most (two (at_line j a (with_atom a (Neq t u))) (at_line (i + 1) a (with_atom a (Eq t u)))) (atom_universal a (Neq t u) h good, (atom_universal a (Eq t u) h good, tt))
+  command_universal most (Assign x t) good =
+      limited_on IsUniversalPremise most (one (at_line (i + 1) a (with_atom (renamed x n a) (Eq (Univ x) (renamed_term x n t))))) (set_universal x t good, tt)
+  command_universal most (Load x t k) good =
       finds_on IsUniversalPremise (cell_of a.pure t a.spatial) NoCell _ (λ c found.
       finds_on IsUniversalPremise (counted_from_one c.fields k) NoCell _ (λ f field.
-      limited_on IsUniversalPremise (one (at_line (i + 1) a (with_atom (renamed x n a) (Eq (Univ x) (renamed_term x n f))))) (set_universal x f (counted_each IsUniversal c.fields k f field (cell_universal t c found).1), tt)))
-  command_universal (Store t k u) good =
+      limited_on IsUniversalPremise most (one (at_line (i + 1) a (with_atom (renamed x n a) (Eq (Univ x) (renamed_term x n f))))) (set_universal x f (counted_each IsUniversal c.fields k f field (cell_universal t c found).1), tt)))
+  command_universal most (Store t k u) good =
       finds_on IsUniversalPremise (cell_of a.pure t a.spatial) NoCell _ (λ c found.
       finds_on IsUniversalPremise (counted_from_one c.fields k) NoCell _ (λ f field.
       let cell = cell_universal t c found in
-      limited_on IsUniversalPremise (one (at_line (i + 1) a (with_field a c k u))) ((h.0, Each-set (InSpatial IsUniversal) a.spatial c.place (Cell c.address (slice_set c.fields (k - 1) u)) (cell.0, Each-set IsUniversal c.fields (k - 1) u good.1 cell.1) h.1), tt)))
-  command_universal (New x k) good =
+      limited_on IsUniversalPremise most (one (at_line (i + 1) a (with_field a c k u))) ((h.0, Each-set (InSpatial IsUniversal) a.spatial c.place (Cell c.address (slice_set c.fields (k - 1) u)) (cell.0, Each-set IsUniversal c.fields (k - 1) u good.1 cell.1) h.1), tt)))
+  command_universal most (New x k) good =
       let r = renamed_universal x in
-      limited_on IsUniversalPremise (one (at_line (i + 1) a (with_cell (renamed x n a) x (variables_from (n + 1) k)))) ((r.0, Each-append (InSpatial IsUniversal) (renamed x n a).spatial (Cell (Univ x) (variables_from (n + 1) k) ∷ []) r.1 ((tt, fields_universal (n + 1) k), tt)), tt)
-  command_universal (Free t) good =
+      limited_on IsUniversalPremise most (one (at_line (i + 1) a (with_cell (renamed x n a) x (variables_from (n + 1) k)))) ((r.0, Each-append (InSpatial IsUniversal) (renamed x n a).spatial (Cell (Univ x) (variables_from (n + 1) k) ∷ []) r.1 ((tt, fields_universal (n + 1) k), tt)), tt)
+  command_universal most (Free t) good =
       finds_on IsUniversalPremise (cell_of a.pure t a.spatial) NoCell _ (λ c found.
-      limited_on IsUniversalPremise (one (record { judgement = Runs (i + 1) (without_spatial c.place a); pairs = kept_pairs c.place a.spatial })) ((h.0, Each-without (InSpatial IsUniversal) a.spatial c.place h.1), tt))
+      limited_on IsUniversalPremise most (one (record { judgement = Runs (i + 1) (without_spatial c.place a); pairs = kept_pairs c.place a.spatial })) ((h.0, Each-without (InSpatial IsUniversal) a.spatial c.place h.1), tt))
 
 -- each premise of a judgement that has no existential in its antecedent has none
 abbrev P : Judgement → Premise → Type 0
@@ -220,56 +217,56 @@ lift j (Ok ps) a h = all ps a
     all [] b = tt
     all (p ∷ ps) b = (b.0 h, all ps b.1)
 
-exec_keeps : (lines : List Command) (j : Judgement) → IsUniversalHeap (antecedent j) → Each IsCommand lines → OnPremises IsUniversalPremise (exec_answer lines j)
-exec_keeps lines (Entail a bs) h c = tt
-exec_keeps lines (Runs i a) h c =
-    finds_on IsUniversalPremise (counted_from_one lines i) WrongJudgement _ (λ x at. command_universal i a (fresh_number (program_variables lines) (Runs i a)) h x (counted_each IsCommand lines i x at c))
+exec_keeps : (most : ℕ) (lines : List Command) (j : Judgement) → IsUniversalHeap (antecedent j) → Each IsCommand lines → OnPremises IsUniversalPremise (exec_answer most lines j)
+exec_keeps most lines (Entail a bs) h c = tt
+exec_keeps most lines (Runs i a) h c =
+    finds_on IsUniversalPremise (counted_from_one lines i) WrongJudgement _ (λ x at. command_universal i a (fresh_number (program_variables lines) (Runs i a)) h most x (counted_each IsCommand lines i x at c))
 
-right_universal : (ds : List Definition) (a b : SymbolicHeap) (k c : ℕ) (x : Spatial) → OnPremises (P (Entail a (b ∷ []))) (calls x (λ q ts. finds (slice_get (cases_of ds q) c) NoSuchCase (λ case. limited (one (with_right a (unfolded_right b k (in_heap (right_term ts (heap_exists b)) case) ∷ []))))))
-right_universal ds a b k c (Cell t ts) = tt
-right_universal ds a b k c (Pred q ts) =
+right_universal : (most : ℕ) (ds : List Definition) (a b : SymbolicHeap) (k c : ℕ) (x : Spatial) → OnPremises (P (Entail a (b ∷ []))) (calls x (λ q ts. finds (slice_get (cases_of ds q) c) NoSuchCase (λ case. limited most (one (with_right a (unfolded_right b k (in_heap (right_term ts (heap_exists b)) case) ∷ []))))))
+right_universal most ds a b k c (Cell t ts) = tt
+right_universal most ds a b k c (Pred q ts) =
     finds_on (P (Entail a (b ∷ []))) (slice_get (cases_of ds q) c) NoSuchCase _ (λ case at.
-    limited_on (P (Entail a (b ∷ []))) (one (with_right a (unfolded_right b k (in_heap (right_term ts (heap_exists b)) case) ∷ []))) (λ u. u, tt))
+    limited_on (P (Entail a (b ∷ []))) most (one (with_right a (unfolded_right b k (in_heap (right_term ts (heap_exists b)) case) ∷ []))) (λ u. u, tt))
 
-pub rule_keeps : (ds : List Definition) (lines : List Command) (j : Judgement) (rule : Rule) → IsUniversalHeap (antecedent j) → Each IsCommand lines → HasUniversalTerms rule → OnPremises IsUniversalPremise (rule_answer ds lines j rule)
-rule_keeps ds lines j Absurd h c r = needs_on IsUniversalPremise (is_absurd (antecedent j)) NotAbsurd (Ok []) (λ _. tt)
-rule_keeps ds lines j (Rewrite k side) h c r =
+pub rule_keeps : (most : ℕ) (ds : List Definition) (lines : List Command) (j : Judgement) (rule : Rule) → IsUniversalHeap (antecedent j) → Each IsCommand lines → HasUniversalTerms rule → OnPremises IsUniversalPremise (rule_answer most ds lines j rule)
+rule_keeps most ds lines j Absurd h c r = needs_on IsUniversalPremise (is_absurd (antecedent j)) NotAbsurd (Ok []) (λ _. tt)
+rule_keeps most ds lines j (Rewrite k side) h c r =
     finds_on IsUniversalPremise (slice_get (antecedent j).pure k) NoSuchAtom _ (λ x at. rewrite_universal (variables_of lines j) j k side x h (Each-get (InPure IsUniversal) (antecedent j).pure k x at h.0))
-rule_keeps ds lines j (Split t u) h c r =
-    limited_on IsUniversalPremise (two (with_pure j (Eq t u)) (with_pure j (Neq t u))) (pure_universal j (Eq t u) h r, (pure_universal j (Neq t u) h r, tt))
-rule_keeps ds lines j (Distinct i k) h c r =
+rule_keeps most ds lines j (Split t u) h c r =
+    limited_on IsUniversalPremise 32 (two (with_pure j (Eq t u)) (with_pure j (Neq t u))) (pure_universal j (Eq t u) h r, (pure_universal j (Neq t u) h r, tt))
+rule_keeps most ds lines j (Distinct i k) h c r =
     finds_on IsUniversalPremise (slice_get (antecedent j).spatial i) NoSuchAtom _ (λ x at_i.
     finds_on IsUniversalPremise (slice_get (antecedent j).spatial k) NoSuchAtom _ (λ y at_k.
     finds_on IsUniversalPremise (address_of x) NoCell _ (λ t is_t.
     finds_on IsUniversalPremise (address_of y) NoCell _ (λ u is_u.
     let ut = address_universal x t is_t (Each-get (InSpatial IsUniversal) (antecedent j).spatial i x at_i h.1) in
     let uu = address_universal y u is_u (Each-get (InSpatial IsUniversal) (antecedent j).spatial k y at_k h.1) in
-    limited_on IsUniversalPremise (one (with_pure j (Neq t (if nat_eq i k then Nil else u)))) (pure_universal j (Neq t (if nat_eq i k then Nil else u)) h (ut, one_term (nat_eq i k) Nil u tt uu), tt)))))
-rule_keeps ds lines j (Weaken k) h c r =
+    limited_on IsUniversalPremise 32 (one (with_pure j (Neq t (if nat_eq i k then Nil else u)))) (pure_universal j (Neq t (if nat_eq i k then Nil else u)) h (ut, one_term (nat_eq i k) Nil u tt uu), tt)))))
+rule_keeps most ds lines j (Weaken k) h c r =
     finds_on IsUniversalPremise (slice_get (antecedent j).pure k) NoSuchAtom _ (λ x at. (universal_with j _ (Each-without (InPure IsUniversal) (antecedent j).pure k h.0, h.1), tt))
-rule_keeps ds lines j (Unfold k) h c r =
-    finds_on IsUniversalPremise (slice_get (antecedent j).spatial k) NoSuchAtom _ (λ x at. unfold_universal ds (variables_of lines j) j k x h (Each-get (InSpatial IsUniversal) (antecedent j).spatial k x at h.1))
-rule_keeps ds lines j (Cut places f) h c r =
+rule_keeps most ds lines j (Unfold k) h c r =
+    finds_on IsUniversalPremise (slice_get (antecedent j).spatial k) NoSuchAtom _ (λ x at. unfold_universal most ds (variables_of lines j) j k x h (Each-get (InSpatial IsUniversal) (antecedent j).spatial k x at h.1))
+rule_keeps most ds lines j (Cut places f) h c r =
     needs_on IsUniversalPremise (ascend_from 0 (length (antecedent j).spatial) places) NoSuchAtom _ (λ _.
-    limited_on IsUniversalPremise (two (cut_left (antecedent j) (has_number places) f) (cut_right j (has_number places) f (max (fresh_number (variables_of lines j) j) (heap_bound f)))) ((h.0, chosen_universal (antecedent j).spatial (has_number places) h.1), (cut_universal j (has_number places) f (max (fresh_number (variables_of lines j) j) (heap_bound f)) h, tt)))
-rule_keeps ds lines j Done h c r = lift j (done_answer j) (single_on P j _ (λ a b. empty_keeps (P (Entail a (b ∷ []))) a.spatial b.pure b.spatial)) h
-rule_keeps ds lines j (Choose k) h c r =
+    limited_on IsUniversalPremise most (two (cut_left (antecedent j) (has_number places) f) (cut_right j (has_number places) f (max (fresh_number (variables_of lines j) j) (heap_bound f)))) ((h.0, chosen_universal (antecedent j).spatial (has_number places) h.1), (cut_universal j (has_number places) f (max (fresh_number (variables_of lines j) j) (heap_bound f)) h, tt)))
+rule_keeps most ds lines j Done h c r = lift j (done_answer j) (single_on P j _ (λ a b. empty_keeps (P (Entail a (b ∷ []))) a.spatial b.pure b.spatial)) h
+rule_keeps most ds lines j (Choose k) h c r =
     lift j (choose_answer j k) (entails_on P j _ (λ a bs. finds_on (P (Entail a bs)) (slice_get bs k) NoSuchAtom _ (λ b at. (λ u. u, tt)))) h
-rule_keeps ds lines j (PureRight k) h c r =
+rule_keeps most ds lines j (PureRight k) h c r =
     lift j (pure_right_answer j k) (single_on P j _ (λ a b.
     finds_on (P (Entail a (b ∷ []))) (slice_get b.pure k) NoSuchAtom _ (λ x at.
     needs_on (P (Entail a (b ∷ []))) (is_universal_pure x) HasExistential _ (λ _.
     needs_on (P (Entail a (b ∷ []))) (follows a.pure x) NotFollowing _ (λ _. (λ u. u, tt)))))) h
-rule_keeps ds lines j (Instantiate v t) h c r = lift j (instantiate_answer j v t) (single_on P j _ (λ a b. (λ u. u, tt))) h
-rule_keeps ds lines j (Frame i k) h c r =
+rule_keeps most ds lines j (Instantiate v t) h c r = lift j (instantiate_answer j v t) (single_on P j _ (λ a b. (λ u. u, tt))) h
+rule_keeps most ds lines j (Frame i k) h c r =
     lift j (frame_answer j i k) (single_on P j _ (λ a b.
     finds_on (P (Entail a (b ∷ []))) (slice_get a.spatial i) NoSuchAtom _ (λ x at_i.
     finds_on (P (Entail a (b ∷ []))) (slice_get b.spatial k) NoSuchAtom _ (λ y at_k.
     needs_on (P (Entail a (b ∷ []))) (is_universal_spatial y) HasExistential _ (λ _.
     needs_on (P (Entail a (b ∷ []))) (same_spatial x y) AtomsDiffer _ (λ _. (λ u. (u.0, Each-without (InSpatial IsUniversal) a.spatial i u.1), tt))))))) h
-rule_keeps ds lines j (UnfoldRight k n) h c r =
-    lift j (unfold_right_answer ds j k n) (single_on P j _ (λ a b. finds_on (P (Entail a (b ∷ []))) (slice_get b.spatial k) NoSuchAtom _ (λ x at. right_universal ds a b k n x))) h
-rule_keeps ds lines j Exec h c r =
-    exec_keeps lines j h c
-rule_keeps ds lines j (Drop k) h c r =
+rule_keeps most ds lines j (UnfoldRight k n) h c r =
+    lift j (unfold_right_answer most ds j k n) (single_on P j _ (λ a b. finds_on (P (Entail a (b ∷ []))) (slice_get b.spatial k) NoSuchAtom _ (λ x at. right_universal most ds a b k n x))) h
+rule_keeps most ds lines j Exec h c r =
+    exec_keeps most lines j h c
+rule_keeps most ds lines j (Drop k) h c r =
     lift j (drop_answer j k) (runs_on P j _ (λ i a. finds_on (P (Runs i a)) (slice_get a.spatial k) NoSuchAtom _ (λ x at. (λ u. (u.0, Each-without (InSpatial IsUniversal) a.spatial k u.1), tt)))) h

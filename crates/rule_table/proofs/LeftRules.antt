@@ -1,5 +1,5 @@
 -- The rules that change the left side are sound.
-use Rattle.std.proofs.Common.{◌≡◌, ◌≢◌, ℕ, zero, suc, ◌+◌, ◌<◌, ◌≤◌, max, Bool, true, false, cond, List, [], ◌∷◌, ◌++◌, map, length, Option, Some, None, refl, sym, ap, ◌∙◌, subst, inl, inr, arith}
+use Rattle.std.proofs.Common.{◌≡◌, ℕ, zero, suc, ◌≤◌, max, Bool, true, false, cond, List, [], ◌∷◌, ◌++◌, map, length, Some, refl, sym, ap, ◌∙◌, arith}
 use Rattle.std.specs.Prelude.{Ok, slice_get, slice_set, slice_index, nat_eq, nat_le, if◌then◌else◌}
 use Rattle.std.proofs.lemmas.Bool.Decides.{Decides-eqb}
 use Rattle.heap_formula.specs.declared.terms.Term.{Term}
@@ -11,21 +11,19 @@ use Rattle.heap_formula.specs.declared.atoms.Spatial.TheVariants.{Cell, Pred}
 use Rattle.heap_formula.specs.declared.commands.Command.{Command}
 use Rattle.heap_formula.specs.declared.judgements.Judgement.{Judgement}
 use Rattle.heap_formula.specs.declared.judgements.Judgement.TheVariants.{Entail, Term as Runs}
-use Rattle.heap_formula.specs.declared.judgements.Premise.{Premise}
 use Rattle.heap_formula.specs.declared.proof_rules.Side.{Side}
 use Rattle.heap_formula.specs.declared.proof_rules.Side.TheVariants.{Left, Right}
-use Rattle.heap_formula.specs.declared.proof_rules.RuleFault.{RuleFault}
-use Rattle.heap_formula.specs.declared.proof_rules.RuleFault.TheVariants.{NoSuchAtom, NotEquation, NotAbsurd, NoCell}
+use Rattle.heap_formula.specs.declared.proof_rules.RuleFault.TheVariants.{NoSuchAtom, NotAbsurd, NoCell}
 use Rattle.heap_formula.specs.Symbolic.{SymbolicHeap}
 use Rattle.heap_formula.specs.Definitions.{Definition}
-use Rattle.heap_formula.specs.Words.{Each, OneOf}
-use Rattle.heap_formula.specs.Values.{Stack, value, values}
-use Rattle.heap_formula.specs.Cells.{Cells, Star, IsPart}
-use Rattle.heap_formula.specs.Meaning.{PureHolds, AtomHolds, SpatialHolds, Holds, Stages, SatisfiesAt, Satisfies, SatisfiesOne, at_stage, cases_of}
-use Rattle.heap_formula.specs.Fresh.{heap_bound, judgement_bound, fresh_number}
+use Rattle.heap_formula.specs.Words.{Each}
+use Rattle.heap_formula.specs.Values.{Stack, value}
+use Rattle.heap_formula.specs.Cells.{Cells}
+use Rattle.heap_formula.specs.Meaning.{PureHolds, Stages, SatisfiesAt, Satisfies, at_stage, cases_of}
+use Rattle.heap_formula.specs.Fresh.{heap_bound, fresh_number}
 use Rattle.heap_formula.specs.Programs.{program_variables}
-use Rattle.heap_formula.specs.Judgements.{Concludes, PremiseHolds, IsLocallySound, antecedent, with_antecedent}
-use Rattle.heap_formula.specs.Positions.{without, before, same_pairs, kept_pairs}
+use Rattle.heap_formula.specs.Judgements.{Concludes, IsLocallySound, antecedent, with_antecedent}
+use Rattle.heap_formula.specs.Positions.{without, before, kept_pairs}
 use Rattle.heap_formula.specs.Closedness.{InPure, IsUniversal, IsUniversalHeap}
 use Rattle.heap_formula.specs.Substitution.{apply_term, apply_pure, apply_spatial, apply_heap, apply_judgement}
 use Rattle.rule_table.specs.RuleUnfold.{unfold_premise}
@@ -39,13 +37,12 @@ use Rattle.rule_table.proofs.Conclusions.{IsFresh, use_premise}
 use Rattle.rule_table.proofs.PureRules.{by_pures, weaken_sound, split_sound}
 use Rattle.rule_table.proofs.Unfolds.{unfold_sound}
 use Rattle.rule_table.proofs.Cuts.{cut_sound}
-use Rattle.rule_table.specs.Answer.{Answer, limited, one, two}
+use Rattle.rule_table.specs.Answer.{limited, one, two}
 use Rattle.rule_table.specs.Tests.{same_term, is_absurd, address_of, has_number, ascend_from}
 use Rattle.rule_table.specs.Table.{with_pures, with_pure, rewritten_pures, rewritten, rewrite_side, rewrite_atom, named, unnamed, calls, without_spatial, absurd_answer, rewrite_answer, split_answer, distinct_answer, weaken_answer, unfold_answer, cut_answer, drop_answer}
 use Rattle.rule_table.specs.Soundness.{IsSound, HasVariables}
 use Rattle.rule_table.proofs.Steps.{needs_sound, finds_sound, limited_sound, runs_sound}
-use Rattle.rule_table.proofs.Reflects.{same_term_is}
-use Rattle.rule_table.proofs.CellsIn.{HasCell, cell_there, apart, absurd_heap}
+use Rattle.rule_table.proofs.CellsIn.{cell_there, apart, absurd_heap}
 
 -- the fresh number is fresh
 pub is_fresh : (lines : List Command) (p n : ℕ) (j : Judgement) → HasVariables lines p j → fresh_number p j ≤ n → IsFresh lines n j
@@ -63,7 +60,7 @@ module _ (ds : List Definition) (lines : List Command) where
       finds_sound ds lines j (slice_get (antecedent j).pure k) NoSuchAtom _ (λ x at. weaken_sound ds lines j k)
 
   pub split_is_sound : (j : Judgement) (t u : Term) → IsSound ds lines j (split_answer j t u)
-  split_is_sound j t u = limited_sound ds lines j (two (with_pure j (Eq t u)) (with_pure j (Neq t u))) (split_sound ds lines j t u)
+  split_is_sound j t u = limited_sound ds lines 32 j (two (with_pure j (Eq t u)) (with_pure j (Neq t u))) (split_sound ds lines j t u)
 
   -- one more pure atom that holds
   pub by_pure : (j : Judgement) (x : Pure) → ((stages : Stages) (s : Stack) (h : Cells) (o : SatisfiesAt ds stages s h (antecedent j)) → PureHolds s o.0 x) → IsLocallySound ds lines j (one (with_pure j x))
@@ -89,7 +86,7 @@ module _ (ds : List Definition) (lines : List Command) where
       finds_sound ds lines j (slice_get (antecedent j).spatial k) NoSuchAtom _ (λ y at_k.
       finds_sound ds lines j (address_of x) NoCell _ (λ t is_t.
       finds_sound ds lines j (address_of y) NoCell _ (λ u is_u.
-      limited_sound ds lines j (one (with_pure j (Neq t (if nat_eq i k then Nil else u)))) (by_pure j (Neq t (if nat_eq i k then Nil else u)) (
+      limited_sound ds lines 32 j (one (with_pure j (Neq t (if nat_eq i k then Nil else u)))) (by_pure j (Neq t (if nat_eq i k then Nil else u)) (
       let c = cell_of_address x t is_t in
       let d = cell_of_address y u is_u in
       distinct_holds (antecedent j) i k t u c.0 d.0 (at_i ∙ ap Some c.1) (at_k ∙ ap Some d.1) (nat_eq i k) refl))))))
@@ -152,19 +149,19 @@ module _ (ds : List Definition) (lines : List Command) where
 
   -- ---- Unfold, Cut, Drop
 
-  unfold_call_sound : (p : ℕ) (j : Judgement) (k : ℕ) (x : Spatial) → HasVariables lines p j → slice_get (antecedent j).spatial k ≡ Some x → IsSound ds lines j (calls x (λ q ts. limited (map (unfold_premise j k ts (fresh_number p j)) (cases_of ds q))))
-  unfold_call_sound p j k (Cell t ts) v at = tt
-  unfold_call_sound p j k (Pred q ts) v at =
-      limited_sound ds lines j (map (unfold_premise j k ts (fresh_number p j)) (cases_of ds q)) (unfold_sound ds lines j k q ts (fresh_number p j) at (is_fresh lines p (fresh_number p j) j v (omega arith)))
+  unfold_call_sound : (most p : ℕ) (j : Judgement) (k : ℕ) (x : Spatial) → HasVariables lines p j → slice_get (antecedent j).spatial k ≡ Some x → IsSound ds lines j (calls x (λ q ts. limited most (map (unfold_premise j k ts (fresh_number p j)) (cases_of ds q))))
+  unfold_call_sound most p j k (Cell t ts) v at = tt
+  unfold_call_sound most p j k (Pred q ts) v at =
+      limited_sound ds lines most j (map (unfold_premise j k ts (fresh_number p j)) (cases_of ds q)) (unfold_sound ds lines j k q ts (fresh_number p j) at (is_fresh lines p (fresh_number p j) j v (omega arith)))
 
-  pub unfold_is_sound : (p : ℕ) (j : Judgement) (k : ℕ) → HasVariables lines p j → IsSound ds lines j (unfold_answer ds p j k)
-  unfold_is_sound p j k v =
-      finds_sound ds lines j (slice_get (antecedent j).spatial k) NoSuchAtom _ (λ x at. unfold_call_sound p j k x v at)
+  pub unfold_is_sound : (most p : ℕ) (j : Judgement) (k : ℕ) → HasVariables lines p j → IsSound ds lines j (unfold_answer most ds p j k)
+  unfold_is_sound most p j k v =
+      finds_sound ds lines j (slice_get (antecedent j).spatial k) NoSuchAtom _ (λ x at. unfold_call_sound most p j k x v at)
 
-  pub cut_is_sound : (p : ℕ) (j : Judgement) (places : List ℕ) (f : SymbolicHeap) → HasVariables lines p j → IsSound ds lines j (cut_answer p j places f)
-  cut_is_sound p j places f v =
+  pub cut_is_sound : (most p : ℕ) (j : Judgement) (places : List ℕ) (f : SymbolicHeap) → HasVariables lines p j → IsSound ds lines j (cut_answer most p j places f)
+  cut_is_sound most p j places f v =
       needs_sound ds lines j (ascend_from 0 (length (antecedent j).spatial) places) NoSuchAtom _ (λ _.
-      limited_sound ds lines j (two (cut_left (antecedent j) (has_number places) f) (cut_right j (has_number places) f (max (fresh_number p j) (heap_bound f)))) (cut_sound ds lines j (has_number places) f (max (fresh_number p j) (heap_bound f)) (is_fresh lines p (max (fresh_number p j) (heap_bound f)) j v (omega arith)) (omega arith)))
+      limited_sound ds lines most j (two (cut_left (antecedent j) (has_number places) f) (cut_right j (has_number places) f (max (fresh_number p j) (heap_bound f)))) (cut_sound ds lines j (has_number places) f (max (fresh_number p j) (heap_bound f)) (is_fresh lines p (max (fresh_number p j) (heap_bound f)) j v (omega arith)) (omega arith)))
 
   drop_sound : (i : ℕ) (a : SymbolicHeap) (k : ℕ) (x : Spatial) → slice_get a.spatial k ≡ Some x → IsLocallySound ds lines (Runs i a) (one (record { judgement = Runs i (without_spatial k a); pairs = kept_pairs k a.spatial }))
   drop_sound i a k x at stages premises s part o w pos h is =

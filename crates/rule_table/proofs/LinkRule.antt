@@ -1,10 +1,10 @@
 -- Link is sound.
-use Rattle.std.proofs.Common.{◌≡◌, ◌≢◌, ◌⊎◌, ℕ, zero, suc, ◌+◌, ◌<◌, ◌≤◌, max, Bool, true, false, not, ◌&&◌, ◌||◌, cond, List, [], ◌∷◌, ◌++◌, map, length, Option, Some, None, refl, sym, ap, ◌∙◌, subst, inl, inr, arith, leb-true}
-use Rattle.std.specs.Prelude.{slice_get, nat_eq, nat_le, nat_lt}
+use Rattle.std.proofs.Common.{◌≡◌, ◌≢◌, ℕ, zero, suc, ◌<◌, ◌≤◌, max, Bool, true, false, not, ◌&&◌, ◌||◌, cond, List, [], ◌∷◌, ◌++◌, map, length, Option, Some, None, refl, sym, ap, ◌∙◌, subst, inl, inr, arith, leb-true}
+use Rattle.std.specs.Prelude.{slice_get, nat_eq, nat_le}
 use Rattle.std.proofs.lemmas.Bool.{cases_lt}
 use Rattle.std.proofs.lemmas.Bool.Decides.{Decides-eqb}
 use Rattle.heap_formula.specs.declared.terms.Term.{Term}
-use Rattle.heap_formula.specs.declared.terms.Term.TheVariants.{Nil, Univ, Exist}
+use Rattle.heap_formula.specs.declared.terms.Term.TheVariants.{Univ}
 use Rattle.heap_formula.specs.declared.atoms.Pure.{Pure}
 use Rattle.heap_formula.specs.declared.atoms.Spatial.{Spatial}
 use Rattle.heap_formula.specs.declared.commands.Command.{Command}
@@ -12,7 +12,7 @@ use Rattle.heap_formula.specs.declared.judgements.Judgement.{Judgement}
 use Rattle.heap_formula.specs.declared.judgements.Judgement.TheVariants.{Entail, Term as Runs}
 use Rattle.heap_formula.specs.declared.proof_rules.Link.{Link}
 use Rattle.heap_formula.specs.declared.proof_rules.RuleFault.{RuleFault}
-use Rattle.heap_formula.specs.declared.proof_rules.RuleFault.TheVariants.{WrongJudgement, LineDiffers, LinkProgramVariable, LinkPure, LinkSpatial, LinkDisjunct}
+use Rattle.heap_formula.specs.declared.proof_rules.RuleFault.TheVariants.{LineDiffers, LinkProgramVariable, LinkPure, LinkSpatial, LinkDisjunct}
 use Rattle.heap_formula.specs.Symbolic.{SymbolicHeap}
 use Rattle.heap_formula.specs.Definitions.{Definition}
 use Rattle.heap_formula.specs.Words.{Each, max_of}
@@ -23,12 +23,12 @@ use Rattle.heap_formula.specs.Closedness.{IsUniversal}
 use Rattle.heap_formula.specs.Substitution.{Bindings, image, apply_pure, apply_spatial, apply_heap}
 use Rattle.rule_table.specs.RuleLink.{minus, count_of, SameAtoms, Covers, DisjunctsCover, MapsInto, FollowsFrom, IsMatch}
 use Rattle.rule_table.proofs.Rewrites.{Each-get}
-use Rattle.rule_table.proofs.Multisets.{StandsAt, stands}
+use Rattle.rule_table.proofs.Multisets.{stands}
 use Rattle.rule_table.proofs.LinkRuns.{link_runs_sound}
 use Rattle.rule_table.proofs.LinkEntails.{link_entails_sound}
 use Rattle.rule_table.specs.Answer.{one}
 use Rattle.rule_table.specs.Tests.{same_term, follows, has_number}
-use Rattle.rule_table.specs.LinkTable.{first_of, fault_unless, keeps_below, pure_fault, matches, matches_some, spatial_fault, counts_agree, same_atoms, all_follow, covers_some, disjunct_fault, parts_fault, link_fault, link_premise}
+use Rattle.rule_table.specs.LinkTable.{first_of, fault_unless, keeps_below, pure_fault, matches_some, spatial_fault, counts_agree, same_atoms, all_follow, covers_some, disjunct_fault, parts_fault, link_fault, link_premise}
 use Rattle.rule_table.specs.Soundness.{HasVariables, AreUniversal}
 use Rattle.rule_table.proofs.Reflects.{both, same_term_is, follows_is, matches_is}
 

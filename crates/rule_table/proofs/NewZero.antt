@@ -1,18 +1,15 @@
 -- Exec at `new 0` is unsound: the premise's cell without fields holds of nothing.
-use Rattle.std.proofs.Common.{◌≡◌, ℕ, zero, suc, ◌<◌, List, [], ◌∷◌, Some, None, refl, sym, ap, ◌∙◌, subst, inl, inr, arith}
-use Rattle.std.specs.Prelude.{slice_get}
-use Rattle.std.specs.FinMap.{insert, get-empty}
+use Rattle.std.proofs.Common.{◌≡◌, ℕ, zero, suc, ◌<◌, List, [], ◌∷◌, refl, ap, subst, inl, inr, arith}
+use Rattle.std.specs.FinMap.{get-empty}
 use Rattle.std.specs.Ordering.{nat_cmp}
 use Rattle.heap_formula.specs.declared.terms.Term.TheVariants.{Univ}
-use Rattle.heap_formula.specs.declared.atoms.Spatial.TheVariants.{Cell}
 use Rattle.heap_formula.specs.declared.commands.Command.{Command}
-use Rattle.heap_formula.specs.declared.commands.Command.TheVariants.{New, Load, Stop}
-use Rattle.heap_formula.specs.declared.judgements.Judgement.{Judgement}
+use Rattle.heap_formula.specs.declared.commands.Command.TheVariants.{New, Load}
 use Rattle.heap_formula.specs.declared.judgements.Judgement.TheVariants.{Term as Runs}
 use Rattle.heap_formula.specs.declared.judgements.Premise.{Premise}
 use Rattle.heap_formula.specs.Symbolic.{SymbolicHeap}
-use Rattle.heap_formula.specs.Cells.{Cells, no_cells, one_cell, cell_at}
-use Rattle.heap_formula.specs.Programs.{Config, Halts, MayPick, Goes, Faults, command_at, field_at, field_of, counted_from_one, start_at, next_line, greatest}
+use Rattle.heap_formula.specs.Cells.{no_cells, one_cell}
+use Rattle.heap_formula.specs.Programs.{Config, Halts, MayPick, Goes, Faults, field_of, start_at}
 use Rattle.heap_formula.specs.Judgements.{IsLocallySound}
 use Rattle.heap_formula.proofs.Unions.{empty_union}
 use Rattle.rule_table.specs.Answer.{one}

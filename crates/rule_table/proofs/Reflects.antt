@@ -1,6 +1,6 @@
 -- What the tests mean.
-use Rattle.std.proofs.Common.{◌≡◌, ◌⊎◌, ◌↔◌, ℕ, suc, ◌<◌, ◌≤◌, Bool, true, false, ◌&&◌, ◌||◌, List, [], ◌∷◌, length, Option, Some, None, refl, sym, ap, subst, inl, inr, arith}
-use Rattle.std.specs.Prelude.{slice_get, nat_eq}
+use Rattle.std.proofs.Common.{◌≡◌, ◌⊎◌, ◌↔◌, ℕ, Bool, true, false, ◌&&◌, ◌||◌, List, [], ◌∷◌, refl, sym, ap, subst, inl, inr}
+use Rattle.std.specs.Prelude.{nat_eq}
 use Rattle.std.proofs.lemmas.Bool.Decides.{Decides-eqb}
 use Rattle.heap_formula.specs.declared.terms.Term.{Term}
 use Rattle.heap_formula.specs.declared.terms.Term.TheVariants.{Nil, Univ, Exist}
@@ -8,8 +8,8 @@ use Rattle.heap_formula.specs.declared.atoms.Pure.{Pure}
 use Rattle.heap_formula.specs.declared.atoms.Pure.TheVariants.{Eq, Neq}
 use Rattle.heap_formula.specs.declared.atoms.Spatial.{Spatial}
 use Rattle.heap_formula.specs.declared.atoms.Spatial.TheVariants.{Cell, Pred}
-use Rattle.heap_formula.specs.Words.{Each, OneOf}
-use Rattle.heap_formula.specs.Closedness.{InPure, InSpatial, IsUniversal, IsUniversalSpatial}
+use Rattle.heap_formula.specs.Words.{Each}
+use Rattle.heap_formula.specs.Closedness.{InPure, IsUniversal, IsUniversalSpatial}
 use Rattle.rule_table.specs.RuleLink.{EachPair, mirror_pure, HasPure, FollowsFrom, AreEquated, IsMatch}
 use Rattle.rule_table.specs.Tests.{same_term, same_terms, same_pure, same_spatial, is_universal, are_universal, is_universal_pure, is_universal_spatial, has_pure, is_trivial, follows, equated}
 use Rattle.rule_table.specs.LinkTable.{all_equated, matches}

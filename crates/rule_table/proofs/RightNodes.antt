@@ -1,31 +1,26 @@
 -- A node without a fault holds where the nodes that its edges lead to do.
-use Rattle.std.proofs.Common.{◌≡◌, ℕ, suc, Bool, true, false, ◌&&◌, List, [], ◌∷◌, length, Option, Some, None, refl, sym, ap, ◌∙◌, subst}
+use Rattle.std.proofs.Common.{◌≡◌, ℕ, suc, Bool, true, List, [], ◌∷◌, length, Option, Some, None, refl, sym, subst}
 use Rattle.std.specs.Prelude.{Ok, Err, slice_get, nat_eq, nat_lt}
 use Rattle.std.proofs.lemmas.Bool.Decides.{Decides-eqb}
-use Rattle.heap_formula.specs.declared.atoms.Pure.{Pure}
-use Rattle.heap_formula.specs.declared.atoms.Spatial.{Spatial}
 use Rattle.heap_formula.specs.declared.commands.Command.{Command}
 use Rattle.heap_formula.specs.declared.judgements.Judgement.{Judgement}
 use Rattle.heap_formula.specs.declared.judgements.Judgement.TheVariants.{Entail, Term as Runs}
 use Rattle.heap_formula.specs.declared.judgements.Premise.{Premise}
 use Rattle.heap_formula.specs.declared.proof_rules.Link.{Link}
-use Rattle.heap_formula.specs.declared.proof_rules.Rule.{Rule}
 use Rattle.heap_formula.specs.declared.proof_rules.Reason.{Reason}
 use Rattle.heap_formula.specs.declared.proof_rules.Reason.TheVariants.{Step, Back}
-use Rattle.heap_formula.specs.declared.proof_rules.RuleFault.{RuleFault}
 use Rattle.heap_formula.specs.declared.proof_rules.RuleFault.TheVariants.{PremiseCount, PremiseDiffers, NoSuchNode}
 use Rattle.heap_formula.specs.Symbolic.{SymbolicHeap}
 use Rattle.heap_formula.specs.Definitions.{Definition}
 use Rattle.heap_formula.specs.Words.{Each}
-use Rattle.heap_formula.specs.Closedness.{IsUniversalHeap}
 use Rattle.heap_formula.specs.Meaning.{Stages}
-use Rattle.heap_formula.specs.Judgements.{HoldsAt, PremiseHolds, IsLocallySound, antecedent}
-use Rattle.rule_table.specs.Answer.{Answer, one}
+use Rattle.heap_formula.specs.Judgements.{HoldsAt, PremiseHolds}
+use Rattle.rule_table.specs.Answer.{Answer}
 use Rattle.rule_table.specs.Tests.{same_pure, same_spatial}
-use Rattle.rule_table.specs.LinkTable.{first_of, fault_unless, link_fault, link_premise}
+use Rattle.rule_table.specs.LinkTable.{first_of, fault_unless}
 use Rattle.rule_table.specs.RuleBook.{variables_of, rule_answer}
 use Rattle.rule_table.specs.Soundness.{IsSound, IsCommand, AreUniversal}
-use Rattle.rule_table.specs.Nodes.{Node, all_same, same_heap, same_judgement, differs, premises_fault, answer_fault, target_fault, reason_fault, node_fault, Edge, edges_to, answer_edges, link_edges, reason_edges, edges_of, EdgeHolds, IsReadable}
+use Rattle.rule_table.specs.Nodes.{Node, all_same, same_heap, same_judgement, differs, premises_fault, answer_fault, target_fault, reason_fault, node_fault, edges_to, answer_edges, link_edges, reason_edges, edges_of, EdgeHolds, IsReadable}
 use Rattle.rule_table.proofs.Reflects.{both, same_pure_is, same_spatial_is}
 use Rattle.rule_table.proofs.LinkRule.{none_of_two, no_fault, link_is_sound}
 use Rattle.rule_table.proofs.AllRules.{has_variables, rule_is_sound}
@@ -52,7 +47,7 @@ same_judgement_is (Runs m a) (Runs n b) e =
 same_judgement_is (Entail a bs) (Runs n b) e = cc
 same_judgement_is (Runs m a) (Entail b cs) e = cc
 
-module _ (ds : List Definition) (lines : List Command) (nodes : List Node) where
+module _ (most : ℕ) (ds : List Definition) (lines : List Command) (nodes : List Node) where
   pub found_same : (i u : ℕ) (p : Premise) (o : Option Node) → differs nodes i u p o ≡ None → (node : Node) × (o ≡ Some node) × (p.judgement ≡ node.judgement)
   found_same i u p None e = cc
   found_same i u p (Some node) e =
@@ -78,13 +73,13 @@ module _ (ds : List Definition) (lines : List Command) (nodes : List Node) where
   target_holds j link (Some node) stages u at e h =
       link_is_sound ds lines j node.judgement link (variables_of lines j) u (has_variables lines j) e stages (λ below follows. h.0 below follows node at, tt)
 
-  reason_holds : (v : ℕ) (j : Judgement) (us : List ℕ) (reason : Reason) (stages : Stages) → Each IsCommand lines → IsReadable j reason → reason_fault ds lines nodes v j us reason ≡ None → Each (EdgeHolds ds lines nodes stages) (reason_edges ds lines nodes j us reason) → HoldsAt ds lines stages j
+  reason_holds : (v : ℕ) (j : Judgement) (us : List ℕ) (reason : Reason) (stages : Stages) → Each IsCommand lines → IsReadable j reason → reason_fault most ds lines nodes v j us reason ≡ None → Each (EdgeHolds ds lines nodes stages) (reason_edges most ds lines nodes j us reason) → HoldsAt ds lines stages j
   reason_holds v j us (Step rule) stages commands readable e h =
-      answer_holds j v us (rule_answer ds lines j rule) stages (rule_is_sound ds lines j rule readable commands) e h
+      answer_holds j v us (rule_answer most ds lines j rule) stages (rule_is_sound most ds lines j rule readable commands) e h
   reason_holds v j us (Back link) stages commands readable e h =
       let f = none_of_two (target_fault j link (variables_of lines j) (slice_get nodes link.target)) _ e in
       target_holds j link (slice_get nodes link.target) stages readable refl f.0 h
 
-  pub node_holds : (v : ℕ) (node : Node) (stages : Stages) → Each IsCommand lines → IsReadable node.judgement node.reason → node_fault ds lines nodes v node ≡ None → Each (EdgeHolds ds lines nodes stages) (edges_of ds lines nodes node) → HoldsAt ds lines stages node.judgement
+  pub node_holds : (v : ℕ) (node : Node) (stages : Stages) → Each IsCommand lines → IsReadable node.judgement node.reason → node_fault most ds lines nodes v node ≡ None → Each (EdgeHolds ds lines nodes stages) (edges_of most ds lines nodes node) → HoldsAt ds lines stages node.judgement
   node_holds v node stages commands readable e h =
       reason_holds v node.judgement node.premises node.reason stages commands readable e h

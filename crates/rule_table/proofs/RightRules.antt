@@ -1,8 +1,8 @@
 -- The rules that change the right side are sound.
-use Rattle.std.proofs.Common.{◌≡◌, ◌≢◌, ℕ, zero, suc, ◌+◌, ◌<◌, ◌≤◌, max, Bool, true, false, cond, List, [], ◌∷◌, ◌++◌, map, drop, get_or-drop, length, Option, Some, None, refl, sym, ap, ◌∙◌, subst, inl, inr, arith}
-use Rattle.std.specs.Prelude.{Ok, slice_get, slice_index, slice_index_or, nat_eq, if◌then◌else◌}
+use Rattle.std.proofs.Common.{◌≡◌, ◌≢◌, ℕ, zero, suc, Bool, true, false, cond, List, [], ◌∷◌, ◌++◌, drop, get_or-drop, Some, refl, sym, ap, ◌∙◌, subst, inl, inr}
+use Rattle.std.specs.Prelude.{slice_get, slice_index, nat_eq}
 use Rattle.std.proofs.lemmas.Bool.Decides.{Decides-eqb}
-use Rattle.std.proofs.Math.ListN.{get_or, get_or-map}
+use Rattle.std.proofs.Math.ListN.{get_or-map}
 use Rattle.heap_formula.specs.declared.terms.Term.{Term}
 use Rattle.heap_formula.specs.declared.terms.Term.TheVariants.{Nil, Univ, Exist}
 use Rattle.heap_formula.specs.declared.atoms.Pure.{Pure}
@@ -11,30 +11,28 @@ use Rattle.heap_formula.specs.declared.atoms.Spatial.{Spatial}
 use Rattle.heap_formula.specs.declared.atoms.Spatial.TheVariants.{Cell, Pred}
 use Rattle.heap_formula.specs.declared.commands.Command.{Command}
 use Rattle.heap_formula.specs.declared.judgements.Judgement.{Judgement}
-use Rattle.heap_formula.specs.declared.judgements.Judgement.TheVariants.{Entail, Term as Runs}
-use Rattle.heap_formula.specs.declared.judgements.Premise.{Premise}
-use Rattle.heap_formula.specs.declared.proof_rules.RuleFault.{RuleFault}
+use Rattle.heap_formula.specs.declared.judgements.Judgement.TheVariants.{Entail}
 use Rattle.heap_formula.specs.declared.proof_rules.RuleFault.TheVariants.{NoSuchAtom, AtomsDiffer, HasExistential, NotFollowing, NoSuchCase}
 use Rattle.heap_formula.specs.Symbolic.{SymbolicHeap}
 use Rattle.heap_formula.specs.Definitions.{Definition}
-use Rattle.heap_formula.specs.Words.{Each, OneOf, max_of}
+use Rattle.heap_formula.specs.Words.{Each, OneOf}
 use Rattle.heap_formula.specs.Values.{Stack, value, values}
-use Rattle.heap_formula.specs.Cells.{Cells, Star, IsPart}
-use Rattle.heap_formula.specs.Meaning.{Family, PureHolds, AtomHolds, SpatialHolds, Holds, CaseHolds, Stages, SatisfiesAt, Satisfies, SatisfiesOne, at_stage, cases_of, least}
-use Rattle.heap_formula.specs.Judgements.{Concludes, HoldsAt, PremiseHolds, IsLocallySound, antecedent, with_antecedent}
-use Rattle.heap_formula.specs.Positions.{without, before, same_pairs, kept_pairs}
-use Rattle.heap_formula.specs.Closedness.{InPure, InSpatial, InHeap, IsUniversal, IsUniversalSpatial, IsUniversalHeap}
+use Rattle.heap_formula.specs.Cells.{Cells, Star}
+use Rattle.heap_formula.specs.Meaning.{Family, PureHolds, SpatialHolds, Holds, CaseHolds, Stages, SatisfiesAt, Satisfies, SatisfiesOne, at_stage, cases_of, least}
+use Rattle.heap_formula.specs.Judgements.{IsLocallySound}
+use Rattle.heap_formula.specs.Positions.{without}
+use Rattle.heap_formula.specs.Closedness.{InPure, IsUniversal}
 use Rattle.heap_formula.specs.Substitution.{in_heap}
-use Rattle.rule_table.proofs.Substitutes.{holds_same, along, back_along}
+use Rattle.rule_table.proofs.Substitutes.{holds_same, along}
 use Rattle.heap_formula.proofs.StageLaws.{spatial_within, one_stage, least-IsClosed}
-use Rattle.rule_table.proofs.Frames.{value_universal, pairs_follow, done_sound, frame_sound, take_out, put_in, put_stage}
-use Rattle.rule_table.proofs.Rewrites.{AnyTerm, any_heap, Each-get}
-use Rattle.rule_table.proofs.Appends.{Each-append, Each-front, Each-back}
+use Rattle.rule_table.proofs.Frames.{value_universal, pairs_follow, done_sound, frame_sound, put_in}
+use Rattle.rule_table.proofs.Rewrites.{AnyTerm, any_heap}
+use Rattle.rule_table.proofs.Appends.{Each-front, Each-back}
 use Rattle.heap_formula.proofs.Unions.{empty_star, star_map, star_assoc_back, union_comm}
 use Rattle.rule_table.proofs.Links.{follows_holds}
-use Rattle.rule_table.specs.Answer.{Answer, finds, limited, one}
+use Rattle.rule_table.specs.Answer.{finds, limited, one}
 use Rattle.rule_table.specs.Tests.{same_spatial, is_universal_pure, is_universal_spatial, follows}
-use Rattle.heap_formula.specs.Fresh.{exist_bound, pure_exists, spatial_exists, heap_exists}
+use Rattle.heap_formula.specs.Fresh.{heap_exists}
 use Rattle.rule_table.specs.Table.{with_right, without_pure, calls, are_empty, instance_term, right_term, unfolded_right, done_answer, choose_answer, pure_right_answer, instantiate_answer, frame_answer, unfold_right_answer}
 use Rattle.rule_table.specs.Soundness.{IsSound}
 use Rattle.rule_table.proofs.Steps.{needs_sound, finds_sound, limited_sound, entails_sound, single_sound}
@@ -176,13 +174,13 @@ module _ (ds : List Definition) (lines : List Command) where
       let m = one_stage ds s e b.spatial h whole in
       inl (λ _. m.0, (e, (Each-front (PureHolds s e) b.pure body.pure w.1.1.0, m.1))))
 
-  unfold_right_call_sound : (a b : SymbolicHeap) (k c : ℕ) (x : Spatial) → slice_get b.spatial k ≡ Some x → IsSound ds lines (Entail a (b ∷ [])) (calls x (λ q ts. finds (slice_get (cases_of ds q) c) NoSuchCase (λ case. limited (one (with_right a (unfolded_right b k (in_heap (right_term ts (heap_exists b)) case) ∷ []))))))
-  unfold_right_call_sound a b k c (Cell t ts) at = tt
-  unfold_right_call_sound a b k c (Pred q ts) at =
+  unfold_right_call_sound : (most : ℕ) (a b : SymbolicHeap) (k c : ℕ) (x : Spatial) → slice_get b.spatial k ≡ Some x → IsSound ds lines (Entail a (b ∷ [])) (calls x (λ q ts. finds (slice_get (cases_of ds q) c) NoSuchCase (λ case. limited most (one (with_right a (unfolded_right b k (in_heap (right_term ts (heap_exists b)) case) ∷ []))))))
+  unfold_right_call_sound most a b k c (Cell t ts) at = tt
+  unfold_right_call_sound most a b k c (Pred q ts) at =
       finds_sound ds lines (Entail a (b ∷ [])) (slice_get (cases_of ds q) c) NoSuchCase _ (λ case at_c.
-      limited_sound ds lines (Entail a (b ∷ [])) (one (with_right a (unfolded_right b k (in_heap (right_term ts (heap_exists b)) case) ∷ []))) (unfold_right_sound a b k c q ts case (heap_exists b) at at_c))
+      limited_sound ds lines most (Entail a (b ∷ [])) (one (with_right a (unfolded_right b k (in_heap (right_term ts (heap_exists b)) case) ∷ []))) (unfold_right_sound a b k c q ts case (heap_exists b) at at_c))
 
-  pub unfold_right_is_sound : (j : Judgement) (k c : ℕ) → IsSound ds lines j (unfold_right_answer ds j k c)
-  unfold_right_is_sound j k c =
+  pub unfold_right_is_sound : (most : ℕ) (j : Judgement) (k c : ℕ) → IsSound ds lines j (unfold_right_answer most ds j k c)
+  unfold_right_is_sound most j k c =
       single_sound ds lines j _ (λ a b.
-      finds_sound ds lines (Entail a (b ∷ [])) (slice_get b.spatial k) NoSuchAtom _ (λ x at. unfold_right_call_sound a b k c x at))
+      finds_sound ds lines (Entail a (b ∷ [])) (slice_get b.spatial k) NoSuchAtom _ (λ x at. unfold_right_call_sound most a b k c x at))

@@ -1,15 +1,13 @@
 -- Terms whose numbers stop after the greatest stand for the real ones where the limit is kept.
-use Rattle.std.proofs.Common.{◌≡◌, ℕ, zero, suc, ◌+◌, ◌<◌, ◌≤◌, max, min, List, [], ◌∷◌, ◌++◌, map, refl, sym, ap, ◌∙◌, subst, arith}
+use Rattle.std.proofs.Common.{◌≡◌, ℕ, ◌≤◌, max, List, [], ◌∷◌, ◌++◌, map, refl, arith}
 use Rattle.heap_formula.specs.declared.terms.Term.{Term}
-use Rattle.heap_formula.specs.declared.terms.Term.TheVariants.{Nil, Univ, Exist}
 use Rattle.heap_formula.specs.declared.atoms.Pure.{Pure}
 use Rattle.heap_formula.specs.declared.atoms.Pure.TheVariants.{Eq, Neq}
 use Rattle.heap_formula.specs.declared.atoms.Spatial.{Spatial}
 use Rattle.heap_formula.specs.declared.atoms.Spatial.TheVariants.{Cell, Pred}
-use Rattle.heap_formula.specs.Symbolic.{SymbolicHeap}
 use Rattle.heap_formula.specs.Words.{max_of}
-use Rattle.heap_formula.specs.Substitution.{in_pure, in_spatial, in_heap}
-use Rattle.rule_table.specs.Answer.{number_bound, terms_numbers, pure_numbers, spatial_numbers, heap_numbers}
+use Rattle.heap_formula.specs.Substitution.{in_pure, in_spatial}
+use Rattle.rule_table.specs.Answer.{number_bound, terms_numbers, pure_numbers, spatial_numbers}
 
 module _ (f g : Term → Term) (same : (t : Term) → number_bound (g t) ≤ 65535 → f t ≡ g t) (over : (t : Term) → number_bound (f t) ≤ 65535 → number_bound (g t) ≤ 65535) where
   terms_same : (ts : List Term) → terms_numbers (map g ts) ≤ 65535 → map f ts ≡ map g ts

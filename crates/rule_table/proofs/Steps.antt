@@ -5,7 +5,7 @@ use Rattle.heap_formula.specs.declared.judgements.Judgement.{Judgement}
 use Rattle.heap_formula.specs.declared.judgements.Judgement.TheVariants.{Entail, Term as Runs}
 use Rattle.heap_formula.specs.declared.judgements.Premise.{Premise}
 use Rattle.heap_formula.specs.declared.proof_rules.RuleFault.{RuleFault}
-use Rattle.heap_formula.specs.declared.proof_rules.RuleFault.TheVariants.{NotSingle, WrongJudgement, TooManyAtoms, NoFreshVariable}
+use Rattle.heap_formula.specs.declared.proof_rules.RuleFault.TheVariants.{TooManyAtoms, NoFreshVariable}
 use Rattle.heap_formula.specs.Symbolic.{SymbolicHeap}
 use Rattle.heap_formula.specs.Definitions.{Definition}
 use Rattle.heap_formula.specs.Judgements.{IsLocallySound}
@@ -21,9 +21,9 @@ module _ (ds : List Definition) (lines : List Command) where
   finds_sound j None f rest g = tt
   finds_sound j (Some x) f rest g = g x refl
 
-  pub limited_sound : (j : Judgement) (ps : List Premise) → IsLocallySound ds lines j ps → IsSound ds lines j (limited ps)
-  limited_sound j ps sound =
-      needs_sound j (each_heap is_short ps) TooManyAtoms _ (λ _. needs_sound j (each_heap has_numbers ps) NoFreshVariable _ (λ _. sound))
+  pub limited_sound : (most : ℕ) (j : Judgement) (ps : List Premise) → IsLocallySound ds lines j ps → IsSound ds lines j (limited most ps)
+  limited_sound most j ps sound =
+      needs_sound j (each_heap (is_short most) ps) TooManyAtoms _ (λ _. needs_sound j (each_heap has_numbers ps) NoFreshVariable _ (λ _. sound))
 
   pub entails_sound : (j : Judgement) (rest : SymbolicHeap → List SymbolicHeap → Answer) → ((a : SymbolicHeap) (bs : List SymbolicHeap) → IsSound ds lines (Entail a bs) (rest a bs)) → IsSound ds lines j (entails j rest)
   entails_sound (Entail a bs) rest g = g a bs

@@ -1,7 +1,7 @@
 -- Exec: the first fault, or the premises with their trace pairs.
-use Rattle.std.specs.Prelude.{ℕ, zero, suc, ◌+◌, ◌-◌, List, [], ◌∷◌, ◌++◌, map, Bool, true, false, cond, Option, Some, None, Ok, Err, slice_set}
+use Rattle.std.specs.Prelude.{ℕ, zero, suc, ◌+◌, ◌-◌, List, [], ◌∷◌, ◌++◌, cond, Option, Some, None, Ok, slice_set}
 use Rattle.heap_formula.specs.declared.terms.Term.{Term}
-use Rattle.heap_formula.specs.declared.terms.Term.TheVariants.{Nil, Univ, Exist}
+use Rattle.heap_formula.specs.declared.terms.Term.TheVariants.{Univ}
 use Rattle.heap_formula.specs.declared.atoms.Pure.{Pure}
 use Rattle.heap_formula.specs.declared.atoms.Pure.TheVariants.{Eq, Neq}
 use Rattle.heap_formula.specs.declared.atoms.Spatial.{Spatial}
@@ -9,9 +9,8 @@ use Rattle.heap_formula.specs.declared.atoms.Spatial.TheVariants.{Cell, Pred}
 use Rattle.heap_formula.specs.declared.commands.Command.{Command}
 use Rattle.heap_formula.specs.declared.commands.Command.TheVariants.{Assign, Load, Store, New, Free, IfEq, IfNeq, Goto, Stop}
 use Rattle.heap_formula.specs.declared.judgements.Judgement.{Judgement}
-use Rattle.heap_formula.specs.declared.judgements.Judgement.TheVariants.{Entail, Term as Runs}
+use Rattle.heap_formula.specs.declared.judgements.Judgement.TheVariants.{Term as Runs}
 use Rattle.heap_formula.specs.declared.judgements.Premise.{Premise}
-use Rattle.heap_formula.specs.declared.proof_rules.RuleFault.{RuleFault}
 use Rattle.heap_formula.specs.declared.proof_rules.RuleFault.TheVariants.{NoCell, WrongJudgement}
 use Rattle.heap_formula.specs.Symbolic.{SymbolicHeap}
 use Rattle.heap_formula.specs.Fresh.{fresh_number}
@@ -68,32 +67,32 @@ abbrev pub at_line : ℕ → SymbolicHeap → SymbolicHeap → Premise
 at_line i a b = record { judgement = Runs i b; pairs = same_pairs a.spatial }
 
 -- the command at line i, from a, n being fresh
-abbrev pub command_answer : ℕ → SymbolicHeap → ℕ → Command → Answer
-command_answer i a n Stop = Ok []
-command_answer i a n (Goto j) = limited (one (at_line j a a))
-command_answer i a n (IfEq t u j) =
-    limited (two (at_line j a (with_atom a (Eq t u))) (at_line (i + 1) a (with_atom a (Neq t u))))
-command_answer i a n (IfNeq t u j) =
-    limited (two (at_line j a (with_atom a (Neq t u))) (at_line (i + 1) a (with_atom a (Eq t u))))
-command_answer i a n (Assign x t) =
-    limited (one (at_line (i + 1) a (with_atom (renamed x n a) (Eq (Univ x) (renamed_term x n t)))))
-command_answer i a n (Load x t k) =
+abbrev pub command_answer : ℕ → ℕ → SymbolicHeap → ℕ → Command → Answer
+command_answer most i a n Stop = Ok []
+command_answer most i a n (Goto j) = limited most (one (at_line j a a))
+command_answer most i a n (IfEq t u j) =
+    limited most (two (at_line j a (with_atom a (Eq t u))) (at_line (i + 1) a (with_atom a (Neq t u))))
+command_answer most i a n (IfNeq t u j) =
+    limited most (two (at_line j a (with_atom a (Neq t u))) (at_line (i + 1) a (with_atom a (Eq t u))))
+command_answer most i a n (Assign x t) =
+    limited most (one (at_line (i + 1) a (with_atom (renamed x n a) (Eq (Univ x) (renamed_term x n t)))))
+command_answer most i a n (Load x t k) =
     finds (cell_of a.pure t a.spatial) NoCell (λ c.
     finds (counted_from_one c.fields k) NoCell (λ f.
-    limited (one (at_line (i + 1) a (with_atom (renamed x n a) (Eq (Univ x) (renamed_term x n f)))))))
-command_answer i a n (Store t k u) =
+    limited most (one (at_line (i + 1) a (with_atom (renamed x n a) (Eq (Univ x) (renamed_term x n f)))))))
+command_answer most i a n (Store t k u) =
     finds (cell_of a.pure t a.spatial) NoCell (λ c.
     finds (counted_from_one c.fields k) NoCell (λ f.
-    limited (one (at_line (i + 1) a (with_field a c k u)))))
-command_answer i a n (New x k) =
-    limited (one (at_line (i + 1) a (with_cell (renamed x n a) x (variables_from (n + 1) k))))
-command_answer i a n (Free t) =
+    limited most (one (at_line (i + 1) a (with_field a c k u)))))
+command_answer most i a n (New x k) =
+    limited most (one (at_line (i + 1) a (with_cell (renamed x n a) x (variables_from (n + 1) k))))
+command_answer most i a n (Free t) =
     finds (cell_of a.pure t a.spatial) NoCell (λ c.
-    limited (one (record { judgement = Runs (i + 1) (without_spatial c.place a); pairs = kept_pairs c.place a.spatial })))
+    limited most (one (record { judgement = Runs (i + 1) (without_spatial c.place a); pairs = kept_pairs c.place a.spatial })))
 
 -- the caller has a line of the program: the fault where there is none is never met
-abbrev pub exec_answer : List Command → Judgement → Answer
-exec_answer lines j =
+abbrev pub exec_answer : ℕ → List Command → Judgement → Answer
+exec_answer most lines j =
     runs j (λ i a.
     finds (counted_from_one lines i) WrongJudgement (λ c.
-    command_answer i a (fresh_number (program_variables lines) j) c))
+    command_answer most i a (fresh_number (program_variables lines) j) c))

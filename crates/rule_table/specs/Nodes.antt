@@ -1,14 +1,11 @@
 -- The faults of a node of a proof, and its edges.
-use Rattle.std.specs.Prelude.{◌≡◌, ℕ, suc, List, [], ◌∷◌, length, Bool, true, false, ◌&&◌, nat_eq, nat_lt, cond, Option, Some, None, Ok, Err, slice_get}
-use Rattle.heap_formula.specs.declared.atoms.Pure.{Pure}
-use Rattle.heap_formula.specs.declared.atoms.Spatial.{Spatial}
+use Rattle.std.specs.Prelude.{◌≡◌, ℕ, suc, List, [], ◌∷◌, length, Bool, true, false, ◌&&◌, nat_eq, nat_lt, Option, Some, None, Ok, Err, slice_get}
 use Rattle.heap_formula.specs.declared.commands.Command.{Command}
 use Rattle.heap_formula.specs.declared.judgements.Judgement.{Judgement}
 use Rattle.heap_formula.specs.declared.judgements.Judgement.TheVariants.{Entail, Term as Runs}
 use Rattle.heap_formula.specs.declared.judgements.Pair.{Pair}
 use Rattle.heap_formula.specs.declared.judgements.Premise.{Premise}
 use Rattle.heap_formula.specs.declared.proof_rules.Link.{Link}
-use Rattle.heap_formula.specs.declared.proof_rules.Rule.{Rule}
 use Rattle.heap_formula.specs.declared.proof_rules.Reason.{Reason}
 use Rattle.heap_formula.specs.declared.proof_rules.Reason.TheVariants.{Step, Back}
 use Rattle.heap_formula.specs.declared.proof_rules.RuleFault.{RuleFault}
@@ -71,13 +68,13 @@ target_fault bud link p None = Some NoSuchNode
 target_fault bud link p (Some node) = link_fault bud node.judgement link p
 
 -- the first fault of node v
-abbrev pub reason_fault : List Definition → List Command → List Node → ℕ → Judgement → List ℕ → Reason → Option RuleFault
-reason_fault ds lines nodes v j us (Step rule) = answer_fault nodes v us (rule_answer ds lines j rule)
-reason_fault ds lines nodes v j us (Back link) =
+abbrev pub reason_fault : ℕ → List Definition → List Command → List Node → ℕ → Judgement → List ℕ → Reason → Option RuleFault
+reason_fault most ds lines nodes v j us (Step rule) = answer_fault nodes v us (rule_answer most ds lines j rule)
+reason_fault most ds lines nodes v j us (Back link) =
     first_of (target_fault j link (variables_of lines j) (slice_get nodes link.target)) (fault_unless (nat_eq (length us) 0) PremiseCount)
 
-abbrev pub node_fault : List Definition → List Command → List Node → ℕ → Node → Option RuleFault
-node_fault ds lines nodes v node = reason_fault ds lines nodes v node.judgement node.premises node.reason
+abbrev pub node_fault : ℕ → List Definition → List Command → List Node → ℕ → Node → Option RuleFault
+node_fault most ds lines nodes v node = reason_fault most ds lines nodes v node.judgement node.premises node.reason
 
 -- ---- edges
 
@@ -98,12 +95,12 @@ abbrev pub link_edges : Link → Option Node → List Edge
 link_edges link None = []
 link_edges link (Some node) = record { target = link.target; pairs = (link_premise node.judgement link).pairs } ∷ []
 
-abbrev pub reason_edges : List Definition → List Command → List Node → Judgement → List ℕ → Reason → List Edge
-reason_edges ds lines nodes j us (Step rule) = answer_edges us (rule_answer ds lines j rule)
-reason_edges ds lines nodes j us (Back link) = link_edges link (slice_get nodes link.target)
+abbrev pub reason_edges : ℕ → List Definition → List Command → List Node → Judgement → List ℕ → Reason → List Edge
+reason_edges most ds lines nodes j us (Step rule) = answer_edges us (rule_answer most ds lines j rule)
+reason_edges most ds lines nodes j us (Back link) = link_edges link (slice_get nodes link.target)
 
-abbrev pub edges_of : List Definition → List Command → List Node → Node → List Edge
-edges_of ds lines nodes node = reason_edges ds lines nodes node.judgement node.premises node.reason
+abbrev pub edges_of : ℕ → List Definition → List Command → List Node → Node → List Edge
+edges_of most ds lines nodes node = reason_edges most ds lines nodes node.judgement node.premises node.reason
 
 -- the edge's target holds at all stages that follow these
 abbrev pub EdgeHolds : List Definition → List Command → List Node → Stages → Edge → Type 0

@@ -16,19 +16,19 @@ abbrev pub variables_of : List Command → Judgement → ℕ
 variables_of lines (Entail a bs) = 0
 variables_of lines (Runs i a) = program_variables lines
 
-abbrev pub rule_answer : List Definition → List Command → Judgement → Rule → Answer
-rule_answer ds lines j Absurd = absurd_answer j
-rule_answer ds lines j (Rewrite k side) = rewrite_answer (variables_of lines j) j k side
-rule_answer ds lines j (Split t u) = split_answer j t u
-rule_answer ds lines j (Distinct i k) = distinct_answer j i k
-rule_answer ds lines j (Weaken k) = weaken_answer j k
-rule_answer ds lines j (Unfold k) = unfold_answer ds (variables_of lines j) j k
-rule_answer ds lines j (Cut places f) = cut_answer (variables_of lines j) j places f
-rule_answer ds lines j Done = done_answer j
-rule_answer ds lines j (Choose k) = choose_answer j k
-rule_answer ds lines j (PureRight k) = pure_right_answer j k
-rule_answer ds lines j (Instantiate v t) = instantiate_answer j v t
-rule_answer ds lines j (Frame i k) = frame_answer j i k
-rule_answer ds lines j (UnfoldRight k c) = unfold_right_answer ds j k c
-rule_answer ds lines j Exec = exec_answer lines j
-rule_answer ds lines j (Drop k) = drop_answer j k
+abbrev pub rule_answer : ℕ → List Definition → List Command → Judgement → Rule → Answer
+rule_answer most ds lines j Absurd = absurd_answer j
+rule_answer most ds lines j (Rewrite k side) = rewrite_answer (variables_of lines j) j k side
+rule_answer most ds lines j (Split t u) = split_answer j t u
+rule_answer most ds lines j (Distinct i k) = distinct_answer j i k
+rule_answer most ds lines j (Weaken k) = weaken_answer j k
+rule_answer most ds lines j (Unfold k) = unfold_answer most ds (variables_of lines j) j k
+rule_answer most ds lines j (Cut places f) = cut_answer most (variables_of lines j) j places f
+rule_answer most ds lines j Done = done_answer j
+rule_answer most ds lines j (Choose k) = choose_answer j k
+rule_answer most ds lines j (PureRight k) = pure_right_answer j k
+rule_answer most ds lines j (Instantiate v t) = instantiate_answer j v t
+rule_answer most ds lines j (Frame i k) = frame_answer j i k
+rule_answer most ds lines j (UnfoldRight k c) = unfold_right_answer most ds j k c
+rule_answer most ds lines j Exec = exec_answer most lines j
+rule_answer most ds lines j (Drop k) = drop_answer j k

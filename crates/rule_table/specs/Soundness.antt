@@ -1,5 +1,5 @@
 -- An answer that is sound: at premises, the rule is locally sound.
-use Rattle.std.specs.Prelude.{ℕ, ◌≤◌, ◌<◌, List, Option, Some, None, Ok, Err}
+use Rattle.std.specs.Prelude.{ℕ, ◌≤◌, ◌<◌, List, Ok, Err}
 use Rattle.heap_formula.specs.declared.commands.Command.{Command}
 use Rattle.heap_formula.specs.declared.judgements.Judgement.{Judgement}
 use Rattle.heap_formula.specs.declared.judgements.Judgement.TheVariants.{Entail, Term as Runs}

@@ -1,5 +1,5 @@
 -- The rules but Exec: the first fault, or the premises with their trace pairs.
-use Rattle.std.specs.Prelude.{ℕ, ◌+◌, max, List, [], ◌∷◌, ◌++◌, map, length, nat_eq, nat_le, if◌then◌else◌, Option, Some, None, Ok, Err, slice_get, slice_set, slice_index_or}
+use Rattle.std.specs.Prelude.{ℕ, ◌+◌, max, List, [], ◌∷◌, ◌++◌, map, length, nat_eq, nat_le, if◌then◌else◌, Ok, Err, slice_get, slice_set, slice_index_or}
 use Rattle.heap_formula.specs.declared.terms.Term.{Term}
 use Rattle.heap_formula.specs.declared.terms.Term.TheVariants.{Nil, Univ, Exist}
 use Rattle.heap_formula.specs.declared.atoms.Pure.{Pure}
@@ -8,20 +8,17 @@ use Rattle.heap_formula.specs.declared.atoms.Spatial.{Spatial}
 use Rattle.heap_formula.specs.declared.atoms.Spatial.TheVariants.{Cell, Pred}
 use Rattle.heap_formula.specs.declared.judgements.Judgement.{Judgement}
 use Rattle.heap_formula.specs.declared.judgements.Judgement.TheVariants.{Entail, Term as Runs}
-use Rattle.heap_formula.specs.declared.judgements.Pair.{Pair}
 use Rattle.heap_formula.specs.declared.judgements.Premise.{Premise}
 use Rattle.heap_formula.specs.declared.proof_rules.Side.{Side}
 use Rattle.heap_formula.specs.declared.proof_rules.Side.TheVariants.{Left, Right}
-use Rattle.heap_formula.specs.declared.proof_rules.RuleFault.{RuleFault}
 use Rattle.heap_formula.specs.declared.proof_rules.RuleFault.TheVariants.{NoSuchAtom, NotEquation, AtomsDiffer, HasExistential, NotFollowing, NotAbsurd, NotEmpty, NoSuchCase, NoCell}
 use Rattle.heap_formula.specs.Symbolic.{SymbolicHeap}
 use Rattle.heap_formula.specs.Definitions.{Definition}
-use Rattle.heap_formula.specs.Words.{max_of}
 use Rattle.heap_formula.specs.Meaning.{cases_of}
 use Rattle.heap_formula.specs.Fresh.{heap_bound, heap_exists, fresh_number}
 use Rattle.heap_formula.specs.Judgements.{antecedent, with_antecedent}
 use Rattle.heap_formula.specs.Positions.{without, same_pairs, kept_pairs}
-use Rattle.heap_formula.specs.Substitution.{Bindings, in_heap, apply_pure, apply_heap, apply_spatial, apply_judgement}
+use Rattle.heap_formula.specs.Substitution.{in_heap, apply_pure, apply_spatial, apply_judgement}
 use Rattle.rule_table.specs.RuleUnfold.{unfold_premise}
 use Rattle.rule_table.specs.RuleCut.{cut_left, cut_right}
 use Rattle.rule_table.specs.Answer.{Answer, needs, finds, entails, single, runs, limited, one, two}
@@ -90,8 +87,9 @@ rewrite_atom p j k side (Eq t u) =
 abbrev pub rewrite_answer : ℕ → Judgement → ℕ → Side → Answer
 rewrite_answer p j k side = finds (slice_get (antecedent j).pure k) NoSuchAtom (rewrite_atom p j k side)
 
+-- no spatial atom comes in: each heap has the 32 at most that any version allows
 abbrev pub split_answer : Judgement → Term → Term → Answer
-split_answer j t u = limited (two (with_pure j (Eq t u)) (with_pure j (Neq t u)))
+split_answer j t u = limited 32 (two (with_pure j (Eq t u)) (with_pure j (Neq t u)))
 
 abbrev pub distinct_answer : Judgement → ℕ → ℕ → Answer
 distinct_answer j i k =
@@ -99,7 +97,7 @@ distinct_answer j i k =
     finds (slice_get (antecedent j).spatial k) NoSuchAtom (λ y.
     finds (address_of x) NoCell (λ t.
     finds (address_of y) NoCell (λ u.
-    limited (one (with_pure j (Neq t (if nat_eq i k then Nil else u))))))))
+    limited 32 (one (with_pure j (Neq t (if nat_eq i k then Nil else u))))))))
 
 abbrev pub weaken_answer : Judgement → ℕ → Answer
 weaken_answer j k =
@@ -110,14 +108,14 @@ abbrev pub calls : Spatial → (ℕ → List Term → Answer) → Answer
 calls (Cell t ts) rest = Err NoSuchAtom
 calls (Pred q ts) rest = rest q ts
 
-abbrev pub unfold_answer : List Definition → ℕ → Judgement → ℕ → Answer
-unfold_answer ds p j k =
+abbrev pub unfold_answer : ℕ → List Definition → ℕ → Judgement → ℕ → Answer
+unfold_answer most ds p j k =
     finds (slice_get (antecedent j).spatial k) NoSuchAtom (λ x.
-    calls x (λ q ts. limited (map (unfold_premise j k ts (fresh_number p j)) (cases_of ds q))))
+    calls x (λ q ts. limited most (map (unfold_premise j k ts (fresh_number p j)) (cases_of ds q))))
 
-abbrev pub cut_answer : ℕ → Judgement → List ℕ → SymbolicHeap → Answer
-cut_answer p j places f =
-    needs (ascend_from 0 (length (antecedent j).spatial) places) NoSuchAtom (limited (two (cut_left (antecedent j) (has_number places) f) (cut_right j (has_number places) f (max (fresh_number p j) (heap_bound f)))))
+abbrev pub cut_answer : ℕ → ℕ → Judgement → List ℕ → SymbolicHeap → Answer
+cut_answer most p j places f =
+    needs (ascend_from 0 (length (antecedent j).spatial) places) NoSuchAtom (limited most (two (cut_left (antecedent j) (has_number places) f) (cut_right j (has_number places) f (max (fresh_number p j) (heap_bound f)))))
 
 abbrev pub drop_answer : Judgement → ℕ → Answer
 drop_answer j k =
@@ -169,10 +167,10 @@ right_term args e (Exist i) = Exist (e + i)
 abbrev pub unfolded_right : SymbolicHeap → ℕ → SymbolicHeap → SymbolicHeap
 unfolded_right b k body = record { pure = b.pure ++ body.pure; spatial = without k b.spatial ++ body.spatial }
 
-abbrev pub unfold_right_answer : List Definition → Judgement → ℕ → ℕ → Answer
-unfold_right_answer ds j k c =
+abbrev pub unfold_right_answer : ℕ → List Definition → Judgement → ℕ → ℕ → Answer
+unfold_right_answer most ds j k c =
     single j (λ a b.
     finds (slice_get b.spatial k) NoSuchAtom (λ x.
     calls x (λ q ts.
     finds (slice_get (cases_of ds q) c) NoSuchCase (λ case.
-    limited (one (with_right a (unfolded_right b k (in_heap (right_term ts (heap_exists b)) case) ∷ [])))))))
+    limited most (one (with_right a (unfolded_right b k (in_heap (right_term ts (heap_exists b)) case) ∷ [])))))))

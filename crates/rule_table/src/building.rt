@@ -1,12 +1,13 @@
 // Parts of premises.
 ghost use Rattle.std.specs.Prelude.{◌≡◌, ◌<◌, ◌≤◌, ◌∷◌, ◌++◌, ◌+◌, [], length, IfOk};
 ghost use Rattle.heap_formula.specs.Judgements.{antecedent as antecedent_of, with_antecedent as judgement_with};
-ghost use Rattle.heap_formula.specs.Positions.{without, same_pairs};
-ghost use Rattle.rule_table.specs.Answer.{two as two_premises};
+ghost use Rattle.heap_formula.specs.Positions.{without};
+ghost use Rattle.rule_table.specs.Answer.{one, two};
 ghost use Rattle.rule_table.specs.Table.{with_pures, with_pure};
 
-use heap_formula::{Heap, Judgement, Pair, Pairs, Premise, Pure, Spatial};
-use std::alloc::{AllocError, Global};
+use crate::pairing::pairs_of_same;
+use heap_formula::{Heap, Judgement, OutOfMemory, Premise, Pure, Spatial};
+use std::alloc::Global;
 
 /// The antecedent, or the symbolic state.
 pub fn antecedent(judgement: &Judgement) -> &Heap
@@ -18,8 +19,8 @@ pub fn antecedent(judgement: &Judgement) -> &Heap
     }
 }
 
-/// The judgement with another antecedent.
-pub fn with_antecedent(judgement: &Judgement, a: Heap) -> Result<Judgement, AllocError>
+/// A copy of the judgement with another antecedent, or another symbolic state.
+pub fn with_antecedent(judgement: &Judgement, a: Heap) -> Result<Judgement, OutOfMemory>
     ensures { IfOk result (λ j. j ≡ judgement_with judgement.now a) }
 {
     match judgement {
@@ -28,68 +29,8 @@ pub fn with_antecedent(judgement: &Judgement, a: Heap) -> Result<Judgement, Allo
     }
 }
 
-/// Every predicate atom is paired with itself.
-pub fn pairs_of_same(alloc: Global, atoms: &[Spatial]) -> Result<Pairs, AllocError>
-    requires { length atoms.now ≤ 16 }
-    ensures { IfOk result (λ p. p ≡ same_pairs atoms.now) }
-{
-    let mut pairs = Pairs::new(alloc);
-    for (place, atom) in atoms.iter().enumerate() {
-        if let Spatial::Pred(_, _) = atom {
-            pairs.push(Pair {
-                old: place as u8,
-                new: place as u8,
-                progress: false,
-            })?;
-        }
-    }
-    Ok(pairs)
-}
-
-/// The atoms without the one at a place.
-pub fn pures_without(alloc: Global, atoms: &[Pure], k: usize) -> Result<Vec<Pure>, AllocError>
-    requires { k < length atoms.now }
-    ensures value { IfOk result (λ v. v.items ≡ without k atoms.now) }
-    ensures shorter { IfOk result (λ v. length v.items ≤ length atoms.now) }
-{
-    let mut kept = Vec::new(alloc);
-    kept.extend_from_slice(&atoms[..k])?;
-    kept.extend_from_slice(&atoms[k + 1..])?;
-    Ok(kept)
-}
-
-/// A list of one.
-pub fn one(alloc: Global, premise: Premise) -> Result<Vec<Premise>, AllocError>
-    ensures { IfOk result (λ v. v.items ≡ premise ∷ []) }
-{
-    let mut premises = Vec::new(alloc);
-    premises.push(premise)?;
-    Ok(premises)
-}
-
-/// The judgement with other pure atoms on the left.
-pub fn with_pure_atoms(
-    alloc: Global,
-    judgement: &Judgement,
-    pure: Vec<Pure>,
-) -> Result<Premise, AllocError>
-    requires { length pure.items ≤ 64 }
-    ensures { IfOk result (λ p. p ≡ with_pures judgement.now pure.items) }
-{
-    let spatial = spatial_copy(alloc, antecedent(judgement).spatial())?;
-    let pairs = pairs_of_same(alloc, antecedent(judgement).spatial())?;
-    Ok(Premise {
-        judgement: with_antecedent(judgement, Heap::from_lists(pure, spatial))?,
-        pairs,
-    })
-}
-
-/// The atoms without the one at a place.
-pub fn spatials_without(
-    alloc: Global,
-    atoms: &[Spatial],
-    k: usize,
-) -> Result<Vec<Spatial>, AllocError>
+/// The atoms in order without the one at a place.
+pub fn pure_atoms_without(alloc: Global, atoms: &[Pure], k: usize) -> Result<Vec<Pure>, OutOfMemory>
     requires { k < length atoms.now }
     ensures value { IfOk result (λ v. v.items ≡ without k atoms.now) }
     ensures shorter { IfOk result (λ v. length v.items + 1 ≡ length atoms.now) }
@@ -100,7 +41,24 @@ pub fn spatials_without(
     Ok(kept)
 }
 
-pub fn pures_copy(alloc: Global, atoms: &[Pure]) -> Result<Vec<Pure>, AllocError>
+/// The atoms in order without the one at a place.
+pub fn spatial_atoms_without(
+    alloc: Global,
+    atoms: &[Spatial],
+    k: usize,
+) -> Result<Vec<Spatial>, OutOfMemory>
+    requires { k < length atoms.now }
+    ensures value { IfOk result (λ v. v.items ≡ without k atoms.now) }
+    ensures shorter { IfOk result (λ v. length v.items + 1 ≡ length atoms.now) }
+{
+    let mut kept = Vec::new(alloc);
+    kept.extend_from_slice(&atoms[..k])?;
+    kept.extend_from_slice(&atoms[k + 1..])?;
+    Ok(kept)
+}
+
+/// A copy of the atoms.
+pub fn copy_pure_atoms(alloc: Global, atoms: &[Pure]) -> Result<Vec<Pure>, OutOfMemory>
     ensures { IfOk result (λ v. v.items ≡ atoms.now) }
 {
     let mut copy = Vec::new(alloc);
@@ -108,7 +66,8 @@ pub fn pures_copy(alloc: Global, atoms: &[Pure]) -> Result<Vec<Pure>, AllocError
     Ok(copy)
 }
 
-fn spatial_copy(alloc: Global, atoms: &[Spatial]) -> Result<Vec<Spatial>, AllocError>
+/// A copy of the atoms.
+pub fn copy_spatial_atoms(alloc: Global, atoms: &[Spatial]) -> Result<Vec<Spatial>, OutOfMemory>
     ensures { IfOk result (λ v. v.items ≡ atoms.now) }
 {
     let mut copy = Vec::new(alloc);
@@ -116,9 +75,22 @@ fn spatial_copy(alloc: Global, atoms: &[Spatial]) -> Result<Vec<Spatial>, AllocE
     Ok(copy)
 }
 
-/// A list of two.
-pub fn two(alloc: Global, first: Premise, second: Premise) -> Result<Vec<Premise>, AllocError>
-    ensures { IfOk result (λ v. v.items ≡ two_premises first second) }
+/// A list of one premise.
+pub fn one_premise(alloc: Global, premise: Premise) -> Result<Vec<Premise>, OutOfMemory>
+    ensures { IfOk result (λ v. v.items ≡ one premise) }
+{
+    let mut premises = Vec::new(alloc);
+    premises.push(premise)?;
+    Ok(premises)
+}
+
+/// A list of two premises.
+pub fn two_premises(
+    alloc: Global,
+    first: Premise,
+    second: Premise,
+) -> Result<Vec<Premise>, OutOfMemory>
+    ensures { IfOk result (λ v. v.items ≡ two first second) }
 {
     let mut premises = Vec::new(alloc);
     premises.push(first)?;
@@ -126,7 +98,24 @@ pub fn two(alloc: Global, first: Premise, second: Premise) -> Result<Vec<Premise
     Ok(premises)
 }
 
-fn pures_and(alloc: Global, atoms: &[Pure], atom: Pure) -> Result<Vec<Pure>, AllocError>
+/// The judgement with other pure atoms on the left, each predicate atom being paired with itself.
+pub fn with_pure_atoms(
+    alloc: Global,
+    judgement: &Judgement,
+    pure: Vec<Pure>,
+) -> Result<Premise, OutOfMemory>
+    requires { length pure.items ≤ 64 }
+    ensures { IfOk result (λ p. p ≡ with_pures judgement.now pure.items) }
+{
+    let spatial = copy_spatial_atoms(alloc, antecedent(judgement).spatial())?;
+    let pairs = pairs_of_same(alloc, antecedent(judgement).spatial())?;
+    Ok(Premise {
+        judgement: with_antecedent(judgement, Heap::from_lists(pure, spatial))?,
+        pairs,
+    })
+}
+
+fn pure_atoms_and(alloc: Global, atoms: &[Pure], atom: Pure) -> Result<Vec<Pure>, OutOfMemory>
     ensures { IfOk result (λ v. v.items ≡ atoms.now ++ atom ∷ []) }
 {
     let mut all = Vec::new(alloc);
@@ -135,15 +124,15 @@ fn pures_and(alloc: Global, atoms: &[Pure], atom: Pure) -> Result<Vec<Pure>, All
     Ok(all)
 }
 
-/// The judgement with one more pure atom on the left.
+/// The judgement with one more pure atom on the left, each predicate atom being paired with itself.
 pub fn with_pure_atom(
     alloc: Global,
     judgement: &Judgement,
     atom: Pure,
-) -> Result<Premise, AllocError>
+) -> Result<Premise, OutOfMemory>
     requires { length (antecedent_of judgement.now).pure < 64 }
     ensures { IfOk result (λ p. p ≡ with_pure judgement.now atom) }
 {
-    let pure = pures_and(alloc, antecedent(judgement).pure(), atom)?;
+    let pure = pure_atoms_and(alloc, antecedent(judgement).pure(), atom)?;
     with_pure_atoms(alloc, judgement, pure)
 }

@@ -1,13 +1,14 @@
 // Terms in place of others.
 ghost use Rattle.std.specs.Prelude.{◌≡◌, ◌+◌, ◌≤◌, ◌++◌, min, map, IfOk, OnOk, length, slice_index_or};
-ghost use Rattle.heap_formula.specs.declared.terms.Term.TheVariants.{Nil};
+ghost use Rattle.heap_formula.specs.declared.terms.Term.TheVariants.{Nil, Exist};
 ghost use Rattle.heap_formula.specs.Substitution.{in_pure, in_spatial};
 ghost use Rattle.rule_table.specs.Changes.{changed, IsSmall};
+ghost use Rattle.rule_table.specs.Table.{instance_term};
 
-use heap_formula::{Args, Pure, Spatial, Term};
-use std::alloc::{AllocError, Global};
+use heap_formula::{Args, OutOfMemory, Pure, Spatial, Term};
+use std::alloc::Global;
 
-/// What stands for the variables of a formula.
+/// Which terms stand for the variables of a formula.
 #[derive(Clone, Copy)]
 pub enum Change {
     /// Arguments for the parameters of a case, and universal variables from a number on for its locals.
@@ -16,9 +17,11 @@ pub enum Change {
     Right(Args, u32),
     /// Universal variables from a number on for the existential ones.
     Opened(u32),
+    /// A term for one existential variable.
+    Instance(u16, Term),
 }
 
-/// The number after the greatest stands for all that pass it.
+// The number after the greatest stands for all that pass it.
 fn number(from: u32, j: u16) -> u16
     requires { from ≤ 65536 }
     ensures { result ≡ min (from + j) 65535 }
@@ -37,6 +40,12 @@ fn argument(args: &Args, j: u16) -> Term
     }
 }
 
+fn instance(v: u16, t: Term, j: u16) -> Term
+    ensures { result ≡ instance_term v t (Exist j) }
+{
+    if j == v { t } else { Term::Exist(j) }
+}
+
 fn of_term(change: &Change, term: Term) -> Term
     requires { IsSmall change.now }
     ensures { result ≡ changed change.now term }
@@ -46,9 +55,11 @@ fn of_term(change: &Change, term: Term) -> Term
         (Change::Left(args, _), Term::Univ(j)) => argument(args, j),
         (Change::Right(args, _), Term::Univ(j)) => argument(args, j),
         (Change::Opened(_), Term::Univ(j)) => Term::Univ(j),
+        (Change::Instance(_, _), Term::Univ(j)) => Term::Univ(j),
         (Change::Left(_, n), Term::Exist(j)) => Term::Univ(number(*n, j)),
         (Change::Right(_, n), Term::Exist(j)) => Term::Exist(number(*n, j)),
         (Change::Opened(n), Term::Exist(j)) => Term::Univ(number(*n, j)),
+        (Change::Instance(v, t), Term::Exist(j)) => instance(*v, *t, j),
     }
 }
 
@@ -84,8 +95,12 @@ fn of_spatial(change: &Change, atom: &Spatial) -> Spatial
     }
 }
 
-/// The atoms with the change, after others.
-pub fn push_pures(all: &mut Vec<Pure>, change: &Change, atoms: &[Pure]) -> Result<(), AllocError>
+/// Appends the atoms with the change made.
+pub fn push_changed_pure(
+    all: &mut Vec<Pure>,
+    change: &Change,
+    atoms: &[Pure],
+) -> Result<(), OutOfMemory>
     requires { IsSmall change.now }
     ensures { OnOk result (all.new.items ≡ all.old.items ++ map (in_pure (changed change.now)) atoms.now) }
 {
@@ -95,12 +110,12 @@ pub fn push_pures(all: &mut Vec<Pure>, change: &Change, atoms: &[Pure]) -> Resul
     Ok(())
 }
 
-/// The atoms with the change, after others.
-pub fn push_spatials(
+/// Appends the atoms with the change made.
+pub fn push_changed_spatial(
     all: &mut Vec<Spatial>,
     change: &Change,
     atoms: &[Spatial],
-) -> Result<(), AllocError>
+) -> Result<(), OutOfMemory>
     requires { IsSmall change.now }
     ensures { OnOk result (all.new.items ≡ all.old.items ++ map (in_spatial (changed change.now)) atoms.now) }
 {
@@ -110,16 +125,16 @@ pub fn push_spatials(
     Ok(())
 }
 
-/// The atoms with the change.
-pub fn changed_spatials(
+/// The atoms with the change made.
+pub fn changed_spatial_atoms(
     alloc: Global,
     change: &Change,
     atoms: &[Spatial],
-) -> Result<Vec<Spatial>, AllocError>
+) -> Result<Vec<Spatial>, OutOfMemory>
     requires { IsSmall change.now }
     ensures { IfOk result (λ v. v.items ≡ map (in_spatial (changed change.now)) atoms.now) }
 {
     let mut all = Vec::new(alloc);
-    push_spatials(&mut all, change, atoms)?;
+    push_changed_spatial(&mut all, change, atoms)?;
     Ok(all)
 }

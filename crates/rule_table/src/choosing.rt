@@ -2,13 +2,13 @@
 ghost use Rattle.std.specs.Prelude.{◌≡◌, ◌≤◌, ◌<◌, ◌+◌, length, IfOk, Bool};
 ghost use Rattle.heap_formula.specs.Positions.{chosen, chosen_place, pairs_from};
 ghost use Rattle.rule_table.specs.Tests.{ascend_from, has_number};
-ghost use Rattle.rule_table.specs.Choosing.{chosen_from, chosen_pairs, taken};
+ghost use Rattle.rule_table.specs.Choosing.{chosen_from, chosen_pairs as pairs_chosen, taken};
 
-use heap_formula::{Pair, Pairs, Spatial};
-use std::alloc::{AllocError, Global};
+use heap_formula::{OutOfMemory, Pair, Pairs, Spatial};
+use std::alloc::Global;
 
 /// Whether the places ascend strictly and are all below `n`.
-pub fn ascend(places: &[u32], n: usize) -> bool
+pub fn are_ascending(places: &[u32], n: usize) -> bool
     ensures { result ≡ ascend_from 0 n places.now }
 {
     let mut least: u64 = 0;
@@ -21,6 +21,7 @@ pub fn ascend(places: &[u32], n: usize) -> bool
     true
 }
 
+/// Whether the place is one of them.
 pub fn is_among(places: &[u32], k: usize) -> bool
     ensures { result ≡ has_number places.now k }
 {
@@ -47,7 +48,7 @@ fn pick_atoms(
     outside: bool,
     places: &[u32],
     atoms: &[Spatial],
-) -> Result<Vec<Spatial>, AllocError>
+) -> Result<Vec<Spatial>, OutOfMemory>
     ensures value { IfOk result (λ v. v.items ≡ chosen_from (taken outside places.now) 0 atoms.now) }
     ensures shorter { IfOk result (λ v. length v.items ≤ length atoms.now) }
 {
@@ -65,9 +66,9 @@ fn pick_pairs(
     outside: bool,
     places: &[u32],
     atoms: &[Spatial],
-) -> Result<Pairs, AllocError>
-    requires { length atoms.now ≤ 16 }
-    ensures { IfOk result (λ p. p ≡ chosen_pairs (taken outside places.now) 0 0 atoms.now) }
+) -> Result<Pairs, OutOfMemory>
+    requires { length atoms.now ≤ 32 }
+    ensures { IfOk result (λ p. p ≡ pairs_chosen (taken outside places.now) 0 0 atoms.now) }
 {
     let mut pairs = Pairs::new(alloc);
     let mut count: usize = 0;
@@ -86,27 +87,27 @@ fn pick_pairs(
     Ok(pairs)
 }
 
-/// The atoms at the places, or the others.
-pub fn atoms_at(
+/// The atoms at the places, in the order of the list, or the others where `outside` is true.
+pub fn chosen_atoms(
     alloc: Global,
     outside: bool,
     places: &[u32],
     atoms: &[Spatial],
-) -> Result<Vec<Spatial>, AllocError>
+) -> Result<Vec<Spatial>, OutOfMemory>
     ensures value { IfOk result (λ v. v.items ≡ chosen (taken outside places.now) atoms.now) }
     ensures shorter { IfOk result (λ v. length v.items ≤ length atoms.now) }
 {
     pick_atoms(alloc, outside, places, atoms)
 }
 
-/// Their trace pairs.
-pub fn pairs_at(
+/// The trace pairs of these atoms: each predicate atom is paired with the place where it stood.
+pub fn chosen_pairs(
     alloc: Global,
     outside: bool,
     places: &[u32],
     atoms: &[Spatial],
-) -> Result<Pairs, AllocError>
-    requires { length atoms.now ≤ 16 }
+) -> Result<Pairs, OutOfMemory>
+    requires { length atoms.now ≤ 32 }
     ensures { IfOk result (λ p. p ≡ pairs_from (chosen_place (taken outside places.now) atoms.now) 0 (chosen (taken outside places.now) atoms.now)) }
 {
     pick_pairs(alloc, outside, places, atoms)

@@ -14,7 +14,7 @@ ghost use Rattle.rule_table.specs.Soundness.{IsSound, IsCommand, AreUniversal, H
 
 /// Every rule is locally sound where no existential stands in the antecedent, and the program's commands are as programs have them.
 pub fn rules_are_sound()
-    ensures { (ds : List Definition) (lines : List Command) (j : Judgement) (rule : Rule) → IsUniversalHeap (antecedent j) → Each IsCommand lines → IsSound ds lines j (rule_answer ds lines j rule) }
+    ensures { (most : ℕ) (ds : List Definition) (lines : List Command) (j : Judgement) (rule : Rule) → IsUniversalHeap (antecedent j) → Each IsCommand lines → IsSound ds lines j (rule_answer most ds lines j rule) }
 {}
 
 /// A link without a fault is locally sound where the substitution has no existential.

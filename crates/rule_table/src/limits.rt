@@ -1,14 +1,17 @@
 // The limits that premises keep.
 ghost use Rattle.std.specs.Prelude.{◌≡◌, ◌≤◌, ◌<◌, true, ◌+◌, ◌&&◌, max, map, length, nat_le};
+ghost use Rattle.heap_formula.specs.Fresh.{fresh_number};
 ghost use Rattle.heap_formula.specs.Words.{max_of};
 ghost use Rattle.heap_formula.specs.declared.proof_rules.RuleFault.TheVariants.{NoFreshVariable};
-ghost use Rattle.rule_table.specs.Answer.{needs, every, is_short, has_numbers, each_heap, heaps_of, number_bound, terms_numbers, pure_numbers, spatial_numbers, heap_numbers};
+ghost use Rattle.rule_table.specs.Answer.{needs, every, is_short, has_numbers, each_heap, heaps_of, disjuncts, number_bound, terms_numbers, pure_numbers, spatial_numbers, heap_numbers};
 ghost use Rattle.rule_table.specs.Answered.{IsAnswer};
 ghost use Rattle.rule_table.specs.Table.{with_pure};
 ghost use Rattle.heap_formula.specs.Judgements.{antecedent};
 ghost use Rattle.heap_formula.specs.declared.atoms.Pure.{Pure};
 
-use heap_formula::{Heap, Judgement, Premise, Pure, RuleError, RuleFault, Spatial, Term};
+use heap_formula::{
+    Heap, Judgement, Premise, Pure, RuleError, RuleFault, Spatial, Term, bound_of_judgement,
+};
 
 fn of_term(term: Term) -> u32
     ensures value { result ≡ number_bound term }
@@ -109,7 +112,7 @@ fn premises_small(premises: &[Premise]) -> bool
     true
 }
 
-/// The premises, if no variable's number passes the limit.
+/// The premises, if no variable's number in them passes 65,534; else `NoFreshVariable`.
 pub fn numbered(premises: Vec<Premise>) -> Result<Vec<Premise>, RuleError>
     ensures { IsAnswer result (needs (each_heap has_numbers premises.items) NoFreshVariable (Ok premises.items)) }
 {
@@ -120,32 +123,51 @@ pub fn numbered(premises: Vec<Premise>) -> Result<Vec<Premise>, RuleError>
     }
 }
 
-fn is_short_heap(heap: &Heap) -> bool
-    ensures { result ≡ is_short heap.now }
+fn is_short_heap(most: u8, heap: &Heap) -> bool
+    ensures { result ≡ is_short most heap.now }
 {
-    heap.pure().len() <= 64 && heap.spatial().len() <= 16
+    heap.pure().len() <= 64 && heap.spatial().len() <= most as usize
 }
 
-pub fn all_short(heaps: &[Heap]) -> bool
-    ensures { result ≡ every is_short heaps.now }
+/// Whether each heap has at most `most` spatial atoms, and at most 64 pure ones.
+pub fn are_short(most: u8, heaps: &[Heap]) -> bool
+    ensures { result ≡ every (is_short most) heaps.now }
 {
     for heap in heaps {
-        if !is_short_heap(heap) {
+        if !is_short_heap(most, heap) {
             return false;
         }
     }
     true
 }
 
+/// Whether each disjunct has at most `most` spatial atoms.
+pub fn are_disjuncts_short(most: u8, judgement: &Judgement) -> bool
+    ensures { result ≡ every (is_short most) (disjuncts judgement.now) }
+{
+    match judgement {
+        Judgement::Entail(_, bs) => are_short(most, bs.heaps()),
+        Judgement::Term(_, _) => true,
+    }
+}
+
 /// Whether one more pure atom on the left keeps the limits.
 pub fn has_room(judgement: &Judgement) -> bool
-    ensures each { (x : Pure) → result ≡ every is_short (heaps_of (with_pure judgement.now x).judgement) }
+    ensures each { (x : Pure) → result ≡ every (is_short 32) (heaps_of (with_pure judgement.now x).judgement) }
     ensures room { result ≡ true → length (antecedent judgement.now).pure < 64 }
 {
     match judgement {
         Judgement::Entail(a, bs) => a.pure().len() < 64
-            && a.spatial().len() <= 16
-            && all_short(bs.heaps()),
-        Judgement::Term(_, a) => a.pure().len() < 64 && a.spatial().len() <= 16,
+            && a.spatial().len() <= 32
+            && are_short(32, bs.heaps()),
+        Judgement::Term(_, a) => a.pure().len() < 64 && a.spatial().len() <= 32,
     }
+}
+
+/// The least number that is not below `p` and is above every universal number of the judgement; at most 65,536.
+pub fn fresh(judgement: &Judgement, p: u16) -> u32
+    ensures value { result ≡ fresh_number p judgement.now }
+    ensures fits { result ≤ 65536 }
+{
+    bound_of_judgement(judgement).max(p as u32)
 }

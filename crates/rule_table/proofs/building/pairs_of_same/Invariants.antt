@@ -1,6 +1,0 @@
-use Rattle.std.proofs.Common.{◌≡◌, ◌++◌, drop}
-use Rattle.heap_formula.specs.Positions.{pairs_from, same_pairs}
-use Rattle.rule_table.proofs.building.pairs_of_same.Given as goal
-
-abbrev pub invariant-loop-place : goal.invariant-loop-place
-invariant-loop-place l = l.pairs ++ pairs_from (λ k. k) l.place (drop l.place l.atoms) ≡ same_pairs l.atoms

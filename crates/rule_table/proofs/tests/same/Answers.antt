@@ -1,5 +1,0 @@
-use Rattle.rule_table.proofs.Reflects.{decided_spatial}
-use Rattle.rule_table.proofs.tests.same.Goals as goal
-
-pub returns : goal.returns
-returns c = decided_spatial c.is_same_spatial.result c.args.x.now c.args.y.now c.is_same_spatial.ensures

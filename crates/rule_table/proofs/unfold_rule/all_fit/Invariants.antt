@@ -1,7 +1,0 @@
-use Rattle.std.proofs.Common.{◌≡◌, drop}
-use Rattle.rule_table.specs.Answer.{every}
-use Rattle.rule_table.specs.Unfolding.{case_fits}
-use Rattle.rule_table.proofs.unfold_rule.all_fit.Given as goal
-
-abbrev pub invariant-loop-case : goal.invariant-loop-case
-invariant-loop-case l = every (case_fits l.judgement) (drop l.case-index l.cases) ≡ every (case_fits l.judgement) l.cases
