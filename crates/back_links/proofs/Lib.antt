@@ -1,0 +1,2 @@
+mod LinkLoops
+mod DisjunctLoops
