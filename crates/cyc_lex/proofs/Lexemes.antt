@@ -16,7 +16,7 @@ use Rattle.cyc_lex.specs.Characters.{is_space, starts_name}
 use Rattle.cyc_lex.specs.Word.{Word, is_identifier, is_name_text, is_number_text, is_lexeme, are_lexemes}
 use Rattle.cyc_lex.specs.Spacing.{text_of}
 use Rattle.cyc_lex.specs.Spelling.{Spells}
-use Rattle.cyc_lex.proofs.Tests.{and-parts, or-parts}
+use Rattle.cyc_lex.proofs.BoolParts.{and-parts, or-parts}
 use Rattle.cyc_lex.proofs.Written.{IsWritten, AllWritten, name-written, number-written, written-read}
 use Rattle.cyc_lex.proofs.Symbols.{symbol-written}
 

@@ -13,7 +13,7 @@ use Rattle.cyc_lex.specs.declared.token.Kind.TheVariants.{Symbol}
 use Rattle.cyc_lex.specs.Characters.{is_space, starts_name, is_double, is_single, symbols}
 use Rattle.cyc_lex.specs.Word.{Word, is_symbol, is_symbol_text}
 use Rattle.cyc_lex.specs.Spacing.{is_text, closes_up, is_closed_up}
-use Rattle.cyc_lex.proofs.Tests.{and-parts, or-parts}
+use Rattle.cyc_lex.proofs.BoolParts.{and-parts, or-parts}
 use Rattle.cyc_lex.proofs.LaidOut.{NotJoined}
 use Rattle.cyc_lex.proofs.Written.{IsCloser, closer-cases, IsWritten}
 

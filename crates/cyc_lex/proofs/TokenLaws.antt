@@ -25,7 +25,7 @@ use Rattle.cyc_lex.specs.Characters.{is_space, starts_name, goes_on, is_double, 
 use Rattle.cyc_lex.specs.Word.{Word, word_of, end_word, is_identifier, is_name_text, is_number_text, is_symbol_text, is_lexeme, are_lexemes, EndsOnce}
 use Rattle.cyc_lex.specs.Lexing.{start, pass, pass_all, piece_at, token_at, with_token, taken, ended, lex, len_fault, Lexes}
 use Rattle.cyc_lex.specs.Slices.{place_at, IsSlice, AreSlices, AreTokens}
-use Rattle.cyc_lex.proofs.Tests.{and-parts, or-parts}
+use Rattle.cyc_lex.proofs.BoolParts.{and-parts, or-parts}
 use Rattle.cyc_lex.proofs.Pieces.{pass_all-append, pass_all-one, scalars-parts}
 use Rattle.cyc_lex.proofs.Lexed.{Found, whole-text}
 use Rattle.cyc_lex.proofs.Lexemes.{digits-encode}

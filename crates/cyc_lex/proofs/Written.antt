@@ -18,7 +18,7 @@ use Rattle.std.proofs.lemmas.Str.{encodes-append, chars-encodes, chars-nil}
 use Rattle.cyc_lex.specs.Word.{Word, is_name, is_symbol}
 use Rattle.cyc_lex.specs.Spacing.{is_text, closes_up, is_closed_up, ends_line, text_behind, text_of}
 use Rattle.cyc_lex.specs.Lexing.{lex, start, token_at}
-use Rattle.cyc_lex.proofs.Tests.{and-parts, or-parts}
+use Rattle.cyc_lex.proofs.BoolParts.{and-parts, or-parts}
 use Rattle.cyc_lex.proofs.LaidOut.{IsToken, NotJoined, AllSpaces, Laid, blank, laid, laid-read}
 use Rattle.cyc_lex.specs.Spelling.{HasWords, Spells}
 use Rattle.cyc_lex.proofs.Lexed.{whole-text}
