@@ -2,6 +2,7 @@
 #![tactic(auto)]
 
 mod reason_word;
+mod read_heaps;
 mod tree;
 
 pub use reason_word::ReasonWord;
