@@ -1,0 +1,3 @@
+pub mod GrammarLaws
+pub mod GrammarEnds
+pub mod OtherTexts
