@@ -1,14 +1,14 @@
--- A proof without a faulty node is a graph in order, and its relation is local.
+-- A proof without a faulty node is a graph in order, and its relation is local; and the answers of the inclusion exclude one another.
 use Rattle.std.proofs.Common.{◌≡◌, ℕ, zero, suc, ◌+◌, List, [], ◌∷◌, ◌++◌, take, Bool, arith, Some, None, slice_get, sym, ap, ◌∙◌, subst}
 use Rattle.trace_pairs.specs.Graph.{Node, Edge, IsGraph, IsLocal}
 use Rattle.trace_pairs.specs.Lasso.{AllProgress}
 use Rattle.trace_pairs.specs.System.{IsLocalAt, NoneFaulty, HasPositions, HasEdges}
 use Rattle.buchi_core.proofs.Lists.{get_one}
 use Rattle.buchi_inclusion.specs.Answers.{HasAtMost}
-use Rattle.buchi_inclusion.specs.Inclusion.{IsInclusion}
+use Rattle.buchi_inclusion.specs.Inclusion.{IsInclusion, IsSameKind}
 use Rattle.buchi_inclusion.specs.declared.Inclusion.{Inclusion}
-use Rattle.buchi_inclusion.specs.declared.Inclusion.TheVariants.{Included}
-use Rattle.buchi_inclusion.proofs.Exact.{descends_by_lassos}
+use Rattle.buchi_inclusion.specs.declared.Inclusion.TheVariants.{Included, Counter, TooManyStates}
+use Rattle.buchi_inclusion.proofs.Exact.{descends_by_lassos, not_both}
 
 take_more : (g : List Node) (v : ℕ) (n : Node) → slice_get g v ≡ Some n → take (suc v) g ≡ take v g ++ (n ∷ [])
 take_more [] v n h = absurd (let e : None ≡ Some n = h in cc)
@@ -30,3 +30,15 @@ pub accepted : (g graph : List Node) (faulty : ℕ → Bool) (Holds : ℕ → (�
 accepted g graph faulty Holds limit answer e is is_graph i local none =
     let i' : IsInclusion g limit Included = subst (λ a. IsInclusion g limit a) is (subst (λ x. IsInclusion x limit answer) e i) in
     (none, i'.0, i'.1, descends_by_lassos g is_graph i'.0 Holds (local_all g faulty Holds local none))
+
+-- two answers that are true of one graph and limit are of one kind
+pub same_kind : (g : List Node) (limit : ℕ) (a b : Inclusion) → IsInclusion g limit a → IsInclusion g limit b → IsSameKind a b
+same_kind g limit Included Included x y = tt
+same_kind g limit Included (Counter m) x y = y.1 (x.0 m y.0)
+same_kind g limit Included TooManyStates x y = not_both g limit x.1 y
+same_kind g limit (Counter l) Included x y = x.1 (y.0 l x.0)
+same_kind g limit (Counter l) (Counter m) x y = tt
+same_kind g limit (Counter l) TooManyStates x y = not_both g limit x.2 y
+same_kind g limit TooManyStates Included x y = not_both g limit y.1 x
+same_kind g limit TooManyStates (Counter m) x y = not_both g limit y.2 x
+same_kind g limit TooManyStates TooManyStates x y = tt

@@ -10,15 +10,16 @@ pub record AreReached (g : List Node) (states : List State) : Type 0 where
   pub apart : (i j : ℕ) (s : State) → slice_get states i ≡ Some s → slice_get states j ≡ Some s → i ≡ j
   pub reached : (i : ℕ) (s : State) → slice_get states i ≡ Some s → Reachable g s
 
--- all of them
+-- all reachable product states, each once
 pub record AreAllReached (g : List Node) (states : List State) : Type 0 where
   pub some' : AreReached g states
   pub all' : (s : State) → Reachable g s → (i : ℕ) × (slice_get states i ≡ Some s)
 
--- the number of reachable product states is at most n, or above it
+-- the number of reachable product states is at most n
 abbrev pub HasAtMost : List Node → ℕ → Type 0
 HasAtMost g n = (states : List State) × AreAllReached g states × (length states ≤ n)
 
+-- it is above n
 abbrev pub HasMoreThan : List Node → ℕ → Type 0
 HasMoreThan g n = (states : List State) × AreReached g states × (n < length states)
 

@@ -7,7 +7,7 @@ use Rattle.buchi_inclusion.specs.Answers.{HasAtMost, HasMoreThan}
 use Rattle.buchi_inclusion.specs.declared.system.Checked.{Checked}
 use Rattle.buchi_inclusion.specs.declared.system.Checked.TheVariants.{Accepted, Faulty, PathRefused, TooManyStates}
 
--- the four exclude one another, so each comes exactly where what it says is true
+-- what an answer says. The four exclude one another, so each comes exactly where what it says is true
 abbrev pub IsChecked : List Node → (ℕ → Bool) → (ℕ → (ℕ → ℕ) → Type 0) → ℕ → Checked → Type 0
 IsChecked g faulty Holds limit Accepted = NoneFaulty g faulty × AllProgress g × HasAtMost g limit × ((stages : ℕ → ℕ) → Holds 0 stages)
 IsChecked g faulty Holds limit (Faulty n) = IsLeastFaulty g faulty n

@@ -6,6 +6,7 @@ use Rattle.buchi_core.specs.declared.event.Event.{Event}
 use Rattle.buchi_core.specs.declared.event.Event.TheVariants.{Dies, Green, Nothing}
 use Rattle.buchi_core.specs.Forest.{Entry, next_forest, event_of, start}
 
+-- a node with a forest
 pub record State : Type 0 where
   pub node : ℕ
   pub forest : List Entry
@@ -32,13 +33,16 @@ IsFrom k (Dies i) = k ≤ i
 IsFrom k (Green i) = k ≤ i
 IsFrom k Nothing = Unit {0}
 
+-- there is no event
 abbrev pub IsNothing : Event → Type 0
 IsNothing event = event ≡ Nothing
 
+-- each event of the list is so
 abbrev pub Each : (Event → Type 0) → List Event → Type 0
 Each P [] = Unit {0}
 Each P (event ∷ events) = P event × Each P events
 
+-- the event stands in the list
 abbrev pub Occurs : Event → List Event → Type 0
 Occurs event [] = ⊥
 Occurs event (x ∷ xs) = (x ≡ event) ⊎ Occurs event xs
@@ -54,12 +58,14 @@ pub record IsStart (g : List Node) (s : State) : Type 0 where
   pub node_is : s.node ≡ 0
   pub forest_is : s.forest ≡ start root.positions
 
+-- a run leads to the state from node 0 with its start
 pub record Reachable (g : List Node) (s : State) : Type 0 where
   pub from : State
   pub starts : IsStart g from
   pub events : List Event
   pub run : Run g from s events
 
+-- a reachable cycle of which the least event is a death, or which has none
 pub record BadCycle (g : List Node) : Type 0 where
   pub state : State
   pub reachable : Reachable g state
@@ -83,12 +89,13 @@ pub record HasNoBadCycle (g : List Node) : Type 0 where
   pub closed : IsClosed g states
   pub good : BadCycle g → ⊥
 
--- the steps lead through the product from s to t, with the events
+-- the step leads from s to t, with the event
 pub record MovesBy (g : List Node) (s t : State) (step : Step) (event : Event) : Type 0 where
   pub move : Moves g s t event
   pub node_is : step.node ≡ s.node
   pub edge_is : step.edge ≡ move.k
 
+-- the steps lead through the product from s to t, with the events
 abbrev pub Over : List Node → State → State → List Step → List Event → Type 0
 Over g s t [] [] = s ≡ t
 Over g s t [] (event ∷ events) = ⊥

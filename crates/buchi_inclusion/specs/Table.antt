@@ -9,9 +9,11 @@ use Rattle.buchi_inclusion.specs.Product.{State, Moves, Reachable, IsStart}
 use Rattle.buchi_inclusion.specs.declared.product.Transition.{Transition}
 use Rattle.buchi_inclusion.specs.declared.product.Product.{Product}
 
+-- the plain data of a state
 abbrev pub state_of : Product → State
 state_of p = record { node = p.node; forest = forest_of p.forest }
 
+-- the plain data of the states, in the order of discovery
 abbrev pub states_of : {S : Type 0} → HashSet Product S → List State
 states_of s = map state_of s.keys
 
@@ -35,6 +37,7 @@ pub record IsState (g : List Node) (s : State) : Type 0 where
   pub node : s.node < length g
   pub short : length s.forest ≤ 32
 
+-- each state was found
 abbrev pub AreStates : List Node → List State → Type 0
 AreStates g states = (i : ℕ) (s : State) → slice_get states i ≡ Some s → IsState g s
 
@@ -46,6 +49,7 @@ pub record IsItem (g : List Node) (states : List State) (place k : ℕ) (m : Tra
   pub is_t : slice_get states m.target ≡ Some t
   pub step : IsStep g s k t m.event
 
+-- each item of the row is right
 abbrev pub AreItems : List Node → List State → ℕ → List Transition → Type 0
 AreItems g states place row = (k : ℕ) (m : Transition) → slice_get row k ≡ Some m → IsItem g states place k m
 
@@ -56,15 +60,19 @@ pub record IsRow (g : List Node) (states : List State) (place : ℕ) (row : List
   pub is_s : slice_get states place ≡ Some s
   pub last : IsLast g s (length row)
 
+-- each state has its row
 abbrev pub AreRows : List Node → List State → List (Vec Transition Global) → Type 0
 AreRows g states rows = (q : ℕ) (row : Vec Transition Global) → slice_get rows q ≡ Some row → IsRow g states q row.items
 
+-- no state stands at two places
 abbrev pub AreApart : List State → Type 0
 AreApart states = (i j : ℕ) (s : State) → slice_get states i ≡ Some s → slice_get states j ≡ Some s → i ≡ j
 
+-- the old states stay in their places
 abbrev pub Extends : List State → List State → Type 0
 Extends old new = (i : ℕ) (s : State) → slice_get old i ≡ Some s → slice_get new i ≡ Some s
 
+-- the first state is node 0 with its start
 pub record HasStart (g : List Node) (states : List State) : Type 0 where
   pub first : State
   pub is_first : slice_get states 0 ≡ Some first

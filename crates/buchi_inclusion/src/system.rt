@@ -9,7 +9,8 @@ use cyc_memory::OutOfMemory;
 use std::alloc::Global;
 use trace_pairs::{Lasso, Node, ProofSystem, TraceGraph};
 
-/// What is known of a proof: it is accepted, a node is faulty, a lasso doesn't progress, or there are too many states.
+/// What is known of a proof: it is accepted; its least faulty node; a lasso that doesn't progress; or that there are more
+/// product states than the limit.
 #[derive(Debug, Drop)]
 pub enum Checked {
     Accepted,
@@ -44,7 +45,8 @@ fn graph_of<P: ProofSystem>(alloc: Global, proof: &P) -> Result<TraceGraph, OutO
     Ok(graph)
 }
 
-/// Checks a proof. Where it is accepted node 0 holds at all stages.
+/// Checks a proof: its nodes first, then the number of product states, then its lassos. Where it is accepted node 0
+/// holds at all stages.
 pub fn check_system<P: ProofSystem>(
     alloc: Global,
     proof: &P,
