@@ -184,7 +184,8 @@ fn any_return(
     Ok(false)
 }
 
-/// Whether a lasso of the graph progresses.
+/// Whether a lasso of the graph progresses: along some number of turns of its cycle, at least one, a trace leads from
+/// a position back to itself and takes a pair that progresses (Brotherston and Simpson 2011).
 pub fn lasso_progresses(
     alloc: Global,
     graph: &TraceGraph,

@@ -1,5 +1,5 @@
-use Rattle.std.proofs.Common.{◌≤◌, List, ℕ, length, arith, ap, subst}
-use Rattle.trace_pairs.specs.Graph.{Edge, IsPositionSet}
+use Rattle.std.proofs.Common.{◌≤◌, length, arith, ap, subst}
+use Rattle.trace_pairs.specs.Graph.{IsPositionSet}
 use Rattle.trace_pairs.proofs.Orders.{right_is, fit_of}
 use Rattle.trace_pairs.proofs.order.is_right.Goals as goal
 

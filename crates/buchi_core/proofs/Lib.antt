@@ -1,0 +1,13 @@
+pub mod Lists
+pub mod PositionSets
+pub mod Places
+pub mod Counting
+pub mod Pigeonhole
+pub mod Grown
+pub mod Bounds
+pub mod Drop
+pub mod Follow
+pub mod Green
+pub mod Entries
+pub mod Loops
+pub mod Same

@@ -1,0 +1,329 @@
+//! Whether a cycle of the product is bad: for each least event a search over the moves whose events aren't earlier.
+
+ghost use Rattle.std.specs.Prelude.{ℕ, List, ◌≡◌, ◌≤◌, ◌<◌, Some, true, false, length, slice_get, IfOk, MatchOption};
+ghost use Rattle.trace_pairs.specs.Graph.{IsGraph};
+ghost use Rattle.trace_pairs.specs.Visits.{IsVisited, AreVisits};
+ghost use Rattle.trace_pairs.specs.declared.reach.Visit.{Visit};
+ghost use Rattle.buchi_inclusion.specs.declared.product.Transition.{Transition};
+ghost use Rattle.buchi_core.specs.declared.event.Event.TheVariants.{Dies};
+ghost use Rattle.buchi_inclusion.specs.Product.{BadCycle};
+ghost use Rattle.buchi_inclusion.specs.Table.{states_of, IsTable, IsItem, AreItems};
+ghost use Rattle.buchi_inclusion.specs.Decision.{IsLeast, class_row as class_row_of, IsClass, IsWalk, IsNoWay, AreWays, IsWayBetween, IsCounter, AreNoWays, IsGoodClass, IsAbsent, IsAbsentFrom};
+ghost use Rattle.buchi_inclusion.specs.Ranks.{IsRising};
+
+use crate::product::{Table, Transition, state_at};
+use crate::ranks::{are_rising, rank_of, ranks_of};
+use buchi_core::{Event, earlier};
+use cyc_memory::OutOfMemory;
+use std::alloc::Global;
+use trace_pairs::reach::{Visit, place_of, visits_from};
+use trace_pairs::{Lasso, Step, TraceGraph};
+
+/// The targets of a row, and whether the event isn't earlier than the least.
+fn class_row(
+    alloc: Global,
+    row: &[Transition],
+    least: Event,
+) -> Result<Vec<(usize, bool)>, OutOfMemory>
+    ensures { IfOk result (λ v. v.items ≡ class_row_of least row.now) }
+{
+    let mut targets = Vec::new(alloc);
+    for item in row {
+        targets.push((item.target, !earlier(item.event, least)))?;
+    }
+    Ok(targets)
+}
+
+/// The table of the moves whose events aren't earlier than the least.
+fn class_table(
+    alloc: Global,
+    rows: &[Vec<Transition>],
+    least: Event,
+) -> Result<Vec<Vec<(usize, bool)>>, OutOfMemory>
+    ensures { IfOk result (λ v. IsClass least rows.now v.items) }
+{
+    let mut table = Vec::new(alloc);
+    for row in rows {
+        let row = class_row(alloc, row, least)?;
+        table.push(row)?;
+    }
+    Ok(table)
+}
+
+/// The visit at a place.
+fn visit_at(visits: &[Visit], place: usize) -> Option<&Visit>
+    ensures { MatchOption result (length visits.now ≤ place) (λ v. slice_get visits.now place ≡ Some v.now) }
+{
+    visits.get(place)
+}
+
+/// The steps that led from the first visit to the one at a place.
+fn steps_to(
+    alloc: Global,
+    _graph: &TraceGraph,
+    table: &Table,
+    _least: Event,
+    _start: usize,
+    visits: &[Visit],
+    place: usize,
+) -> Result<Vec<Step>, OutOfMemory>
+    requires ways { AreWays _graph.now (states_of table.now.states) _least _start visits.now }
+    requires place { place < length visits.now }
+    ensures { IfOk result (λ v. IsWayBetween _graph.now (states_of table.now.states) _least visits.now 0 place v.items) }
+{
+    let mut steps = Vec::new(alloc);
+    let mut at = place;
+    while at > 0 {
+        let Some(visit) = visit_at(visits, at) else {
+            unreachable!()
+        };
+        let Some(from) = visit_at(visits, visit.from) else {
+            unreachable!()
+        };
+        let Some(state) = state_at(&table.states, from.state) else {
+            unreachable!()
+        };
+        steps.push(Step {
+            node: state.node,
+            edge: visit.edge as u8,
+        })?;
+        at = visit.from;
+    }
+    steps.reverse();
+    Ok(steps)
+}
+
+/// Steps from the state at a place to that at another, over moves whose events aren't earlier than the least.
+fn way_to(
+    alloc: Global,
+    graph: &TraceGraph,
+    table: &Table,
+    class: &[Vec<(usize, bool)>],
+    least: Event,
+    start: usize,
+    to: usize,
+) -> Result<Option<Vec<Step>>, OutOfMemory>
+    requires graph { IsGraph graph.now }
+    requires table { IsTable graph.now (states_of table.now.states) table.now.rows.items }
+    requires class { IsClass least table.now.rows.items class.now }
+    requires start { start < length (states_of table.now.states) }
+    ensures { IfOk result (λ o. MatchOption o (IsNoWay graph.now (states_of table.now.states) least start to) (λ v. IsWalk graph.now (states_of table.now.states) least start to v.items)) }
+{
+    let visits = visits_from(alloc, class, start)?;
+    let Some(at) = place_of(&visits, to) else {
+        return Ok(None);
+    };
+    let steps = steps_to(alloc, graph, table, least, start, &visits, at)?;
+    Ok(Some(steps))
+}
+
+/// The steps from the first state to the one at a place.
+fn stem_to(
+    alloc: Global,
+    graph: &TraceGraph,
+    table: &Table,
+    place: usize,
+) -> Result<Vec<Step>, OutOfMemory>
+    requires graph { IsGraph graph.now }
+    requires table { IsTable graph.now (states_of table.now.states) table.now.rows.items }
+    requires place { place < length (states_of table.now.states) }
+    ensures { IfOk result (λ v. IsWalk graph.now (states_of table.now.states) (Dies 0) 0 place v.items) }
+{
+    let least = Event::Dies(0);
+    let class = class_table(alloc, &table.rows, least)?;
+    let found = way_to(alloc, graph, table, &class, least, 0, place)?;
+    let Some(steps) = found else { unreachable!() };
+    Ok(steps)
+}
+
+/// The lasso of a move and a way back from its target.
+fn counter_of(
+    alloc: Global,
+    graph: &TraceGraph,
+    table: &Table,
+    _least: Event,
+    place: usize,
+    edge: usize,
+    _item: Transition,
+    back: &[Step],
+) -> Result<Lasso, OutOfMemory>
+    requires graph { IsGraph graph.now }
+    requires table { IsTable graph.now (states_of table.now.states) table.now.rows.items }
+    requires least { IsLeast _least }
+    requires item { IsItem graph.now (states_of table.now.states) place edge _item }
+    requires first { _item.event ≡ _least }
+    requires back { IsWalk graph.now (states_of table.now.states) _least _item.target place back.now }
+    ensures { IfOk result (λ l. IsCounter graph.now l) }
+{
+    let Some(state) = state_at(&table.states, place) else {
+        unreachable!()
+    };
+    let stem = stem_to(alloc, graph, table, place)?;
+    let mut cycle = Vec::new(alloc);
+    cycle.push(Step {
+        node: state.node,
+        edge: edge as u8,
+    })?;
+    cycle.extend_from_slice(back)?;
+    Ok(Lasso::new(stem, cycle))
+}
+
+/// A lasso that doesn't progress, if the move has the least event and there is a way back from its target.
+fn try_item(
+    alloc: Global,
+    graph: &TraceGraph,
+    table: &Table,
+    class: &[Vec<(usize, bool)>],
+    ranks: &[usize],
+    rising: bool,
+    least: Event,
+    place: usize,
+    edge: usize,
+    item: Transition,
+) -> Result<Option<Lasso>, OutOfMemory>
+    requires graph { IsGraph graph.now }
+    requires table { IsTable graph.now (states_of table.now.states) table.now.rows.items }
+    requires class { IsClass least table.now.rows.items class.now }
+    requires least { IsLeast least }
+    requires item { IsItem graph.now (states_of table.now.states) place edge item }
+    requires rising { rising ≡ true → IsRising class.now ranks.now }
+    ensures { IfOk result (λ o. MatchOption o (item.event ≡ least → IsNoWay graph.now (states_of table.now.states) least item.target place) (λ l. IsCounter graph.now l)) }
+{
+    if earlier(item.event, least) {
+        return Ok(None);
+    }
+    if earlier(least, item.event) {
+        return Ok(None);
+    }
+    if rising && rank_of(ranks, place) < rank_of(ranks, item.target) {
+        return Ok(None);
+    }
+    let found = way_to(alloc, graph, table, class, least, item.target, place)?;
+    let Some(back) = found else {
+        return Ok(None);
+    };
+    let lasso = counter_of(alloc, graph, table, least, place, edge, item, &back)?;
+    Ok(Some(lasso))
+}
+
+/// A lasso that doesn't progress, if a move of the row lies on a cycle of which it is the least.
+fn decide_row(
+    alloc: Global,
+    graph: &TraceGraph,
+    table: &Table,
+    class: &[Vec<(usize, bool)>],
+    ranks: &[usize],
+    rising: bool,
+    least: Event,
+    place: usize,
+    row: &[Transition],
+) -> Result<Option<Lasso>, OutOfMemory>
+    requires graph { IsGraph graph.now }
+    requires table { IsTable graph.now (states_of table.now.states) table.now.rows.items }
+    requires class { IsClass least table.now.rows.items class.now }
+    requires least { IsLeast least }
+    requires row { AreItems graph.now (states_of table.now.states) place row.now }
+    requires rising { rising ≡ true → IsRising class.now ranks.now }
+    ensures { IfOk result (λ o. MatchOption o (AreNoWays graph.now (states_of table.now.states) least place row.now) (λ l. IsCounter graph.now l)) }
+{
+    for (edge, item) in row.iter().enumerate() {
+        let found = try_item(
+            alloc, graph, table, class, ranks, rising, least, place, edge, *item,
+        )?;
+        if found.is_some() {
+            return Ok(found);
+        }
+    }
+    Ok(None)
+}
+
+/// Whether a move of the row has the event.
+fn row_has(row: &[Transition], event: Event) -> bool
+    ensures { result ≡ false → IsAbsent event row.now }
+{
+    for item in row {
+        if !earlier(item.event, event) && !earlier(event, item.event) {
+            return true;
+        }
+    }
+    false
+}
+
+/// Whether a move has the event.
+fn rows_have(rows: &[Vec<Transition>], event: Event) -> bool
+    ensures { result ≡ false → IsAbsentFrom event rows.now }
+{
+    for row in rows {
+        if row_has(row, event) {
+            return true;
+        }
+    }
+    false
+}
+
+/// A lasso that doesn't progress, if there is a bad cycle with the least event.
+fn search_class(
+    alloc: Global,
+    graph: &TraceGraph,
+    table: &Table,
+    least: Event,
+) -> Result<Option<Lasso>, OutOfMemory>
+    requires graph { IsGraph graph.now }
+    requires table { IsTable graph.now (states_of table.now.states) table.now.rows.items }
+    requires least { IsLeast least }
+    ensures { IfOk result (λ o. MatchOption o (IsGoodClass graph.now (states_of table.now.states) table.now.rows.items least) (λ l. IsCounter graph.now l)) }
+{
+    let class = class_table(alloc, &table.rows, least)?;
+    let ranks = ranks_of(alloc, &class)?;
+    let rising = are_rising(&class, &ranks);
+    for (place, row) in table.rows.iter().enumerate() {
+        let found = decide_row(
+            alloc, graph, table, &class, &ranks, rising, least, place, row,
+        )?;
+        if found.is_some() {
+            return Ok(found);
+        }
+    }
+    Ok(None)
+}
+
+/// The same, at once where no move has the event.
+fn decide_class(
+    alloc: Global,
+    graph: &TraceGraph,
+    table: &Table,
+    least: Event,
+) -> Result<Option<Lasso>, OutOfMemory>
+    requires graph { IsGraph graph.now }
+    requires table { IsTable graph.now (states_of table.now.states) table.now.rows.items }
+    requires least { IsLeast least }
+    ensures { IfOk result (λ o. MatchOption o (IsGoodClass graph.now (states_of table.now.states) table.now.rows.items least) (λ l. IsCounter graph.now l)) }
+{
+    if !rows_have(&table.rows, least) {
+        return Ok(None);
+    }
+    search_class(alloc, graph, table, least)
+}
+
+/// A lasso that doesn't progress, if there is a bad cycle.
+pub fn decide(
+    alloc: Global,
+    graph: &TraceGraph,
+    table: &Table,
+) -> Result<Option<Lasso>, OutOfMemory>
+    requires graph { IsGraph graph.now }
+    requires table { IsTable graph.now (states_of table.now.states) table.now.rows.items }
+    ensures { IfOk result (λ o. MatchOption o (BadCycle graph.now → ⊥) (λ l. IsCounter graph.now l)) }
+{
+    let found = decide_class(alloc, graph, table, Event::Nothing)?;
+    if found.is_some() {
+        return Ok(found);
+    }
+    for place in 0..32 {
+        let found = decide_class(alloc, graph, table, Event::Dies(place))?;
+        if found.is_some() {
+            return Ok(found);
+        }
+    }
+    Ok(None)
+}

@@ -1,0 +1,50 @@
+//! Whether every lasso of a trace graph progresses, decided on its product with age forests: the global condition of
+//! cyclic proofs as an inclusion of automata (Brotherston, Gorogiannis and Petersen 2012).
+#![tactic(auto)]
+
+mod decision;
+mod laws;
+mod product;
+mod ranks;
+mod system;
+
+ghost use Rattle.std.specs.Prelude.{IfOk};
+ghost use Rattle.trace_pairs.specs.Graph.{IsGraph};
+ghost use Rattle.buchi_inclusion.specs.Inclusion.{IsInclusion};
+
+pub use cyc_memory::OutOfMemory;
+use decision::decide;
+pub use laws::{answers_agree, descends, product_decides};
+use product::explore;
+use std::alloc::Global;
+pub use system::{Checked, check_system};
+use trace_pairs::{Lasso, TraceGraph};
+
+/// What is known of a graph: every lasso progresses; a lasso that doesn't; or that there are more product states than
+/// the limit. A product state is a node with an age forest; those count that a path from node 0 leads to.
+#[derive(Debug, Drop)]
+pub enum Inclusion {
+    Included,
+    Counter(Lasso),
+    TooManyStates,
+}
+
+/// Whether every lasso of the graph progresses, if there are at most `limit` product states. Which lasso is given where
+/// several don't progress is left open.
+pub fn included(alloc: Global, graph: &TraceGraph, limit: u32) -> Result<Inclusion, OutOfMemory>
+    requires graph { IsGraph graph.now }
+    ensures { IfOk result (IsInclusion graph.now limit) }
+{
+    let explored = explore(alloc, graph, limit)?;
+    let Some(table) = explored else {
+        return Ok(Inclusion::TooManyStates);
+    };
+    let counter = decide(alloc, graph, &table)?;
+    let Some(lasso) = counter else {
+        return Ok(Inclusion::Included);
+    };
+    Ok(Inclusion::Counter(lasso))
+}
+
+#[cfg(test)]
+mod tests;
