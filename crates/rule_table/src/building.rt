@@ -3,10 +3,10 @@ ghost use Rattle.std.specs.Prelude.{◌≡◌, ◌<◌, ◌≤◌, ◌∷◌, �
 ghost use Rattle.heap_formula.specs.Judgements.{antecedent as antecedent_of, with_antecedent as judgement_with};
 ghost use Rattle.heap_formula.specs.Positions.{without};
 ghost use Rattle.rule_table.specs.Answer.{one, two};
-ghost use Rattle.rule_table.specs.Table.{with_pures, with_pure};
+ghost use Rattle.rule_table.specs.Table.{with_pures, with_pure, with_right};
 
 use crate::pairing::pairs_of_same;
-use heap_formula::{Heap, Judgement, OutOfMemory, Premise, Pure, Spatial};
+use heap_formula::{Disjuncts, Heap, Judgement, OutOfMemory, Premise, Pure, Spatial};
 use std::alloc::Global;
 
 /// The antecedent, or the symbolic state.
@@ -135,4 +135,15 @@ pub fn with_pure_atom(
 {
     let pure = pure_atoms_and(alloc, antecedent(judgement).pure(), atom)?;
     with_pure_atoms(alloc, judgement, pure)
+}
+
+/// The entailment of one disjunct by a copy of the antecedent, each predicate atom being paired with itself.
+pub fn with_disjunct(alloc: Global, a: &Heap, b: Heap) -> Result<Premise, OutOfMemory>
+    ensures { IfOk result (λ p. p ≡ with_right a.now (b ∷ [])) }
+{
+    let pairs = pairs_of_same(alloc, a.spatial())?;
+    Ok(Premise {
+        judgement: Judgement::Entail(a.clone()?, Disjuncts::single(alloc, b)?),
+        pairs,
+    })
 }

@@ -1,11 +1,11 @@
 // Terms in place of others.
 ghost use Rattle.std.specs.Prelude.{◌≡◌, ◌+◌, ◌≤◌, ◌++◌, min, map, IfOk, OnOk, length, slice_index_or};
 ghost use Rattle.heap_formula.specs.declared.terms.Term.TheVariants.{Nil, Exist};
-ghost use Rattle.heap_formula.specs.Substitution.{in_pure, in_spatial};
+ghost use Rattle.heap_formula.specs.Substitution.{in_pure, in_spatial, in_heap};
 ghost use Rattle.rule_table.specs.Changes.{changed, IsSmall};
 ghost use Rattle.rule_table.specs.Table.{instance_term};
 
-use heap_formula::{Args, OutOfMemory, Pure, Spatial, Term};
+use heap_formula::{Args, Heap, OutOfMemory, Pure, Spatial, Term};
 use std::alloc::Global;
 
 /// Which terms stand for the variables of a formula.
@@ -137,4 +137,15 @@ pub fn changed_spatial_atoms(
     let mut all = Vec::new(alloc);
     push_changed_spatial(&mut all, change, atoms)?;
     Ok(all)
+}
+
+/// The heap with the change made.
+pub fn changed_heap(alloc: Global, change: &Change, heap: &Heap) -> Result<Heap, OutOfMemory>
+    requires { IsSmall change.now }
+    ensures { IfOk result (λ h. h ≡ in_heap (changed change.now) heap.now) }
+{
+    let mut pure = Vec::new(alloc);
+    push_changed_pure(&mut pure, change, heap.pure())?;
+    let spatial = changed_spatial_atoms(alloc, change, heap.spatial())?;
+    Ok(Heap::from_lists(pure, spatial))
 }

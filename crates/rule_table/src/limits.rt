@@ -3,7 +3,7 @@ ghost use Rattle.std.specs.Prelude.{◌≡◌, ◌≤◌, ◌<◌, true, ◌+◌
 ghost use Rattle.heap_formula.specs.Fresh.{fresh_number};
 ghost use Rattle.heap_formula.specs.Words.{max_of};
 ghost use Rattle.heap_formula.specs.declared.proof_rules.RuleFault.TheVariants.{NoFreshVariable};
-ghost use Rattle.rule_table.specs.Answer.{needs, every, is_short, has_numbers, each_heap, heaps_of, disjuncts, number_bound, terms_numbers, pure_numbers, spatial_numbers, heap_numbers};
+ghost use Rattle.rule_table.specs.Answer.{needs, every, is_short as short, has_numbers, each_heap, heaps_of, disjuncts, number_bound, terms_numbers, pure_numbers, spatial_numbers, heap_numbers};
 ghost use Rattle.rule_table.specs.Answered.{IsAnswer};
 ghost use Rattle.rule_table.specs.Table.{with_pure};
 ghost use Rattle.heap_formula.specs.Judgements.{antecedent};
@@ -123,18 +123,19 @@ pub fn numbered(premises: Vec<Premise>) -> Result<Vec<Premise>, RuleError>
     }
 }
 
-fn is_short_heap(most: u8, heap: &Heap) -> bool
-    ensures { result ≡ is_short most heap.now }
+/// Whether the heap has at most `most` spatial atoms, and at most 64 pure ones.
+pub fn is_short(most: u8, heap: &Heap) -> bool
+    ensures { result ≡ short most heap.now }
 {
     heap.pure().len() <= 64 && heap.spatial().len() <= most as usize
 }
 
 /// Whether each heap has at most `most` spatial atoms, and at most 64 pure ones.
 pub fn are_short(most: u8, heaps: &[Heap]) -> bool
-    ensures { result ≡ every (is_short most) heaps.now }
+    ensures { result ≡ every (short most) heaps.now }
 {
     for heap in heaps {
-        if !is_short_heap(most, heap) {
+        if !is_short(most, heap) {
             return false;
         }
     }
@@ -143,7 +144,7 @@ pub fn are_short(most: u8, heaps: &[Heap]) -> bool
 
 /// Whether each disjunct has at most `most` spatial atoms.
 pub fn are_disjuncts_short(most: u8, judgement: &Judgement) -> bool
-    ensures { result ≡ every (is_short most) (disjuncts judgement.now) }
+    ensures { result ≡ every (short most) (disjuncts judgement.now) }
 {
     match judgement {
         Judgement::Entail(_, bs) => are_short(most, bs.heaps()),
@@ -153,7 +154,7 @@ pub fn are_disjuncts_short(most: u8, judgement: &Judgement) -> bool
 
 /// Whether one more pure atom on the left keeps the limits.
 pub fn has_room(judgement: &Judgement) -> bool
-    ensures each { (x : Pure) → result ≡ every (is_short 32) (heaps_of (with_pure judgement.now x).judgement) }
+    ensures each { (x : Pure) → result ≡ every (short 32) (heaps_of (with_pure judgement.now x).judgement) }
     ensures room { result ≡ true → length (antecedent judgement.now).pure < 64 }
 {
     match judgement {

@@ -1,0 +1,4 @@
+pub mod JoinedNumbers
+pub mod UnfoldLimits
+pub mod RightLimits
+pub mod CutLimits
