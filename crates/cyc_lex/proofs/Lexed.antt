@@ -1,5 +1,5 @@
 -- What the loop over a text's pieces keeps.
-use Rattle.std.proofs.Common.{◌≡◌, ℕ, ◌-◌, ◌^◌, ◌<◌, Bool, true, false, cond, List, [], ◌∷◌, ◌++◌, length, take, Result, Ok, Err, refl, sym, ap, subst, ◌∙◌, arith, zero, suc}
+use Rattle.std.proofs.Common.{◌≡◌, ℕ, ◌-◌, ◌^◌, ◌<◌, Bool, true, false, cond, List, [], ◌∷◌, ◌++◌, length, take, Result, Ok, Err, refl, sym, ap, subst, ◌∙◌, arith}
 use Rattle.std.specs.Prelude.{map, nat_lt}
 use Rattle.std.specs.Str.{chars, encode_utf8_all, IsUtf8}
 use Rattle.std.proofs.lemmas.Str.{encodes-chars, chars-nil}
@@ -19,7 +19,6 @@ use Rattle.cyc_lex.specs.declared.place.Bad.{Bad}
 use Rattle.cyc_lex.specs.declared.place.Bad.TheVariants as bads
 use Rattle.cyc_lex.specs.declared.place.Stop.{Stop}
 use Rattle.cyc_lex.specs.declared.place.Stop.TheVariants as stops
-use Rattle.cyc_lex.specs.Word.{Word, word_of}
 use Rattle.cyc_lex.specs.Placed.{Placed, placed}
 use Rattle.cyc_lex.specs.Lexing.{start, pass, pass_all, piece_at, piece_of, piece_chars, piece_rest, HasRoom, token_at, with_token, with_tokens, taken, ended, lex, len_fault, Stops, tokens_of}
 use Rattle.cyc_lex.proofs.Pieces.{skip}

@@ -1,4 +1,4 @@
-pub mod Tests
+pub mod BoolParts
 pub mod Pieces
 pub mod Lexed
 pub mod LaidOut
@@ -7,3 +7,4 @@ pub mod Symbols
 pub mod Lexemes
 pub mod TokenLaws
 pub mod WritingLaws
+pub mod Letters

@@ -1,19 +1,18 @@
 -- Each symbol may be written.
-use Rattle.std.proofs.Common.{◌≡◌, ℕ, ◌<◌, Bool, true, false, ◌&&◌, not, List, [], ◌∷◌, ◌++◌, length, refl, sym, ap, subst, ◌∙◌, lit<, inl, inr}
-use Rattle.std.specs.Prelude.{codes, ◌==◌, nat_lt, slice_index}
-use Rattle.std.specs.Str.{bytes_eq, encode_utf8_all, all_scalars}
+use Rattle.std.proofs.Common.{◌≡◌, ℕ, ◌<◌, Bool, true, false, ◌&&◌, not, List, [], ◌∷◌, ◌++◌, refl, sym, ap, subst, ◌∙◌, lit<, inl, inr}
+use Rattle.std.specs.Prelude.{codes, ◌==◌, slice_index}
+use Rattle.std.specs.Str.{bytes_eq}
 use Rattle.std.specs.List.{list_any}
 use Rattle.std.specs.Char.{is_ascii_digit, is_ascii_alphabetic}
 use Rattle.std.proofs.lemmas.Str.{encode_ascii}
 use Rattle.std.proofs.lemmas.Slice.Eq.{bytes_eq-Decides}
-use Rattle.std.proofs.Common.{ltb-true}
 use lib.Utf8.{scalar, encode}
 use Rattle.unicode_ident.proofs.IdentLemmas.{is_xid_start-ascii}
 use Rattle.cyc_lex.specs.declared.token.Kind.TheVariants.{Symbol}
-use Rattle.cyc_lex.specs.Characters.{is_space, starts_name, is_double, is_single, symbols}
-use Rattle.cyc_lex.specs.Word.{Word, is_symbol, is_symbol_text}
+use Rattle.cyc_lex.specs.Characters.{is_space, is_double, is_single, symbols}
+use Rattle.cyc_lex.specs.Word.{Word, is_symbol_text}
 use Rattle.cyc_lex.specs.Spacing.{is_text, closes_up, is_closed_up}
-use Rattle.cyc_lex.proofs.Tests.{and-parts, or-parts}
+use Rattle.cyc_lex.proofs.BoolParts.{and-parts, or-parts}
 use Rattle.cyc_lex.proofs.LaidOut.{NotJoined}
 use Rattle.cyc_lex.proofs.Written.{IsCloser, closer-cases, IsWritten}
 
@@ -137,28 +136,67 @@ one-of P (t ∷ ts) s all h = elim (or-parts (bytes_eq s t) (list_any (bytes_eq 
 ]
 
 all-written : Each (λ s. IsWritten (symbol s)) symbols
-all-written =
-    (double-written 124 45 (lit< tt) (lit< tt) refl refl refl refl refl refl refl refl refl refl refl,
-    (double-written 45 62 (lit< tt) (lit< tt) refl refl refl refl refl refl refl refl refl refl refl,
-    (double-written 58 61 (lit< tt) (lit< tt) refl refl refl refl refl refl refl refl refl refl refl,
-    (double-written 33 61 (lit< tt) (lit< tt) refl refl refl refl refl refl refl refl refl refl refl,
-    (single-written 40 (lit< tt) refl (λ h v. refl) (λ h. absurd cc) (λ h. refl),
-    (single-written 41 (lit< tt) refl (λ h. absurd cc) (λ h. refl) (λ h. absurd cc),
-    (single-written 123 (lit< tt) refl (λ h. absurd cc) (λ h. absurd cc) (λ h. absurd cc),
-    (single-written 125 (lit< tt) refl (λ h. absurd cc) (λ h. absurd cc) (λ h. absurd cc),
-    (single-written 91 (lit< tt) refl (λ h v. refl) (λ h. absurd cc) (λ h. absurd cc),
-    (single-written 93 (lit< tt) refl (λ h. absurd cc) (λ h. refl) (λ h. absurd cc),
-    (single-written 44 (lit< tt) refl (λ h. absurd cc) (λ h. refl) (λ h. absurd cc),
-    (single-written 59 (lit< tt) refl (λ h. absurd cc) (λ h. refl) (λ h. absurd cc),
-    (single-written 58 (lit< tt) refl (λ h. absurd cc) (λ h. absurd cc) (λ h. absurd cc),
-    (single-written 42 (lit< tt) refl (λ h. absurd cc) (λ h. absurd cc) (λ h. absurd cc),
-    (single-written 61 (lit< tt) refl (λ h. absurd cc) (λ h. absurd cc) (λ h. absurd cc),
-    (single-written 124 (lit< tt) refl (λ h. absurd cc) (λ h. absurd cc) (λ h. absurd cc),
-    (single-written 46 (lit< tt) refl (λ h v. refl) (λ h. refl) (λ h. absurd cc),
-    (single-written 36 (lit< tt) refl (λ h v. refl) (λ h. absurd cc) (λ h. absurd cc),
-    (single-written 63 (lit< tt) refl (λ h v. refl) (λ h. absurd cc) (λ h. absurd cc),
-    (single-written 39 (lit< tt) refl (λ h. absurd cc) (λ h. absurd cc) (λ h. absurd cc),
-    tt))))))))))))))))))))
+all-written = (
+  double-written 124 45 (lit< tt) (lit< tt) refl refl refl refl refl refl refl refl refl refl refl,
+  (
+    double-written 45 62 (lit< tt) (lit< tt) refl refl refl refl refl refl refl refl refl refl refl,
+    (
+      double-written 58 61 (lit< tt) (lit< tt) refl refl refl refl refl refl refl refl refl refl refl,
+      (
+        double-written 33 61 (lit< tt) (lit< tt) refl refl refl refl refl refl refl refl refl refl refl,
+        (
+          single-written 40 (lit< tt) refl (λ h v. refl) (λ h. absurd cc) (λ h. refl),
+          (
+            single-written 41 (lit< tt) refl (λ h. absurd cc) (λ h. refl) (λ h. absurd cc),
+            (
+              single-written 123 (lit< tt) refl (λ h. absurd cc) (λ h. absurd cc) (λ h. absurd cc),
+              (
+                single-written 125 (lit< tt) refl (λ h. absurd cc) (λ h. absurd cc) (λ h. absurd cc),
+                (
+                  single-written 91 (lit< tt) refl (λ h v. refl) (λ h. absurd cc) (λ h. absurd cc),
+                  (
+                    single-written 93 (lit< tt) refl (λ h. absurd cc) (λ h. refl) (λ h. absurd cc),
+                    (
+                      single-written 44 (lit< tt) refl (λ h. absurd cc) (λ h. refl) (λ h. absurd cc),
+                      (
+                        single-written 59 (lit< tt) refl (λ h. absurd cc) (λ h. refl) (λ h. absurd cc),
+                        (
+                          single-written 58 (lit< tt) refl (λ h. absurd cc) (λ h. absurd cc) (λ h. absurd cc),
+                          (
+                            single-written 42 (lit< tt) refl (λ h. absurd cc) (λ h. absurd cc) (λ h. absurd cc),
+                            (
+                              single-written 61 (lit< tt) refl (λ h. absurd cc) (λ h. absurd cc) (λ h. absurd cc),
+                              (
+                                single-written 124 (lit< tt) refl (λ h. absurd cc) (λ h. absurd cc) (λ h. absurd cc),
+                                (
+                                  single-written 46 (lit< tt) refl (λ h v. refl) (λ h. refl) (λ h. absurd cc),
+                                  (
+                                    single-written 36 (lit< tt) refl (λ h v. refl) (λ h. absurd cc) (λ h. absurd cc),
+                                    (
+                                      single-written 63 (lit< tt) refl (λ h v. refl) (λ h. absurd cc) (λ h. absurd cc),
+                                      (
+                                        single-written 39 (lit< tt) refl (λ h. absurd cc) (λ h. absurd cc) (λ h. absurd cc),
+                                        tt,
+                                      ),
+                                    ),
+                                  ),
+                                ),
+                              ),
+                            ),
+                          ),
+                        ),
+                      ),
+                    ),
+                  ),
+                ),
+              ),
+            ),
+          ),
+        ),
+      ),
+    ),
+  ),
+)
 
 pub symbol-written : (s : List ℕ) → is_symbol_text s ≡ true → IsWritten (symbol s)
 unfolding is_symbol_text

@@ -2,12 +2,11 @@
 use Rattle.std.proofs.Common.{◌≡◌, ℕ, zero, suc, ◌+◌, ◌≤◌, ◌<◌, Bool, true, false, cond, ◌&&◌, ◌||◌, List, [], ◌∷◌, ◌++◌, length, take, drop, Result, Ok, Err, refl, sym, ap, subst, ◌∙◌, arith, inl, inr, ◌⊎◌, eqb-true, lt-ltb, append_assoc, length-append}
 use Rattle.std.specs.Prelude.{map, IfOk, nat_lt, nat_le, ◌==◌, slice_index}
 use Rattle.std.specs.Str.{chars, encode_utf8_all, all_scalars, IsUtf8, is_utf8}
-use Rattle.std.specs.Str.Lossy.{utf8_valid_len}
 use Rattle.std.specs.Char.{is_ascii_digit, encode_utf8}
 use Rattle.std.specs.List.{list_all, list_any, prefix_len}
 use lib.Utf8.{scalar, encode}
 use Rattle.std.proofs.lemmas.Str.{chars-encodes, encodes-append, encodes-chars, scalars-chars, is_utf8-from_IsUtf8, length-encode, len_utf8_bounds}
-use Rattle.std.proofs.lemmas.List.{append-nil, take_all, take_at, drop_at, take-append-drop}
+use Rattle.std.proofs.lemmas.List.{append-nil, take_at, drop_at, take-append-drop}
 use Rattle.std.proofs.lemmas.Bool.Decides.{nat_tests}
 use Rattle.unicode_ident.specs.Ident.{is_xid_continue}
 use Rattle.cyc_lex.specs.declared.token.Kind.{Kind}
@@ -19,15 +18,14 @@ use Rattle.cyc_lex.specs.declared.place.Piece.TheVariants as pieces
 use Rattle.cyc_lex.specs.declared.place.Bad.{Bad}
 use Rattle.cyc_lex.specs.declared.place.Bad.TheVariants as bads
 use Rattle.cyc_lex.specs.declared.place.Stop.{Stop}
-use Rattle.cyc_lex.specs.declared.place.Stop.TheVariants as stops
 use Rattle.cyc_lex.specs.Placed.{Placed}
 use Rattle.cyc_lex.specs.Characters.{is_space, starts_name, goes_on, is_double, is_single}
-use Rattle.cyc_lex.specs.Word.{Word, word_of, end_word, is_identifier, is_name_text, is_number_text, is_symbol_text, is_lexeme, are_lexemes, EndsOnce}
-use Rattle.cyc_lex.specs.Lexing.{start, pass, pass_all, piece_at, token_at, with_token, taken, ended, lex, len_fault, Lexes}
+use Rattle.cyc_lex.specs.Word.{Word, word_of, is_identifier, is_name_text, is_number_text, is_symbol_text, is_lexeme, EndsOnce}
+use Rattle.cyc_lex.specs.Lexing.{start, pass, pass_all, piece_at, token_at, with_token, taken, lex, len_fault, Lexes}
 use Rattle.cyc_lex.specs.Slices.{place_at, IsSlice, AreSlices, AreTokens}
-use Rattle.cyc_lex.proofs.Tests.{and-parts, or-parts}
+use Rattle.cyc_lex.proofs.BoolParts.{and-parts, or-parts}
 use Rattle.cyc_lex.proofs.Pieces.{pass_all-append, pass_all-one, scalars-parts}
-use Rattle.cyc_lex.proofs.Lexed.{Found, whole-text}
+use Rattle.cyc_lex.proofs.Lexed.{Found}
 use Rattle.cyc_lex.proofs.Lexemes.{digits-encode}
 
 abbrev pub found : List Placed → Found

@@ -1,12 +1,11 @@
 -- Words that are written one by one make the text of all of them.
-use Rattle.std.proofs.Common.{◌≡◌, ℕ, Bool, true, false, ◌&&◌, ◌||◌, cond, not, List, [], ◌∷◌, ◌++◌, refl, sym, ap, ◌∙◌, append_assoc}
+use Rattle.std.proofs.Common.{◌≡◌, ℕ, Bool, true, false, ◌&&◌, ◌||◌, cond, not, List, [], ◌∷◌, ◌++◌, refl, ap, ◌∙◌, append_assoc}
 use Rattle.std.specs.Prelude.{codes}
-use Rattle.std.proofs.lemmas.List.{append-nil}
 use Rattle.cyc_lex.specs.declared.writer.Last.{Last}
 use Rattle.cyc_lex.specs.declared.writer.Last.TheVariants as lasts
 use Rattle.cyc_lex.specs.Word.{Word, is_name, is_symbol}
 use Rattle.cyc_lex.specs.Spacing.{is_text, closes_up, is_closed_up, ends_line, gap, text_behind, text_of}
-use Rattle.cyc_lex.specs.Writing.{Written, blank, last_of, is_spaced, space_before, feed_behind, write, write_all}
+use Rattle.cyc_lex.specs.Writing.{Written, blank, last_of, space_before, feed_behind, write, write_all}
 
 pub write_all-append : (s : Written) (xs ys : List Word) → write_all s (xs ++ ys) ≡ write_all (write_all s xs) ys
 unfolding write_all

@@ -88,7 +88,11 @@ pub enum ReadFault {
     Lex(LexFault),
     /// The first token that, with all before it, begins no text of the grammar.
     #[error("syntax at token {token}, line {line}, column {column}")]
-    Syntax { token: u32, line: u32, column: u32 },
+    Syntax {
+        token: u32,
+        line: u32,
+        column: u32,
+    },
     #[error("{fault} at token {token}, line {line}, column {column}")]
     IllFormed {
         fault: IllFault,

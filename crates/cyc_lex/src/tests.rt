@@ -46,14 +46,35 @@ fn finds_first_bad_place(rt: HostRuntime) {
     assert_eq!(rt; fault(alloc, b"a!"), bad_byte(1, 1, 2));
     assert_eq!(rt; fault(alloc, b"\xff"), bad_utf8(0, 1, 1));
     assert_eq!(rt; fault(alloc, b"1234567890"), long_number);
-    assert_eq!(rt; fault(alloc, b"aaaaaaaaaaaaaaaaaaaaaaaaaaaaaaaaaaaaaaaaaaaaaaaaaaaaaaaaaaaaaaaaa"), long_name);
-    assert_eq!(rt; fault(alloc, b"aaaaaaaaaaaaaaaaaaaaaaaaaaaaaaaaaaaaaaaaaaaaaaaaaaaaaaaaaaaaaaaa\xff"), bad_utf8(64, 1, 65));
-    assert_eq!(rt; fault(alloc, b"aaaaaaaaaaaaaaaaaaaaaaaaaaaaaaaaaaaaaaaaaaaaaaaaaaaaaaaaaaaaaaaaa\xff"), long_name);
+    assert_eq!(rt;
+        fault(
+            alloc,
+            b"aaaaaaaaaaaaaaaaaaaaaaaaaaaaaaaaaaaaaaaaaaaaaaaaaaaaaaaaaaaaaaaaa"
+        ),
+        long_name
+    );
+    assert_eq!(rt;
+        fault(
+            alloc,
+            b"aaaaaaaaaaaaaaaaaaaaaaaaaaaaaaaaaaaaaaaaaaaaaaaaaaaaaaaaaaaaaaaa\xff"
+        ),
+        bad_utf8(64, 1, 65)
+    );
+    assert_eq!(rt;
+        fault(
+            alloc,
+            b"aaaaaaaaaaaaaaaaaaaaaaaaaaaaaaaaaaaaaaaaaaaaaaaaaaaaaaaaaaaaaaaaa\xff"
+        ),
+        long_name
+    );
     assert_eq!(rt; fault(alloc, b"\xef\xbb\xbfa"), bad_byte(0, 1, 1));
     assert_eq!(rt; fault(alloc, b"a \0"), bad_byte(2, 1, 3));
     assert_eq!(rt; fault(alloc, b"\r\n\x0b"), bad_byte(2, 2, 1));
     assert_eq!(rt; fault(alloc, b"\r-"), bad_byte(1, 1, 2));
-    assert_eq!(rt; fault(alloc, b"# \xc3\xa9\n\xc3\xa9 ! ="), bad_byte(8, 2, 3));
+    assert_eq!(rt;
+        fault(alloc, b"# \xc3\xa9\n\xc3\xa9 ! ="),
+        bad_byte(8, 2, 3)
+    );
     assert_eq!(rt; fault(alloc, b"# \xc3"), bad_utf8(2, 1, 3));
     assert_eq!(rt; fault(alloc, b"a |-b != ->:= # !"), None);
 }
@@ -66,7 +87,10 @@ fn cuts_small_texts(rt: HostRuntime) -> Result<(), Fail> {
         Err(_) => return Err(Fail::from("refused")),
         Ok(list) => match list.as_slice() {
             [number, name, end] => {
-                assert_eq!(rt; (number.kind, number.text, number.column), (Kind::Number, "12", 1));
+                assert_eq!(rt;
+                    (number.kind, number.text, number.column),
+                    (Kind::Number, "12", 1)
+                );
                 assert_eq!(rt; (name.kind, name.text, name.column), (Kind::Name, "ab", 3));
                 assert_eq!(rt; (end.kind, end.text, end.column), (Kind::End, "", 5));
             }

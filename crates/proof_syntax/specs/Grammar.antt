@@ -1,0 +1,469 @@
+-- The grammar of proof files.
+use Rattle.std.specs.Prelude.{ℕ, ◌<◌, Bool, true, false, List, [], ◌∷◌, ◌⊎◌, codes, length}
+use Rattle.std.proofs.Common.{inl, inr}
+use Rattle.cyc_grammar.specs.Syntax.{Syntax, Class, one, seq, alt, many, shaped, after, before, headed, nothing, is_one, uncons, list1, or_empty}
+use Rattle.cyc_grammar.specs.Classes.{symbol, keyword, numeral, the_end, number, name, keyword_of}
+use Rattle.proof_syntax.specs.declared.tree.TermTree.{TermTree}
+use Rattle.proof_syntax.specs.declared.tree.TermTree.TheVariants.{Nil, Univ, Exist}
+use Rattle.proof_syntax.specs.declared.tree.PureTree.{PureTree}
+use Rattle.proof_syntax.specs.declared.tree.SideTree.{SideTree}
+use Rattle.proof_syntax.specs.declared.tree.SideTree.TheVariants.{Left}
+use Rattle.proof_syntax.specs.declared.tree.PairTree.{PairTree}
+use Rattle.proof_syntax.specs.declared.reason_word.ReasonWord.{ReasonWord}
+use Rattle.proof_syntax.specs.declared.reason_word.ReasonWord.TheVariants as words
+use Rattle.proof_syntax.specs.ReasonWords.{reason_text, reason_words, side_text, sides}
+use Rattle.proof_syntax.specs.Trees.{Spatial, Cell, Predicate, Heap, Definition, Entailment, LinkData, Reason, Absurd, Rewrite, Split, Distinct, Weaken, Unfold, Cut, Done, Choose, PureRight, Instantiate, Frame, UnfoldRight, Link, Node, File}
+
+-- every value has a text
+abbrev pub Any : {A : Type 0} → A → Type 0
+Any x = Unit {0}
+
+-- ---- words
+
+abbrev pub nil : Class (Unit {0})
+nil = keyword (codes "nil")
+
+abbrev pub true_word : Class (Unit {0})
+true_word = keyword (codes "true")
+
+abbrev pub emp : Class (Unit {0})
+emp = keyword (codes "emp")
+
+abbrev pub pred_word : Class (Unit {0})
+pred_word = keyword (codes "pred")
+
+abbrev pub node_word : Class (Unit {0})
+node_word = keyword (codes "node")
+
+abbrev pub or_word : Class (Unit {0})
+or_word = keyword (codes "or")
+
+abbrev pub by_word : Class (Unit {0})
+by_word = keyword (codes "by")
+
+abbrev pub to_word : Class (Unit {0})
+to_word = keyword (codes "to")
+
+abbrev pub last_word : Class (Unit {0})
+last_word = keyword (codes "end")
+
+abbrev pub cyclist_word : Class (Unit {0})
+cyclist_word = keyword (codes "cyclist")
+
+abbrev pub proof_word : Class (Unit {0})
+proof_word = keyword (codes "proof")
+
+abbrev pub version : Class (Unit {0})
+version = numeral (codes "1")
+
+abbrev pub dollar : Class (Unit {0})
+dollar = symbol (codes "$")
+
+abbrev pub query : Class (Unit {0})
+query = symbol (codes "?")
+
+abbrev pub equal : Class (Unit {0})
+equal = symbol (codes "=")
+
+abbrev pub unequal : Class (Unit {0})
+unequal = symbol (codes "!=")
+
+abbrev pub comma : Class (Unit {0})
+comma = symbol (codes ",")
+
+abbrev pub colon : Class (Unit {0})
+colon = symbol (codes ":")
+
+abbrev pub semicolon : Class (Unit {0})
+semicolon = symbol (codes ";")
+
+abbrev pub star : Class (Unit {0})
+star = symbol (codes "*")
+
+abbrev pub bar : Class (Unit {0})
+bar = symbol (codes "|")
+
+abbrev pub arrow : Class (Unit {0})
+arrow = symbol (codes "->")
+
+abbrev pub assign : Class (Unit {0})
+assign = symbol (codes ":=")
+
+abbrev pub turnstile : Class (Unit {0})
+turnstile = symbol (codes "|-")
+
+abbrev pub opening : Class (Unit {0})
+opening = symbol (codes "(")
+
+abbrev pub closing : Class (Unit {0})
+closing = symbol (codes ")")
+
+abbrev pub opening_brace : Class (Unit {0})
+opening_brace = symbol (codes "{")
+
+abbrev pub closing_brace : Class (Unit {0})
+closing_brace = symbol (codes "}")
+
+abbrev pub opening_bracket : Class (Unit {0})
+opening_bracket = symbol (codes "[")
+
+abbrev pub closing_bracket : Class (Unit {0})
+closing_bracket = symbol (codes "]")
+
+-- the words that are no names
+abbrev pub reserved : List (List ℕ)
+reserved = codes "true" ∷ codes "emp" ∷ codes "nil" ∷ codes "pred" ∷ codes "line" ∷ codes "node" ∷ codes "by" ∷ codes "to" ∷ codes "end" ∷ codes "from" ∷ codes "given" ∷ codes "or" ∷ codes "goal" ∷ codes "if" ∷ codes "goto" ∷ codes "new" ∷ codes "free" ∷ codes "stop" ∷ []
+
+abbrev pub free_name : Class (List ℕ)
+free_name = name reserved
+
+-- ---- term = "nil" | "$" number | "?" number
+
+abbrev pub to_term : Unit {0} ⊎ (ℕ ⊎ ℕ) → TermTree
+to_term (inl u) = Nil
+to_term (inr (inl n)) = Univ n
+to_term (inr (inr n)) = Exist n
+
+abbrev pub from_term : TermTree → Unit {0} ⊎ (ℕ ⊎ ℕ)
+from_term Nil = inl tt
+from_term (Univ n) = inr (inl n)
+from_term (Exist n) = inr (inr n)
+
+unfoldable pub term : Syntax TermTree
+term = shaped {A = Unit {0} ⊎ (ℕ ⊎ ℕ)} to_term from_term Any (alt (is_one nil) (one nil) (alt (is_one dollar) (after dollar (one number)) (after query (one number))))
+
+-- ---- uterm = "nil" | "$" number
+
+abbrev pub to_uterm : Unit {0} ⊎ ℕ → TermTree
+to_uterm (inl u) = Nil
+to_uterm (inr n) = Univ n
+
+abbrev pub from_uterm : TermTree → Unit {0} ⊎ ℕ
+from_uterm Nil = inl tt
+from_uterm (Univ n) = inr n
+from_uterm (Exist n) = inl tt
+
+abbrev pub IsUniversal : TermTree → Type 0
+IsUniversal Nil = Unit {0}
+IsUniversal (Univ n) = Unit {0}
+IsUniversal (Exist n) = ⊥
+
+unfoldable pub uterm : Syntax TermTree
+uterm = shaped {A = Unit {0} ⊎ ℕ} to_uterm from_uterm IsUniversal (alt (is_one nil) (one nil) (after dollar (one number)))
+
+-- the terms of an antecedent, and those of a succedent, a case or a formula
+unfoldable pub terms : Bool → Syntax TermTree
+terms true = uterm
+terms false = term
+
+-- ---- pure = term ( "=" | "!=" ) term
+
+abbrev pub to_sign : Unit {0} ⊎ Unit {0} → Bool
+to_sign (inl u) = true
+to_sign (inr u) = false
+
+abbrev pub from_sign : Bool → Unit {0} ⊎ Unit {0}
+from_sign true = inl tt
+from_sign false = inr tt
+
+unfoldable pub sign : Syntax Bool
+sign = shaped {A = Unit {0} ⊎ Unit {0}} to_sign from_sign Any (alt (is_one equal) (one equal) (one unequal))
+
+abbrev pub to_pure : TermTree × (Bool × TermTree) → PureTree
+to_pure p = record { left = p.0; is_equation = p.1.0; right = p.1.1 }
+
+abbrev pub from_pure : PureTree → TermTree × (Bool × TermTree)
+from_pure p = (p.left, (p.is_equation, p.right))
+
+unfoldable pub pure : Syntax TermTree → Syntax PureTree
+pure t = shaped {A = TermTree × (Bool × TermTree)} to_pure from_pure Any (seq t (seq sign t))
+
+-- ---- pures = "true" | pure { "," pure }
+
+abbrev pub some_pure : PureTree
+some_pure = record { left = Nil; is_equation = true; right = Nil }
+
+unfoldable pub pures1 : Syntax TermTree → Syntax (List PureTree)
+pures1 t = list1 some_pure comma (pure t)
+
+unfoldable pub pures : Syntax TermTree → Syntax (List PureTree)
+pures t = or_empty true_word (pures1 t)
+
+-- ---- spat = term "->" "(" term { "," term } ")" | name "(" [ term { "," term } ] ")"
+
+-- what stands behind the opening parenthesis
+unfoldable pub fields : Syntax TermTree → Syntax (List TermTree)
+fields t = before (list1 Nil comma t) closing
+
+unfoldable pub arguments : Syntax TermTree → Syntax (List TermTree)
+arguments t = or_empty closing (fields t)
+
+abbrev pub to_spatial : (List ℕ × List TermTree) ⊎ (TermTree × List TermTree) → Spatial
+to_spatial (inl p) = Predicate p.0 p.1
+to_spatial (inr c) = Cell c.0 c.1
+
+abbrev pub from_spatial : Spatial → (List ℕ × List TermTree) ⊎ (TermTree × List TermTree)
+from_spatial (Predicate s ts) = inl (s, ts)
+from_spatial (Cell t ts) = inr (t, ts)
+
+unfoldable pub predicate : Syntax TermTree → Syntax (List ℕ × List TermTree)
+predicate t = seq (one free_name) (after opening (arguments t))
+
+unfoldable pub cell : Syntax TermTree → Syntax (TermTree × List TermTree)
+cell t = seq t (after arrow (after opening (fields t)))
+
+unfoldable pub spatial : Syntax TermTree → Syntax Spatial
+spatial t = shaped {A = (List ℕ × List TermTree) ⊎ (TermTree × List TermTree)} to_spatial from_spatial Any (alt (is_one free_name) (predicate t) (cell t))
+
+-- ---- spats = "emp" | spat { "*" spat }
+
+abbrev pub some_spatial : Spatial
+some_spatial = Cell Nil (Nil ∷ [])
+
+unfoldable pub spatials1 : Syntax TermTree → Syntax (List Spatial)
+spatials1 t = list1 some_spatial star (spatial t)
+
+unfoldable pub spatials : Syntax TermTree → Syntax (List Spatial)
+spatials t = or_empty emp (spatials1 t)
+
+-- ---- heap = pures ":" spats
+
+abbrev pub to_heap : List PureTree × List Spatial → Heap
+to_heap p = record { pure = p.0; spatial = p.1 }
+
+abbrev pub from_heap : Heap → List PureTree × List Spatial
+from_heap h = (h.pure, h.spatial)
+
+unfoldable pub heap : Syntax TermTree → Syntax Heap
+heap t = shaped {A = List PureTree × List Spatial} to_heap from_heap Any (seq (pures t) (after colon (spatials t)))
+
+-- one heap or more, with a word between neighbours, and a word behind the last
+
+abbrev pub some_heap : Heap
+some_heap = record { pure = []; spatial = [] }
+
+abbrev pub cons : {A : Type 0} → A × List A → List A
+cons p = p.0 ∷ p.1
+
+abbrev pub IsSome : {A : Type 0} → List A → Type 0
+IsSome xs = 0 < length xs
+
+abbrev pub more_heaps : Class (Unit {0}) → Syntax (List Heap)
+more_heaps between = many (is_one between) (after between (heap (terms false)))
+
+unfoldable pub heaps : Class (Unit {0}) → Class (Unit {0}) → Syntax (List Heap)
+heaps between behind = shaped {A = Heap × List Heap} cons (uncons some_heap) IsSome (seq (heap (terms false)) (before (more_heaps between) behind))
+
+-- ---- pred = "pred" name "(" number ")" "{" heap { "|" heap } "}" ";"
+
+abbrev pub to_definition : List ℕ × (ℕ × List Heap) → Definition
+to_definition p = record { name = p.0; arity = p.1.0; cases = p.1.1 }
+
+abbrev pub from_definition : Definition → List ℕ × (ℕ × List Heap)
+from_definition d = (d.name, (d.arity, d.cases))
+
+unfoldable pub cases : Syntax (List Heap)
+cases = heaps bar closing_brace
+
+unfoldable pub definition : Syntax Definition
+definition = shaped {A = List ℕ × (ℕ × List Heap)} to_definition from_definition Any (after pred_word (seq (one free_name) (after opening (seq (one number) (after closing (after opening_brace (before cases semicolon)))))))
+
+-- ---- judgement = uheap "|-" heap { "or" heap }, and "by" behind it
+
+abbrev pub to_entailment : Heap × List Heap → Entailment
+to_entailment p = record { antecedent = p.0; disjuncts = p.1 }
+
+abbrev pub from_entailment : Entailment → Heap × List Heap
+from_entailment e = (e.antecedent, e.disjuncts)
+
+unfoldable pub disjuncts : Syntax (List Heap)
+disjuncts = heaps or_word by_word
+
+unfoldable pub judgement : Syntax Entailment
+judgement = shaped {A = Heap × List Heap} to_entailment from_entailment Any (seq (heap (terms true)) (after turnstile disjuncts))
+
+-- ---- the parts of a reason
+
+unfoldable pub numbers : Syntax (List ℕ)
+numbers = many (is_one number) (one number)
+
+-- "[" { number } "]"
+unfoldable pub bracketed : Syntax (List ℕ)
+bracketed = after opening_bracket (before numbers closing_bracket)
+
+unfoldable pub two_numbers : Syntax (ℕ × ℕ)
+two_numbers = seq (one number) (one number)
+
+unfoldable pub side : Syntax SideTree
+side = one (keyword_of side_text sides)
+
+-- number ( "left" | "right" )
+unfoldable pub rewrite : Syntax (ℕ × SideTree)
+rewrite = seq (one number) side
+
+unfoldable pub split : Syntax (TermTree × TermTree)
+split = seq uterm uterm
+
+-- "[" { number } "]" heap
+unfoldable pub cut : Syntax (List ℕ × Heap)
+cut = seq bracketed (heap (terms false))
+
+-- "?" number uterm
+unfoldable pub instantiate : Syntax (ℕ × TermTree)
+instantiate = after query (seq (one number) uterm)
+
+-- uvar ":=" uterm
+abbrev pub to_pair : ℕ × TermTree → PairTree
+to_pair p = record { variable = p.0; value = p.1 }
+
+abbrev pub from_pair : PairTree → ℕ × TermTree
+from_pair p = (p.variable, p.value)
+
+unfoldable pub pair : Syntax PairTree
+pair = shaped {A = ℕ × TermTree} to_pair from_pair Any (after dollar (seq (one number) (after assign uterm)))
+
+abbrev pub some_pair : PairTree
+some_pair = record { variable = 0; value = Nil }
+
+-- [ pair { "," pair } ] "}"
+unfoldable pub pairs1 : Syntax (List PairTree)
+pairs1 = before (list1 some_pair comma pair) closing_brace
+
+unfoldable pub pairs : Syntax (List PairTree)
+pairs = or_empty closing_brace pairs1
+
+-- number "{" pairs "[" { number } "]" "[" { number } "]"
+abbrev pub to_link : ℕ × (List PairTree × (List ℕ × List ℕ)) → LinkData
+to_link p = record { target = p.0; substitution = p.1.0; mapped = p.1.1.0; disjuncts = p.1.1.1 }
+
+abbrev pub from_link : LinkData → ℕ × (List PairTree × (List ℕ × List ℕ))
+from_link l = (l.target, (l.substitution, (l.mapped, l.disjuncts)))
+
+unfoldable pub link : Syntax LinkData
+link = shaped {A = ℕ × (List PairTree × (List ℕ × List ℕ))} to_link from_link Any (seq (one number) (after opening_brace (seq pairs (seq bracketed bracketed))))
+
+-- ---- reason: a rule's word, and what this rule has behind it
+
+abbrev pub Parts : ReasonWord → Type 0
+Parts words.Absurd = Unit {0}
+Parts words.Rewrite = ℕ × SideTree
+Parts words.Split = TermTree × TermTree
+Parts words.Distinct = ℕ × ℕ
+Parts words.Weaken = ℕ
+Parts words.Unfold = ℕ
+Parts words.Cut = List ℕ × Heap
+Parts words.Done = Unit {0}
+Parts words.Choose = ℕ
+Parts words.PureRight = ℕ
+Parts words.Instantiate = ℕ × TermTree
+Parts words.Frame = ℕ × ℕ
+Parts words.UnfoldRight = ℕ × ℕ
+Parts words.Link = LinkData
+
+unfoldable pub parts : (w : ReasonWord) → Syntax (Parts w)
+parts words.Absurd = nothing
+parts words.Rewrite = rewrite
+parts words.Split = split
+parts words.Distinct = two_numbers
+parts words.Weaken = one number
+parts words.Unfold = one number
+parts words.Cut = cut
+parts words.Done = nothing
+parts words.Choose = one number
+parts words.PureRight = one number
+parts words.Instantiate = instantiate
+parts words.Frame = two_numbers
+parts words.UnfoldRight = two_numbers
+parts words.Link = link
+
+abbrev pub made_of : (w : ReasonWord) → Parts w → Reason
+made_of words.Absurd u = Absurd
+made_of words.Rewrite p = Rewrite p.0 p.1
+made_of words.Split p = Split p.0 p.1
+made_of words.Distinct p = Distinct p.0 p.1
+made_of words.Weaken k = Weaken k
+made_of words.Unfold k = Unfold k
+made_of words.Cut p = Cut p.0 p.1
+made_of words.Done u = Done
+made_of words.Choose j = Choose j
+made_of words.PureRight k = PureRight k
+made_of words.Instantiate p = Instantiate p.0 p.1
+made_of words.Frame p = Frame p.0 p.1
+made_of words.UnfoldRight p = UnfoldRight p.0 p.1
+made_of words.Link l = Link l
+
+abbrev pub to_reason : (w : ReasonWord) × Parts w → Reason
+to_reason p = made_of p.0 p.1
+
+abbrev pub from_reason : Reason → (w : ReasonWord) × Parts w
+from_reason Absurd = (words.Absurd, tt)
+from_reason (Rewrite k s) = (words.Rewrite, (k, s))
+from_reason (Split t u) = (words.Split, (t, u))
+from_reason (Distinct i j) = (words.Distinct, (i, j))
+from_reason (Weaken k) = (words.Weaken, k)
+from_reason (Unfold k) = (words.Unfold, k)
+from_reason (Cut positions formula) = (words.Cut, (positions, formula))
+from_reason Done = (words.Done, tt)
+from_reason (Choose j) = (words.Choose, j)
+from_reason (PureRight k) = (words.PureRight, k)
+from_reason (Instantiate v t) = (words.Instantiate, (v, t))
+from_reason (Frame i j) = (words.Frame, (i, j))
+from_reason (UnfoldRight j c) = (words.UnfoldRight, (j, c))
+from_reason (Link l) = (words.Link, l)
+
+abbrev pub reason_word : Class ReasonWord
+reason_word = keyword_of reason_text reason_words
+
+unfoldable pub reason : Syntax Reason
+reason = shaped {A = (w : ReasonWord) × Parts w} to_reason from_reason Any (headed reason_word parts)
+
+-- ---- [ "to" number { number } ] ";"
+
+abbrev pub to_premises : (ℕ × List ℕ) ⊎ Unit {0} → List ℕ
+to_premises (inl p) = p.0 ∷ p.1
+to_premises (inr u) = []
+
+abbrev pub from_premises : List ℕ → (ℕ × List ℕ) ⊎ Unit {0}
+from_premises [] = inr tt
+from_premises (n ∷ ns) = inl (n, ns)
+
+unfoldable pub premises : Syntax (List ℕ)
+premises = shaped {A = (ℕ × List ℕ) ⊎ Unit {0}} to_premises from_premises Any (alt (is_one to_word) (after to_word (seq (one number) (before numbers semicolon))) (one semicolon))
+
+-- ---- node = "node" judgement "by" reason premises
+
+abbrev pub to_node : Entailment × (Reason × List ℕ) → Node
+to_node p = record { judgement = p.0; reason = p.1.0; premises = p.1.1 }
+
+abbrev pub from_node : Node → Entailment × (Reason × List ℕ)
+from_node n = (n.judgement, (n.reason, n.premises))
+
+unfoldable pub node : Syntax Node
+node = shaped {A = Entailment × (Reason × List ℕ)} to_node from_node Any (after node_word (seq judgement (seq reason premises)))
+
+-- ---- file = "cyclist" "proof" "1" ";" { pred } node { node } "end" ";", and the end of the text
+
+abbrev pub some_node : Node
+some_node = record { judgement = record { antecedent = some_heap; disjuncts = some_heap ∷ [] }; reason = Done; premises = [] }
+
+unfoldable pub definitions : Syntax (List Definition)
+definitions = many (is_one pred_word) definition
+
+unfoldable pub more_nodes : Syntax (List Node)
+more_nodes = many (is_one node_word) node
+
+-- node { node } "end"
+unfoldable pub nodes : Syntax (List Node)
+nodes = shaped {A = Node × List Node} cons (uncons some_node) IsSome (seq node (before more_nodes last_word))
+
+abbrev pub to_file : List Definition × List Node → File
+to_file p = record { definitions = p.0; nodes = p.1 }
+
+abbrev pub from_file : File → List Definition × List Node
+from_file f = (f.definitions, f.nodes)
+
+unfoldable pub body : Syntax File
+body = shaped {A = List Definition × List Node} to_file from_file Any (after cyclist_word (after proof_word (after version (after semicolon (seq definitions (before nodes semicolon))))))
+
+unfoldable pub file : Syntax File
+file = before body the_end

@@ -1,0 +1,3 @@
+pub mod ReasonWords
+pub mod Trees
+pub mod Grammar

@@ -1,0 +1,105 @@
+-- Trees without where they lie in memory.
+use Rattle.std.specs.Prelude.{ℕ, List, map}
+use Rattle.proof_syntax.specs.declared.tree.TermTree.{TermTree}
+use Rattle.proof_syntax.specs.declared.tree.PureTree.{PureTree}
+use Rattle.proof_syntax.specs.declared.tree.SpatialTree.{SpatialTree}
+use Rattle.proof_syntax.specs.declared.tree.SpatialTree.TheVariants as spatials
+use Rattle.proof_syntax.specs.declared.tree.HeapTree.{HeapTree}
+use Rattle.proof_syntax.specs.declared.tree.DefinitionTree.{DefinitionTree}
+use Rattle.proof_syntax.specs.declared.tree.EntailmentTree.{EntailmentTree}
+use Rattle.proof_syntax.specs.declared.tree.SideTree.{SideTree}
+use Rattle.proof_syntax.specs.declared.tree.PairTree.{PairTree}
+use Rattle.proof_syntax.specs.declared.tree.LinkTree.{LinkTree}
+use Rattle.proof_syntax.specs.declared.tree.ReasonTree.{ReasonTree}
+use Rattle.proof_syntax.specs.declared.tree.ReasonTree.TheVariants as reasons
+use Rattle.proof_syntax.specs.declared.tree.NodeTree.{NodeTree}
+use Rattle.proof_syntax.specs.declared.tree.FileTree.{FileTree}
+
+-- a spatial atom: a cell's address and fields, or a predicate's name and arguments
+pub data Spatial : Type 0 where
+  Cell : TermTree → List TermTree → Spatial
+  Predicate : List ℕ → List TermTree → Spatial
+
+pub record Heap : Type 0 where
+  pub pure : List PureTree
+  pub spatial : List Spatial
+
+pub record Definition : Type 0 where
+  pub name : List ℕ
+  pub arity : ℕ
+  pub cases : List Heap
+
+pub record Entailment : Type 0 where
+  pub antecedent : Heap
+  pub disjuncts : List Heap
+
+pub record LinkData : Type 0 where
+  pub target : ℕ
+  pub substitution : List PairTree
+  pub mapped : List ℕ
+  pub disjuncts : List ℕ
+
+pub data Reason : Type 0 where
+  Absurd : Reason
+  Rewrite : ℕ → SideTree → Reason
+  Split : TermTree → TermTree → Reason
+  Distinct : ℕ → ℕ → Reason
+  Weaken : ℕ → Reason
+  Unfold : ℕ → Reason
+  Cut : List ℕ → Heap → Reason
+  Done : Reason
+  Choose : ℕ → Reason
+  PureRight : ℕ → Reason
+  Instantiate : ℕ → TermTree → Reason
+  Frame : ℕ → ℕ → Reason
+  UnfoldRight : ℕ → ℕ → Reason
+  Link : LinkData → Reason
+
+pub record Node : Type 0 where
+  pub judgement : Entailment
+  pub reason : Reason
+  pub premises : List ℕ
+
+pub record File : Type 0 where
+  pub definitions : List Definition
+  pub nodes : List Node
+
+-- ---- what a contract sees of the code's trees
+
+abbrev pub spatial_of : SpatialTree → Spatial
+spatial_of (spatials.Cell address fields) = Cell address fields.items
+spatial_of (spatials.Predicate name args) = Predicate name.now args.items
+
+abbrev pub heap_of : HeapTree → Heap
+heap_of h = record { pure = h.pure.items; spatial = map spatial_of h.spatial.items }
+
+abbrev pub definition_of : DefinitionTree → Definition
+definition_of d = record { name = d.name.now; arity = d.arity; cases = map heap_of d.cases.items }
+
+abbrev pub entailment_of : EntailmentTree → Entailment
+entailment_of e = record { antecedent = heap_of e.antecedent; disjuncts = map heap_of e.disjuncts.items }
+
+abbrev pub link_of : LinkTree → LinkData
+link_of l = record { target = l.target; substitution = l.substitution.items; mapped = l.map.items; disjuncts = l.disjuncts.items }
+
+abbrev pub reason_of : ReasonTree → Reason
+reason_of reasons.Absurd = Absurd
+reason_of (reasons.Rewrite k side) = Rewrite k side
+reason_of (reasons.Split t u) = Split t u
+reason_of (reasons.Distinct i j) = Distinct i j
+reason_of (reasons.Weaken k) = Weaken k
+reason_of (reasons.Unfold k) = Unfold k
+reason_of (reasons.Cut positions formula) = Cut positions.items (heap_of formula)
+reason_of reasons.Done = Done
+reason_of (reasons.Choose j) = Choose j
+reason_of (reasons.PureRight k) = PureRight k
+reason_of (reasons.Instantiate v t) = Instantiate v t
+reason_of (reasons.Frame i j) = Frame i j
+reason_of (reasons.UnfoldRight j c) = UnfoldRight j c
+reason_of (reasons.Link l) = Link (link_of l)
+
+abbrev pub node_of : NodeTree → Node
+node_of n = record { judgement = entailment_of n.judgement; reason = reason_of n.reason; premises = n.premises.items }
+
+abbrev pub file_of : FileTree → File
+file_of f = record { definitions = map definition_of f.definitions.items; nodes = map node_of f.nodes.items }

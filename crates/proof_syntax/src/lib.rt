@@ -1,0 +1,11 @@
+//! Proof files as trees: their grammar, reading a tree from tokens with the exact syntax fault, and writing a tree.
+#![tactic(auto)]
+
+mod reason_word;
+mod tree;
+
+pub use reason_word::ReasonWord;
+pub use tree::{
+    DefinitionTree, EntailmentTree, FileTree, HeapTree, LinkTree, NodeTree, PairTree, PureTree,
+    ReasonTree, SideTree, SpatialTree, TermTree,
+};

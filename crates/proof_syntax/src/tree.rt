@@ -1,0 +1,103 @@
+//! Trees of proof files: what a text of the grammar says, with lists of any length and numbers of at most nine digits.
+
+/// A term: `nil`, a universal variable `$n` or an existential variable `?n`; in a case of a definition `$n` is parameter n and `?n` local n.
+#[derive(Clone, Copy, Debug, PartialEq, Eq)]
+pub enum TermTree {
+    Nil,
+    Univ(u32),
+    Exist(u32),
+}
+
+/// A pure atom, `left = right` or `left != right`.
+#[derive(Clone, Copy, Debug, PartialEq, Eq)]
+pub struct PureTree {
+    pub left: TermTree,
+    pub is_equation: bool,
+    pub right: TermTree,
+}
+
+/// A spatial atom: a cell `address -> (fields)`, which has at least one field, or a predicate `name(arguments)`.
+#[derive(Debug, Drop)]
+pub enum SpatialTree<'a> {
+    Cell(TermTree, Vec<TermTree>),
+    Predicate(&'a str, Vec<TermTree>),
+}
+
+/// A symbolic heap, `pure : spatial` (Reynolds 2002; Berdine, Calcagno and O'Hearn 2004).
+#[derive(Debug, Drop)]
+pub struct HeapTree<'a> {
+    pub pure: Vec<PureTree>,
+    pub spatial: Vec<SpatialTree<'a>>,
+}
+
+/// The definition of a predicate, which has at least one case.
+#[derive(Debug, Drop)]
+pub struct DefinitionTree<'a> {
+    pub name: &'a str,
+    pub arity: u32,
+    pub cases: Vec<HeapTree<'a>>,
+}
+
+/// An entailment; the antecedent has universal variables alone, and there is at least one disjunct.
+#[derive(Debug, Drop)]
+pub struct EntailmentTree<'a> {
+    pub antecedent: HeapTree<'a>,
+    pub disjuncts: Vec<HeapTree<'a>>,
+}
+
+/// The side of an equation that is replaced.
+#[derive(Clone, Copy, Debug, PartialEq, Eq)]
+pub enum SideTree {
+    Left,
+    Right,
+}
+
+/// An entry of a substitution, `$variable := value`, with a universal variable or `nil` as its value.
+#[derive(Clone, Copy, Debug, PartialEq, Eq)]
+pub struct PairTree {
+    pub variable: u32,
+    pub value: TermTree,
+}
+
+/// A link from a bud to its companion (Brotherston, Gorogiannis and Petersen 2012).
+#[derive(Debug, Drop)]
+pub struct LinkTree {
+    pub target: u32,
+    pub substitution: Vec<PairTree>,
+    pub map: Vec<u32>,
+    pub disjuncts: Vec<u32>,
+}
+
+/// Why a node's judgement holds: a rule with its numbers, terms and formula, or a link.
+#[derive(Debug, Drop)]
+pub enum ReasonTree<'a> {
+    Absurd,
+    Rewrite(u32, SideTree),
+    Split(TermTree, TermTree),
+    Distinct(u32, u32),
+    Weaken(u32),
+    Unfold(u32),
+    Cut(Vec<u32>, HeapTree<'a>),
+    Done,
+    Choose(u32),
+    PureRight(u32),
+    Instantiate(u32, TermTree),
+    Frame(u32, u32),
+    UnfoldRight(u32, u32),
+    Link(LinkTree),
+}
+
+/// A node of a proof; the numbers of its premises count nodes from 0.
+#[derive(Debug, Drop)]
+pub struct NodeTree<'a> {
+    pub judgement: EntailmentTree<'a>,
+    pub reason: ReasonTree<'a>,
+    pub premises: Vec<u32>,
+}
+
+/// A proof file, which has at least one node.
+#[derive(Debug, Drop)]
+pub struct FileTree<'a> {
+    pub definitions: Vec<DefinitionTree<'a>>,
+    pub nodes: Vec<NodeTree<'a>>,
+}
