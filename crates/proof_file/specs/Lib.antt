@@ -1,0 +1,4 @@
+pub mod Spans
+pub mod Flaws
+pub mod Values
+pub mod Small
