@@ -1,7 +1,8 @@
 -- The grammar of proof files.
-use Rattle.std.specs.Prelude.{ℕ, ◌<◌, Bool, true, false, List, [], ◌∷◌, ◌⊎◌, codes, length}
+use Rattle.std.specs.Prelude.{ℕ, ◌<◌, Bool, true, false, List, [], ◌∷◌, ◌⊎◌, codes, length, Ok}
 use Rattle.std.proofs.Common.{inl, inr}
-use Rattle.cyc_grammar.specs.Syntax.{Syntax, Class, one, seq, alt, many, shaped, after, before, headed, nothing, is_one, uncons, list1, or_empty}
+use Rattle.cyc_lex.specs.Word.{Word}
+use Rattle.cyc_grammar.specs.Syntax.{Reading, ◌>>=◌, Syntax, Class, one, seq, alt, many, shaped, after, before, headed, nothing, is_one, uncons, list1, or_empty}
 use Rattle.cyc_grammar.specs.Classes.{symbol, keyword, numeral, the_end, number, name, keyword_of}
 use Rattle.proof_syntax.specs.declared.tree.TermTree.{TermTree}
 use Rattle.proof_syntax.specs.declared.tree.TermTree.TheVariants.{Nil, Univ, Exist}
@@ -410,6 +411,10 @@ from_reason (Instantiate v t) = (words.Instantiate, (v, t))
 from_reason (Frame i j) = (words.Frame, (i, j))
 from_reason (UnfoldRight j c) = (words.UnfoldRight, (j, c))
 from_reason (Link l) = (words.Link, l)
+
+-- what is read behind a rule's word, as a reason
+abbrev pub parts_read : ReasonWord → List Word → Reading Reason
+parts_read w ws = (parts w).read ws >>= λ y. Ok (made_of w y.0, y.1)
 
 abbrev pub reason_word : Class ReasonWord
 reason_word = keyword_of reason_text reason_words

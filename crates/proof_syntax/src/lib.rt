@@ -2,9 +2,12 @@
 #![tactic(auto)]
 
 mod reason_word;
+mod read_files;
 mod read_heaps;
+mod read_reasons;
 mod tree;
 
+pub use read_files::read_tree;
 pub use reason_word::ReasonWord;
 pub use tree::{
     DefinitionTree, EntailmentTree, FileTree, HeapTree, LinkTree, NodeTree, PairTree, PureTree,
