@@ -1,3 +1,4 @@
 pub mod GrammarLaws
 pub mod GrammarEnds
 pub mod OtherTexts
+pub mod ReasonParts
