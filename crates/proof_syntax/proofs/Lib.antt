@@ -2,3 +2,4 @@ pub mod GrammarLaws
 pub mod GrammarEnds
 pub mod OtherTexts
 pub mod ReasonParts
+pub mod WrittenTerms

@@ -6,6 +6,7 @@ mod read_files;
 mod read_heaps;
 mod read_reasons;
 mod tree;
+mod write_heaps;
 
 pub use read_files::read_tree;
 pub use reason_word::ReasonWord;
