@@ -3,3 +3,4 @@ pub mod GrammarEnds
 pub mod OtherTexts
 pub mod ReasonParts
 pub mod WrittenTerms
+pub mod WrittenFiles

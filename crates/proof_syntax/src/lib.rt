@@ -6,7 +6,9 @@ mod read_files;
 mod read_heaps;
 mod read_reasons;
 mod tree;
+mod write_files;
 mod write_heaps;
+mod write_reasons;
 
 pub use read_files::read_tree;
 pub use reason_word::ReasonWord;
@@ -14,3 +16,4 @@ pub use tree::{
     DefinitionTree, EntailmentTree, FileTree, HeapTree, LinkTree, NodeTree, PairTree, PureTree,
     ReasonTree, SideTree, SpatialTree, TermTree,
 };
+pub use write_files::write_tree;
