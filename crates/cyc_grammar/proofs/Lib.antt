@@ -5,3 +5,4 @@ pub mod WholeTexts
 pub mod Loop
 pub mod Drops
 pub mod Names
+pub mod WrittenTexts

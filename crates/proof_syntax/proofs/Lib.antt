@@ -1,3 +1,6 @@
 pub mod GrammarLaws
 pub mod GrammarEnds
 pub mod OtherTexts
+pub mod ReasonParts
+pub mod WrittenTerms
+pub mod WrittenFiles

@@ -1,7 +1,8 @@
 -- The grammar of proof files.
-use Rattle.std.specs.Prelude.{ℕ, ◌<◌, Bool, true, false, List, [], ◌∷◌, ◌⊎◌, codes, length}
+use Rattle.std.specs.Prelude.{ℕ, ◌<◌, Bool, true, false, List, [], ◌∷◌, ◌⊎◌, codes, length, Ok}
 use Rattle.std.proofs.Common.{inl, inr}
-use Rattle.cyc_grammar.specs.Syntax.{Syntax, Class, one, seq, alt, many, shaped, after, before, headed, nothing, is_one, uncons, list1, or_empty}
+use Rattle.cyc_lex.specs.Word.{Word}
+use Rattle.cyc_grammar.specs.Syntax.{Reading, ◌>>=◌, Syntax, Class, one, seq, alt, many, shaped, after, before, headed, nothing, is_one, uncons, list1, or_empty}
 use Rattle.cyc_grammar.specs.Classes.{symbol, keyword, numeral, the_end, number, name, keyword_of}
 use Rattle.proof_syntax.specs.declared.tree.TermTree.{TermTree}
 use Rattle.proof_syntax.specs.declared.tree.TermTree.TheVariants.{Nil, Univ, Exist}
@@ -411,11 +412,49 @@ from_reason (Frame i j) = (words.Frame, (i, j))
 from_reason (UnfoldRight j c) = (words.UnfoldRight, (j, c))
 from_reason (Link l) = (words.Link, l)
 
+-- what is read behind a rule's word, as a reason
+abbrev pub parts_read : ReasonWord → List Word → Reading Reason
+parts_read w ws = (parts w).read ws >>= λ y. Ok (made_of w y.0, y.1)
+
 abbrev pub reason_word : Class ReasonWord
 reason_word = keyword_of reason_text reason_words
 
 unfoldable pub reason : Syntax Reason
 reason = shaped {A = (w : ReasonWord) × Parts w} to_reason from_reason Any (headed reason_word parts)
+
+-- the words behind a rule's word, case by case
+abbrev pub behind_word : Reason → List Word
+behind_word Absurd = []
+behind_word (Rewrite k s) = rewrite.words (k, s)
+behind_word (Split t u) = split.words (t, u)
+behind_word (Distinct i j) = two_numbers.words (i, j)
+behind_word (Weaken k) = (one number).words k
+behind_word (Unfold k) = (one number).words k
+behind_word (Cut positions formula) = cut.words (positions, formula)
+behind_word Done = []
+behind_word (Choose j) = (one number).words j
+behind_word (PureRight k) = (one number).words k
+behind_word (Instantiate v t) = instantiate.words (v, t)
+behind_word (Frame i j) = two_numbers.words (i, j)
+behind_word (UnfoldRight j c) = two_numbers.words (j, c)
+behind_word (Link l) = link.words l
+
+-- these words have a text
+abbrev pub FitsBehind : Reason → Type 0
+FitsBehind Absurd = Unit {0}
+FitsBehind (Rewrite k s) = rewrite.fits (k, s)
+FitsBehind (Split t u) = split.fits (t, u)
+FitsBehind (Distinct i j) = two_numbers.fits (i, j)
+FitsBehind (Weaken k) = (one number).fits k
+FitsBehind (Unfold k) = (one number).fits k
+FitsBehind (Cut positions formula) = cut.fits (positions, formula)
+FitsBehind Done = Unit {0}
+FitsBehind (Choose j) = (one number).fits j
+FitsBehind (PureRight k) = (one number).fits k
+FitsBehind (Instantiate v t) = instantiate.fits (v, t)
+FitsBehind (Frame i j) = two_numbers.fits (i, j)
+FitsBehind (UnfoldRight j c) = two_numbers.fits (j, c)
+FitsBehind (Link l) = link.fits l
 
 -- ---- [ "to" number { number } ] ";"
 

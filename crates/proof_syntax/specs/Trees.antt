@@ -12,6 +12,8 @@ use Rattle.proof_syntax.specs.declared.tree.PairTree.{PairTree}
 use Rattle.proof_syntax.specs.declared.tree.LinkTree.{LinkTree}
 use Rattle.proof_syntax.specs.declared.tree.ReasonTree.{ReasonTree}
 use Rattle.proof_syntax.specs.declared.tree.ReasonTree.TheVariants as reasons
+use Rattle.proof_syntax.specs.declared.reason_word.ReasonWord.{ReasonWord}
+use Rattle.proof_syntax.specs.declared.reason_word.ReasonWord.TheVariants as words
 use Rattle.proof_syntax.specs.declared.tree.NodeTree.{NodeTree}
 use Rattle.proof_syntax.specs.declared.tree.FileTree.{FileTree}
 
@@ -97,6 +99,23 @@ reason_of (reasons.Instantiate v t) = Instantiate v t
 reason_of (reasons.Frame i j) = Frame i j
 reason_of (reasons.UnfoldRight j c) = UnfoldRight j c
 reason_of (reasons.Link l) = Link (link_of l)
+
+-- the word with which a reason begins
+abbrev pub word_of_reason : Reason → ReasonWord
+word_of_reason Absurd = words.Absurd
+word_of_reason (Rewrite k side) = words.Rewrite
+word_of_reason (Split t u) = words.Split
+word_of_reason (Distinct i j) = words.Distinct
+word_of_reason (Weaken k) = words.Weaken
+word_of_reason (Unfold k) = words.Unfold
+word_of_reason (Cut positions formula) = words.Cut
+word_of_reason Done = words.Done
+word_of_reason (Choose j) = words.Choose
+word_of_reason (PureRight k) = words.PureRight
+word_of_reason (Instantiate v t) = words.Instantiate
+word_of_reason (Frame i j) = words.Frame
+word_of_reason (UnfoldRight j c) = words.UnfoldRight
+word_of_reason (Link l) = words.Link
 
 abbrev pub node_of : NodeTree → Node
 node_of n = record { judgement = entailment_of n.judgement; reason = reason_of n.reason; premises = n.premises.items }

@@ -2,11 +2,18 @@
 #![tactic(auto)]
 
 mod reason_word;
+mod read_files;
 mod read_heaps;
+mod read_reasons;
 mod tree;
+mod write_files;
+mod write_heaps;
+mod write_reasons;
 
+pub use read_files::read_tree;
 pub use reason_word::ReasonWord;
 pub use tree::{
     DefinitionTree, EntailmentTree, FileTree, HeapTree, LinkTree, NodeTree, PairTree, PureTree,
     ReasonTree, SideTree, SpatialTree, TermTree,
 };
+pub use write_files::write_tree;

@@ -12,5 +12,4 @@ returns-in-Dead c =
     let all = c.as_slice-all.result.now in
     let w : (0 < c.in-Dead.left) × (c.in-Dead.left ≤ length c.args.tokens.now) = subst (λ (r : Refusal). IsWithin r (length c.args.tokens.now)) c.in-Dead.is c.requires.within in
     let size : length all ≡ length c.args.tokens.now = sym (length-map all placed) ∙ ap length c.as_slice-all.ensures in
-    let here = token_at all (length all - c.in-Dead.left) _ (omega (arith, w.0, w.1, size)) in
-    rw c.in-Dead.is (omega (arith, w.1, size), (_, ap (λ (ts : List Placed). slice_get ts (length all - c.in-Dead.left)) (sym c.as_slice-all.ensures) ∙ here, refl, refl))
+    rw c.in-Dead.is (omega (arith, w.1, size), (_, ap (λ (ts : List Placed). slice_get ts (length all - c.in-Dead.left)) (sym c.as_slice-all.ensures) ∙ token_at all (length all - c.in-Dead.left) _ (omega (arith, w.0, w.1, size)), refl, refl))

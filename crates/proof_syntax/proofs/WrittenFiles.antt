@@ -1,0 +1,31 @@
+-- What is written for premises and for a whole file.
+use Rattle.std.proofs.Common.{◌≡◌, ℕ, List, [], ◌∷◌, ◌++◌, ap, ◌∙◌, refl}
+use Rattle.std.specs.Prelude.{codes, decimal}
+use Rattle.std.specs.Fmt.{digits}
+use Rattle.cyc_lex.specs.declared.token.Kind.TheVariants.{Number}
+use Rattle.cyc_lex.specs.Word.{Word}
+use Rattle.cyc_lex.specs.Writing.{Written, write, write_all}
+use Rattle.cyc_grammar.specs.Classes.{number}
+use Rattle.cyc_grammar.proofs.WrittenTexts.{wrote-behind, wrote-both, wrote-ended}
+use Rattle.proof_syntax.specs.Trees.{Definition, Node}
+use Rattle.proof_syntax.specs.Grammar.{to_word, cyclist_word, proof_word, version, semicolon, numbers, premises, definitions, nodes, body}
+
+pub premises-wrote : (old a b c d : Written) (n : ℕ) (ns : List ℕ) → a ≡ write old (to_word.word tt) → b ≡ write a (number.word n) → c ≡ write_all b (numbers.words ns) → d ≡ write c (semicolon.word tt) → d ≡ write_all old (premises.words (n ∷ ns))
+unfolding premises write_all
+premises-wrote old a b c d n ns ha hb hc hd =
+    let rest : List Word = numbers.words ns ++ semicolon.word tt ∷ [] in
+    wrote-behind old a d (to_word.word tt) (number.word n ∷ rest) ha (wrote-behind a b d (number.word n) rest hb (wrote-both b c d (numbers.words ns) (semicolon.word tt ∷ []) hc hd))
+
+one-text : decimal 1 ≡ codes "1"
+unfolding digits
+one-text = refl
+
+pub body-wrote : (old a b c d e f g : Written) (ds : List Definition) (ns : List Node) → a ≡ write old (cyclist_word.word tt) → b ≡ write a (proof_word.word tt) → c ≡ write b (record { kind = Number; text = decimal 1 }) → d ≡ write c (semicolon.word tt)
+    → e ≡ write_all d (definitions.words ds) → f ≡ write_all e (nodes.words ns) → g ≡ write f (semicolon.word tt) → g ≡ write_all old (body.words (record { definitions = ds; nodes = ns }))
+unfolding body
+body-wrote old a b c d e f g ds ns ha hb hc hd he hf hg =
+    let rest : List Word = definitions.words ds ++ (nodes.words ns ++ semicolon.word tt ∷ []) in
+    wrote-behind old a g (cyclist_word.word tt) (proof_word.word tt ∷ version.word tt ∷ semicolon.word tt ∷ rest) ha
+    (wrote-behind a b g (proof_word.word tt) (version.word tt ∷ semicolon.word tt ∷ rest) hb
+    (wrote-behind b c g (version.word tt) (semicolon.word tt ∷ rest) (hc ∙ ap (λ (s : List ℕ). write b (record { kind = Number; text = s })) one-text)
+    (wrote-behind c d g (semicolon.word tt) rest hd (wrote-ended d e f g (definitions.words ds) (nodes.words ns) (semicolon.word tt) he hf hg))))

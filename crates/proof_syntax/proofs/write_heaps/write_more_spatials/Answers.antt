@@ -1,0 +1,22 @@
+use Rattle.std.proofs.Common.{◌≡◌, ◌∙◌, ◌+◌, ◌∷◌, List, length, get_or, drop, ap, arith}
+use Rattle.std.specs.Prelude.{map}
+use Rattle.cyc_lex.specs.Writing.{write_all}
+use Rattle.cyc_grammar.specs.Syntax.{words_many, after}
+use Rattle.cyc_grammar.proofs.WrittenTexts.{left-item, none-at, wrote-item, wrote-all, wrote-behind, item-fits}
+use Rattle.proof_syntax.specs.Trees.{spatial_of}
+use Rattle.proof_syntax.specs.Grammar.{spatial, terms, star}
+use Rattle.proof_syntax.proofs.write_heaps.write_more_spatials.Goals as goal
+
+pub write_spatial-requires : goal.write_spatial-requires
+write_spatial-requires c =
+    let left = ap (map spatial_of) (left-item c.args.trees.now c.loop-tree.tree-index c.tree-item.result c.loop-tree-test.true c.tree-item.is) in
+    (item-fits (after star (spatial (terms c.args.universal))) (spatial_of c.tree-item.result) (map spatial_of (drop (c.loop-tree.tree-index + 1) c.args.trees.now)) (map spatial_of (drop c.loop-tree.tree-index c.args.trees.now)) left c.loop-tree.invariant.1).0
+
+pub loop-tree-preserved : goal.loop-tree-preserved
+loop-tree-preserved c =
+    let left = ap (map spatial_of) (left-item c.args.trees.now c.loop-tree.tree-index c.tree-item.result c.loop-tree-test.true c.tree-item.is) in
+    let wrote : c.write_spatial.new.writer ≡ write_all c.loop-tree.writer ((after star (spatial (terms c.args.universal))).words (spatial_of c.tree-item.result)) = wrote-behind _ _ _ _ _ c.in_ok-symbol.ensures.ok c.in_ok-write_spatial.ensures in
+    (wrote-item (after star (spatial (terms c.args.universal))) c.loop-tree.writer c.write_spatial.new.writer (write_all c.args.writer.now (words_many (after star (spatial (terms c.args.universal))) (map spatial_of (c.args.trees.now)))) (spatial_of c.tree-item.result) (map spatial_of (drop (c.loop-tree.tree-index + 1) c.args.trees.now)) (map spatial_of (drop c.loop-tree.tree-index c.args.trees.now)) left wrote c.loop-tree.invariant.0, (item-fits (after star (spatial (terms c.args.universal))) (spatial_of c.tree-item.result) (map spatial_of (drop (c.loop-tree.tree-index + 1) c.args.trees.now)) (map spatial_of (drop c.loop-tree.tree-index c.args.trees.now)) left c.loop-tree.invariant.1).1)
+
+pub returns : goal.returns
+returns c = wrote-all (after star (spatial (terms c.args.universal))) c.loop-tree.writer (write_all c.args.writer.now (words_many (after star (spatial (terms c.args.universal))) (map spatial_of (c.args.trees.now)))) (map spatial_of (drop c.loop-tree.tree-index c.args.trees.now)) (ap (map spatial_of) (none-at c.args.trees.now c.loop-tree.tree-index (omega arith))) c.loop-tree.invariant.0

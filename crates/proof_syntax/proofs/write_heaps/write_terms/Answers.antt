@@ -1,0 +1,13 @@
+use Rattle.std.proofs.Common.{◌≡◌, List, sym, ap, subst}
+use Rattle.cyc_lex.specs.Writing.{write_all}
+use Rattle.cyc_grammar.proofs.WrittenTexts.{first-others, wrote-both, on-ok}
+use Rattle.proof_syntax.specs.declared.tree.TermTree.{TermTree}
+use Rattle.proof_syntax.specs.declared.tree.TermTree.TheVariants.{Nil}
+use Rattle.cyc_grammar.specs.Syntax.{list1}
+use Rattle.proof_syntax.specs.Grammar.{comma, terms}
+use Rattle.proof_syntax.proofs.write_heaps.write_terms.Goals as goal
+
+pub returns : goal.returns
+returns c =
+    let whole = first-others c.args.trees.now _ c.in-len1-up.len_at_least in
+    on-ok c.write_more_terms.result (λ e. subst (λ (xs : List TermTree). c.write_more_terms.new.writer ≡ write_all c.args.writer.now ((list1 Nil comma (terms c.args.universal)).words xs)) (sym whole) (wrote-both _ _ _ _ _ c.in_ok-write_term-in-len1-up.ensures e)) c.write_more_terms.ensures

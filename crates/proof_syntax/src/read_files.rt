@@ -1,0 +1,251 @@
+//! Reading definitions, nodes and whole files.
+
+ghost use Rattle.std.specs.Prelude.{◌≡◌, ◌<◌, ◌^◌, ◌++◌, ◌∷◌, [], true, length, map, IfErr};
+ghost use Rattle.cyc_lex.specs.Word.{word_of, EndsOnce};
+ghost use Rattle.cyc_grammar.specs.Syntax.{many, is_one, after, read_whole};
+ghost use Rattle.cyc_grammar.specs.Classes.{are_tokens};
+ghost use Rattle.cyc_grammar.specs.Faults.{Reads, IsRead};
+ghost use Rattle.cyc_grammar.specs.Giving.{Gives, IsWithin, with_front, words};
+ghost use Rattle.proof_syntax.specs.Grammar.{or_word, bar, more_heaps, cases, disjuncts, pred_word, node_word, definition, definitions, judgement, premises, node, more_nodes, nodes, body, file};
+ghost use Rattle.proof_syntax.specs.Trees.{File, heap_of, definition_of, entailment_of, node_of, file_of};
+
+use crate::read_heaps::{free_name, heap, more_numbers};
+use crate::read_reasons::reason;
+use crate::tree::{DefinitionTree, EntailmentTree, FileTree, HeapTree, NodeTree};
+use cyc_grammar::{Cursor, Refusal, read_fault};
+use cyc_lex::{ReadFault, Token, Tokens};
+use std::alloc::Global;
+
+/// Reads the cases behind some.
+fn more_cases<'a>(
+    alloc: Global,
+    mut items: Vec<HeapTree<'a>>,
+    cursor: &mut Cursor<'_, 'a>,
+) -> Result<Vec<HeapTree<'a>>, Refusal>
+    ensures { Gives (λ x. (map heap_of x.items, cursor.new)) result (with_front (map heap_of items.entry.items) ((more_heaps bar).read cursor.old)) }
+{
+    for _ in 0..cursor.left() {
+        if !cursor.is_symbol_next("|") {
+            return Ok(items);
+        }
+        cursor.symbol("|")?;
+        items.push(heap(alloc, false, cursor)?)?;
+    }
+    if cursor.is_symbol_next("|") {
+        return Err(Refusal::Dead(cursor.left()));
+    }
+    Ok(items)
+}
+
+#[tactic(auto, unfolding(crate::specs::Grammar::cases, crate::specs::Grammar::heaps))]
+fn cases<'a>(alloc: Global, cursor: &mut Cursor<'_, 'a>) -> Result<Vec<HeapTree<'a>>, Refusal>
+    ensures { Gives (λ x. (map heap_of x.items, cursor.new)) result (cases.read cursor.old) }
+{
+    let mut items = Vec::new(alloc);
+    items.push(heap(alloc, false, cursor)?)?;
+    let items = more_cases(alloc, items, cursor)?;
+    cursor.symbol("}")?;
+    Ok(items)
+}
+
+#[tactic(auto, unfolding(crate::specs::Grammar::definition))]
+fn definition<'a>(
+    alloc: Global,
+    cursor: &mut Cursor<'_, 'a>,
+) -> Result<DefinitionTree<'a>, Refusal>
+    ensures { Gives (λ x. (definition_of x, cursor.new)) result (definition.read cursor.old) }
+{
+    cursor.keyword("pred")?;
+    let name = free_name(cursor)?;
+    cursor.symbol("(")?;
+    let arity = cursor.number()?;
+    cursor.symbol(")")?;
+    cursor.symbol("{")?;
+    let cases = cases(alloc, cursor)?;
+    cursor.symbol(";")?;
+    Ok(DefinitionTree { name, arity, cases })
+}
+
+/// Reads the definitions behind some.
+#[tactic(auto, unfolding(crate::specs::Grammar::definitions))]
+fn more_definitions<'a>(
+    alloc: Global,
+    mut items: Vec<DefinitionTree<'a>>,
+    cursor: &mut Cursor<'_, 'a>,
+) -> Result<Vec<DefinitionTree<'a>>, Refusal>
+    ensures { Gives (λ x. (map definition_of x.items, cursor.new)) result (with_front (map definition_of items.entry.items) (definitions.read cursor.old)) }
+{
+    for _ in 0..cursor.left() {
+        if !cursor.is_keyword_next("pred") {
+            return Ok(items);
+        }
+        items.push(definition(alloc, cursor)?)?;
+    }
+    if cursor.is_keyword_next("pred") {
+        return Err(Refusal::Dead(cursor.left()));
+    }
+    Ok(items)
+}
+
+fn definitions<'a>(
+    alloc: Global,
+    cursor: &mut Cursor<'_, 'a>,
+) -> Result<Vec<DefinitionTree<'a>>, Refusal>
+    ensures { Gives (λ x. (map definition_of x.items, cursor.new)) result (definitions.read cursor.old) }
+{
+    more_definitions(alloc, Vec::new(alloc), cursor)
+}
+
+/// Reads the disjuncts behind some.
+fn more_disjuncts<'a>(
+    alloc: Global,
+    mut items: Vec<HeapTree<'a>>,
+    cursor: &mut Cursor<'_, 'a>,
+) -> Result<Vec<HeapTree<'a>>, Refusal>
+    ensures { Gives (λ x. (map heap_of x.items, cursor.new)) result (with_front (map heap_of items.entry.items) ((more_heaps or_word).read cursor.old)) }
+{
+    for _ in 0..cursor.left() {
+        if !cursor.is_keyword_next("or") {
+            return Ok(items);
+        }
+        cursor.keyword("or")?;
+        items.push(heap(alloc, false, cursor)?)?;
+    }
+    if cursor.is_keyword_next("or") {
+        return Err(Refusal::Dead(cursor.left()));
+    }
+    Ok(items)
+}
+
+#[tactic(auto, unfolding(crate::specs::Grammar::disjuncts, crate::specs::Grammar::heaps))]
+fn disjuncts<'a>(alloc: Global, cursor: &mut Cursor<'_, 'a>) -> Result<Vec<HeapTree<'a>>, Refusal>
+    ensures { Gives (λ x. (map heap_of x.items, cursor.new)) result (disjuncts.read cursor.old) }
+{
+    let mut items = Vec::new(alloc);
+    items.push(heap(alloc, false, cursor)?)?;
+    let items = more_disjuncts(alloc, items, cursor)?;
+    cursor.keyword("by")?;
+    Ok(items)
+}
+
+#[tactic(auto, unfolding(crate::specs::Grammar::judgement))]
+fn judgement<'a>(
+    alloc: Global,
+    cursor: &mut Cursor<'_, 'a>,
+) -> Result<EntailmentTree<'a>, Refusal>
+    ensures { Gives (λ x. (entailment_of x, cursor.new)) result (judgement.read cursor.old) }
+{
+    let antecedent = heap(alloc, true, cursor)?;
+    cursor.symbol("|-")?;
+    let disjuncts = disjuncts(alloc, cursor)?;
+    Ok(EntailmentTree {
+        antecedent,
+        disjuncts,
+    })
+}
+
+#[tactic(auto, unfolding(crate::specs::Grammar::premises))]
+fn premises(alloc: Global, cursor: &mut Cursor<'_, '_>) -> Result<Vec<u32>, Refusal>
+    ensures { Gives (λ x. (x.items, cursor.new)) result (premises.read cursor.old) }
+{
+    let mut items = Vec::new(alloc);
+    if cursor.is_keyword_next("to") {
+        cursor.keyword("to")?;
+        items.push(cursor.number()?)?;
+        let items = more_numbers(items, cursor)?;
+        cursor.symbol(";")?;
+        return Ok(items);
+    }
+    cursor.symbol(";")?;
+    Ok(items)
+}
+
+#[tactic(auto, unfolding(crate::specs::Grammar::node))]
+fn node<'a>(alloc: Global, cursor: &mut Cursor<'_, 'a>) -> Result<NodeTree<'a>, Refusal>
+    ensures { Gives (λ x. (node_of x, cursor.new)) result (node.read cursor.old) }
+{
+    cursor.keyword("node")?;
+    let judgement = judgement(alloc, cursor)?;
+    let reason = reason(alloc, cursor)?;
+    let premises = premises(alloc, cursor)?;
+    Ok(NodeTree {
+        judgement,
+        reason,
+        premises,
+    })
+}
+
+/// Reads the nodes behind some.
+#[tactic(auto, unfolding(crate::specs::Grammar::more_nodes))]
+fn more_nodes<'a>(
+    alloc: Global,
+    mut items: Vec<NodeTree<'a>>,
+    cursor: &mut Cursor<'_, 'a>,
+) -> Result<Vec<NodeTree<'a>>, Refusal>
+    ensures { Gives (λ x. (map node_of x.items, cursor.new)) result (with_front (map node_of items.entry.items) (more_nodes.read cursor.old)) }
+{
+    for _ in 0..cursor.left() {
+        if !cursor.is_keyword_next("node") {
+            return Ok(items);
+        }
+        items.push(node(alloc, cursor)?)?;
+    }
+    if cursor.is_keyword_next("node") {
+        return Err(Refusal::Dead(cursor.left()));
+    }
+    Ok(items)
+}
+
+#[tactic(auto, unfolding(crate::specs::Grammar::nodes))]
+fn nodes<'a>(alloc: Global, cursor: &mut Cursor<'_, 'a>) -> Result<Vec<NodeTree<'a>>, Refusal>
+    ensures { Gives (λ x. (map node_of x.items, cursor.new)) result (nodes.read cursor.old) }
+{
+    let mut items = Vec::new(alloc);
+    items.push(node(alloc, cursor)?)?;
+    let items = more_nodes(alloc, items, cursor)?;
+    cursor.keyword("end")?;
+    Ok(items)
+}
+
+#[tactic(auto, unfolding(crate::specs::Grammar::body))]
+fn body<'a>(alloc: Global, cursor: &mut Cursor<'_, 'a>) -> Result<FileTree<'a>, Refusal>
+    ensures { Gives (λ x. (file_of x, cursor.new)) result (body.read cursor.old) }
+{
+    cursor.keyword("cyclist")?;
+    cursor.keyword("proof")?;
+    cursor.numeral("1")?;
+    cursor.symbol(";")?;
+    let definitions = definitions(alloc, cursor)?;
+    let nodes = nodes(alloc, cursor)?;
+    cursor.symbol(";")?;
+    Ok(FileTree { definitions, nodes })
+}
+
+#[tactic(auto, unfolding(crate::specs::Grammar::file))]
+fn whole_file<'a>(alloc: Global, tokens: &[Token<'a>]) -> Result<FileTree<'a>, Refusal>
+    requires { are_tokens (words tokens.now) ≡ true }
+    ensures { Gives file_of result (read_whole file (words tokens.now)) }
+{
+    let mut cursor = Cursor::new(tokens);
+    let file = body(alloc, &mut cursor)?;
+    cursor.end()?;
+    if cursor.left() > 0 {
+        return Err(Refusal::Dead(cursor.left()));
+    }
+    Ok(file)
+}
+
+/// The tree that the tokens spell, or the place of the first token that, with all before it, begins no proof file.
+pub fn read_tree<'a>(alloc: Global, tokens: &Tokens<'a>) -> Result<FileTree<'a>, ReadFault>
+    requires few { length tokens.now < 2 ^ 32 }
+    requires words { EndsOnce (map word_of tokens.now) }
+    // What is read is spelled so; a fault stands at the first dead token.
+    ensures exact { Reads file file_of tokens.now result }
+    // What is spelled so is read, unless memory runs out.
+    ensures again { (t : File) → file.fits t → map word_of tokens.now ≡ file.words t → IsRead file_of t result }
+{
+    match whole_file(alloc, tokens.as_slice()) {
+        Ok(tree) => Ok(tree),
+        Err(refusal) => Err(read_fault(tokens, refusal)),
+    }
+}

@@ -1,0 +1,194 @@
+//! Writing definitions, nodes and whole files.
+
+ghost use Rattle.std.specs.Prelude.{◌≡◌, map, OnOk, IfOk, false};
+ghost use Rattle.cyc_lex.specs.Spacing.{text_of};
+ghost use Rattle.cyc_lex.specs.Spelling.{Spells};
+ghost use Rattle.cyc_lex.specs.Writing.{write, write_all};
+ghost use Rattle.cyc_grammar.specs.Syntax.{after, words_many, fits_many};
+ghost use Rattle.proof_syntax.specs.Grammar.{bar, or_word, heap, terms, cases, disjuncts, definition, definitions, judgement, premises, node, more_nodes, nodes, body};
+ghost use Rattle.proof_syntax.specs.Trees.{heap_of, definition_of, entailment_of, node_of, file_of};
+
+use crate::tree::{DefinitionTree, EntailmentTree, FileTree, HeapTree, NodeTree};
+use crate::write_heaps::{write_heap, write_numbers};
+use crate::write_reasons::write_reason;
+use cyc_lex::WordWriter;
+use cyc_memory::OutOfMemory;
+use std::alloc::Global;
+
+fn write_more_cases(trees: &[HeapTree<'_>], writer: &mut WordWriter) -> Result<(), OutOfMemory>
+    requires { fits_many (after bar (heap (terms false))) (map heap_of trees.now) }
+    ensures { OnOk result (writer.new ≡ write_all writer.old (words_many (after bar (heap (terms false))) (map heap_of trees.now))) }
+{
+    for tree in trees {
+        writer.symbol("|")?;
+        write_heap(false, tree, writer)?;
+    }
+    Ok(())
+}
+
+#[tactic(auto, using(cyc_lex::proofs::WritingLaws::write_all_on), unfolding(crate::specs::Grammar::cases, crate::specs::Grammar::heaps, cyc_lex::specs::Writing::write_all))]
+fn write_cases(trees: &[HeapTree<'_>], writer: &mut WordWriter) -> Result<(), OutOfMemory>
+    requires { cases.fits (map heap_of trees.now) }
+    ensures { OnOk result (writer.new ≡ write_all writer.old (cases.words (map heap_of trees.now))) }
+{
+    match trees {
+        [] => unreachable!(),
+        [first, others @ ..] => {
+            write_heap(false, first, writer)?;
+            write_more_cases(others, writer)?;
+            writer.symbol("}")
+        }
+    }
+}
+
+#[tactic(auto, using(cyc_lex::proofs::WritingLaws::write_all_on), unfolding(crate::specs::Grammar::definition, cyc_lex::specs::Writing::write_all))]
+fn write_definition(
+    tree: &DefinitionTree<'_>,
+    writer: &mut WordWriter,
+) -> Result<(), OutOfMemory>
+    requires { definition.fits (definition_of tree.now) }
+    ensures { OnOk result (writer.new ≡ write_all writer.old (definition.words (definition_of tree.now))) }
+{
+    writer.name("pred")?;
+    writer.name(tree.name)?;
+    writer.symbol("(")?;
+    writer.number(tree.arity)?;
+    writer.symbol(")")?;
+    writer.symbol("{")?;
+    write_cases(&tree.cases, writer)?;
+    writer.symbol(";")
+}
+
+#[tactic(auto, unfolding(crate::specs::Grammar::definitions))]
+fn write_definitions(
+    trees: &[DefinitionTree<'_>],
+    writer: &mut WordWriter,
+) -> Result<(), OutOfMemory>
+    requires { definitions.fits (map definition_of trees.now) }
+    ensures { OnOk result (writer.new ≡ write_all writer.old (definitions.words (map definition_of trees.now))) }
+{
+    for tree in trees {
+        write_definition(tree, writer)?;
+    }
+    Ok(())
+}
+
+fn write_more_disjuncts(
+    trees: &[HeapTree<'_>],
+    writer: &mut WordWriter,
+) -> Result<(), OutOfMemory>
+    requires { fits_many (after or_word (heap (terms false))) (map heap_of trees.now) }
+    ensures { OnOk result (writer.new ≡ write_all writer.old (words_many (after or_word (heap (terms false))) (map heap_of trees.now))) }
+{
+    for tree in trees {
+        writer.name("or")?;
+        write_heap(false, tree, writer)?;
+    }
+    Ok(())
+}
+
+#[tactic(auto, using(cyc_lex::proofs::WritingLaws::write_all_on), unfolding(crate::specs::Grammar::disjuncts, crate::specs::Grammar::heaps, cyc_lex::specs::Writing::write_all))]
+fn write_disjuncts(trees: &[HeapTree<'_>], writer: &mut WordWriter) -> Result<(), OutOfMemory>
+    requires { disjuncts.fits (map heap_of trees.now) }
+    ensures { OnOk result (writer.new ≡ write_all writer.old (disjuncts.words (map heap_of trees.now))) }
+{
+    match trees {
+        [] => unreachable!(),
+        [first, others @ ..] => {
+            write_heap(false, first, writer)?;
+            write_more_disjuncts(others, writer)?;
+            writer.name("by")
+        }
+    }
+}
+
+#[tactic(auto, using(cyc_lex::proofs::WritingLaws::write_all_on), unfolding(crate::specs::Grammar::judgement, cyc_lex::specs::Writing::write_all))]
+fn write_judgement(
+    tree: &EntailmentTree<'_>,
+    writer: &mut WordWriter,
+) -> Result<(), OutOfMemory>
+    requires { judgement.fits (entailment_of tree.now) }
+    ensures { OnOk result (writer.new ≡ write_all writer.old (judgement.words (entailment_of tree.now))) }
+{
+    write_heap(true, &tree.antecedent, writer)?;
+    writer.symbol("|-")?;
+    write_disjuncts(&tree.disjuncts, writer)
+}
+
+#[tactic(auto, using(cyc_lex::proofs::WritingLaws::write_all_on), unfolding(crate::specs::Grammar::premises, cyc_lex::specs::Writing::write_all))]
+fn write_premises(numbers: &[u32], writer: &mut WordWriter) -> Result<(), OutOfMemory>
+    ensures { OnOk result (writer.new ≡ write_all writer.old (premises.words numbers.now)) }
+{
+    match numbers {
+        [] => writer.symbol(";"),
+        [first, others @ ..] => {
+            writer.name("to")?;
+            writer.number(*first)?;
+            write_numbers(others, writer)?;
+            writer.symbol(";")
+        }
+    }
+}
+
+#[tactic(auto, using(cyc_lex::proofs::WritingLaws::write_all_on), unfolding(crate::specs::Grammar::node, cyc_lex::specs::Writing::write_all))]
+fn write_node(tree: &NodeTree<'_>, writer: &mut WordWriter) -> Result<(), OutOfMemory>
+    requires { node.fits (node_of tree.now) }
+    ensures { OnOk result (writer.new ≡ write_all writer.old (node.words (node_of tree.now))) }
+{
+    writer.name("node")?;
+    write_judgement(&tree.judgement, writer)?;
+    write_reason(&tree.reason, writer)?;
+    write_premises(&tree.premises, writer)
+}
+
+#[tactic(auto, unfolding(crate::specs::Grammar::more_nodes))]
+fn write_more_nodes(trees: &[NodeTree<'_>], writer: &mut WordWriter) -> Result<(), OutOfMemory>
+    requires { more_nodes.fits (map node_of trees.now) }
+    ensures { OnOk result (writer.new ≡ write_all writer.old (more_nodes.words (map node_of trees.now))) }
+{
+    for tree in trees {
+        write_node(tree, writer)?;
+    }
+    Ok(())
+}
+
+#[tactic(auto, using(cyc_lex::proofs::WritingLaws::write_all_on), unfolding(crate::specs::Grammar::nodes, cyc_lex::specs::Writing::write_all))]
+fn write_nodes(trees: &[NodeTree<'_>], writer: &mut WordWriter) -> Result<(), OutOfMemory>
+    requires { nodes.fits (map node_of trees.now) }
+    ensures { OnOk result (writer.new ≡ write_all writer.old (nodes.words (map node_of trees.now))) }
+{
+    match trees {
+        [] => unreachable!(),
+        [first, others @ ..] => {
+            write_node(first, writer)?;
+            write_more_nodes(others, writer)?;
+            writer.name("end")
+        }
+    }
+}
+
+#[tactic(auto, using(cyc_lex::proofs::WritingLaws::write_all_on), unfolding(crate::specs::Grammar::body, cyc_lex::specs::Writing::write_all))]
+fn write_body(tree: &FileTree<'_>, writer: &mut WordWriter) -> Result<(), OutOfMemory>
+    requires { body.fits (file_of tree.now) }
+    ensures { OnOk result (writer.new ≡ write_all writer.old (body.words (file_of tree.now))) }
+{
+    writer.name("cyclist")?;
+    writer.name("proof")?;
+    writer.number(1)?;
+    writer.symbol(";")?;
+    write_definitions(&tree.definitions, writer)?;
+    write_nodes(&tree.nodes, writer)?;
+    writer.symbol(";")
+}
+
+/// The text of a tree that has one: its words with one space between neighbours but where the format has none, and a line feed after each `;`.
+pub fn write_tree(alloc: Global, tree: &FileTree<'_>) -> Result<Vec<u8>, OutOfMemory>
+    requires { body.fits (file_of tree.now) }
+    ensures text { IfOk result (λ bytes. bytes.items ≡ text_of (body.words (file_of tree.now))) }
+    // The tree is read again from it.
+    ensures again { IfOk result (λ bytes. Spells bytes.items (body.words (file_of tree.now))) }
+{
+    let mut writer = WordWriter::new(alloc);
+    write_body(tree, &mut writer)?;
+    Ok(writer.finish())
+}
