@@ -1,8 +1,9 @@
 //! The graph, and the calls that change it.
 
 ghost use Rattle.std.specs.Prelude.{ℕ, IsTrue, ◌≡◌, ◌≢◌, ◌<◌, ◌≤◌, ◌↔◌, [], ◌∷◌, ◌++◌, Err, length, IfOk, OnOk, OnErr};
+ghost use Rattle.trace_pairs.specs.Graph.{IsGraph};
 ghost use Rattle.proof_graph.specs.Nodes.{open_node, with_reason, with_premise, changed_at, nodes_below, HasPremise, HasJudgement, IsViewed};
-ghost use Rattle.proof_graph.specs.Traces.{trace_graph_of};
+ghost use Rattle.proof_graph.specs.Traces.{trace_graph_of, HasJoints};
 
 use crate::copies::{copy_of_judgement, copy_of_node, copy_of_reason};
 use crate::nodes::{GraphNode, GraphPremises, NodeView, PremisePairs, first_slot, premises_of};
@@ -168,7 +169,10 @@ impl Graph {
     /// The trace graph: for each node the positions of its judgement, and an edge for each slot that is filled, in order,
     /// with the pairs of that premise. The first node is node 0.
     pub fn trace_graph(&self) -> Result<TraceGraph, OutOfMemory>
-        ensures { IfOk result (λ g. g ≡ trace_graph_of self.now) }
+        ensures value { IfOk result (λ g. g ≡ trace_graph_of self.now) }
+
+        // So a caller whose pairs join predicate atoms may ask whether every lasso of the graph progresses.
+        ensures in_order { IfOk result (λ g. HasJoints self.now → IsGraph g) }
     {
         traces_of(self.alloc, &self.nodes)
     }

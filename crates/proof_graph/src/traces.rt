@@ -2,8 +2,8 @@
 
 ghost use Rattle.std.specs.Prelude.{◌≡◌, IfOk};
 ghost use Rattle.heap_formula.specs.Judgements.{antecedent as antecedent_of_judgement};
-ghost use Rattle.trace_pairs.specs.Graph.{IsPositionSet};
-ghost use Rattle.proof_graph.specs.Traces.{positions_of, trace_pairs_of, edges_of as edges_of_premises, trace_graph_of};
+ghost use Rattle.trace_pairs.specs.Graph.{IsPositionSet, IsGraph};
+ghost use Rattle.proof_graph.specs.Traces.{positions_of, trace_edge as trace_edge_to, HasJoints, trace_node as trace_node_of, edges_of as edges_of_premises, trace_graph_of};
 
 use crate::nodes::{GraphNode, GraphPremise};
 use cyc_memory::OutOfMemory;
@@ -38,15 +38,15 @@ pub fn predicate_positions(alloc: Global, judgement: &Judgement) -> Result<Vec<u
     Ok(positions)
 }
 
-/// The pairs as the automata have them.
-fn triples_of(alloc: Global, pairs: &[Pair]) -> Result<Vec<(u8, u8, bool)>, OutOfMemory>
-    ensures { IfOk result (λ v. v.items ≡ trace_pairs_of pairs.now) }
+/// The edge of a trace graph to the node `target`, with these pairs.
+pub fn trace_edge(alloc: Global, target: u32, pairs: &[Pair]) -> Result<Edge, OutOfMemory>
+    ensures { IfOk result (λ e. e ≡ trace_edge_to target pairs.now) }
 {
     let mut triples = Vec::new(alloc);
     for pair in pairs {
         triples.push((pair.old, pair.new, pair.progress))?;
     }
-    Ok(triples)
+    Ok(Edge::new(target, triples))
 }
 
 /// An edge for each filled slot.
@@ -56,22 +56,30 @@ fn edges_of(alloc: Global, premises: &[GraphPremise]) -> Result<Vec<Edge>, OutOf
     let mut edges = Vec::new(alloc);
     for premise in premises {
         if let Some(target) = premise.slot {
-            let pairs = triples_of(alloc, premise.pairs.as_slice())?;
-            edges.push(Edge::new(target, pairs))?;
+            edges.push(trace_edge(alloc, target, premise.pairs.as_slice())?)?;
         }
     }
     Ok(edges)
 }
 
+/// The node of the trace graph.
+fn trace_node(alloc: Global, node: &GraphNode) -> Result<Node, OutOfMemory>
+    ensures value { IfOk result (λ n. n ≡ trace_node_of node.now) }
+    ensures set { IfOk result (λ n. IsPositionSet n.positions) }
+{
+    let positions = predicate_positions(alloc, &node.judgement)?;
+    let edges = edges_of(alloc, node.premises.as_slice())?;
+    Ok(Node::new(positions, edges))
+}
+
 /// The trace graph of the nodes.
 pub(crate) fn traces_of(alloc: Global, nodes: &[GraphNode]) -> Result<TraceGraph, OutOfMemory>
-    ensures { IfOk result (λ g. g ≡ trace_graph_of nodes.now) }
+    ensures value { IfOk result (λ g. g ≡ trace_graph_of nodes.now) }
+    ensures in_order { IfOk result (λ g. HasJoints nodes.now → IsGraph g) }
 {
     let mut graph = TraceGraph::new(alloc);
     for node in nodes {
-        let positions = predicate_positions(alloc, &node.judgement)?;
-        let edges = edges_of(alloc, node.premises.as_slice())?;
-        graph.push(Node::new(positions, edges))?;
+        graph.push(trace_node(alloc, node)?)?;
     }
     Ok(graph)
 }

@@ -13,7 +13,7 @@ loop-premise-preserved c =
 
 pub returns : goal.returns
 returns c =
-    written_back c.loop-premise.premise-items c.self.inside.premises.items c.self.inside.premises.len c.self.inside.premises.ok (c.loop-premise.auto.premise-items ∙ ap length c.deref_mut-premise-items.ensures.value)
+    written_back c.loop-premise.premise-items c.self.inside.premises.items c.self.inside.premises.len c.self.inside.premises.ok.0 (c.loop-premise.auto.premise-items ∙ ap length c.deref_mut-premise-items.ensures.value)
     ∙ (c.loop-premise.invariant
     ∙ (mapped_all (premise_below c.args.n) c.loop-premise.premise-index c.deref_mut-premise-items.result.now c.loop-premise-test.false
     ∙ ap (map (premise_below c.args.n)) (c.deref_mut-premise-items.ensures.value ∙ c.self.view_is)))
