@@ -1,12 +1,10 @@
 -- The trace graph of nodes whose pairs join predicate atoms is in order.
-use Rattle.std.proofs.Common.{◌≡◌, ℕ, zero, suc, ◌+◌, ◌<◌, ◌≤◌, List, [], ◌∷◌, ◌++◌, map, drop, length, arith, Bool, true, Option, Some, None, slice_get, refl, sym, ap, ◌∙◌, subst}
+use Rattle.std.proofs.Common.{◌≡◌, ℕ, zero, suc, ◌+◌, ◌≤◌, List, [], ◌∷◌, ◌++◌, map, drop, length, arith, true, Option, Some, None, slice_get, refl, sym, ap, ◌∙◌, subst}
 use Rattle.std.proofs.lemmas.List.{length-map}
 use Rattle.std.proofs.lemmas.Option.{slice_get_within}
 use Rattle.trace_pairs.proofs.Turning.{get_within}
 use Rattle.heap_formula.specs.declared.judgements.Pair.{Pair}
-use Rattle.heap_formula.specs.declared.judgements.Judgement.{Judgement}
-use Rattle.heap_formula.specs.declared.atoms.Spatial.{Spatial}
-use Rattle.trace_pairs.specs.Graph.{Node as TraceNode, Edge, Pair as TracePair, IsEdge, IsGraph, IsPositionSet, HasPositionSets, has}
+use Rattle.trace_pairs.specs.Graph.{Node as TraceNode, Edge, Pair as TracePair, IsGraph, IsPositionSet, HasPositionSets, has}
 use Rattle.proof_graph.specs.declared.nodes.GraphPremise.{GraphPremise}
 use Rattle.proof_graph.specs.declared.nodes.GraphNode.{GraphNode}
 use Rattle.proof_graph.specs.Traces.{positions_of, trace_pair, trace_pairs_of, trace_edge, edge_before, edges_of, trace_node, trace_graph_of, AreJoined, HasJoints}

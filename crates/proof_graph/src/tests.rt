@@ -83,6 +83,7 @@ fn a_graph(rt: HostRuntime) -> Result<(), Fail> {
         disjuncts: Positions::from_vec(Vec::new(alloc)),
     };
     let one = PremisePairs::from_vec(vec![in alloc; Pairs::new(alloc)]?);
+    assert!(rt; graph.len() == 2);
     graph.set_reason(1, &Reason::Back(link), &one)?;
     assert_eq!(rt; edges_of(alloc, &graph, 1)?.as_slice(), [(0, 0)].as_slice());
     graph.truncate(1);

@@ -1,8 +1,7 @@
 -- One node changed.
-use Rattle.std.proofs.Common.{◌≡◌, List, Some, arith, refl, ap, ◌∙◌, length}
+use Rattle.std.proofs.Common.{◌≡◌, Some, arith, refl, ap, ◌∙◌, length}
 use Rattle.std.proofs.lemmas.Option.{slice_get_read}
 use Rattle.proof_graph.specs.Nodes.{changed_at, with_reason, first_slot, premises_of}
-use Rattle.proof_graph.specs.declared.nodes.GraphPremise.{GraphPremise}
 use Rattle.proof_graph.proofs.Changes.{set_changed}
 use Rattle.proof_graph.proofs.graph.Graph.set_reason.Goals as goal
 
