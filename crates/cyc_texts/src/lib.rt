@@ -1,0 +1,14 @@
+//! The lines that the program prints, each ended by one line feed, as bytes.
+#![tactic(auto)]
+
+mod faults;
+mod line;
+mod places;
+mod verdicts;
+
+pub use cyc_memory::OutOfMemory;
+pub use places::{ill_formed_line, lexical_line, limit_line, syntax_line};
+pub use verdicts::{accepted_line, node_refused_line, path_refused_line};
+
+#[cfg(test)]
+mod tests;

@@ -1,0 +1,4 @@
+pub mod Endings
+pub mod Words
+pub mod StandIn
+pub mod Answers

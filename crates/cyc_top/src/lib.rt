@@ -1,0 +1,61 @@
+//! The top call: words and a source of bytes in, one line and a status out.
+#![tactic(auto)]
+
+ghost use Rattle.std.specs.Prelude.{◌≡◌, ◌≤◌, ℕ, List, map, string_bytes, true, false, Some, ◌⊎◌};
+ghost use Rattle.cyc_io.specs.Causes.{Rose};
+ghost use Rattle.cyc_top.specs.Words.{meaning_of, reads_input};
+ghost use Rattle.cyc_top.specs.Endings.{is_answer};
+ghost use Rattle.cyc_top.specs.Answers.{IsAnswer, IsHeadline, IsReadThrough, WroteAnswer, WrotePart};
+
+mod answers;
+mod endings;
+mod inputs;
+mod stand_in;
+mod tasks;
+mod verdicts;
+
+use cyc_io::{Sink, Source, write_all};
+pub use endings::Status;
+use inputs::{NoAnswer, answer_to};
+use std::alloc::Global;
+
+/// Does what the words of the command line, the program's name not among them, ask for: writes one
+/// line and says how it ended. The whole line is made before its first byte is written.
+pub fn run<S: Source, K: Sink>(alloc: Global, words: &[String], src: &mut S, out: &mut K) -> Status
+    // The line of the answer to the words and to the bytes that the source told was written, whole.
+    ensures answered { is_answer result ≡ true
+        → WroteAnswer (meaning_of (map string_bytes words.now)) (S.left src.old) (K.written out.old) (K.written out.new) result }
+    // Where the words have this answer for the told bytes, it comes, unless a read or a write fails.
+    ensures exact { (input : List ℕ) (status : Status) (text : List ℕ) → S.left src.old ≡ Some input
+        → IsAnswer (meaning_of (map string_bytes words.now)) input status text
+        → ¬ Rose (S.faults src.old) (S.faults src.new) → ¬ Rose (K.faults out.old) (K.faults out.new)
+        → (result ≡ status) ⊎ (result ≡ Status.OutOfMemory) }
+    // What was checked with success is true.
+    ensures headline { result ≡ Status.Success → IsHeadline (meaning_of (map string_bytes words.now)) (S.left src.old) }
+    // A task that needs its input was answered at the input's end, or after one byte more than may come.
+    ensures through { is_answer result ≡ true → reads_input (meaning_of (map string_bytes words.now)) ≡ true
+        → IsReadThrough (S.left src.old) (S.left src.new) }
+    ensures read_fault { result ≡ Status.ReadFault → Rose (S.faults src.old) (S.faults src.new) × (out.new ≡ out.old) }
+    ensures write_fault { result ≡ Status.WriteFault → Rose (K.faults out.old) (K.faults out.new)
+        × WrotePart (meaning_of (map string_bytes words.now)) (S.left src.old) (K.written out.old) (K.written out.new) }
+    ensures memory { result ≡ Status.OutOfMemory → out.new ≡ out.old }
+    // After a failed read or write no answer is given.
+    ensures calm { is_answer result ≡ true
+        → (S.faults src.new ≡ S.faults src.old) × (K.faults out.new ≡ K.faults out.old) }
+    ensures counted { (S.faults src.old ≤ S.faults src.new) × (K.faults out.old ≤ K.faults out.new) }
+    // A task that needs no input leaves the source as it was.
+    ensures unread { reads_input (meaning_of (map string_bytes words.now)) ≡ false → src.new ≡ src.old }
+{
+    let answer = match answer_to(alloc, words, src) {
+        Ok(answer) => answer,
+        Err(NoAnswer::ReadFault) => return Status::ReadFault,
+        Err(NoAnswer::OutOfMemory) => return Status::OutOfMemory,
+    };
+    match write_all(out, answer.text.as_slice()) {
+        Ok(()) => answer.status,
+        Err(_) => Status::WriteFault,
+    }
+}
+
+#[cfg(test)]
+mod tests;

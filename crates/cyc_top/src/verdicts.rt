@@ -1,0 +1,115 @@
+// Answers to a check, by its input.
+ghost use Rattle.std.specs.Prelude.{◌≡◌, ◌≢◌, ◌≤◌, ◌<◌, length, IfOk};
+ghost use Rattle.cyc_top.specs.Answers.{IsChecked, fault_status, fault_text, input_limit, is_back, link_count, nodes_text, verdict_status, verdict_text};
+
+use crate::answers::{Answer, fixed_answer};
+use crate::endings::Status;
+use crate::stand_in::{FileNode, ProofFile, Verdict, check, read_file};
+use cyc_lex::ReadFault;
+use cyc_memory::OutOfMemory;
+use cyc_texts::{
+    accepted_line, ill_formed_line, lexical_line, limit_line, node_refused_line, path_refused_line,
+    syntax_line,
+};
+use heap_formula::Reason;
+use std::alloc::Global;
+
+fn is_link(node: &FileNode) -> bool
+    ensures { result ≡ is_back node.now.reason }
+{
+    match node.reason {
+        Reason::Step(_) => false,
+        Reason::Back(_) => true,
+    }
+}
+
+fn links_of(nodes: &[FileNode]) -> usize
+    ensures { result ≡ link_count nodes.now }
+{
+    let mut links = 0;
+    for node in nodes {
+        if is_link(node) {
+            links += 1;
+        }
+    }
+    links
+}
+
+// The line for a proof that is right.
+fn nodes_line(alloc: Global, nodes: &[FileNode]) -> Result<Vec<u8>, OutOfMemory>
+    requires { 0 < length nodes.now }
+    ensures { IfOk result (λ line. line.items ≡ nodes_text nodes.now) }
+{
+    let links = links_of(nodes);
+    match nodes {
+        [root, ..] => accepted_line(alloc, &root.judgement, nodes.len() as u64, links as u64),
+        [] => unreachable!(),
+    }
+}
+
+fn answer_to_verdict(
+    alloc: Global,
+    file: &ProofFile,
+    verdict: Verdict,
+) -> Result<Answer, OutOfMemory>
+    requires { 0 < length file.now.nodes }
+    ensures status { IfOk result (λ a. a.status ≡ verdict_status verdict) }
+    ensures text { IfOk result (λ a. a.text.items ≡ verdict_text file.now.nodes verdict) }
+{
+    let (status, text) = match verdict {
+        Verdict::Accepted => (Status::Success, nodes_line(alloc, file.nodes.as_slice())?),
+        Verdict::RuleRefused { node, fault } => {
+            (Status::Refused, node_refused_line(alloc, node, fault)?)
+        }
+        Verdict::PathRefused { lasso } => (Status::Refused, path_refused_line(alloc, &lasso)?),
+        Verdict::TooManyStates => return fixed_answer(alloc, Status::Limit, "limit states\n"),
+    };
+    Ok(Answer { status, text })
+}
+
+// Want of memory has no answer.
+fn answer_to_fault(alloc: Global, fault: ReadFault) -> Result<Answer, OutOfMemory>
+    ensures known { IfOk result (λ a. fault ≢ ReadFault.OutOfMemory) }
+    ensures status { IfOk result (λ a. a.status ≡ fault_status fault) }
+    ensures text { IfOk result (λ a. a.text.items ≡ fault_text fault) }
+{
+    let (status, text) = match fault {
+        ReadFault::Lex(fault) => (Status::Unreadable, lexical_line(alloc, fault)?),
+        ReadFault::Syntax {
+            token,
+            line,
+            column,
+        } => (Status::Unreadable, syntax_line(alloc, token, line, column)?),
+        ReadFault::IllFormed {
+            fault,
+            token,
+            line,
+            column,
+        } => (
+            Status::IllFormed,
+            ill_formed_line(alloc, fault, token, line, column)?,
+        ),
+        ReadFault::Limit {
+            what,
+            token,
+            line,
+            column,
+        } => (Status::Limit, limit_line(alloc, what, token, line, column)?),
+        ReadFault::OutOfMemory => return Err(OutOfMemory),
+    };
+    Ok(Answer { status, text })
+}
+
+/// The answer to a check of these bytes.
+pub fn answer_to_bytes(alloc: Global, input: &[u8]) -> Result<Answer, OutOfMemory>
+    requires { length input.now ≤ input_limit }
+    ensures { IfOk result (λ a. IsChecked input.now a.status a.text.items) }
+{
+    match read_file(alloc, input) {
+        Ok(file) => {
+            let verdict = check(alloc, &file)?;
+            answer_to_verdict(alloc, &file, verdict)
+        }
+        Err(fault) => answer_to_fault(alloc, fault),
+    }
+}
