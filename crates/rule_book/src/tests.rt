@@ -1,0 +1,96 @@
+// Each rule of the table once.
+ghost use Rattle.std.specs.Prelude.{◌≤◌, length};
+
+use crate::premises;
+use heap_formula::{
+    Args, Disjuncts, Heap, Judgement, OutOfMemory, Positions, Pure, Rule, RuleError, RuleFault,
+    Side, Spatial, Term,
+};
+use pred_defs::Defs;
+use rule_table::{copy_pure_atoms, copy_spatial_atoms};
+use std::alloc::Global;
+use std::test::Fail;
+
+const X: Term = Term::Univ(0);
+
+const Y: Term = Term::Univ(1);
+
+const E: Term = Term::Exist(0);
+
+fn list(t: Term) -> Spatial {
+    Spatial::Pred(0, Args::from_slice(&[t]))
+}
+
+fn cell(t: Term, u: Term) -> Spatial {
+    Spatial::Cell(t, Args::from_slice(&[u]))
+}
+
+fn heap(alloc: Global, pure: &[Pure], spatial: &[Spatial]) -> Result<Heap, OutOfMemory>
+    requires pure_fits { length pure.now ≤ 64 }
+    requires spatial_fits { length spatial.now ≤ 32 }
+{
+    Ok(Heap::from_lists(
+        copy_pure_atoms(alloc, pure)?,
+        copy_spatial_atoms(alloc, spatial)?,
+    ))
+}
+
+// A list is empty, or a cell and the list to which it points.
+fn lists(alloc: Global) -> Result<Defs, Fail> {
+    let mut defs = Defs::new(alloc, 16);
+    let empty = heap(alloc, &[Pure::Eq(X, Term::Nil)], &[])?;
+    let longer = heap(alloc, &[], &[cell(X, E), list(E)])?;
+    defs.push("list", 1, &[empty, longer])?;
+    Ok(defs)
+}
+
+fn count(
+    alloc: Global,
+    defs: &Defs,
+    judgement: &Judgement,
+    rule: &Rule,
+) -> Result<usize, RuleError> {
+    Ok(premises(alloc, defs, judgement, rule)?.len())
+}
+
+#[test]
+fn each_rule_is_in_the_book(rt: HostRuntime) -> Result<(), Fail> {
+    let alloc = rt.alloc();
+    let defs = lists(alloc)?;
+    let a = heap(alloc, &[Pure::Eq(X, Y)], &[cell(X, Y), list(Y)])?;
+    let b = heap(alloc, &[Pure::Eq(Y, X)], &[list(Y), list(E)])?;
+    let j = Judgement::Entail(a, Disjuncts::single(alloc, b)?);
+    let runs = Judgement::Term(1, heap(alloc, &[], &[cell(X, Y), list(Y)])?);
+    let cut = Rule::Cut(
+        Positions::from_vec(Vec::new(alloc)),
+        heap(alloc, &[], &[list(E)])?,
+    );
+    for (rule, wanted) in [
+        (Rule::Absurd, Err(RuleError::Fault(RuleFault::NotAbsurd))),
+        (Rule::Rewrite(0, Side::Left), Ok(1)),
+        (Rule::Split(X, Y), Ok(2)),
+        (Rule::Distinct(0, 0), Ok(1)),
+        (Rule::Weaken(0), Ok(1)),
+        (Rule::Unfold(1), Ok(2)),
+        (cut, Ok(2)),
+        (Rule::Done, Err(RuleError::Fault(RuleFault::NotEmpty))),
+        (Rule::Choose(0), Ok(1)),
+        (Rule::PureRight(0), Ok(1)),
+        (Rule::Instantiate(0, X), Ok(1)),
+        (Rule::Frame(1, 0), Ok(1)),
+        (Rule::UnfoldRight(1, 1), Ok(1)),
+        (Rule::Exec, Err(RuleError::Fault(RuleFault::WrongJudgement))),
+        (
+            Rule::Drop(0),
+            Err(RuleError::Fault(RuleFault::WrongJudgement)),
+        ),
+    ] {
+        assert_eq!(rt; count(alloc, &defs, &j, &rule), wanted);
+    }
+    assert_eq!(rt; count(alloc, &defs, &runs, &Rule::Drop(1)), Ok(1));
+    assert_eq!(rt;
+        count(alloc, &defs, &runs, &Rule::Exec),
+        Err(RuleError::Fault(RuleFault::WrongJudgement))
+    );
+    Ok(())
+}
