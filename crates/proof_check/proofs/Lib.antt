@@ -1,0 +1,3 @@
+pub mod PositionSets
+pub mod FewEdges
+pub mod Holds
