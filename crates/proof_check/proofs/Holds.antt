@@ -39,22 +39,22 @@ use Rattle.proof_check.specs.Files.{pred_places, graph_pair, graph_edge, graph_n
 
 -- ---- what a look-up in a mapped list gives
 
-record Mapped {X Y : Type 0} (f : X → Y) (xs : List X) (k : ℕ) (y : Y) : Type 0 where
-  from : X
-  at : slice_get xs k ≡ Some from
-  is : f from ≡ y
+pub record Mapped {X Y : Type 0} (f : X → Y) (xs : List X) (k : ℕ) (y : Y) : Type 0 where
+  pub from : X
+  pub at : slice_get xs k ≡ Some from
+  pub is : f from ≡ y
 
-mapped_at : {X Y : Type 0} (f : X → Y) (xs : List X) (k : ℕ) (y : Y) → slice_get (map f xs) k ≡ Some y → Mapped f xs k y
+pub mapped_at : {X Y : Type 0} (f : X → Y) (xs : List X) (k : ℕ) (y : Y) → slice_get (map f xs) k ≡ Some y → Mapped f xs k y
 mapped_at f [] k y e = cc
 mapped_at f (x ∷ xs) zero y e = let same : f x ≡ y = cc in record { from = x; at = refl; is = same }
 mapped_at f (x ∷ xs) (suc k) y e = let r = mapped_at f xs k y e in record { from = r.from; at = r.at; is = r.is }
 
-at_mapped : {X Y : Type 0} (f : X → Y) (xs : List X) (k : ℕ) (x : X) → slice_get xs k ≡ Some x → slice_get (map f xs) k ≡ Some (f x)
+pub at_mapped : {X Y : Type 0} (f : X → Y) (xs : List X) (k : ℕ) (x : X) → slice_get xs k ≡ Some x → slice_get (map f xs) k ≡ Some (f x)
 at_mapped f [] k x e = cc
 at_mapped f (y ∷ xs) zero x e = let same : y ≡ x = cc in ap (λ z. Some (f z)) same
 at_mapped f (y ∷ xs) (suc k) x e = at_mapped f xs k x e
 
-each_at : {X : Type 0} (P : X → Type 0) (xs : List X) (k : ℕ) (x : X) → slice_get xs k ≡ Some x → Each P xs → P x
+pub each_at : {X : Type 0} (P : X → Type 0) (xs : List X) (k : ℕ) (x : X) → slice_get xs k ≡ Some x → Each P xs → P x
 each_at P [] k x e a = cc
 each_at P (y ∷ xs) zero x e a = let same : y ≡ x = cc in subst P same a.0
 each_at P (y ∷ xs) (suc k) x e a = each_at P xs k x e a.1
@@ -63,7 +63,7 @@ each_from : {X : Type 0} (P : X → Type 0) (xs : List X) → ((k : ℕ) (x : X)
 each_from P [] f = tt
 each_from P (x ∷ xs) f = (f 0 x refl, each_from P xs (λ k y e. f (suc k) y e))
 
-some_at : {X : Type 0} (xs : List X) (k : ℕ) → k < length xs → (x : X) × (slice_get xs k ≡ Some x)
+pub some_at : {X : Type 0} (xs : List X) (k : ℕ) → k < length xs → (x : X) × (slice_get xs k ≡ Some x)
 some_at [] k h = absurd (omega arith)
 some_at (x ∷ xs) zero h = (x, refl)
 some_at (x ∷ xs) (suc k) h = some_at xs k (omega arith)

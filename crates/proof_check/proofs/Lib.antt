@@ -1,3 +1,6 @@
 pub mod PositionSets
 pub mod FewEdges
 pub mod Holds
+mod SameJudgements
+mod PremiseLoops
+pub mod Checking

@@ -1,5 +1,5 @@
 -- The places of predicate atoms are a set of positions.
-use Rattle.std.proofs.Common.{◌≡◌, ℕ, zero, suc, ◌+◌, ◌<◌, ◌≤◌, ◌⊎◌, inl, inr, Bool, true, false, ◌||◌, List, [], ◌∷◌, length, refl, arith}
+use Rattle.std.proofs.Common.{◌≡◌, ℕ, zero, suc, ◌+◌, ◌<◌, ◌≤◌, ◌⊎◌, inl, inr, Bool, true, false, ◌||◌, List, [], ◌∷◌, length, refl, sym, subst, add-one, arith}
 use Rattle.std.specs.Prelude.{slice_index, nat_eq}
 use Rattle.std.proofs.lemmas.Bool.Decides.{Decides-eqb}
 use Rattle.heap_formula.specs.declared.atoms.Spatial.{Spatial}
@@ -25,11 +25,14 @@ first k [] h = absurd (omega arith)
 first k (Cell t ts ∷ xs) h = let r = first (suc k) xs h in omega arith
 first k (Pred p ts ∷ xs) h = omega arith
 
-rising : (k : ℕ) (xs : List Spatial) (i : ℕ) → i + 1 < length (pred_places k xs) → slice_index (pred_places k xs) i < slice_index (pred_places k xs) (i + 1)
+rising : (k : ℕ) (xs : List Spatial) (i : ℕ) → suc i < length (pred_places k xs) → slice_index (pred_places k xs) i < slice_index (pred_places k xs) (suc i)
 rising k [] i h = absurd (omega arith)
 rising k (Cell t ts ∷ xs) i h = rising (suc k) xs i h
 rising k (Pred p ts ∷ xs) zero h = first (suc k) xs (omega arith)
 rising k (Pred p ts ∷ xs) (suc i) h = rising (suc k) xs i (omega arith)
 
 pub places_are_a_set : (xs : List Spatial) → length xs ≤ 32 → IsPositionSet (pred_places 0 xs)
-places_are_a_set xs few = (rising 0 xs, λ q m. let r = within 0 xs q m in omega arith)
+places_are_a_set xs few = (
+  λ i h. subst (λ m. slice_index (pred_places 0 xs) i < slice_index (pred_places 0 xs) m) (sym (add-one i)) (rising 0 xs i (omega arith)),
+  λ q m. let r = within 0 xs q m in omega arith,
+)

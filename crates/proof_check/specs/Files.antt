@@ -1,5 +1,5 @@
 -- A proof file as a list of nodes and as a trace graph.
-use Rattle.std.specs.Prelude.{◌≡◌, ◌≤◌, ℕ, suc, length, List, [], ◌∷◌, map, Some, None, slice_get}
+use Rattle.std.specs.Prelude.{◌≡◌, ◌≤◌, ℕ, suc, length, List, [], ◌∷◌, map, Some, None, slice_get, slice_index}
 use Rattle.heap_formula.specs.declared.atoms.Spatial.{Spatial}
 use Rattle.heap_formula.specs.declared.atoms.Spatial.TheVariants.{Cell, Pred}
 use Rattle.heap_formula.specs.declared.commands.Command.{Command}
@@ -15,6 +15,10 @@ abbrev pub pred_places : ℕ → List Spatial → List ℕ
 pred_places k [] = []
 pred_places k (Cell t ts ∷ xs) = pred_places (suc k) xs
 pred_places k (Pred q ts ∷ xs) = k ∷ pred_places (suc k) xs
+
+-- a map's entry for a place, 0 past its end
+abbrev pub entry_of : List ℕ → ℕ → ℕ
+entry_of entries k = slice_index entries k
 
 abbrev pub graph_pair : Pair → GraphPair
 graph_pair p = (p.old, p.new, p.progress)

@@ -1,6 +1,6 @@
 -- What a verdict says of a proof file.
-use Rattle.std.specs.Prelude.{◌≡◌, ℕ, ◌<◌, List, [], Some, None, slice_get}
-use Rattle.heap_formula.specs.Judgements.{JudgementHolds}
+use Rattle.std.specs.Prelude.{◌≡◌, ℕ, ◌<◌, ◌≤◌, List, [], length, Some, None, slice_get}
+use Rattle.heap_formula.specs.Judgements.{JudgementHolds, antecedent}
 use Rattle.heap_formula.specs.declared.proof_rules.RuleFault.{RuleFault}
 use Rattle.rule_table.specs.Nodes.{Node, node_fault}
 use Rattle.trace_pairs.specs.Graph.{Node as GraphNode}
@@ -43,3 +43,12 @@ IsVerdict f Accepted = IsCorrect f × HasAtMost (file_graph f) state_limit × Ro
 IsVerdict f (RuleRefused v fault) = IsLeastFault f v fault
 IsVerdict f (PathRefused l) = HasRightNodes f × IsLasso (file_graph f) l × (Progresses (file_graph f) l → ⊥) × HasAtMost (file_graph f) state_limit
 IsVerdict f TooManyStates = HasRightNodes f × HasMoreThan (file_graph f) state_limit
+
+-- the nodes before v have no fault
+abbrev pub AreRightBelow : ProofFile → ℕ → Type 0
+AreRightBelow f v =
+    (u : ℕ) (node : Node) → u < v → slice_get (nodes_of f.nodes) u ≡ Some node → node_fault f.defs.most f.defs.list [] (nodes_of f.nodes) u node ≡ None
+
+-- their antecedents have at most 32 spatial atoms
+abbrev pub AreSmallBelow : ProofFile → ℕ → Type 0
+AreSmallBelow f v = (u : ℕ) (node : Node) → u < v → slice_get (nodes_of f.nodes) u ≡ Some node → length (antecedent node.judgement).spatial ≤ 32

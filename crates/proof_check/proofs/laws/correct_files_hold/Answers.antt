@@ -1,4 +1,4 @@
-use Rattle.std.proofs.Common.{refl}
+use Rattle.std.proofs.Common.{refl, []}
 use Rattle.proof_check.proofs.Holds.{correct_holds}
 use Rattle.proof_check.proofs.laws.correct_files_hold.Goals as goal
 
