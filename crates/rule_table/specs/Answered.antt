@@ -6,6 +6,7 @@ use Rattle.heap_formula.specs.declared.proof_rules.RuleError.TheVariants.{Fault,
 use Rattle.std.specs.declared.alloc.Global.{Global}
 use Rattle.rule_table.specs.Answer.{Answer}
 
+-- the call's answer against the table's
 abbrev pub IsAnswer : Result (Vec Premise Global) RuleError → Answer → Type 0
 IsAnswer (Ok v) answer = answer ≡ Ok v.items
 IsAnswer (Err (Fault f)) answer = answer ≡ Err f

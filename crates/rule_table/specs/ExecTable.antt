@@ -27,6 +27,7 @@ pub record Found : Type 0 where
   pub address : Term
   pub fields : List Term
 
+-- the same cell of a list with one more atom in front
 abbrev pub later : Option Found → Option Found
 later None = None
 later (Some c) = Some (record { place = suc c.place; address = c.address; fields = c.fields })
@@ -42,9 +43,11 @@ cell_of pures t (Cell u us ∷ xs) =
 abbrev pub renamed : ℕ → ℕ → SymbolicHeap → SymbolicHeap
 renamed x n a = apply_heap ((x, Univ n) ∷ []) a
 
+-- the same for a term
 abbrev pub renamed_term : ℕ → ℕ → Term → Term
 renamed_term x n t = apply_term ((x, Univ n) ∷ []) t
 
+-- with one more pure atom
 abbrev pub with_atom : SymbolicHeap → Pure → SymbolicHeap
 with_atom a x = record { pure = a.pure ++ x ∷ []; spatial = a.spatial }
 

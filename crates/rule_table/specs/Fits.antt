@@ -14,9 +14,11 @@ use Rattle.rule_table.specs.Answer.{Answer}
 abbrev pub IsPredAt : List Spatial → ℕ → Type 0
 IsPredAt xs k = (q : ℕ) × (ts : List Term) × (slice_get xs k ≡ Some (Pred q ts))
 
+-- each pair joins predicate atoms of the two lists
 abbrev pub PairsFit : List Spatial → List Spatial → List Pair → Type 0
 PairsFit olds news pairs = Each (λ p. IsPredAt olds p.old × IsPredAt news p.new) pairs
 
+-- each pair joins predicate atoms of the judgement's antecedent and of the premise's
 abbrev pub PremiseFits : Judgement → Premise → Type 0
 PremiseFits j premise = PairsFit (antecedent j).spatial (antecedent premise.judgement).spatial premise.pairs
 

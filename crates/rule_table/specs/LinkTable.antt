@@ -23,6 +23,7 @@ abbrev pub first_of : Option RuleFault → Option RuleFault → Option RuleFault
 first_of None g = g
 first_of (Some f) g = Some f
 
+-- the fault where the test does not hold
 abbrev pub fault_unless : Bool → RuleFault → Option RuleFault
 fault_unless true f = None
 fault_unless false f = Some f
@@ -37,12 +38,14 @@ abbrev pub pure_fault : List Pure → ℕ → List Pure → Option RuleFault
 pure_fault pures k [] = None
 pure_fault pures k (x ∷ xs) = cond (follows pures x) (pure_fault pures (suc k) xs) (Some (LinkPure k))
 
+-- equally many terms, and each two in one place are one or equated by the list
 abbrev pub all_equated : List Pure → List Term → List Term → Bool
 all_equated pures [] [] = true
 all_equated pures [] (u ∷ us) = false
 all_equated pures (t ∷ ts) [] = false
 all_equated pures (t ∷ ts) (u ∷ us) = equated pures t u && all_equated pures ts us
 
+-- both are cells, or both have one predicate, and their terms are equated
 abbrev pub matches : List Pure → Spatial → Spatial → Bool
 matches pures (Cell t ts) (Cell u us) = equated pures t u && all_equated pures ts us
 matches pures (Pred p ts) (Pred q us) = nat_eq p q && all_equated pures ts us
@@ -72,6 +75,7 @@ counts_agree xs ys (z ∷ zs) = nat_eq (count_of z xs) (count_of z ys) && counts
 abbrev pub same_atoms : List Spatial → List Spatial → Bool
 same_atoms xs ys = counts_agree xs ys xs && counts_agree xs ys ys
 
+-- each atom of the second list follows from the first
 abbrev pub all_follow : List Pure → List Pure → Bool
 all_follow pures [] = true
 all_follow pures (x ∷ xs) = follows pures x && all_follow pures xs

@@ -21,6 +21,7 @@ use Rattle.rule_table.specs.Tests.{same_pure, same_spatial}
 use Rattle.rule_table.specs.LinkTable.{first_of, fault_unless, link_fault, link_premise}
 use Rattle.rule_table.specs.RuleBook.{variables_of, rule_answer}
 
+-- a node of a proof: what it claims, why, and the numbers of its premises
 pub record Node : Type 0 where
   pub judgement : Judgement
   pub reason : Reason
@@ -28,15 +29,18 @@ pub record Node : Type 0 where
 
 -- ---- judgements that are one as they stand
 
+-- two lists have one length, and the test holds of each two members in one place
 abbrev pub all_same : {X : Type 0} → (X → X → Bool) → List X → List X → Bool
 all_same same [] [] = true
 all_same same [] (y ∷ ys) = false
 all_same same (x ∷ xs) [] = false
 all_same same (x ∷ xs) (y ∷ ys) = same x y && all_same same xs ys
 
+-- two heaps are one as they stand
 abbrev pub same_heap : SymbolicHeap → SymbolicHeap → Bool
 same_heap a b = all_same same_pure a.pure b.pure && all_same same_spatial a.spatial b.spatial
 
+-- two judgements are one as they stand
 abbrev pub same_judgement : Judgement → Judgement → Bool
 same_judgement (Entail a bs) (Entail b cs) = same_heap a b && all_same same_heap bs cs
 same_judgement (Runs i a) (Runs k b) = nat_eq i k && same_heap a b
@@ -58,11 +62,13 @@ premises_fault nodes v i (p ∷ ps) [] = Some PremiseCount
 premises_fault nodes v i (p ∷ ps) (u ∷ us) =
     first_of (fault_unless (nat_lt v u) NoSuchNode) (first_of (differs nodes i u p (slice_get nodes u)) (premises_fault nodes v (suc i) ps us))
 
+-- the rule's fault, then that of the numbers of premises, then those of the premises
 abbrev pub answer_fault : List Node → ℕ → List ℕ → Answer → Option RuleFault
 answer_fault nodes v us (Err f) = Some f
 answer_fault nodes v us (Ok ps) =
     first_of (fault_unless (nat_eq (length ps) (length us)) PremiseCount) (premises_fault nodes v 0 ps us)
 
+-- the fault of a link to this node, if there is such a node
 abbrev pub target_fault : Judgement → Link → ℕ → Option Node → Option RuleFault
 target_fault bud link p None = Some NoSuchNode
 target_fault bud link p (Some node) = link_fault bud node.judgement link p
@@ -73,32 +79,39 @@ reason_fault most ds lines nodes v j us (Step rule) = answer_fault nodes v us (r
 reason_fault most ds lines nodes v j us (Back link) =
     first_of (target_fault j link (variables_of lines j) (slice_get nodes link.target)) (fault_unless (nat_eq (length us) 0) PremiseCount)
 
+-- the first fault of node v, none where it is right
 abbrev pub node_fault : ℕ → List Definition → List Command → List Node → ℕ → Node → Option RuleFault
 node_fault most ds lines nodes v node = reason_fault most ds lines nodes v node.judgement node.premises node.reason
 
 -- ---- edges
 
+-- an edge of a proof: the node to which it leads, and the trace pairs along it
 pub record Edge : Type 0 where
   pub target : ℕ
   pub pairs : List Pair
 
+-- an edge to each premise's node, in order
 abbrev pub edges_to : List Premise → List ℕ → List Edge
 edges_to [] us = []
 edges_to (p ∷ ps) [] = []
 edges_to (p ∷ ps) (u ∷ us) = record { target = u; pairs = p.pairs } ∷ edges_to ps us
 
+-- the edges of a rule with this answer
 abbrev pub answer_edges : List ℕ → Answer → List Edge
 answer_edges us (Err f) = []
 answer_edges us (Ok ps) = edges_to ps us
 
+-- the edge of a link to this node
 abbrev pub link_edges : Link → Option Node → List Edge
 link_edges link None = []
 link_edges link (Some node) = record { target = link.target; pairs = (link_premise node.judgement link).pairs } ∷ []
 
+-- the edges of a node by its reason
 abbrev pub reason_edges : ℕ → List Definition → List Command → List Node → Judgement → List ℕ → Reason → List Edge
 reason_edges most ds lines nodes j us (Step rule) = answer_edges us (rule_answer most ds lines j rule)
 reason_edges most ds lines nodes j us (Back link) = link_edges link (slice_get nodes link.target)
 
+-- the edges of a node
 abbrev pub edges_of : ℕ → List Definition → List Command → List Node → Node → List Edge
 edges_of most ds lines nodes node = reason_edges most ds lines nodes node.judgement node.premises node.reason
 

@@ -16,6 +16,7 @@ abbrev pub variables_of : List Command → Judgement → ℕ
 variables_of lines (Entail a bs) = 0
 variables_of lines (Runs i a) = program_variables lines
 
+-- the answer of each rule; `most` is the greatest number of spatial atoms of a heap, 16 or 32 by the format's version
 abbrev pub rule_answer : ℕ → List Definition → List Command → Judgement → Rule → Answer
 rule_answer most ds lines j Absurd = absurd_answer j
 rule_answer most ds lines j (Rewrite k side) = rewrite_answer (variables_of lines j) j k side

@@ -16,6 +16,7 @@ use Rattle.heap_formula.specs.Programs.{program_variables}
 use Rattle.heap_formula.specs.Judgements.{IsLocallySound}
 use Rattle.rule_table.specs.Answer.{Answer}
 
+-- where the answer is premises, the judgement holds if they do
 abbrev pub IsSound : List Definition → List Command → Judgement → Answer → Type 0
 IsSound ds lines j (Ok ps) = IsLocallySound ds lines j ps
 IsSound ds lines j (Err f) = Unit {0}

@@ -1,0 +1,191 @@
+// Each fault and each form of a premise, once.
+ghost use Rattle.std.specs.Prelude.{◌≤◌, length};
+
+use crate::{
+    premises_choose, premises_done, premises_frame, premises_instantiate, premises_pure_right,
+};
+use heap_formula::{
+    Args, Disjuncts, Heap, Judgement, OutOfMemory, Pair, Premise, Pure, RuleError, RuleFault,
+    Spatial, Term,
+};
+use rule_table::{copy_pure_atoms, copy_spatial_atoms};
+use std::alloc::Global;
+use std::test::Fail;
+
+const X: Term = Term::Univ(0);
+
+const Y: Term = Term::Univ(1);
+
+const E: Term = Term::Exist(0);
+
+fn list(t: Term) -> Spatial {
+    Spatial::Pred(0, Args::from_slice(&[t]))
+}
+
+fn cell(t: Term, u: Term) -> Spatial {
+    Spatial::Cell(t, Args::from_slice(&[u]))
+}
+
+fn heap(alloc: Global, pure: &[Pure], spatial: &[Spatial]) -> Result<Heap, OutOfMemory>
+    requires pure_fits { length pure.now ≤ 64 }
+    requires spatial_fits { length spatial.now ≤ 32 }
+{
+    Ok(Heap::from_lists(
+        copy_pure_atoms(alloc, pure)?,
+        copy_spatial_atoms(alloc, spatial)?,
+    ))
+}
+
+fn entail(alloc: Global, a: Heap, b: Heap) -> Result<Judgement, OutOfMemory> {
+    Ok(Judgement::Entail(a, Disjuncts::single(alloc, b)?))
+}
+
+fn fault(answer: Result<Vec<Premise>, RuleError>) -> Option<RuleFault> {
+    match answer {
+        Err(RuleError::Fault(fault)) => Some(fault),
+        Err(RuleError::OutOfMemory) => None,
+        Ok(_) => None,
+    }
+}
+
+fn is_only(answer: Result<Vec<Premise>, RuleError>, judgement: &Judgement, pairs: &[Pair]) -> bool {
+    match answer {
+        Ok(premises) => {
+            premises.len() == 1
+                && premises[0].judgement == *judgement
+                && premises[0].pairs.as_slice() == pairs
+        }
+        Err(_) => false,
+    }
+}
+
+fn kept(old: u8, new: u8) -> Pair {
+    Pair {
+        old,
+        new,
+        progress: false,
+    }
+}
+
+fn faults(alloc: Global, judgement: &Judgement) -> Result<Vec<Option<RuleFault>>, Fail> {
+    let mut faults = Vec::new(alloc);
+    faults.push(fault(premises_done(alloc, judgement)))?;
+    faults.push(fault(premises_choose(alloc, judgement, 2)))?;
+    faults.push(fault(premises_pure_right(alloc, judgement, 0)))?;
+    faults.push(fault(premises_pure_right(alloc, judgement, 1)))?;
+    faults.push(fault(premises_pure_right(alloc, judgement, 2)))?;
+    faults.push(fault(premises_instantiate(alloc, judgement, 0, X)))?;
+    faults.push(fault(premises_frame(alloc, judgement, 0, 0)))?;
+    faults.push(fault(premises_frame(alloc, judgement, 0, 1)))?;
+    faults.push(fault(premises_frame(alloc, judgement, 0, 2)))?;
+    faults.push(fault(premises_frame(alloc, judgement, 1, 0)))?;
+    Ok(faults)
+}
+
+#[test]
+fn faults_of_each_rule(rt: HostRuntime) -> Result<(), Fail> {
+    let alloc = rt.alloc();
+    let runs = Judgement::Term(1, Heap::new(alloc));
+    let two = Judgement::Entail(
+        heap(alloc, &[], &[cell(X, Y)])?,
+        Disjuncts::from_slice(alloc, &[Heap::new(alloc), Heap::new(alloc)])?,
+    );
+    let right = entail(
+        alloc,
+        heap(alloc, &[], &[list(X)])?,
+        heap(
+            alloc,
+            &[Pure::Eq(E, E), Pure::Eq(X, Y)],
+            &[list(E), list(Y)],
+        )?,
+    )?;
+    let wrong = Some(RuleFault::WrongJudgement);
+    let several = Some(RuleFault::NotSingle);
+    let none = Some(RuleFault::NoSuchAtom);
+    let existential = Some(RuleFault::HasExistential);
+    let of_right = [
+        Some(RuleFault::NotEmpty),
+        none,
+        existential,
+        Some(RuleFault::NotFollowing),
+        none,
+        None,
+        existential,
+        Some(RuleFault::AtomsDiffer),
+        none,
+        none,
+    ];
+    let of_two = [
+        several, none, several, several, several, several, several, several, several, several,
+    ];
+    for (judgement, wanted) in [(runs, [wrong; 10]), (two, of_two), (right, of_right)] {
+        assert_eq!(rt; faults(alloc, &judgement)?.as_slice(), wanted.as_slice());
+    }
+    Ok(())
+}
+
+#[test]
+fn premises_of_each_rule(rt: HostRuntime) -> Result<(), Fail> {
+    let alloc = rt.alloc();
+    let closed = entail(
+        alloc,
+        heap(alloc, &[Pure::Eq(X, Y)], &[])?,
+        Heap::new(alloc),
+    )?;
+    assert_eq!(rt; premises_done(alloc, &closed)?.len(), 0);
+    let several = Judgement::Entail(
+        heap(alloc, &[], &[cell(X, Y), list(Y)])?,
+        Disjuncts::from_slice(alloc, &[Heap::new(alloc), heap(alloc, &[], &[list(X)])?])?,
+    );
+    let second = entail(
+        alloc,
+        heap(alloc, &[], &[cell(X, Y), list(Y)])?,
+        heap(alloc, &[], &[list(X)])?,
+    )?;
+    let first_list = heap(alloc, &[Pure::Eq(X, Y)], &[list(X)])?;
+    let equations = entail(
+        alloc,
+        first_list.clone()?,
+        heap(alloc, &[Pure::Neq(X, E), Pure::Eq(Y, X)], &[list(X)])?,
+    )?;
+    let equation_gone = entail(
+        alloc,
+        first_list.clone()?,
+        heap(alloc, &[Pure::Neq(X, E)], &[list(X)])?,
+    )?;
+    let instance = entail(
+        alloc,
+        first_list,
+        heap(alloc, &[Pure::Neq(X, Y), Pure::Eq(Y, X)], &[list(X)])?,
+    )?;
+    let both = entail(
+        alloc,
+        heap(alloc, &[], &[list(Y), cell(X, Y), list(X)])?,
+        heap(alloc, &[], &[cell(X, Y), list(Y)])?,
+    )?;
+    let framed = entail(
+        alloc,
+        heap(alloc, &[], &[list(Y), list(X)])?,
+        heap(alloc, &[], &[list(Y)])?,
+    )?;
+    let found = [
+        is_only(premises_choose(alloc, &several, 1), &second, &[kept(1, 1)]),
+        is_only(
+            premises_pure_right(alloc, &equations, 1),
+            &equation_gone,
+            &[kept(0, 0)],
+        ),
+        is_only(
+            premises_instantiate(alloc, &equations, 0, Y),
+            &instance,
+            &[kept(0, 0)],
+        ),
+        is_only(
+            premises_frame(alloc, &both, 1, 0),
+            &framed,
+            &[kept(0, 0), kept(2, 1)],
+        ),
+    ];
+    assert_eq!(rt; found, [true; 4]);
+    Ok(())
+}

@@ -1,0 +1,216 @@
+// Each fault and each form of a premise, once.
+ghost use Rattle.std.specs.Prelude.{◌≤◌, length};
+
+use crate::{
+    premises_absurd, premises_distinct, premises_drop, premises_rewrite, premises_split,
+    premises_weaken,
+};
+use heap_formula::{
+    Args, Disjuncts, Heap, Judgement, OutOfMemory, Pair, Premise, Pure, RuleError, RuleFault, Side,
+    Spatial, Term,
+};
+use rule_table::{copy_pure_atoms, copy_spatial_atoms};
+use std::alloc::Global;
+use std::test::Fail;
+
+const X: Term = Term::Univ(0);
+
+const Y: Term = Term::Univ(1);
+
+fn list(t: Term) -> Spatial {
+    Spatial::Pred(0, Args::from_slice(&[t]))
+}
+
+fn cell(t: Term, u: Term) -> Spatial {
+    Spatial::Cell(t, Args::from_slice(&[u]))
+}
+
+fn heap(alloc: Global, pure: &[Pure], spatial: &[Spatial]) -> Result<Heap, OutOfMemory>
+    requires pure_fits { length pure.now ≤ 64 }
+    requires spatial_fits { length spatial.now ≤ 32 }
+{
+    Ok(Heap::from_lists(
+        copy_pure_atoms(alloc, pure)?,
+        copy_spatial_atoms(alloc, spatial)?,
+    ))
+}
+
+fn entail(alloc: Global, a: Heap, b: Heap) -> Result<Judgement, OutOfMemory> {
+    Ok(Judgement::Entail(a, Disjuncts::single(alloc, b)?))
+}
+
+fn fault(answer: Result<Vec<Premise>, RuleError>) -> Option<RuleFault> {
+    match answer {
+        Err(RuleError::Fault(fault)) => Some(fault),
+        Err(RuleError::OutOfMemory) => None,
+        Ok(_) => None,
+    }
+}
+
+fn is_only(answer: Result<Vec<Premise>, RuleError>, judgement: &Judgement, pairs: &[Pair]) -> bool {
+    match answer {
+        Ok(premises) => {
+            premises.len() == 1
+                && premises[0].judgement == *judgement
+                && premises[0].pairs.as_slice() == pairs
+        }
+        Err(_) => false,
+    }
+}
+
+fn kept(old: u8, new: u8) -> Pair {
+    Pair {
+        old,
+        new,
+        progress: false,
+    }
+}
+
+fn faults(alloc: Global, judgement: &Judgement) -> Result<Vec<Option<RuleFault>>, Fail> {
+    let mut faults = Vec::new(alloc);
+    faults.push(fault(premises_absurd(alloc, judgement, 2)))?;
+    faults.push(fault(premises_rewrite(alloc, judgement, 2, 0, Side::Left)))?;
+    faults.push(fault(premises_rewrite(alloc, judgement, 2, 1, Side::Left)))?;
+    faults.push(fault(premises_rewrite(alloc, judgement, 2, 64, Side::Left)))?;
+    faults.push(fault(premises_split(alloc, judgement, 2, X, Term::Univ(65535))))?;
+    faults.push(fault(premises_distinct(alloc, judgement, 2, 0, 0)))?;
+    faults.push(fault(premises_distinct(alloc, judgement, 2, 2, 0)))?;
+    faults.push(fault(premises_weaken(alloc, judgement, 2, 2)))?;
+    faults.push(fault(premises_drop(alloc, judgement, 2, 1)))?;
+    Ok(faults)
+}
+
+#[test]
+fn faults_of_each_rule(rt: HostRuntime) -> Result<(), Fail> {
+    let alloc = rt.alloc();
+    let cells = entail(
+        alloc,
+        heap(
+            alloc,
+            &[Pure::Neq(X, Y), Pure::Eq(Term::Nil, X)],
+            &[cell(X, Y), cell(Y, X), list(X)],
+        )?,
+        Heap::new(alloc),
+    )?;
+    let full = Judgement::Term(1, heap(alloc, &[Pure::Eq(X, X); 64], &[cell(X, Y)])?);
+    let no_equation = Some(RuleFault::NotEquation);
+    let none = Some(RuleFault::NoSuchAtom);
+    let many = Some(RuleFault::TooManyAtoms);
+    let absurd = Some(RuleFault::NotAbsurd);
+    let of_cells = [
+        absurd,
+        no_equation,
+        no_equation,
+        none,
+        Some(RuleFault::NoFreshVariable),
+        None,
+        Some(RuleFault::NoCell),
+        none,
+        Some(RuleFault::WrongJudgement),
+    ];
+    let of_full = [absurd, None, None, none, many, many, none, None, none];
+    for (judgement, wanted) in [(cells, of_cells), (full, of_full)] {
+        assert_eq!(rt; faults(alloc, &judgement)?.as_slice(), wanted.as_slice());
+    }
+    Ok(())
+}
+
+#[test]
+fn premises_of_the_pure_rules(rt: HostRuntime) -> Result<(), Fail> {
+    let alloc = rt.alloc();
+    for a in [
+        heap(alloc, &[Pure::Neq(X, X)], &[])?,
+        heap(alloc, &[], &[list(X), cell(Term::Nil, X)])?,
+        heap(alloc, &[], &[cell(X, Y), list(Y), cell(X, X)])?,
+    ] {
+        assert_eq!(rt; premises_absurd(alloc, &Judgement::Term(3, a), 1)?.len(), 0);
+    }
+    let lists = [list(X)];
+    let whole = entail(
+        alloc,
+        heap(alloc, &[Pure::Eq(X, X), Pure::Eq(X, Y)], &lists)?,
+        heap(alloc, &[], &lists)?,
+    )?;
+    let trivial_gone = entail(
+        alloc,
+        heap(alloc, &[Pure::Eq(X, Y)], &lists)?,
+        heap(alloc, &[], &lists)?,
+    )?;
+    let by_left = entail(
+        alloc,
+        heap(alloc, &[Pure::Eq(Y, Y)], &[list(Y)])?,
+        heap(alloc, &[], &[list(Y)])?,
+    )?;
+    let runs = Judgement::Term(
+        1,
+        heap(alloc, &[Pure::Eq(X, Y), Pure::Neq(X, Term::Nil)], &lists)?,
+    );
+    let equation_stays = Judgement::Term(
+        1,
+        heap(
+            alloc,
+            &[Pure::Eq(X, Y), Pure::Neq(Y, Term::Nil)],
+            &[list(Y)],
+        )?,
+    );
+    let equation_goes = Judgement::Term(1, heap(alloc, &[Pure::Neq(X, Term::Nil)], &lists)?);
+    let found = [
+        is_only(
+            premises_rewrite(alloc, &whole, 0, 0, Side::Right),
+            &trivial_gone,
+            &[kept(0, 0)],
+        ),
+        is_only(
+            premises_weaken(alloc, &whole, 0, 0),
+            &trivial_gone,
+            &[kept(0, 0)],
+        ),
+        is_only(
+            premises_rewrite(alloc, &whole, 0, 1, Side::Left),
+            &by_left,
+            &[kept(0, 0)],
+        ),
+        is_only(
+            premises_rewrite(alloc, &runs, 1, 0, Side::Left),
+            &equation_stays,
+            &[kept(0, 0)],
+        ),
+        is_only(
+            premises_rewrite(alloc, &runs, 1, 0, Side::Right),
+            &equation_goes,
+            &[kept(0, 0)],
+        ),
+    ];
+    assert_eq!(rt; found, [true; 5]);
+    Ok(())
+}
+
+#[test]
+fn premises_of_the_other_rules(rt: HostRuntime) -> Result<(), Fail> {
+    let alloc = rt.alloc();
+    let atoms = [cell(X, Y), list(X), cell(Y, Y)];
+    let runs = Judgement::Term(2, heap(alloc, &[], &atoms)?);
+    let equal = Judgement::Term(2, heap(alloc, &[Pure::Eq(X, Y)], &atoms)?);
+    let different = Judgement::Term(2, heap(alloc, &[Pure::Neq(X, Y)], &atoms)?);
+    let not_nil = Judgement::Term(2, heap(alloc, &[Pure::Neq(Y, Term::Nil)], &atoms)?);
+    let rest = Judgement::Term(2, heap(alloc, &[], &[list(X), cell(Y, Y)])?);
+    let halves = premises_split(alloc, &runs, 0, X, Y)?;
+    assert_eq!(rt; halves.len(), 2);
+    let found = [
+        halves[0].judgement == equal && halves[0].pairs.as_slice() == [kept(1, 1)].as_slice(),
+        halves[1].judgement == different && halves[1].pairs.as_slice() == [kept(1, 1)].as_slice(),
+        is_only(
+            premises_distinct(alloc, &runs, 0, 0, 2),
+            &different,
+            &[kept(1, 1)],
+        ),
+        is_only(
+            premises_distinct(alloc, &runs, 0, 2, 2),
+            &not_nil,
+            &[kept(1, 1)],
+        ),
+        is_only(premises_drop(alloc, &runs, 0, 0), &rest, &[kept(1, 0)]),
+    ];
+    assert_eq!(rt; found, [true; 5]);
+    Ok(())
+}

@@ -1,0 +1,256 @@
+// Each fault and each form of a premise, once.
+ghost use Rattle.std.specs.Prelude.{◌≤◌, length};
+
+use crate::{premises_cut, premises_unfold, premises_unfold_right};
+use heap_formula::{
+    Args, Disjuncts, Heap, Judgement, OutOfMemory, Pair, Positions, Premise, Pure, RuleError,
+    RuleFault, Spatial, Term,
+};
+use pred_defs::Defs;
+use rule_table::{copy_pure_atoms, copy_spatial_atoms};
+use std::alloc::Global;
+use std::test::Fail;
+
+const X: Term = Term::Univ(0);
+
+const Y: Term = Term::Univ(1);
+
+const E: Term = Term::Exist(0);
+
+fn list(t: Term) -> Spatial {
+    Spatial::Pred(0, Args::from_slice(&[t]))
+}
+
+fn cell(t: Term, u: Term) -> Spatial {
+    Spatial::Cell(t, Args::from_slice(&[u]))
+}
+
+fn heap(alloc: Global, pure: &[Pure], spatial: &[Spatial]) -> Result<Heap, OutOfMemory>
+    requires pure_fits { length pure.now ≤ 64 }
+    requires spatial_fits { length spatial.now ≤ 32 }
+{
+    Ok(Heap::from_lists(
+        copy_pure_atoms(alloc, pure)?,
+        copy_spatial_atoms(alloc, spatial)?,
+    ))
+}
+
+fn entail(alloc: Global, a: Heap, b: Heap) -> Result<Judgement, OutOfMemory> {
+    Ok(Judgement::Entail(a, Disjuncts::single(alloc, b)?))
+}
+
+fn fault(answer: Result<Vec<Premise>, RuleError>) -> Option<RuleFault> {
+    match answer {
+        Err(RuleError::Fault(fault)) => Some(fault),
+        Err(RuleError::OutOfMemory) => None,
+        Ok(_) => None,
+    }
+}
+
+fn is_only(answer: Result<Vec<Premise>, RuleError>, judgement: &Judgement, pairs: &[Pair]) -> bool {
+    match answer {
+        Ok(premises) => {
+            premises.len() == 1
+                && premises[0].judgement == *judgement
+                && premises[0].pairs.as_slice() == pairs
+        }
+        Err(_) => false,
+    }
+}
+
+fn kept(old: u8, new: u8) -> Pair {
+    Pair {
+        old,
+        new,
+        progress: false,
+    }
+}
+
+fn positions(alloc: Global, places: &[u32]) -> Result<Positions, Fail> {
+    let mut list = Vec::new(alloc);
+    list.extend_from_slice(places)?;
+    Ok(Positions::from_vec(list))
+}
+
+// A list is empty, or a cell and the list to which it points.
+fn lists(alloc: Global, most: u8) -> Result<Defs, Fail>
+    requires { most ≤ 32 }
+{
+    let mut defs = Defs::new(alloc, most);
+    let empty = heap(alloc, &[Pure::Eq(X, Term::Nil)], &[])?;
+    let longer = heap(alloc, &[], &[cell(X, E), list(E)])?;
+    defs.push("list", 1, &[empty, longer])?;
+    Ok(defs)
+}
+
+fn faults(alloc: Global, judgement: &Judgement) -> Result<Vec<Option<RuleFault>>, Fail> {
+    let defs = lists(alloc, 16)?;
+    let formula = heap(alloc, &[], &[list(X), list(E)])?;
+    let mut faults = Vec::new(alloc);
+    faults.push(fault(premises_unfold(alloc, &defs, judgement, 2, 0)))?;
+    faults.push(fault(premises_unfold(alloc, &defs, judgement, 2, 1)))?;
+    faults.push(fault(premises_unfold(alloc, &defs, judgement, 2, 17)))?;
+    faults.push(fault(premises_unfold_right(alloc, &defs, judgement, 0, 0)))?;
+    faults.push(fault(premises_unfold_right(alloc, &defs, judgement, 1, 1)))?;
+    faults.push(fault(premises_unfold_right(alloc, &defs, judgement, 1, 2)))?;
+    faults.push(fault(premises_cut(
+        alloc,
+        judgement,
+        2,
+        &positions(alloc, &[1, 0])?,
+        &formula,
+        16,
+    )))?;
+    faults.push(fault(premises_cut(
+        alloc,
+        judgement,
+        2,
+        &positions(alloc, &[0, 1])?,
+        &formula,
+        16,
+    )))?;
+    faults.push(fault(premises_cut(
+        alloc,
+        judgement,
+        2,
+        &positions(alloc, &[0, 17])?,
+        &formula,
+        32,
+    )))?;
+    Ok(faults)
+}
+
+#[test]
+fn faults_of_each_rule(rt: HostRuntime) -> Result<(), Fail> {
+    let alloc = rt.alloc();
+    let runs = Judgement::Term(1, heap(alloc, &[], &[cell(X, Y), list(Term::Univ(65534))])?);
+    let full = entail(
+        alloc,
+        heap(alloc, &[], &[list(X); 16])?,
+        heap(alloc, &[], &[cell(X, Y), list(Term::Exist(65534))])?,
+    )?;
+    let two = Judgement::Entail(
+        heap(alloc, &[], &[list(X), list(Y)])?,
+        Disjuncts::from_slice(
+            alloc,
+            &[Heap::new(alloc), heap(alloc, &[], &[list(X); 17])?],
+        )?,
+    );
+    let none = Some(RuleFault::NoSuchAtom);
+    let wrong = Some(RuleFault::WrongJudgement);
+    let several = Some(RuleFault::NotSingle);
+    let many = Some(RuleFault::TooManyAtoms);
+    let number = Some(RuleFault::NoFreshVariable);
+    let of_full = [
+        many,
+        many,
+        none,
+        none,
+        number,
+        Some(RuleFault::NoSuchCase),
+        none,
+        None,
+        none,
+    ];
+    for (judgement, wanted) in [
+        (
+            runs,
+            [none, number, none, wrong, wrong, wrong, none, number, none],
+        ),
+        (full, of_full),
+        (
+            two,
+            [
+                many, many, none, several, several, several, none, many, none,
+            ],
+        ),
+    ] {
+        assert_eq!(rt; faults(alloc, &judgement)?.as_slice(), wanted.as_slice());
+    }
+    Ok(())
+}
+
+#[test]
+fn premises_of_unfolding(rt: HostRuntime) -> Result<(), Fail> {
+    let alloc = rt.alloc();
+    let defs = lists(alloc, 16)?;
+    let far = heap(alloc, &[], &[list(Term::Univ(5))])?;
+    let new = Term::Univ(6);
+    let whole = entail(
+        alloc,
+        heap(alloc, &[], &[cell(Y, X), list(X), list(Y)])?,
+        far.clone()?,
+    )?;
+    let empty = entail(
+        alloc,
+        heap(alloc, &[Pure::Eq(X, Term::Nil)], &[cell(Y, X), list(Y)])?,
+        far.clone()?,
+    )?;
+    let longer = entail(
+        alloc,
+        heap(alloc, &[], &[cell(Y, X), list(Y), cell(X, new), list(new)])?,
+        far,
+    )?;
+    let cases = premises_unfold(alloc, &defs, &whole, 0, 1)?;
+    assert_eq!(rt; cases.len(), 2);
+    let child = Pair {
+        old: 1,
+        new: 3,
+        progress: true,
+    };
+    let old = Term::Exist(2);
+    let local = Term::Exist(3);
+    let left = heap(alloc, &[], &[list(X)])?;
+    let right = entail(
+        alloc,
+        left.clone()?,
+        heap(alloc, &[], &[list(X), list(old)])?,
+    )?;
+    let unfolded = entail(
+        alloc,
+        left,
+        heap(alloc, &[], &[list(old), cell(X, local), list(local)])?,
+    )?;
+    let found = [
+        cases[0].judgement == empty && cases[0].pairs.as_slice() == [kept(2, 1)].as_slice(),
+        cases[1].judgement == longer && cases[1].pairs.as_slice() == [kept(2, 1), child].as_slice(),
+        is_only(
+            premises_unfold_right(alloc, &defs, &right, 0, 1),
+            &unfolded,
+            &[kept(0, 0)],
+        ),
+    ];
+    assert_eq!(rt; found, [true; 3]);
+    Ok(())
+}
+
+#[test]
+fn premises_of_cut(rt: HostRuntime) -> Result<(), Fail> {
+    let alloc = rt.alloc();
+    let pure = Pure::Neq(X, Term::Nil);
+    let far = list(Term::Univ(7));
+    let opened = Term::Univ(8);
+    let runs = Judgement::Term(4, heap(alloc, &[pure], &[list(Y), cell(X, Y), list(X)])?);
+    let formula = heap(alloc, &[Pure::Neq(E, X)], &[far, list(E)])?;
+    let premises = premises_cut(alloc, &runs, 2, &positions(alloc, &[0, 1])?, &formula, 16)?;
+    let left = entail(
+        alloc,
+        heap(alloc, &[pure], &[list(Y), cell(X, Y)])?,
+        formula,
+    )?;
+    let right = Judgement::Term(
+        4,
+        heap(
+            alloc,
+            &[pure, Pure::Neq(opened, X)],
+            &[list(X), far, list(opened)],
+        )?,
+    );
+    assert_eq!(rt; premises.len(), 2);
+    let found = [
+        premises[0].judgement == left && premises[0].pairs.as_slice() == [kept(0, 0)].as_slice(),
+        premises[1].judgement == right && premises[1].pairs.as_slice() == [kept(2, 0)].as_slice(),
+    ];
+    assert_eq!(rt; found, [true; 2]);
+    Ok(())
+}
