@@ -39,7 +39,7 @@ use Rattle.rule_table.specs.RuleBook.{variables_of, rule_answer}
 use Rattle.rule_table.specs.Nodes.{Node, Edge, edges_to, answer_edges, link_edges, edges_of}
 use Rattle.proof_check.specs.Files.{graph_edge, HasFewCases}
 
-abbrev IsFew : Answer → Type 0
+abbrev pub IsFew : Answer → Type 0
 IsFew (Ok ps) = length ps ≤ 16
 IsFew (Err f) = Unit {0}
 
@@ -171,3 +171,8 @@ few_edges most ds lines nodes h e node =
         short : (r : _) → length (edges_of most ds [] nodes (record n { reason = r })) ≤ 16
         short (Step rule) = answer_short n.premises (rule_answer most ds [] n.judgement rule) (rule_few most ds h n.judgement rule)
         short (Back link) = link_short link (slice_get nodes link.target)
+
+-- the premises that the table gives are few
+pub premises_few : (answer : Answer) (ps : List Premise) → IsFew answer → answer ≡ Ok ps → length ps ≤ 16
+premises_few (Ok qs) ps h e = let same : qs ≡ ps = cc in subst (λ (xs : List Premise). length xs ≤ 16) same h
+premises_few (Err f) ps h e = absurd cc

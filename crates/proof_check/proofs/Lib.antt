@@ -3,4 +3,6 @@ pub mod FewEdges
 pub mod Holds
 mod SameJudgements
 mod PremiseLoops
-pub mod Checking
+pub mod KeptFacts
+mod LinkPairs
+mod TestLoops

@@ -39,11 +39,7 @@ fn positions(alloc: Global, atoms: &[Spatial]) -> Result<Vec<u8>, OutOfMemory>
     Ok(places)
 }
 
-fn graph_node(
-    alloc: Global,
-    judgement: &Judgement,
-    edges: Vec<Edge>,
-) -> Result<Node, OutOfMemory>
+fn graph_node(alloc: Global, judgement: &Judgement, edges: Vec<Edge>) -> Result<Node, OutOfMemory>
     ensures value { IfOk result (λ n. n ≡ record { positions = pred_places 0 (antecedent judgement.now).spatial; edges = edges.items }) }
     ensures small { IfOk result (λ n. length (antecedent judgement.now).spatial ≤ 32) }
 {
@@ -65,11 +61,7 @@ fn test_nodes(alloc: Global, file: &ProofFile) -> Result<Tested, OutOfMemory>
     Ok(Tested::AllRight(graph))
 }
 
-fn path_verdict(
-    alloc: Global,
-    file: &ProofFile,
-    graph: &TraceGraph,
-) -> Result<Verdict, OutOfMemory>
+fn path_verdict(alloc: Global, file: &ProofFile, graph: &TraceGraph) -> Result<Verdict, OutOfMemory>
     requires graph { graph.now ≡ file_graph file.now }
     requires right { HasRightNodes file.now }
     requires small { HasSmallHeaps (nodes_of file.now.nodes) }

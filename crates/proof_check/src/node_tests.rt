@@ -1,5 +1,5 @@
 // The first fault of a node, or its edges in the trace graph.
-ghost use Rattle.std.specs.Prelude.{Ok, ◌≡◌, ◌+◌, ◌<◌, ◌≤◌, ◌^◌, ◌++◌, ◌∷◌, [], ℕ, List, None, map, length, slice_get, nat_eq, nat_lt, IfOk};
+ghost use Rattle.std.specs.Prelude.{Ok, Some, ◌≡◌, ◌+◌, ◌<◌, ◌≤◌, ◌^◌, ◌++◌, ◌∷◌, [], ℕ, List, None, map, length, slice_get, nat_eq, nat_lt, IfOk};
 ghost use Rattle.heap_formula.specs.Closedness.{IsUniversalHeap};
 ghost use Rattle.heap_formula.specs.Judgements.{antecedent};
 ghost use Rattle.heap_formula.specs.Positions.{pairs_from};
@@ -8,7 +8,7 @@ ghost use Rattle.heap_formula.specs.declared.proof_rules.RuleFault.TheVariants.{
 ghost use Rattle.rule_table.specs.LinkTable.{first_of, fault_unless, link_premise};
 ghost use Rattle.rule_table.specs.Nodes.{same_judgement as judgements_agree, differs as premise_differs, premises_fault as first_premises_fault, answer_fault as first_answer_fault, node_fault as first_node_fault, target_fault, link_edges, edges_to, answer_edges, edges_of};
 ghost use Rattle.rule_table.specs.RuleBook.{rule_answer};
-ghost use Rattle.proof_check.specs.Files.{entry_of, pred_places, graph_pair, graph_edge, node_of, nodes_of};
+ghost use Rattle.proof_check.specs.Files.{HasFewCases, entry_of, pred_places, graph_pair, graph_edge, node_of, nodes_of};
 ghost use Rattle.proof_check.specs.Answers.{IsNodeAnswer};
 
 use back_links::link_fault;
@@ -153,6 +153,7 @@ fn rule_node(
     rule: &Rule,
     numbers: &[u32],
 ) -> Result<NodeAnswer, OutOfMemory>
+    requires { Each HasFewCases defs.now.list }
     ensures { IfOk result (λ a. IsNodeAnswer a (first_answer_fault (nodes_of nodes.now) v numbers.now (rule_answer defs.now.most defs.now.list [] judgement.now rule.now)) (answer_edges numbers.now (rule_answer defs.now.most defs.now.list [] judgement.now rule.now))) }
 {
     match premises(alloc, defs, judgement, rule) {
@@ -162,11 +163,7 @@ fn rule_node(
     }
 }
 
-fn link_edge(
-    alloc: Global,
-    companion: &Judgement,
-    link: &Link,
-) -> Result<Edge, OutOfMemory>
+fn link_edge(alloc: Global, companion: &Judgement, link: &Link) -> Result<Edge, OutOfMemory>
     requires { Each (λ p. p.old < 256) (link_premise companion.now link.now).pairs }
     ensures { IfOk result (λ e. e ≡ graph_edge (record { target = link.now.target; pairs = (link_premise companion.now link.now).pairs })) }
 {
@@ -184,6 +181,26 @@ fn linked(alloc: Global, companion: &Judgement, link: &Link) -> Result<NodeAnswe
     Ok(NodeAnswer::Right(edges))
 }
 
+/// The answer for a link whose companion is there.
+fn link_answer(
+    alloc: Global,
+    judgement: &Judgement,
+    companion: &FileNode,
+    link: &Link,
+    numbers: &[u32],
+) -> Result<NodeAnswer, OutOfMemory>
+    ensures { IfOk result (λ a. IsNodeAnswer a (first_of (target_fault judgement.now link.now 0 (Some (node_of companion.now))) (fault_unless (nat_eq (length numbers.now) 0) PremiseCount)) (link_edges link.now (Some (node_of companion.now)))) }
+{
+    let _atoms = heap_of(judgement).spatial();
+    if let Some(fault) = link_fault(judgement, &companion.judgement, link, 0) {
+        return Ok(NodeAnswer::Faulty(fault));
+    }
+    if !numbers.is_empty() {
+        return Ok(NodeAnswer::Faulty(RuleFault::PremiseCount));
+    }
+    linked(alloc, &companion.judgement, link)
+}
+
 fn link_node(
     alloc: Global,
     nodes: &[FileNode],
@@ -196,14 +213,13 @@ fn link_node(
     if link.target as usize >= nodes.len() {
         return Ok(NodeAnswer::Faulty(RuleFault::NoSuchNode));
     }
-    let companion = &nodes[link.target as usize].judgement;
-    if let Some(fault) = link_fault(judgement, companion, link, 0) {
-        return Ok(NodeAnswer::Faulty(fault));
-    }
-    if !numbers.is_empty() {
-        return Ok(NodeAnswer::Faulty(RuleFault::PremiseCount));
-    }
-    linked(alloc, companion, link)
+    link_answer(
+        alloc,
+        judgement,
+        &nodes[link.target as usize],
+        link,
+        numbers,
+    )
 }
 
 /// The first fault of the node with number `v`, or its edges.
@@ -214,6 +230,7 @@ pub fn test_node(
     v: usize,
     node: &FileNode,
 ) -> Result<NodeAnswer, OutOfMemory>
+    requires { Each HasFewCases defs.now.list }
     ensures { IfOk result (λ a. IsNodeAnswer a (first_node_fault defs.now.most defs.now.list [] (nodes_of nodes.now) v (node_of node.now)) (edges_of defs.now.most defs.now.list [] (nodes_of nodes.now) (node_of node.now))) }
 {
     let numbers = node.premises.as_slice();

@@ -16,8 +16,8 @@ loop-i-preserved c =
     let rest = map graph_edge (edges_to (drop (i + 1) ps) (drop (i + 1) us)) in (
       premise_step (nodes_of c.args.nodes.now) c.args.v ps us i c.index-premises-i.result c.loop-i-test.true in_us same none ∙ c.loop-i.invariant.0,
       ap (λ (xs : List Edge). xs ++ rest) c.in_ok-push.ensures.items
-      ∙ append_assoc c.loop-i.edges.items (c.in_ok-premise_edge.field-0 ∷ []) rest
-      ∙ ap (λ (e : Edge). c.loop-i.edges.items ++ e ∷ rest) c.in_ok-premise_edge.ensures
-      ∙ ap (λ (es : List NodeEdge). c.loop-i.edges.items ++ map graph_edge es) (sym (edge_step ps us i c.index-premises-i.result c.loop-i-test.true in_us same))
-      ∙ c.loop-i.invariant.1,
+          ∙ append_assoc c.loop-i.edges.items (c.in_ok-premise_edge.field-0 ∷ []) rest
+          ∙ ap (λ (e : Edge). c.loop-i.edges.items ++ e ∷ rest) c.in_ok-premise_edge.ensures
+          ∙ ap (λ (es : List NodeEdge). c.loop-i.edges.items ++ map graph_edge es) (sym (edge_step ps us i c.index-premises-i.result c.loop-i-test.true in_us same))
+          ∙ c.loop-i.invariant.1,
     )

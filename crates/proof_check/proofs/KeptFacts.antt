@@ -48,7 +48,7 @@ nodes_readable ns e v node at =
     let r = each_at (λ (n : FileNode). is_readable n ≡ true) ns v m.from m.at (each_passes is_readable (λ n. is_readable n ≡ true) (λ n h. h) ns e) in
     subst (λ (n : Node). IsReadable n.judgement n.reason) m.is (node_readable m.from r)
 
-few_cases : (ds : List Definition) → all_have_few_cases ds ≡ true → Each HasFewCases ds
+pub few_cases : (ds : List Definition) → all_have_few_cases ds ≡ true → Each HasFewCases ds
 few_cases ds e = each_passes has_few_cases HasFewCases (λ d h. leb-true (length d.cases) 16 h) ds e
 
 module _ (f : ProofFile) (right : HasRightNodes f) (small : HasSmallHeaps (nodes_of f.nodes)) where
