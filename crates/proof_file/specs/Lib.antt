@@ -2,3 +2,4 @@ pub mod Spans
 pub mod Flaws
 pub mod Values
 pub mod Small
+pub mod Readable

@@ -24,7 +24,7 @@ use Rattle.proof_syntax.specs.declared.tree.SideTree.{SideTree}
 use Rattle.proof_syntax.specs.declared.tree.SideTree.TheVariants.{Left, Right}
 use Rattle.proof_syntax.specs.declared.tree.PairTree.{PairTree}
 use Rattle.proof_syntax.specs.Trees.{Spatial, Cell, Predicate, Heap, Definition, Entailment, LinkData, Reason, Absurd, Rewrite, Split, Distinct, Weaken, Unfold, Cut, Done, Choose, PureRight, Instantiate, Frame, UnfoldRight, Link, Node, File}
-use Rattle.proof_file.specs.declared.file.FileNode.{FileNode}
+use Rattle.proof_file.specs.declared.node.FileNode.{FileNode}
 
 abbrev pub term_value : TermTree → Term
 term_value Nil = terms.Nil

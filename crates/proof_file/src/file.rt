@@ -1,45 +1,20 @@
 // Proof files as values.
-ghost use Rattle.std.specs.Prelude.{◌≡◌};
+ghost use Rattle.std.specs.Prelude.{◌≡◌, ◌<◌, ◌≤◌, length, true};
+ghost use Rattle.proof_file.specs.Readable.{are_readable, all_have_few_cases};
 
-use heap_formula::{Judgement, Positions, Reason};
+use crate::node::FileNodes;
 use pred_defs::Defs;
-use std::marker::Model;
 
-/// A node of a proof: its judgement, why it holds, and the numbers of its premises' nodes, from 0.
+/// A proof file: the version of the format, the definitions, and the nodes of the proof, node 0 being its root. There is
+/// a node, and no existential variable stands in an antecedent, in the terms of a Split or an Instantiate, or in the
+/// values of a link's substitution.
 #[derive(Debug, Drop)]
-pub struct FileNode {
-    pub judgement: Judgement,
-    pub reason: Reason,
-    pub premises: Positions,
-}
-
-/// The nodes of a proof in the order of their numbers.
-#[derive(Debug, Drop)]
-pub struct FileNodes {
-    items: Vec<FileNode>,
-}
-
-impl Model for FileNodes {
-    ghost use Rattle.std.specs.Prelude.{List};
-    ghost use Rattle.proof_file.specs.declared.file.FileNode.{FileNode};
-
-    ghost Value = { List FileNode };
-
-    ghost view = { λ n. n.items.items };
-}
-
-impl FileNodes {
-    /// These nodes in this order, without a copy.
-    pub fn from_vec(items: Vec<FileNode>) -> FileNodes
-        ensures { result ≡ items.items }
-    {
-        FileNodes { items }
-    }
-
-    /// The nodes in order.
-    pub fn as_slice(&self) -> &[FileNode]
-        ensures { result.now ≡ self.now }
-    {
-        &self.items
-    }
+pub struct ProofFile {
+    pub version: u8,
+    pub defs: Defs,
+    pub nodes: FileNodes,
+    ghost some: { 0 < length nodes },
+    ghost few: { length nodes ≤ 20000 },
+    ghost readable: { are_readable nodes ≡ true },
+    ghost cases: { all_have_few_cases defs.list ≡ true },
 }

@@ -3,7 +3,9 @@
 
 mod file;
 mod flaw;
+mod node;
 mod values;
 mod walk;
 
-pub use file::{FileNode, FileNodes};
+pub use file::ProofFile;
+pub use node::{FileNode, FileNodes};

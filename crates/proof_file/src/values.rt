@@ -5,7 +5,7 @@ ghost use Rattle.proof_syntax.specs.Trees.{spatial_of, heap_of, definition_of, e
 ghost use Rattle.proof_file.specs.Small.{IsSmallTerm, AreSmallTerms, IsSmallPure, IsSmallSpatial, IsSmallHeap, IsSmallEntailment, IsSmallPair, IsSmallReason, IsSmallNode, IsSmallDefinition, IsSmallFile};
 ghost use Rattle.proof_file.specs.Values.{term_value, pure_value, place_of as first_place, spatial_value, heap_value, definition_value, judgement_value, side_value, pair_value, link_value, reason_value, node_value};
 
-use crate::file::FileNode;
+use crate::node::FileNode;
 use cyc_memory::OutOfMemory;
 use heap_formula::{
     Args, Cases, Def, DefName, Disjuncts, Heap, Judgement, Link, Positions, Pure, Reason, Rule,

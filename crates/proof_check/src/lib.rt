@@ -1,0 +1,11 @@
+//! Verdicts on proof files: each node by the rule table and the law of links, each path by the trace condition.
+#![tactic(auto)]
+
+mod checking;
+pub mod laws;
+mod node_tests;
+mod verdict;
+
+pub use checking::{MOST_STATES, check};
+pub use cyc_memory::OutOfMemory;
+pub use verdict::Verdict;

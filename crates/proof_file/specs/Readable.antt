@@ -1,0 +1,37 @@
+-- Nodes as the grammar lets them through: universal variables alone in an antecedent and in the terms of a reason.
+use Rattle.std.specs.Prelude.{Bool, true, ◌&&◌, List, length, nat_le}
+use Rattle.std.specs.List.{list_all}
+use Rattle.heap_formula.specs.declared.proof_rules.Rule.{Rule}
+use Rattle.heap_formula.specs.declared.proof_rules.Rule.TheVariants.{Split, Instantiate}
+use Rattle.heap_formula.specs.declared.proof_rules.Reason.{Reason}
+use Rattle.heap_formula.specs.declared.proof_rules.Reason.TheVariants.{Step, Back}
+use Rattle.heap_formula.specs.Definitions.{Definition}
+use Rattle.heap_formula.specs.Judgements.{antecedent}
+use Rattle.heap_formula.specs.Symbolic.{SymbolicHeap}
+use Rattle.rule_table.specs.Tests.{is_universal, is_universal_pure, is_universal_spatial}
+use Rattle.proof_file.specs.declared.node.FileNode.{FileNode}
+
+abbrev pub is_universal_heap : SymbolicHeap → Bool
+is_universal_heap a = list_all is_universal_pure a.pure && list_all is_universal_spatial a.spatial
+
+abbrev pub is_universal_rule : Rule → Bool
+is_universal_rule (Split t u) = is_universal t && is_universal u
+is_universal_rule (Instantiate v t) = is_universal t
+is_universal_rule _ = true
+
+abbrev pub is_universal_reason : Reason → Bool
+is_universal_reason (Step rule) = is_universal_rule rule
+is_universal_reason (Back link) = list_all (λ pair. is_universal pair.1) link.subst
+
+abbrev pub is_readable : FileNode → Bool
+is_readable n = is_universal_heap (antecedent n.judgement) && is_universal_reason n.reason
+
+abbrev pub are_readable : List FileNode → Bool
+are_readable ns = list_all is_readable ns
+
+-- a predicate has at most sixteen cases
+abbrev pub has_few_cases : Definition → Bool
+has_few_cases d = nat_le (length d.cases) 16
+
+abbrev pub all_have_few_cases : List Definition → Bool
+all_have_few_cases ds = list_all has_few_cases ds
