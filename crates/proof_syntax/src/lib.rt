@@ -17,3 +17,6 @@ pub use tree::{
     ReasonTree, SideTree, SpatialTree, TermTree,
 };
 pub use write_files::write_tree;
+
+#[cfg(test)]
+mod tests;
