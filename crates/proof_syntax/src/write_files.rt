@@ -5,7 +5,7 @@ ghost use Rattle.cyc_lex.specs.Spacing.{text_of};
 ghost use Rattle.cyc_lex.specs.Spelling.{Spells};
 ghost use Rattle.cyc_lex.specs.Writing.{write, write_all};
 ghost use Rattle.cyc_grammar.specs.Syntax.{after, words_many, fits_many};
-ghost use Rattle.proof_syntax.specs.Grammar.{bar, or_word, heap, terms, cases, disjuncts, definition, definitions, judgement, premises, node, more_nodes, nodes, body};
+ghost use Rattle.proof_syntax.specs.Grammar.{bar, or_word, heap, terms, cases, disjuncts, definition, definitions, judgement, premises, node, more_nodes, nodes, body, file};
 ghost use Rattle.proof_syntax.specs.Trees.{heap_of, definition_of, entailment_of, node_of, file_of};
 
 use crate::tree::{DefinitionTree, EntailmentTree, FileTree, HeapTree, NodeTree};
@@ -182,8 +182,9 @@ fn write_body(tree: &FileTree<'_>, writer: &mut WordWriter) -> Result<(), OutOfM
 }
 
 /// The text of a tree that has one: its words with one space between neighbours but where the format has none, and a line feed after each `;`.
+#[tactic(auto, unfolding(crate::specs::Grammar::file))]
 pub fn write_tree(alloc: Global, tree: &FileTree<'_>) -> Result<Vec<u8>, OutOfMemory>
-    requires { body.fits (file_of tree.now) }
+    requires { file.fits (file_of tree.now) }
     ensures text { IfOk result (λ bytes. bytes.items ≡ text_of (body.words (file_of tree.now))) }
     // The tree is read again from it.
     ensures again { IfOk result (λ bytes. Spells bytes.items (body.words (file_of tree.now))) }
