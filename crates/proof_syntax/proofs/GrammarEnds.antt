@@ -1,11 +1,11 @@
 -- The texts of the grammar are of lexemes, and the end word stands last.
-use Rattle.std.proofs.Common.{◌≡◌, ℕ, ◌<◌, Bool, true, false, List, ◌∷◌, length, refl, ◌⊎◌}
+use Rattle.std.proofs.Common.{◌≡◌, ℕ, Bool, true, false, List, refl, ◌⊎◌}
 use Rattle.std.specs.Prelude.{codes}
 use Rattle.cyc_lex.specs.Word.{is_number_text, is_symbol_text, is_lexeme}
 use Rattle.cyc_lex.proofs.Letters.{letters-name}
-use Rattle.cyc_grammar.specs.Syntax.{Syntax, Class, one, seq, alt, many, after, before, headed, nothing, is_one, uncons}
+use Rattle.cyc_grammar.specs.Syntax.{Syntax, Class, one, seq, is_one, uncons}
 use Rattle.cyc_grammar.specs.Classes.{number, keyword_of}
-use Rattle.cyc_grammar.proofs.ClassLaws.{symbol-lexeme, keyword-lexeme, number-lexeme, name-lexeme}
+use Rattle.cyc_grammar.proofs.ClassLaws.{number-lexeme, name-lexeme}
 use Rattle.cyc_grammar.proofs.Ends.{Inner, EndsLast, one-inner, seq-inner, after-inner, before-inner, alt-inner, many-inner, shaped-inner, nothing-inner, headed-inner, list1-inner, or_empty-inner, end-once}
 use Rattle.proof_syntax.specs.declared.tree.TermTree.{TermTree}
 use Rattle.proof_syntax.specs.declared.tree.PureTree.{PureTree}
@@ -15,7 +15,7 @@ use Rattle.proof_syntax.specs.declared.tree.SideTree.TheVariants.{Left, Right}
 use Rattle.proof_syntax.specs.declared.reason_word.ReasonWord.{ReasonWord}
 use Rattle.proof_syntax.specs.declared.reason_word.ReasonWord.TheVariants as words
 use Rattle.proof_syntax.specs.ReasonWords.{side_text, sides}
-use Rattle.proof_syntax.specs.Trees.{Spatial, Heap, Definition, Entailment, LinkData, Reason, Node, File}
+use Rattle.proof_syntax.specs.Trees.{Spatial, Heap, Definition, Entailment, Reason, Node}
 use Rattle.proof_syntax.specs.Grammar.{Any, nil, true_word, emp, pred_word, node_word, or_word, by_word, to_word, last_word, cyclist_word, proof_word, version, dollar, query, equal, unequal, comma, colon, semicolon, star, bar, arrow, assign, turnstile, opening, closing, opening_brace, closing_brace, opening_bracket, closing_bracket, reserved, free_name, to_term, from_term, term, to_uterm, from_uterm, IsUniversal, uterm, terms, to_sign, from_sign, sign, to_pure, from_pure, pure, some_pure, pures1, pures, fields, arguments, to_spatial, from_spatial, predicate, cell, spatial, some_spatial, spatials1, spatials, to_heap, from_heap, heap, some_heap, cons, IsSome, more_heaps, heaps, to_definition, from_definition, cases, definition, to_entailment, from_entailment, disjuncts, judgement, numbers, bracketed, two_numbers, side, rewrite, split, cut, instantiate, to_pair, from_pair, pair, some_pair, pairs1, pairs, to_link, from_link, link, Parts, parts, to_reason, from_reason, reason_word, reason, to_premises, from_premises, premises, to_node, from_node, node, some_node, definitions, more_nodes, nodes, to_file, from_file, body, file}
 
 -- ---- words

@@ -1,11 +1,11 @@
 -- The grammar is lawful: what is read is spelled so, what is spelled is read, and a fault is exact.
 use Rattle.std.proofs.Common.{◌≡◌, ℕ, ◌<◌, Bool, true, false, List, [], ◌∷◌, ◌++◌, length, Some, refl, ap, arith, inl, inr, ◌⊎◌}
 use Rattle.std.specs.Prelude.{codes}
-use Rattle.std.specs.Str.{bytes_eq, is_utf8}
+use Rattle.std.specs.Str.{bytes_eq}
 use Rattle.std.proofs.lemmas.Slice.Eq.{bytes_eq-Decides}
 use Rattle.cyc_lex.specs.Word.{Word}
 use Rattle.cyc_lex.proofs.Letters.{letters-name}
-use Rattle.cyc_grammar.specs.Syntax.{Syntax, Class, one, seq, alt, many, more_many, fits_many, after, before, headed, nothing, is_one, uncons, list1, or_empty}
+use Rattle.cyc_grammar.specs.Syntax.{Syntax, Class, one, seq, alt, more_many, fits_many, after, before, headed, is_one, uncons, list1}
 use Rattle.cyc_grammar.specs.Classes.{the_end, number, is_free_name, find_text, keyword_of}
 use Rattle.cyc_grammar.proofs.Laws.{Lawful, Stops, Begins, BeginsNot, BeginsNot-append, ClassLaw, one-law, seq-law, shaped-law, alt-law, many-law, after-law, before-law, nothing-law, headed-law, list1-law, or_empty-law, class-begins, uncons-cons, some-true, Stops-never}
 use Rattle.cyc_grammar.proofs.ClassLaws.{symbol-law, keyword-law, numeral-law, the_end-law, number-law, name-law, keyword_of-law}
@@ -18,8 +18,8 @@ use Rattle.proof_syntax.specs.declared.tree.SideTree.TheVariants.{Left, Right}
 use Rattle.proof_syntax.specs.declared.reason_word.ReasonWord.{ReasonWord}
 use Rattle.proof_syntax.specs.declared.reason_word.ReasonWord.TheVariants as words
 use Rattle.proof_syntax.specs.ReasonWords.{reason_text, reason_words, side_text, sides}
-use Rattle.proof_syntax.specs.Trees.{Spatial, Cell, Predicate, Heap, Definition, Entailment, LinkData, Reason, Absurd, Rewrite, Split, Distinct, Weaken, Unfold, Cut, Done, Choose, PureRight, Instantiate, Frame, UnfoldRight, Link, Node, File}
-use Rattle.proof_syntax.specs.Grammar.{Any, nil, true_word, emp, pred_word, node_word, or_word, by_word, to_word, last_word, cyclist_word, proof_word, version, dollar, query, equal, unequal, comma, colon, semicolon, star, bar, arrow, assign, turnstile, opening, closing, opening_brace, closing_brace, opening_bracket, closing_bracket, reserved, free_name, to_term, from_term, term, to_uterm, from_uterm, IsUniversal, uterm, terms, to_sign, from_sign, sign, to_pure, from_pure, pure, some_pure, pures1, pures, fields, arguments, to_spatial, from_spatial, predicate, cell, spatial, some_spatial, spatials1, spatials, to_heap, from_heap, heap, some_heap, cons, IsSome, more_heaps, heaps, to_definition, from_definition, cases, definition, to_entailment, from_entailment, disjuncts, judgement, numbers, bracketed, two_numbers, side, rewrite, split, cut, instantiate, to_pair, from_pair, pair, some_pair, pairs1, pairs, to_link, from_link, link, Parts, parts, made_of, to_reason, from_reason, reason_word, reason, to_premises, from_premises, premises, to_node, from_node, node, some_node, definitions, more_nodes, nodes, to_file, from_file, body, file}
+use Rattle.proof_syntax.specs.Trees.{Spatial, Cell, Predicate, Heap, Definition, Entailment, Reason, Absurd, Rewrite, Split, Distinct, Weaken, Unfold, Cut, Done, Choose, PureRight, Instantiate, Frame, UnfoldRight, Link, Node}
+use Rattle.proof_syntax.specs.Grammar.{Any, nil, true_word, emp, pred_word, node_word, or_word, by_word, to_word, last_word, dollar, query, equal, unequal, comma, colon, semicolon, star, bar, arrow, assign, turnstile, opening, closing, opening_brace, closing_brace, opening_bracket, closing_bracket, reserved, free_name, to_term, from_term, term, to_uterm, from_uterm, IsUniversal, uterm, terms, to_sign, from_sign, sign, to_pure, from_pure, pure, some_pure, pures1, pures, fields, arguments, to_spatial, from_spatial, predicate, cell, spatial, some_spatial, spatials1, spatials, to_heap, from_heap, heap, some_heap, cons, IsSome, more_heaps, heaps, to_definition, from_definition, cases, definition, to_entailment, from_entailment, disjuncts, judgement, numbers, bracketed, two_numbers, side, rewrite, split, cut, instantiate, to_pair, from_pair, pair, some_pair, pairs1, pairs, to_link, from_link, link, Parts, parts, made_of, to_reason, from_reason, reason_word, reason, to_premises, from_premises, premises, to_node, from_node, node, some_node, definitions, more_nodes, nodes, to_file, from_file, body, file}
 
 -- ---- terms
 

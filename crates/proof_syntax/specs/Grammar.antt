@@ -8,7 +8,6 @@ use Rattle.proof_syntax.specs.declared.tree.TermTree.{TermTree}
 use Rattle.proof_syntax.specs.declared.tree.TermTree.TheVariants.{Nil, Univ, Exist}
 use Rattle.proof_syntax.specs.declared.tree.PureTree.{PureTree}
 use Rattle.proof_syntax.specs.declared.tree.SideTree.{SideTree}
-use Rattle.proof_syntax.specs.declared.tree.SideTree.TheVariants.{Left}
 use Rattle.proof_syntax.specs.declared.tree.PairTree.{PairTree}
 use Rattle.proof_syntax.specs.declared.reason_word.ReasonWord.{ReasonWord}
 use Rattle.proof_syntax.specs.declared.reason_word.ReasonWord.TheVariants as words

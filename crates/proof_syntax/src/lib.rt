@@ -1,10 +1,10 @@
 //! Proof files as trees: their grammar, reading a tree from tokens with the exact syntax fault, and writing a tree.
 #![tactic(auto)]
 
-mod reason_word;
 mod read_files;
 mod read_heaps;
 mod read_reasons;
+mod reason_word;
 mod tree;
 mod write_files;
 mod write_heaps;

@@ -49,10 +49,7 @@ fn cases<'a>(alloc: Global, cursor: &mut Cursor<'_, 'a>) -> Result<Vec<HeapTree<
 }
 
 #[tactic(auto, unfolding(crate::specs::Grammar::definition))]
-fn definition<'a>(
-    alloc: Global,
-    cursor: &mut Cursor<'_, 'a>,
-) -> Result<DefinitionTree<'a>, Refusal>
+fn definition<'a>(alloc: Global, cursor: &mut Cursor<'_, 'a>) -> Result<DefinitionTree<'a>, Refusal>
     ensures { Gives (λ x. (definition_of x, cursor.new)) result (definition.read cursor.old) }
 {
     cursor.keyword("pred")?;
@@ -129,10 +126,7 @@ fn disjuncts<'a>(alloc: Global, cursor: &mut Cursor<'_, 'a>) -> Result<Vec<HeapT
 }
 
 #[tactic(auto, unfolding(crate::specs::Grammar::judgement))]
-fn judgement<'a>(
-    alloc: Global,
-    cursor: &mut Cursor<'_, 'a>,
-) -> Result<EntailmentTree<'a>, Refusal>
+fn judgement<'a>(alloc: Global, cursor: &mut Cursor<'_, 'a>) -> Result<EntailmentTree<'a>, Refusal>
     ensures { Gives (λ x. (entailment_of x, cursor.new)) result (judgement.read cursor.old) }
 {
     let antecedent = heap(alloc, true, cursor)?;

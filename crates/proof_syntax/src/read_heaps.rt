@@ -252,10 +252,7 @@ pub fn heap<'a>(
 
 /// Reads the numbers behind some.
 #[tactic(auto, unfolding(crate::specs::Grammar::numbers))]
-pub fn more_numbers(
-    mut items: Vec<u32>,
-    cursor: &mut Cursor<'_, '_>,
-) -> Result<Vec<u32>, Refusal>
+pub fn more_numbers(mut items: Vec<u32>, cursor: &mut Cursor<'_, '_>) -> Result<Vec<u32>, Refusal>
     ensures { Gives (λ x. (x.items, cursor.new)) result (with_front items.items (numbers.read cursor.old)) }
 {
     for _ in 0..cursor.left() {

@@ -72,10 +72,7 @@ fn split(cursor: &mut Cursor<'_, '_>) -> Result<(TermTree, TermTree), Refusal>
 }
 
 #[tactic(auto, unfolding(crate::specs::Grammar::cut))]
-fn cut<'a>(
-    alloc: Global,
-    cursor: &mut Cursor<'_, 'a>,
-) -> Result<(Vec<u32>, HeapTree<'a>), Refusal>
+fn cut<'a>(alloc: Global, cursor: &mut Cursor<'_, 'a>) -> Result<(Vec<u32>, HeapTree<'a>), Refusal>
     ensures { Gives (λ x. ((x.0.items, heap_of x.1), cursor.new)) result (cut.read cursor.old) }
 {
     let positions = bracketed(alloc, cursor)?;

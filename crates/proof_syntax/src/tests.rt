@@ -12,11 +12,13 @@ fn dead(alloc: Global, bytes: &[u8]) -> Result<Option<(u32, u32, u32)>, &'static
         Err(_) => Err("no tokens"),
         Ok(list) => match read_tree(alloc, &list) {
             Ok(_) => Ok(None),
-            Err(ReadFault::Syntax {
-                token,
-                line,
-                column,
-            }) => Ok(Some((token, line, column))),
+            Err(
+                ReadFault::Syntax {
+                    token,
+                    line,
+                    column,
+                },
+            ) => Ok(Some((token, line, column))),
             Err(_) => Err("another fault"),
         },
     }
@@ -45,19 +47,31 @@ fn finds_first_dead_token(rt: HostRuntime) -> Result<(), Fail> {
     assert_eq!(rt; dead(alloc, b"cyclist proof 01;")?, Some((2, 1, 15)));
     assert_eq!(rt; dead(alloc, b"cyclist proof 3;")?, Some((2, 1, 15)));
     assert_eq!(rt;
-        dead(alloc, b"cyclist proof 1;\nnode true : emp |- true : emp by Done to 0;\nend; end;\n")?,
+        dead(
+            alloc,
+            b"cyclist proof 1;\nnode true : emp |- true : emp by Done to 0;\nend; end;\n"
+        )?,
         Some((19, 3, 6))
     );
     assert_eq!(rt;
-        dead(alloc, b"cyclist proof 1;\nnode true : emp |- true : emp by Done to 0;\nend")?,
+        dead(
+            alloc,
+            b"cyclist proof 1;\nnode true : emp |- true : emp by Done to 0;\nend"
+        )?,
         Some((18, 3, 4))
     );
     assert_eq!(rt;
-        dead(alloc, b"cyclist proof 1;\nnode $0 = $01 : emp |- true : emp by Done;\nend;")?,
+        dead(
+            alloc,
+            b"cyclist proof 1;\nnode $0 = $01 : emp |- true : emp by Done;\nend;"
+        )?,
         Some((9, 2, 12))
     );
     assert_eq!(rt;
-        dead(alloc, b"cyclist proof 1;\nnode true : ?0 -> (nil) |- true : emp by Done;\nend;")?,
+        dead(
+            alloc,
+            b"cyclist proof 1;\nnode true : ?0 -> (nil) |- true : emp by Done;\nend;"
+        )?,
         Some((7, 2, 13))
     );
     assert_eq!(rt;
@@ -69,11 +83,17 @@ fn finds_first_dead_token(rt: HostRuntime) -> Result<(), Fail> {
         Some((16, 2, 27))
     );
     assert_eq!(rt;
-        dead(alloc, b"cyclist proof 1;\nnode true : emp |- true : emp by done;")?,
+        dead(
+            alloc,
+            b"cyclist proof 1;\nnode true : emp |- true : emp by done;"
+        )?,
         Some((13, 2, 34))
     );
     assert_eq!(rt;
-        dead(alloc, b"cyclist proof 1;\nnode true : emp |- true : emp by Done to;")?,
+        dead(
+            alloc,
+            b"cyclist proof 1;\nnode true : emp |- true : emp by Done to;"
+        )?,
         Some((15, 2, 41))
     );
     Ok(())

@@ -42,10 +42,7 @@ fn write_cases(trees: &[HeapTree<'_>], writer: &mut WordWriter) -> Result<(), Ou
 }
 
 #[tactic(auto, using(cyc_lex::proofs::WritingLaws::write_all_on), unfolding(crate::specs::Grammar::definition, cyc_lex::specs::Writing::write_all))]
-fn write_definition(
-    tree: &DefinitionTree<'_>,
-    writer: &mut WordWriter,
-) -> Result<(), OutOfMemory>
+fn write_definition(tree: &DefinitionTree<'_>, writer: &mut WordWriter) -> Result<(), OutOfMemory>
     requires { definition.fits (definition_of tree.now) }
     ensures { OnOk result (writer.new ≡ write_all writer.old (definition.words (definition_of tree.now))) }
 {
@@ -73,10 +70,7 @@ fn write_definitions(
     Ok(())
 }
 
-fn write_more_disjuncts(
-    trees: &[HeapTree<'_>],
-    writer: &mut WordWriter,
-) -> Result<(), OutOfMemory>
+fn write_more_disjuncts(trees: &[HeapTree<'_>], writer: &mut WordWriter) -> Result<(), OutOfMemory>
     requires { fits_many (after or_word (heap (terms false))) (map heap_of trees.now) }
     ensures { OnOk result (writer.new ≡ write_all writer.old (words_many (after or_word (heap (terms false))) (map heap_of trees.now))) }
 {
@@ -103,10 +97,7 @@ fn write_disjuncts(trees: &[HeapTree<'_>], writer: &mut WordWriter) -> Result<()
 }
 
 #[tactic(auto, using(cyc_lex::proofs::WritingLaws::write_all_on), unfolding(crate::specs::Grammar::judgement, cyc_lex::specs::Writing::write_all))]
-fn write_judgement(
-    tree: &EntailmentTree<'_>,
-    writer: &mut WordWriter,
-) -> Result<(), OutOfMemory>
+fn write_judgement(tree: &EntailmentTree<'_>, writer: &mut WordWriter) -> Result<(), OutOfMemory>
     requires { judgement.fits (entailment_of tree.now) }
     ensures { OnOk result (writer.new ≡ write_all writer.old (judgement.words (entailment_of tree.now))) }
 {

@@ -51,11 +51,7 @@ fn write_sign(is_equation: bool, writer: &mut WordWriter) -> Result<(), OutOfMem
 }
 
 #[tactic(auto, using(cyc_lex::proofs::WritingLaws::write_all_on), unfolding(crate::specs::Grammar::pure))]
-fn write_pure(
-    universal: bool,
-    tree: PureTree,
-    writer: &mut WordWriter,
-) -> Result<(), OutOfMemory>
+fn write_pure(universal: bool, tree: PureTree, writer: &mut WordWriter) -> Result<(), OutOfMemory>
     requires { (pure (terms universal)).fits tree }
     ensures { OnOk result (writer.new ≡ write_all writer.old ((pure (terms universal)).words tree)) }
 {

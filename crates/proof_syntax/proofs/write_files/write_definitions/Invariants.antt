@@ -3,7 +3,7 @@ use Rattle.std.specs.Prelude.{map}
 use Rattle.cyc_lex.specs.Writing.{write_all}
 use Rattle.cyc_grammar.specs.Syntax.{words_many, fits_many}
 use Rattle.proof_syntax.specs.Trees.{definition_of}
-use Rattle.proof_syntax.specs.Grammar.{definition, definitions}
+use Rattle.proof_syntax.specs.Grammar.{definition}
 use Rattle.proof_syntax.proofs.write_files.write_definitions.Given as goal
 
 abbrev pub invariant-loop-tree : goal.invariant-loop-tree

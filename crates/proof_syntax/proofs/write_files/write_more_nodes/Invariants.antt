@@ -3,7 +3,7 @@ use Rattle.std.specs.Prelude.{map}
 use Rattle.cyc_lex.specs.Writing.{write_all}
 use Rattle.cyc_grammar.specs.Syntax.{words_many, fits_many}
 use Rattle.proof_syntax.specs.Trees.{node_of}
-use Rattle.proof_syntax.specs.Grammar.{node, more_nodes}
+use Rattle.proof_syntax.specs.Grammar.{node}
 use Rattle.proof_syntax.proofs.write_files.write_more_nodes.Given as goal
 
 abbrev pub invariant-loop-tree : goal.invariant-loop-tree

@@ -1,4 +1,4 @@
-use Rattle.std.proofs.Common.{◌≡◌, ◌∙◌, ◌+◌, ◌∷◌, List, length, get_or, drop, ap, arith}
+use Rattle.std.proofs.Common.{◌≡◌, ◌+◌, get_or, drop, arith}
 use Rattle.cyc_lex.specs.Writing.{write_all}
 use Rattle.cyc_grammar.specs.Syntax.{words_many, one}
 use Rattle.cyc_grammar.proofs.WrittenTexts.{left-at, none-at, wrote-item, wrote-all}

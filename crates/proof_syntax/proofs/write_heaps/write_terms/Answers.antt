@@ -1,4 +1,4 @@
-use Rattle.std.proofs.Common.{◌≡◌, List, sym, ap, subst}
+use Rattle.std.proofs.Common.{◌≡◌, List, sym, subst}
 use Rattle.cyc_lex.specs.Writing.{write_all}
 use Rattle.cyc_grammar.proofs.WrittenTexts.{first-others, wrote-both, on-ok}
 use Rattle.proof_syntax.specs.declared.tree.TermTree.{TermTree}

@@ -1,4 +1,4 @@
-use Rattle.std.proofs.Common.{◌≡◌, refl}
+use Rattle.std.proofs.Common.{refl}
 use Rattle.proof_syntax.proofs.OtherTexts.{other}
 use Rattle.proof_syntax.proofs.reason_word.ReasonWord.from_text.Goals as goal
 
