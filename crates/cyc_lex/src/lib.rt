@@ -9,6 +9,7 @@ mod token;
 mod writer;
 
 pub use cutting::tokens;
+pub use cyc_memory::OutOfMemory;
 pub use fault::{IllFault, LexFault, ReadFault, What};
 pub use token::{Kind, Token, Tokens};
 pub use writer::WordWriter;

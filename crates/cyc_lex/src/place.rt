@@ -5,6 +5,9 @@ ghost use Rattle.std.specs.Char.{len_utf8};
 ghost use Rattle.cyc_lex.specs.Lexing.{pass};
 ghost use Rattle.cyc_lex.specs.Characters.{is_space, starts_name, goes_on, is_double, is_single};
 
+use crate::token::Kind;
+use std::alloc::AllocFailed;
+
 /// Bytes before it, and its line and column, counted from 1.
 #[derive(Clone, Copy, Debug, PartialEq, Eq)]
 pub struct Place {
@@ -37,9 +40,6 @@ pub enum Bad {
     LongNumber,
     LongName,
 }
-
-use crate::token::Kind;
-use std::alloc::AllocFailed;
 
 /// Why a text has no tokens.
 #[derive(Clone, Copy, Debug)]

@@ -11,7 +11,6 @@ mod write_heaps;
 mod write_reasons;
 
 pub use read_files::read_tree;
-pub use reason_word::ReasonWord;
 pub use tree::{
     DefinitionTree, EntailmentTree, FileTree, HeapTree, LinkTree, NodeTree, PairTree, PureTree,
     ReasonTree, SideTree, SpatialTree, TermTree,
