@@ -1,7 +1,7 @@
 -- The decision: for a least event, the moves that aren't earlier, and ways over them.
-use Rattle.std.specs.Prelude.{ℕ, ◌≡◌, ◌<◌, Bool, false, not, List, Some, slice_get, map, Vec}
+use Rattle.std.specs.Prelude.{ℕ, ◌≡◌, ◌<◌, Bool, true, false, not, List, Some, slice_get, map, Vec}
 use Rattle.std.specs.declared.alloc.Global.{Global}
-use Rattle.trace_pairs.specs.Graph.{Node}
+use Rattle.trace_pairs.specs.Graph.{Node, IsGraph}
 use Rattle.trace_pairs.specs.Walk.{Walk}
 use Rattle.trace_pairs.specs.Lasso.{IsLasso, Progresses}
 use Rattle.trace_pairs.specs.declared.lasso.Step.{Step}
@@ -11,7 +11,9 @@ use Rattle.buchi_core.specs.declared.event.Event.TheVariants.{Dies, Green, Nothi
 use Rattle.buchi_core.specs.Forest.{is_earlier}
 use Rattle.buchi_inclusion.specs.Product.{State, Run, Each, Over}
 use Rattle.buchi_inclusion.specs.declared.product.Transition.{Transition}
-use Rattle.buchi_inclusion.specs.Table.{IsStep}
+use Rattle.buchi_inclusion.specs.declared.decision.Class.{Class}
+use Rattle.buchi_inclusion.specs.Ranks.{IsRising}
+use Rattle.buchi_inclusion.specs.Table.{states_of, IsStep, IsItem, IsTable}
 
 -- a bad cycle's least event can be it
 abbrev pub IsLeast : Event → Type 0
@@ -104,3 +106,18 @@ IsAbsent least row = (k : ℕ) (m : Transition) → slice_get row k ≡ Some m �
 -- no move of any row has the event
 abbrev pub IsAbsentFrom : Event → List (Vec Transition Global) → Type 0
 IsAbsentFrom least rows = (q : ℕ) (row : Vec Transition Global) → slice_get rows q ≡ Some row → IsAbsent least row.items
+
+-- the class is that of its least event over the product of its graph
+pub record IsClassOf (c : Class) : Type 0 where
+  pub graph : IsGraph c.graph.now
+  pub table : IsTable c.graph.now (states_of c.table.now.states) c.table.now.rows.items
+  pub targets : IsClass c.least c.table.now.rows.items c.targets.now
+  pub least : IsLeast c.least
+  pub rising : c.rising ≡ true → IsRising c.targets.now c.ranks.now
+
+-- edge `edge` of the state at a place has the least event, and the steps lead back from its target
+pub record IsWayBack (c : Class) (place edge : ℕ) (back : List Step) : Type 0 where
+  pub item : Transition
+  pub is_item : IsItem c.graph.now (states_of c.table.now.states) place edge item
+  pub first : item.event ≡ c.least
+  pub walk : IsWalk c.graph.now (states_of c.table.now.states) c.least item.target place back

@@ -1,15 +1,13 @@
 //! Whether a cycle of the product is bad: for each least event a search over the moves whose events aren't earlier.
 
-ghost use Rattle.std.specs.Prelude.{ℕ, List, ◌≡◌, ◌≤◌, ◌<◌, Some, true, false, length, slice_get, IfOk, MatchOption};
+ghost use Rattle.std.specs.Prelude.{ℕ, ◌≡◌, ◌≤◌, ◌<◌, Some, true, false, length, slice_get, IfOk, MatchOption};
 ghost use Rattle.trace_pairs.specs.Graph.{IsGraph};
-ghost use Rattle.trace_pairs.specs.Visits.{IsVisited, AreVisits};
 ghost use Rattle.trace_pairs.specs.declared.reach.Visit.{Visit};
 ghost use Rattle.buchi_inclusion.specs.declared.product.Transition.{Transition};
 ghost use Rattle.buchi_core.specs.declared.event.Event.TheVariants.{Dies};
 ghost use Rattle.buchi_inclusion.specs.Product.{BadCycle};
 ghost use Rattle.buchi_inclusion.specs.Table.{states_of, IsTable, IsItem, AreItems};
-ghost use Rattle.buchi_inclusion.specs.Decision.{IsLeast, class_row as class_row_of, IsClass, IsWalk, IsNoWay, AreWays, IsWayBetween, IsCounter, AreNoWays, IsGoodClass, IsAbsent, IsAbsentFrom};
-ghost use Rattle.buchi_inclusion.specs.Ranks.{IsRising};
+ghost use Rattle.buchi_inclusion.specs.Decision.{IsLeast, class_row as class_row_of, IsClass, IsWalk, IsNoWay, AreWays, IsWayBetween, IsClassOf, IsWayBack, IsCounter, AreNoWays, IsGoodClass, IsAbsent, IsAbsentFrom};
 
 use crate::product::{Table, Transition, state_at};
 use crate::ranks::{are_rising, rank_of, ranks_of};
@@ -57,19 +55,29 @@ fn visit_at(visits: &[Visit], place: usize) -> Option<&Visit>
     visits.get(place)
 }
 
+/// The moves of a product whose events aren't earlier than a least event.
+#[derive(Clone, Copy)]
+struct Class<'a> {
+    graph: &'a TraceGraph,
+    table: &'a Table,
+    least: Event,
+    /// For each state a row of its moves: the targets, and whether the moves are of the class.
+    targets: &'a [Vec<(usize, bool)>],
+    /// The states' ranks, which don't fall along the moves of the class if `rising` says so.
+    ranks: &'a [usize],
+    rising: bool,
+}
+
 /// The steps that led from the first visit to the one at a place.
 fn steps_to(
     alloc: Global,
-    _graph: &TraceGraph,
-    table: &Table,
-    _least: Event,
-    _start: usize,
+    class: &Class<'_>,
     visits: &[Visit],
     place: usize,
 ) -> Result<Vec<Step>, OutOfMemory>
-    requires ways { AreWays _graph.now (states_of table.now.states) _least _start visits.now }
+    requires ways { (start : ℕ) × AreWays class.now.graph.now (states_of class.now.table.now.states) class.now.least start visits.now }
     requires place { place < length visits.now }
-    ensures { IfOk result (λ v. IsWayBetween _graph.now (states_of table.now.states) _least visits.now 0 place v.items) }
+    ensures { IfOk result (λ v. IsWayBetween class.now.graph.now (states_of class.now.table.now.states) class.now.least visits.now 0 place v.items) }
 {
     let mut steps = Vec::new(alloc);
     let mut at = place;
@@ -80,7 +88,7 @@ fn steps_to(
         let Some(from) = visit_at(visits, visit.from) else {
             unreachable!()
         };
-        let Some(state) = state_at(&table.states, from.state) else {
+        let Some(state) = state_at(&class.table.states, from.state) else {
             unreachable!()
         };
         steps.push(Step {
@@ -93,27 +101,22 @@ fn steps_to(
     Ok(steps)
 }
 
-/// Steps from the state at a place to that at another, over moves whose events aren't earlier than the least.
+/// Steps from the state at a place to that at another, over moves of the class.
 fn way_to(
     alloc: Global,
-    graph: &TraceGraph,
-    table: &Table,
-    class: &[Vec<(usize, bool)>],
-    least: Event,
+    class: &Class<'_>,
     start: usize,
     to: usize,
 ) -> Result<Option<Vec<Step>>, OutOfMemory>
-    requires graph { IsGraph graph.now }
-    requires table { IsTable graph.now (states_of table.now.states) table.now.rows.items }
-    requires class { IsClass least table.now.rows.items class.now }
-    requires start { start < length (states_of table.now.states) }
-    ensures { IfOk result (λ o. MatchOption o (IsNoWay graph.now (states_of table.now.states) least start to) (λ v. IsWalk graph.now (states_of table.now.states) least start to v.items)) }
+    requires class { IsClassOf class.now }
+    requires start { start < length (states_of class.now.table.now.states) }
+    ensures { IfOk result (λ o. MatchOption o (IsNoWay class.now.graph.now (states_of class.now.table.now.states) class.now.least start to) (λ v. IsWalk class.now.graph.now (states_of class.now.table.now.states) class.now.least start to v.items)) }
 {
-    let visits = visits_from(alloc, class, start)?;
+    let visits = visits_from(alloc, class.targets, start)?;
     let Some(at) = place_of(&visits, to) else {
         return Ok(None);
     };
-    let steps = steps_to(alloc, graph, table, least, start, &visits, at)?;
+    let steps = steps_to(alloc, class, &visits, at)?;
     Ok(Some(steps))
 }
 
@@ -130,35 +133,36 @@ fn stem_to(
     ensures { IfOk result (λ v. IsWalk graph.now (states_of table.now.states) (Dies 0) 0 place v.items) }
 {
     let least = Event::Dies(0);
-    let class = class_table(alloc, &table.rows, least)?;
-    let found = way_to(alloc, graph, table, &class, least, 0, place)?;
+    let targets = class_table(alloc, &table.rows, least)?;
+    let class = Class {
+        graph,
+        table,
+        least,
+        targets: &targets,
+        ranks: &[],
+        rising: false,
+    };
+    let found = way_to(alloc, &class, 0, place)?;
     let Some(steps) = found else { unreachable!() };
     Ok(steps)
 }
 
-/// The lasso of a move and a way back from its target.
+/// The lasso of a move with the least event and a way back from its target.
 fn counter_of(
     alloc: Global,
-    graph: &TraceGraph,
-    table: &Table,
-    _least: Event,
+    class: &Class<'_>,
     place: usize,
     edge: usize,
-    _item: Transition,
     back: &[Step],
 ) -> Result<Lasso, OutOfMemory>
-    requires graph { IsGraph graph.now }
-    requires table { IsTable graph.now (states_of table.now.states) table.now.rows.items }
-    requires least { IsLeast _least }
-    requires item { IsItem graph.now (states_of table.now.states) place edge _item }
-    requires first { _item.event ≡ _least }
-    requires back { IsWalk graph.now (states_of table.now.states) _least _item.target place back.now }
-    ensures { IfOk result (λ l. IsCounter graph.now l) }
+    requires class { IsClassOf class.now }
+    requires back { IsWayBack class.now place edge back.now }
+    ensures { IfOk result (λ l. IsCounter class.now.graph.now l) }
 {
-    let Some(state) = state_at(&table.states, place) else {
+    let Some(state) = state_at(&class.table.states, place) else {
         unreachable!()
     };
-    let stem = stem_to(alloc, graph, table, place)?;
+    let stem = stem_to(alloc, class.graph, class.table, place)?;
     let mut cycle = Vec::new(alloc);
     cycle.push(Step {
         node: state.node,
@@ -171,65 +175,45 @@ fn counter_of(
 /// A lasso that doesn't progress, if the move has the least event and there is a way back from its target.
 fn try_item(
     alloc: Global,
-    graph: &TraceGraph,
-    table: &Table,
-    class: &[Vec<(usize, bool)>],
-    ranks: &[usize],
-    rising: bool,
-    least: Event,
+    class: &Class<'_>,
     place: usize,
     edge: usize,
     item: Transition,
 ) -> Result<Option<Lasso>, OutOfMemory>
-    requires graph { IsGraph graph.now }
-    requires table { IsTable graph.now (states_of table.now.states) table.now.rows.items }
-    requires class { IsClass least table.now.rows.items class.now }
-    requires least { IsLeast least }
-    requires item { IsItem graph.now (states_of table.now.states) place edge item }
-    requires rising { rising ≡ true → IsRising class.now ranks.now }
-    ensures { IfOk result (λ o. MatchOption o (item.event ≡ least → IsNoWay graph.now (states_of table.now.states) least item.target place) (λ l. IsCounter graph.now l)) }
+    requires class { IsClassOf class.now }
+    requires item { IsItem class.now.graph.now (states_of class.now.table.now.states) place edge item }
+    ensures { IfOk result (λ o. MatchOption o (item.event ≡ class.now.least → IsNoWay class.now.graph.now (states_of class.now.table.now.states) class.now.least item.target place) (λ l. IsCounter class.now.graph.now l)) }
 {
-    if earlier(item.event, least) {
+    if earlier(item.event, class.least) {
         return Ok(None);
     }
-    if earlier(least, item.event) {
+    if earlier(class.least, item.event) {
         return Ok(None);
     }
-    if rising && rank_of(ranks, place) < rank_of(ranks, item.target) {
+    if class.rising && rank_of(class.ranks, place) < rank_of(class.ranks, item.target) {
         return Ok(None);
     }
-    let found = way_to(alloc, graph, table, class, least, item.target, place)?;
+    let found = way_to(alloc, class, item.target, place)?;
     let Some(back) = found else {
         return Ok(None);
     };
-    let lasso = counter_of(alloc, graph, table, least, place, edge, item, &back)?;
+    let lasso = counter_of(alloc, class, place, edge, &back)?;
     Ok(Some(lasso))
 }
 
 /// A lasso that doesn't progress, if a move of the row lies on a cycle of which it is the least.
 fn decide_row(
     alloc: Global,
-    graph: &TraceGraph,
-    table: &Table,
-    class: &[Vec<(usize, bool)>],
-    ranks: &[usize],
-    rising: bool,
-    least: Event,
+    class: &Class<'_>,
     place: usize,
     row: &[Transition],
 ) -> Result<Option<Lasso>, OutOfMemory>
-    requires graph { IsGraph graph.now }
-    requires table { IsTable graph.now (states_of table.now.states) table.now.rows.items }
-    requires class { IsClass least table.now.rows.items class.now }
-    requires least { IsLeast least }
-    requires row { AreItems graph.now (states_of table.now.states) place row.now }
-    requires rising { rising ≡ true → IsRising class.now ranks.now }
-    ensures { IfOk result (λ o. MatchOption o (AreNoWays graph.now (states_of table.now.states) least place row.now) (λ l. IsCounter graph.now l)) }
+    requires class { IsClassOf class.now }
+    requires row { AreItems class.now.graph.now (states_of class.now.table.now.states) place row.now }
+    ensures { IfOk result (λ o. MatchOption o (AreNoWays class.now.graph.now (states_of class.now.table.now.states) class.now.least place row.now) (λ l. IsCounter class.now.graph.now l)) }
 {
     for (edge, item) in row.iter().enumerate() {
-        let found = try_item(
-            alloc, graph, table, class, ranks, rising, least, place, edge, *item,
-        )?;
+        let found = try_item(alloc, class, place, edge, *item)?;
         if found.is_some() {
             return Ok(found);
         }
@@ -273,13 +257,19 @@ fn search_class(
     requires least { IsLeast least }
     ensures { IfOk result (λ o. MatchOption o (IsGoodClass graph.now (states_of table.now.states) table.now.rows.items least) (λ l. IsCounter graph.now l)) }
 {
-    let class = class_table(alloc, &table.rows, least)?;
-    let ranks = ranks_of(alloc, &class)?;
-    let rising = are_rising(&class, &ranks);
+    let targets = class_table(alloc, &table.rows, least)?;
+    let ranks = ranks_of(alloc, &targets)?;
+    let rising = are_rising(&targets, &ranks);
+    let class = Class {
+        graph,
+        table,
+        least,
+        targets: &targets,
+        ranks: &ranks,
+        rising,
+    };
     for (place, row) in table.rows.iter().enumerate() {
-        let found = decide_row(
-            alloc, graph, table, &class, &ranks, rising, least, place, row,
-        )?;
+        let found = decide_row(alloc, &class, place, row)?;
         if found.is_some() {
             return Ok(found);
         }

@@ -1,9 +1,8 @@
 //! The reachable states of the product, each once, in the order of discovery.
 
-ghost use Rattle.std.specs.Prelude.{ℕ, ◌≡◌, ◌≤◌, ◌<◌, ◌^◌, ◌⊎◌, ◌++◌, [], ◌∷◌, Some, true, false, length, map, slice_get, IfOk, OnOk, MatchOption};
-ghost use Rattle.buchi_inclusion.specs.Table.{state_of, states_of, IsFound, IsStep, IsLast, IsState, AreStates, IsItem, AreItems, IsRow, AreRows, AreApart, Extends, HasStart, IsTable};
+ghost use Rattle.std.specs.Prelude.{ℕ, ◌≡◌, ◌≤◌, ◌<◌, ◌^◌, Some, length, slice_get, IfOk, OnOk, MatchOption};
+ghost use Rattle.buchi_inclusion.specs.Table.{state_of, states_of, IsFound, IsStep, IsLast, IsState, AreStates, IsRow, Extends, IsTable};
 ghost use Rattle.trace_pairs.specs.Graph.{IsGraph};
-ghost use Rattle.buchi_core.specs.View.{forest_of};
 ghost use Rattle.buchi_inclusion.specs.Answers.{HasMoreThan};
 ghost use Rattle.buchi_inclusion.specs.Product.{State, IsStart};
 
@@ -13,7 +12,7 @@ use indexmap::IndexSet;
 use std::alloc::Global;
 use trace_pairs::TraceGraph;
 
-/// A node with a forest.
+/// A state of the product: a node with a forest.
 #[derive(Debug, Drop, PartialEq, Eq, Hash)]
 pub struct Product {
     pub node: u32,
@@ -76,7 +75,8 @@ fn step_from(
     Ok(Some((Product { node, forest }, event)))
 }
 
-/// The moves from the state at a place, whose targets are added to the states. None if there are more states than the limit then.
+/// The moves from the state at a place, whose targets are added to the states. None if there are more states than the
+/// limit then.
 fn explore_row(
     alloc: Global,
     graph: &TraceGraph,

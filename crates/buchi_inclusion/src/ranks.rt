@@ -3,7 +3,7 @@
 //! The ranks are those of the strongly connected components, sources first (two searches in depth). No clause says
 //! so: `are_rising` tests what the decision needs of them.
 
-ghost use Rattle.std.specs.Prelude.{ℕ, ◌≡◌, ◌≤◌, true, Some, slice_get, slice_index};
+ghost use Rattle.std.specs.Prelude.{◌≡◌, true, Some};
 ghost use Rattle.buchi_inclusion.specs.Ranks.{rank_at, IsRowRising, IsRising};
 
 use cyc_memory::OutOfMemory;
@@ -86,19 +86,35 @@ fn add_source(
     }
 }
 
+/// So many empty rows.
+fn empty_rows(alloc: Global, count: usize) -> Result<Vec<Vec<usize>>, OutOfMemory> {
+    let mut rows = Vec::new(alloc);
+    for _ in 0..count {
+        rows.push(Vec::new(alloc))?;
+    }
+    Ok(rows)
+}
+
+/// Adds the source to the rows of the targets of its allowed edges.
+fn add_row(
+    sources: &mut Vec<Vec<usize>>,
+    source: usize,
+    row: &[(usize, bool)],
+) -> Result<(), OutOfMemory> {
+    for edge in row {
+        let (target, allowed) = *edge;
+        if allowed {
+            add_source(sources, target, source)?;
+        }
+    }
+    Ok(())
+}
+
 /// For each state the sources of the allowed edges to it.
 fn sources_of(alloc: Global, table: &[Vec<(usize, bool)>]) -> Result<Vec<Vec<usize>>, OutOfMemory> {
-    let mut sources = Vec::new(alloc);
-    for _ in table {
-        sources.push(Vec::new(alloc))?;
-    }
+    let mut sources = empty_rows(alloc, table.len())?;
     for (source, row) in table.iter().enumerate() {
-        for edge in row {
-            let (target, allowed) = *edge;
-            if allowed {
-                add_source(&mut sources, target, source)?;
-            }
-        }
+        add_row(&mut sources, source, row)?;
     }
     Ok(sources)
 }
@@ -115,6 +131,21 @@ fn give(ranks: &mut Vec<usize>, state: usize, rank: usize) -> bool {
             true
         }
     }
+}
+
+/// Gives the rank to the sources that have none yet, and pushes them.
+fn climb_row(
+    row: &[usize],
+    rank: usize,
+    ranks: &mut Vec<usize>,
+    stack: &mut Vec<usize>,
+) -> Result<(), OutOfMemory> {
+    for source in row {
+        if give(ranks, *source, rank) {
+            stack.push(*source)?;
+        }
+    }
+    Ok(())
 }
 
 /// Gives the rank to the state and to all that lead to it and have none yet.
@@ -135,11 +166,7 @@ fn climb(
             return Ok(());
         };
         if let Some(row) = sources.get(state) {
-            for source in row {
-                if give(ranks, *source, rank) {
-                    stack.push(*source)?;
-                }
-            }
+            climb_row(row, rank, ranks, &mut stack)?;
         }
     }
     Ok(())

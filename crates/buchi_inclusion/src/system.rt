@@ -1,6 +1,6 @@
 //! The check of a proof system: its least faulty node, and else whether all its lassos progress.
 
-ghost use Rattle.std.specs.Prelude.{◌≡◌, ◌≤◌, length, IfOk, MatchOption};
+ghost use Rattle.std.specs.Prelude.{◌≡◌, IfOk, MatchOption};
 ghost use Rattle.trace_pairs.specs.System.{NoneFaulty, IsLeastFaulty};
 ghost use Rattle.buchi_inclusion.specs.Checked.{IsChecked};
 

@@ -1,6 +1,6 @@
 //! The graph, and the calls that change it.
 
-ghost use Rattle.std.specs.Prelude.{ℕ, IsTrue, ◌≡◌, ◌≢◌, ◌<◌, ◌≤◌, ◌↔◌, [], ◌∷◌, ◌++◌, Err, length, IfOk, OnOk, OnErr};
+ghost use Rattle.std.specs.Prelude.{IsTrue, ◌≡◌, ◌<◌, ◌≤◌, ◌↔◌, [], ◌∷◌, ◌++◌, Err, length, IfOk, OnOk, OnErr};
 ghost use Rattle.trace_pairs.specs.Graph.{IsGraph};
 ghost use Rattle.proof_graph.specs.Nodes.{open_node, with_reason, with_premise, changed_at, nodes_below, HasPremise, HasJudgement, IsViewed};
 ghost use Rattle.proof_graph.specs.Traces.{trace_graph_of, HasJoints};

@@ -1,6 +1,6 @@
 //! A small graph, built and taken apart, and the limit on nodes.
 
-ghost use Rattle.std.specs.Prelude.{◌≡◌, ◌<◌, length, IfOk};
+ghost use Rattle.std.specs.Prelude.{◌<◌};
 
 use super::*;
 use heap_formula::{
