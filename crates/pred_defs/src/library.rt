@@ -266,3 +266,14 @@ impl Defs {
         }
     }
 }
+
+impl Defs {
+    /// The definitions in this order, without a copy. The caller has seen to what `push` would refuse.
+    pub fn from_vec(alloc: Global, most: u8, items: Vec<Def>) -> Defs
+        requires fits { most ≤ 32 }
+        requires few { length items.items ≤ 4096 }
+        ensures { result ≡ record { most = most; list = items.items } }
+    {
+        Defs { alloc, most, items }
+    }
+}

@@ -83,8 +83,8 @@ module _ (scope : Scope) (narrow : IsNarrow scope) where
   pub pures_small : (k : ℕ) (xs : List PureTree) → listed_flaw (pure_flaw scope) pure_span 0 k xs ≡ None → Each IsSmallPure xs × (length xs ≤ 64)
   pures_small k xs e = (
     each_of (pure_flaw scope) pure_span IsSmallPure (λ n j x h.
-    let both = neither (term_flaw scope j x.left) (term_flaw scope (j + term_span x.left) x.right) (neither (over_if (nat_le 64 n) Pure j) (or_later (term_flaw scope j x.left) (term_flaw scope (j + term_span x.left) x.right)) h).1 in
-    (term_small scope narrow j x.left both.0, term_small scope narrow (j + term_span x.left) x.right both.1)) 0 k xs e,
+        let both = neither (term_flaw scope j x.left) (term_flaw scope (j + term_span x.left) x.right) (neither (over_if (nat_le 64 n) Pure j) (or_later (term_flaw scope j x.left) (term_flaw scope (j + term_span x.left) x.right)) h).1 in
+        (term_small scope narrow j x.left both.0, term_small scope narrow (j + term_span x.left) x.right both.1)) 0 k xs e,
     few_all (pure_flaw scope) pure_span 64 (λ n j x h. below 64 n (not_over _ Pure j (neither (over_if (nat_le 64 n) Pure j) (or_later (term_flaw scope j x.left) (term_flaw scope (j + term_span x.left) x.right)) h).0)) k xs e,
   )
 
@@ -123,7 +123,7 @@ module _ (ds : List Definition) where
       let b = neither (over_if (nat_le 4096 n) Predicates k) (or_later (ill_if (is_some (arity_in (take n ds) d.name)) Duplicate (k + 1)) (over_if (nat_lt 8 d.arity) Arguments (k + 3))) a.0 in
       let c = neither (ill_if (is_some (arity_in (take n ds) d.name)) Duplicate (k + 1)) (over_if (nat_lt 8 d.arity) Arguments (k + 3)) b.1 in
       let narrow = at_most 8 d.arity (not_over _ Arguments (k + 3) c.1) in
-      (below 4096 n (not_over _ Predicates k b.0), record { cases = each_of (case_flaw ds d.arity) heap_span IsSmallHeap (case_small d.arity narrow) 0 (k + 6) d.cases a.1 })
+      (below 4096 n (not_over _ Predicates k b.0), record { cases = each_of (case_flaw ds d.arity) heap_span IsSmallHeap (case_small d.arity narrow) 0 (k + 6) d.cases a.1; few = few_all (case_flaw ds d.arity) heap_span 16 (λ m i h g. below 16 m (not_over _ Cases i (neither (over_if (nat_le 16 m) Cases i) (heap_flaw ds (InCase d.arity) i h) g).0)) (k + 6) d.cases a.1 })
 
   disjunct_small : (n k : ℕ) (h : Heap) → disjunct_flaw ds n k h ≡ None → (n < 16) × IsSmallHeap h
   disjunct_small n k h e =
@@ -192,4 +192,5 @@ file_small f some e =
       definitions = each_of (definition_flaw ds) definition_span IsSmallDefinition (λ n k d h. (definition_small ds n k d h).1) 0 4 ds a.0;
       few = few_all (definition_flaw ds) definition_span 4096 (λ n k d h. (definition_small ds n k d h).0) 4 ds a.0;
       nodes = nodes_small ds 0 (4 + total definition_span ds) f.nodes some a.1;
+      nodes_few = few_all (node_flaw ds) node_span 20000 (λ n k x h. below 20000 n (not_over _ Nodes k (neither (over_if (nat_le 20000 n) Nodes k) (or_later (entailment_flaw ds (k + 1) x.judgement) (reason_flaw ds (k + 1 + entailment_span x.judgement) x.reason)) h).0)) (4 + total definition_span ds) f.nodes a.1;
     }

@@ -1,1 +1,5 @@
 mod Fitting
+mod SpanLaws
+mod ReadableNodes
+mod WithinSpans
+mod TokenPlaces

@@ -3,3 +3,4 @@ pub mod Flaws
 pub mod Values
 pub mod Small
 pub mod Readable
+pub mod Reading

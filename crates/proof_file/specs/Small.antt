@@ -58,8 +58,10 @@ IsSmallNode n = IsSmallEntailment n.judgement × IsSmallReason n.reason
 
 pub record IsSmallDefinition (d : Definition) : Type 0 where
   pub cases : Each IsSmallHeap d.cases
+  pub few : length d.cases ≤ 16
 
 pub record IsSmallFile (f : File) : Type 0 where
   pub definitions : Each IsSmallDefinition f.definitions
   pub few : length f.definitions ≤ 4096
   pub nodes : Each IsSmallNode f.nodes
+  pub nodes_few : length f.nodes ≤ 20000

@@ -4,8 +4,10 @@
 mod file;
 mod flaw;
 mod node;
+mod reading;
 mod values;
 mod walk;
 
 pub use file::ProofFile;
 pub use node::{FileNode, FileNodes};
+pub use reading::read_file;

@@ -2,7 +2,6 @@
 ghost use Rattle.std.specs.Prelude.{◌≡◌};
 
 use heap_formula::{Judgement, Positions, Reason};
-
 use std::marker::Model;
 
 /// A node of a proof: its judgement, why it holds, and the numbers of its premises' nodes, from 0.

@@ -1,0 +1,17 @@
+use Rattle.std.proofs.Common.{◌≡◌, ◌<◌, List, length, map, sym, ap, ◌∙◌, subst, refl, arith, get_or, Some}
+use Rattle.std.proofs.lemmas.List.{length-map}
+use Rattle.cyc_lex.specs.declared.token.Token.{Token}
+use Rattle.cyc_lex.specs.Placed.{Placed, placed}
+use Rattle.proof_file.specs.declared.flaw.Item.{Item}
+use Rattle.proof_file.proofs.TokenPlaces.{token_at}
+use Rattle.proof_file.proofs.reading.flaw_fault.Goals as goal
+
+pub returns-in-Ill : goal.returns-in-Ill
+returns-in-Ill c =
+    let within : c.args.flaw.token < length c.as_slice-all.result.now = omega (arith, c.requires.there, ap length c.as_slice-all.ensures, length-map c.as_slice-all.result.now placed) in
+    (ap (λ (item : Item). record { item = item; token = c.args.flaw.token }) c.in-Ill.is, token_at c.as_slice-all.result.now c.args.tokens.now c.args.flaw.token _ c.as_slice-all.ensures within)
+
+pub returns-in-Over : goal.returns-in-Over
+returns-in-Over c =
+    let within : c.args.flaw.token < length c.as_slice-all.result.now = omega (arith, c.requires.there, ap length c.as_slice-all.ensures, length-map c.as_slice-all.result.now placed) in
+    (ap (λ (item : Item). record { item = item; token = c.args.flaw.token }) c.in-Over.is, token_at c.as_slice-all.result.now c.args.tokens.now c.args.flaw.token _ c.as_slice-all.ensures within)
