@@ -1,3 +1,2 @@
 pub mod Told
-pub mod StandInLaws
-pub mod Exact
+pub mod Success

@@ -7,16 +7,17 @@ use Rattle.cyc_io.specs.Bytes.{AppendsProperPrefix, Came}
 use Rattle.cyc_texts.specs.Texts.{accepted_text, node_refused_text, path_refused_text, lexical_text, syntax_text, ill_formed_text, limit_text, input_limit_text, states_limit_text}
 use Rattle.cyc_lex.specs.declared.fault.ReadFault.{ReadFault}
 use Rattle.cyc_lex.specs.declared.fault.ReadFault.TheVariants as faults
-use Rattle.cyc_top.specs.declared.stand_in.FileNode.{FileNode}
-use Rattle.cyc_top.specs.declared.stand_in.ProofFile.{ProofFile}
-use Rattle.cyc_top.specs.declared.stand_in.Verdict.{Verdict}
-use Rattle.cyc_top.specs.declared.stand_in.Verdict.TheVariants.{Accepted, RuleRefused, PathRefused, TooManyStates}
+use Rattle.proof_file.specs.declared.node.FileNode.{FileNode}
+use Rattle.proof_file.specs.declared.file.ProofFile.{ProofFile}
+use Rattle.proof_check.specs.declared.verdict.Verdict.{Verdict}
+use Rattle.proof_check.specs.declared.verdict.Verdict.TheVariants.{Accepted, RuleRefused, PathRefused, TooManyStates}
 use Rattle.cyc_top.specs.declared.endings.Status.{Status}
 use Rattle.cyc_top.specs.declared.endings.Status.TheVariants as status
 use Rattle.cyc_top.specs.declared.tasks.Task.{Task}
 use Rattle.cyc_top.specs.declared.tasks.Task.TheVariants.{Check}
 use Rattle.cyc_top.specs.Words.{usage_text}
-use Rattle.cyc_top.specs.StandIn.{IsRead, IsVerdict, RootHolds}
+use Rattle.proof_file.specs.Reading.{IsRead}
+use Rattle.proof_check.specs.Verdicts.{IsVerdict, RootHolds}
 
 -- the greatest length of an input, in bytes
 abbrev pub input_limit : ℕ

@@ -1,4 +1,3 @@
 pub mod Endings
 pub mod Words
-pub mod StandIn
 pub mod Answers

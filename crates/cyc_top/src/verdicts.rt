@@ -4,7 +4,6 @@ ghost use Rattle.cyc_top.specs.Answers.{IsChecked, fault_status, fault_text, inp
 
 use crate::answers::{Answer, fixed_answer};
 use crate::endings::Status;
-use crate::stand_in::{FileNode, ProofFile, Verdict, check, read_file};
 use cyc_lex::ReadFault;
 use cyc_memory::OutOfMemory;
 use cyc_texts::{
@@ -12,6 +11,8 @@ use cyc_texts::{
     syntax_line,
 };
 use heap_formula::Reason;
+use proof_check::{Verdict, check};
+use proof_file::{FileNode, ProofFile, read_file};
 use std::alloc::Global;
 
 fn is_link(node: &FileNode) -> bool

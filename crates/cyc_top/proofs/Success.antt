@@ -1,54 +1,24 @@
--- Each task has one way to end for each input.
+-- What the success of a task says.
 use Rattle.std.proofs.Common.{◌≡◌, ℕ, List, sym, ◌∙◌, arith, subst, inl, inr, Option, Some, None}
 use Rattle.std.specs.Prelude.{Result, Ok, Err}
 use Rattle.cyc_lex.specs.declared.fault.ReadFault.{ReadFault}
 use Rattle.cyc_lex.specs.declared.fault.ReadFault.TheVariants as faults
-use Rattle.cyc_top.specs.declared.stand_in.ProofFile.{ProofFile}
-use Rattle.cyc_top.specs.declared.stand_in.Verdict.{Verdict}
-use Rattle.cyc_top.specs.declared.stand_in.Verdict.TheVariants.{Accepted, RuleRefused, PathRefused, TooManyStates}
+use Rattle.proof_file.specs.declared.file.ProofFile.{ProofFile}
+use Rattle.proof_check.specs.declared.verdict.Verdict.{Verdict}
+use Rattle.proof_check.specs.declared.verdict.Verdict.TheVariants.{Accepted, RuleRefused, PathRefused, TooManyStates}
 use Rattle.cyc_top.specs.declared.endings.Status.{Status}
 use Rattle.cyc_top.specs.declared.endings.Status.TheVariants as status
 use Rattle.cyc_top.specs.declared.tasks.Task.{Task}
 use Rattle.cyc_top.specs.declared.tasks.Task.TheVariants.{Check}
 use Rattle.cyc_top.specs.Answers.{Answers, IsAnswer, IsChecked, IsHeadline, IsReadAnswer, IsTold, fault_status, verdict_status}
-use Rattle.cyc_top.specs.StandIn.{IsRead, IsVerdict, RootHolds}
-use Rattle.cyc_top.proofs.StandInLaws.{one_reading, one_ending, accepted_holds}
-
--- an input that was read in one way is answered with one status
-pub read_answer_ends : (r : Result ProofFile ReadFault) (s t : Status) (xs ys : List ℕ) → IsReadAnswer r s xs → IsReadAnswer r t ys → s ≡ t
-read_answer_ends (Ok file) s t xs ys first second = first.2 ∙ one_ending file first.0 second.0 first.1 second.1 ∙ sym second.2
-read_answer_ends (Err fault) s t xs ys first second = first.0 ∙ sym second.0
-
--- a checked input is answered with one status
-pub checked_ends : (input : List ℕ) (s t : Status) (xs ys : List ℕ) → IsChecked input s xs → IsChecked input t ys → s ≡ t
-checked_ends input s t xs ys first second =
-    let same : first.1 ≡ second.1 = one_reading input first.1 second.1 first.2 second.2 in
-    read_answer_ends second.1 s t xs ys (subst (λ r. IsReadAnswer r s xs) same first.3) second.3
-
--- a task is answered for an input with one status
-pub one_status : (task : Option Task) (input : List ℕ) (s t : Status) (xs ys : List ℕ) → IsAnswer task input s xs → IsAnswer task input t ys → s ≡ t
-one_status None input s t xs ys first second = first.0 ∙ sym second.0
-one_status (Some Check) input s t xs ys (inl first) (inl second) = first.1 ∙ sym second.1
-one_status (Some Check) input s t xs ys (inr first) (inr second) = checked_ends input s t xs ys first second
-one_status (Some Check) input s t xs ys (inl first) (inr second) = absurd (omega (arith, first.0, second.0))
-one_status (Some Check) input s t xs ys (inr first) (inl second) = absurd (omega (arith, first.0, second.0))
-
--- the input that was told
-pub told_is : (told : Option (List ℕ)) (input other : List ℕ) → told ≡ Some input → IsTold told other → input ≡ other
-told_is None input other e told = cc
-told_is (Some xs) input other e told = cc
-
--- an answer to what was told is the one that the told input has
-pub told_status : (task : Option Task) (told : Option (List ℕ)) (input : List ℕ) (s t : Status) (xs ys : List ℕ) → told ≡ Some input → IsAnswer task input t ys → Answers task told s xs → s ≡ t
-told_status task told input s t xs ys e expected answer =
-    let same : answer.0 ≡ input = sym (told_is told input answer.0 e answer.1) in
-    one_status task input s t xs ys (subst (λ i. IsAnswer task i s xs) same answer.2) expected
+use Rattle.proof_file.specs.Reading.{IsRead}
+use Rattle.proof_check.specs.Verdicts.{IsVerdict, RootHolds}
 
 -- ---- success
 
 -- a verdict that ends a check with success accepts the file
 pub success_accepts : (file : ProofFile) (v : Verdict) → IsVerdict file v → status.Success ≡ verdict_status v → RootHolds file
-success_accepts file Accepted is e = accepted_holds file is
+success_accepts file Accepted is e = is.2
 success_accepts file (RuleRefused node fault) is e = absurd cc
 success_accepts file (PathRefused lasso) is e = absurd cc
 success_accepts file TooManyStates is e = absurd cc
