@@ -1,2 +1,4 @@
 pub mod Told
-pub mod Success
+pub mod Readings
+pub mod OneVerdict
+pub mod Exact

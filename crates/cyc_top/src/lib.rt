@@ -1,11 +1,11 @@
 //! The top call: words and a source of bytes in, one line and a status out.
 #![tactic(auto)]
 
-ghost use Rattle.std.specs.Prelude.{◌≡◌, ◌≤◌, map, string_bytes, true, false};
+ghost use Rattle.std.specs.Prelude.{◌≡◌, ◌≤◌, ℕ, List, map, string_bytes, true, false, Some, ◌⊎◌};
 ghost use Rattle.cyc_io.specs.Causes.{Rose};
 ghost use Rattle.cyc_top.specs.Words.{meaning_of, reads_input};
 ghost use Rattle.cyc_top.specs.Endings.{is_answer};
-ghost use Rattle.cyc_top.specs.Answers.{IsHeadline, IsReadThrough, WroteAnswer, WrotePart};
+ghost use Rattle.cyc_top.specs.Answers.{IsAnswer, IsHeadline, IsReadThrough, WroteAnswer, WrotePart};
 
 mod answers;
 mod endings;
@@ -24,6 +24,11 @@ pub fn run<S: Source, K: Sink>(alloc: Global, words: &[String], src: &mut S, out
     // The line of the answer to the words and to the bytes that the source told was written, whole.
     ensures answered { is_answer result ≡ true
         → WroteAnswer (meaning_of (map string_bytes words.now)) (S.left src.old) (K.written out.old) (K.written out.new) result }
+    // Where the words have this answer for the told bytes, it comes, unless a read or a write fails.
+    ensures exact { (input : List ℕ) (status : Status) (text : List ℕ) → S.left src.old ≡ Some input
+        → IsAnswer (meaning_of (map string_bytes words.now)) input status text
+        → ¬ Rose (S.faults src.old) (S.faults src.new) → ¬ Rose (K.faults out.old) (K.faults out.new)
+        → (result ≡ status) ⊎ (result ≡ Status.OutOfMemory) }
     // What was checked with success is true.
     ensures headline { result ≡ Status.Success → IsHeadline (meaning_of (map string_bytes words.now)) (S.left src.old) }
     // A task that needs its input was answered at the input's end, or after one byte more than may come.

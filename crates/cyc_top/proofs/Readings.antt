@@ -1,0 +1,141 @@
+-- Bytes are read in one way.
+use Rattle.std.proofs.Common.{◌≡◌, ◌≢◌, ◌⊎◌, inl, inr, ℕ, ◌+◌, List, [], ◌∷◌, ◌++◌, length, take, drop, Option, Some, None, Result, Ok, Err, refl, sym, ap, subst, ◌∙◌, take-append-drop}
+use Rattle.std.specs.Prelude.{map}
+use Rattle.cyc_lex.specs.declared.fault.IllFault.{IllFault}
+use Rattle.cyc_lex.specs.declared.fault.What.{What}
+use Rattle.cyc_lex.specs.declared.fault.LexFault.{LexFault}
+use Rattle.cyc_lex.specs.declared.fault.LexFault.TheVariants as lexical
+use Rattle.cyc_lex.specs.declared.fault.ReadFault.{ReadFault}
+use Rattle.cyc_lex.specs.declared.fault.ReadFault.TheVariants as faults
+use Rattle.cyc_lex.specs.Lexing.{tokens_of}
+use Rattle.cyc_lex.specs.Placed.{Placed}
+use Rattle.cyc_lex.specs.Word.{word_of}
+use Rattle.cyc_grammar.specs.Syntax.{read_whole}
+use Rattle.cyc_grammar.specs.Faults.{IsSyntaxFault}
+use Rattle.cyc_grammar.proofs.Laws.{ok_is, whole_again}
+use Rattle.proof_syntax.specs.Trees.{File}
+use Rattle.proof_syntax.specs.Grammar.{file}
+use Rattle.proof_syntax.proofs.GrammarLaws.{file-law}
+use Rattle.proof_file.specs.declared.file.ProofFile.{ProofFile}
+use Rattle.proof_file.specs.declared.flaw.Item.{Item}
+use Rattle.proof_file.specs.declared.flaw.Item.TheVariants.{Ill, Over}
+use Rattle.proof_file.specs.declared.flaw.Flaw.{Flaw}
+use Rattle.proof_file.specs.Flaws.{file_flaw}
+use Rattle.proof_file.specs.Reading.{HasFlaw, IsFileOf, IsLexFault, IsRead, IsReadFrom, Reads, SpellsFile, SpellsTree}
+use Rattle.cyc_top.specs.declared.endings.Status.{Status}
+use Rattle.cyc_top.specs.Answers.{fault_status}
+
+-- two files have the same definitions and nodes
+abbrev pub AreSame : ProofFile → ProofFile → Type 0
+AreSame f g = (f.defs.most ≡ g.defs.most) × (f.defs.list ≡ g.defs.list) × (f.nodes ≡ g.nodes)
+
+-- two readings give the same definitions and nodes, or faults that end a task in the same way
+abbrev pub IsSameReading : Result ProofFile ReadFault → Result ProofFile ReadFault → Type 0
+IsSameReading (Ok f) (Ok g) = AreSame f g
+IsSameReading (Err a) (Err b) = fault_status a ≡ fault_status b
+IsSameReading (Ok f) (Err b) = ⊥
+IsSameReading (Err a) (Ok g) = ⊥
+
+-- tokens spell one tree
+pub same_tree : (ts : List Placed) (t u : File) → SpellsTree ts t → SpellsTree ts u → t ≡ u
+same_tree ts t u first second =
+    ok_is t u (sym (whole_again file file-law t first.0) ∙ ap (read_whole file) (sym first.1 ∙ second.1) ∙ whole_again file file-law u second.0)
+
+-- tokens that spell a tree have no syntax fault
+pub no_syntax_fault : (ts : List Placed) (t : File) (token line column : ℕ) → SpellsTree ts t → IsSyntaxFault file ts token line column → ⊥
+no_syntax_fault ts t token line column spelled fault =
+    fault.first.dead (t, drop (token + 1) (map word_of ts), spelled.0, sym spelled.1 ∙ sym (take-append-drop (token + 1) (map word_of ts)))
+
+none_some : (x : Flaw) (flaw : Option Flaw) → flaw ≡ None → flaw ≡ Some x → ⊥
+none_some x None none some = cc
+none_some x (Some y) none some = cc
+
+some_item : (x y : Flaw) (flaw : Option Flaw) → flaw ≡ Some x → flaw ≡ Some y → x.item ≡ y.item
+some_item x y flaw first second = let e : Some x ≡ Some y = sym first ∙ second in cc
+
+-- a tree that says a file has no flaw
+pub no_flaw : (ts : List Placed) (f : ProofFile) (item : Item) (token line column : ℕ) → SpellsFile ts f → HasFlaw ts item token line column → ⊥
+no_flaw ts f item token line column spelled flaw =
+    let same : file_flaw spelled.0 ≡ file_flaw flaw.0 = ap file_flaw (same_tree ts spelled.0 flaw.0 spelled.1 flaw.1) in
+    none_some _ (file_flaw spelled.0) spelled.2 (same ∙ flaw.2)
+
+-- a tree has one flaw
+pub one_flaw : (ts : List Placed) (a b : Item) (token line column token' line' column' : ℕ) → HasFlaw ts a token line column → HasFlaw ts b token' line' column' → a ≡ b
+one_flaw ts a b token line column token' line' column' first second =
+    let same : file_flaw first.0 ≡ file_flaw second.0 = ap file_flaw (same_tree ts first.0 second.0 first.1 second.1) in
+    some_item _ _ (file_flaw second.0) (sym same ∙ first.2) second.2
+
+-- a tree says one file
+pub one_file : (ts : List Placed) (f g : ProofFile) → SpellsFile ts f → SpellsFile ts g → AreSame f g
+one_file ts f g first second =
+    let same : second.0 ≡ first.0 = same_tree ts second.0 first.0 second.1 first.1 in
+    let of_first : IsFileOf first.0 g = subst (λ t. IsFileOf t g) same second.3 in
+    (first.3.most ∙ sym of_first.most, first.3.definitions ∙ sym of_first.definitions, first.3.nodes ∙ sym of_first.nodes)
+
+-- tokens are read in one way
+pub one_reading_from : (ts : List Placed) (r s : Result ProofFile ReadFault) → IsReadFrom ts r → IsReadFrom ts s → IsSameReading r s
+one_reading_from ts (Err (faults.Lex a)) s first second = absurd first
+one_reading_from ts (Err faults.OutOfMemory) s first second = absurd first
+one_reading_from ts r (Err (faults.Lex b)) first second = absurd second
+one_reading_from ts r (Err faults.OutOfMemory) first second = absurd second
+one_reading_from ts (Ok f) (Ok g) first second = one_file ts f g first second
+one_reading_from ts (Ok f) (Err (faults.Syntax k l c)) first second = no_syntax_fault ts first.0 k l c first.1 second
+one_reading_from ts (Ok f) (Err (faults.IllFormed b k l c)) first second = no_flaw ts f (Ill b) k l c first second
+one_reading_from ts (Ok f) (Err (faults.Limit b k l c)) first second = no_flaw ts f (Over b) k l c first second
+one_reading_from ts (Err (faults.Syntax k l c)) (Ok g) first second = no_syntax_fault ts second.0 k l c second.1 first
+one_reading_from ts (Err (faults.Syntax k l c)) (Err (faults.Syntax k' l' c')) first second = refl
+one_reading_from ts (Err (faults.Syntax k l c)) (Err (faults.IllFormed b k' l' c')) first second = absurd (no_syntax_fault ts second.0 k l c second.1 first)
+one_reading_from ts (Err (faults.Syntax k l c)) (Err (faults.Limit b k' l' c')) first second = absurd (no_syntax_fault ts second.0 k l c second.1 first)
+one_reading_from ts (Err (faults.IllFormed a k l c)) (Ok g) first second = no_flaw ts g (Ill a) k l c second first
+one_reading_from ts (Err (faults.IllFormed a k l c)) (Err (faults.Syntax k' l' c')) first second = absurd (no_syntax_fault ts first.0 k' l' c' first.1 second)
+one_reading_from ts (Err (faults.IllFormed a k l c)) (Err (faults.IllFormed b k' l' c')) first second = refl
+one_reading_from ts (Err (faults.IllFormed a k l c)) (Err (faults.Limit b k' l' c')) first second =
+    absurd (let e : Ill a ≡ Over b = one_flaw ts (Ill a) (Over b) k l c k' l' c' first second in cc)
+one_reading_from ts (Err (faults.Limit a k l c)) (Ok g) first second = no_flaw ts g (Over a) k l c second first
+one_reading_from ts (Err (faults.Limit a k l c)) (Err (faults.Syntax k' l' c')) first second = absurd (no_syntax_fault ts first.0 k' l' c' first.1 second)
+one_reading_from ts (Err (faults.Limit a k l c)) (Err (faults.IllFormed b k' l' c')) first second =
+    absurd (let e : Over a ≡ Ill b = one_flaw ts (Over a) (Ill b) k l c k' l' c' first second in cc)
+one_reading_from ts (Err (faults.Limit a k l c)) (Err (faults.Limit b k' l' c')) first second = refl
+
+-- bytes with a bad place have no tokens
+pub no_tokens : (bytes : List ℕ) (fault : LexFault) (ts : List Placed) → IsLexFault bytes fault → tokens_of bytes ≡ Ok ts → ⊥
+no_tokens bytes lexical.OutOfMemory ts bad good = bad
+no_tokens bytes (lexical.BadByte o l c) ts bad good = cc
+no_tokens bytes (lexical.BadUtf8 o l c) ts bad good = cc
+no_tokens bytes (lexical.LongNumber o l c) ts bad good = cc
+no_tokens bytes (lexical.LongName o l c) ts bad good = cc
+
+-- a reading tells a bad place, or is one of the tokens
+abbrev IsLexed : List ℕ → Result ProofFile ReadFault → Type 0
+IsLexed bytes r = ((fault : LexFault) × (r ≡ Err (faults.Lex fault)) × IsLexFault bytes fault) ⊎ ((ts : List Placed) × (tokens_of bytes ≡ Ok ts) × IsReadFrom ts r)
+
+lexed : (bytes : List ℕ) (r : Result ProofFile ReadFault) → IsRead bytes r → IsLexed bytes r
+lexed bytes (Ok f) h = inr h
+lexed bytes (Err (faults.Lex fault)) h = inl (fault, refl, h)
+lexed bytes (Err (faults.Syntax k l c)) h = inr h
+lexed bytes (Err (faults.IllFormed a k l c)) h = inr h
+lexed bytes (Err (faults.Limit a k l c)) h = inr h
+lexed bytes (Err faults.OutOfMemory) h = absurd h
+
+ok_tokens : (ts us : List Placed) (bytes : List ℕ) → tokens_of bytes ≡ Ok ts → tokens_of bytes ≡ Ok us → us ≡ ts
+ok_tokens ts us bytes first second = cc
+
+by_tokens : (bytes : List ℕ) (r s : Result ProofFile ReadFault) → IsLexed bytes r → IsLexed bytes s → IsSameReading r s
+by_tokens bytes r s (inl a) (inl b) =
+    subst (λ q. IsSameReading q s) (sym a.1) (subst (λ q. IsSameReading (Err (faults.Lex a.0)) q) (sym b.1) refl)
+by_tokens bytes r s (inl a) (inr b) = absurd (no_tokens bytes a.0 b.0 a.2 b.1)
+by_tokens bytes r s (inr a) (inl b) = absurd (no_tokens bytes b.0 a.0 b.2 a.1)
+by_tokens bytes r s (inr a) (inr b) =
+    one_reading_from a.0 r s a.2 (subst (λ ts. IsReadFrom ts s) (ok_tokens a.0 b.0 bytes a.1 b.1) b.2)
+
+-- bytes are read in one way
+pub one_reading : (bytes : List ℕ) (r s : Result ProofFile ReadFault) → IsRead bytes r → IsRead bytes s → IsSameReading r s
+one_reading bytes r s first second = by_tokens bytes r s (lexed bytes r first) (lexed bytes s second)
+
+-- what is told of the bytes but for want of memory is what they are
+pub known_read : (bytes : List ℕ) (fault : ReadFault) → fault ≢ faults.OutOfMemory → Reads bytes (Err fault) → IsRead bytes (Err fault)
+known_read bytes (faults.Lex fault) known h = h
+known_read bytes (faults.Syntax k l c) known h = h
+known_read bytes (faults.IllFormed a k l c) known h = h
+known_read bytes (faults.Limit a k l c) known h = h
+known_read bytes faults.OutOfMemory known h = absurd (known refl)
