@@ -1,4 +1,4 @@
-//! Proof files: reading a text, with the exact place of each fault, and writing one.
+//! Proof files: reading a text, with the exact place of each fault.
 #![tactic(auto)]
 
 mod file;
