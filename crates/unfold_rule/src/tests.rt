@@ -170,57 +170,66 @@ fn faults_of_each_rule(rt: HostRuntime) -> Result<(), Fail> {
     Ok(())
 }
 
+// An entailment to a list far above.
+fn to_far(alloc: Global, pure: &[Pure], spatial: &[Spatial]) -> Result<Judgement, OutOfMemory>
+    requires pure_fits { length pure.now ≤ 64 }
+    requires spatial_fits { length spatial.now ≤ 32 }
+{
+    let far = heap(alloc, &[], &[list(Term::Univ(5))])?;
+    entail(alloc, heap(alloc, pure, spatial)?, far)
+}
+
+// An entailment from the list at `X`.
+fn from_list(alloc: Global, spatial: &[Spatial]) -> Result<Judgement, OutOfMemory>
+    requires { length spatial.now ≤ 32 }
+{
+    let left = heap(alloc, &[], &[list(X)])?;
+    entail(alloc, left, heap(alloc, &[], spatial)?)
+}
+
+fn whole(alloc: Global) -> Result<Judgement, OutOfMemory> {
+    to_far(alloc, &[], &[cell(Y, X), list(X), list(Y)])
+}
+
+fn emptied(alloc: Global) -> Result<Judgement, OutOfMemory> {
+    to_far(alloc, &[Pure::Eq(X, Term::Nil)], &[cell(Y, X), list(Y)])
+}
+
+fn lengthened(alloc: Global) -> Result<Judgement, OutOfMemory> {
+    let new = Term::Univ(6);
+    to_far(alloc, &[], &[cell(Y, X), list(Y), cell(X, new), list(new)])
+}
+
+fn is_premise(premise: &Premise, judgement: &Judgement, pairs: &[Pair]) -> bool {
+    premise.judgement == *judgement && premise.pairs.as_slice() == pairs
+}
+
 #[test]
-fn premises_of_unfolding(rt: HostRuntime) -> Result<(), Fail> {
+fn premises_of_unfold(rt: HostRuntime) -> Result<(), Fail> {
     let alloc = rt.alloc();
     let defs = lists(alloc, 16)?;
-    let far = heap(alloc, &[], &[list(Term::Univ(5))])?;
-    let new = Term::Univ(6);
-    let whole = entail(
-        alloc,
-        heap(alloc, &[], &[cell(Y, X), list(X), list(Y)])?,
-        far.clone()?,
-    )?;
-    let empty = entail(
-        alloc,
-        heap(alloc, &[Pure::Eq(X, Term::Nil)], &[cell(Y, X), list(Y)])?,
-        far.clone()?,
-    )?;
-    let longer = entail(
-        alloc,
-        heap(alloc, &[], &[cell(Y, X), list(Y), cell(X, new), list(new)])?,
-        far,
-    )?;
-    let cases = premises_unfold(alloc, &defs, &whole, 0, 1)?;
-    assert_eq!(rt; cases.len(), 2);
+    let cases = premises_unfold(alloc, &defs, &whole(alloc)?, 0, 1)?;
     let child = Pair {
         old: 1,
         new: 3,
         progress: true,
     };
+    assert_eq!(rt; cases.len(), 2);
+    assert!(rt; is_premise(&cases[0], &emptied(alloc)?, &[kept(2, 1)]));
+    assert!(rt; is_premise(&cases[1], &lengthened(alloc)?, &[kept(2, 1), child]));
+    Ok(())
+}
+
+#[test]
+fn premise_of_unfold_right(rt: HostRuntime) -> Result<(), Fail> {
+    let alloc = rt.alloc();
+    let defs = lists(alloc, 16)?;
     let old = Term::Exist(2);
     let local = Term::Exist(3);
-    let left = heap(alloc, &[], &[list(X)])?;
-    let right = entail(
-        alloc,
-        left.clone()?,
-        heap(alloc, &[], &[list(X), list(old)])?,
-    )?;
-    let unfolded = entail(
-        alloc,
-        left,
-        heap(alloc, &[], &[list(old), cell(X, local), list(local)])?,
-    )?;
-    let found = [
-        cases[0].judgement == empty && cases[0].pairs.as_slice() == [kept(2, 1)].as_slice(),
-        cases[1].judgement == longer && cases[1].pairs.as_slice() == [kept(2, 1), child].as_slice(),
-        is_only(
-            premises_unfold_right(alloc, &defs, &right, 0, 1),
-            &unfolded,
-            &[kept(0, 0)],
-        ),
-    ];
-    assert_eq!(rt; found, [true; 3]);
+    let right = from_list(alloc, &[list(X), list(old)])?;
+    let unfolded = from_list(alloc, &[list(old), cell(X, local), list(local)])?;
+    let answer = premises_unfold_right(alloc, &defs, &right, 0, 1);
+    assert!(rt; is_only(answer, &unfolded, &[kept(0, 0)]));
     Ok(())
 }
 
@@ -248,8 +257,8 @@ fn premises_of_cut(rt: HostRuntime) -> Result<(), Fail> {
     );
     assert_eq!(rt; premises.len(), 2);
     let found = [
-        premises[0].judgement == left && premises[0].pairs.as_slice() == [kept(0, 0)].as_slice(),
-        premises[1].judgement == right && premises[1].pairs.as_slice() == [kept(2, 0)].as_slice(),
+        is_premise(&premises[0], &left, &[kept(0, 0)]),
+        is_premise(&premises[1], &right, &[kept(2, 0)]),
     ];
     assert_eq!(rt; found, [true; 2]);
     Ok(())
