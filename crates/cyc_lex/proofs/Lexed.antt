@@ -143,9 +143,6 @@ pub at-end : (whole : Bool) (text : List ℕ) (out : List Token) (rest : List �
 unfolding lex
 at-end whole text out rest p h e = sym (ap (λ cs. with_tokens (map placed out) (lex whole p 0 cs)) (nil-chars rest e)) ∙ h.total
 
-pub at-start : (whole : Bool) (text : List ℕ) → length text < 2 ^ 32 - 1 → IsUtf8 text → IsLexed whole text [] text start
-at-start whole text small utf8 = record { total = refl; room = record { offset = omega arith; line = omega arith; column = omega arith }; utf8 = utf8 }
-
 pub end-token : (text : List ℕ) (out : List Token) (t : Token) (p : Place) (r : Found) → with_tokens (map placed out) (Ok (token_at End p [] ∷ [])) ≡ r → placed t ≡ token_at End p [] → r ≡ Ok (map placed (out ++ t ∷ []))
 end-token text out t p r h same = sym h ∙ with_tokens-ok (map placed out) (token_at End p [] ∷ []) ∙ ap (λ x. Ok (map placed out ++ x ∷ [])) (sym same) ∙ ap (λ x. Ok x) (sym (map_push placed out t))
 
@@ -155,10 +152,3 @@ whole-text bytes text same utf8 =
     let test : (utf8_valid_len bytes == length bytes) ≡ true = eq-eqb _ _ n-is in
     let all : take (utf8_valid_len bytes) bytes ≡ text = ap (λ k. take k bytes) n-is ∙ take_all (length bytes) bytes (omega arith) ∙ sym same in
     sym (ap (λ b. lex b start 0 (chars (take (utf8_valid_len bytes) bytes))) test ∙ ap (λ x. lex true start 0 (chars x)) all)
-
-pub front-text : (bytes text : List ℕ) (n : ℕ) → n ≡ utf8_valid_len bytes → IsValidUpTo bytes n → text ≡ take n bytes → lex false start 0 (chars text) ≡ tokens_of bytes
-front-text bytes text n n-is valid same =
-    let short : utf8_valid_len bytes < length bytes = rw (← n-is) valid.short in
-    let test : (utf8_valid_len bytes == length bytes) ≡ false = ne_eqb _ _ (λ e. omega (arith, e, short)) in
-    let front : take (utf8_valid_len bytes) bytes ≡ text = ap (λ k. take k bytes) (sym n-is) ∙ sym same in
-    sym (ap (λ b. lex b start 0 (chars (take (utf8_valid_len bytes) bytes))) test ∙ ap (λ x. lex false start 0 (chars x)) front)

@@ -154,9 +154,6 @@ not-above n h = grind (arith, nat_tests)
 below-ten : (n : ℕ) → nat_lt 9 n ≡ false → nat_lt n 10 ≡ true
 below-ten n h = grind (arith, nat_tests)
 
-some-first : (n : ℕ) → nat_lt 0 (suc n) ≡ true
-some-first n = grind (arith, nat_tests)
-
 name-text : (c : ℕ) (xs : List ℕ) → all_scalars (c ∷ xs) ≡ true → starts_name c ≡ true → list_all is_xid_continue xs ≡ true → nat_lt 64 (length (encode_utf8_all (c ∷ xs))) ≡ false → is_name_text (encode_utf8_all (c ∷ xs)) ≡ true
 unfolding is_name_text
 name-text c xs good starts goes short =
