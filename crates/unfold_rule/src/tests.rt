@@ -233,6 +233,19 @@ fn premise_of_unfold_right(rt: HostRuntime) -> Result<(), Fail> {
     Ok(())
 }
 
+// Sixteen atoms are there, and the second case has two in place of one.
+#[test]
+fn unfold_right_in_a_full_heap(rt: HostRuntime) -> Result<(), Fail> {
+    let alloc = rt.alloc();
+    let defs = lists(alloc, 16)?;
+    let right = from_list(alloc, &[list(X); 16])?;
+    let many = premises_unfold_right(alloc, &defs, &right, 0, 1);
+    assert_eq!(rt; fault(many), Some(RuleFault::TooManyAtoms));
+    let fewer = premises_unfold_right(alloc, &defs, &right, 0, 0);
+    assert_eq!(rt; fault(fewer), None);
+    Ok(())
+}
+
 #[test]
 fn premises_of_cut(rt: HostRuntime) -> Result<(), Fail> {
     let alloc = rt.alloc();
