@@ -1,6 +1,7 @@
 #!/usr/bin/env bash
-# bench/reading.sh [PROGRAM]: seconds for proof files of more and more nodes, of more and more definitions, and of loops
-# of more and more nodes. Prints figures; it passes and fails nothing.
+# bench/reading.sh [PROGRAM]: how fast texts are read and answered. First megabytes a second for large texts, beside those
+# of `wc -c` on the same bytes; then seconds for more and more nodes, definitions, and nodes of a loop.
+# Prints figures; it passes and fails nothing.
 set -u
 top=$(cd "$(dirname "$0")/.." && pwd)
 program=${1:-$top/crates/cyclist/out/cyclist}
@@ -8,9 +9,13 @@ program=${1:-$top/crates/cyclist/out/cyclist}
 work=$(mktemp -d)
 trap 'rm -rf "$work"' EXIT
 
+repeated() { # TEXT COUNT: the text so many times
+  yes "$1" | head -n "$2"
+}
+
 nodes() {
   echo 'cyclist proof 1;'
-  for ((i = 0; i < $1; i++)); do echo 'node true : emp |- true : emp by Done;'; done
+  repeated 'node true : emp |- true : emp by Done;' "$1"
   echo 'end;'
 }
 
@@ -30,17 +35,36 @@ loop() {
   echo 'end;'
 }
 
-measure() {
-  local start end answer
+seconds() { # COMMAND..: of a run with the file as its input
+  local start end
   start=$(date +%s.%N)
-  answer=$("$program" check < "$2" | cut -c1-60)
+  "$@" < "$work/file" > "$work/answer"
   end=$(date +%s.%N)
-  printf '%-24s %8.2f s  %s\n' "$1" "$(echo "$end - $start" | bc)" "$answer"
+  echo "$end - $start" | bc
 }
+
+rate() { # NAME: megabytes a second
+  local bytes theirs mine
+  bytes=$(wc -c < "$work/file")
+  theirs=$(seconds wc -c)
+  mine=$(seconds "$program" check)
+  printf '%-18s %9d bytes %7.2f s %8.1f MB/s   wc -c %9.1f MB/s   %s\n' "$1" "$bytes" "$mine" \
+    "$(echo "$bytes / 1000000 / $mine" | bc -l)" "$(echo "$bytes / 1000000 / $theirs" | bc -l)" "$(cut -c1-60 "$work/answer")"
+}
+
+measure() { # NAME
+  local spent
+  spent=$(seconds "$program" check)
+  printf '%-24s %8.2f s  %s\n' "$1" "$spent" "$(cut -c1-60 "$work/answer")"
+}
+
+nodes 20000 > "$work/file"; rate '20,000 nodes'
+head -c 16777216 /dev/zero | tr '\0' ' ' > "$work/file"; rate '16 MB of spaces'
+head -c 16777216 /dev/zero | tr '\0' '(' > "$work/file"; rate '16 MB of ('
 
 for kind in nodes definitions loop; do
   for count in 10 100 1000; do
     $kind "$count" > "$work/file"
-    measure "$kind $count" "$work/file"
+    measure "$kind $count"
   done
 done

@@ -125,8 +125,10 @@ fn segments_compose(rt: HostRuntime) -> Result<(), Fail> {
 #[test]
 fn weakened_for_ever(rt: HostRuntime) -> Result<(), Fail> {
     let alloc = rt.alloc();
-    let nodes: [(&[u8], Edges<'_>); 2] =
-        [(&[0], &[(1, &[(0, 0, false)])]), (&[0], &[(0, &[(0, 0, false)])])];
+    let nodes: [(&[u8], Edges<'_>); 2] = [
+        (&[0], &[(1, &[(0, 0, false)])]),
+        (&[0], &[(0, &[(0, 0, false)])]),
+    ];
     let cases: [Case<'_>; 2] = [
         (&[], &[(0, 0), (1, 0)], Some(false)),
         (&[(0, 0)], &[(1, 0), (0, 0)], Some(false)),
@@ -155,10 +157,7 @@ fn lists_that_alternate(rt: HostRuntime) -> Result<(), Fail> {
         (&[], &[(10, &[])]),
         (&[], &[]),
         (&[0, 1], &[(0, &[(1, 0, false), (0, 1, false)])]),
-        (
-            &[0, 2],
-            &[(13, &[(0, 0, false)]), (19, &[(2, 0, false)])],
-        ),
+        (&[0, 2], &[(13, &[(0, 0, false)]), (19, &[(2, 0, false)])]),
         (&[0], &[(14, &[(0, 0, false)])]),
         (&[0], &[(15, &[(0, 0, false)])]),
         (&[0], &[(16, &[(0, 0, false)])]),

@@ -1,0 +1,5 @@
+//! Whole runs of the top call on texts, as tests; there is nothing else here.
+#![tactic(auto)]
+
+#[cfg(test)]
+mod tests;
