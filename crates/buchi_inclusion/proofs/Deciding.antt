@@ -97,14 +97,6 @@ tied (Green i) (Green j) p q = let a = not_ltb i j p in let b = not_ltb j i q in
 tied (Dies i) (Green j) p q = let a = not_leb i j p in let b = not_ltb j i q in absurd (omega arith)
 tied (Green i) (Dies j) p q = let a = not_leb j i q in let b = not_ltb i j p in absurd (omega arith)
 
-not_earlier_self : (a : Event) → is_earlier a a ≡ false
-not_earlier_self (Dies i) = elim (cases_Bool (ltb i i)) [ inl y ↦ absurd (omega (arith, ltb-true i i y)) | inr n ↦ n ]
-not_earlier_self (Green i) = elim (cases_Bool (ltb i i)) [ inl y ↦ absurd (omega (arith, ltb-true i i y)) | inr n ↦ n ]
-not_earlier_self Nothing = refl
-
-pub same_tied : (a b : Event) → a ≡ b → (is_earlier a b ≡ false) × (is_earlier b a ≡ false)
-same_tied a b e = (subst (λ x. is_earlier a x ≡ false) e (not_earlier_self a), subst (λ x. is_earlier x a ≡ false) e (not_earlier_self a))
-
 module _ (g : List Node) (states : List State) (rows : List (Vec Transition Global)) (t : IsTable g states rows) (graph : IsGraph g) where
   over_taken : (s u : State) (steps : List Step) (event : Event) (events : List Event) → Over g s u steps (event ∷ events) → 0 < length steps
   over_taken s u [] event events o = absurd o

@@ -75,35 +75,6 @@ least_first g b =
           })
     ]
 
-pub bad_from_least : (g : List Node) → LeastFirst g → BadCycle g
-bad_from_least g l = record {
-  state = l.s;
-  reachable = l.reachable;
-  first = l.event;
-  rest = l.events;
-  run = (l.t, l.move, l.back);
-  bad = elim l.least [
-    | inl quiet ↦ inl (quiet.0, quiet.1)
-    | inr death ↦ inr (death.0, inl death.1, (subst (IsFrom death.0) (sym death.1) (le_refl death.0), death.2))
-  ];
-}
-
--- the list of all reachable states is closed
-pub closed_from_all : (g : List Node) (root : Node) → slice_get g 0 ≡ Some root → (states : List State) → AreAllReached g states → IsClosed g states
-closed_from_all g root is_root states a = record {
-  root = root;
-  is_root = is_root;
-  begin = (a.all' first start_reached).0;
-  begins = (a.all' first start_reached).1;
-  next = λ i s t event h m. a.all' t (reach_more g s t event (a.some'.reached i s h) m);
-}
-  where
-    first : State
-    first = record { node = 0; forest = start root.positions }
-
-    start_reached : Reachable g first
-    start_reached = record { from = first; starts = record { root = root; is_root = is_root; node_is = refl; forest_is = refl }; events = []; run = refl }
-
 -- of two lists of reachable states, the one with each state of the other is no shorter
 pub no_longer : (g : List Node) (some all : List State) → AreReached g some → AreAllReached g all → length some ≤ length all
 no_longer g some all s a = injective_le (length some) (length all) place (λ i l. slice_get_within all (place i l) (at i l).0 (listed i l).1) same
@@ -122,25 +93,6 @@ no_longer g some all s a = injective_le (length some) (length all) place (λ i l
         let t : (at i l).0 ≡ (at j k).0 = get_one all (place j k) (at i l).0 (at j k).0 (subst (λ x. slice_get all x ≡ Some (at i l).0) e (listed i l).1) (listed j k).1 in
         s.apart i j (at j k).0 (subst (λ x. slice_get some i ≡ Some x) t (at i l).1) (at j k).1
 
--- the number is one
-pub number_one : (g : List Node) (a b : List State) → AreAllReached g a → AreAllReached g b → length a ≡ length b
-number_one g a b x y = le_antisymm (no_longer g a b x.some' y) (no_longer g b a y.some' x)
-
 -- and isn't both at most n and above it
 pub not_both : (g : List Node) (n : ℕ) → HasAtMost g n → HasMoreThan g n → ⊥
 not_both g n a m = omega (arith, no_longer g m.0 a.0 m.1 a.1, a.2, m.2)
-
-each_at : (P : Event → Type 0) (x : Event) (events : List Event) → Each P events → Occurs x events → P x
-each_at P x [] e o = absurd o
-each_at P x (event ∷ events) e o = elim o [ inl is ↦ subst P is e.0 | inr later ↦ each_at P x events e.1 later ]
-
--- the least event is bad or green, and not both
-pub not_bad_and_green : (events : List Event) → IsBad events → LeastGreen events → ⊥
-not_bad_and_green events b g =
-    elim b [
-      | inl quiet ↦ (let e : Green g.k ≡ Nothing = each_at IsNothing (Green g.k) events quiet g.occurs in cc)
-      | inr death ↦ (
-          let a : death.0 ≤ g.k = each_at (IsFrom death.0) (Green g.k) events death.2 g.occurs in
-          let c : g.k < death.0 = each_at (IsFromGreen g.k) (Dies death.0) events g.from death.1 in
-          omega arith)
-    ]
