@@ -1,7 +1,9 @@
 -- Values that have a text are what their tree says.
 use Rattle.std.proofs.Common.{◌≡◌, ℕ, zero, suc, ◌+◌, ◌<◌, Bool, true, false, List, [], ◌∷◌, length, take, map, Option, Some, None, refl, sym, ap, subst, ◌∙◌, arith}
-use Rattle.std.specs.Prelude.{is_some, if◌then◌else◌, slice_get, nat_lt, nat_le}
-use Rattle.std.specs.Str.{bytes_eq}
+use Rattle.std.specs.Prelude.{not, ◌&&◌, is_some, if◌then◌else◌, slice_get, nat_lt, nat_le}
+use Rattle.std.specs.List.{list_any}
+use Rattle.std.specs.Str.{bytes_eq, chars, is_utf8}
+use Rattle.std.proofs.lemmas.Bool.{false≢true}
 use Rattle.std.proofs.lemmas.Slice.Eq.{bytes_eq-Decides}
 use Rattle.heap_formula.specs.declared.terms.Term.{Term}
 use Rattle.heap_formula.specs.declared.terms.Term.TheVariants as terms
@@ -20,13 +22,14 @@ use Rattle.heap_formula.specs.declared.proof_rules.Reason.TheVariants.{Step, Bac
 use Rattle.heap_formula.specs.Definitions.{Definition as DefinitionValue}
 use Rattle.heap_formula.specs.Symbolic.{SymbolicHeap}
 use Rattle.heap_formula.specs.Words.{Each}
-use Rattle.cyc_lex.specs.Word.{is_name_text}
+use Rattle.cyc_lex.specs.Word.{is_name_text, is_identifier}
+use Rattle.cyc_lex.proofs.BoolParts.{and-parts}
 use Rattle.cyc_lex.specs.declared.fault.What.TheVariants.{Predicates, Arguments}
 use Rattle.cyc_lex.specs.declared.fault.IllFault.TheVariants.{Duplicate}
 use Rattle.cyc_grammar.specs.Classes.{is_free_name}
 use Rattle.cyc_grammar.specs.Syntax.{Class, after, uncons, fits_many}
 use Rattle.proof_syntax.specs.Trees.{Spatial, Heap, Definition, Node, File}
-use Rattle.proof_syntax.specs.Grammar.{reserved, terms, pure, spatial, predicate, cell, spatials, heap, heaps, cases, definition, disjuncts, judgement, cut, split, parts, reason, node, nodes, more_nodes, definitions, body, file, some_heap, bar, closing_brace, or_word, by_word}
+use Rattle.proof_syntax.specs.Grammar.{reserved, uterm, terms, pure, spatial, predicate, cell, spatials, heap, heaps, cases, definition, disjuncts, judgement, cut, split, parts, reason, node, nodes, more_nodes, definitions, body, file, some_heap, bar, closing_brace, or_word, by_word}
 use Rattle.proof_file.specs.declared.node.FileNode.{FileNode}
 use Rattle.proof_file.specs.declared.file.ProofFile.{ProofFile}
 use Rattle.proof_file.specs.Spans.{total, heap_span, definition_span, node_span}
@@ -97,10 +100,18 @@ no_earlier ds n k d e =
     let taken = neither (ill_if (is_some (arity_in (take n ds) d.name)) Duplicate (k + 1)) (over_if (nat_lt 8 d.arity) Arguments (k + 3)) head.1 in
     none_of (arity_in (take n ds) d.name) (not_ill _ Duplicate (k + 1) taken.0)
 
+-- the empty text is no name
+no_name : is_free_name reserved [] ≡ true → ⊥
+unfolding is_free_name is_name_text chars
+no_name e =
+    let named = and-parts (is_name_text []) (not (list_any (bytes_eq []) reserved)) e in
+    let short = and-parts (is_utf8 []) (nat_le (length {A = ℕ} []) 64 && is_identifier (chars [])) named.0 in
+    let letters = and-parts (nat_le (length {A = ℕ} []) 64) (is_identifier (chars [])) short.1 in
+    false≢true letters.1
+
 -- a predicate with a name is defined
 defined : (o : Option DefinitionValue) → is_free_name reserved (name_in o) ≡ true → (d : DefinitionValue) × (o ≡ Some d)
-unfolding is_free_name is_name_text
-defined None e = absurd cc
+defined None e = absurd (no_name e)
 defined (Some d) e = (d, refl)
 
 module _ (ds : List DefinitionValue) where
