@@ -1,6 +1,6 @@
 -- Bytes are read in one way, and what is written is read again.
 use Rattle.std.proofs.Common.{◌≡◌, ℕ, ◌+◌, List, [], ◌∷◌, length, take, drop, Option, Some, None, Result, Ok, Err, refl, sym, ap, subst, ◌∙◌, take-append-drop}
-use Rattle.std.specs.Prelude.{map}
+use Rattle.std.specs.Prelude.{map, IfOk}
 use Rattle.cyc_lex.specs.declared.fault.LexFault.{LexFault}
 use Rattle.cyc_lex.specs.declared.fault.LexFault.TheVariants as lexical
 use Rattle.cyc_lex.specs.declared.fault.ReadFault.{ReadFault}
@@ -8,6 +8,7 @@ use Rattle.cyc_lex.specs.declared.fault.ReadFault.TheVariants as faults
 use Rattle.cyc_lex.specs.Lexing.{tokens_of}
 use Rattle.cyc_lex.specs.Placed.{Placed}
 use Rattle.cyc_lex.specs.Word.{word_of}
+use Rattle.cyc_lex.specs.Spacing.{text_of}
 use Rattle.cyc_lex.proofs.Lexemes.{lexemes-read}
 use Rattle.cyc_grammar.specs.Syntax.{read_whole}
 use Rattle.cyc_grammar.specs.Faults.{IsSyntaxFault}
@@ -87,6 +88,12 @@ text_is_read f =
     let t = tree_of f.defs.list f.nodes in
     let has = lexemes-read (body.words t) (body-inner.inner t f.fits) in
     (has.0, has.1, (t, (f.fits, has.2), f.flawless, file_known f))
+
+-- what is written of a file, if anything, spells it
+pub written_is_read : {V E : Type 0} (items : V → List ℕ) (f : ProofFile) (t : File) (r : Result V E) → t ≡ tree_of f.defs.list f.nodes → IfOk r (λ v. items v ≡ text_of (body.words t)) → IfOk r (λ v. IsRead (items v) (Ok f))
+written_is_read items f t (Ok v) same h =
+    subst (λ bs. IsRead bs (Ok f)) (sym (h ∙ ap (λ u. text_of (body.words u)) same)) (text_is_read f)
+written_is_read items f t (Err e) same h = tt
 
 again : (f : ProofFile) (bytes : List ℕ) (answer : Result ProofFile ReadFault) → IsRead bytes (Ok f) → Reads bytes answer → IsReadAgain f answer
 again f bytes (Ok g) first second =

@@ -14,3 +14,6 @@ pub use file::ProofFile;
 pub use node::{FileNode, FileNodes};
 pub use reading::read_file;
 pub use writing::{write_file, written_files_are_read_again};
+
+#[cfg(test)]
+mod tests;
