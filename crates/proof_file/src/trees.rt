@@ -6,9 +6,7 @@ ghost use Rattle.proof_file.specs.Written.{term_tree, pure_tree, name_of as name
 use crate::file::ProofFile;
 use crate::node::FileNode;
 use cyc_memory::OutOfMemory;
-use heap_formula::{
-    Def, Heap, Judgement, Link, Pure, Reason, Rule, Side, Spatial, Term,
-};
+use heap_formula::{Def, Heap, Judgement, Link, Pure, Reason, Rule, Side, Spatial, Term};
 use proof_syntax::{
     DefinitionTree, EntailmentTree, FileTree, HeapTree, LinkTree, NodeTree, PairTree, PureTree,
     ReasonTree, SideTree, SpatialTree, TermTree,
@@ -139,10 +137,7 @@ fn definition<'a>(
     })
 }
 
-fn definitions<'a>(
-    alloc: Global,
-    defs: &'a [Def],
-) -> Result<Vec<DefinitionTree<'a>>, OutOfMemory>
+fn definitions<'a>(alloc: Global, defs: &'a [Def]) -> Result<Vec<DefinitionTree<'a>>, OutOfMemory>
     ensures { IfOk result (λ v. map definition_of v.items ≡ map (definition_tree defs.now) defs.now) }
 {
     let mut trees = Vec::with_capacity(alloc, defs.len())?;
@@ -249,11 +244,7 @@ fn rule<'a>(alloc: Global, defs: &'a [Def], value: &Rule) -> Result<ReasonTree<'
     })
 }
 
-fn reason<'a>(
-    alloc: Global,
-    defs: &'a [Def],
-    value: &Reason,
-) -> Result<ReasonTree<'a>, OutOfMemory>
+fn reason<'a>(alloc: Global, defs: &'a [Def], value: &Reason) -> Result<ReasonTree<'a>, OutOfMemory>
     ensures { IfOk result (λ r. reason_of r ≡ reason_tree defs.now value.now) }
 {
     match value {
@@ -262,11 +253,7 @@ fn reason<'a>(
     }
 }
 
-fn node<'a>(
-    alloc: Global,
-    defs: &'a [Def],
-    value: &FileNode,
-) -> Result<NodeTree<'a>, OutOfMemory>
+fn node<'a>(alloc: Global, defs: &'a [Def], value: &FileNode) -> Result<NodeTree<'a>, OutOfMemory>
     ensures { IfOk result (λ n. node_of n ≡ node_tree defs.now value.now) }
 {
     let judgement = judgement(alloc, defs, &value.judgement)?;
