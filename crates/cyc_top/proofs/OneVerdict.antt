@@ -5,29 +5,31 @@ use Rattle.trace_pairs.specs.Lasso.{AllProgress}
 use Rattle.buchi_inclusion.specs.Answers.{HasAtMost}
 use Rattle.buchi_inclusion.proofs.Exact.{not_both}
 use Rattle.proof_file.specs.declared.file.ProofFile.{ProofFile}
+use Rattle.proof_file.specs.Reading.{AreSame}
 use Rattle.proof_check.specs.declared.verdict.Verdict.{Verdict}
 use Rattle.proof_check.specs.declared.verdict.Verdict.TheVariants.{Accepted, RuleRefused, PathRefused, TooManyStates}
 use Rattle.proof_check.specs.Files.{AreRight, graph_of, nodes_of}
 use Rattle.proof_check.specs.Verdicts.{file_graph, state_limit, HasRightNodes, IsLeastFault, IsVerdict}
 use Rattle.cyc_top.specs.Answers.{verdict_status}
-use Rattle.cyc_top.proofs.Readings.{AreSame}
+
 
 pub same_back : (f g : ProofFile) → AreSame f g → AreSame g f
-same_back f g same = (sym same.0, sym same.1, sym same.2)
+same_back f g same =
+    record { version = sym same.version; most = sym same.most; definitions = sym same.definitions; nodes = sym same.nodes }
 
 -- the same definitions and nodes have the same trace graph
 pub same_graph : (f g : ProofFile) → AreSame f g → file_graph f ≡ file_graph g
 same_graph f g same =
-    ap (λ most. graph_of most f.defs.list [] (nodes_of f.nodes)) same.0
-    ∙ ap (λ ds. graph_of g.defs.most ds [] (nodes_of f.nodes)) same.1
-    ∙ ap (λ nodes. graph_of g.defs.most g.defs.list [] (nodes_of nodes)) same.2
+    ap (λ most. graph_of most f.defs.list [] (nodes_of f.nodes)) same.most
+    ∙ ap (λ ds. graph_of g.defs.most ds [] (nodes_of f.nodes)) same.definitions
+    ∙ ap (λ nodes. graph_of g.defs.most g.defs.list [] (nodes_of nodes)) same.nodes
 
 -- nodes without a fault stay so
 pub same_right : (f g : ProofFile) → AreSame f g → HasRightNodes f → HasRightNodes g
 same_right f g same right =
-    subst (λ nodes. AreRight g.defs.most g.defs.list [] (nodes_of nodes)) same.2
-    (subst (λ ds. AreRight g.defs.most ds [] (nodes_of f.nodes)) same.1
-    (subst (λ most. AreRight most f.defs.list [] (nodes_of f.nodes)) same.0 right))
+    subst (λ nodes. AreRight g.defs.most g.defs.list [] (nodes_of nodes)) same.nodes
+    (subst (λ ds. AreRight g.defs.most ds [] (nodes_of f.nodes)) same.definitions
+    (subst (λ most. AreRight most f.defs.list [] (nodes_of f.nodes)) same.most right))
 
 none_some : (x : RuleFault) (fault : Option RuleFault) → fault ≡ None → fault ≡ Some x → ⊥
 none_some x None none some = cc

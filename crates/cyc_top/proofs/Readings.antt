@@ -21,13 +21,10 @@ use Rattle.proof_file.specs.declared.flaw.Item.{Item}
 use Rattle.proof_file.specs.declared.flaw.Item.TheVariants.{Ill, Over}
 use Rattle.proof_file.specs.declared.flaw.Flaw.{Flaw}
 use Rattle.proof_file.specs.Flaws.{file_flaw}
-use Rattle.proof_file.specs.Reading.{HasFlaw, IsFileOf, IsLexFault, IsRead, IsReadFrom, Reads, SpellsFile, SpellsTree}
+use Rattle.proof_file.specs.Reading.{AreSame, HasFlaw, IsFileOf, IsLexFault, IsRead, IsReadFrom, Reads, SpellsFile, SpellsTree}
+use Rattle.proof_file.proofs.Readings.{same_tree, no_syntax_fault, no_flaw, one_flaw, one_file, no_tokens, ok_tokens}
 use Rattle.cyc_top.specs.declared.endings.Status.{Status}
 use Rattle.cyc_top.specs.Answers.{fault_status}
-
--- two files have the same definitions and nodes
-abbrev pub AreSame : ProofFile → ProofFile → Type 0
-AreSame f g = (f.defs.most ≡ g.defs.most) × (f.defs.list ≡ g.defs.list) × (f.nodes ≡ g.nodes)
 
 -- two readings give the same definitions and nodes, or faults that end a task in the same way
 abbrev pub IsSameReading : Result ProofFile ReadFault → Result ProofFile ReadFault → Type 0
@@ -35,42 +32,6 @@ IsSameReading (Ok f) (Ok g) = AreSame f g
 IsSameReading (Err a) (Err b) = fault_status a ≡ fault_status b
 IsSameReading (Ok f) (Err b) = ⊥
 IsSameReading (Err a) (Ok g) = ⊥
-
--- tokens spell one tree
-pub same_tree : (ts : List Placed) (t u : File) → SpellsTree ts t → SpellsTree ts u → t ≡ u
-same_tree ts t u first second =
-    ok_is t u (sym (whole_again file file-law t first.0) ∙ ap (read_whole file) (sym first.1 ∙ second.1) ∙ whole_again file file-law u second.0)
-
--- tokens that spell a tree have no syntax fault
-pub no_syntax_fault : (ts : List Placed) (t : File) (token line column : ℕ) → SpellsTree ts t → IsSyntaxFault file ts token line column → ⊥
-no_syntax_fault ts t token line column spelled fault =
-    fault.first.dead (t, drop (token + 1) (map word_of ts), spelled.0, sym spelled.1 ∙ sym (take-append-drop (token + 1) (map word_of ts)))
-
-none_some : (x : Flaw) (flaw : Option Flaw) → flaw ≡ None → flaw ≡ Some x → ⊥
-none_some x None none some = cc
-none_some x (Some y) none some = cc
-
-some_item : (x y : Flaw) (flaw : Option Flaw) → flaw ≡ Some x → flaw ≡ Some y → x.item ≡ y.item
-some_item x y flaw first second = let e : Some x ≡ Some y = sym first ∙ second in cc
-
--- a tree that says a file has no flaw
-pub no_flaw : (ts : List Placed) (f : ProofFile) (item : Item) (token line column : ℕ) → SpellsFile ts f → HasFlaw ts item token line column → ⊥
-no_flaw ts f item token line column spelled flaw =
-    let same : file_flaw spelled.0 ≡ file_flaw flaw.0 = ap file_flaw (same_tree ts spelled.0 flaw.0 spelled.1 flaw.1) in
-    none_some _ (file_flaw spelled.0) spelled.2 (same ∙ flaw.2)
-
--- a tree has one flaw
-pub one_flaw : (ts : List Placed) (a b : Item) (token line column token' line' column' : ℕ) → HasFlaw ts a token line column → HasFlaw ts b token' line' column' → a ≡ b
-one_flaw ts a b token line column token' line' column' first second =
-    let same : file_flaw first.0 ≡ file_flaw second.0 = ap file_flaw (same_tree ts first.0 second.0 first.1 second.1) in
-    some_item _ _ (file_flaw second.0) (sym same ∙ first.2) second.2
-
--- a tree says one file
-pub one_file : (ts : List Placed) (f g : ProofFile) → SpellsFile ts f → SpellsFile ts g → AreSame f g
-one_file ts f g first second =
-    let same : second.0 ≡ first.0 = same_tree ts second.0 first.0 second.1 first.1 in
-    let of_first : IsFileOf first.0 g = subst (λ t. IsFileOf t g) same second.3 in
-    (first.3.most ∙ sym of_first.most, first.3.definitions ∙ sym of_first.definitions, first.3.nodes ∙ sym of_first.nodes)
 
 -- tokens are read in one way
 pub one_reading_from : (ts : List Placed) (r s : Result ProofFile ReadFault) → IsReadFrom ts r → IsReadFrom ts s → IsSameReading r s
@@ -97,14 +58,6 @@ one_reading_from ts (Err (faults.Limit a k l c)) (Err (faults.IllFormed b k' l' 
     absurd (let e : Over a ≡ Ill b = one_flaw ts (Over a) (Ill b) k l c k' l' c' first second in cc)
 one_reading_from ts (Err (faults.Limit a k l c)) (Err (faults.Limit b k' l' c')) first second = refl
 
--- bytes with a bad place have no tokens
-pub no_tokens : (bytes : List ℕ) (fault : LexFault) (ts : List Placed) → IsLexFault bytes fault → tokens_of bytes ≡ Ok ts → ⊥
-no_tokens bytes lexical.OutOfMemory ts bad good = bad
-no_tokens bytes (lexical.BadByte o l c) ts bad good = cc
-no_tokens bytes (lexical.BadUtf8 o l c) ts bad good = cc
-no_tokens bytes (lexical.LongNumber o l c) ts bad good = cc
-no_tokens bytes (lexical.LongName o l c) ts bad good = cc
-
 -- a reading tells a bad place, or is one of the tokens
 abbrev IsLexed : List ℕ → Result ProofFile ReadFault → Type 0
 IsLexed bytes r = ((fault : LexFault) × (r ≡ Err (faults.Lex fault)) × IsLexFault bytes fault) ⊎ ((ts : List Placed) × (tokens_of bytes ≡ Ok ts) × IsReadFrom ts r)
@@ -116,9 +69,6 @@ lexed bytes (Err (faults.Syntax k l c)) h = inr h
 lexed bytes (Err (faults.IllFormed a k l c)) h = inr h
 lexed bytes (Err (faults.Limit a k l c)) h = inr h
 lexed bytes (Err faults.OutOfMemory) h = absurd h
-
-ok_tokens : (ts us : List Placed) (bytes : List ℕ) → tokens_of bytes ≡ Ok ts → tokens_of bytes ≡ Ok us → us ≡ ts
-ok_tokens ts us bytes first second = cc
 
 by_tokens : (bytes : List ℕ) (r s : Result ProofFile ReadFault) → IsLexed bytes r → IsLexed bytes s → IsSameReading r s
 by_tokens bytes r s (inl a) (inl b) =

@@ -3,3 +3,6 @@ mod SpanLaws
 mod ReadableNodes
 mod WithinSpans
 mod TokenPlaces
+mod TreesAgain
+mod ValuesAgain
+pub mod Readings

@@ -24,7 +24,7 @@ both_true p q e f = ap (λ b. b && q) e ∙ f
 
 -- ---- members that fit
 
-behind_fit : {A : Type 0} (c : Class (Unit {0})) (a : Syntax A) (xs : List A) → fits_many (after c a) xs → Each a.fits xs
+pub behind_fit : {A : Type 0} (c : Class (Unit {0})) (a : Syntax A) (xs : List A) → fits_many (after c a) xs → Each a.fits xs
 behind_fit c a [] f = tt
 behind_fit c a (x ∷ xs) f = (f.0, behind_fit c a xs f.1)
 
@@ -32,7 +32,7 @@ list_fit : {A : Type 0} (d : A) (c : Class (Unit {0})) (a : Syntax A) (xs : List
 list_fit d c a [] f = tt
 list_fit d c a (x ∷ xs) f = (f.1.0, behind_fit c a xs f.1.1)
 
-many_fit : {A : Type 0} (a : Syntax A) (xs : List A) → fits_many a xs → Each a.fits xs
+pub many_fit : {A : Type 0} (a : Syntax A) (xs : List A) → fits_many a xs → Each a.fits xs
 many_fit a [] f = tt
 many_fit a (x ∷ xs) f = (f.0, many_fit a xs f.1)
 
@@ -79,15 +79,15 @@ unfolding pures pures1
 pures_fit [] f = tt
 pures_fit (x ∷ xs) f = list_fit some_pure comma (pure (terms true)) (x ∷ xs) f.1
 
-spatials_fit : (xs : List Spatial) → (spatials (terms true)).fits xs → Each (spatial (terms true)).fits xs
+pub spatials_fit : (b : Bool) (xs : List Spatial) → (spatials (terms b)).fits xs → Each (spatial (terms b)).fits xs
 unfolding spatials spatials1
-spatials_fit [] f = tt
-spatials_fit (x ∷ xs) f = list_fit some_spatial star (spatial (terms true)) (x ∷ xs) f.1
+spatials_fit b [] f = tt
+spatials_fit b (x ∷ xs) f = list_fit some_spatial star (spatial (terms b)) (x ∷ xs) f.1
 
 universal_heap : (ds : List Definition) (h : Heap) → (heap (terms true)).fits h → is_universal_heap (heap_value ds h) ≡ true
 unfolding heap
 universal_heap ds h f =
-    both_true (list_all is_universal_pure (map pure_value h.pure)) (list_all is_universal_spatial (map (spatial_value ds) h.spatial)) (all_pass is_universal_pure pure_value (pure (terms true)).fits universal_pure h.pure (pures_fit h.pure f.1.0)) (all_pass is_universal_spatial (spatial_value ds) (spatial (terms true)).fits (universal_spatial ds) h.spatial (spatials_fit h.spatial f.1.1))
+    both_true (list_all is_universal_pure (map pure_value h.pure)) (list_all is_universal_spatial (map (spatial_value ds) h.spatial)) (all_pass is_universal_pure pure_value (pure (terms true)).fits universal_pure h.pure (pures_fit h.pure f.1.0)) (all_pass is_universal_spatial (spatial_value ds) (spatial (terms true)).fits (universal_spatial ds) h.spatial (spatials_fit true h.spatial f.1.1))
 
 -- ---- reasons and nodes
 

@@ -4,3 +4,5 @@ pub mod Values
 pub mod Small
 pub mod Readable
 pub mod Reading
+pub mod Written
+pub mod Fits

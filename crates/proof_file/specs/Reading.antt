@@ -92,3 +92,15 @@ IsFlawTold ts flaw (faults.Limit what token line column) = (flaw ≡ record { it
 IsFlawTold ts flaw (faults.Syntax token line column) = ⊥
 IsFlawTold ts flaw (faults.Lex fault) = ⊥
 IsFlawTold ts flaw faults.OutOfMemory = ⊥
+
+-- two files have one version, the same definitions and the same nodes
+pub record AreSame (f g : ProofFile) : Type 0 where
+  pub version : f.version ≡ g.version
+  pub most : f.defs.most ≡ g.defs.most
+  pub definitions : f.defs.list ≡ g.defs.list
+  pub nodes : f.nodes ≡ g.nodes
+
+-- the file is read, but for want of memory
+abbrev pub IsReadAgain : ProofFile → Result ProofFile ReadFault → Type 0
+IsReadAgain f (Ok g) = AreSame f g
+IsReadAgain f (Err fault) = fault ≡ faults.OutOfMemory

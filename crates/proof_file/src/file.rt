@@ -1,6 +1,10 @@
 // Proof files as values.
-ghost use Rattle.std.specs.Prelude.{◌≡◌, ◌<◌, ◌≤◌, length, true};
+ghost use Rattle.std.specs.Prelude.{◌≡◌, ◌<◌, ◌≤◌, None, length, true};
+ghost use Rattle.proof_syntax.specs.Grammar.{file};
 ghost use Rattle.proof_file.specs.Readable.{are_readable, all_have_few_cases};
+ghost use Rattle.proof_file.specs.Flaws.{file_flaw};
+ghost use Rattle.proof_file.specs.Fits.{file-fit};
+ghost use Rattle.proof_file.specs.Written.{tree_of};
 
 use crate::node::FileNodes;
 use pred_defs::Defs;
@@ -17,4 +21,8 @@ pub struct ProofFile {
     ghost few: { length nodes ≤ 20000 },
     ghost readable: { are_readable nodes ≡ true },
     ghost cases: { all_have_few_cases defs.list ≡ true },
+    ghost one: { version ≡ 1 },
+    ghost sixteen: { defs.most ≡ 16 },
+    ghost fits: { file.fits (tree_of defs.list nodes) } by { file-fit (tree_of defs.list nodes) },
+    ghost flawless: { file_flaw (tree_of defs.list nodes) ≡ None },
 }

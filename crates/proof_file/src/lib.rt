@@ -1,13 +1,19 @@
-//! Proof files: reading a text, with the exact place of each fault.
+//! Proof files: reading a text, with the exact place of each fault, and writing one that is read again.
 #![tactic(auto)]
 
 mod file;
 mod flaw;
 mod node;
 mod reading;
+mod trees;
 mod values;
 mod walk;
+mod writing;
 
 pub use file::ProofFile;
 pub use node::{FileNode, FileNodes};
 pub use reading::read_file;
+pub use writing::{write_file, written_files_are_read_again};
+
+#[cfg(test)]
+mod tests;

@@ -1,0 +1,248 @@
+-- Values that have a text are what their tree says.
+use Rattle.std.proofs.Common.{◌≡◌, ℕ, zero, suc, ◌+◌, ◌<◌, Bool, true, false, List, [], ◌∷◌, length, take, map, Option, Some, None, refl, sym, ap, subst, ◌∙◌, arith}
+use Rattle.std.specs.Prelude.{not, ◌&&◌, is_some, if◌then◌else◌, slice_get, nat_lt, nat_le}
+use Rattle.std.specs.List.{list_any}
+use Rattle.std.specs.Str.{bytes_eq, chars, is_utf8}
+use Rattle.std.proofs.lemmas.Bool.{false≢true}
+use Rattle.std.proofs.lemmas.Slice.Eq.{bytes_eq-Decides}
+use Rattle.heap_formula.specs.declared.terms.Term.{Term}
+use Rattle.heap_formula.specs.declared.terms.Term.TheVariants as terms
+use Rattle.heap_formula.specs.declared.atoms.Pure.{Pure}
+use Rattle.heap_formula.specs.declared.atoms.Pure.TheVariants.{Eq, Neq}
+use Rattle.heap_formula.specs.declared.atoms.Spatial.{Spatial as SpatialAtom}
+use Rattle.heap_formula.specs.declared.atoms.Spatial.TheVariants as atoms
+use Rattle.heap_formula.specs.declared.judgements.Judgement.{Judgement}
+use Rattle.heap_formula.specs.declared.judgements.Judgement.TheVariants.{Entail, Term as Halting}
+use Rattle.heap_formula.specs.declared.proof_rules.Side.{Side}
+use Rattle.heap_formula.specs.declared.proof_rules.Side.TheVariants as sides
+use Rattle.heap_formula.specs.declared.proof_rules.Rule.{Rule}
+use Rattle.heap_formula.specs.declared.proof_rules.Rule.TheVariants as rules
+use Rattle.heap_formula.specs.declared.proof_rules.Reason.{Reason as ReasonValue}
+use Rattle.heap_formula.specs.declared.proof_rules.Reason.TheVariants.{Step, Back}
+use Rattle.heap_formula.specs.Definitions.{Definition as DefinitionValue}
+use Rattle.heap_formula.specs.Symbolic.{SymbolicHeap}
+use Rattle.heap_formula.specs.Words.{Each}
+use Rattle.cyc_lex.specs.Word.{is_name_text, is_identifier}
+use Rattle.cyc_lex.proofs.BoolParts.{and-parts}
+use Rattle.cyc_lex.specs.declared.fault.What.TheVariants.{Predicates, Arguments}
+use Rattle.cyc_lex.specs.declared.fault.IllFault.TheVariants.{Duplicate}
+use Rattle.cyc_grammar.specs.Classes.{is_free_name}
+use Rattle.cyc_grammar.specs.Syntax.{Class, after, uncons, fits_many}
+use Rattle.proof_syntax.specs.Trees.{Spatial, Heap, Definition, Node, File}
+use Rattle.proof_syntax.specs.Grammar.{reserved, uterm, terms, pure, spatial, predicate, cell, spatials, heap, heaps, cases, definition, disjuncts, judgement, cut, split, parts, reason, node, nodes, more_nodes, definitions, body, file, some_heap, bar, closing_brace, or_word, by_word}
+use Rattle.proof_file.specs.declared.node.FileNode.{FileNode}
+use Rattle.proof_file.specs.declared.file.ProofFile.{ProofFile}
+use Rattle.proof_file.specs.Spans.{total, heap_span, definition_span, node_span}
+use Rattle.proof_file.specs.Flaws.{Found, ill_if, over_if, or_later, listed_flaw, arity_in, case_flaw, head_flaw, definition_flaw, node_flaw, file_flaw}
+use Rattle.proof_file.specs.Values.{term_value, pure_value, place_of, spatial_value, heap_value, definition_value, judgement_value, side_value, pair_value, reason_value, node_value}
+use Rattle.proof_file.specs.Written.{term_tree, pure_tree, name_in, name_of, spatial_tree, heap_tree, definition_tree, judgement_tree, side_tree, pair_tree, reason_tree, node_tree, tree_of}
+use Rattle.proof_file.specs.Reading.{IsFileOf}
+use Rattle.proof_file.proofs.Fitting.{neither, not_ill}
+use Rattle.proof_file.proofs.ReadableNodes.{behind_fit, many_fit, spatials_fit}
+
+-- ---- lists
+
+all_known : {X Y : Type 0} (tree : X → Y) (value : Y → X) → ((x : X) → value (tree x) ≡ x) → (xs : List X) → map value (map tree xs) ≡ xs
+all_known tree value one [] = refl
+all_known tree value one (x ∷ xs) = λ i. one x i ∷ all_known tree value one xs i
+
+each_known : {X Y : Type 0} (tree : X → Y) (value : Y → X) (Q : Y → Type 0) → ((x : X) → Q (tree x) → value (tree x) ≡ x) → (xs : List X) → Each Q (map tree xs) → map value (map tree xs) ≡ xs
+each_known tree value Q one [] e = refl
+each_known tree value Q one (x ∷ xs) e =
+    let first = one x e.0 in
+    let rest = each_known tree value Q one xs e.1 in
+    λ i. first i ∷ rest i
+
+get_map : {X Y : Type 0} (f : X → Y) (xs : List X) (n : ℕ) (x : X) → slice_get xs n ≡ Some x → slice_get (map f xs) n ≡ Some (f x)
+get_map f [] n x e = absurd cc
+get_map f (y ∷ ys) zero x e = let same : y ≡ x = cc in ap (λ z. Some (f z)) same
+get_map f (y ∷ ys) (suc n) x e = get_map f ys n x e
+
+-- a member of a list without a flaw has none
+flaw_at : {X : Type 0} (flaw : ℕ → ℕ → X → Found) (span : X → ℕ) (n k : ℕ) (xs : List X) (p : ℕ) (x : X) → slice_get xs p ≡ Some x → listed_flaw flaw span n k xs ≡ None → (j : ℕ) × (flaw (n + p) j x ≡ None)
+flaw_at flaw span n k [] p x e none = absurd cc
+flaw_at flaw span n k (y ∷ ys) zero x e none =
+    let both = neither (flaw n k y) (listed_flaw flaw span (suc n) (k + span y) ys) none in
+    let same : y ≡ x = cc in
+    let here : n ≡ n + 0 = omega arith in
+    (k, subst (λ z. flaw (n + 0) k z ≡ None) same (subst (λ m. flaw m k y ≡ None) here both.0))
+flaw_at flaw span n k (y ∷ ys) (suc p) x e none =
+    let both = neither (flaw n k y) (listed_flaw flaw span (suc n) (k + span y) ys) none in
+    let rest = flaw_at flaw span (suc n) (k + span y) ys p x e both.1 in
+    let here : suc n + p ≡ n + suc p = omega arith in
+    (rest.0, subst (λ m. flaw m rest.0 x ≡ None) here rest.1)
+
+-- ---- names
+
+own_place : (y : Definition) (ys : List Definition) (name : List ℕ) (b : Bool) → y.name ≡ name → bytes_eq y.name name ≡ b → (if b then 0 else suc (place_of ys name)) ≡ 0
+own_place y ys name true same e = refl
+own_place y ys name false same e = let yes = (bytes_eq-Decides y.name name).1 same in absurd cc
+
+later_place : (y : Definition) (front ys : List Definition) (name : List ℕ) (p : ℕ) (b : Bool) → (arity_in front name ≡ None → place_of ys name ≡ p) → (if b then Some y.arity else arity_in front name) ≡ None → (if b then 0 else suc (place_of ys name)) ≡ suc p
+later_place y front ys name p true rest e = absurd cc
+later_place y front ys name p false rest e = ap suc (rest e)
+
+-- the first definition with a name is that which has none before it
+place_first : (ys : List Definition) (p : ℕ) (x : Definition) → slice_get ys p ≡ Some x → arity_in (take p ys) x.name ≡ None → place_of ys x.name ≡ p
+place_first [] p x e none = absurd cc
+place_first (y ∷ ys) zero x e none = let same : y ≡ x = cc in own_place y ys x.name (bytes_eq y.name x.name) (ap (λ (d : Definition). d.name) same) refl
+place_first (y ∷ ys) (suc p) x e none =
+    later_place y (take p ys) ys x.name p (bytes_eq y.name x.name) (place_first ys p x e) none
+
+none_of : {X : Type 0} (o : Option X) → is_some o ≡ false → o ≡ None
+none_of None e = refl
+none_of (Some x) e = absurd cc
+
+no_earlier : (ds : List Definition) (n k : ℕ) (d : Definition) → definition_flaw ds n k d ≡ None → arity_in (take n ds) d.name ≡ None
+no_earlier ds n k d e =
+    let all = neither (head_flaw ds n k d) (listed_flaw (case_flaw ds d.arity) heap_span 0 (k + 6) d.cases) e in
+    let head = neither (over_if (nat_le 4096 n) Predicates k) (or_later (ill_if (is_some (arity_in (take n ds) d.name)) Duplicate (k + 1)) (over_if (nat_lt 8 d.arity) Arguments (k + 3))) all.0 in
+    let taken = neither (ill_if (is_some (arity_in (take n ds) d.name)) Duplicate (k + 1)) (over_if (nat_lt 8 d.arity) Arguments (k + 3)) head.1 in
+    none_of (arity_in (take n ds) d.name) (not_ill _ Duplicate (k + 1) taken.0)
+
+-- the empty text is no name
+no_name : is_free_name reserved [] ≡ true → ⊥
+unfolding is_free_name is_name_text chars
+no_name e =
+    let named = and-parts (is_name_text []) (not (list_any (bytes_eq []) reserved)) e in
+    let short = and-parts (is_utf8 []) (nat_le (length {A = ℕ} []) 64 && is_identifier (chars [])) named.0 in
+    let letters = and-parts (nat_le (length {A = ℕ} []) 64) (is_identifier (chars [])) short.1 in
+    false≢true letters.1
+
+-- a predicate with a name is defined
+defined : (o : Option DefinitionValue) → is_free_name reserved (name_in o) ≡ true → (d : DefinitionValue) × (o ≡ Some d)
+defined None e = absurd (no_name e)
+defined (Some d) e = (d, refl)
+
+module _ (ds : List DefinitionValue) where
+  abbrev defs : List Definition
+  defs = map (definition_tree ds) ds
+
+  -- the name of a number has that place
+  found_place : listed_flaw (definition_flaw (map (definition_tree ds) ds)) definition_span 0 4 (map (definition_tree ds) ds) ≡ None → (p : ℕ) → is_free_name reserved (name_of ds p) ≡ true → place_of (map (definition_tree ds) ds) (name_of ds p) ≡ p
+  found_place none p free =
+      let d = defined (slice_get ds p) free in
+      let there = get_map (definition_tree ds) ds p d.0 d.1 in
+      let at = flaw_at (definition_flaw (map (definition_tree ds) ds)) definition_span 0 4 (map (definition_tree ds) ds) p (definition_tree ds d.0) there none in
+      let here : 0 + p ≡ p = omega arith in
+      let first = no_earlier (map (definition_tree ds) ds) p at.0 (definition_tree ds d.0) (subst (λ n. definition_flaw (map (definition_tree ds) ds) n at.0 (definition_tree ds d.0) ≡ None) here at.1) in
+      ap (λ o. place_of (map (definition_tree ds) ds) (name_in o)) d.1 ∙ place_first (map (definition_tree ds) ds) p (definition_tree ds d.0) there first
+
+-- ---- terms and atoms
+
+term_known : (t : Term) → term_value (term_tree t) ≡ t
+term_known terms.Nil = refl
+term_known (terms.Univ n) = refl
+term_known (terms.Exist n) = refl
+
+terms_known : (ts : List Term) → map term_value (map term_tree ts) ≡ ts
+terms_known ts = all_known term_tree term_value term_known ts
+
+pure_known : (x : Pure) → pure_value (pure_tree x) ≡ x
+pure_known (Eq t u) = λ i. Eq (term_known t i) (term_known u i)
+pure_known (Neq t u) = λ i. Neq (term_known t i) (term_known u i)
+
+module _ (ds : List DefinitionValue) (ts : List Definition) (placed : (p : ℕ) → is_free_name reserved (name_of ds p) ≡ true → place_of ts (name_of ds p) ≡ p) where
+  spatial_known : (b : Bool) (x : SpatialAtom) → (spatial (terms b)).fits (spatial_tree ds x) → spatial_value ts (spatial_tree ds x) ≡ x
+  unfolding spatial predicate
+  spatial_known b (atoms.Cell t us) f = λ i. atoms.Cell (term_known t i) (terms_known us i)
+  spatial_known b (atoms.Pred p us) f =
+      let same = placed p f.1.0 in
+      λ i. atoms.Pred (same i) (terms_known us i)
+
+  heap_known : (b : Bool) (h : SymbolicHeap) → (heap (terms b)).fits (heap_tree ds h) → heap_value ts (heap_tree ds h) ≡ h
+  unfolding heap
+  heap_known b h f =
+      let pure = all_known pure_tree pure_value pure_known h.pure in
+      let spatial = each_known (spatial_tree ds) (spatial_value ts) (spatial (terms b)).fits (spatial_known b) h.spatial (spatials_fit b (map (spatial_tree ds) h.spatial) f.1.1) in
+      λ i. record { pure = pure i; spatial = spatial i }
+
+  heaps_fit : (between behind : Class (Unit {0})) (hs : List Heap) → (heaps between behind).fits hs → Each (heap (terms false)).fits hs
+  unfolding heaps
+  heaps_fit between behind [] f = tt
+  heaps_fit between behind (h ∷ hs) f = (f.1.0, behind_fit between (heap (terms false)) hs f.1.1)
+
+  heaps_known : (between behind : Class (Unit {0})) (hs : List SymbolicHeap) → (heaps between behind).fits (map (heap_tree ds) hs) → map (heap_value ts) (map (heap_tree ds) hs) ≡ hs
+  heaps_known between behind hs f =
+      each_known (heap_tree ds) (heap_value ts) (heap (terms false)).fits (heap_known false) hs (heaps_fit between behind (map (heap_tree ds) hs) f)
+
+  no_heaps : (between behind : Class (Unit {0})) → (heaps between behind).fits [] → ⊥
+  unfolding heaps
+  no_heaps between behind f = absurd (omega (arith, f.0))
+
+  definition_known : (d : DefinitionValue) → definition.fits (definition_tree ds d) → definition_value ts (definition_tree ds d) ≡ d
+  unfolding definition cases
+  definition_known d f =
+      let same = heaps_known bar closing_brace d.cases f.1.1.1 in
+      λ i. record { name = d.name; arity = d.arity; cases = same i }
+
+  judgement_known : (j : Judgement) → judgement.fits (judgement_tree ds j) → judgement_value ts (judgement_tree ds j) ≡ j
+  unfolding judgement disjuncts
+  judgement_known (Entail a bs) f =
+      let left = heap_known true a f.1.0 in
+      let right = heaps_known or_word by_word bs f.1.1 in
+      λ i. Entail (left i) (right i)
+  judgement_known (Halting k a) f = absurd (no_heaps or_word by_word f.1.1)
+
+  side_known : (s : Side) → side_value (side_tree s) ≡ s
+  side_known sides.Left = refl
+  side_known sides.Right = refl
+
+  pair_known : (p : ℕ × Term) → pair_value (pair_tree p) ≡ p
+  pair_known p = λ i. (p.0, term_known p.1 i)
+
+  reason_known : (r : ReasonValue) → reason.fits (reason_tree ds r) → reason_value ts (reason_tree ds r) ≡ r
+  unfolding reason parts split cut uterm
+  reason_known (Step rules.Absurd) f = refl
+  reason_known (Step (rules.Rewrite k s)) f = λ i. Step (rules.Rewrite k (side_known s i))
+  reason_known (Step (rules.Split t u)) f = λ i. Step (rules.Split (term_known t i) (term_known u i))
+  reason_known (Step (rules.Distinct m n)) f = refl
+  reason_known (Step (rules.Weaken k)) f = refl
+  reason_known (Step (rules.Unfold k)) f = refl
+  reason_known (Step (rules.Cut places formula)) f =
+      let same = heap_known false formula f.1.1.1 in
+      λ i. Step (rules.Cut places (same i))
+  reason_known (Step rules.Done) f = refl
+  reason_known (Step (rules.Choose k)) f = refl
+  reason_known (Step (rules.PureRight k)) f = refl
+  reason_known (Step (rules.Instantiate v t)) f = λ i. Step (rules.Instantiate v (term_known t i))
+  reason_known (Step (rules.Frame m n)) f = refl
+  reason_known (Step (rules.UnfoldRight m n)) f = refl
+  reason_known (Step rules.Exec) f = absurd f.1.1.0.0
+  reason_known (Step (rules.Drop k)) f = absurd f.1.1.0.0
+  reason_known (Back l) f =
+      let pairs = all_known pair_tree pair_value pair_known l.subst in
+      λ i. Back (record { target = l.target; subst = pairs i; map = l.map; disjuncts = l.disjuncts })
+
+  node_known : (n : FileNode) → node.fits (node_tree ds n) → node_value ts (node_tree ds n) ≡ n
+  unfolding node
+  node_known n f =
+      let judgement = judgement_known n.judgement f.1.0 in
+      let reason = reason_known n.reason f.1.1.0 in
+      λ i. record { judgement = judgement i; reason = reason i; premises = n.premises }
+
+-- ---- files
+
+nodes_fit : (ns : List Node) → nodes.fits ns → Each node.fits ns
+unfolding nodes more_nodes
+nodes_fit [] f = tt
+nodes_fit (n ∷ ns) f = (f.1.0, many_fit node ns f.1.1)
+
+definitions_fit : (ds : List Definition) → definitions.fits ds → Each definition.fits ds
+unfolding definitions
+definitions_fit ds f = many_fit definition ds f
+
+-- the definitions and nodes of a file are what its tree says
+pub file_known : (f : ProofFile) → IsFileOf (tree_of f.defs.list f.nodes) f
+unfolding file body
+file_known f =
+    let ds = f.defs.list in
+    let tree = tree_of ds f.nodes in
+    let none = neither (listed_flaw (definition_flaw tree.definitions) definition_span 0 4 tree.definitions) (listed_flaw (node_flaw tree.definitions) node_span 0 (4 + total definition_span tree.definitions) tree.nodes) f.flawless in
+    let placed = found_place ds none.0 in
+    record {
+      version = f.one;
+      most = f.sixteen;
+      definitions = sym (each_known (definition_tree ds) (definition_value tree.definitions) definition.fits (definition_known ds tree.definitions placed) ds (definitions_fit tree.definitions f.fits.1.0));
+      nodes = sym (each_known (node_tree ds) (node_value tree.definitions) node.fits (node_known ds tree.definitions placed) f.nodes (nodes_fit tree.nodes f.fits.1.1));
+    }

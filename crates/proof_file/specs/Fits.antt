@@ -1,0 +1,166 @@
+-- A tree fits the grammar in one way.
+use Rattle.std.specs.Prelude.{◌≡◌, ℕ, Bool, true, false, List, [], ◌∷◌}
+use Rattle.std.specs.Coded.{Coded-set, coded_bool, ×_prop, Unit-prop, le_prop}
+use Rattle.cyc_grammar.specs.Syntax.{Syntax, Class, one, after, list1, uncons, fits_many}
+use Rattle.cyc_grammar.specs.Classes.{number, is_free_name}
+use Rattle.proof_syntax.specs.declared.tree.TermTree.{TermTree}
+use Rattle.proof_syntax.specs.declared.tree.TermTree.TheVariants.{Nil, Univ, Exist}
+use Rattle.proof_syntax.specs.declared.reason_word.ReasonWord.{ReasonWord}
+use Rattle.proof_syntax.specs.declared.reason_word.ReasonWord.TheVariants as words
+use Rattle.proof_syntax.specs.Trees.{Cell, Predicate}
+use Rattle.proof_syntax.specs.Grammar.{term, uterm, terms, sign, pure, pures1, pures, fields, arguments, predicate, cell, spatial, spatials1, spatials, heap, heaps, cases, definition, disjuncts, judgement, numbers, bracketed, two_numbers, side, rewrite, split, cut, instantiate, pair, pairs1, pairs, link, parts, reason, premises, node, definitions, more_nodes, nodes, body, file, from_reason, reserved, comma, star, bar, closing_brace, or_word, by_word, some_pure, some_spatial, some_heap, some_pair, some_node}
+
+abbrev pub HasOneFit : {T : Type 0} → Syntax T → Type 0
+HasOneFit {T = T} s = (t : T) → IsProp (s.fits t)
+
+many-fit : {A : Type 0} (a : Syntax A) → HasOneFit a → (xs : List A) → IsProp (fits_many a xs)
+many-fit a p [] = Unit-prop
+many-fit a p (x ∷ xs) = ×_prop (p x) (many-fit a p xs)
+
+list-fit : {A : Type 0} (d : A) (c : Class (Unit {0})) (a : Syntax A) → HasOneFit a → HasOneFit (list1 d c a)
+list-fit d c a p xs = ×_prop le_prop (×_prop (p (uncons d xs).0) (many-fit (after c a) p (uncons d xs).1))
+
+name-fit : (s : List ℕ) → IsProp (is_free_name reserved s ≡ true)
+name-fit s = Coded-set coded_bool (is_free_name reserved s) true
+
+-- ---- terms and atoms
+
+term-fit : HasOneFit term
+unfolding term
+term-fit Nil = ×_prop Unit-prop Unit-prop
+term-fit (Univ n) = ×_prop Unit-prop le_prop
+term-fit (Exist n) = ×_prop Unit-prop le_prop
+
+uterm-fit : HasOneFit uterm
+unfolding uterm
+uterm-fit Nil = ×_prop Unit-prop Unit-prop
+uterm-fit (Univ n) = ×_prop Unit-prop le_prop
+uterm-fit (Exist n) = ×_prop (λ a b. absurd a) Unit-prop
+
+terms-fit : (universal : Bool) → HasOneFit (terms universal)
+unfolding terms
+terms-fit true t = uterm-fit t
+terms-fit false t = term-fit t
+
+sign-fit : HasOneFit sign
+unfolding sign
+sign-fit true = ×_prop Unit-prop Unit-prop
+sign-fit false = ×_prop Unit-prop Unit-prop
+
+module _ (universal : Bool) where
+  pure-fit : HasOneFit (pure (terms universal))
+  unfolding pure
+  pure-fit x =
+      ×_prop Unit-prop (×_prop (terms-fit universal x.left) (×_prop (sign-fit x.is_equation) (terms-fit universal x.right)))
+
+  pures-fit : HasOneFit (pures (terms universal))
+  unfolding pures pures1
+  pures-fit [] = ×_prop Unit-prop Unit-prop
+  pures-fit (x ∷ xs) = ×_prop Unit-prop (list-fit some_pure comma (pure (terms universal)) pure-fit (x ∷ xs))
+
+  fields-fit : HasOneFit (fields (terms universal))
+  unfolding fields
+  fields-fit ts = list-fit Nil comma (terms universal) (terms-fit universal) ts
+
+  arguments-fit : HasOneFit (arguments (terms universal))
+  unfolding arguments
+  arguments-fit [] = ×_prop Unit-prop Unit-prop
+  arguments-fit (t ∷ ts) = ×_prop Unit-prop (fields-fit (t ∷ ts))
+
+  spatial-fit : HasOneFit (spatial (terms universal))
+  unfolding spatial predicate cell
+  spatial-fit (Predicate s ts) = ×_prop Unit-prop (×_prop (name-fit s) (arguments-fit ts))
+  spatial-fit (Cell t ts) = ×_prop Unit-prop (×_prop (terms-fit universal t) (fields-fit ts))
+
+  spatials-fit : HasOneFit (spatials (terms universal))
+  unfolding spatials spatials1
+  spatials-fit [] = ×_prop Unit-prop Unit-prop
+  spatials-fit (x ∷ xs) =
+      ×_prop Unit-prop (list-fit some_spatial star (spatial (terms universal)) spatial-fit (x ∷ xs))
+
+  heap-fit : HasOneFit (heap (terms universal))
+  unfolding heap
+  heap-fit h = ×_prop Unit-prop (×_prop (pures-fit h.pure) (spatials-fit h.spatial))
+
+heaps-fit : (between behind : Class (Unit {0})) → HasOneFit (heaps between behind)
+unfolding heaps
+heaps-fit between behind hs =
+    ×_prop le_prop (×_prop (heap-fit false (uncons some_heap hs).0) (many-fit (after between (heap (terms false))) (heap-fit false) (uncons some_heap hs).1))
+
+-- ---- definitions and judgements
+
+definition-fit : HasOneFit definition
+unfolding definition cases
+definition-fit d =
+    ×_prop Unit-prop (×_prop (name-fit d.name) (×_prop le_prop (heaps-fit bar closing_brace d.cases)))
+
+judgement-fit : HasOneFit judgement
+unfolding judgement disjuncts
+judgement-fit e =
+    ×_prop Unit-prop (×_prop (heap-fit true e.antecedent) (heaps-fit or_word by_word e.disjuncts))
+
+-- ---- reasons
+
+numbers-fit : HasOneFit numbers
+unfolding numbers
+numbers-fit ns = many-fit (one number) (λ n. le_prop) ns
+
+bracketed-fit : HasOneFit bracketed
+unfolding bracketed
+bracketed-fit ns = numbers-fit ns
+
+pair-fit : HasOneFit pair
+unfolding pair
+pair-fit p = ×_prop Unit-prop (×_prop le_prop (uterm-fit p.value))
+
+pairs-fit : HasOneFit pairs
+unfolding pairs pairs1
+pairs-fit [] = ×_prop Unit-prop Unit-prop
+pairs-fit (p ∷ ps) = ×_prop Unit-prop (list-fit some_pair comma pair pair-fit (p ∷ ps))
+
+link-fit : HasOneFit link
+unfolding link
+link-fit l =
+    ×_prop Unit-prop (×_prop le_prop (×_prop (pairs-fit l.substitution) (×_prop (bracketed-fit l.mapped) (bracketed-fit l.disjuncts))))
+
+parts-fit : (w : ReasonWord) → HasOneFit (parts w)
+unfolding parts rewrite side split two_numbers cut instantiate
+parts-fit words.Absurd p = Unit-prop
+parts-fit words.Rewrite p = ×_prop le_prop Unit-prop
+parts-fit words.Split p = ×_prop (uterm-fit p.0) (uterm-fit p.1)
+parts-fit words.Distinct p = ×_prop le_prop le_prop
+parts-fit words.Weaken p = le_prop
+parts-fit words.Unfold p = le_prop
+parts-fit words.Cut p = ×_prop (bracketed-fit p.0) (heap-fit false p.1)
+parts-fit words.Done p = Unit-prop
+parts-fit words.Choose p = le_prop
+parts-fit words.PureRight p = le_prop
+parts-fit words.Instantiate p = ×_prop le_prop (uterm-fit p.1)
+parts-fit words.Frame p = ×_prop le_prop le_prop
+parts-fit words.UnfoldRight p = ×_prop le_prop le_prop
+parts-fit words.Link p = link-fit p
+
+reason-fit : HasOneFit reason
+unfolding reason
+reason-fit r = ×_prop Unit-prop (×_prop Unit-prop (parts-fit (from_reason r).0 (from_reason r).1))
+
+premises-fit : HasOneFit premises
+unfolding premises
+premises-fit [] = ×_prop Unit-prop Unit-prop
+premises-fit (n ∷ ns) = ×_prop Unit-prop (×_prop le_prop (numbers-fit ns))
+
+-- ---- nodes and files
+
+node-fit : HasOneFit node
+unfolding node
+node-fit n =
+    ×_prop Unit-prop (×_prop (judgement-fit n.judgement) (×_prop (reason-fit n.reason) (premises-fit n.premises)))
+
+nodes-fit : HasOneFit nodes
+unfolding nodes more_nodes
+nodes-fit ns =
+    ×_prop le_prop (×_prop (node-fit (uncons some_node ns).0) (many-fit node node-fit (uncons some_node ns).1))
+
+pub file-fit : HasOneFit file
+unfolding file body definitions
+file-fit f = ×_prop Unit-prop (×_prop (many-fit definition definition-fit f.definitions) (nodes-fit f.nodes))
