@@ -1,2 +1,6 @@
 mod LinkLoops
 mod DisjunctLoops
+mod Selecting
+mod Possible
+mod Cuts
+mod ProspectLoops

@@ -97,7 +97,8 @@ fn all_follow(subst: &Subst, pures: &[Pure], xs: &[Pure]) -> bool
     true
 }
 
-fn covers_at(subst: &Subst, c: &Heap, disjuncts: &[Heap], m: u32) -> bool
+/// Whether the disjunct, after the substitution, covers the one at a place, if there is one.
+pub fn covers_at(subst: &Subst, c: &Heap, disjuncts: &[Heap], m: u32) -> bool
     ensures { result ≡ covers_some (apply_heap subst.now c.now) (slice_get disjuncts.now m) }
 {
     if (m as usize) < disjuncts.len() {

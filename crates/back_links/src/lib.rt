@@ -4,6 +4,10 @@
 
 mod covering;
 mod faults;
+mod listing;
 mod matching;
+mod prospects;
+mod variables;
 
 pub use faults::link_fault;
+pub use listing::all_links;

@@ -1,0 +1,7 @@
+use Rattle.std.proofs.Common.{◌≡◌, drop, not, ◌||◌}
+use Rattle.std.specs.List.{list_any}
+use Rattle.back_links.specs.Listing.{stands_in_pure}
+use Rattle.back_links.proofs.variables.some_pure_has.Given as goal
+
+abbrev pub invariant-loop-x : goal.invariant-loop-x
+invariant-loop-x l = list_any (stands_in_pure l.n) (drop l.x-index l.atoms) ≡ list_any (stands_in_pure l.n) l.atoms

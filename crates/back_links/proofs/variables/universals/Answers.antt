@@ -1,0 +1,14 @@
+use Rattle.std.proofs.Common.{◌≡◌, ℕ, ◌++◌, ◌-◌, ◌+◌, sym, ◌∙◌, subst, List}
+use Rattle.std.specs.List.{filter, range_with_len}
+use Rattle.back_links.specs.Listing.{stands_in}
+use Rattle.back_links.proofs.Selecting.{kept_next, left_next}
+use Rattle.back_links.proofs.variables.universals.Goals.{then-stands_in+in_ok-push, else-stands_in}
+use Rattle.back_links.proofs.variables.universals.Goals as goal
+
+pub loop-n-preserved : goal.loop-n-preserved
+loop-n-preserved c =
+    let test = λ (n : ℕ). stands_in n c.args.judgement.now in
+    elim c.if-stands_in.branch [
+      | then-stands_in+in_ok-push w ↦ rw (w.all-is, w.in_ok-push.ensures.items) (kept_next test c.loop-n.n c.bound_of_judgement-bound.result c.loop-n.all.items _ c.loop-n-test.true (sym c.stands_in.ensures ∙ w.if-stands_in.true) c.loop-n.invariant)
+      | else-stands_in w ↦ rw w.all-is (left_next test c.loop-n.n c.bound_of_judgement-bound.result c.loop-n.all.items _ c.loop-n-test.true (sym c.stands_in.ensures ∙ w.if-stands_in.false) c.loop-n.invariant)
+    ]

@@ -1,0 +1,111 @@
+-- Whether choices that are made leave a link possible.
+use Rattle.std.specs.Prelude.{ℕ, List, [], ◌∷◌, ◌++◌, length, Bool, true, false, ◌&&◌, ◌||◌, not, nat_eq, nat_le, if◌then◌else◌, Option, Some, None, slice_get}
+use Rattle.std.specs.List.{list_any, list_all}
+use Rattle.heap_formula.specs.declared.terms.Term.{Term}
+use Rattle.heap_formula.specs.declared.terms.Term.TheVariants.{Nil, Univ, Exist}
+use Rattle.heap_formula.specs.declared.atoms.Pure.{Pure}
+use Rattle.heap_formula.specs.declared.atoms.Pure.TheVariants.{Eq, Neq}
+use Rattle.heap_formula.specs.declared.atoms.Spatial.{Spatial}
+use Rattle.heap_formula.specs.declared.atoms.Spatial.TheVariants.{Cell, Pred}
+use Rattle.heap_formula.specs.declared.judgements.Judgement.{Judgement}
+use Rattle.heap_formula.specs.declared.judgements.Judgement.TheVariants.{Entail, Term as Runs}
+use Rattle.heap_formula.specs.Symbolic.{SymbolicHeap}
+use Rattle.heap_formula.specs.Judgements.{antecedent}
+use Rattle.heap_formula.specs.Substitution.{Bindings, apply_heap}
+use Rattle.rule_table.specs.Tests.{same_term, equated, follows, has_number}
+use Rattle.rule_table.specs.LinkTable.{covers_some}
+use Rattle.back_links.specs.Listing.{stands_in_spatial, numbers}
+
+-- the term of the first pair for a variable, if there is one
+abbrev pub lookup : Bindings → ℕ → Option Term
+lookup [] n = None
+lookup (p ∷ ps) n = if nat_eq n p.0 then Some p.1 else lookup ps n
+
+-- the term that will stand for a term, where the pairs say it
+abbrev pub known : Bindings → Term → Option Term
+known s Nil = Some Nil
+known s (Univ n) = lookup s n
+known s (Exist n) = Some (Exist n)
+
+abbrev pub could_equal : List Pure → Option Term → Term → Bool
+could_equal pures None u = true
+could_equal pures (Some t) u = equated pures t u
+
+abbrev pub could_equal_all : List Pure → Bindings → List Term → List Term → Bool
+could_equal_all pures s [] [] = true
+could_equal_all pures s [] (u ∷ us) = false
+could_equal_all pures s (t ∷ ts) [] = false
+could_equal_all pures s (t ∷ ts) (u ∷ us) = could_equal pures (known s t) u && could_equal_all pures s ts us
+
+-- the atom matches another under some substitution that begins with these pairs
+abbrev pub could_match : List Pure → Bindings → Spatial → Spatial → Bool
+could_match pures s (Cell t ts) (Cell u us) = could_equal pures (known s t) u && could_equal_all pures s ts us
+could_match pures s (Pred p ts) (Pred q us) = nat_eq p q && could_equal_all pures s ts us
+could_match pures s (Cell t ts) (Pred q us) = false
+could_match pures s (Pred p ts) (Cell u us) = false
+
+abbrev pub could_match_some : List Pure → Bindings → Spatial → Option Spatial → Bool
+could_match_some pures s x None = false
+could_match_some pures s x (Some y) = could_match pures s x y
+
+-- each atom that has a place could match the one there
+abbrev pub could_match_all : List Pure → List Spatial → Bindings → List ℕ → List Spatial → Bool
+could_match_all pures atoms s [] xs = true
+could_match_all pures atoms s (m ∷ ms) [] = true
+could_match_all pures atoms s (m ∷ ms) (x ∷ xs) = could_match_some pures s x (slice_get atoms m) && could_match_all pures atoms s ms xs
+
+abbrev pub both_known : (Term → Term → Pure) → Option Term → Option Term → Option Pure
+both_known f None u = None
+both_known f (Some t) None = None
+both_known f (Some t) (Some u) = Some (f t u)
+
+abbrev pub known_pure : Bindings → Pure → Option Pure
+known_pure s (Eq t u) = both_known Eq (known s t) (known s u)
+known_pure s (Neq t u) = both_known Neq (known s t) (known s u)
+
+abbrev pub could_follow : List Pure → Option Pure → Bool
+could_follow pures None = true
+could_follow pures (Some x) = follows pures x
+
+-- the variable is sent to itself, or has no pair yet
+abbrev pub could_keep : Option Term → ℕ → Bool
+could_keep None n = true
+could_keep (Some t) n = same_term t (Univ n)
+
+-- the variables that a link must send to themselves
+abbrev pub kept_variables : Judgement → ℕ → ℕ
+kept_variables (Entail a bs) p = 0
+kept_variables (Runs i a) p = p
+
+-- for these places of the companion's first spatial atoms and these pairs of its substitution
+abbrev pub could_link : Judgement → Judgement → ℕ → List ℕ → Bindings → Bool
+could_link bud companion p places s =
+    list_all (λ q. nat_le (kept_variables companion p) q.0 || could_keep (lookup s q.0) q.0) s && (could_match_all (antecedent bud).pure (antecedent bud).spatial s places (antecedent companion).spatial && list_all (λ x. could_follow (antecedent bud).pure (known_pure s x)) (antecedent companion).pure)
+
+-- some value for a variable is left
+abbrev pub has_value : Judgement → Judgement → ℕ → List Term → List ℕ → ℕ → Bool
+has_value bud companion p values places n = list_any (λ v. could_link bud companion p places ((n, v) ∷ [])) values
+
+-- each variable of the atom has a value left
+abbrev pub have_values : Judgement → Judgement → ℕ → List Term → List ℕ → Spatial → List ℕ → Bool
+have_values bud companion p values places x sources =
+    list_all (λ n. not (stands_in_spatial n x) || has_value bud companion p values places n) sources
+
+-- the companion's next atom x could have place m, where the atoms before it have these
+abbrev pub could_place : Judgement → Judgement → ℕ → List Term → List ℕ → ℕ → Spatial → List ℕ → Bool
+could_place bud companion p values places m x sources =
+    not (has_number places m) && (could_link bud companion p (places ++ m ∷ []) [] && have_values bud companion p values (places ++ m ∷ []) x sources)
+
+-- the judgements are of one kind, and of one line or with no atom of the bud left over
+abbrev pub are_alike : Judgement → Judgement → Bool
+are_alike (Entail a bs) (Entail b cs) = nat_le (length a.spatial) (length b.spatial)
+are_alike (Entail a bs) (Runs k b) = false
+are_alike (Runs i a) (Entail b cs) = false
+are_alike (Runs i a) (Runs k b) = nat_eq i k
+
+-- some disjunct of the bud is covered
+abbrev pub has_cover : List SymbolicHeap → Bindings → SymbolicHeap → Bool
+has_cover bs s c = list_any (λ m. covers_some (apply_heap s c) (slice_get bs m)) (numbers bs)
+
+abbrev pub have_covers : List SymbolicHeap → Bindings → List SymbolicHeap → Bool
+have_covers bs s cs = list_all (has_cover bs s) cs

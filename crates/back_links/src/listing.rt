@@ -1,0 +1,228 @@
+// All links from a bud to a companion, by depth-first search.
+ghost use Rattle.std.specs.Prelude.{◌≡◌, ◌≤◌, ◌∷◌, [], ◌++◌, drop, length, take, IfOk, OnOk};
+ghost use Rattle.heap_formula.specs.Judgements.{antecedent as antecedent_of};
+ghost use Rattle.rule_table.specs.Answer.{disjuncts as disjuncts_of};
+ghost use Rattle.back_links.specs.Listing.{links, link_of, number_choices, value_choices};
+ghost use Rattle.back_links.specs.Branches.{if_right, by_entries, by_pairs, by_places};
+
+use crate::covering::covers_at;
+use crate::faults::link_fault;
+use crate::prospects::{Search, are_alike, could_link, could_place, have_covers};
+use crate::variables::{universals, values};
+use heap_formula::{Heap, Judgement, Link, OutOfMemory, Positions, Spatial, Subst, Term};
+use rule_table::antecedent;
+use std::alloc::Global;
+
+/// The disjuncts; none of a `from` judgement.
+fn disjuncts(judgement: &Judgement) -> &[Heap]
+    ensures value { result.now ≡ disjuncts_of judgement.now }
+    ensures few { length result.now ≤ 16 }
+{
+    match judgement {
+        Judgement::Entail(_, bs) => bs.heaps(),
+        Judgement::Term(_, _) => &[],
+    }
+}
+
+fn with_number(alloc: Global, made: &[u32], m: u32) -> Result<Vec<u32>, OutOfMemory>
+    ensures { IfOk result (λ v. v.items ≡ made.now ++ m ∷ []) }
+{
+    let mut longer = Vec::new(alloc);
+    longer.extend_from_slice(made)?;
+    longer.push(m)?;
+    Ok(longer)
+}
+
+fn with_pair(
+    alloc: Global,
+    made: &[(u16, Term)],
+    n: u16,
+    v: Term,
+) -> Result<Vec<(u16, Term)>, OutOfMemory>
+    ensures { IfOk result (λ v'. v'.items ≡ made.now ++ (n, v) ∷ []) }
+{
+    let mut longer = Vec::new(alloc);
+    longer.extend_from_slice(made)?;
+    longer.push((n, v))?;
+    Ok(longer)
+}
+
+fn copy_of(alloc: Global, places: &[u32]) -> Result<Positions, OutOfMemory>
+    ensures { IfOk result (λ ps. ps ≡ places.now) }
+{
+    let mut copy = Vec::new(alloc);
+    copy.extend_from_slice(places)?;
+    Ok(Positions::from_vec(copy))
+}
+
+fn made_link(
+    alloc: Global,
+    target: u32,
+    places: &[u32],
+    subst: &Subst,
+    entries: &[u32],
+) -> Result<Link, OutOfMemory>
+    ensures { IfOk result (λ l. l ≡ link_of target places.now subst.now entries.now) }
+{
+    Ok(Link {
+        target,
+        subst: subst.clone()?,
+        map: copy_of(alloc, places)?,
+        disjuncts: copy_of(alloc, entries)?,
+    })
+}
+
+fn add_link(
+    alloc: Global,
+    search: &Search<'_>,
+    places: &[u32],
+    subst: &Subst,
+    entries: &[u32],
+    found: &mut Vec<Link>,
+) -> Result<(), OutOfMemory>
+    requires { length found.old.items ≤ search.now.most }
+    ensures { OnOk result (found.new.items ≡ take search.now.most (found.old.items ++ if_right search.now.bud.now search.now.companion.now search.now.variables (link_of search.now.target places.now subst.now entries.now))) }
+{
+    if found.len() >= search.most {
+        return Ok(());
+    }
+    let link = made_link(alloc, search.target, places, subst, entries)?;
+    match link_fault(search.bud, search.companion, &link, search.variables) {
+        Some(_) => Ok(()),
+        None => {
+            found.push(link)?;
+            Ok(())
+        }
+    }
+}
+
+fn choose_entries(
+    alloc: Global,
+    search: &Search<'_>,
+    places: &[u32],
+    subst: &Subst,
+    made: &[u32],
+    found: &mut Vec<Link>,
+) -> Result<(), OutOfMemory>
+    requires { length found.old.items ≤ search.now.most }
+    ensures { OnOk result (found.new.items ≡ take search.now.most (found.old.items ++ by_entries search.now.bud.now search.now.companion.now search.now.target search.now.variables places.now subst.now made.now (number_choices (disjuncts_of search.now.bud.now) (drop (length made.now) (disjuncts_of search.now.companion.now))))) }
+{
+    if found.len() >= search.most {
+        return Ok(());
+    }
+    let bs = disjuncts(search.bud);
+    let cs = disjuncts(search.companion);
+    if made.len() >= cs.len() {
+        return add_link(alloc, search, places, subst, made, found);
+    }
+    for m in 0..bs.len() {
+        let longer = with_number(alloc, made, m as u32)?;
+        if covers_at(subst, &cs[made.len()], bs, m as u32) {
+            choose_entries(alloc, search, places, subst, &longer, found)?;
+        }
+    }
+    Ok(())
+}
+
+fn choose_covers(
+    alloc: Global,
+    search: &Search<'_>,
+    places: &[u32],
+    pairs: &[(u16, Term)],
+    found: &mut Vec<Link>,
+) -> Result<(), OutOfMemory>
+    requires { length found.old.items ≤ search.now.most }
+    ensures { OnOk result (found.new.items ≡ take search.now.most (found.old.items ++ by_entries search.now.bud.now search.now.companion.now search.now.target search.now.variables places.now pairs.now [] (number_choices (disjuncts_of search.now.bud.now) (disjuncts_of search.now.companion.now)))) }
+{
+    let mut copy = Vec::new(alloc);
+    copy.extend_from_slice(pairs)?;
+    let subst = Subst::from_vec(copy);
+    if !have_covers(&subst, disjuncts(search.companion), disjuncts(search.bud)) {
+        return Ok(());
+    }
+    choose_entries(alloc, search, places, &subst, &[], found)
+}
+
+fn choose_values(
+    alloc: Global,
+    search: &Search<'_>,
+    places: &[u32],
+    made: &[(u16, Term)],
+    rest: &[u16],
+    found: &mut Vec<Link>,
+) -> Result<(), OutOfMemory>
+    requires { length found.old.items ≤ search.now.most }
+    ensures { OnOk result (found.new.items ≡ take search.now.most (found.old.items ++ by_pairs search.now.bud.now search.now.companion.now search.now.target search.now.variables places.now made.now (value_choices search.now.values.now rest.now))) }
+{
+    if found.len() >= search.most {
+        return Ok(());
+    }
+    if rest.is_empty() {
+        return choose_covers(alloc, search, places, made, found);
+    }
+    for v in search.values {
+        let longer = with_pair(alloc, made, rest[0], *v)?;
+        if could_link(search, places, &longer) {
+            choose_values(alloc, search, places, &longer, &rest[1..], found)?;
+        }
+    }
+    Ok(())
+}
+
+fn choose_places(
+    alloc: Global,
+    search: &Search<'_>,
+    made: &[u32],
+    rest: &[Spatial],
+    found: &mut Vec<Link>,
+) -> Result<(), OutOfMemory>
+    requires { length found.old.items ≤ search.now.most }
+    ensures { OnOk result (found.new.items ≡ take search.now.most (found.old.items ++ by_places search.now.bud.now search.now.companion.now search.now.target search.now.variables search.now.values.now search.now.sources.now made.now (number_choices (antecedent_of search.now.bud.now).spatial rest.now))) }
+{
+    if found.len() >= search.most {
+        return Ok(());
+    }
+    if rest.is_empty() {
+        return choose_values(alloc, search, made, &[], search.sources, found);
+    }
+    for m in 0..antecedent(search.bud).spatial().len() {
+        let longer = with_number(alloc, made, m as u32)?;
+        if could_place(search, made, m as u32, &longer, &rest[0]) {
+            choose_places(alloc, search, &longer, &rest[1..], found)?;
+        }
+    }
+    Ok(())
+}
+
+/// The first `most` links from the bud to the companion, which is node `target`, that have no fault and whose
+/// substitution sends each universal variable of the companion, in ascending order, to `nil` or a universal variable of
+/// the bud; `p` is the number of program variables for `from` judgements and 0 for entailments. The order is by map, then
+/// by the substitution's values (`nil` first, then by number), then by disjuncts, each as lists.
+pub fn all_links(
+    alloc: Global,
+    bud: &Judgement,
+    companion: &Judgement,
+    target: u32,
+    p: u16,
+    most: u32,
+) -> Result<Vec<Link>, OutOfMemory>
+    ensures { IfOk result (λ v. v.items ≡ take most (links bud.now companion.now target p)) }
+{
+    let mut found = Vec::new(alloc);
+    if !are_alike(bud, companion) {
+        return Ok(found);
+    }
+    let sources = universals(alloc, companion)?;
+    let values = values(alloc, bud)?;
+    let search = Search {
+        bud,
+        companion,
+        target,
+        variables: p,
+        sources: &sources,
+        values: &values,
+        most: most as usize,
+    };
+    choose_places(alloc, &search, &[], antecedent(companion).spatial(), &mut found)?;
+    Ok(found)
+}

@@ -1,0 +1,260 @@
+// Whether the choices that are made so far leave a link possible.
+ghost use Rattle.std.specs.Prelude.{◌≡◌, ◌≤◌, ◌<◌, ◌||◌, ◌∷◌, [], ◌++◌, length, nat_le, not, slice_get, slice_index};
+ghost use Rattle.std.specs.List.{list_any, list_all};
+ghost use Rattle.heap_formula.specs.Judgements.{antecedent as antecedent_of};
+ghost use Rattle.back_links.specs.Prospects.{lookup as looked_up, known as known_term, could_equal as terms_could, could_equal_all as all_could, could_match as atoms_could, could_match_some, could_match_all as places_could, known_pure as pure_known, could_follow as pure_could, could_keep as could_stay, kept_variables as variables_kept, could_link as link_could, has_value as value_left, have_values as values_left, could_place as place_could, are_alike as alike, has_cover as cover_left, have_covers as covers_left};
+ghost use Rattle.back_links.specs.Listing.{stands_in_spatial as spatial_has};
+
+use crate::covering::covers_at;
+use crate::variables::stands_in_spatial;
+use heap_formula::{Heap, Judgement, Pure, Spatial, Subst, Term};
+use rule_table::{antecedent, equated, follows, is_among, same_term};
+
+/// What the links from a bud to a companion are made of.
+#[derive(Clone, Copy)]
+pub struct Search<'a> {
+    pub bud: &'a Judgement,
+    pub companion: &'a Judgement,
+    /// The companion's number.
+    pub target: u32,
+    /// How many program variables there are.
+    pub variables: u16,
+    /// The companion's universal variables.
+    pub sources: &'a [u16],
+    /// What a source may be sent to.
+    pub values: &'a [Term],
+    /// How many links are wanted.
+    pub most: usize,
+}
+
+fn lookup(pairs: &[(u16, Term)], n: u16) -> Option<Term>
+    ensures { result ≡ looked_up pairs.now n }
+{
+    for (from, to) in pairs {
+        if *from == n {
+            return Some(*to);
+        }
+    }
+    None
+}
+
+fn known(pairs: &[(u16, Term)], term: Term) -> Option<Term>
+    ensures { result ≡ known_term pairs.now term }
+{
+    match term {
+        Term::Univ(n) => lookup(pairs, n),
+        Term::Nil | Term::Exist(_) => Some(term),
+    }
+}
+
+fn could_equal(pures: &[Pure], term: Option<Term>, u: Term) -> bool
+    ensures { result ≡ terms_could pures.now term u }
+{
+    match term {
+        Some(t) => equated(pures, t, u),
+        None => true,
+    }
+}
+
+fn could_equal_all(pures: &[Pure], pairs: &[(u16, Term)], ts: &[Term], us: &[Term]) -> bool
+    ensures { result ≡ all_could pures.now pairs.now ts.now us.now }
+{
+    for (i, t) in ts.iter().enumerate() {
+        if i >= us.len() {
+            return false;
+        }
+        if !could_equal(pures, known(pairs, *t), us[i]) {
+            return false;
+        }
+    }
+    ts.len() == us.len()
+}
+
+fn could_match(pures: &[Pure], pairs: &[(u16, Term)], x: &Spatial, y: &Spatial) -> bool
+    ensures { result ≡ atoms_could pures.now pairs.now x.now y.now }
+{
+    match (x, y) {
+        (Spatial::Cell(t, ts), Spatial::Cell(u, us)) => {
+            could_equal(pures, known(pairs, *t), *u)
+                && could_equal_all(pures, pairs, ts.as_slice(), us.as_slice())
+        }
+        (Spatial::Pred(p, ts), Spatial::Pred(q, us)) => {
+            *p == *q && could_equal_all(pures, pairs, ts.as_slice(), us.as_slice())
+        }
+        _ => false,
+    }
+}
+
+fn could_match_at(
+    pures: &[Pure],
+    pairs: &[(u16, Term)],
+    x: &Spatial,
+    atoms: &[Spatial],
+    m: u32,
+) -> bool
+    ensures { result ≡ could_match_some pures.now pairs.now x.now (slice_get atoms.now m) }
+{
+    if (m as usize) < atoms.len() {
+        could_match(pures, pairs, x, &atoms[m as usize])
+    } else {
+        false
+    }
+}
+
+fn could_match_all(
+    pures: &[Pure],
+    atoms: &[Spatial],
+    pairs: &[(u16, Term)],
+    places: &[u32],
+    xs: &[Spatial],
+) -> bool
+    ensures { result ≡ places_could pures.now atoms.now pairs.now places.now xs.now }
+{
+    for (i, m) in places.iter().enumerate() {
+        if i >= xs.len() {
+            return true;
+        }
+        if !could_match_at(pures, pairs, &xs[i], atoms, *m) {
+            return false;
+        }
+    }
+    true
+}
+
+fn known_pure(pairs: &[(u16, Term)], x: Pure) -> Option<Pure>
+    ensures { result ≡ pure_known pairs.now x }
+{
+    match x {
+        Pure::Eq(t, u) => Some(Pure::Eq(known(pairs, t)?, known(pairs, u)?)),
+        Pure::Neq(t, u) => Some(Pure::Neq(known(pairs, t)?, known(pairs, u)?)),
+    }
+}
+
+fn could_follow(pures: &[Pure], atom: Option<Pure>) -> bool
+    ensures { result ≡ pure_could pures.now atom }
+{
+    match atom {
+        Some(x) => follows(pures, x),
+        None => true,
+    }
+}
+
+fn could_follow_all(pures: &[Pure], pairs: &[(u16, Term)], xs: &[Pure]) -> bool
+    ensures { result ≡ list_all (λ x. pure_could pures.now (pure_known pairs.now x)) xs.now }
+{
+    for x in xs {
+        if !could_follow(pures, known_pure(pairs, *x)) {
+            return false;
+        }
+    }
+    true
+}
+
+fn could_keep(term: Option<Term>, n: u16) -> bool
+    ensures { result ≡ could_stay term n }
+{
+    match term {
+        Some(t) => same_term(t, Term::Univ(n)),
+        None => true,
+    }
+}
+
+fn kept_variables(companion: &Judgement, p: u16) -> u16
+    ensures { result ≡ variables_kept companion.now p }
+{
+    match companion {
+        Judgement::Entail(_, _) => 0,
+        Judgement::Term(_, _) => p,
+    }
+}
+
+fn could_keep_all(kept: u16, pairs: &[(u16, Term)]) -> bool
+    ensures { result ≡ list_all (λ q. nat_le kept q.0 || could_stay (looked_up pairs.now q.0) q.0) pairs.now }
+{
+    for (n, _) in pairs {
+        if *n < kept && !could_keep(lookup(pairs, *n), *n) {
+            return false;
+        }
+    }
+    true
+}
+
+/// Whether these places for the companion's first spatial atoms and these pairs leave a link possible.
+pub fn could_link(search: &Search<'_>, places: &[u32], pairs: &[(u16, Term)]) -> bool
+    ensures { result ≡ link_could search.now.bud.now search.now.companion.now search.now.variables places.now pairs.now }
+{
+    let a = antecedent(search.bud);
+    let b = antecedent(search.companion);
+    could_keep_all(kept_variables(search.companion, search.variables), pairs)
+        && could_match_all(a.pure(), a.spatial(), pairs, places, b.spatial())
+        && could_follow_all(a.pure(), pairs, b.pure())
+}
+
+fn has_value(search: &Search<'_>, places: &[u32], n: u16) -> bool
+    ensures { result ≡ value_left search.now.bud.now search.now.companion.now search.now.variables search.now.values.now places.now n }
+{
+    for v in search.values {
+        if could_link(search, places, &[(n, *v)]) {
+            return true;
+        }
+    }
+    false
+}
+
+fn have_values(search: &Search<'_>, places: &[u32], x: &Spatial) -> bool
+    ensures { result ≡ values_left search.now.bud.now search.now.companion.now search.now.variables search.now.values.now places.now x.now search.now.sources.now }
+{
+    for n in search.sources {
+        if stands_in_spatial(*n, x) && !has_value(search, places, *n) {
+            return false;
+        }
+    }
+    true
+}
+
+/// Whether the companion's next atom `x` could have place `m`, where the atoms before it have the places `made`; `longer`
+/// is all these places.
+pub fn could_place(search: &Search<'_>, made: &[u32], m: u32, longer: &[u32], x: &Spatial) -> bool
+    requires { longer.now ≡ made.now ++ m ∷ [] }
+    ensures { result ≡ place_could search.now.bud.now search.now.companion.now search.now.variables search.now.values.now made.now m x.now search.now.sources.now }
+{
+    !is_among(made, m as usize) && could_link(search, longer, &[]) && have_values(search, longer, x)
+}
+
+/// Whether the two are of one kind, and of one line or with no more spatial atoms in the bud than in the companion.
+pub fn are_alike(bud: &Judgement, companion: &Judgement) -> bool
+    ensures { result ≡ alike bud.now companion.now }
+{
+    match (bud, companion) {
+        (Judgement::Entail(a, _), Judgement::Entail(b, _)) => {
+            a.spatial().len() <= b.spatial().len()
+        }
+        (Judgement::Term(i, _), Judgement::Term(k, _)) => *i == *k,
+        _ => false,
+    }
+}
+
+fn has_cover(subst: &Subst, c: &Heap, disjuncts: &[Heap]) -> bool
+    requires { length disjuncts.now ≤ 16 }
+    ensures { result ≡ cover_left disjuncts.now subst.now c.now }
+{
+    for m in 0..disjuncts.len() {
+        if covers_at(subst, c, disjuncts, m as u32) {
+            return true;
+        }
+    }
+    false
+}
+
+/// Whether each disjunct of the companion covers some disjunct of the bud.
+pub fn have_covers(subst: &Subst, cs: &[Heap], disjuncts: &[Heap]) -> bool
+    requires { length disjuncts.now ≤ 16 }
+    ensures { result ≡ covers_left disjuncts.now subst.now cs.now }
+{
+    for c in cs {
+        if !has_cover(subst, c, disjuncts) {
+            return false;
+        }
+    }
+    true
+}
