@@ -9,12 +9,12 @@ use Rattle.heap_formula.specs.Words.{Each}
 use Rattle.heap_formula.specs.Definitions.{Definition as DefinitionValue}
 use Rattle.rule_table.specs.Tests.{is_universal, are_universal, is_universal_pure, is_universal_spatial}
 use Rattle.cyc_grammar.specs.Syntax.{Syntax, Class, after, fits_many, list1, or_empty}
+use Rattle.heap_syntax.specs.Grammar as shared
 use Rattle.proof_syntax.specs.declared.tree.TermTree.{TermTree}
 use Rattle.proof_syntax.specs.declared.tree.TermTree.TheVariants.{Nil, Univ, Exist}
-use Rattle.proof_syntax.specs.declared.tree.PureTree.{PureTree}
 use Rattle.proof_syntax.specs.declared.tree.PairTree.{PairTree}
-use Rattle.proof_syntax.specs.Trees.{Spatial, Cell, Predicate, Heap, Definition, Entailment, LinkData, Reason, Absurd, Rewrite, Split, Distinct, Weaken, Unfold, Cut, Done, Choose, PureRight, Instantiate, Frame, UnfoldRight, Link, Node, File}
-use Rattle.proof_syntax.specs.Grammar.{uterm, terms, pure, pures1, pures, fields, arguments, predicate, cell, spatial, spatials1, spatials, heap, judgement, pair, pairs1, pairs, link, parts, split, instantiate, reason, node, nodes, more_nodes, body, file, some_pure, some_spatial, some_pair, comma, star}
+use Rattle.proof_syntax.specs.Trees.{PureTree, Spatial, Cell, Predicate, Heap, Definition, Entailment, LinkData, Reason, Absurd, Rewrite, Split, Distinct, Weaken, Unfold, Cut, Done, Choose, PureRight, Instantiate, Frame, UnfoldRight, Link, Node, File}
+use Rattle.proof_syntax.specs.Grammar.{uterm, terms, pure, pures, fields, arguments, spatial, spatials, heap, judgement, pair, pairs1, pairs, link, parts, split, instantiate, reason, node, nodes, more_nodes, body, file, some_pure, some_spatial, some_pair, comma, star, colon, closing}
 use Rattle.proof_file.specs.Values.{term_value, pure_value, spatial_value, heap_value, definition_value, pair_value, reason_value, node_value}
 use Rattle.proof_file.specs.Readable.{is_universal_heap, is_universal_reason, is_readable, are_readable, has_few_cases, all_have_few_cases}
 use Rattle.proof_file.specs.Small.{IsSmallDefinition}
@@ -31,6 +31,11 @@ behind_fit c a (x ∷ xs) f = (f.0, behind_fit c a xs f.1)
 list_fit : {A : Type 0} (d : A) (c : Class (Unit {0})) (a : Syntax A) (xs : List A) → (list1 d c a).fits xs → Each a.fits xs
 list_fit d c a [] f = tt
 list_fit d c a (x ∷ xs) f = (f.1.0, behind_fit c a xs f.1.1)
+
+listed_fit : {A : Type 0} (d : A) (c behind : Class (Unit {0})) (a : Syntax A) (xs : List A) → (shared.listed d c behind a).fits xs → Each a.fits xs
+unfolding shared.listed
+listed_fit d c behind a [] f = tt
+listed_fit d c behind a (x ∷ xs) f = (f.1.0, behind_fit c a xs f.1.1)
 
 pub many_fit : {A : Type 0} (a : Syntax A) (xs : List A) → fits_many a xs → Each a.fits xs
 many_fit a [] f = tt
@@ -68,24 +73,24 @@ universal_pure x f =
     by_sign false e = e
 
 universal_spatial : (ds : List Definition) (x : Spatial) → (spatial (terms true)).fits x → is_universal_spatial (spatial_value ds x) ≡ true
-unfolding spatial cell predicate fields arguments
+unfolding shared.spatial shared.cell shared.predicate shared.fields shared.arguments
 universal_spatial ds (Cell t ts) f =
-    both_true (is_universal (term_value t)) (are_universal (map term_value ts)) (terms_fit t f.1.0) (universal_terms ts (list_fit Nil comma (terms true) ts f.1.1))
+    both_true (is_universal (term_value t)) (are_universal (map term_value ts)) (terms_fit t f.1.0) (universal_terms ts (listed_fit Nil comma closing (terms true) ts f.1.1))
 universal_spatial ds (Predicate name []) f = refl
-universal_spatial ds (Predicate name (t ∷ ts)) f = universal_terms (t ∷ ts) (list_fit Nil comma (terms true) (t ∷ ts) f.1.1.1)
+universal_spatial ds (Predicate name (t ∷ ts)) f = universal_terms (t ∷ ts) (listed_fit Nil comma closing (terms true) (t ∷ ts) f.1.1.1)
 
 pures_fit : (xs : List PureTree) → (pures (terms true)).fits xs → Each (pure (terms true)).fits xs
-unfolding pures pures1
+unfolding shared.pures shared.pures1
 pures_fit [] f = tt
-pures_fit (x ∷ xs) f = list_fit some_pure comma (pure (terms true)) (x ∷ xs) f.1
+pures_fit (x ∷ xs) f = listed_fit some_pure comma colon (pure (terms true)) (x ∷ xs) f.1
 
 pub spatials_fit : (b : Bool) (xs : List Spatial) → (spatials (terms b)).fits xs → Each (spatial (terms b)).fits xs
-unfolding spatials spatials1
+unfolding shared.spatials shared.spatials1
 spatials_fit b [] f = tt
 spatials_fit b (x ∷ xs) f = list_fit some_spatial star (spatial (terms b)) (x ∷ xs) f.1
 
 universal_heap : (ds : List Definition) (h : Heap) → (heap (terms true)).fits h → is_universal_heap (heap_value ds h) ≡ true
-unfolding heap
+unfolding shared.heap
 universal_heap ds h f =
     both_true (list_all is_universal_pure (map pure_value h.pure)) (list_all is_universal_spatial (map (spatial_value ds) h.spatial)) (all_pass is_universal_pure pure_value (pure (terms true)).fits universal_pure h.pure (pures_fit h.pure f.1.0)) (all_pass is_universal_spatial (spatial_value ds) (spatial (terms true)).fits (universal_spatial ds) h.spatial (spatials_fit true h.spatial f.1.1))
 

@@ -4,12 +4,12 @@ use Rattle.heap_formula.specs.Words.{Each}
 use Rattle.cyc_lex.specs.Word.{Word}
 use Rattle.cyc_grammar.specs.Classes.{the_end}
 use Rattle.cyc_grammar.specs.Syntax.{Syntax, Class, one, seq, many, after, before, words_many, fits_many, list1, or_empty, is_one}
+use Rattle.heap_syntax.specs.Grammar as shared
 use Rattle.proof_syntax.specs.declared.tree.TermTree.{TermTree}
 use Rattle.proof_syntax.specs.declared.tree.TermTree.TheVariants.{Nil, Univ, Exist}
-use Rattle.proof_syntax.specs.declared.tree.PureTree.{PureTree}
 use Rattle.proof_syntax.specs.declared.tree.PairTree.{PairTree}
-use Rattle.proof_syntax.specs.Trees.{Spatial, Cell, Predicate, Heap, Definition, Entailment, LinkData, Reason, Absurd, Rewrite, Split, Distinct, Weaken, Unfold, Cut, Done, Choose, PureRight, Instantiate, Frame, UnfoldRight, Link, Node, File}
-use Rattle.proof_syntax.specs.Grammar.{term, uterm, terms, sign, pure, pures1, pures, fields, arguments, predicate, cell, spatial, spatials1, spatials, heap, heaps, more_heaps, cases, definition, disjuncts, judgement, numbers, bracketed, two_numbers, side, rewrite, split, cut, instantiate, pair, pairs1, pairs, link, parts, reason, premises, node, definitions, more_nodes, nodes, body, file, some_pure, some_spatial, some_heap, some_pair, comma, star, colon, arrow, opening, closing, opening_bracket, closing_bracket, opening_brace, closing_brace, semicolon, or_word, by_word, bar, last_word, turnstile}
+use Rattle.proof_syntax.specs.Trees.{PureTree, Spatial, Cell, Predicate, Heap, Definition, Entailment, LinkData, Reason, Absurd, Rewrite, Split, Distinct, Weaken, Unfold, Cut, Done, Choose, PureRight, Instantiate, Frame, UnfoldRight, Link, Node, File}
+use Rattle.proof_syntax.specs.Grammar.{term, uterm, terms, sign, pure, pures, fields, arguments, spatial, spatials, heap, heaps, cases, definition, disjuncts, judgement, numbers, bracketed, two_numbers, side, rewrite, split, cut, instantiate, pair, pairs1, pairs, link, parts, reason, premises, node, definitions, more_nodes, nodes, body, file, some_pure, some_spatial, some_heap, some_pair, comma, star, colon, arrow, opening, closing, opening_bracket, closing_bracket, opening_brace, closing_brace, semicolon, or_word, by_word, bar, last_word, turnstile}
 use Rattle.proof_file.specs.Spans.{total, total_or, term_span, pure_span, pures_span, spatial_span, spatials_span, heap_span, definition_span, entailment_span, pair_span, link_span, reason_span, premises_rest, node_span}
 
 -- ---- lists
@@ -30,6 +30,17 @@ between default c a span one (x ∷ xs) f =
     let h = one x f.1.0 in
     let r = behind_each c a span one xs f.1.1 in
     let l = length-append (a.words x) (words_many (after c a) xs) in
+    omega arith
+
+-- members with a word between neighbours and one behind the last
+listed : {A : Type 0} (default : A) (c behind : Class (Unit {0})) (a : Syntax A) (span : A → ℕ) → ((x : A) → a.fits x → length (a.words x) + 1 ≡ span x) → (xs : List A) → (shared.listed default c behind a).fits xs → length ((shared.listed default c behind a).words xs) ≡ total span xs
+unfolding shared.listed
+listed default c behind a span one [] f = absurd (omega (arith, f.0))
+listed default c behind a span one (x ∷ xs) f =
+    let h = one x f.1.0 in
+    let r = behind_each c a span one xs f.1.1 in
+    let l = length-append (words_many (after c a) xs) (behind.word tt ∷ []) in
+    let k = length-append (a.words x) (words_many (after c a) xs ++ behind.word tt ∷ []) in
     omega arith
 
 -- members that stand alone
@@ -81,25 +92,22 @@ module _ (b : Bool) where
       let q = length-append ((terms b).words x.left) (sign.words x.is_equation ++ (terms b).words x.right) in
       omega arith
 
-  pures_words : (xs : List PureTree) → (pures (terms b)).fits xs → length ((pures (terms b)).words xs) + 1 ≡ pures_span xs
-  unfolding pures pures1
+  pures_words : (xs : List PureTree) → (pures (terms b)).fits xs → length ((pures (terms b)).words xs) ≡ pures_span xs
+  unfolding shared.pures shared.pures1
   pures_words [] f = refl
-  pures_words (x ∷ xs) f = between some_pure comma (pure (terms b)) pure_span pure_words (x ∷ xs) f.1
+  pures_words (x ∷ xs) f = listed some_pure comma colon (pure (terms b)) pure_span pure_words (x ∷ xs) f.1
 
   fields_words : (ts : List TermTree) → (fields (terms b)).fits ts → length ((fields (terms b)).words ts) ≡ total term_span ts
-  unfolding fields
-  fields_words ts f =
-      let r = between Nil comma (terms b) term_span (terms_words b) ts f in
-      let l = length-append ((list1 Nil comma (terms b)).words ts) (closing.word tt ∷ []) in
-      omega arith
+  unfolding shared.fields
+  fields_words ts f = listed Nil comma closing (terms b) term_span (terms_words b) ts f
 
   arguments_words : (ts : List TermTree) → (arguments (terms b)).fits ts → length ((arguments (terms b)).words ts) ≡ total_or 1 term_span ts
-  unfolding arguments
+  unfolding shared.arguments
   arguments_words [] f = refl
   arguments_words (t ∷ ts) f = fields_words (t ∷ ts) f.1
 
   spatial_words : (x : Spatial) → (spatial (terms b)).fits x → length ((spatial (terms b)).words x) + 1 ≡ spatial_span x
-  unfolding spatial cell predicate
+  unfolding shared.spatial shared.cell shared.predicate
   spatial_words (Cell t ts) f =
       let a = terms_words b t f.1.0 in
       let r = fields_words ts f.1.1 in
@@ -108,29 +116,22 @@ module _ (b : Bool) where
   spatial_words (Predicate name ts) f = let r = arguments_words ts f.1.1 in omega arith
 
   spatials_words : (xs : List Spatial) → (spatials (terms b)).fits xs → length ((spatials (terms b)).words xs) + 1 ≡ spatials_span xs
-  unfolding spatials spatials1
+  unfolding shared.spatials shared.spatials1
   spatials_words [] f = refl
   spatials_words (x ∷ xs) f = between some_spatial star (spatial (terms b)) spatial_span spatial_words (x ∷ xs) f.1
 
   heap_words : (h : Heap) → (heap (terms b)).fits h → length ((heap (terms b)).words h) + 1 ≡ heap_span h
-  unfolding heap
+  unfolding shared.heap
   heap_words h f =
       let p = pures_words h.pure f.1.0 in
       let s = spatials_words h.spatial f.1.1 in
-      let l = length-append ((pures (terms b)).words h.pure) (colon.word tt ∷ (spatials (terms b)).words h.spatial) in
+      let l = length-append ((pures (terms b)).words h.pure) ((spatials (terms b)).words h.spatial) in
       omega arith
 
 -- ---- lists of heaps, definitions and judgements
 
 pub heaps_words : (c behind : Class (Unit {0})) (hs : List Heap) → (heaps c behind).fits hs → length ((heaps c behind).words hs) ≡ total heap_span hs
-unfolding heaps
-heaps_words c behind [] f = absurd (omega (arith, f.0))
-heaps_words c behind (h ∷ hs) f =
-    let one = heap_words false h f.1.0 in
-    let rest = behind_each c (heap (terms false)) heap_span (heap_words false) hs f.1.1 in
-    let l = length-append (words_many (after c (heap (terms false))) hs) (behind.word tt ∷ []) in
-    let k = length-append ((heap (terms false)).words h) (words_many (after c (heap (terms false))) hs ++ behind.word tt ∷ []) in
-    omega arith
+heaps_words c behind hs f = listed some_heap c behind (heap (terms false)) heap_span (heap_words false) hs f
 
 pub definition_words : (d : Definition) → definition.fits d → length (definition.words d) ≡ definition_span d
 unfolding definition cases
@@ -246,7 +247,7 @@ file_words f fit =
 
 -- each node has a disjunct
 some_disjunct : (n : Node) → node.fits n → 0 < length n.judgement.disjuncts
-unfolding node judgement disjuncts heaps
+unfolding node judgement disjuncts shared.listed
 some_disjunct n f = f.1.0.1.1.0
 
 disjuncts_some : (ns : List Node) → fits_many node ns → Each (λ (n : Node). 0 < length n.judgement.disjuncts) ns

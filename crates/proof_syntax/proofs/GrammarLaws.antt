@@ -1,25 +1,22 @@
 -- The grammar is lawful: what is read is spelled so, what is spelled is read, and a fault is exact.
 use Rattle.std.proofs.Common.{◌≡◌, ℕ, ◌<◌, Bool, true, false, List, [], ◌∷◌, ◌++◌, length, Some, refl, ap, arith, inl, inr, ◌⊎◌}
 use Rattle.std.specs.Prelude.{codes}
-use Rattle.std.specs.Str.{bytes_eq}
-use Rattle.std.proofs.lemmas.Slice.Eq.{bytes_eq-Decides}
 use Rattle.cyc_lex.specs.Word.{Word}
-use Rattle.cyc_lex.proofs.Letters.{letters-name}
 use Rattle.cyc_grammar.specs.Syntax.{Syntax, Class, one, seq, alt, more_many, fits_many, after, before, headed, is_one, uncons, list1}
-use Rattle.cyc_grammar.specs.Classes.{the_end, number, is_free_name, find_text, keyword_of}
+use Rattle.cyc_grammar.specs.Classes.{the_end, number, find_text, keyword_of}
 use Rattle.cyc_grammar.proofs.Laws.{Lawful, Stops, Begins, BeginsNot, BeginsNot-append, ClassLaw, one-law, seq-law, shaped-law, alt-law, many-law, after-law, before-law, nothing-law, headed-law, list1-law, or_empty-law, class-begins, uncons-cons, some-true, Stops-never}
 use Rattle.cyc_grammar.proofs.ClassLaws.{symbol-law, keyword-law, numeral-law, the_end-law, number-law, name-law, keyword_of-law}
 use Rattle.proof_syntax.specs.declared.tree.TermTree.{TermTree}
 use Rattle.proof_syntax.specs.declared.tree.TermTree.TheVariants.{Nil, Univ, Exist}
-use Rattle.proof_syntax.specs.declared.tree.PureTree.{PureTree}
 use Rattle.proof_syntax.specs.declared.tree.PairTree.{PairTree}
 use Rattle.proof_syntax.specs.declared.tree.SideTree.{SideTree}
 use Rattle.proof_syntax.specs.declared.tree.SideTree.TheVariants.{Left, Right}
 use Rattle.proof_syntax.specs.declared.reason_word.ReasonWord.{ReasonWord}
 use Rattle.proof_syntax.specs.declared.reason_word.ReasonWord.TheVariants as words
 use Rattle.proof_syntax.specs.ReasonWords.{reason_text, reason_words, side_text, sides}
-use Rattle.proof_syntax.specs.Trees.{Spatial, Cell, Predicate, Heap, Definition, Entailment, Reason, Absurd, Rewrite, Split, Distinct, Weaken, Unfold, Cut, Done, Choose, PureRight, Instantiate, Frame, UnfoldRight, Link, Node}
-use Rattle.proof_syntax.specs.Grammar.{Any, nil, true_word, emp, pred_word, node_word, or_word, by_word, to_word, last_word, dollar, query, equal, unequal, comma, colon, semicolon, star, bar, arrow, assign, turnstile, opening, closing, opening_brace, closing_brace, opening_bracket, closing_bracket, reserved, free_name, to_term, from_term, term, to_uterm, from_uterm, IsUniversal, uterm, terms, to_sign, from_sign, sign, to_pure, from_pure, pure, some_pure, pures1, pures, fields, arguments, to_spatial, from_spatial, predicate, cell, spatial, some_spatial, spatials1, spatials, to_heap, from_heap, heap, some_heap, cons, IsSome, more_heaps, heaps, to_definition, from_definition, cases, definition, to_entailment, from_entailment, disjuncts, judgement, numbers, bracketed, two_numbers, side, rewrite, split, cut, instantiate, to_pair, from_pair, pair, some_pair, pairs1, pairs, to_link, from_link, link, Parts, parts, made_of, to_reason, from_reason, reason_word, reason, to_premises, from_premises, premises, to_node, from_node, node, some_node, definitions, more_nodes, nodes, to_file, from_file, body, file}
+use Rattle.proof_syntax.specs.Trees.{Heap, Definition, Entailment, Reason, Absurd, Rewrite, Split, Distinct, Weaken, Unfold, Cut, Done, Choose, PureRight, Instantiate, Frame, UnfoldRight, Link, Node}
+use Rattle.proof_syntax.specs.Grammar.{Any, nil, true_word, emp, pred_word, node_word, or_word, by_word, to_word, last_word, dollar, query, comma, semicolon, star, bar, assign, turnstile, opening, closing, opening_brace, closing_brace, opening_bracket, closing_bracket, free_name, to_term, from_term, term, to_uterm, from_uterm, IsUniversal, uterm, terms, terms_of, spatial, heap, some_heap, cons, IsSome, heaps, to_definition, from_definition, cases, definition, to_entailment, from_entailment, disjuncts, judgement, numbers, bracketed, two_numbers, side, rewrite, split, cut, instantiate, to_pair, from_pair, pair, some_pair, pairs1, pairs, to_link, from_link, link, Parts, parts, made_of, to_reason, from_reason, reason_word, reason, to_premises, from_premises, premises, to_node, from_node, node, some_node, definitions, more_nodes, nodes, to_file, from_file, body, file}
+use Rattle.heap_syntax.proofs.HeapLaws.{TermLaw, AtomLaw, Nameless, closed-stops, list-end, listed-closed, spatial-all, heap-law, heap-end, heaps-law, free_name-law, nil-no-name}
 
 -- ---- terms
 
@@ -64,315 +61,103 @@ uterm-law =
     shaped-law {A = Unit {0} ⊎ ℕ} to_uterm from_uterm IsUniversal _ (λ x f. uterm-back x) uterm-here
     (alt-law (is_one nil) (one nil) (after dollar (one number)) (λ u f. refl) (λ n f. refl) (one-law nil nil-law) (after-law dollar (one number) (symbol-law _) (one-law number number-law)))
 
--- what a heap needs of its terms
-pub record TermLaw (t : Syntax TermTree) : Type 0 where
-  pub law : Lawful t
-  pub closed : (x : TermTree) (d : Word) → t.fits x → t.more x d ≡ false
-  pub not_true : (x : TermTree) → t.fits x → BeginsNot (is_one true_word) (t.words x)
-  pub not_emp : (x : TermTree) → t.fits x → BeginsNot (is_one emp) (t.words x)
-  pub not_closing : (x : TermTree) → t.fits x → BeginsNot (is_one closing) (t.words x)
-  pub not_name : (x : TermTree) → t.fits x → BeginsNot (is_one free_name) (t.words x)
-
-nil-no-name : is_one free_name (nil.word tt) ≡ false
-unfolding is_free_name
-nil-no-name = rw (letters-name (codes "nil") refl) refl
-
-term-all : TermLaw term
+term-all : TermLaw (terms_of term)
 unfolding term
-term-all = record { law = term-law; closed = closed; not_true = not_true; not_emp = not_emp; not_closing = not_closing; not_name = not_name }
+term-all = record { law = term-law; closed = λ x d f h. closed x d; not_true = not_true; not_closing = not_closing }
   where
-    closed : (x : TermTree) (d : Word) → term.fits x → term.more x d ≡ false
-    closed Nil d f = refl
-    closed (Univ n) d f = refl
-    closed (Exist n) d f = refl
+    closed : (x : TermTree) (d : Word) → term.more x d ≡ false
+    closed Nil d = refl
+    closed (Univ n) d = refl
+    closed (Exist n) d = refl
 
     not_true : (x : TermTree) → term.fits x → BeginsNot (is_one true_word) (term.words x)
     not_true Nil f = refl
     not_true (Univ n) f = refl
     not_true (Exist n) f = refl
 
-    not_emp : (x : TermTree) → term.fits x → BeginsNot (is_one emp) (term.words x)
-    not_emp Nil f = refl
-    not_emp (Univ n) f = refl
-    not_emp (Exist n) f = refl
-
     not_closing : (x : TermTree) → term.fits x → BeginsNot (is_one closing) (term.words x)
     not_closing Nil f = refl
     not_closing (Univ n) f = refl
     not_closing (Exist n) f = refl
+
+term-nameless : Nameless (terms_of term)
+unfolding term
+term-nameless = record { not_emp = not_emp; not_name = not_name }
+  where
+    not_emp : (x : TermTree) → term.fits x → BeginsNot (is_one emp) (term.words x)
+    not_emp Nil f = refl
+    not_emp (Univ n) f = refl
+    not_emp (Exist n) f = refl
 
     not_name : (x : TermTree) → term.fits x → BeginsNot (is_one free_name) (term.words x)
     not_name Nil f = nil-no-name
     not_name (Univ n) f = refl
     not_name (Exist n) f = refl
 
-uterm-all : TermLaw uterm
+uterm-closed : (x : TermTree) (d : Word) → uterm.fits x → uterm.more x d ≡ false
 unfolding uterm
-uterm-all = record { law = uterm-law; closed = closed; not_true = not_true; not_emp = not_emp; not_closing = not_closing; not_name = not_name }
-  where
-    closed : (x : TermTree) (d : Word) → uterm.fits x → uterm.more x d ≡ false
-    closed Nil d f = refl
-    closed (Univ n) d f = refl
-    closed (Exist n) d f = refl
+uterm-closed Nil d f = refl
+uterm-closed (Univ n) d f = refl
+uterm-closed (Exist n) d f = refl
 
+uterm-all : TermLaw (terms_of uterm)
+unfolding uterm
+uterm-all = record { law = uterm-law; closed = λ x d f h. uterm-closed x d f; not_true = not_true; not_closing = not_closing }
+  where
     not_true : (x : TermTree) → uterm.fits x → BeginsNot (is_one true_word) (uterm.words x)
     not_true Nil f = refl
     not_true (Univ n) f = refl
     not_true (Exist n) f = refl
-
-    not_emp : (x : TermTree) → uterm.fits x → BeginsNot (is_one emp) (uterm.words x)
-    not_emp Nil f = refl
-    not_emp (Univ n) f = refl
-    not_emp (Exist n) f = refl
 
     not_closing : (x : TermTree) → uterm.fits x → BeginsNot (is_one closing) (uterm.words x)
     not_closing Nil f = refl
     not_closing (Univ n) f = refl
     not_closing (Exist n) f = refl
 
+uterm-nameless : Nameless (terms_of uterm)
+unfolding uterm
+uterm-nameless = record { not_emp = not_emp; not_name = not_name }
+  where
+    not_emp : (x : TermTree) → uterm.fits x → BeginsNot (is_one emp) (uterm.words x)
+    not_emp Nil f = refl
+    not_emp (Univ n) f = refl
+    not_emp (Exist n) f = refl
+
     not_name : (x : TermTree) → uterm.fits x → BeginsNot (is_one free_name) (uterm.words x)
     not_name Nil f = nil-no-name
     not_name (Univ n) f = refl
     not_name (Exist n) f = nil-no-name
 
-pub terms-all : (b : Bool) → TermLaw (terms b)
+terms-all : (b : Bool) → TermLaw (terms_of (terms b))
 unfolding terms
 terms-all true = uterm-all
 terms-all false = term-all
 
--- ---- pure atoms
-
-sign-law : Lawful sign
-unfolding sign
-sign-law =
-    shaped-law {A = Unit {0} ⊎ Unit {0}} to_sign from_sign Any _ (λ x f. (there x, tt)) (λ b h. here b)
-    (alt-law (is_one equal) (one equal) (one unequal) (λ u f. refl) (λ u f. refl) (one-law equal (symbol-law _)) (one-law unequal (symbol-law _)))
-  where
-    there : (x : Unit {0} ⊎ Unit {0}) → from_sign (to_sign x) ≡ x
-    there (inl u) = refl
-    there (inr u) = refl
-
-    here : (b : Bool) → to_sign (from_sign b) ≡ b
-    here true = refl
-    here false = refl
-
--- a text that nothing goes on stops before any words
-closed-stops : {A : Type 0} (a : Syntax A) → ((x : A) (d : Word) → a.fits x → a.more x d ≡ false) → (x : A) → a.fits x → (ws : List Word) → Stops (a.more x) ws
-closed-stops a closed x f [] = tt
-closed-stops a closed x f (d ∷ ws) = closed x d f
-
-sign-closed : (b : Bool) (d : Word) → sign.more b d ≡ false
-unfolding sign
-sign-closed true d = refl
-sign-closed false d = refl
-
-pure-law : (t : Syntax TermTree) → TermLaw t → Lawful (pure t)
-unfolding pure
-pure-law t a =
-    shaped-law {A = TermTree × (Bool × TermTree)} to_pure from_pure Any _ (λ x f. (refl, tt)) (λ p h. refl)
-    (seq-law t (seq sign t) a.law (seq-law sign t sign-law a.law (λ b x r fb fx h. closed-stops sign (λ b d f. sign-closed b d) b fb (t.words x ++ r)))
-    (λ x y r fx fy h. closed-stops t a.closed x fx ((seq sign t).words y ++ r)))
-
-pure-closed : (t : Syntax TermTree) → TermLaw t → (p : PureTree) (d : Word) → (pure t).fits p → (pure t).more p d ≡ false
-unfolding pure
-pure-closed t a p d f = a.closed p.right d f.1.1.1
-
-pures1-law : (t : Syntax TermTree) → TermLaw t → Lawful (pures1 t)
-unfolding pures1
-pures1-law t a = list1-law some_pure comma (pure t) (symbol-law _) (pure-law t a) (pure-closed t a)
-
-pures1-some : (t : Syntax TermTree) (ps : List PureTree) → (pures1 t).fits ps → 0 < length ps
-unfolding pures1
-pures1-some t ps f = f.0
-
-pures1-not : (t : Syntax TermTree) → TermLaw t → (ps : List PureTree) → (pures1 t).fits ps → BeginsNot (is_one true_word) ((pures1 t).words ps)
-unfolding pures1 pure
-pures1-not t a [] f = absurd (omega arith)
-pures1-not t a (p ∷ ps) f = BeginsNot-append (is_one true_word) _ _ (BeginsNot-append (is_one true_word) _ _ (a.not_true p.left f.1.0.1.0))
-
-pures-law : (t : Syntax TermTree) → TermLaw t → Lawful (pures t)
-unfolding pures
-pures-law t a = or_empty-law true_word (pures1 t) (keyword-law _) (pures1-law t a) (pures1-some t) (pures1-not t a)
-
--- a list whose items are closed goes on at its separator alone
-list-end : {A : Type 0} (c : Class (Unit {0})) (a : Syntax A) → ((x : A) (d : Word) → a.fits x → a.more x d ≡ false) → (d : Word) → is_one c d ≡ false → (xs : List A) → fits_many (after c a) xs → more_many (is_one c) (after c a) xs d ≡ false
-list-end c a closed d h [] f = h
-list-end c a closed d h (x ∷ []) f = rw (h, closed x d f.0) refl
-list-end c a closed d h (x ∷ y ∷ ys) f = list-end c a closed d h (y ∷ ys) f.1
-
-pures-end : (t : Syntax TermTree) → TermLaw t → (d : Word) → is_one comma d ≡ false → (ps : List PureTree) → (pures t).fits ps → (pures t).more ps d ≡ false
-unfolding pures pures1
-pures-end t a d h [] f = refl
-pures-end t a d h (p ∷ ps) f = list-end comma (pure t) (pure-closed t a) d h ps f.1.1.1
-
--- ---- spatial atoms
-
-fields-law : (t : Syntax TermTree) → TermLaw t → Lawful (fields t)
-unfolding fields
-fields-law t a = before-law (list1 Nil comma t) closing (symbol-law _) (list1-law Nil comma t (symbol-law _) a.law a.closed) closes
-  where
-    closes : (xs : List TermTree) → (list1 Nil comma t).fits xs → (list1 Nil comma t).more xs (closing.word tt) ≡ false
-    closes xs f = list-end comma t a.closed (closing.word tt) refl ((uncons Nil xs).1) f.1.1
-
-fields-some : (t : Syntax TermTree) (xs : List TermTree) → (fields t).fits xs → 0 < length xs
-unfolding fields
-fields-some t xs f = f.0
-
-fields-not : (t : Syntax TermTree) → TermLaw t → (xs : List TermTree) → (fields t).fits xs → BeginsNot (is_one closing) ((fields t).words xs)
-unfolding fields
-fields-not t a [] f = absurd (omega arith)
-fields-not t a (x ∷ xs) f = BeginsNot-append (is_one closing) _ _ (BeginsNot-append (is_one closing) _ _ (a.not_closing x f.1.0))
-
-arguments-law : (t : Syntax TermTree) → TermLaw t → Lawful (arguments t)
-unfolding arguments
-arguments-law t a = or_empty-law closing (fields t) (symbol-law _) (fields-law t a) (fields-some t) (fields-not t a)
-
-arguments-closed : (t : Syntax TermTree) (xs : List TermTree) (d : Word) → (arguments t).more xs d ≡ false
-unfolding arguments fields
-arguments-closed t [] d = refl
-arguments-closed t (x ∷ xs) d = refl
-
-free_name-law : ClassLaw free_name
-unfolding is_free_name
-free_name-law = name-law reserved (codes "p") (rw (letters-name (codes "p") refl) refl)
-
-predicate-law : (t : Syntax TermTree) → TermLaw t → Lawful (predicate t)
-unfolding predicate
-predicate-law t a = seq-law (one free_name) (after opening (arguments t)) (one-law free_name free_name-law) (after-law opening (arguments t) (symbol-law _) (arguments-law t a)) (λ x y r fx fy h. Stops-never ((after opening (arguments t)).words y ++ r))
-
-cell-law : (t : Syntax TermTree) → TermLaw t → Lawful (cell t)
-unfolding cell
-cell-law t a =
-    seq-law t (after arrow (after opening (fields t))) a.law (after-law arrow (after opening (fields t)) (symbol-law _) (after-law opening (fields t) (symbol-law _) (fields-law t a)))
-    (λ x y r fx fy h. closed-stops t a.closed x fx ((after arrow (after opening (fields t))).words y ++ r))
-
-predicate-named : (t : Syntax TermTree) (x : List ℕ × List TermTree) → (predicate t).fits x → Begins (is_one free_name) ((predicate t).words x)
-unfolding predicate
-predicate-named t x f = rw (free_name-law.value x.0 f.0) refl
-
-cell-unnamed : (t : Syntax TermTree) → TermLaw t → (x : TermTree × List TermTree) → (cell t).fits x → BeginsNot (is_one free_name) ((cell t).words x)
-unfolding cell
-cell-unnamed t a x f = BeginsNot-append (is_one free_name) _ _ (a.not_name x.0 f.0)
-
-spatial-law : (t : Syntax TermTree) → TermLaw t → Lawful (spatial t)
-unfolding spatial
-spatial-law t a =
-    shaped-law {A = (List ℕ × List TermTree) ⊎ (TermTree × List TermTree)} to_spatial from_spatial Any _ (λ x f. (there x, tt)) (λ s h. here s)
-    (alt-law (is_one free_name) (predicate t) (cell t) (predicate-named t) (cell-unnamed t a) (predicate-law t a) (cell-law t a))
-  where
-    there : (x : (List ℕ × List TermTree) ⊎ (TermTree × List TermTree)) → from_spatial (to_spatial x) ≡ x
-    there (inl p) = refl
-    there (inr c) = refl
-
-    here : (s : Spatial) → to_spatial (from_spatial s) ≡ s
-    here (Predicate s ts) = refl
-    here (Cell t ts) = refl
-
-spatial-closed : (t : Syntax TermTree) → (s : Spatial) (d : Word) → (spatial t).more s d ≡ false
-unfolding spatial predicate cell fields
-spatial-closed t (Predicate s ts) d = arguments-closed t ts d
-spatial-closed t (Cell x ts) d = refl
-
-spatials1-law : (t : Syntax TermTree) → TermLaw t → Lawful (spatials1 t)
-unfolding spatials1
-spatials1-law t a = list1-law some_spatial star (spatial t) (symbol-law _) (spatial-law t a) (λ s d f. spatial-closed t s d)
-
-spatials1-some : (t : Syntax TermTree) (cs : List Spatial) → (spatials1 t).fits cs → 0 < length cs
-unfolding spatials1
-spatials1-some t cs f = f.0
-
-emp-reserved : is_free_name reserved (codes "emp") ≡ false
-unfolding is_free_name
-emp-reserved = rw (letters-name (codes "emp") refl) refl
-
-free-not-emp : (s : List ℕ) → is_free_name reserved s ≡ true → is_one emp (free_name.word s) ≡ false
-free-not-emp s h = by_test (bytes_eq s (codes "emp")) refl
-  where
-    by_test : (b : Bool) → bytes_eq s (codes "emp") ≡ b → is_one emp (free_name.word s) ≡ false
-    by_test true e = let same : is_free_name reserved s ≡ is_free_name reserved (codes "emp") = ap (is_free_name reserved) ((bytes_eq-Decides s (codes "emp")).0 e) in let wrong = emp-reserved in absurd cc
-    by_test false e = rw e refl
-
-spatial-not : (t : Syntax TermTree) → TermLaw t → (s : Spatial) → (spatial t).fits s → BeginsNot (is_one emp) ((spatial t).words s)
-unfolding spatial predicate cell
-spatial-not t a (Predicate s ts) f = free-not-emp s f.1.0
-spatial-not t a (Cell x ts) f = BeginsNot-append (is_one emp) _ _ (a.not_emp x f.1.0)
-
-spatials1-not : (t : Syntax TermTree) → TermLaw t → (cs : List Spatial) → (spatials1 t).fits cs → BeginsNot (is_one emp) ((spatials1 t).words cs)
-unfolding spatials1
-spatials1-not t a [] f = absurd (omega arith)
-spatials1-not t a (c ∷ cs) f = BeginsNot-append (is_one emp) _ _ (spatial-not t a c f.1.0)
-
-spatials-law : (t : Syntax TermTree) → TermLaw t → Lawful (spatials t)
-unfolding spatials
-spatials-law t a = or_empty-law emp (spatials1 t) (keyword-law _) (spatials1-law t a) (spatials1-some t) (spatials1-not t a)
+terms-nameless : (b : Bool) → Nameless (terms_of (terms b))
+unfolding terms
+terms-nameless true = uterm-nameless
+terms-nameless false = term-nameless
 
 -- ---- heaps
 
-pub heap-law : (t : Syntax TermTree) → TermLaw t → Lawful (heap t)
-unfolding heap
-heap-law t a =
-    shaped-law {A = List PureTree × List Spatial} to_heap from_heap Any _ (λ x f. (refl, tt)) (λ c h. refl)
-    (seq-law (pures t) (after colon (spatials t)) (pures-law t a) (after-law colon (spatials t) (symbol-law _) (spatials-law t a))
-    (λ ps cs r fp fc h. pures-end t a (colon.word tt) refl ps fp))
+spatial-lawful : (b : Bool) → AtomLaw (spatial (terms b))
+spatial-lawful b = spatial-all (terms_of (terms b)) (terms-all b) (terms-nameless b)
 
-spatials-end : (t : Syntax TermTree) → (d : Word) → is_one star d ≡ false → (cs : List Spatial) → (spatials t).fits cs → (spatials t).more cs d ≡ false
-unfolding spatials spatials1
-spatials-end t d h [] f = refl
-spatials-end t d h (c ∷ cs) f = list-end star (spatial t) (λ s d f. spatial-closed t s d) d h cs f.1.1.1
+heap-lawful : (b : Bool) → Lawful (heap (terms b))
+heap-lawful b = heap-law (terms_of (terms b)) (spatial (terms b)) (terms-all b) (spatial-lawful b)
 
-heap-end : (t : Syntax TermTree) → (d : Word) → is_one star d ≡ false → (x : Heap) → (heap t).fits x → (heap t).more x d ≡ false
-unfolding heap
-heap-end t d h x f = spatials-end t d h x.spatial f.1.1
-
--- a word of a class is the word of that class
-one-is : (c : Class (Unit {0})) → ClassLaw c → (d : Word) → is_one c d ≡ true → d ≡ c.word tt
-one-is c law d h = let p = some-true (c.value d) h in (law.word d p.0 p.1).0
-
--- ---- heaps with a word between neighbours and one behind
-
--- two different words, neither of which goes on a heap
-pub record Between (between behind : Class (Unit {0})) : Type 0 where
-  pub law : ClassLaw between
-  pub last : ClassLaw behind
-  pub no_star : is_one star (between.word tt) ≡ false
-  pub last_no_star : is_one star (behind.word tt) ≡ false
-  pub differ : is_one between (behind.word tt) ≡ false
-
-more_heaps-law : (m n : Class (Unit {0})) → Between m n → Lawful (more_heaps m)
-more_heaps-law m n b = many-law (is_one m) (after m (heap (terms false))) (after-law m (heap (terms false)) b.law (heap-law (terms false) (terms-all false)))
-    (record { starts = λ x f. class-begins m (heap (terms false)) b.law x; apart = λ x d f h. heap-end (terms false) d (no-star d h) x f })
-  where
-    no-star : (d : Word) → is_one m d ≡ true → is_one star d ≡ false
-    no-star d h = rw (one-is m b.law d h) b.no_star
-
-more_heaps-close : (m n : Class (Unit {0})) → Between m n → (hs : List Heap) → (more_heaps m).fits hs → (more_heaps m).more hs (n.word tt) ≡ false
-more_heaps-close m n b [] f = b.differ
-more_heaps-close m n b (x ∷ []) f = rw (b.differ, heap-end (terms false) (n.word tt) b.last_no_star x f.0) refl
-more_heaps-close m n b (x ∷ y ∷ ys) f = more_heaps-close m n b (y ∷ ys) f.1
-
-heaps-apart : (m n : Class (Unit {0})) → Between m n → (x : Heap) (hs : List Heap) (r : List Word) → (heap (terms false)).fits x → Stops ((heap (terms false)).more x) ((before (more_heaps m) n).words hs ++ r)
-heaps-apart m n b x [] r f = heap-end (terms false) (n.word tt) b.last_no_star x f
-heaps-apart m n b x (y ∷ ys) r f = heap-end (terms false) (m.word tt) b.no_star x f
-
-heaps-law : (m n : Class (Unit {0})) → Between m n → Lawful (heaps m n)
-unfolding heaps
-heaps-law m n b =
-    shaped-law {A = Heap × List Heap} cons (uncons some_heap) IsSome _ (λ x f. (refl, omega arith)) (λ hs h. uncons-cons some_heap hs h)
-    (seq-law (heap (terms false)) (before (more_heaps m) n) (heap-law (terms false) (terms-all false)) (before-law (more_heaps m) n b.last (more_heaps-law m n b) (more_heaps-close m n b)) (λ x ys r fx fys h. heaps-apart m n b x ys r fx))
-
-heaps-closed : (m n : Class (Unit {0})) (hs : List Heap) (d : Word) → (heaps m n).more hs d ≡ false
-unfolding heaps
-heaps-closed m n hs d = refl
+heap-stops : (b : Bool) (d : Word) → is_one star d ≡ false → (x : Heap) → (heap (terms b)).fits x → (heap (terms b)).more x d ≡ false
+heap-stops b = heap-end (terms_of (terms b)) (spatial (terms b)) (spatial-lawful b)
 
 -- ---- definitions
 
 cases-law : Lawful cases
 unfolding cases
-cases-law = heaps-law bar closing_brace (record { law = symbol-law _; last = symbol-law _; no_star = refl; last_no_star = refl; differ = refl })
+cases-law = heaps-law bar closing_brace (terms_of (terms false)) (spatial (terms false)) (symbol-law _) (symbol-law _) refl refl refl (terms-all false) (spatial-lawful false)
 
 cases-closed : (hs : List Heap) (d : Word) → cases.more hs d ≡ false
 unfolding cases
-cases-closed hs d = heaps-closed bar closing_brace hs d
+cases-closed hs d = listed-closed some_heap bar closing_brace (heap (terms false)) hs d
 
 definition-law : Lawful definition
 unfolding definition
@@ -394,18 +179,18 @@ definition-closed x d = refl
 
 disjuncts-law : Lawful disjuncts
 unfolding disjuncts
-disjuncts-law = heaps-law or_word by_word (record { law = keyword-law _; last = keyword-law _; no_star = refl; last_no_star = refl; differ = refl })
+disjuncts-law = heaps-law or_word by_word (terms_of (terms false)) (spatial (terms false)) (keyword-law _) (keyword-law _) refl refl refl (terms-all false) (spatial-lawful false)
 
 disjuncts-closed : (hs : List Heap) (d : Word) → disjuncts.more hs d ≡ false
 unfolding disjuncts
-disjuncts-closed hs d = heaps-closed or_word by_word hs d
+disjuncts-closed hs d = listed-closed some_heap or_word by_word (heap (terms false)) hs d
 
 judgement-law : Lawful judgement
 unfolding judgement
 judgement-law =
     shaped-law {A = Heap × List Heap} to_entailment from_entailment Any _ (λ x f. (refl, tt)) (λ c h. refl)
-    (seq-law (heap (terms true)) (after turnstile disjuncts) (heap-law (terms true) (terms-all true)) (after-law turnstile disjuncts (symbol-law _) disjuncts-law)
-    (λ x y r fx fy h. heap-end (terms true) (turnstile.word tt) refl x fx))
+    (seq-law (heap (terms true)) (after turnstile disjuncts) (heap-lawful true) (after-law turnstile disjuncts (symbol-law _) disjuncts-law)
+    (λ x y r fx fy h. heap-stops true (turnstile.word tt) refl x fx))
 
 judgement-closed : (x : Entailment) (d : Word) → judgement.more x d ≡ false
 unfolding judgement
@@ -449,11 +234,11 @@ rewrite-law = seq-law (one number) side (one-law number number-law) side-law (λ
 
 split-law : Lawful split
 unfolding split
-split-law = seq-law uterm uterm uterm-law uterm-law (λ x y r fx fy h. closed-stops uterm uterm-all.closed x fx (uterm.words y ++ r))
+split-law = seq-law uterm uterm uterm-law uterm-law (λ x y r fx fy h. closed-stops uterm uterm-closed x fx (uterm.words y ++ r))
 
 cut-law : Lawful cut
 unfolding cut
-cut-law = seq-law bracketed (heap (terms false)) bracketed-law (heap-law (terms false) (terms-all false)) (λ x y r fx fy h. closed-stops bracketed (λ x d f. bracketed-closed x d) x fx ((heap (terms false)).words y ++ r))
+cut-law = seq-law bracketed (heap (terms false)) bracketed-law (heap-lawful false) (λ x y r fx fy h. closed-stops bracketed (λ x d f. bracketed-closed x d) x fx ((heap (terms false)).words y ++ r))
 
 instantiate-law : Lawful instantiate
 unfolding instantiate
@@ -467,7 +252,7 @@ pair-law =
 
 pair-closed : (x : PairTree) (d : Word) → pair.fits x → pair.more x d ≡ false
 unfolding pair
-pair-closed x d f = uterm-all.closed x.value d f.1.1
+pair-closed x d f = uterm-closed x.value d f.1.1
 
 pairs1-law : Lawful pairs1
 unfolding pairs1
@@ -584,15 +369,15 @@ reason-end : (d : Word) → is_one star d ≡ false → (r : Reason) → reason.
 unfolding reason parts rewrite split two_numbers cut instantiate link side
 reason-end d h Absurd f = refl
 reason-end d h (Rewrite k s) f = refl
-reason-end d h (Split t u) f = uterm-all.closed u d f.1.1.1
+reason-end d h (Split t u) f = uterm-closed u d f.1.1.1
 reason-end d h (Distinct i j) f = refl
 reason-end d h (Weaken k) f = refl
 reason-end d h (Unfold k) f = refl
-reason-end d h (Cut positions formula) f = heap-end (terms false) d h formula f.1.1.1
+reason-end d h (Cut positions formula) f = heap-stops false d h formula f.1.1.1
 reason-end d h Done f = refl
 reason-end d h (Choose j) f = refl
 reason-end d h (PureRight k) f = refl
-reason-end d h (Instantiate v t) f = uterm-all.closed t d f.1.1.1
+reason-end d h (Instantiate v t) f = uterm-closed t d f.1.1.1
 reason-end d h (Frame i j) f = refl
 reason-end d h (UnfoldRight j c) f = refl
 reason-end d h (Link l) f = bracketed-closed l.disjuncts d

@@ -4,9 +4,13 @@ use Rattle.proof_syntax.specs.declared.tree.TermTree.{TermTree}
 use Rattle.proof_syntax.specs.declared.tree.TermTree.TheVariants.{Nil, Univ, Exist}
 use Rattle.proof_syntax.specs.Grammar.{term, uterm, terms}
 
+pub uterm-words : (t : TermTree) → uterm.fits t → uterm.words t ≡ term.words t
+unfolding uterm term
+uterm-words Nil f = refl
+uterm-words (Univ n) f = refl
+uterm-words (Exist n) f = absurd f.0
+
 pub terms-words : (universal : Bool) (t : TermTree) → (terms universal).fits t → (terms universal).words t ≡ term.words t
-unfolding terms uterm term
-terms-words true Nil f = refl
-terms-words true (Univ n) f = refl
-terms-words true (Exist n) f = absurd f.0
+unfolding terms
+terms-words true t f = uterm-words t f
 terms-words false t f = refl

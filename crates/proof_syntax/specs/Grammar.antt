@@ -4,39 +4,23 @@ use Rattle.std.proofs.Common.{inl, inr}
 use Rattle.cyc_lex.specs.Word.{Word}
 use Rattle.cyc_grammar.specs.Syntax.{Reading, ◌>>=◌, Syntax, Class, one, seq, alt, many, shaped, after, before, headed, nothing, is_one, uncons, list1, or_empty}
 use Rattle.cyc_grammar.specs.Classes.{symbol, keyword, numeral, the_end, number, name, keyword_of}
+use Rattle.heap_syntax.specs.Grammar as shared
+use Rattle.heap_syntax.specs.Grammar.{Terms}
+pub use Rattle.heap_syntax.specs.Words.{nil, true_word, emp, pred_word, or_word, last_word, cyclist_word, version, equal, unequal, comma, colon, semicolon, star, bar, arrow, assign, turnstile, opening, closing, opening_brace, closing_brace, reserved, free_name}
+pub use Rattle.heap_syntax.specs.Grammar.{Any, cons, IsSome, sign, pure, some_heap}
 use Rattle.proof_syntax.specs.declared.tree.TermTree.{TermTree}
 use Rattle.proof_syntax.specs.declared.tree.TermTree.TheVariants.{Nil, Univ, Exist}
-use Rattle.proof_syntax.specs.declared.tree.PureTree.{PureTree}
 use Rattle.proof_syntax.specs.declared.tree.SideTree.{SideTree}
 use Rattle.proof_syntax.specs.declared.tree.PairTree.{PairTree}
 use Rattle.proof_syntax.specs.declared.reason_word.ReasonWord.{ReasonWord}
 use Rattle.proof_syntax.specs.declared.reason_word.ReasonWord.TheVariants as words
 use Rattle.proof_syntax.specs.ReasonWords.{reason_text, reason_words, side_text, sides}
-use Rattle.proof_syntax.specs.Trees.{Spatial, Cell, Predicate, Heap, Definition, Entailment, LinkData, Reason, Absurd, Rewrite, Split, Distinct, Weaken, Unfold, Cut, Done, Choose, PureRight, Instantiate, Frame, UnfoldRight, Link, Node, File}
-
--- every value has a text
-abbrev pub Any : {A : Type 0} → A → Type 0
-Any x = Unit {0}
+use Rattle.proof_syntax.specs.Trees.{PureTree, Spatial, Heap, Definition, Entailment, LinkData, Reason, Absurd, Rewrite, Split, Distinct, Weaken, Unfold, Cut, Done, Choose, PureRight, Instantiate, Frame, UnfoldRight, Link, Node, File}
 
 -- ---- words
 
-abbrev pub nil : Class (Unit {0})
-nil = keyword (codes "nil")
-
-abbrev pub true_word : Class (Unit {0})
-true_word = keyword (codes "true")
-
-abbrev pub emp : Class (Unit {0})
-emp = keyword (codes "emp")
-
-abbrev pub pred_word : Class (Unit {0})
-pred_word = keyword (codes "pred")
-
 abbrev pub node_word : Class (Unit {0})
 node_word = keyword (codes "node")
-
-abbrev pub or_word : Class (Unit {0})
-or_word = keyword (codes "or")
 
 abbrev pub by_word : Class (Unit {0})
 by_word = keyword (codes "by")
@@ -44,17 +28,8 @@ by_word = keyword (codes "by")
 abbrev pub to_word : Class (Unit {0})
 to_word = keyword (codes "to")
 
-abbrev pub last_word : Class (Unit {0})
-last_word = keyword (codes "end")
-
-abbrev pub cyclist_word : Class (Unit {0})
-cyclist_word = keyword (codes "cyclist")
-
 abbrev pub proof_word : Class (Unit {0})
 proof_word = keyword (codes "proof")
-
-abbrev pub version : Class (Unit {0})
-version = numeral (codes "1")
 
 abbrev pub dollar : Class (Unit {0})
 dollar = symbol (codes "$")
@@ -62,60 +37,11 @@ dollar = symbol (codes "$")
 abbrev pub query : Class (Unit {0})
 query = symbol (codes "?")
 
-abbrev pub equal : Class (Unit {0})
-equal = symbol (codes "=")
-
-abbrev pub unequal : Class (Unit {0})
-unequal = symbol (codes "!=")
-
-abbrev pub comma : Class (Unit {0})
-comma = symbol (codes ",")
-
-abbrev pub colon : Class (Unit {0})
-colon = symbol (codes ":")
-
-abbrev pub semicolon : Class (Unit {0})
-semicolon = symbol (codes ";")
-
-abbrev pub star : Class (Unit {0})
-star = symbol (codes "*")
-
-abbrev pub bar : Class (Unit {0})
-bar = symbol (codes "|")
-
-abbrev pub arrow : Class (Unit {0})
-arrow = symbol (codes "->")
-
-abbrev pub assign : Class (Unit {0})
-assign = symbol (codes ":=")
-
-abbrev pub turnstile : Class (Unit {0})
-turnstile = symbol (codes "|-")
-
-abbrev pub opening : Class (Unit {0})
-opening = symbol (codes "(")
-
-abbrev pub closing : Class (Unit {0})
-closing = symbol (codes ")")
-
-abbrev pub opening_brace : Class (Unit {0})
-opening_brace = symbol (codes "{")
-
-abbrev pub closing_brace : Class (Unit {0})
-closing_brace = symbol (codes "}")
-
 abbrev pub opening_bracket : Class (Unit {0})
 opening_bracket = symbol (codes "[")
 
 abbrev pub closing_bracket : Class (Unit {0})
 closing_bracket = symbol (codes "]")
-
--- the words that are no names
-abbrev pub reserved : List (List ℕ)
-reserved = codes "true" ∷ codes "emp" ∷ codes "nil" ∷ codes "pred" ∷ codes "line" ∷ codes "node" ∷ codes "by" ∷ codes "to" ∷ codes "end" ∷ codes "from" ∷ codes "given" ∷ codes "or" ∷ codes "goal" ∷ codes "if" ∷ codes "goto" ∷ codes "new" ∷ codes "free" ∷ codes "stop" ∷ []
-
-abbrev pub free_name : Class (List ℕ)
-free_name = name reserved
 
 -- ---- term = "nil" | "$" number | "?" number
 
@@ -156,103 +82,40 @@ unfoldable pub terms : Bool → Syntax TermTree
 terms true = uterm
 terms false = term
 
--- ---- pure = term ( "=" | "!=" ) term
+-- ---- heaps over these terms
 
-abbrev pub to_sign : Unit {0} ⊎ Unit {0} → Bool
-to_sign (inl u) = true
-to_sign (inr u) = false
-
-abbrev pub from_sign : Bool → Unit {0} ⊎ Unit {0}
-from_sign true = inl tt
-from_sign false = inr tt
-
-unfoldable pub sign : Syntax Bool
-sign = shaped {A = Unit {0} ⊎ Unit {0}} to_sign from_sign Any (alt (is_one equal) (one equal) (one unequal))
-
-abbrev pub to_pure : TermTree × (Bool × TermTree) → PureTree
-to_pure p = record { left = p.0; is_equation = p.1.0; right = p.1.1 }
-
-abbrev pub from_pure : PureTree → TermTree × (Bool × TermTree)
-from_pure p = (p.left, (p.is_equation, p.right))
-
-unfoldable pub pure : Syntax TermTree → Syntax PureTree
-pure t = shaped {A = TermTree × (Bool × TermTree)} to_pure from_pure Any (seq t (seq sign t))
-
--- ---- pures = "true" | pure { "," pure }
+abbrev pub terms_of : Syntax TermTree → Terms TermTree
+terms_of t = record { some = Nil; syntax = t }
 
 abbrev pub some_pure : PureTree
-some_pure = record { left = Nil; is_equation = true; right = Nil }
+some_pure = shared.some_pure (terms_of term)
 
-unfoldable pub pures1 : Syntax TermTree → Syntax (List PureTree)
-pures1 t = list1 some_pure comma (pure t)
+abbrev pub pures1 : Syntax TermTree → Syntax (List PureTree)
+pures1 t = shared.pures1 (terms_of t)
 
-unfoldable pub pures : Syntax TermTree → Syntax (List PureTree)
-pures t = or_empty true_word (pures1 t)
+abbrev pub pures : Syntax TermTree → Syntax (List PureTree)
+pures t = shared.pures (terms_of t)
 
--- ---- spat = term "->" "(" term { "," term } ")" | name "(" [ term { "," term } ] ")"
+abbrev pub fields : Syntax TermTree → Syntax (List TermTree)
+fields t = shared.fields (terms_of t)
 
--- what stands behind the opening parenthesis
-unfoldable pub fields : Syntax TermTree → Syntax (List TermTree)
-fields t = before (list1 Nil comma t) closing
+abbrev pub arguments : Syntax TermTree → Syntax (List TermTree)
+arguments t = shared.arguments (terms_of t)
 
-unfoldable pub arguments : Syntax TermTree → Syntax (List TermTree)
-arguments t = or_empty closing (fields t)
-
-abbrev pub to_spatial : (List ℕ × List TermTree) ⊎ (TermTree × List TermTree) → Spatial
-to_spatial (inl p) = Predicate p.0 p.1
-to_spatial (inr c) = Cell c.0 c.1
-
-abbrev pub from_spatial : Spatial → (List ℕ × List TermTree) ⊎ (TermTree × List TermTree)
-from_spatial (Predicate s ts) = inl (s, ts)
-from_spatial (Cell t ts) = inr (t, ts)
-
-unfoldable pub predicate : Syntax TermTree → Syntax (List ℕ × List TermTree)
-predicate t = seq (one free_name) (after opening (arguments t))
-
-unfoldable pub cell : Syntax TermTree → Syntax (TermTree × List TermTree)
-cell t = seq t (after arrow (after opening (fields t)))
-
-unfoldable pub spatial : Syntax TermTree → Syntax Spatial
-spatial t = shaped {A = (List ℕ × List TermTree) ⊎ (TermTree × List TermTree)} to_spatial from_spatial Any (alt (is_one free_name) (predicate t) (cell t))
-
--- ---- spats = "emp" | spat { "*" spat }
+abbrev pub spatial : Syntax TermTree → Syntax Spatial
+spatial t = shared.spatial (terms_of t)
 
 abbrev pub some_spatial : Spatial
-some_spatial = Cell Nil (Nil ∷ [])
+some_spatial = shared.some_spatial (terms_of term)
 
-unfoldable pub spatials1 : Syntax TermTree → Syntax (List Spatial)
-spatials1 t = list1 some_spatial star (spatial t)
+abbrev pub spatials : Syntax TermTree → Syntax (List Spatial)
+spatials t = shared.spatials (terms_of t) (spatial t)
 
-unfoldable pub spatials : Syntax TermTree → Syntax (List Spatial)
-spatials t = or_empty emp (spatials1 t)
+abbrev pub heap : Syntax TermTree → Syntax Heap
+heap t = shared.heap (terms_of t) (spatial t)
 
--- ---- heap = pures ":" spats
-
-abbrev pub to_heap : List PureTree × List Spatial → Heap
-to_heap p = record { pure = p.0; spatial = p.1 }
-
-abbrev pub from_heap : Heap → List PureTree × List Spatial
-from_heap h = (h.pure, h.spatial)
-
-unfoldable pub heap : Syntax TermTree → Syntax Heap
-heap t = shaped {A = List PureTree × List Spatial} to_heap from_heap Any (seq (pures t) (after colon (spatials t)))
-
--- one heap or more, with a word between neighbours, and a word behind the last
-
-abbrev pub some_heap : Heap
-some_heap = record { pure = []; spatial = [] }
-
-abbrev pub cons : {A : Type 0} → A × List A → List A
-cons p = p.0 ∷ p.1
-
-abbrev pub IsSome : {A : Type 0} → List A → Type 0
-IsSome xs = 0 < length xs
-
-abbrev pub more_heaps : Class (Unit {0}) → Syntax (List Heap)
-more_heaps between = many (is_one between) (after between (heap (terms false)))
-
-unfoldable pub heaps : Class (Unit {0}) → Class (Unit {0}) → Syntax (List Heap)
-heaps between behind = shaped {A = Heap × List Heap} cons (uncons some_heap) IsSome (seq (heap (terms false)) (before (more_heaps between) behind))
+abbrev pub heaps : Class (Unit {0}) → Class (Unit {0}) → Syntax (List Heap)
+heaps between behind = shared.heaps between behind (heap (terms false))
 
 -- ---- pred = "pred" name "(" number ")" "{" heap { "|" heap } "}" ";"
 

@@ -1,10 +1,9 @@
 -- Trees without where they lie in memory.
 use Rattle.std.specs.Prelude.{ℕ, List, map}
 use Rattle.proof_syntax.specs.declared.tree.TermTree.{TermTree}
-use Rattle.proof_syntax.specs.declared.tree.PureTree.{PureTree}
-use Rattle.proof_syntax.specs.declared.tree.SpatialTree.{SpatialTree}
-use Rattle.proof_syntax.specs.declared.tree.SpatialTree.TheVariants as spatials
-use Rattle.proof_syntax.specs.declared.tree.HeapTree.{HeapTree}
+use Rattle.heap_syntax.specs.declared.tree.PureTree.{PureTree as AnyPureTree}
+use Rattle.heap_syntax.specs.Trees as heaps
+pub use Rattle.heap_syntax.specs.Trees.{Cell, Predicate, spatial_of, heap_of}
 use Rattle.proof_syntax.specs.declared.tree.DefinitionTree.{DefinitionTree}
 use Rattle.proof_syntax.specs.declared.tree.EntailmentTree.{EntailmentTree}
 use Rattle.proof_syntax.specs.declared.tree.SideTree.{SideTree}
@@ -17,14 +16,15 @@ use Rattle.proof_syntax.specs.declared.reason_word.ReasonWord.TheVariants as wor
 use Rattle.proof_syntax.specs.declared.tree.NodeTree.{NodeTree}
 use Rattle.proof_syntax.specs.declared.tree.FileTree.{FileTree}
 
--- a spatial atom: a cell's address and fields, or a predicate's name and arguments
-pub data Spatial : Type 0 where
-  Cell : TermTree → List TermTree → Spatial
-  Predicate : List ℕ → List TermTree → Spatial
+-- a pure atom, a spatial atom and a heap over the terms of proof files
+abbrev pub PureTree : Type 0
+PureTree = AnyPureTree TermTree
 
-pub record Heap : Type 0 where
-  pub pure : List PureTree
-  pub spatial : List Spatial
+abbrev pub Spatial : Type 0
+Spatial = heaps.Spatial TermTree
+
+abbrev pub Heap : Type 0
+Heap = heaps.Heap TermTree
 
 pub record Definition : Type 0 where
   pub name : List ℕ
@@ -67,13 +67,6 @@ pub record File : Type 0 where
   pub nodes : List Node
 
 -- ---- what a contract sees of the code's trees
-
-abbrev pub spatial_of : SpatialTree → Spatial
-spatial_of (spatials.Cell address fields) = Cell address fields.items
-spatial_of (spatials.Predicate name args) = Predicate name.now args.items
-
-abbrev pub heap_of : HeapTree → Heap
-heap_of h = record { pure = h.pure.items; spatial = map spatial_of h.spatial.items }
 
 abbrev pub definition_of : DefinitionTree → Definition
 definition_of d = record { name = d.name.now; arity = d.arity; cases = map heap_of d.cases.items }

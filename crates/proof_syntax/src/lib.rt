@@ -1,13 +1,13 @@
 //! Proof files as trees: their grammar, reading a tree from tokens with the exact syntax fault, and writing a tree.
 #![tactic(auto)]
 
+mod form;
+mod number_list;
 mod read_files;
-mod read_heaps;
 mod read_reasons;
 mod reason_word;
 mod tree;
 mod write_files;
-mod write_heaps;
 mod write_reasons;
 
 pub use read_files::read_tree;

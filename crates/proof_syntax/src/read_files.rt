@@ -2,50 +2,33 @@
 
 ghost use Rattle.std.specs.Prelude.{◌≡◌, ◌<◌, ◌^◌, ◌++◌, ◌∷◌, [], true, length, map, IfErr};
 ghost use Rattle.cyc_lex.specs.Word.{word_of, EndsOnce};
-ghost use Rattle.cyc_grammar.specs.Syntax.{many, is_one, after, read_whole};
+ghost use Rattle.cyc_grammar.specs.Syntax.{read_whole};
 ghost use Rattle.cyc_grammar.specs.Classes.{are_tokens};
 ghost use Rattle.cyc_grammar.specs.Faults.{Reads, IsRead};
 ghost use Rattle.cyc_grammar.specs.Giving.{Gives, IsWithin, with_front, words};
-ghost use Rattle.proof_syntax.specs.Grammar.{or_word, bar, more_heaps, cases, disjuncts, pred_word, node_word, definition, definitions, judgement, premises, node, more_nodes, nodes, body, file};
+ghost use Rattle.proof_syntax.specs.Grammar.{cases, disjuncts, pred_word, node_word, definition, definitions, judgement, premises, node, more_nodes, nodes, body, file};
 ghost use Rattle.proof_syntax.specs.Trees.{File, heap_of, definition_of, entailment_of, node_of, file_of};
 
-use crate::read_heaps::{free_name, heap, more_numbers};
+use crate::form::ProofForm;
+use crate::number_list::more_numbers;
 use crate::read_reasons::reason;
 use crate::tree::{DefinitionTree, EntailmentTree, FileTree, HeapTree, NodeTree};
 use cyc_grammar::{Cursor, Refusal, read_fault};
 use cyc_lex::{ReadFault, Token, Tokens};
+use heap_syntax::{Mark, free_name, heap, heaps};
 use std::alloc::Global;
 
-/// Reads the cases behind some.
-fn more_cases<'a>(
-    alloc: Global,
-    mut items: Vec<HeapTree<'a>>,
-    cursor: &mut Cursor<'_, 'a>,
-) -> Result<Vec<HeapTree<'a>>, Refusal>
-    ensures { Gives (λ x. (map heap_of x.items, cursor.new)) result (with_front (map heap_of items.entry.items) ((more_heaps bar).read cursor.old)) }
-{
-    for _ in 0..cursor.left() {
-        if !cursor.is_symbol_next("|") {
-            return Ok(items);
-        }
-        cursor.symbol("|")?;
-        items.push(heap(alloc, false, cursor)?)?;
-    }
-    if cursor.is_symbol_next("|") {
-        return Err(Refusal::Dead(cursor.left()));
-    }
-    Ok(items)
-}
-
-#[tactic(auto, unfolding(crate::specs::Grammar::cases, crate::specs::Grammar::heaps))]
+#[tactic(auto, unfolding(crate::specs::Grammar::cases))]
 fn cases<'a>(alloc: Global, cursor: &mut Cursor<'_, 'a>) -> Result<Vec<HeapTree<'a>>, Refusal>
     ensures { Gives (λ x. (map heap_of x.items, cursor.new)) result (cases.read cursor.old) }
 {
-    let mut items = Vec::new(alloc);
-    items.push(heap(alloc, false, cursor)?)?;
-    let items = more_cases(alloc, items, cursor)?;
-    cursor.symbol("}")?;
-    Ok(items)
+    heaps(
+        alloc,
+        &ProofForm { universal: false },
+        &Mark::Symbol("|"),
+        &Mark::Symbol("}"),
+        cursor,
+    )
 }
 
 #[tactic(auto, unfolding(crate::specs::Grammar::definition))]
@@ -93,43 +76,24 @@ fn definitions<'a>(
     more_definitions(alloc, Vec::new(alloc), cursor)
 }
 
-/// Reads the disjuncts behind some.
-fn more_disjuncts<'a>(
-    alloc: Global,
-    mut items: Vec<HeapTree<'a>>,
-    cursor: &mut Cursor<'_, 'a>,
-) -> Result<Vec<HeapTree<'a>>, Refusal>
-    ensures { Gives (λ x. (map heap_of x.items, cursor.new)) result (with_front (map heap_of items.entry.items) ((more_heaps or_word).read cursor.old)) }
-{
-    for _ in 0..cursor.left() {
-        if !cursor.is_keyword_next("or") {
-            return Ok(items);
-        }
-        cursor.keyword("or")?;
-        items.push(heap(alloc, false, cursor)?)?;
-    }
-    if cursor.is_keyword_next("or") {
-        return Err(Refusal::Dead(cursor.left()));
-    }
-    Ok(items)
-}
-
-#[tactic(auto, unfolding(crate::specs::Grammar::disjuncts, crate::specs::Grammar::heaps))]
+#[tactic(auto, unfolding(crate::specs::Grammar::disjuncts))]
 fn disjuncts<'a>(alloc: Global, cursor: &mut Cursor<'_, 'a>) -> Result<Vec<HeapTree<'a>>, Refusal>
     ensures { Gives (λ x. (map heap_of x.items, cursor.new)) result (disjuncts.read cursor.old) }
 {
-    let mut items = Vec::new(alloc);
-    items.push(heap(alloc, false, cursor)?)?;
-    let items = more_disjuncts(alloc, items, cursor)?;
-    cursor.keyword("by")?;
-    Ok(items)
+    heaps(
+        alloc,
+        &ProofForm { universal: false },
+        &Mark::Keyword("or"),
+        &Mark::Keyword("by"),
+        cursor,
+    )
 }
 
 #[tactic(auto, unfolding(crate::specs::Grammar::judgement))]
 fn judgement<'a>(alloc: Global, cursor: &mut Cursor<'_, 'a>) -> Result<EntailmentTree<'a>, Refusal>
     ensures { Gives (λ x. (entailment_of x, cursor.new)) result (judgement.read cursor.old) }
 {
-    let antecedent = heap(alloc, true, cursor)?;
+    let antecedent = heap(alloc, &ProofForm { universal: true }, cursor)?;
     cursor.symbol("|-")?;
     let disjuncts = disjuncts(alloc, cursor)?;
     Ok(EntailmentTree {

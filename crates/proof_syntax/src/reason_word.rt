@@ -1,9 +1,7 @@
-//! The words that name a rule, those that name a side, and those that are no names.
+//! The words that name a rule, and those that name a side.
 
 ghost use Rattle.std.specs.Prelude.{◌≡◌};
 ghost use Rattle.cyc_grammar.specs.Classes.{find_text};
-ghost use Rattle.cyc_grammar.specs.Giving.{texts};
-ghost use Rattle.proof_syntax.specs.Grammar.{reserved};
 ghost use Rattle.proof_syntax.specs.ReasonWords.{reason_text, reason_words, side_text, sides};
 
 use crate::tree::SideTree;
@@ -93,16 +91,4 @@ pub fn text_of_side(side: SideTree) -> &'static str
         SideTree::Left => "left",
         SideTree::Right => "right",
     }
-}
-
-static RESERVED: [&str; 18] = [
-    "true", "emp", "nil", "pred", "line", "node", "by", "to", "end", "from", "given", "or", "goal",
-    "if", "goto", "new", "free", "stop",
-];
-
-/// The words that are no names.
-pub fn reserved_words() -> &'static [&'static str]
-    ensures { texts result.now ≡ reserved }
-{
-    &RESERVED
 }

@@ -8,27 +8,14 @@ pub enum TermTree {
     Exist(u32),
 }
 
-/// A pure atom, `left = right` or `left != right`.
-#[derive(Clone, Copy, Debug, PartialEq, Eq)]
-pub struct PureTree {
-    pub left: TermTree,
-    pub is_equation: bool,
-    pub right: TermTree,
-}
+/// A pure atom over these terms.
+pub type PureTree = heap_syntax::PureTree<TermTree>;
 
-/// A spatial atom: a cell `address -> (fields)`, which has at least one field, or a predicate `name(arguments)`.
-#[derive(Debug, Drop)]
-pub enum SpatialTree<'a> {
-    Cell(TermTree, Vec<TermTree>),
-    Predicate(&'a str, Vec<TermTree>),
-}
+/// A spatial atom over these terms.
+pub type SpatialTree<'a> = heap_syntax::SpatialTree<'a, TermTree>;
 
-/// A symbolic heap, `pure : spatial` (Reynolds 2002; Berdine, Calcagno and O'Hearn 2004).
-#[derive(Debug, Drop)]
-pub struct HeapTree<'a> {
-    pub pure: Vec<PureTree>,
-    pub spatial: Vec<SpatialTree<'a>>,
-}
+/// A symbolic heap over these terms.
+pub type HeapTree<'a> = heap_syntax::HeapTree<'a, TermTree>;
 
 /// The definition of a predicate, which has at least one case.
 #[derive(Debug, Drop)]

@@ -4,41 +4,30 @@ ghost use Rattle.std.specs.Prelude.{◌≡◌, map, OnOk, IfOk, false};
 ghost use Rattle.cyc_lex.specs.Spacing.{text_of};
 ghost use Rattle.cyc_lex.specs.Spelling.{Spells};
 ghost use Rattle.cyc_lex.specs.Writing.{write, write_all};
-ghost use Rattle.cyc_grammar.specs.Syntax.{after, words_many, fits_many};
-ghost use Rattle.proof_syntax.specs.Grammar.{bar, or_word, heap, terms, cases, disjuncts, definition, definitions, judgement, premises, node, more_nodes, nodes, body, file};
+ghost use Rattle.proof_syntax.specs.Grammar.{cases, disjuncts, definition, definitions, judgement, premises, node, more_nodes, nodes, body, file};
 ghost use Rattle.proof_syntax.specs.Trees.{heap_of, definition_of, entailment_of, node_of, file_of};
 
+use crate::form::ProofForm;
+use crate::number_list::write_numbers;
 use crate::tree::{DefinitionTree, EntailmentTree, FileTree, HeapTree, NodeTree};
-use crate::write_heaps::{write_heap, write_numbers};
 use crate::write_reasons::write_reason;
 use cyc_lex::WordWriter;
 use cyc_memory::OutOfMemory;
+use heap_syntax::{Mark, write_heap, write_heaps};
 use std::alloc::Global;
 
-fn write_more_cases(trees: &[HeapTree<'_>], writer: &mut WordWriter) -> Result<(), OutOfMemory>
-    requires { fits_many (after bar (heap (terms false))) (map heap_of trees.now) }
-    ensures { OnOk result (writer.new ≡ write_all writer.old (words_many (after bar (heap (terms false))) (map heap_of trees.now))) }
-{
-    for tree in trees {
-        writer.symbol("|")?;
-        write_heap(false, tree, writer)?;
-    }
-    Ok(())
-}
-
-#[tactic(auto, using(cyc_lex::proofs::WritingLaws::write_all_on), unfolding(crate::specs::Grammar::cases, crate::specs::Grammar::heaps, cyc_lex::specs::Writing::write_all))]
+#[tactic(auto, unfolding(crate::specs::Grammar::cases))]
 fn write_cases(trees: &[HeapTree<'_>], writer: &mut WordWriter) -> Result<(), OutOfMemory>
     requires { cases.fits (map heap_of trees.now) }
     ensures { OnOk result (writer.new ≡ write_all writer.old (cases.words (map heap_of trees.now))) }
 {
-    match trees {
-        [] => unreachable!(),
-        [first, others @ ..] => {
-            write_heap(false, first, writer)?;
-            write_more_cases(others, writer)?;
-            writer.symbol("}")
-        }
-    }
+    write_heaps(
+        &ProofForm { universal: false },
+        &Mark::Symbol("|"),
+        &Mark::Symbol("}"),
+        trees,
+        writer,
+    )
 }
 
 #[tactic(auto, using(cyc_lex::proofs::WritingLaws::write_all_on), unfolding(crate::specs::Grammar::definition, cyc_lex::specs::Writing::write_all))]
@@ -70,30 +59,18 @@ fn write_definitions(
     Ok(())
 }
 
-fn write_more_disjuncts(trees: &[HeapTree<'_>], writer: &mut WordWriter) -> Result<(), OutOfMemory>
-    requires { fits_many (after or_word (heap (terms false))) (map heap_of trees.now) }
-    ensures { OnOk result (writer.new ≡ write_all writer.old (words_many (after or_word (heap (terms false))) (map heap_of trees.now))) }
-{
-    for tree in trees {
-        writer.name("or")?;
-        write_heap(false, tree, writer)?;
-    }
-    Ok(())
-}
-
-#[tactic(auto, using(cyc_lex::proofs::WritingLaws::write_all_on), unfolding(crate::specs::Grammar::disjuncts, crate::specs::Grammar::heaps, cyc_lex::specs::Writing::write_all))]
+#[tactic(auto, unfolding(crate::specs::Grammar::disjuncts))]
 fn write_disjuncts(trees: &[HeapTree<'_>], writer: &mut WordWriter) -> Result<(), OutOfMemory>
     requires { disjuncts.fits (map heap_of trees.now) }
     ensures { OnOk result (writer.new ≡ write_all writer.old (disjuncts.words (map heap_of trees.now))) }
 {
-    match trees {
-        [] => unreachable!(),
-        [first, others @ ..] => {
-            write_heap(false, first, writer)?;
-            write_more_disjuncts(others, writer)?;
-            writer.name("by")
-        }
-    }
+    write_heaps(
+        &ProofForm { universal: false },
+        &Mark::Keyword("or"),
+        &Mark::Keyword("by"),
+        trees,
+        writer,
+    )
 }
 
 #[tactic(auto, using(cyc_lex::proofs::WritingLaws::write_all_on), unfolding(crate::specs::Grammar::judgement, cyc_lex::specs::Writing::write_all))]
@@ -101,7 +78,7 @@ fn write_judgement(tree: &EntailmentTree<'_>, writer: &mut WordWriter) -> Result
     requires { judgement.fits (entailment_of tree.now) }
     ensures { OnOk result (writer.new ≡ write_all writer.old (judgement.words (entailment_of tree.now))) }
 {
-    write_heap(true, &tree.antecedent, writer)?;
+    write_heap(&ProofForm { universal: true }, &tree.antecedent, writer)?;
     writer.symbol("|-")?;
     write_disjuncts(&tree.disjuncts, writer)
 }

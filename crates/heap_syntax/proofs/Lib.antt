@@ -1,0 +1,4 @@
+pub mod Loops
+pub mod HeapLaws
+pub mod WordTexts
+pub mod HeapEnds

@@ -1,0 +1,49 @@
+//! Forms of terms: what tells the heaps of one format from those of another.
+
+ghost use Rattle.std.specs.Prelude.{◌≡◌, OnOk};
+ghost use Rattle.cyc_grammar.specs.Syntax.{Syntax};
+ghost use Rattle.cyc_grammar.specs.Giving.{Gives};
+ghost use Rattle.cyc_lex.specs.Writing.{write_all};
+ghost use Rattle.heap_syntax.specs.Trees.{Spatial, spatial_of};
+ghost use Rattle.heap_syntax.specs.Grammar.{Terms};
+
+use crate::tree::SpatialTree;
+use cyc_grammar::{Cursor, Refusal};
+use cyc_lex::WordWriter;
+use cyc_memory::OutOfMemory;
+use std::alloc::Global;
+
+/// The terms of a format, and how they are read.
+pub trait TermForm<'a> {
+    /// A term.
+    type Term: Copy + Drop;
+
+    /// The grammar of the terms.
+    ghost terms: { Self → Terms Self.Term };
+
+    /// Reads a term.
+    fn read_term(&self, cursor: &mut Cursor<'_, 'a>) -> Result<Self::Term, Refusal>
+        ensures { Gives (λ x. (x, cursor.new)) result ((terms self.now).syntax.read cursor.old) };
+}
+
+/// How the spatial atoms over these terms are read: a name that begins a predicate atom may begin a term too.
+pub trait AtomForm<'a>: TermForm<'a> {
+    /// The grammar of the spatial atoms.
+    ghost atoms: { Self → Syntax (Spatial Self.Term) };
+
+    /// Reads a spatial atom.
+    fn read_atom(
+        &self,
+        alloc: Global,
+        cursor: &mut Cursor<'_, 'a>,
+    ) -> Result<SpatialTree<'a, Self::Term>, Refusal>
+        ensures { Gives (λ x. (spatial_of x, cursor.new)) result ((atoms self.now).read cursor.old) };
+}
+
+/// How the terms are written.
+pub trait WrittenForm<'a>: TermForm<'a> {
+    /// Writes a term.
+    fn write_term(&self, tree: Self::Term, writer: &mut WordWriter) -> Result<(), OutOfMemory>
+        requires { (Self.terms self.now).syntax.fits tree }
+        ensures { OnOk result (writer.new ≡ write_all writer.old ((Self.terms self.now).syntax.words tree)) };
+}
