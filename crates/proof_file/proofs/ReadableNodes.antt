@@ -64,7 +64,7 @@ universal_terms (t ∷ ts) e =
     both_true (is_universal (term_value t)) (are_universal (map term_value ts)) (terms_fit t e.0) (universal_terms ts e.1)
 
 universal_pure : (x : PureTree) → (pure (terms true)).fits x → is_universal_pure (pure_value x) ≡ true
-unfolding pure
+unfolding shared.pure
 universal_pure x f =
     by_sign x.is_equation (both_true (is_universal (term_value x.left)) (is_universal (term_value x.right)) (terms_fit x.left f.1.0) (terms_fit x.right f.1.1.1))
   where

@@ -77,13 +77,13 @@ terms_words true t f = uterm_words t f
 terms_words false t f = term_words t
 
 sign_words : (b : Bool) → length (sign.words b) ≡ 1
-unfolding sign
+unfolding shared.sign
 sign_words true = refl
 sign_words false = refl
 
 module _ (b : Bool) where
   pure_words : (x : PureTree) → (pure (terms b)).fits x → length ((pure (terms b)).words x) + 1 ≡ pure_span x
-  unfolding pure
+  unfolding shared.pure
   pure_words x f =
       let l = terms_words b x.left f.1.0 in
       let s = sign_words x.is_equation in

@@ -29,7 +29,8 @@ use Rattle.cyc_lex.specs.declared.fault.IllFault.TheVariants.{Duplicate}
 use Rattle.cyc_grammar.specs.Classes.{is_free_name}
 use Rattle.cyc_grammar.specs.Syntax.{Class, after, uncons, fits_many}
 use Rattle.proof_syntax.specs.Trees.{Spatial, Heap, Definition, Node, File}
-use Rattle.proof_syntax.specs.Grammar.{reserved, uterm, terms, pure, spatial, predicate, cell, spatials, heap, heaps, cases, definition, disjuncts, judgement, cut, split, parts, reason, node, nodes, more_nodes, definitions, body, file, some_heap, bar, closing_brace, or_word, by_word}
+use Rattle.heap_syntax.specs.Grammar as shared
+use Rattle.proof_syntax.specs.Grammar.{reserved, uterm, terms, pure, spatial, spatials, heap, heaps, cases, definition, disjuncts, judgement, cut, split, parts, reason, node, nodes, more_nodes, definitions, body, file, some_heap, bar, closing_brace, or_word, by_word}
 use Rattle.proof_file.specs.declared.node.FileNode.{FileNode}
 use Rattle.proof_file.specs.declared.file.ProofFile.{ProofFile}
 use Rattle.proof_file.specs.Spans.{total, heap_span, definition_span, node_span}
@@ -144,21 +145,21 @@ pure_known (Neq t u) = λ i. Neq (term_known t i) (term_known u i)
 
 module _ (ds : List DefinitionValue) (ts : List Definition) (placed : (p : ℕ) → is_free_name reserved (name_of ds p) ≡ true → place_of ts (name_of ds p) ≡ p) where
   spatial_known : (b : Bool) (x : SpatialAtom) → (spatial (terms b)).fits (spatial_tree ds x) → spatial_value ts (spatial_tree ds x) ≡ x
-  unfolding spatial predicate
+  unfolding shared.spatial shared.predicate shared.cell
   spatial_known b (atoms.Cell t us) f = λ i. atoms.Cell (term_known t i) (terms_known us i)
   spatial_known b (atoms.Pred p us) f =
       let same = placed p f.1.0 in
       λ i. atoms.Pred (same i) (terms_known us i)
 
   heap_known : (b : Bool) (h : SymbolicHeap) → (heap (terms b)).fits (heap_tree ds h) → heap_value ts (heap_tree ds h) ≡ h
-  unfolding heap
+  unfolding shared.heap
   heap_known b h f =
       let pure = all_known pure_tree pure_value pure_known h.pure in
       let spatial = each_known (spatial_tree ds) (spatial_value ts) (spatial (terms b)).fits (spatial_known b) h.spatial (spatials_fit b (map (spatial_tree ds) h.spatial) f.1.1) in
       λ i. record { pure = pure i; spatial = spatial i }
 
   heaps_fit : (between behind : Class (Unit {0})) (hs : List Heap) → (heaps between behind).fits hs → Each (heap (terms false)).fits hs
-  unfolding heaps
+  unfolding shared.listed
   heaps_fit between behind [] f = tt
   heaps_fit between behind (h ∷ hs) f = (f.1.0, behind_fit between (heap (terms false)) hs f.1.1)
 
@@ -167,7 +168,7 @@ module _ (ds : List DefinitionValue) (ts : List Definition) (placed : (p : ℕ) 
       each_known (heap_tree ds) (heap_value ts) (heap (terms false)).fits (heap_known false) hs (heaps_fit between behind (map (heap_tree ds) hs) f)
 
   no_heaps : (between behind : Class (Unit {0})) → (heaps between behind).fits [] → ⊥
-  unfolding heaps
+  unfolding shared.listed
   no_heaps between behind f = absurd (omega (arith, f.0))
 
   definition_known : (d : DefinitionValue) → definition.fits (definition_tree ds d) → definition_value ts (definition_tree ds d) ≡ d

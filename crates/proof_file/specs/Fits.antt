@@ -8,7 +8,8 @@ use Rattle.proof_syntax.specs.declared.tree.TermTree.TheVariants.{Nil, Univ, Exi
 use Rattle.proof_syntax.specs.declared.reason_word.ReasonWord.{ReasonWord}
 use Rattle.proof_syntax.specs.declared.reason_word.ReasonWord.TheVariants as words
 use Rattle.proof_syntax.specs.Trees.{Cell, Predicate}
-use Rattle.proof_syntax.specs.Grammar.{term, uterm, terms, sign, pure, pures1, pures, fields, arguments, predicate, cell, spatial, spatials1, spatials, heap, heaps, cases, definition, disjuncts, judgement, numbers, bracketed, two_numbers, side, rewrite, split, cut, instantiate, pair, pairs1, pairs, link, parts, reason, premises, node, definitions, more_nodes, nodes, body, file, from_reason, reserved, comma, star, bar, closing_brace, or_word, by_word, some_pure, some_spatial, some_heap, some_pair, some_node}
+use Rattle.heap_syntax.specs.Grammar as shared
+use Rattle.proof_syntax.specs.Grammar.{term, uterm, terms, sign, pure, pures, fields, arguments, spatial, spatials, heap, heaps, cases, definition, disjuncts, judgement, numbers, bracketed, two_numbers, side, rewrite, split, cut, instantiate, pair, pairs1, pairs, link, parts, reason, premises, node, definitions, more_nodes, nodes, body, file, from_reason, reserved, comma, colon, star, bar, closing, closing_brace, or_word, by_word, some_pure, some_spatial, some_heap, some_pair, some_node}
 
 abbrev pub HasOneFit : {T : Type 0} → Syntax T → Type 0
 HasOneFit {T = T} s = (t : T) → IsProp (s.fits t)
@@ -19,6 +20,10 @@ many-fit a p (x ∷ xs) = ×_prop (p x) (many-fit a p xs)
 
 list-fit : {A : Type 0} (d : A) (c : Class (Unit {0})) (a : Syntax A) → HasOneFit a → HasOneFit (list1 d c a)
 list-fit d c a p xs = ×_prop le_prop (×_prop (p (uncons d xs).0) (many-fit (after c a) p (uncons d xs).1))
+
+listed-fit : {A : Type 0} (d : A) (c behind : Class (Unit {0})) (a : Syntax A) → HasOneFit a → HasOneFit (shared.listed d c behind a)
+unfolding shared.listed
+listed-fit d c behind a p xs = ×_prop le_prop (×_prop (p (uncons d xs).0) (many-fit (after c a) p (uncons d xs).1))
 
 name-fit : (s : List ℕ) → IsProp (is_free_name reserved s ≡ true)
 name-fit s = Coded-set coded_bool (is_free_name reserved s) true
@@ -43,49 +48,47 @@ terms-fit true t = uterm-fit t
 terms-fit false t = term-fit t
 
 sign-fit : HasOneFit sign
-unfolding sign
+unfolding shared.sign
 sign-fit true = ×_prop Unit-prop Unit-prop
 sign-fit false = ×_prop Unit-prop Unit-prop
 
 module _ (universal : Bool) where
   pure-fit : HasOneFit (pure (terms universal))
-  unfolding pure
+  unfolding shared.pure
   pure-fit x =
       ×_prop Unit-prop (×_prop (terms-fit universal x.left) (×_prop (sign-fit x.is_equation) (terms-fit universal x.right)))
 
   pures-fit : HasOneFit (pures (terms universal))
-  unfolding pures pures1
+  unfolding shared.pures shared.pures1
   pures-fit [] = ×_prop Unit-prop Unit-prop
-  pures-fit (x ∷ xs) = ×_prop Unit-prop (list-fit some_pure comma (pure (terms universal)) pure-fit (x ∷ xs))
+  pures-fit (x ∷ xs) = ×_prop Unit-prop (listed-fit some_pure comma colon (pure (terms universal)) pure-fit (x ∷ xs))
 
   fields-fit : HasOneFit (fields (terms universal))
-  unfolding fields
-  fields-fit ts = list-fit Nil comma (terms universal) (terms-fit universal) ts
+  unfolding shared.fields
+  fields-fit ts = listed-fit Nil comma closing (terms universal) (terms-fit universal) ts
 
   arguments-fit : HasOneFit (arguments (terms universal))
-  unfolding arguments
+  unfolding shared.arguments
   arguments-fit [] = ×_prop Unit-prop Unit-prop
   arguments-fit (t ∷ ts) = ×_prop Unit-prop (fields-fit (t ∷ ts))
 
   spatial-fit : HasOneFit (spatial (terms universal))
-  unfolding spatial predicate cell
+  unfolding shared.spatial shared.predicate shared.cell
   spatial-fit (Predicate s ts) = ×_prop Unit-prop (×_prop (name-fit s) (arguments-fit ts))
   spatial-fit (Cell t ts) = ×_prop Unit-prop (×_prop (terms-fit universal t) (fields-fit ts))
 
   spatials-fit : HasOneFit (spatials (terms universal))
-  unfolding spatials spatials1
+  unfolding shared.spatials shared.spatials1
   spatials-fit [] = ×_prop Unit-prop Unit-prop
   spatials-fit (x ∷ xs) =
       ×_prop Unit-prop (list-fit some_spatial star (spatial (terms universal)) spatial-fit (x ∷ xs))
 
   heap-fit : HasOneFit (heap (terms universal))
-  unfolding heap
+  unfolding shared.heap
   heap-fit h = ×_prop Unit-prop (×_prop (pures-fit h.pure) (spatials-fit h.spatial))
 
 heaps-fit : (between behind : Class (Unit {0})) → HasOneFit (heaps between behind)
-unfolding heaps
-heaps-fit between behind hs =
-    ×_prop le_prop (×_prop (heap-fit false (uncons some_heap hs).0) (many-fit (after between (heap (terms false))) (heap-fit false) (uncons some_heap hs).1))
+heaps-fit between behind hs = listed-fit some_heap between behind (heap (terms false)) (heap-fit false) hs
 
 -- ---- definitions and judgements
 
