@@ -32,10 +32,10 @@ use Rattle.rule_table.proofs.AllFit.{rule_fits, link_fits}
 use Rattle.rule_table.proofs.RightNodes.{found_same, node_holds}
 use Rattle.trace_pairs.specs.Graph.{Node as GraphNode, Edge as GraphEdge, Pair as GraphPair, IsEdge, Falls, IsLocal, TargetsAreNodes, has, PairsFit as GraphFits, IsPositionSet, HasPositionSets, HasFewEdges, IsGraph}
 use Rattle.trace_pairs.specs.Lasso.{AllProgress}
+use Rattle.proof_graph.specs.Traces.{predicate_places, trace_pair}
 use Rattle.buchi_inclusion.proofs.Exact.{descends_by_lassos}
-use Rattle.proof_check.proofs.PositionSets.{places_are_a_set}
 use Rattle.proof_check.proofs.FewEdges.{few_edges}
-use Rattle.proof_check.specs.Files.{pred_places, graph_pair, graph_edge, graph_node, graph_of, AreRight, AreReadable, HasFewCases, HasSmallHeaps}
+use Rattle.proof_check.specs.Files.{graph_edge, graph_node, graph_of, AreRight, AreReadable, HasFewCases, HavePositionSets}
 
 -- ---- what a look-up in a mapped list gives
 
@@ -80,17 +80,17 @@ has_tail m q xs e = ap (λ b. nat_eq m q || b) e ∙ or_true (nat_eq m q)
     or_true true = refl
     or_true false = refl
 
-place_there : (n : ℕ) (xs : List Spatial) (k : ℕ) → IsPredAt xs k → has (pred_places n xs) (n + k) ≡ true
+place_there : (n : ℕ) (xs : List Spatial) (k : ℕ) → IsPredAt xs k → has (predicate_places n xs) (n + k) ≡ true
 place_there n [] k p = let e = p.2 in cc
 place_there n (Cell t ts ∷ xs) zero p = let e = p.2 in cc
-place_there n (Cell t ts ∷ xs) (suc k) p = let e : suc n + k ≡ n + suc k = omega arith in subst (λ m. has (pred_places (suc n) xs) m ≡ true) e (place_there (suc n) xs k p)
-place_there n (Pred q ts ∷ xs) zero p = let e : n ≡ n + 0 = omega arith in has_head n (n + 0) (pred_places (suc n) xs) e
+place_there n (Cell t ts ∷ xs) (suc k) p = let e : suc n + k ≡ n + suc k = omega arith in subst (λ m. has (predicate_places (suc n) xs) m ≡ true) e (place_there (suc n) xs k p)
+place_there n (Pred q ts ∷ xs) zero p = let e : n ≡ n + 0 = omega arith in has_head n (n + 0) (predicate_places (suc n) xs) e
 place_there n (Pred q ts ∷ xs) (suc k) p =
     let e : suc n + k ≡ n + suc k = omega arith in
-    has_tail n (n + suc k) (pred_places (suc n) xs) (subst (λ m. has (pred_places (suc n) xs) m ≡ true) e (place_there (suc n) xs k p))
+    has_tail n (n + suc k) (predicate_places (suc n) xs) (subst (λ m. has (predicate_places (suc n) xs) m ≡ true) e (place_there (suc n) xs k p))
 
-place_of : (xs : List Spatial) (k : ℕ) → IsPredAt xs k → has (pred_places 0 xs) k ≡ true
-place_of xs k p = let e : 0 + k ≡ k = omega arith in subst (λ m. has (pred_places 0 xs) m ≡ true) e (place_there 0 xs k p)
+place_of : (xs : List Spatial) (k : ℕ) → IsPredAt xs k → has (predicate_places 0 xs) k ≡ true
+place_of xs k p = let e : 0 + k ≡ k = omega arith in subst (λ m. has (predicate_places 0 xs) m ≡ true) e (place_there 0 xs k p)
 
 -- ---- pairs
 
@@ -98,10 +98,10 @@ below_of : (b : Bool) (m n : ℕ) → m ≤ n → (b ≡ true → m < n) → IsB
 below_of true m n le lt = lt refl
 below_of false m n le lt = le
 
-follows_of : (pairs : List Pair) (σ τ : ℕ → ℕ) → Falls (map graph_pair pairs) σ τ → Follows pairs σ τ
+follows_of : (pairs : List Pair) (σ τ : ℕ → ℕ) → Falls (map trace_pair pairs) σ τ → Follows pairs σ τ
 follows_of [] σ τ f = tt
 follows_of (p ∷ ps) σ τ f =
-    let h = f 0 (graph_pair p) refl in
+    let h = f 0 (trace_pair p) refl in
     (below_of p.progress (τ p.new) (σ p.old) h.0 h.1, follows_of ps σ τ (λ i q e. f (suc i) q e))
 
 module _ (most : ℕ) (ds : List Definition) (lines : List Command) (nodes : List Node) where
@@ -177,8 +177,8 @@ module _ (most : ℕ) (ds : List Definition) (lines : List Command) (nodes : Lis
         let target : slice_get g f.edge.target ≡ Some new = subst (λ (x : GraphEdge). slice_get g x.target ≡ Some new) (sym f.is) is_new in
         let n = mapped_at (graph_node most ds lines nodes) nodes f.edge.target new target in
         let same_new : n.from ≡ d.node = (let a = n.at in let b = d.at in cc) in
-        let pair : slice_get (map graph_pair f.edge.pairs) i ≡ Some p = subst (λ (x : GraphEdge). slice_get x.pairs i ≡ Some p) (sym f.is) is_pair in
-        let q = mapped_at graph_pair f.edge.pairs i p pair in
+        let pair : slice_get (map trace_pair f.edge.pairs) i ≡ Some p = subst (λ (x : GraphEdge). slice_get x.pairs i ≡ Some p) (sym f.is) is_pair in
+        let q = mapped_at trace_pair f.edge.pairs i p pair in
         let both = each_at (λ (r : Pair). IsPredAt (antecedent f.node.judgement).spatial r.old × IsPredAt (antecedent d.node.judgement).spatial r.new) f.edge.pairs i q.from q.at d.fit in
         let o = mapped_at (graph_node most ds lines nodes) nodes v old is_old in
         let same_old : o.from ≡ f.node = (let a = o.at in let b = f.is_node in cc) in
@@ -207,18 +207,18 @@ module _ (most : ℕ) (ds : List Definition) (lines : List Command) (nodes : Lis
         less_of true m n h e = h
         less_of false m n h e = cc
 
-        falls_of : (pairs : List Pair) (σ τ : ℕ → ℕ) → Follows pairs σ τ → Falls (map graph_pair pairs) σ τ
+        falls_of : (pairs : List Pair) (σ τ : ℕ → ℕ) → Follows pairs σ τ → Falls (map trace_pair pairs) σ τ
         falls_of [] σ τ f i p e = cc
         falls_of (q ∷ qs) σ τ f zero p e =
-            let same : graph_pair q ≡ p = cc in
+            let same : trace_pair q ≡ p = cc in
             subst (λ (r : GraphPair). (τ r.1 ≤ σ r.0) × (r.2 ≡ true → τ r.1 < σ r.0)) same (kept_of q.progress (τ q.new) (σ q.old) f.0, less_of q.progress (τ q.new) (σ q.old) f.0)
         falls_of (q ∷ qs) σ τ f (suc i) p e = falls_of qs σ τ f.1 i p e
 
-    module _ (few_cases : Each HasFewCases ds) (no_lines : lines ≡ []) (small : HasSmallHeaps nodes) where
+    module _ (few_cases : Each HasFewCases ds) (no_lines : lines ≡ []) (small : HavePositionSets nodes) where
       sets : HasPositionSets g
       sets v n at =
           let m = mapped_at (graph_node most ds lines nodes) nodes v n at in
-          subst (λ (x : GraphNode). IsPositionSet x.positions) m.is (places_are_a_set (antecedent m.from.judgement).spatial (small v m.from m.at))
+          subst (λ (x : GraphNode). IsPositionSet x.positions) m.is (small v m.from m.at)
 
       few : HasFewEdges g
       few v n at =

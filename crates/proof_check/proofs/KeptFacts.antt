@@ -21,7 +21,7 @@ use Rattle.trace_pairs.specs.Lasso.{AllProgress}
 use Rattle.proof_file.specs.Readable.{is_universal_heap, is_universal_reason, is_readable, are_readable, has_few_cases, all_have_few_cases}
 use Rattle.proof_file.specs.declared.node.FileNode.{FileNode}
 use Rattle.proof_file.specs.declared.file.ProofFile.{ProofFile}
-use Rattle.proof_check.specs.Files.{AreReadable, HasFewCases, HasSmallHeaps, node_of, nodes_of}
+use Rattle.proof_check.specs.Files.{AreReadable, HasFewCases, HavePositionSets, node_of, nodes_of}
 use Rattle.proof_check.specs.Verdicts.{file_graph, HasRightNodes, RootHolds}
 use Rattle.proof_check.proofs.Holds.{mapped_at, each_at, some_at, in_order, correct_holds}
 
@@ -51,7 +51,7 @@ nodes_readable ns e v node at =
 pub few_cases : (ds : List Definition) → all_have_few_cases ds ≡ true → Each HasFewCases ds
 few_cases ds e = each_passes has_few_cases HasFewCases (λ d h. leb-true (length d.cases) 16 h) ds e
 
-module _ (f : ProofFile) (right : HasRightNodes f) (small : HasSmallHeaps (nodes_of f.nodes)) where
+module _ (f : ProofFile) (right : HasRightNodes f) (small : HavePositionSets (nodes_of f.nodes)) where
   pub graph_in_order : IsGraph (file_graph f)
   graph_in_order =
       let l = length-map f.nodes node_of in

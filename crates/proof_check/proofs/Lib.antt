@@ -1,4 +1,3 @@
-pub mod PositionSets
 pub mod FewEdges
 pub mod Holds
 mod SameJudgements

@@ -10,7 +10,7 @@ use Rattle.proof_check.specs.declared.checking.Tested.{Tested}
 use Rattle.proof_check.specs.declared.checking.Tested.TheVariants.{AllRight, OneFaulty}
 use Rattle.proof_file.specs.declared.file.ProofFile.{ProofFile}
 use Rattle.proof_check.specs.Verdicts.{file_graph, HasRightNodes, IsLeastFault}
-use Rattle.proof_check.specs.Files.{graph_edge, HasSmallHeaps, nodes_of}
+use Rattle.proof_check.specs.Files.{graph_edge, HavePositionSets, nodes_of}
 
 -- a node without a fault and its edges in the trace graph, or its first fault
 abbrev pub IsNodeAnswer : NodeAnswer → Option RuleFault → List Edge → Type 0
@@ -19,5 +19,5 @@ IsNodeAnswer (Faulty f) fault wanted = fault ≡ Some f
 
 -- the whole graph of a file without a faulty node, or the least faulty node
 abbrev pub IsTested : ProofFile → Tested → Type 0
-IsTested f (AllRight graph) = (graph ≡ file_graph f) × HasRightNodes f × HasSmallHeaps (nodes_of f.nodes)
+IsTested f (AllRight graph) = (graph ≡ file_graph f) × HasRightNodes f × HavePositionSets (nodes_of f.nodes)
 IsTested f (OneFaulty v fault) = IsLeastFault f v fault

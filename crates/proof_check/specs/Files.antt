@@ -1,35 +1,24 @@
 -- A proof file as a list of nodes and as a trace graph.
-use Rattle.std.specs.Prelude.{◌≡◌, ◌≤◌, ℕ, suc, length, List, [], ◌∷◌, map, Some, None, slice_get, slice_index}
-use Rattle.heap_formula.specs.declared.atoms.Spatial.{Spatial}
-use Rattle.heap_formula.specs.declared.atoms.Spatial.TheVariants.{Cell, Pred}
+use Rattle.std.specs.Prelude.{◌≡◌, ◌≤◌, ℕ, length, List, [], ◌∷◌, map, Some, None, slice_get, slice_index}
 use Rattle.heap_formula.specs.declared.commands.Command.{Command}
-use Rattle.heap_formula.specs.declared.judgements.Pair.{Pair}
 use Rattle.heap_formula.specs.Definitions.{Definition}
 use Rattle.heap_formula.specs.Judgements.{antecedent}
 use Rattle.rule_table.specs.Nodes.{Node, Edge, edges_of, node_fault, IsReadable}
-use Rattle.trace_pairs.specs.Graph.{Node as GraphNode, Edge as GraphEdge, Pair as GraphPair}
+use Rattle.trace_pairs.specs.Graph.{Node as GraphNode, Edge as GraphEdge, IsPositionSet}
+use Rattle.proof_graph.specs.Traces.{positions_of, trace_edge}
 use Rattle.proof_file.specs.declared.node.FileNode.{FileNode}
-
--- the places of predicate atoms; the list begins at place k
-abbrev pub pred_places : ℕ → List Spatial → List ℕ
-pred_places k [] = []
-pred_places k (Cell t ts ∷ xs) = pred_places (suc k) xs
-pred_places k (Pred q ts ∷ xs) = k ∷ pred_places (suc k) xs
 
 -- a map's entry for a place, 0 past its end
 abbrev pub entry_of : List ℕ → ℕ → ℕ
 entry_of entries k = slice_index entries k
 
-abbrev pub graph_pair : Pair → GraphPair
-graph_pair p = (p.old, p.new, p.progress)
-
 abbrev pub graph_edge : Edge → GraphEdge
-graph_edge e = record { target = e.target; pairs = map graph_pair e.pairs }
+graph_edge e = trace_edge e.target e.pairs
 
 -- a node with the places of its predicate atoms, and an edge to each premise or to the companion
 abbrev pub graph_node : ℕ → List Definition → List Command → List Node → Node → GraphNode
 graph_node most ds lines nodes node =
-    record { positions = pred_places 0 (antecedent node.judgement).spatial; edges = map graph_edge (edges_of most ds lines nodes node) }
+    record { positions = positions_of node.judgement; edges = map graph_edge (edges_of most ds lines nodes node) }
 
 -- the trace graph of a file
 abbrev pub graph_of : ℕ → List Definition → List Command → List Node → List GraphNode
@@ -53,6 +42,10 @@ nodes_of ns = map node_of ns
 -- a predicate has at most sixteen cases
 abbrev pub HasFewCases : Definition → Type 0
 HasFewCases d = length d.cases ≤ 16
+
+-- the positions of the nodes are sets
+abbrev pub HavePositionSets : List Node → Type 0
+HavePositionSets nodes = (v : ℕ) (node : Node) → slice_get nodes v ≡ Some node → IsPositionSet (positions_of node.judgement)
 
 -- the antecedents have at most 32 spatial atoms
 abbrev pub HasSmallHeaps : List Node → Type 0

@@ -1,9 +1,10 @@
 -- What a verdict says of a proof file.
 use Rattle.std.specs.Prelude.{◌≡◌, ℕ, ◌<◌, ◌≤◌, List, [], length, Some, None, slice_get}
-use Rattle.heap_formula.specs.Judgements.{JudgementHolds, antecedent}
+use Rattle.heap_formula.specs.Judgements.{JudgementHolds}
 use Rattle.heap_formula.specs.declared.proof_rules.RuleFault.{RuleFault}
 use Rattle.rule_table.specs.Nodes.{Node, node_fault}
-use Rattle.trace_pairs.specs.Graph.{Node as GraphNode}
+use Rattle.trace_pairs.specs.Graph.{Node as GraphNode, IsPositionSet}
+use Rattle.proof_graph.specs.Traces.{positions_of}
 use Rattle.trace_pairs.specs.Lasso.{IsLasso, Progresses, AllProgress}
 use Rattle.buchi_inclusion.specs.Answers.{HasAtMost, HasMoreThan}
 use Rattle.proof_file.specs.declared.file.ProofFile.{ProofFile}
@@ -49,6 +50,6 @@ abbrev pub AreRightBelow : ProofFile → ℕ → Type 0
 AreRightBelow f v =
     (u : ℕ) (node : Node) → u < v → slice_get (nodes_of f.nodes) u ≡ Some node → node_fault f.defs.most f.defs.list [] (nodes_of f.nodes) u node ≡ None
 
--- their antecedents have at most 32 spatial atoms
-abbrev pub AreSmallBelow : ProofFile → ℕ → Type 0
-AreSmallBelow f v = (u : ℕ) (node : Node) → u < v → slice_get (nodes_of f.nodes) u ≡ Some node → length (antecedent node.judgement).spatial ≤ 32
+-- their positions are sets
+abbrev pub HavePositionSetsBelow : ProofFile → ℕ → Type 0
+HavePositionSetsBelow f v = (u : ℕ) (node : Node) → u < v → slice_get (nodes_of f.nodes) u ≡ Some node → IsPositionSet (positions_of node.judgement)

@@ -1,17 +1,18 @@
 // The verdict on a file: its nodes first, in order, and then its paths.
-ghost use Rattle.std.specs.Prelude.{◌≡◌, ◌+◌, ◌<◌, ◌≤◌, ◌++◌, ◌∷◌, [], ℕ, List, map, length, IfOk};
-ghost use Rattle.heap_formula.specs.Judgements.{antecedent};
+ghost use Rattle.std.specs.Prelude.{◌≡◌, IfOk};
 ghost use Rattle.proof_check.specs.Answers.{IsTested};
-ghost use Rattle.proof_check.specs.Files.{pred_places, HasSmallHeaps, nodes_of};
+ghost use Rattle.trace_pairs.specs.Graph.{IsPositionSet};
+ghost use Rattle.proof_graph.specs.Traces.{positions_of};
+ghost use Rattle.proof_check.specs.Files.{HavePositionSets, nodes_of};
 ghost use Rattle.proof_check.specs.Verdicts.{file_graph, HasRightNodes, IsVerdict};
 
 use crate::node_tests::{NodeAnswer, test_node};
 use crate::verdict::Verdict;
 use buchi_inclusion::{Inclusion, included};
 use cyc_memory::OutOfMemory;
-use heap_formula::{Judgement, RuleFault, Spatial};
+use heap_formula::{Judgement, RuleFault};
 use proof_file::ProofFile;
-use rule_table::antecedent as heap_of;
+use proof_graph::predicate_positions;
 use std::alloc::Global;
 use trace_pairs::{Edge, Node, TraceGraph};
 
@@ -25,26 +26,12 @@ pub enum Tested {
     OneFaulty(u32, RuleFault),
 }
 
-/// The places of the predicate atoms.
-fn positions(alloc: Global, atoms: &[Spatial]) -> Result<Vec<u8>, OutOfMemory>
-    requires { length atoms.now ≤ 32 }
-    ensures { IfOk result (λ v. v.items ≡ pred_places 0 atoms.now) }
-{
-    let mut places = Vec::new(alloc);
-    for (k, atom) in atoms.iter().enumerate() {
-        if let Spatial::Pred(_, _) = atom {
-            places.push(k as u8)?;
-        }
-    }
-    Ok(places)
-}
-
 fn graph_node(alloc: Global, judgement: &Judgement, edges: Vec<Edge>) -> Result<Node, OutOfMemory>
-    ensures value { IfOk result (λ n. n ≡ record { positions = pred_places 0 (antecedent judgement.now).spatial; edges = edges.items }) }
-    ensures small { IfOk result (λ n. length (antecedent judgement.now).spatial ≤ 32) }
+    ensures value { IfOk result (λ n. n ≡ record { positions = positions_of judgement.now; edges = edges.items }) }
+    ensures set { IfOk result (λ n. IsPositionSet (positions_of judgement.now)) }
 {
-    let places = positions(alloc, heap_of(judgement).spatial())?;
-    Ok(Node::new(places, edges))
+    let positions = predicate_positions(alloc, judgement)?;
+    Ok(Node::new(positions, edges))
 }
 
 fn test_nodes(alloc: Global, file: &ProofFile) -> Result<Tested, OutOfMemory>
@@ -64,7 +51,7 @@ fn test_nodes(alloc: Global, file: &ProofFile) -> Result<Tested, OutOfMemory>
 fn path_verdict(alloc: Global, file: &ProofFile, graph: &TraceGraph) -> Result<Verdict, OutOfMemory>
     requires graph { graph.now ≡ file_graph file.now }
     requires right { HasRightNodes file.now }
-    requires small { HasSmallHeaps (nodes_of file.now.nodes) }
+    requires sets { HavePositionSets (nodes_of file.now.nodes) }
     ensures { IfOk result (IsVerdict file.now) }
 {
     match included(alloc, graph, MOST_STATES)? {

@@ -8,7 +8,7 @@ ghost use Rattle.heap_formula.specs.declared.proof_rules.RuleFault.TheVariants.{
 ghost use Rattle.rule_table.specs.LinkTable.{first_of, fault_unless, link_premise};
 ghost use Rattle.rule_table.specs.Nodes.{same_judgement as judgements_agree, differs as premise_differs, premises_fault as first_premises_fault, answer_fault as first_answer_fault, node_fault as first_node_fault, target_fault, link_edges, edges_to, answer_edges, edges_of};
 ghost use Rattle.rule_table.specs.RuleBook.{rule_answer};
-ghost use Rattle.proof_check.specs.Files.{HasFewCases, entry_of, pred_places, graph_pair, graph_edge, node_of, nodes_of};
+ghost use Rattle.proof_check.specs.Files.{HasFewCases, entry_of, graph_edge, node_of, nodes_of};
 ghost use Rattle.proof_check.specs.Answers.{IsNodeAnswer};
 
 use back_links::link_fault;
@@ -19,6 +19,7 @@ use heap_formula::{
 };
 use pred_defs::Defs;
 use proof_file::FileNode;
+use proof_graph::trace_edge;
 use rule_book::premises;
 use rule_table::antecedent as heap_of;
 use std::alloc::Global;
@@ -29,16 +30,6 @@ use trace_pairs::Edge;
 pub enum NodeAnswer {
     Right(Vec<Edge>),
     Faulty(RuleFault),
-}
-
-fn triples(alloc: Global, pairs: &[Pair]) -> Result<Vec<(u8, u8, bool)>, OutOfMemory>
-    ensures { IfOk result (λ v. v.items ≡ map graph_pair pairs.now) }
-{
-    let mut list = Vec::with_capacity(alloc, pairs.len())?;
-    for pair in pairs {
-        list.push((pair.old, pair.new, pair.progress))?;
-    }
-    Ok(list)
 }
 
 /// The trace pairs of a link: the map's entry for each predicate atom of the companion.
@@ -102,8 +93,7 @@ fn premise_fault(
 fn premise_edge(alloc: Global, premise: &Premise, number: u32) -> Result<Edge, OutOfMemory>
     ensures { IfOk result (λ e. e ≡ graph_edge (record { target = number; pairs = premise.now.pairs })) }
 {
-    let pairs = triples(alloc, premise.pairs.as_slice())?;
-    Ok(Edge::new(number, pairs))
+    Ok(trace_edge(alloc, number, premise.pairs.as_slice())?)
 }
 
 /// The edges to the premises, or the first fault among them; both lists have one length.
@@ -169,7 +159,7 @@ fn link_edge(alloc: Global, companion: &Judgement, link: &Link) -> Result<Edge, 
 {
     let atoms = heap_of(companion).spatial();
     let pairs = link_pairs(alloc, link.map.as_slice(), atoms)?;
-    Ok(Edge::new(link.target, triples(alloc, pairs.as_slice())?))
+    Ok(trace_edge(alloc, link.target, pairs.as_slice())?)
 }
 
 fn linked(alloc: Global, companion: &Judgement, link: &Link) -> Result<NodeAnswer, OutOfMemory>

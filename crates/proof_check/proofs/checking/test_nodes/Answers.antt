@@ -1,13 +1,13 @@
 use Rattle.std.proofs.Common.{◌≡◌, ◌≤◌, ◌<◌, ℕ, List, get_or, [], ◌∷◌, ◌++◌, map, take, length, None, sym, ap, ◌∙◌, subst, arith}
 use Rattle.std.proofs.lemmas.List.{length-map, map-append, take_all}
 use Rattle.std.proofs.lemmas.Option.{slice_get_within}
-use Rattle.heap_formula.specs.Judgements.{antecedent}
 use Rattle.proof_file.specs.declared.node.FileNode.{FileNode}
 use Rattle.rule_table.specs.Nodes.{Node, node_fault, edges_of}
-use Rattle.trace_pairs.specs.Graph.{Node as GraphNode, Edge as GraphEdge}
+use Rattle.trace_pairs.specs.Graph.{Node as GraphNode, Edge as GraphEdge, IsPositionSet}
 use Rattle.proof_check.specs.declared.node_tests.NodeAnswer.{NodeAnswer}
 use Rattle.proof_check.specs.Answers.{IsNodeAnswer}
-use Rattle.proof_check.specs.Files.{graph_node, node_of, nodes_of, pred_places}
+use Rattle.proof_graph.specs.Traces.{positions_of}
+use Rattle.proof_check.specs.Files.{graph_node, node_of, nodes_of}
 use Rattle.proof_check.proofs.KeptFacts.{few_cases}
 use Rattle.proof_check.proofs.TestLoops.{node_at, take_more, one_more}
 use Rattle.proof_check.proofs.checking.test_nodes.Goals as goal
@@ -40,7 +40,7 @@ loop-v-preserved c =
     let at = node_at f.nodes v n within (c.index-nodes-v.is ∙ ap (λ (ns : List FileNode). get_or ns v n) same) in
     let told = subst (λ (ns : List FileNode). IsNodeAnswer c.in_ok-fault.field-0 (node_fault most ds [] (nodes_of ns) v (node_of n)) (edges_of most ds [] (nodes_of ns) (node_of n))) same c.in_ok-fault.ensures in
     let said = subst (λ (a : NodeAnswer). IsNodeAnswer a (node_fault most ds [] nodes v (node_of n)) (edges_of most ds [] nodes (node_of n))) c.in-Right.is told in
-    let places = pred_places 0 (antecedent n.judgement).spatial in
+    let places = positions_of n.judgement in
     let made = c.in_ok-graph_node-in-Right.ensures.value ∙ ap (λ (es : List GraphEdge). record { positions = places; edges = es }) said.1 in
     let graph = graph_node most ds [] nodes in (
       c.in_ok-push-in-Right.ensures.ok
@@ -49,7 +49,7 @@ loop-v-preserved c =
           ∙ sym (map-append graph (take v nodes) (node_of n ∷ []))
           ∙ ap (λ (ns : List Node). map graph ns) (sym (take_more nodes v (node_of n) at)),
       one_more nodes (λ u node. node_fault most ds [] nodes u node ≡ None) v (node_of n) at c.loop-v.invariant.1 said.0,
-      one_more nodes (λ u node. length (antecedent node.judgement).spatial ≤ 32) v (node_of n) at c.loop-v.invariant.2 c.in_ok-graph_node-in-Right.ensures.small,
+      one_more nodes (λ u node. IsPositionSet (positions_of node.judgement)) v (node_of n) at c.loop-v.invariant.2 c.in_ok-graph_node-in-Right.ensures.set,
     )
 
 pub returns : goal.returns

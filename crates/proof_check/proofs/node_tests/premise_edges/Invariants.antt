@@ -4,7 +4,7 @@ use Rattle.heap_formula.specs.Words.{Each}
 use Rattle.heap_formula.specs.Positions.{pairs_from}
 use Rattle.heap_formula.specs.declared.judgements.Pair.{Pair}
 use Rattle.rule_table.specs.Nodes.{premises_fault, edges_to}
-use Rattle.proof_check.specs.Files.{graph_pair, graph_edge, nodes_of}
+use Rattle.proof_check.specs.Files.{graph_edge, nodes_of}
 use Rattle.proof_check.proofs.node_tests.premise_edges.Given as goal
 
 abbrev pub invariant-loop-i : goal.invariant-loop-i
