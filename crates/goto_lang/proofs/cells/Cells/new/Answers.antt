@@ -1,0 +1,9 @@
+use Rattle.std.proofs.Common.{sym, subst, ap}
+use Rattle.std.specs.Ordering.{nat_cmp}
+use Rattle.std.specs.FinMap.{from_entries}
+use Rattle.heap_formula.specs.Cells.{IsHeap}
+use Rattle.goto_lang.proofs.Maps.{empty_is_heap}
+use Rattle.goto_lang.proofs.cells.Cells.new.Goals as goal
+
+pub invariant_of-result : goal.invariant_of-result
+invariant_of-result c = rw c.new.ensures.empty empty_is_heap

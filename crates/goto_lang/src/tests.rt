@@ -1,0 +1,7 @@
+// Programs that are refused, single steps, and runs.
+use std::test::Fail;
+
+#[test]
+fn nothing(_rt: HostRuntime) -> Result<(), Fail> {
+    Ok(())
+}
