@@ -1,5 +1,5 @@
 -- Of n + 1 positive numbers one is free in a heap of n cells.
-use Rattle.std.proofs.Common.{◌≡◌, ℕ, zero, suc, ◌+◌, ◌<◌, ◌≤◌, Bool, true, false, ◌||◌, List, [], ◌∷◌, length, Option, Some, None, refl, sym, ap, subst, ◌∙◌, arith}
+use Rattle.std.proofs.Common.{◌≡◌, ℕ, zero, suc, ◌+◌, ◌<◌, ◌≤◌, Bool, true, false, ◌||◌, ◌⊎◌, inl, inr, List, [], ◌∷◌, length, Option, Some, None, refl, sym, ap, subst, ◌∙◌, arith}
 use Rattle.std.specs.Prelude.{is_some, is_none, IsSome, MatchOption}
 use Rattle.std.specs.List.{AllByRecursion, IsDistinct, list_any}
 use Rattle.std.specs.Ordering.{nat_cmp, eq_by_cmp, is_eq}
@@ -41,11 +41,11 @@ distinct (suc n) = (above (suc n) n (omega arith), distinct n)
 among : (q n : ℕ) → list_any (eq_by_cmp nat_cmp q) (down n) ≡ true → (0 < q) × (q ≤ n)
 unfolding down
 among q zero e = cc
-among q (suc n) e = first (eq_by_cmp nat_cmp q (suc n)) refl e
+among q (suc n) e = first (eq_by_cmp nat_cmp q (suc n)) refl e (λ f. among q n f)
   where
-    first : (b : Bool) → eq_by_cmp nat_cmp q (suc n) ≡ b → (b || list_any (eq_by_cmp nat_cmp q) (down n)) ≡ true → (0 < q) × (q ≤ suc n)
-    first true t e = let s = same_address q (suc n) t in (omega arith, omega arith)
-    first false t e = let r = among q n e in (r.0, omega arith)
+    first : (b : Bool) → eq_by_cmp nat_cmp q (suc n) ≡ b → (b || list_any (eq_by_cmp nat_cmp q) (down n)) ≡ true → (list_any (eq_by_cmp nat_cmp q) (down n) ≡ true → (0 < q) × (q ≤ n)) → (0 < q) × (q ≤ suc n)
+    first true t e later = let s = same_address q (suc n) t in (omega arith, omega arith)
+    first false t e later = let r = later e in (r.0, omega arith)
 
 pub enough : (h : Cells) (n : ℕ) → ((b : ℕ) → 0 < b → b ≤ n → IsSome (cell_at h b)) → n ≤ len h
 enough h n all =
@@ -55,7 +55,7 @@ enough h n all =
 
 none_or_some : {X : Type 0} (o : Option X) → (IsSome o → ⊥) → o ≡ None
 none_or_some None f = refl
-none_or_some (Some x) f = absurd (f tt)
+none_or_some (Some x) f = absurd (f refl)
 
 -- one more number than there are cells is enough
 pub last_free : (h : Cells) → ((b : ℕ) → 0 < b → b < len h + 1 → IsSome (cell_at h b)) → IsLeastFree h (len h + 1)

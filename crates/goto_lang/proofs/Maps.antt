@@ -98,3 +98,7 @@ entries_are es h =
 pub max_of-append : (xs ys : List ℕ) → max_of (xs ++ ys) ≡ max (max_of xs) (max_of ys)
 max_of-append [] ys = omega arith
 max_of-append (x ∷ xs) ys = let r = max_of-append xs ys in omega arith
+
+-- one entry more
+pub greatest_step : (most address fields rest left all one two : ℕ) → max most left ≡ all → left ≡ max address (max fields rest) → one ≡ max most address → two ≡ max one fields → max two rest ≡ all
+greatest_step most address fields rest left all one two i e p q = omega arith

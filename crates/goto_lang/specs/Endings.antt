@@ -30,7 +30,7 @@ abbrev pub IsEnding : List Command → ℕ → State → Ran → Type 0
 IsEnding lines steps c (Stopped n) = (n ≤ steps) × (d : State) × LowestRun lines n c d × (command_at lines d ≡ Some StopCommand)
 IsEnding lines steps c (Faulted n) =
     (n ≤ steps) × (d : State) × (x : Command) × LowestRun lines n c d × (command_at lines d ≡ Some x) × Faults x d
-IsEnding lines steps c Running = (d e : State) × LowestRun lines steps c d × LowestStep lines d e
+IsEnding lines steps c Running = (d : State) × (e : State) × LowestRun lines steps c d × LowestStep lines d e
 
 -- the step from c with the least free address: it is at `stop`, it faults, or it leads to a state of the program
 abbrev pub IsLowest : List Command → State → Stepped → Type 0

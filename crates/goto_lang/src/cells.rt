@@ -148,7 +148,7 @@ fn greatest_in(cells: &BTreeMap<u64, Fields>) -> u64
     ensures value { result ≡ max_of (cell_numbers cells.now.entries) }
     ensures ordered { IsOrdered nat_cmp cells.now }
 {
-    let mut most = 0;
+    let mut most = 0u64;
     for (address, fields) in cells {
         most = most.max(*address).max(greatest_of(fields.as_slice()));
     }

@@ -179,11 +179,13 @@ impl Program {
         ensures answer { IsAnswer result (program_fault lines.now) }
         ensures value { IfOk result (λ p. p ≡ commands_of lines.now) }
     {
-        if let Some(fault) = fault_of_lines(lines) {
-            return Err(fault);
+        match fault_of_lines(lines) {
+            Some(fault) => Err(fault),
+            None => {
+                let lines = commands(alloc, lines)?;
+                Ok(Program { lines })
+            }
         }
-        let lines = commands(alloc, lines)?;
-        Ok(Program { lines })
     }
 
     /// The commands in order; line i stands at place i - 1.
