@@ -15,7 +15,8 @@ use Rattle.goto_lang.specs.declared.runs.Ran.{Ran}
 use Rattle.goto_lang.specs.declared.runs.Ran.TheVariants.{Stopped, Faulted, Running}
 use Rattle.goto_lang.specs.Lines.{IsProgram, MayStandAt}
 use Rattle.goto_lang.specs.States.{state_of, IsStateOf, IsLeastFree}
-use Rattle.goto_lang.specs.Steps.{MayTake, Leads, IsSuccessor, Makes}
+use Rattle.goto_lang.specs.Steps.{MayTake, Leads, IsSuccessor}
+use Rattle.goto_lang.specs.Effects.{Makes}
 use Rattle.goto_lang.specs.Endings.{zero_fields, LowestStep, LowestRun, IsEnding, IsLowest}
 use Rattle.goto_lang.proofs.Moves.{goes, leads_same, leads_well, one_command, leads_stay}
 

@@ -14,7 +14,8 @@ use Rattle.goto_lang.specs.declared.steps.Stepped.{Stepped}
 use Rattle.goto_lang.specs.declared.steps.Stepped.TheVariants.{Stop, Fault, To, BadPick}
 use Rattle.goto_lang.specs.Lines.{IsProgram, MayStandAt, IsLineOf}
 use Rattle.goto_lang.specs.States.{state_of, IsStateOf}
-use Rattle.goto_lang.specs.Steps.{MayTake, Leads, IsStep, IsSuccessor, Makes, IsLoad, IsStore, IsFree, IsJump}
+use Rattle.goto_lang.specs.Steps.{MayTake, Leads, IsStep, IsSuccessor}
+use Rattle.goto_lang.specs.Effects.{Makes, IsLoad, IsStore, IsFree, IsJump}
 
 -- ---- the commands
 
@@ -185,9 +186,10 @@ goes (Goto j) w a vs c d may l = l
 goes StopCommand w a vs c d may l = l
 
 pub successors : (lines : List Command) (w : ℕ) (c : State) (d : Config) → greatest c + w < 2 ^ 64 → IsSuccessor lines w c (state_of d) ↔ ((a : ℕ) × (vs : List ℕ) × (a < 2 ^ 64) × Each (λ v. v < 2 ^ 64) vs × IsStep lines w a vs c (To d))
-successors lines w c d h =
-    (λ s. let t = taken s.0 w c (state_of d) h s.2 in (t.address, t.fields, t.fits, t.fields_fit, (s.0, s.1, t.may, t.leads)),
-    λ s. let i = s.4 in (i.0, i.1, goes i.0 w s.0 s.1 c (state_of d) i.2 i.3))
+successors lines w c d h = (
+  λ s. let t = taken s.0 w c (state_of d) h s.2 in (t.address, t.fields, t.fits, t.fields_fit, (s.0, s.1, t.may, t.leads)),
+  λ s. let i = s.4 in (i.0, i.1, goes i.0 w s.0 s.1 c (state_of d) i.2 i.3),
+)
 
 -- a state as a configuration
 abbrev made : State → Config

@@ -37,11 +37,7 @@ fn zeros(alloc: Global, command: Command) -> Result<Vec<u64>, OutOfMemory>
     }
 }
 
-fn lowest_step(
-    alloc: Global,
-    program: &Program,
-    config: &Config,
-) -> Result<Stepped, OutOfMemory>
+fn lowest_step(alloc: Global, program: &Program, config: &Config) -> Result<Stepped, OutOfMemory>
     requires { IsStateOf program.now (state_of config.now) }
     ensures { IfOk result (λ r. IsLowest program.now (state_of config.now) r) }
 {
@@ -50,12 +46,7 @@ fn lowest_step(
     perform(alloc, command, config, config.heap.least_free(), &fill)
 }
 
-fn ending(
-    alloc: Global,
-    program: &Program,
-    config: &Config,
-    steps: u64,
-) -> Result<Ran, OutOfMemory>
+fn ending(alloc: Global, program: &Program, config: &Config, steps: u64) -> Result<Ran, OutOfMemory>
     requires { IsStateOf program.now (state_of config.now) }
     ensures { (c : State) → LowestRun program.now steps c (state_of config.now) → IfOk result (λ r. IsEnding program.now steps c r) }
 {

@@ -7,7 +7,8 @@ ghost use Rattle.heap_formula.specs.Cells.{cell_at};
 ghost use Rattle.heap_formula.specs.Programs.{Config as State, counted_from_one, field_at, command_bound, command_at, greatest, next_line, jump, MayPick};
 ghost use Rattle.goto_lang.specs.declared.configs.Config.{Config};
 ghost use Rattle.goto_lang.specs.States.{state_of, IsStateOf};
-ghost use Rattle.goto_lang.specs.Steps.{MayTake, IsLoad, IsStore, IsFree, IsJump, Makes, IsStep, IsSuccessor};
+ghost use Rattle.goto_lang.specs.Steps.{MayTake, IsStep, IsSuccessor};
+ghost use Rattle.goto_lang.specs.Effects.{Makes, IsLoad, IsStore, IsFree, IsJump};
 
 use crate::cells::Cells;
 use crate::configs::Config;
@@ -66,12 +67,7 @@ fn assigned(config: &Config, x: u16, value: u64) -> Result<Config, OutOfMemory>
     Ok(next)
 }
 
-fn with_field(
-    alloc: Global,
-    fields: &[u64],
-    k: u8,
-    value: u64,
-) -> Result<Vec<u64>, OutOfMemory>
+fn with_field(alloc: Global, fields: &[u64], k: u8, value: u64) -> Result<Vec<u64>, OutOfMemory>
     requires from_one { 0 < k }
     requires to_last { k ≤ length fields.now }
     ensures { IfOk result (λ v. v.items ≡ slice_set fields.now (k - 1) value) }
