@@ -1,6 +1,6 @@
 -- Lines without a fault are a program.
-use Rattle.std.proofs.Common.{◌≡◌, ◌≢◌, ℕ, zero, suc, ◌+◌, ◌<◌, ◌≤◌, Bool, true, false, not, ◌&&◌, ◌||◌, cond, List, [], ◌∷◌, map, length, Option, Some, None, refl, sym, ap, subst, ◌∙◌, arith}
-use Rattle.std.specs.Prelude.{max, nat_eq, nat_lt, slice_get}
+use Rattle.std.proofs.Common.{◌≡◌, ◌≢◌, ℕ, zero, suc, ◌+◌, ◌<◌, ◌≤◌, Bool, true, false, not, ◌&&◌, ◌||◌, cond, List, [], ◌∷◌, map, length, Option, Some, None, refl, sym, subst, arith}
+use Rattle.std.specs.Prelude.{nat_eq, nat_lt, slice_get}
 use Rattle.std.specs.Option.{option_or}
 use Rattle.std.proofs.lemmas.List.{length-map}
 use Rattle.std.proofs.lemmas.Bool.Decides.{nat_tests}
@@ -9,7 +9,7 @@ use Rattle.heap_formula.specs.declared.terms.Term.TheVariants.{Nil, Univ, Exist}
 use Rattle.heap_formula.specs.declared.commands.Command.{Command}
 use Rattle.heap_formula.specs.declared.commands.Command.TheVariants.{Assign, Load, Store, New, Free, IfEq, IfNeq, Goto, Stop}
 use Rattle.heap_formula.specs.Words.{Each, max_of}
-use Rattle.heap_formula.specs.Programs.{counted_from_one, program_variables, command_bound, term_bound}
+use Rattle.heap_formula.specs.Programs.{counted_from_one, command_bound, term_bound}
 use Rattle.goto_lang.specs.Faults.{variable_fault, term_fault, field_fault, jump_fault, command_fault, goes_on, line_fault, lines_fault, program_fault}
 use Rattle.goto_lang.specs.Lines.{IsUniversalCommand, commands_of, IsFieldNumber, IsLineOf, MayStandAt, IsProgram}
 

@@ -1,7 +1,7 @@
 -- The run in which `new` takes the least free address and fills with 0.
 use Rattle.std.specs.Prelude.{◌≡◌, ℕ, zero, suc, ◌≤◌, List, [], replicate, Some}
 use Rattle.heap_formula.specs.declared.commands.Command.{Command}
-use Rattle.heap_formula.specs.declared.commands.Command.TheVariants.{Assign, Load, Store, New, Free, IfEq, IfNeq, Goto, Stop as StopCommand}
+use Rattle.heap_formula.specs.declared.commands.Command.TheVariants.{New, Stop as StopCommand}
 use Rattle.heap_formula.specs.Programs.{Config as State, Faults, command_at}
 use Rattle.goto_lang.specs.declared.runs.Ran.{Ran}
 use Rattle.goto_lang.specs.declared.runs.Ran.TheVariants.{Stopped, Faulted, Running}

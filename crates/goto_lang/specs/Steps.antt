@@ -2,7 +2,7 @@
 use Rattle.std.specs.Prelude.{◌≡◌, ℕ, List, Some, slice_set}
 use Rattle.std.specs.FinMap.{insert}
 use Rattle.heap_formula.specs.declared.commands.Command.{Command}
-use Rattle.heap_formula.specs.declared.commands.Command.TheVariants.{Assign, Load, Store, New, Free, IfEq, IfNeq, Goto, Stop as StopCommand}
+use Rattle.heap_formula.specs.declared.commands.Command.TheVariants.{New, Stop as StopCommand}
 use Rattle.heap_formula.specs.Programs.{Config as State, Goes, Faults, MayPick, command_at, next_line}
 use Rattle.goto_lang.specs.declared.steps.Stepped.{Stepped}
 use Rattle.goto_lang.specs.declared.steps.Stepped.TheVariants.{Stop, Fault, To, BadPick}

@@ -1,6 +1,6 @@
 use Rattle.goto_lang.specs.States.{state_of}
 use Rattle.goto_lang.proofs.Ends.{stopped_here, faulted_here, running_here}
-use Rattle.std.proofs.Common.{◌≤◌, arith}
+use Rattle.std.proofs.Common.{arith}
 use Rattle.goto_lang.proofs.runs.ending.Goals as goal
 use Rattle.goto_lang.proofs.runs.ending.Goals.{in-Stop, in-Fault, in-To}
 

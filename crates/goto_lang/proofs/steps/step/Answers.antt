@@ -1,4 +1,4 @@
-use Rattle.std.proofs.Common.{◌≡◌, ◌∙◌, ◌≤◌, sym, subst, length, ℕ}
+use Rattle.std.proofs.Common.{◌≤◌, sym, subst, ℕ}
 use Rattle.std.proofs.lemmas.Result.{IfOk-weaker}
 use Rattle.heap_formula.specs.Programs.{command_bound}
 use Rattle.goto_lang.specs.States.{state_of}

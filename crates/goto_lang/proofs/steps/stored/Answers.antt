@@ -1,4 +1,4 @@
-use Rattle.std.proofs.Common.{◌≡◌, ◌<◌, ◌≤◌, length, arith, ◌∙◌, ap}
+use Rattle.std.proofs.Common.{arith, ◌∙◌, ap}
 use Rattle.std.specs.FinMap.{insert}
 use Rattle.heap_formula.specs.Programs.{next_line}
 use Rattle.goto_lang.specs.States.{state_of}

@@ -1,4 +1,4 @@
-use Rattle.std.proofs.Common.{◌≡◌, ◌∙◌, sym, ap}
+use Rattle.std.proofs.Common.{◌∙◌, sym, ap}
 use Rattle.heap_formula.specs.Words.{max_of}
 use Rattle.heap_formula.specs.Programs.{cell_numbers}
 use Rattle.goto_lang.proofs.Maps.{entries_are}

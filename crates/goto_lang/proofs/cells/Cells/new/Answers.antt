@@ -1,7 +1,3 @@
-use Rattle.std.proofs.Common.{sym, subst, ap}
-use Rattle.std.specs.Ordering.{nat_cmp}
-use Rattle.std.specs.FinMap.{from_entries}
-use Rattle.heap_formula.specs.Cells.{IsHeap}
 use Rattle.goto_lang.proofs.Maps.{empty_is_heap}
 use Rattle.goto_lang.proofs.cells.Cells.new.Goals as goal
 
