@@ -1,5 +1,5 @@
 -- Runs with the least free address: each step is one of the machine's, and a run ends in one way.
-use Rattle.std.proofs.Common.{◌≡◌, ℕ, zero, suc, ◌+◌, ◌<◌, ◌≤◌, ◌⊎◌, inl, inr, List, length, Option, Some, None, refl, sym, ap, subst, ◌∙◌, arith}
+use Rattle.std.proofs.Common.{◌≡◌, ◌≢◌, ℕ, zero, suc, ◌+◌, ◌<◌, ◌≤◌, ◌⊎◌, inl, inr, List, length, Option, Some, None, refl, sym, ap, subst, ◌∙◌, arith}
 use Rattle.std.specs.Prelude.{◌↔◌, IsSome, replicate}
 use Rattle.std.proofs.Math.ListN.{length-replicate}
 use Rattle.std.proofs.lemmas.Bool.{cases_lt, cases_order}
@@ -120,9 +120,22 @@ same_end lines n m c d e p s q t =
     let a = not_beyond lines n m c d e p s q in
     let b = not_beyond lines m n c e d q t p in omega arith
 
-not_running : (lines : List Command) (steps n : ℕ) (c d e f : State) → n ≤ steps → LowestRun lines n c d → IsStuck lines d → LowestRun lines steps c e → LowestStep lines e f → ⊥
-not_running lines steps n c d e f le p stuck q s =
-    let a = not_beyond lines n (suc steps) c d f p stuck (e, q, s) in absurd (omega arith)
+-- a run of all the steps has not gone on from where nothing leads on
+same_last : (lines : List Command) (steps n : ℕ) (c d e : State) → n ≤ steps → LowestRun lines n c d → IsStuck lines d → LowestRun lines steps c e → d ≡ e
+same_last lines steps n c d e le p stuck q =
+    let back = not_beyond lines n steps c d e p stuck q in
+    let same : n ≡ steps = omega arith in run_same lines steps c d e (subst (λ k. LowestRun lines k c d) same p) q
+
+stop_not_running : (lines : List Command) (steps n : ℕ) (c d e : State) (x : Command) → n ≤ steps → LowestRun lines n c d → command_at lines d ≡ Some StopCommand → LowestRun lines steps c e → command_at lines e ≡ Some x → x ≢ StopCommand → ⊥
+stop_not_running lines steps n c d e x le p at q there not_stop =
+    let same = same_last lines steps n c d e le p (stop_stuck lines d at) q in
+    not_stop (one_command x StopCommand there (subst (λ s. command_at lines s ≡ Some StopCommand) same at))
+
+fault_not_running : (lines : List Command) (steps n : ℕ) (c d e : State) (y x : Command) → n ≤ steps → LowestRun lines n c d → command_at lines d ≡ Some y → Faults y d → LowestRun lines steps c e → command_at lines e ≡ Some x → (¬ Faults x e) → ⊥
+fault_not_running lines steps n c d e y x le p at f q there well =
+    let same = same_last lines steps n c d e le p (fault_stuck lines d y at f) q in
+    let command = one_command y x (subst (λ s. command_at lines s ≡ Some y) same at) there in
+    well (subst (λ z. Faults z e) command (subst (λ s. Faults y s) same f))
 
 stop_is_no_fault : (lines : List Command) (n m : ℕ) (c d e : State) (x : Command) → LowestRun lines n c d → command_at lines d ≡ Some StopCommand → LowestRun lines m c e → command_at lines e ≡ Some x → Faults x e → ⊥
 stop_is_no_fault lines n m c d e x p at q there f =
@@ -134,13 +147,13 @@ one_ending : (lines : List Command) (steps : ℕ) (c : State) (r q : Ran) → Is
 one_ending lines steps c (Stopped n) (Stopped m) h g =
     ap Stopped (same_end lines n m c h.1 g.1 h.2 (stop_stuck lines h.1 h.3) g.2 (stop_stuck lines g.1 g.3))
 one_ending lines steps c (Stopped n) (Faulted m) h g = absurd (stop_is_no_fault lines n m c h.1 g.1 g.2 h.2 h.3 g.3 g.4 g.5)
-one_ending lines steps c (Stopped n) Running h g = absurd (not_running lines steps n c h.1 g.0 g.1 h.0 h.2 (stop_stuck lines h.1 h.3) g.2 g.3)
+one_ending lines steps c (Stopped n) Running h g = absurd (stop_not_running lines steps n c h.1 g.0 g.1 h.0 h.2 h.3 g.2 g.3 g.4)
 one_ending lines steps c (Faulted n) (Stopped m) h g = absurd (stop_is_no_fault lines m n c g.1 h.1 h.2 g.2 g.3 h.3 h.4 h.5)
 one_ending lines steps c (Faulted n) (Faulted m) h g =
     ap Faulted (same_end lines n m c h.1 g.1 h.3 (fault_stuck lines h.1 h.2 h.4 h.5) g.3 (fault_stuck lines g.1 g.2 g.4 g.5))
-one_ending lines steps c (Faulted n) Running h g = absurd (not_running lines steps n c h.1 g.0 g.1 h.0 h.3 (fault_stuck lines h.1 h.2 h.4 h.5) g.2 g.3)
-one_ending lines steps c Running (Stopped m) h g = absurd (not_running lines steps m c g.1 h.0 h.1 g.0 g.2 (stop_stuck lines g.1 g.3) h.2 h.3)
-one_ending lines steps c Running (Faulted m) h g = absurd (not_running lines steps m c g.1 h.0 h.1 g.0 g.3 (fault_stuck lines g.1 g.2 g.4 g.5) h.2 h.3)
+one_ending lines steps c (Faulted n) Running h g = absurd (fault_not_running lines steps n c h.1 g.0 h.2 g.1 h.0 h.3 h.4 h.5 g.2 g.3 g.5)
+one_ending lines steps c Running (Stopped m) h g = absurd (stop_not_running lines steps m c g.1 h.0 h.1 g.0 g.2 g.3 h.2 h.3 h.4)
+one_ending lines steps c Running (Faulted m) h g = absurd (fault_not_running lines steps m c g.1 h.0 g.2 h.1 g.0 g.3 g.4 g.5 h.2 h.3 h.5)
 one_ending lines steps c Running Running h g = refl
 
 pub exact_ending : (lines : List Command) (steps : ℕ) (c : State) (r : Ran) → IsEnding lines steps c r → (q : Ran) → (r ≡ q) ↔ IsEnding lines steps c q
@@ -157,7 +170,8 @@ faulted_here lines steps n c d r le run h e =
 
 pub running_here : (lines : List Command) (steps : ℕ) (c d : State) (r : Stepped) (next : Config) → LowestRun lines steps c d → IsLowest lines d r → r ≡ To next → IsEnding lines steps c Running
 running_here lines steps c d r next run h e =
-    let g : LowestStep lines d (state_of next) × IsStateOf lines (state_of next) = subst (IsLowest lines d) e h in (d, state_of next, run, g.0)
+    let g : LowestStep lines d (state_of next) × IsStateOf lines (state_of next) = subst (IsLowest lines d) e h in
+    let s = g.0 in (d, s.0, run, s.2, (λ is. subst (λ x. Leads x s.1 (zero_fields x) d (state_of next)) is s.4), leads_well s.0 s.1 (zero_fields s.0) d (state_of next) s.4)
 
 pub one_more : (lines : List Command) (n : ℕ) (c d : State) (r : Stepped) (next : Config) → LowestRun lines n c d → IsLowest lines d r → r ≡ To next → LowestRun lines (n + 1) c (state_of next) × IsStateOf lines (state_of next)
 one_more lines n c d r next run h e =

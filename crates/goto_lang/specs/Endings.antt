@@ -1,5 +1,5 @@
 -- The run in which `new` takes the least free address and fills with 0.
-use Rattle.std.specs.Prelude.{◌≡◌, ℕ, zero, suc, ◌≤◌, List, [], replicate, Some}
+use Rattle.std.specs.Prelude.{◌≡◌, ◌≢◌, ℕ, zero, suc, ◌≤◌, List, [], replicate, Some}
 use Rattle.heap_formula.specs.declared.commands.Command.{Command}
 use Rattle.heap_formula.specs.declared.commands.Command.TheVariants.{New, Stop as StopCommand}
 use Rattle.heap_formula.specs.Programs.{Config as State, Faults, command_at}
@@ -25,12 +25,14 @@ abbrev pub LowestRun : List Command → ℕ → State → State → Type 0
 LowestRun lines zero c d = d ≡ c
 LowestRun lines (suc n) c d = (m : State) × LowestRun lines n c m × LowestStep lines m d
 
--- the run from c, of at most this many steps: it stops after n, it faults after n, or it makes them all and could go on
+-- the run from c, of at most this many steps: it stops after n, it faults after n, or it makes them all and does
+-- neither then
 abbrev pub IsEnding : List Command → ℕ → State → Ran → Type 0
 IsEnding lines steps c (Stopped n) = (n ≤ steps) × (d : State) × LowestRun lines n c d × (command_at lines d ≡ Some StopCommand)
 IsEnding lines steps c (Faulted n) =
     (n ≤ steps) × (d : State) × (x : Command) × LowestRun lines n c d × (command_at lines d ≡ Some x) × Faults x d
-IsEnding lines steps c Running = (d : State) × (e : State) × LowestRun lines steps c d × LowestStep lines d e
+IsEnding lines steps c Running =
+    (d : State) × (x : Command) × LowestRun lines steps c d × (command_at lines d ≡ Some x) × (x ≢ StopCommand) × (¬ Faults x d)
 
 -- the step from c with the least free address: it is at `stop`, it faults, or it leads to a state of the program
 abbrev pub IsLowest : List Command → State → Stepped → Type 0

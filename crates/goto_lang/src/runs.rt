@@ -13,7 +13,8 @@ use cyc_memory::OutOfMemory;
 use heap_formula::Command;
 use std::alloc::Global;
 
-/// How a run ends: it is at `stop`, or it faults, after this many steps; or it has made all its steps and could go on.
+/// How a run ends: it is at `stop`, or it faults, after this many steps; or it has made all its steps and
+/// does neither.
 #[derive(Clone, Copy, PartialEq, Eq, Debug)]
 pub enum Ran {
     Stopped(u64),

@@ -154,6 +154,14 @@ fn freed(config: &Config, address: u64) -> Result<Stepped, OutOfMemory>
     Ok(Stepped::To(next))
 }
 
+fn branch(config: &Config, holds: bool, line: u32) -> Result<Stepped, OutOfMemory>
+    requires line { config.now.line < 2 ^ 32 - 1 }
+    ensures { IfOk result (λ r. IsJump (if holds then line else config.now.line + 1) (state_of config.now) r) }
+{
+    let next = if holds { line } else { config.line + 1 };
+    Ok(Stepped::To(at_line(config, next)?))
+}
+
 /// What a command makes of a state, where `new` may take this address and these values.
 pub(crate) fn perform(
     alloc: Global,
@@ -178,14 +186,6 @@ pub(crate) fn perform(
         Command::Goto(j) => Ok(Stepped::To(at_line(config, j)?)),
         Command::Stop => Ok(Stepped::Stop),
     }
-}
-
-fn branch(config: &Config, holds: bool, line: u32) -> Result<Stepped, OutOfMemory>
-    requires line { config.now.line < 2 ^ 32 - 1 }
-    ensures { IfOk result (λ r. IsJump (if holds then line else config.now.line + 1) (state_of config.now) r) }
-{
-    let next = if holds { line } else { config.line + 1 };
-    Ok(Stepped::To(at_line(config, next)?))
 }
 
 fn all_within(values: &[u64], most: u64) -> bool
