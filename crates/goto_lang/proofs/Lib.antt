@@ -1,0 +1,5 @@
+pub mod Maps
+pub mod Gaps
+pub mod Faultless
+pub mod Moves
+pub mod Ends

@@ -1,0 +1,85 @@
+// Runs in which `new` takes the least free address.
+ghost use Rattle.std.specs.Prelude.{◌≡◌, ◌<◌, ◌↔◌, ℕ, replicate, IfOk};
+ghost use Rattle.heap_formula.specs.Programs.{Config as State};
+ghost use Rattle.goto_lang.specs.declared.configs.Config.{Config};
+ghost use Rattle.goto_lang.specs.States.{state_of, IsStateOf};
+ghost use Rattle.goto_lang.specs.Steps.{IsSuccessor};
+ghost use Rattle.goto_lang.specs.Endings.{zero_fields, LowestStep, LowestRun, IsEnding, IsLowest};
+
+use crate::configs::Config;
+use crate::programs::Program;
+use crate::steps::{Stepped, perform};
+use cyc_memory::OutOfMemory;
+use heap_formula::Command;
+use std::alloc::Global;
+
+/// How a run ends: it is at `stop`, or it faults, after this many steps; or it has made all its steps and
+/// does neither.
+#[derive(Clone, Copy, PartialEq, Eq, Debug)]
+pub enum Ran {
+    Stopped(u64),
+    Faulted(u64),
+    Running,
+}
+
+fn zeros(alloc: Global, command: Command) -> Result<Vec<u64>, OutOfMemory>
+    ensures { IfOk result (λ v. v.items ≡ zero_fields command) }
+{
+    match command {
+        Command::New(_, k) => Ok(vec![in alloc; 0u64; k as usize]?),
+        Command::Assign(_, _)
+        | Command::Load(_, _, _)
+        | Command::Store(_, _, _)
+        | Command::Free(_)
+        | Command::IfEq(_, _, _)
+        | Command::IfNeq(_, _, _)
+        | Command::Goto(_)
+        | Command::Stop => Ok(Vec::new(alloc)),
+    }
+}
+
+fn lowest_step(alloc: Global, program: &Program, config: &Config) -> Result<Stepped, OutOfMemory>
+    requires { IsStateOf program.now (state_of config.now) }
+    ensures { IfOk result (λ r. IsLowest program.now (state_of config.now) r) }
+{
+    let command = program.command(config.line);
+    let fill = zeros(alloc, command)?;
+    perform(alloc, command, config, config.heap.least_free(), &fill)
+}
+
+fn ending(alloc: Global, program: &Program, config: &Config, steps: u64) -> Result<Ran, OutOfMemory>
+    requires { IsStateOf program.now (state_of config.now) }
+    ensures { (c : State) → LowestRun program.now steps c (state_of config.now) → IfOk result (λ r. IsEnding program.now steps c r) }
+{
+    match lowest_step(alloc, program, config)? {
+        Stepped::Stop => Ok(Ran::Stopped(steps)),
+        Stepped::Fault => Ok(Ran::Faulted(steps)),
+        Stepped::To(_) => Ok(Ran::Running),
+        Stepped::BadPick => unreachable!(),
+    }
+}
+
+/// Runs the program from a state for at most so many steps; `new` takes the least free address and fills with 0. Each
+/// answer comes exactly where the run ends so, and each of its steps is one of the machine's whatever the headroom, if
+/// that is positive. The caller has a state of the program, as `is_state_of` tests.
+pub fn run_lowest(
+    alloc: Global,
+    program: &Program,
+    config: &Config,
+    steps: u64,
+) -> Result<Ran, OutOfMemory>
+    requires { IsStateOf program.now (state_of config.now) }
+    ensures answer { IfOk result (λ r. (q : Ran) → (r ≡ q) ↔ IsEnding program.now steps (state_of config.now) q) }
+    ensures machine { (w : ℕ) → 0 < w → (c d : State) → LowestStep program.now c d → IsSuccessor program.now w c d }
+{
+    let mut current = config.clone()?;
+    for done in 0..steps {
+        match lowest_step(alloc, program, &current)? {
+            Stepped::Stop => return Ok(Ran::Stopped(done)),
+            Stepped::Fault => return Ok(Ran::Faulted(done)),
+            Stepped::To(next) => current = next,
+            Stepped::BadPick => unreachable!(),
+        }
+    }
+    ending(alloc, program, &current, steps)
+}
