@@ -1,5 +1,5 @@
 -- Values that have a text are what their tree says.
-use Rattle.std.proofs.Common.{◌≡◌, ℕ, zero, suc, ◌+◌, ◌<◌, Bool, true, false, List, [], ◌∷◌, length, take, map, Option, Some, None, refl, sym, ap, subst, ◌∙◌, arith}
+use Rattle.std.proofs.Common.{◌≡◌, ℕ, zero, suc, ◌+◌, Bool, true, false, List, [], ◌∷◌, length, take, map, Option, Some, None, refl, sym, ap, subst, ◌∙◌, arith}
 use Rattle.std.specs.Prelude.{not, ◌&&◌, is_some, if◌then◌else◌, slice_get, nat_lt, nat_le}
 use Rattle.std.specs.List.{list_any}
 use Rattle.std.specs.Str.{bytes_eq, chars, is_utf8}
@@ -15,7 +15,6 @@ use Rattle.heap_formula.specs.declared.judgements.Judgement.{Judgement}
 use Rattle.heap_formula.specs.declared.judgements.Judgement.TheVariants.{Entail, Term as Halting}
 use Rattle.heap_formula.specs.declared.proof_rules.Side.{Side}
 use Rattle.heap_formula.specs.declared.proof_rules.Side.TheVariants as sides
-use Rattle.heap_formula.specs.declared.proof_rules.Rule.{Rule}
 use Rattle.heap_formula.specs.declared.proof_rules.Rule.TheVariants as rules
 use Rattle.heap_formula.specs.declared.proof_rules.Reason.{Reason as ReasonValue}
 use Rattle.heap_formula.specs.declared.proof_rules.Reason.TheVariants.{Step, Back}
@@ -27,13 +26,13 @@ use Rattle.cyc_lex.proofs.BoolParts.{and-parts}
 use Rattle.cyc_lex.specs.declared.fault.What.TheVariants.{Predicates, Arguments}
 use Rattle.cyc_lex.specs.declared.fault.IllFault.TheVariants.{Duplicate}
 use Rattle.cyc_grammar.specs.Classes.{is_free_name}
-use Rattle.cyc_grammar.specs.Syntax.{Class, after, uncons, fits_many}
-use Rattle.proof_syntax.specs.Trees.{Spatial, Heap, Definition, Node, File}
-use Rattle.proof_syntax.specs.Grammar.{reserved, uterm, terms, pure, spatial, predicate, cell, spatials, heap, heaps, cases, definition, disjuncts, judgement, cut, split, parts, reason, node, nodes, more_nodes, definitions, body, file, some_heap, bar, closing_brace, or_word, by_word}
+use Rattle.cyc_grammar.specs.Syntax.{Class}
+use Rattle.proof_syntax.specs.Trees.{Heap, Definition, Node}
+use Rattle.proof_syntax.specs.Grammar.{reserved, uterm, terms, spatial, predicate, heap, heaps, cases, definition, disjuncts, judgement, cut, split, parts, reason, node, nodes, more_nodes, definitions, body, file, bar, closing_brace, or_word, by_word}
 use Rattle.proof_file.specs.declared.node.FileNode.{FileNode}
 use Rattle.proof_file.specs.declared.file.ProofFile.{ProofFile}
 use Rattle.proof_file.specs.Spans.{total, heap_span, definition_span, node_span}
-use Rattle.proof_file.specs.Flaws.{Found, ill_if, over_if, or_later, listed_flaw, arity_in, case_flaw, head_flaw, definition_flaw, node_flaw, file_flaw}
+use Rattle.proof_file.specs.Flaws.{Found, ill_if, over_if, or_later, listed_flaw, arity_in, case_flaw, head_flaw, definition_flaw, node_flaw}
 use Rattle.proof_file.specs.Values.{term_value, pure_value, place_of, spatial_value, heap_value, definition_value, judgement_value, side_value, pair_value, reason_value, node_value}
 use Rattle.proof_file.specs.Written.{term_tree, pure_tree, name_in, name_of, spatial_tree, heap_tree, definition_tree, judgement_tree, side_tree, pair_tree, reason_tree, node_tree, tree_of}
 use Rattle.proof_file.specs.Reading.{IsFileOf}
