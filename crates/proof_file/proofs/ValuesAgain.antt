@@ -113,19 +113,19 @@ defined : (o : Option DefinitionValue) → is_free_name reserved (name_in o) ≡
 defined None e = absurd (no_name e)
 defined (Some d) e = (d, refl)
 
-module _ (ds : List DefinitionValue) where
-  abbrev defs : List Definition
-  defs = map (definition_tree ds) ds
+abbrev trees_of : List DefinitionValue → List Definition
+trees_of ds = map (definition_tree ds) ds
 
-  -- the name of a number has that place
-  found_place : listed_flaw (definition_flaw (map (definition_tree ds) ds)) definition_span 0 4 (map (definition_tree ds) ds) ≡ None → (p : ℕ) → is_free_name reserved (name_of ds p) ≡ true → place_of (map (definition_tree ds) ds) (name_of ds p) ≡ p
-  found_place none p free =
-      let d = defined (slice_get ds p) free in
-      let there = get_map (definition_tree ds) ds p d.0 d.1 in
-      let at = flaw_at (definition_flaw (map (definition_tree ds) ds)) definition_span 0 4 (map (definition_tree ds) ds) p (definition_tree ds d.0) there none in
-      let here : 0 + p ≡ p = omega arith in
-      let first = no_earlier (map (definition_tree ds) ds) p at.0 (definition_tree ds d.0) (subst (λ n. definition_flaw (map (definition_tree ds) ds) n at.0 (definition_tree ds d.0) ≡ None) here at.1) in
-      ap (λ o. place_of (map (definition_tree ds) ds) (name_in o)) d.1 ∙ place_first (map (definition_tree ds) ds) p (definition_tree ds d.0) there first
+-- the name of a number has that place
+found_place : (ds : List DefinitionValue) → listed_flaw (definition_flaw (trees_of ds)) definition_span 0 4 (trees_of ds) ≡ None → (p : ℕ) → is_free_name reserved (name_of ds p) ≡ true → place_of (trees_of ds) (name_of ds p) ≡ p
+found_place ds none p free =
+    let d = defined (slice_get ds p) free in
+    let tree = definition_tree ds d.0 in
+    let there = get_map (definition_tree ds) ds p d.0 d.1 in
+    let at = flaw_at (definition_flaw (trees_of ds)) definition_span 0 4 (trees_of ds) p tree there none in
+    let here : 0 + p ≡ p = omega arith in
+    let first = no_earlier (trees_of ds) p at.0 tree (subst (λ n. definition_flaw (trees_of ds) n at.0 tree ≡ None) here at.1) in
+    ap (λ o. place_of (trees_of ds) (name_in o)) d.1 ∙ place_first (trees_of ds) p tree there first
 
 -- ---- terms and atoms
 
@@ -240,7 +240,7 @@ file_known f =
     let none = neither (listed_flaw (definition_flaw tree.definitions) definition_span 0 4 tree.definitions) (listed_flaw (node_flaw tree.definitions) node_span 0 (4 + total definition_span tree.definitions) tree.nodes) f.flawless in
     let placed = found_place ds none.0 in
     record {
-      version = f.one;
+      version = f.first_version;
       most = f.sixteen;
       definitions = sym (each_known (definition_tree ds) (definition_value tree.definitions) definition.fits (definition_known ds tree.definitions placed) ds (definitions_fit tree.definitions f.fits.1.0));
       nodes = sym (each_known (node_tree ds) (node_value tree.definitions) node.fits (node_known ds tree.definitions placed) f.nodes (nodes_fit tree.nodes f.fits.1.1));
