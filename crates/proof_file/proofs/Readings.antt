@@ -1,5 +1,5 @@
 -- Bytes are read in one way, and what is written is read again.
-use Rattle.std.proofs.Common.{◌≡◌, ℕ, ◌+◌, List, [], ◌∷◌, length, take, drop, Option, Some, None, Result, Ok, Err, refl, sym, ap, subst, ◌∙◌, take-append-drop}
+use Rattle.std.proofs.Common.{◌≡◌, ℕ, ◌+◌, List, drop, Option, Some, None, Result, Ok, Err, refl, sym, ap, subst, ◌∙◌, take-append-drop}
 use Rattle.std.specs.Prelude.{map, IfOk}
 use Rattle.cyc_lex.specs.declared.fault.LexFault.{LexFault}
 use Rattle.cyc_lex.specs.declared.fault.LexFault.TheVariants as lexical

@@ -1,7 +1,5 @@
 -- What reading a proof file answers.
 use Rattle.std.specs.Prelude.{◌≡◌, ℕ, List, map, Result, Ok, Err, Some, None}
-use Rattle.cyc_lex.specs.declared.fault.IllFault.{IllFault}
-use Rattle.cyc_lex.specs.declared.fault.What.{What}
 use Rattle.cyc_lex.specs.declared.fault.ReadFault.{ReadFault}
 use Rattle.cyc_lex.specs.declared.fault.ReadFault.TheVariants as faults
 use Rattle.cyc_lex.specs.declared.fault.LexFault.{LexFault}
@@ -17,7 +15,7 @@ use Rattle.proof_file.specs.declared.flaw.Item.{Item}
 use Rattle.proof_file.specs.declared.flaw.Item.TheVariants.{Ill, Over}
 use Rattle.proof_file.specs.declared.flaw.Flaw.{Flaw}
 use Rattle.proof_file.specs.declared.file.ProofFile.{ProofFile}
-use Rattle.proof_file.specs.Flaws.{Found, file_flaw}
+use Rattle.proof_file.specs.Flaws.{file_flaw}
 use Rattle.proof_file.specs.Values.{definition_value, node_value}
 
 -- the tokens spell this tree

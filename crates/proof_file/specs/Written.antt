@@ -1,6 +1,6 @@
 -- What is written of a file: its values as trees, predicates by their names in place of their numbers. What version 1
 -- of the format lacks becomes a tree that the grammar lacks.
-use Rattle.std.specs.Prelude.{ℕ, Bool, true, false, List, [], ◌∷◌, map, Option, Some, None, slice_get}
+use Rattle.std.specs.Prelude.{ℕ, true, false, List, [], map, Option, Some, None, slice_get}
 use Rattle.heap_formula.specs.declared.terms.Term.{Term}
 use Rattle.heap_formula.specs.declared.terms.Term.TheVariants as terms
 use Rattle.heap_formula.specs.declared.atoms.Pure.{Pure}

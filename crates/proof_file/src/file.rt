@@ -11,7 +11,7 @@ use pred_defs::Defs;
 
 /// A proof file: the version of the format, the definitions, and the nodes of the proof, node 0 being its root. There is
 /// a node, and no existential variable stands in an antecedent, in the terms of a Split or an Instantiate, or in the
-/// values of a link's substitution.
+/// values of a link's substitution. The file has a text: its tree fits the grammar, and has no flaw.
 #[derive(Debug, Drop)]
 pub struct ProofFile {
     pub version: u8,
@@ -21,7 +21,7 @@ pub struct ProofFile {
     ghost few: { length nodes ≤ 20000 },
     ghost readable: { are_readable nodes ≡ true },
     ghost cases: { all_have_few_cases defs.list ≡ true },
-    ghost one: { version ≡ 1 },
+    ghost first_version: { version ≡ 1 },
     ghost sixteen: { defs.most ≡ 16 },
     ghost fits: { file.fits (tree_of defs.list nodes) } by { file-fit (tree_of defs.list nodes) },
     ghost flawless: { file_flaw (tree_of defs.list nodes) ≡ None },

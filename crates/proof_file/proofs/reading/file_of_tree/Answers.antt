@@ -1,4 +1,4 @@
-use Rattle.std.proofs.Common.{◌≡◌, ◌<◌, ◌≤◌, true, List, length, map, refl, sym, ap, ◌∙◌, subst, arith}
+use Rattle.std.proofs.Common.{◌≡◌, true, List, length, map, refl, sym, ap, ◌∙◌, subst, arith}
 use Rattle.std.proofs.lemmas.List.{length-map}
 use Rattle.heap_formula.specs.Words.{Each}
 use Rattle.heap_formula.specs.Definitions.{Definition as DefinitionValue}
@@ -67,7 +67,7 @@ invariant_of-result c =
       few = omega (arith, few, size, ap length nodes_are);
       readable = subst (λ (ns : List FileNode). are_readable ns ≡ true) (sym nodes_are) (nodes_readable f c.requires.fits);
       cases = subst (λ (ds : List DefinitionValue). all_have_few_cases ds ≡ true) (sym list_is) (cases_few f.definitions f.definitions small.definitions);
-      one = refl;
+      first_version = refl;
       sixteen = ap (λ (b : DefinitionBook). b.most) c.from_vec-defs.ensures;
       fits = subst (λ (t : File). file.fits t) same c.requires.fits;
       flawless = ap file_flaw (sym same) ∙ c.requires.right;

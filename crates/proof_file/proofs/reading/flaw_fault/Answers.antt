@@ -1,7 +1,6 @@
-use Rattle.std.proofs.Common.{◌≡◌, ◌<◌, List, length, map, sym, ap, ◌∙◌, subst, refl, arith, get_or, Some}
+use Rattle.std.proofs.Common.{◌<◌, length, ap, arith}
 use Rattle.std.proofs.lemmas.List.{length-map}
-use Rattle.cyc_lex.specs.declared.token.Token.{Token}
-use Rattle.cyc_lex.specs.Placed.{Placed, placed}
+use Rattle.cyc_lex.specs.Placed.{placed}
 use Rattle.proof_file.specs.declared.flaw.Item.{Item}
 use Rattle.proof_file.proofs.TokenPlaces.{token_at}
 use Rattle.proof_file.proofs.reading.flaw_fault.Goals as goal

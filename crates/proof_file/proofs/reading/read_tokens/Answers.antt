@@ -1,8 +1,7 @@
-use Rattle.std.proofs.Common.{◌≡◌, ◌<◌, ◌+◌, length, map, sym, ap, ◌∙◌, arith}
+use Rattle.std.proofs.Common.{◌+◌, length, sym, ap, ◌∙◌, arith}
 use Rattle.std.proofs.lemmas.List.{length-map}
 use Rattle.cyc_lex.specs.Word.{word_of}
 use Rattle.proof_syntax.specs.Trees.{file_of}
-use Rattle.proof_syntax.specs.Grammar.{file}
 use Rattle.proof_file.specs.Spans.{total, definition_span, node_span}
 use Rattle.proof_file.specs.Flaws.{file_flaw}
 use Rattle.proof_file.proofs.SpanLaws.{file_words}

@@ -1,7 +1,6 @@
-use Rattle.std.proofs.Common.{◌≡◌, ◌+◌, drop, map}
-use Rattle.proof_syntax.specs.Trees.{definition_of, heap_of, spatial_of, node_of}
-use Rattle.proof_file.specs.Spans.{total, term_span, pure_span, spatial_span, heap_span, definition_span, pair_span, node_span}
-use Rattle.proof_file.specs.Flaws.{listed_flaw, argument_flaw, pure_flaw, arity_in, spatial_flaw, case_flaw, definition_flaw, disjunct_flaw, pair_flaw, node_flaw}
+use Rattle.std.proofs.Common.{◌≡◌, ◌+◌, drop}
+use Rattle.proof_file.specs.Spans.{total, pure_span}
+use Rattle.proof_file.specs.Flaws.{listed_flaw, pure_flaw}
 use Rattle.proof_file.proofs.walk.pure_atoms.Given as goal
 
 abbrev pub invariant-loop-n : goal.invariant-loop-n

@@ -1,4 +1,3 @@
-use Rattle.std.specs.Prelude.{List, ℕ}
 use Rattle.proof_syntax.specs.Trees.{file_of}
 use Rattle.proof_file.proofs.Readings.{written_is_read}
 use Rattle.proof_file.proofs.writing.write_file.Goals as goal
