@@ -100,6 +100,7 @@ module _ (bud companion : Judgement) (target p : ℕ) where
     where
       right : Link → Bool
       right l = is_none (link_fault bud companion l p)
+
       inner : (ms : List ℕ) → filter right (flat_map (λ (s : Bindings). map (λ (ks : List ℕ). link_of target ms s ks) (covers bud companion)) (substitutions bud companion)) ≡ by_pairs bud companion target p ms [] (value_choices (values_of bud) (universals companion))
       inner ms =
           filter_flat_map right (λ (s : Bindings). map (λ (ks : List ℕ). link_of target ms s ks) (covers bud companion)) (substitutions bud companion)

@@ -115,6 +115,7 @@ module _ (s whole : Bindings) (agrees : Agrees s whole) (pures : List Pure) wher
       stays (Some v) e lt =
           let same : v ≡ Univ q.0 = sym (agrees q.0 v e) ∙ h q.0 lt in
           subst (λ (w : Term). same_term w (Univ q.0) ≡ true) (sym same) ((Decides-eqb q.0 q.0).1 refl)
+
       one : (b : Bool) → nat_le kept q.0 ≡ b → b || could_keep (lookup s q.0) q.0 ≡ true
       one true e = refl
       one false e = stays (lookup s q.0) refl (leb-false kept q.0 e)
@@ -183,8 +184,8 @@ module _ (bud companion : Judgement) (p : ℕ) where
       let a = antecedent bud in
       let b = antecedent companion in
       both_true (list_all (λ q. nat_le (kept_variables companion p) q.0 || could_keep (lookup s q.0) q.0) s) (could_match_all a.pure a.spatial s places b.spatial && list_all (λ x. could_follow a.pure (known_pure s x)) b.pure)
-        (keep_ok s whole agrees a.pure (kept_variables companion p) f.keeps s)
-        (both_true (could_match_all a.pure a.spatial s places b.spatial) (list_all (λ x. could_follow a.pure (known_pure s x)) b.pure) (match_all_ok s whole agrees a.pure a.spatial f.all [] 0 places rest b.spatial f.spatial) (follow_all_ok s whole agrees a.pure 0 b.pure f.pure))
+      (keep_ok s whole agrees a.pure (kept_variables companion p) f.keeps s)
+      (both_true (could_match_all a.pure a.spatial s places b.spatial) (list_all (λ x. could_follow a.pure (known_pure s x)) b.pure) (match_all_ok s whole agrees a.pure a.spatial f.all [] 0 places rest b.spatial f.spatial) (follow_all_ok s whole agrees a.pure 0 b.pure f.pure))
 
   module _ (values : List Term) where
     among : (n : ℕ) (m : ℕ) (q : ℕ × Term) (vs : List Term) → OneOf (λ r. r ≡ q) (map (λ v. (m, v)) vs) → (m ≡ q.0) × OneOf (λ v. v ≡ q.1) vs

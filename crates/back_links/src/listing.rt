@@ -223,6 +223,12 @@ pub fn all_links(
         values: &values,
         most: most as usize,
     };
-    choose_places(alloc, &search, &[], antecedent(companion).spatial(), &mut found)?;
+    choose_places(
+        alloc,
+        &search,
+        &[],
+        antecedent(companion).spatial(),
+        &mut found,
+    )?;
     Ok(found)
 }

@@ -40,5 +40,5 @@ returns-then-is_empty t c =
     let s = c.args.search.now in
     let none : length c.args.rest.now ≡ 0 = grind (arith, nat_tests, sym c.is_empty.ensures ∙ c.if-is_empty.true) in
     subst (λ (zs : List Link). OnOk c.choose_values.result (c.choose_values.new.found.items ≡ take s.most (c.args.found.now.items ++ zs)))
-      (places_end s.bud.now s.companion.now s.target s.variables s.values.now s.sources.now c.args.made.now ∙ ap (λ (xs : List Spatial). by_places s.bud.now s.companion.now s.target s.variables s.values.now s.sources.now c.args.made.now (number_choices (antecedent s.bud.now).spatial xs)) (sym (emptied c.args.rest.now none)))
-      c.choose_values.ensures
+    (places_end s.bud.now s.companion.now s.target s.variables s.values.now s.sources.now c.args.made.now ∙ ap (λ (xs : List Spatial). by_places s.bud.now s.companion.now s.target s.variables s.values.now s.sources.now c.args.made.now (number_choices (antecedent s.bud.now).spatial xs)) (sym (emptied c.args.rest.now none)))
+    c.choose_values.ensures

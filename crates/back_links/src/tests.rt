@@ -1,0 +1,398 @@
+// Each cause of a fault, and the links of small judgements.
+ghost use Rattle.std.specs.Prelude.{◌≤◌, ◌<◌, length};
+
+use crate::{all_links, link_fault};
+use heap_formula::{
+    Args, Disjuncts, Heap, Judgement, Link, OutOfMemory, Positions, Pure, RuleFault, Spatial,
+    Subst, Term,
+};
+use rule_table::{copy_pure_atoms, copy_spatial_atoms};
+use std::alloc::Global;
+use std::test::Fail;
+
+const V0: Term = Term::Univ(0);
+
+const V1: Term = Term::Univ(1);
+
+const V2: Term = Term::Univ(2);
+
+const V3: Term = Term::Univ(3);
+
+const V4: Term = Term::Univ(4);
+
+const NIL: Term = Term::Nil;
+
+/// The parts of a link.
+#[derive(Clone, Copy)]
+struct LinkParts<'a> {
+    places: &'a [u32],
+    pairs: &'a [(u16, Term)],
+    entries: &'a [u32],
+}
+
+fn parts<'a>(places: &'a [u32], pairs: &'a [(u16, Term)], entries: &'a [u32]) -> LinkParts<'a> {
+    LinkParts {
+        places,
+        pairs,
+        entries,
+    }
+}
+
+fn one(t: Term) -> Spatial {
+    Spatial::Pred(0, Args::from_slice(&[t]))
+}
+
+fn two(t: Term, u: Term) -> Spatial {
+    Spatial::Pred(1, Args::from_slice(&[t, u]))
+}
+
+fn cell(t: Term) -> Spatial {
+    Spatial::Cell(t, Args::from_slice(&[NIL]))
+}
+
+fn heap(alloc: Global, pure: &[Pure], spatial: &[Spatial]) -> Result<Heap, OutOfMemory>
+    requires pure_fits { length pure.now ≤ 64 }
+    requires spatial_fits { length spatial.now ≤ 32 }
+{
+    Ok(Heap::from_lists(
+        copy_pure_atoms(alloc, pure)?,
+        copy_spatial_atoms(alloc, spatial)?,
+    ))
+}
+
+fn places(alloc: Global, numbers: &[u32]) -> Result<Positions, OutOfMemory> {
+    let mut all = Vec::new(alloc);
+    all.extend_from_slice(numbers)?;
+    Ok(Positions::from_vec(all))
+}
+
+fn link(alloc: Global, row: LinkParts<'_>) -> Result<Link, OutOfMemory> {
+    let mut pairs = Vec::new(alloc);
+    pairs.extend_from_slice(row.pairs)?;
+    Ok(Link {
+        target: 7,
+        subst: Subst::from_vec(pairs),
+        map: places(alloc, row.places)?,
+        disjuncts: places(alloc, row.entries)?,
+    })
+}
+
+fn is_made_of(link: &Link, row: LinkParts<'_>) -> bool {
+    link.target == 7
+        && link.map.as_slice() == row.places
+        && link.subst.pairs() == row.pairs
+        && link.disjuncts.as_slice() == row.entries
+}
+
+fn are_made_of(links: &[Link], rows: &[LinkParts<'_>]) -> bool {
+    if links.len() != rows.len() {
+        return false;
+    }
+    for (i, link) in links.iter().enumerate() {
+        if !is_made_of(link, rows[i]) {
+            return false;
+        }
+    }
+    true
+}
+
+fn are_same(links: &[Link], others: &[Link]) -> bool {
+    if links.len() != others.len() {
+        return false;
+    }
+    for (i, link) in links.iter().enumerate() {
+        let other = &others[i];
+        let whole = parts(
+            other.map.as_slice(),
+            other.subst.pairs(),
+            other.disjuncts.as_slice(),
+        );
+        if !is_made_of(link, whole) {
+            return false;
+        }
+    }
+    true
+}
+
+fn faults(
+    alloc: Global,
+    bud: &Judgement,
+    companion: &Judgement,
+    rows: &[LinkParts<'_>],
+) -> Result<Vec<Option<RuleFault>>, OutOfMemory> {
+    let mut all = Vec::new(alloc);
+    for row in rows {
+        all.push(link_fault(bud, companion, &link(alloc, *row)?, 1))?;
+    }
+    Ok(all)
+}
+
+/// `$2 != $3, $3 = $4 : P0($2) * $4 -> (nil) |- $3 = $2 : P0($2) | P0($2) * P0($2) | $2 = nil : P0($2) | nil = nil : P0($2)`
+fn mixed_bud(alloc: Global) -> Result<Judgement, OutOfMemory> {
+    let a = heap(
+        alloc,
+        &[Pure::Neq(V2, V3), Pure::Eq(V3, V4)],
+        &[one(V2), cell(V4)],
+    )?;
+    let mut all = Vec::new(alloc);
+    all.push(heap(alloc, &[Pure::Eq(V3, V2)], &[one(V2)])?)?;
+    all.push(heap(alloc, &[], &[one(V2), one(V2)])?)?;
+    all.push(heap(alloc, &[Pure::Eq(V2, NIL)], &[one(V2)])?)?;
+    all.push(heap(alloc, &[Pure::Eq(NIL, NIL)], &[one(V2)])?)?;
+    Ok(Judgement::Entail(a, Disjuncts::from_slice(alloc, &all[..])?))
+}
+
+/// `$0 != $1 : P0($0) * $1 -> (nil) |- $0 = $1 : P0($0)`
+fn mixed_companion(alloc: Global) -> Result<Judgement, OutOfMemory> {
+    let a = heap(alloc, &[Pure::Neq(V0, V1)], &[one(V0), cell(V1)])?;
+    let b = heap(alloc, &[Pure::Eq(V0, V1)], &[one(V0)])?;
+    Ok(Judgement::Entail(a, Disjuncts::single(alloc, b)?))
+}
+
+/// The atoms entail the empty heap.
+fn to_empty(alloc: Global, pure: &[Pure], atoms: &[Spatial]) -> Result<Judgement, OutOfMemory>
+    requires pure_fits { length pure.now ≤ 64 }
+    requires atoms_fit { length atoms.now ≤ 32 }
+{
+    Ok(Judgement::Entail(
+        heap(alloc, pure, atoms)?,
+        Disjuncts::single(alloc, Heap::new(alloc))?,
+    ))
+}
+
+fn from(alloc: Global, line: u32, atoms: &[Spatial]) -> Result<Judgement, OutOfMemory>
+    requires { length atoms.now ≤ 32 }
+{
+    Ok(Judgement::Term(line, heap(alloc, &[], atoms)?))
+}
+
+#[test]
+fn faults_of_atoms(rt: HostRuntime) -> Result<(), Fail> {
+    let alloc = rt.alloc();
+    let right = [(0, V2), (1, V3)];
+    let rows = [
+        parts(&[0, 1], &right, &[0]),
+        parts(&[0, 1], &[(0, V2), (1, V3), (1, NIL)], &[0]),
+        parts(&[0, 1], &[(0, V2), (1, NIL), (1, V3)], &[0]),
+        parts(&[0, 1], &[(0, V2), (1, V2)], &[0]),
+        parts(&[], &right, &[0]),
+        parts(&[0], &right, &[0]),
+        parts(&[0, 2], &right, &[0]),
+        parts(&[1, 0], &right, &[0]),
+        parts(&[0, 1, 1], &right, &[0]),
+    ];
+    let wanted = [
+        None,
+        None,
+        Some(RuleFault::LinkPure(0)),
+        Some(RuleFault::LinkPure(0)),
+        Some(RuleFault::LinkSpatial(0)),
+        Some(RuleFault::LinkSpatial(1)),
+        Some(RuleFault::LinkSpatial(1)),
+        Some(RuleFault::LinkSpatial(0)),
+        Some(RuleFault::LinkSpatial(2)),
+    ];
+    let found = faults(alloc, &mixed_bud(alloc)?, &mixed_companion(alloc)?, &rows)?;
+    assert_eq!(rt; found.as_slice(), wanted.as_slice());
+    Ok(())
+}
+
+#[test]
+fn faults_of_disjuncts(rt: HostRuntime) -> Result<(), Fail> {
+    let alloc = rt.alloc();
+    let right = [(0, V2), (1, V3)];
+    let rows = [
+        parts(&[0, 1], &right, &[3]),
+        parts(&[0, 1], &right, &[]),
+        parts(&[0, 1], &right, &[4]),
+        parts(&[0, 1], &right, &[1]),
+        parts(&[0, 1], &right, &[2]),
+        parts(&[0, 1], &right, &[0, 0]),
+    ];
+    let wanted = [
+        None,
+        Some(RuleFault::LinkDisjunct(0)),
+        Some(RuleFault::LinkDisjunct(0)),
+        Some(RuleFault::LinkDisjunct(0)),
+        Some(RuleFault::LinkDisjunct(0)),
+        Some(RuleFault::LinkDisjunct(1)),
+    ];
+    let found = faults(alloc, &mixed_bud(alloc)?, &mixed_companion(alloc)?, &rows)?;
+    assert_eq!(rt; found.as_slice(), wanted.as_slice());
+    Ok(())
+}
+
+#[test]
+fn faults_of_the_whole(rt: HostRuntime) -> Result<(), Fail> {
+    let alloc = rt.alloc();
+    let same = [(0, V0)];
+    let like = to_empty(alloc, &[], &[one(V0), one(V0)])?;
+    let less = to_empty(alloc, &[], &[one(V0)])?;
+    let runs = from(alloc, 1, &[one(V0)])?;
+    let later = from(alloc, 2, &[one(V0)])?;
+    let twice = parts(&[0, 0], &same, &[0]);
+    let first = parts(&[0], &same, &[0]);
+    let alone = parts(&[0], &same, &[]);
+    let moved = parts(&[0], &[(0, NIL)], &[]);
+    let found = [
+        link_fault(&like, &like, &link(alloc, twice)?, 0),
+        link_fault(&like, &less, &link(alloc, first)?, 0),
+        link_fault(&like, &runs, &link(alloc, alone)?, 1),
+        link_fault(&runs, &less, &link(alloc, first)?, 1),
+        link_fault(&runs, &later, &link(alloc, alone)?, 1),
+        link_fault(&runs, &runs, &link(alloc, moved)?, 1),
+        link_fault(&runs, &runs, &link(alloc, first)?, 1),
+        link_fault(&runs, &runs, &link(alloc, alone)?, 1),
+    ];
+    let wanted = [
+        Some(RuleFault::LinkSpatial(1)),
+        Some(RuleFault::LinkSpatial(1)),
+        Some(RuleFault::WrongJudgement),
+        Some(RuleFault::WrongJudgement),
+        Some(RuleFault::LineDiffers),
+        Some(RuleFault::LinkProgramVariable),
+        Some(RuleFault::LinkDisjunct(0)),
+        None,
+    ];
+    assert_eq!(rt; found.as_slice(), wanted.as_slice());
+    Ok(())
+}
+
+#[test]
+fn links_of_entailments(rt: HostRuntime) -> Result<(), Fail> {
+    let alloc = rt.alloc();
+    let like = to_empty(alloc, &[], &[one(V0), one(V0)])?;
+    let found = all_links(alloc, &like, &like, 7, 0, 9)?;
+    let swapped = [
+        parts(&[0, 1], &[(0, V0)], &[0]),
+        parts(&[1, 0], &[(0, V0)], &[0]),
+    ];
+    assert!(rt; are_made_of(&found, &swapped));
+    let bud = to_empty(alloc, &[Pure::Eq(V1, V2)], &[cell(V1)])?;
+    let companion = to_empty(alloc, &[], &[cell(V0)])?;
+    let equated = [parts(&[0], &[(0, V1)], &[0]), parts(&[0], &[(0, V2)], &[0])];
+    assert!(rt; are_made_of(&all_links(alloc, &bud, &companion, 7, 0, 2)?, &equated));
+    assert!(rt; are_made_of(&all_links(alloc, &bud, &companion, 7, 0, 1)?, &equated[..1]));
+    assert!(rt; are_made_of(&all_links(alloc, &bud, &companion, 7, 0, 0)?, &[]));
+    assert!(rt; are_made_of(&all_links(alloc, &bud, &like, 7, 0, 9)?, &[]));
+    Ok(())
+}
+
+#[test]
+fn links_by_value_then_by_disjunct(rt: HostRuntime) -> Result<(), Fail> {
+    let alloc = rt.alloc();
+    let trivial = heap(alloc, &[Pure::Eq(V1, V1)], &[])?;
+    let bud = Judgement::Entail(
+        Heap::new(alloc),
+        Disjuncts::from_slice(alloc, &[Heap::new(alloc), trivial])?,
+    );
+    let right = heap(alloc, &[Pure::Eq(V0, V0)], &[])?;
+    let companion = Judgement::Entail(Heap::new(alloc), Disjuncts::single(alloc, right)?);
+    let rows = [
+        parts(&[], &[(0, NIL)], &[0]),
+        parts(&[], &[(0, NIL)], &[1]),
+        parts(&[], &[(0, V1)], &[0]),
+        parts(&[], &[(0, V1)], &[1]),
+    ];
+    assert!(rt; are_made_of(&all_links(alloc, &bud, &companion, 7, 0, 9)?, &rows));
+    assert!(rt; are_made_of(&all_links(alloc, &bud, &companion, 7, 0, 3)?, &rows[..3]));
+    Ok(())
+}
+
+#[test]
+fn links_of_runs(rt: HostRuntime) -> Result<(), Fail> {
+    let alloc = rt.alloc();
+    let companion = from(alloc, 3, &[one(V0), one(V1)])?;
+    let turned = from(alloc, 3, &[one(V1), one(V0)])?;
+    let lacking = from(alloc, 3, &[one(V1), one(V2)])?;
+    let longer = from(alloc, 3, &[one(V1), one(V0), one(V2)])?;
+    let later = from(alloc, 4, &[one(V1), one(V0)])?;
+    let entailment = to_empty(alloc, &[], &[one(V0), one(V1)])?;
+    let one_way = [parts(&[1, 0], &[(0, V0), (1, V1)], &[])];
+    let two_ways = [
+        parts(&[1, 0], &[(0, V0), (1, V1)], &[]),
+        parts(&[1, 2], &[(0, V0), (1, V2)], &[]),
+    ];
+    assert!(rt; are_made_of(&all_links(alloc, &turned, &companion, 7, 1, 9)?, &one_way));
+    assert!(rt; are_made_of(&all_links(alloc, &longer, &companion, 7, 1, 9)?, &two_ways));
+    assert!(rt; are_made_of(&all_links(alloc, &lacking, &companion, 7, 1, 9)?, &[]));
+    assert!(rt; are_made_of(&all_links(alloc, &later, &companion, 7, 1, 9)?, &[]));
+    assert!(rt; are_made_of(&all_links(alloc, &entailment, &companion, 7, 1, 9)?, &[]));
+    Ok(())
+}
+
+fn add_right(
+    alloc: Global,
+    bud: &Judgement,
+    companion: &Judgement,
+    row: LinkParts<'_>,
+    all: &mut Vec<Link>,
+) -> Result<(), OutOfMemory> {
+    let link = link(alloc, row)?;
+    if link_fault(bud, companion, &link, 0).is_none() {
+        all.push(link)?;
+    }
+    Ok(())
+}
+
+fn add_of_map(
+    alloc: Global,
+    bud: &Judgement,
+    companion: &Judgement,
+    places: &[u32],
+    all: &mut Vec<Link>,
+) -> Result<(), OutOfMemory> {
+    let values = [NIL, V2, V3];
+    for v in values {
+        for w in values {
+            for m in 0..2 {
+                add_right(
+                    alloc,
+                    bud,
+                    companion,
+                    parts(places, &[(0, v), (1, w)], &[m]),
+                    all,
+                )?;
+            }
+        }
+    }
+    Ok(())
+}
+
+/// All links of a bud with two atoms and two disjuncts, in which variables 2 and 3 stand, to a companion with two atoms
+/// and one disjunct, in which 0 and 1 stand: every candidate is tried.
+fn every_link(
+    alloc: Global,
+    bud: &Judgement,
+    companion: &Judgement,
+) -> Result<Vec<Link>, OutOfMemory> {
+    let mut all = Vec::new(alloc);
+    for m in 0..2 {
+        for k in 0..2 {
+            add_of_map(alloc, bud, companion, &[m, k], &mut all)?;
+        }
+    }
+    Ok(all)
+}
+
+#[test]
+fn links_are_those_of_trying_all(rt: HostRuntime) -> Result<(), Fail> {
+    let alloc = rt.alloc();
+    let companion = to_empty(alloc, &[], &[two(V0, V1), two(V1, V0)])?;
+    let empty = [Heap::new(alloc), Heap::new(alloc)];
+    let bud = Judgement::Entail(
+        heap(alloc, &[Pure::Eq(V2, V3)], &[two(V2, V3), two(V3, V2)])?,
+        Disjuncts::from_slice(alloc, &empty)?,
+    );
+    let found = all_links(alloc, &bud, &companion, 7, 0, 99)?;
+    assert_eq!(rt; found.len(), 16);
+    assert!(rt; are_same(&found, &every_link(alloc, &bud, &companion)?));
+    let apart = Judgement::Entail(
+        heap(alloc, &[], &[two(V2, V3), two(V3, V2)])?,
+        Disjuncts::from_slice(alloc, &empty)?,
+    );
+    let found = all_links(alloc, &apart, &companion, 7, 0, 99)?;
+    assert_eq!(rt; found.len(), 4);
+    assert!(rt; are_same(&found, &every_link(alloc, &apart, &companion)?));
+    Ok(())
+}
