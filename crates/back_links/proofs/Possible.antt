@@ -34,7 +34,7 @@ both_true : (a b : Bool) → a ≡ true → b ≡ true → a && b ≡ true
 both_true true b p q = q
 both_true false b p q = p
 
-cond_none : (b : Bool) (rest : Option RuleFault) (f : RuleFault) → cond b rest (Some f) ≡ None → (b ≡ true) × (rest ≡ None)
+pub cond_none : (b : Bool) (rest : Option RuleFault) (f : RuleFault) → cond b rest (Some f) ≡ None → (b ≡ true) × (rest ≡ None)
 cond_none true rest f e = (refl, e)
 cond_none false rest f e = cc
 

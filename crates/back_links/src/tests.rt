@@ -222,70 +222,103 @@ fn faults_of_disjuncts(rt: HostRuntime) -> Result<(), Fail> {
     Ok(())
 }
 
+fn fault_of(
+    alloc: Global,
+    bud: &Judgement,
+    companion: &Judgement,
+    whole: LinkParts<'_>,
+) -> Result<Option<RuleFault>, OutOfMemory> {
+    Ok(link_fault(bud, companion, &link(alloc, whole)?, 1))
+}
+
 #[test]
-fn faults_of_the_whole(rt: HostRuntime) -> Result<(), Fail> {
+fn faults_of_left_atoms(rt: HostRuntime) -> Result<(), Fail> {
     let alloc = rt.alloc();
-    let same = [(0, V0)];
     let like = to_empty(alloc, &[], &[one(V0), one(V0)])?;
     let less = to_empty(alloc, &[], &[one(V0)])?;
-    let runs = from(alloc, 1, &[one(V0)])?;
-    let later = from(alloc, 2, &[one(V0)])?;
-    let twice = parts(&[0, 0], &same, &[0]);
-    let first = parts(&[0], &same, &[0]);
-    let alone = parts(&[0], &same, &[]);
-    let moved = parts(&[0], &[(0, NIL)], &[]);
-    let found = [
-        link_fault(&like, &like, &link(alloc, twice)?, 0),
-        link_fault(&like, &less, &link(alloc, first)?, 0),
-        link_fault(&like, &runs, &link(alloc, alone)?, 1),
-        link_fault(&runs, &less, &link(alloc, first)?, 1),
-        link_fault(&runs, &later, &link(alloc, alone)?, 1),
-        link_fault(&runs, &runs, &link(alloc, moved)?, 1),
-        link_fault(&runs, &runs, &link(alloc, first)?, 1),
-        link_fault(&runs, &runs, &link(alloc, alone)?, 1),
-    ];
-    let wanted = [
-        Some(RuleFault::LinkSpatial(1)),
-        Some(RuleFault::LinkSpatial(1)),
-        Some(RuleFault::WrongJudgement),
-        Some(RuleFault::WrongJudgement),
-        Some(RuleFault::LineDiffers),
-        Some(RuleFault::LinkProgramVariable),
-        Some(RuleFault::LinkDisjunct(0)),
-        None,
-    ];
-    assert_eq!(rt; found.as_slice(), wanted.as_slice());
+    let twice = parts(&[0, 0], &[(0, V0)], &[0]);
+    let first = parts(&[0], &[(0, V0)], &[0]);
+    let left = Some(RuleFault::LinkSpatial(1));
+    assert_eq!(rt; fault_of(alloc, &like, &like, twice), Ok(left));
+    assert_eq!(rt; fault_of(alloc, &like, &less, first), Ok(left));
     Ok(())
 }
 
 #[test]
-fn links_of_entailments(rt: HostRuntime) -> Result<(), Fail> {
+fn faults_of_runs(rt: HostRuntime) -> Result<(), Fail> {
+    let alloc = rt.alloc();
+    let less = to_empty(alloc, &[], &[one(V0)])?;
+    let runs = from(alloc, 1, &[one(V0)])?;
+    let later = from(alloc, 2, &[one(V0)])?;
+    let first = parts(&[0], &[(0, V0)], &[0]);
+    let alone = parts(&[0], &[(0, V0)], &[]);
+    let moved = parts(&[0], &[(0, NIL)], &[]);
+    let wrong = Some(RuleFault::WrongJudgement);
+    let sent = Some(RuleFault::LinkProgramVariable);
+    let long = Some(RuleFault::LinkDisjunct(0));
+    assert_eq!(rt; fault_of(alloc, &less, &runs, alone), Ok(wrong));
+    assert_eq!(rt; fault_of(alloc, &runs, &less, first), Ok(wrong));
+    assert_eq!(rt;
+        fault_of(alloc, &runs, &later, alone),
+        Ok(Some(RuleFault::LineDiffers))
+    );
+    assert_eq!(rt; fault_of(alloc, &runs, &runs, moved), Ok(sent));
+    assert_eq!(rt; fault_of(alloc, &runs, &runs, first), Ok(long));
+    assert_eq!(rt; fault_of(alloc, &runs, &runs, alone), Ok(None));
+    Ok(())
+}
+
+fn has_links(
+    alloc: Global,
+    bud: &Judgement,
+    companion: &Judgement,
+    most: u32,
+    rows: &[LinkParts<'_>],
+) -> Result<bool, OutOfMemory> {
+    Ok(are_made_of(&all_links(alloc, bud, companion, 7, 1, most)?, rows))
+}
+
+#[test]
+fn links_of_like_atoms(rt: HostRuntime) -> Result<(), Fail> {
     let alloc = rt.alloc();
     let like = to_empty(alloc, &[], &[one(V0), one(V0)])?;
-    let found = all_links(alloc, &like, &like, 7, 0, 9)?;
     let swapped = [
         parts(&[0, 1], &[(0, V0)], &[0]),
         parts(&[1, 0], &[(0, V0)], &[0]),
     ];
-    assert!(rt; are_made_of(&found, &swapped));
+    assert_eq!(rt; has_links(alloc, &like, &like, 9, &swapped), Ok(true));
+    let bud = to_empty(alloc, &[], &[cell(V1), one(V0)])?;
+    assert_eq!(rt; has_links(alloc, &bud, &like, 9, &[]), Ok(true));
+    Ok(())
+}
+
+#[test]
+fn links_of_a_cell(rt: HostRuntime) -> Result<(), Fail> {
+    let alloc = rt.alloc();
     let bud = to_empty(alloc, &[Pure::Eq(V1, V2)], &[cell(V1)])?;
     let companion = to_empty(alloc, &[], &[cell(V0)])?;
     let equated = [parts(&[0], &[(0, V1)], &[0]), parts(&[0], &[(0, V2)], &[0])];
-    assert!(rt; are_made_of(&all_links(alloc, &bud, &companion, 7, 0, 2)?, &equated));
-    assert!(rt; are_made_of(&all_links(alloc, &bud, &companion, 7, 0, 1)?, &equated[..1]));
-    assert!(rt; are_made_of(&all_links(alloc, &bud, &companion, 7, 0, 0)?, &[]));
-    assert!(rt; are_made_of(&all_links(alloc, &bud, &like, 7, 0, 9)?, &[]));
+    assert_eq!(rt; has_links(alloc, &bud, &companion, 2, &equated), Ok(true));
+    assert_eq!(rt;
+        has_links(alloc, &bud, &companion, 1, &equated[..1]),
+        Ok(true)
+    );
+    assert_eq!(rt; has_links(alloc, &bud, &companion, 0, &[]), Ok(true));
     Ok(())
+}
+
+/// `|- true : emp | $1 = $1 : emp`, without atoms on the left
+fn free_bud(alloc: Global) -> Result<Judgement, OutOfMemory> {
+    let mut all = Vec::new(alloc);
+    all.push(Heap::new(alloc))?;
+    all.push(heap(alloc, &[Pure::Eq(V1, V1)], &[])?)?;
+    Ok(Judgement::Entail(Heap::new(alloc), Disjuncts::from_slice(alloc, &all[..])?))
 }
 
 #[test]
 fn links_by_value_then_by_disjunct(rt: HostRuntime) -> Result<(), Fail> {
     let alloc = rt.alloc();
-    let trivial = heap(alloc, &[Pure::Eq(V1, V1)], &[])?;
-    let bud = Judgement::Entail(
-        Heap::new(alloc),
-        Disjuncts::from_slice(alloc, &[Heap::new(alloc), trivial])?,
-    );
+    let bud = free_bud(alloc)?;
     let right = heap(alloc, &[Pure::Eq(V0, V0)], &[])?;
     let companion = Judgement::Entail(Heap::new(alloc), Disjuncts::single(alloc, right)?);
     let rows = [
@@ -294,30 +327,38 @@ fn links_by_value_then_by_disjunct(rt: HostRuntime) -> Result<(), Fail> {
         parts(&[], &[(0, V1)], &[0]),
         parts(&[], &[(0, V1)], &[1]),
     ];
-    assert!(rt; are_made_of(&all_links(alloc, &bud, &companion, 7, 0, 9)?, &rows));
-    assert!(rt; are_made_of(&all_links(alloc, &bud, &companion, 7, 0, 3)?, &rows[..3]));
+    assert_eq!(rt; has_links(alloc, &bud, &companion, 9, &rows), Ok(true));
+    assert_eq!(rt; has_links(alloc, &bud, &companion, 3, &rows[..3]), Ok(true));
     Ok(())
+}
+
+/// Whether these are the links to `from 3 given true : P0($0) * P0($1)`, where `$0` is a program variable.
+fn has_run_links(
+    alloc: Global,
+    line: u32,
+    atoms: &[Spatial],
+    rows: &[LinkParts<'_>],
+) -> Result<bool, OutOfMemory>
+    requires { length atoms.now ≤ 32 }
+{
+    let companion = from(alloc, 3, &[one(V0), one(V1)])?;
+    has_links(alloc, &from(alloc, line, atoms)?, &companion, 9, rows)
 }
 
 #[test]
 fn links_of_runs(rt: HostRuntime) -> Result<(), Fail> {
     let alloc = rt.alloc();
-    let companion = from(alloc, 3, &[one(V0), one(V1)])?;
-    let turned = from(alloc, 3, &[one(V1), one(V0)])?;
-    let lacking = from(alloc, 3, &[one(V1), one(V2)])?;
-    let longer = from(alloc, 3, &[one(V1), one(V0), one(V2)])?;
-    let later = from(alloc, 4, &[one(V1), one(V0)])?;
-    let entailment = to_empty(alloc, &[], &[one(V0), one(V1)])?;
-    let one_way = [parts(&[1, 0], &[(0, V0), (1, V1)], &[])];
-    let two_ways = [
+    let turned = [one(V1), one(V0)];
+    let lacking = [one(V1), one(V2)];
+    let longer = [one(V1), one(V0), one(V2)];
+    let rows = [
         parts(&[1, 0], &[(0, V0), (1, V1)], &[]),
         parts(&[1, 2], &[(0, V0), (1, V2)], &[]),
     ];
-    assert!(rt; are_made_of(&all_links(alloc, &turned, &companion, 7, 1, 9)?, &one_way));
-    assert!(rt; are_made_of(&all_links(alloc, &longer, &companion, 7, 1, 9)?, &two_ways));
-    assert!(rt; are_made_of(&all_links(alloc, &lacking, &companion, 7, 1, 9)?, &[]));
-    assert!(rt; are_made_of(&all_links(alloc, &later, &companion, 7, 1, 9)?, &[]));
-    assert!(rt; are_made_of(&all_links(alloc, &entailment, &companion, 7, 1, 9)?, &[]));
+    assert_eq!(rt; has_run_links(alloc, 3, &turned, &rows[..1]), Ok(true));
+    assert_eq!(rt; has_run_links(alloc, 3, &longer, &rows), Ok(true));
+    assert_eq!(rt; has_run_links(alloc, 3, &lacking, &[]), Ok(true));
+    assert_eq!(rt; has_run_links(alloc, 4, &turned, &[]), Ok(true));
     Ok(())
 }
 
@@ -375,24 +416,27 @@ fn every_link(
     Ok(all)
 }
 
+/// Whether all links are those that trying every candidate finds, and are so many.
+fn is_complete(alloc: Global, pure: &[Pure], count: usize) -> Result<bool, OutOfMemory>
+    requires { length pure.now ≤ 64 }
+{
+    let companion = to_empty(alloc, &[], &[two(V0, V1), two(V1, V0)])?;
+    let mut empty = Vec::new(alloc);
+    empty.push(Heap::new(alloc))?;
+    empty.push(Heap::new(alloc))?;
+    let bud = Judgement::Entail(
+        heap(alloc, pure, &[two(V2, V3), two(V3, V2)])?,
+        Disjuncts::from_slice(alloc, &empty[..])?,
+    );
+    let found = all_links(alloc, &bud, &companion, 7, 0, 99)?;
+    let tried = every_link(alloc, &bud, &companion)?;
+    Ok(found.len() == count && are_same(&found, &tried))
+}
+
 #[test]
 fn links_are_those_of_trying_all(rt: HostRuntime) -> Result<(), Fail> {
     let alloc = rt.alloc();
-    let companion = to_empty(alloc, &[], &[two(V0, V1), two(V1, V0)])?;
-    let empty = [Heap::new(alloc), Heap::new(alloc)];
-    let bud = Judgement::Entail(
-        heap(alloc, &[Pure::Eq(V2, V3)], &[two(V2, V3), two(V3, V2)])?,
-        Disjuncts::from_slice(alloc, &empty)?,
-    );
-    let found = all_links(alloc, &bud, &companion, 7, 0, 99)?;
-    assert_eq!(rt; found.len(), 16);
-    assert!(rt; are_same(&found, &every_link(alloc, &bud, &companion)?));
-    let apart = Judgement::Entail(
-        heap(alloc, &[], &[two(V2, V3), two(V3, V2)])?,
-        Disjuncts::from_slice(alloc, &empty)?,
-    );
-    let found = all_links(alloc, &apart, &companion, 7, 0, 99)?;
-    assert_eq!(rt; found.len(), 4);
-    assert!(rt; are_same(&found, &every_link(alloc, &apart, &companion)?));
+    assert_eq!(rt; is_complete(alloc, &[Pure::Eq(V2, V3)], 16), Ok(true));
+    assert_eq!(rt; is_complete(alloc, &[], 4), Ok(true));
     Ok(())
 }
