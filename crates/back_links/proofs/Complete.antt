@@ -1,7 +1,7 @@
 -- Each link without a fault, and with a substitution of the form that is wanted, is among the links.
-use Rattle.std.proofs.Common.{◌≡◌, ℕ, zero, suc, ◌+◌, ◌<◌, ◌≤◌, Bool, true, false, not, ◌&&◌, cond, List, [], ◌∷◌, ◌++◌, map, length, Option, Some, None, refl, sym, ap, ◌∙◌, subst, inl, inr, arith}
+use Rattle.std.proofs.Common.{◌≡◌, ℕ, suc, ◌+◌, ◌<◌, Bool, true, false, not, ◌&&◌, cond, List, [], ◌∷◌, ◌++◌, map, length, Option, Some, None, refl, sym, ap, ◌∙◌, subst, inl, inr, arith}
 use Rattle.std.specs.Prelude.{slice_get}
-use Rattle.std.specs.List.{filter, flat_map, range_with_len}
+use Rattle.std.specs.List.{filter, flat_map}
 use Rattle.std.specs.Option.{is_none}
 use Rattle.std.proofs.lemmas.Option.{slice_get_within}
 use Rattle.heap_formula.specs.declared.terms.Term.{Term}
@@ -19,9 +19,9 @@ use Rattle.rule_table.specs.Answer.{disjuncts}
 use Rattle.rule_table.specs.Tests.{has_number}
 use Rattle.rule_table.specs.LinkTable.{matches_some, spatial_fault, covers_some, disjunct_fault, link_fault}
 use Rattle.rule_table.proofs.Reflects.{both}
-use Rattle.back_links.specs.Listing.{selections, numbers, number_choices, value_choices, values_of, universals, IsMade, maps, substitutions, covers, link_of, candidates, links}
+use Rattle.back_links.specs.Listing.{selections, number_choices, value_choices, values_of, universals, IsMade, maps, substitutions, covers, link_of, candidates, links}
 use Rattle.back_links.proofs.Selecting.{IsSelection, stands_in_range}
-use Rattle.back_links.proofs.Possible.{Fits, fits, cond_none}
+use Rattle.back_links.proofs.Possible.{fits, cond_none}
 
 -- ---- members of lists
 

@@ -1,7 +1,7 @@
 -- A link without a fault meets what its first choices must.
-use Rattle.std.proofs.Common.{◌≡◌, ◌≢◌, ℕ, zero, suc, ◌+◌, ◌<◌, ◌≤◌, Bool, true, false, not, ◌&&◌, ◌||◌, ◌⊎◌, cond, List, [], ◌∷◌, ◌++◌, map, length, get_or, Option, Some, None, refl, sym, ap, ◌∙◌, subst, inl, inr, arith, leb-true, append_assoc}
-use Rattle.std.specs.Prelude.{slice_get, nat_eq, nat_le, if◌then◌else◌}
-use Rattle.std.specs.List.{list_any, list_all}
+use Rattle.std.proofs.Common.{◌≡◌, ℕ, zero, suc, ◌+◌, ◌<◌, Bool, true, false, not, ◌&&◌, ◌||◌, ◌⊎◌, cond, List, [], ◌∷◌, ◌++◌, map, length, get_or, Option, Some, None, refl, sym, ap, ◌∙◌, subst, inl, inr, arith, append_assoc}
+use Rattle.std.specs.Prelude.{slice_get, nat_eq, nat_le}
+use Rattle.std.specs.List.{list_all}
 use Rattle.std.proofs.lemmas.List.{append-nil}
 use Rattle.std.proofs.lemmas.Bool.{cases_lt, leb-false}
 use Rattle.std.proofs.lemmas.Bool.Decides.{Decides-eqb}
@@ -26,7 +26,7 @@ use Rattle.rule_table.specs.Tests.{same_term, equated, follows, has_number}
 use Rattle.rule_table.specs.LinkTable.{first_of, fault_unless, keeps_below, pure_fault, all_equated, matches, matches_some, spatial_fault, covers_some, disjunct_fault, parts_fault, link_fault}
 use Rattle.rule_table.proofs.LinkRule.{none_of_two, no_fault}
 use Rattle.rule_table.proofs.Reflects.{both, same_term_is}
-use Rattle.back_links.specs.Listing.{numbers, value_choices, stands_in_spatial}
+use Rattle.back_links.specs.Listing.{value_choices, stands_in_spatial}
 use Rattle.back_links.specs.Prospects.{lookup, known, could_equal, could_equal_all, could_match, could_match_some, could_match_all, both_known, known_pure, could_follow, could_keep, kept_variables, could_link, has_value, have_values, are_alike, has_cover, have_covers}
 use Rattle.back_links.proofs.Selecting.{IsSelection, every_true, any_true, any_in_range}
 

@@ -1,5 +1,5 @@
 -- All links of a bud to a companion.
-use Rattle.std.specs.Prelude.{◌≡◌, ℕ, List, [], ◌∷◌, map, length, Bool, false, ◌||◌}
+use Rattle.std.specs.Prelude.{◌≡◌, ℕ, List, [], ◌∷◌, map, length, Bool, ◌||◌}
 use Rattle.std.specs.List.{filter, flat_map, range_with_len, list_any}
 use Rattle.std.specs.Option.{is_none}
 use Rattle.heap_formula.specs.declared.terms.Term.{Term}

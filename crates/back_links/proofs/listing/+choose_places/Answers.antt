@@ -1,4 +1,4 @@
-use Rattle.std.proofs.Common.{◌≡◌, ℕ, false, ◌<◌, ◌≤◌, ◌++◌, ◌∷◌, [], List, length, take, drop, get_or, sym, ap, ◌∙◌, subst, arith}
+use Rattle.std.proofs.Common.{◌≡◌, ℕ, ◌<◌, ◌≤◌, ◌++◌, ◌∷◌, [], List, length, take, drop, sym, ap, ◌∙◌, subst, arith}
 use Rattle.std.specs.Result.{OnOk}
 use Rattle.heap_formula.specs.Symbolic.{SymbolicHeap}
 use Rattle.std.proofs.lemmas.Bool.Decides.{nat_tests}
@@ -6,7 +6,6 @@ use Rattle.heap_formula.specs.declared.atoms.Spatial.{Spatial}
 use Rattle.heap_formula.specs.declared.proof_rules.Link.{Link}
 use Rattle.heap_formula.specs.Judgements.{antecedent}
 use Rattle.back_links.specs.Listing.{number_choices}
-use Rattle.back_links.specs.Prospects.{could_place}
 use Rattle.back_links.specs.Branches.{by_places}
 use Rattle.back_links.proofs.Selecting.{number_next, number_cut, numbers_done, emptied, tail_is}
 use Rattle.back_links.proofs.Cuts.{places_end, places_all, could_cut}

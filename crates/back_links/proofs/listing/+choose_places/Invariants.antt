@@ -1,4 +1,4 @@
-use Rattle.std.proofs.Common.{◌≡◌, ◌≤◌, ◌-◌, ◌+◌, ◌++◌, ◌∷◌, [], take, drop, length, map, suc, get_or}
+use Rattle.std.proofs.Common.{◌≡◌, ◌≤◌, ◌-◌, ◌++◌, ◌∷◌, [], take, drop, length}
 use Rattle.std.specs.List.{flat_map, range_with_len}
 use Rattle.heap_formula.specs.Judgements.{antecedent}
 use Rattle.back_links.specs.Branches.{by_places}

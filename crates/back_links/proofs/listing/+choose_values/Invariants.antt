@@ -1,5 +1,5 @@
-use Rattle.std.proofs.Common.{◌≡◌, ◌≤◌, ◌-◌, ◌+◌, ◌++◌, ◌∷◌, [], take, drop, length, map, suc, get_or}
-use Rattle.std.specs.List.{flat_map, range_with_len}
+use Rattle.std.proofs.Common.{◌≡◌, ◌≤◌, ◌++◌, ◌∷◌, [], take, drop, length, get_or}
+use Rattle.std.specs.List.{flat_map}
 use Rattle.back_links.specs.Branches.{by_pairs}
 use Rattle.back_links.specs.Listing.{value_choices}
 use Rattle.back_links.proofs.listing.+choose_values.Given as goal

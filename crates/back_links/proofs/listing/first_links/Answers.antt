@@ -1,6 +1,4 @@
-use Rattle.std.proofs.Common.{◌≡◌, ℕ, [], List, ◌++◌, false, take, sym, ap, ◌∙◌}
-use Rattle.heap_formula.specs.declared.terms.Term.{Term}
-use Rattle.heap_formula.specs.declared.atoms.Spatial.{Spatial}
+use Rattle.std.proofs.Common.{◌≡◌, [], List, ◌++◌, take, sym, ap, ◌∙◌}
 use Rattle.heap_formula.specs.declared.proof_rules.Link.{Link}
 use Rattle.heap_formula.specs.Symbolic.{SymbolicHeap}
 use Rattle.heap_formula.specs.Judgements.{antecedent}
