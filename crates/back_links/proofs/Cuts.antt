@@ -1,5 +1,5 @@
 -- Branches without a link, and the branches of the whole.
-use Rattle.std.proofs.Common.{◌≡◌, ◌≢◌, ℕ, zero, suc, ◌+◌, ◌<◌, ◌≤◌, Bool, true, false, not, ◌&&◌, ◌||◌, cond, List, [], ◌∷◌, ◌++◌, map, length, get_or, drop, Option, Some, None, refl, sym, ap, ◌∙◌, subst, inl, inr, arith, append_assoc, drop-cons, length-append}
+use Rattle.std.proofs.Common.{◌≡◌, ◌≢◌, ℕ, suc, ◌<◌, ◌≤◌, Bool, true, false, not, ◌&&◌, cond, List, [], ◌∷◌, ◌++◌, map, length, get_or, drop, Option, Some, None, refl, sym, ap, ◌∙◌, subst, arith, append_assoc, drop-cons, length-append}
 use Rattle.std.specs.Prelude.{slice_get}
 use Rattle.std.specs.List.{filter, flat_map, range_with_len}
 use Rattle.std.specs.Option.{is_none}
@@ -100,6 +100,7 @@ module _ (bud companion : Judgement) (target p : ℕ) where
     where
       right : Link → Bool
       right l = is_none (link_fault bud companion l p)
+
       inner : (ms : List ℕ) → filter right (flat_map (λ (s : Bindings). map (λ (ks : List ℕ). link_of target ms s ks) (covers bud companion)) (substitutions bud companion)) ≡ by_pairs bud companion target p ms [] (value_choices (values_of bud) (universals companion))
       inner ms =
           filter_flat_map right (λ (s : Bindings). map (λ (ks : List ℕ). link_of target ms s ks) (covers bud companion)) (substitutions bud companion)

@@ -4,3 +4,4 @@ mod Selecting
 mod Possible
 mod Cuts
 mod ProspectLoops
+mod Complete

@@ -1,7 +1,7 @@
 -- A link without a fault meets what its first choices must.
-use Rattle.std.proofs.Common.{◌≡◌, ◌≢◌, ℕ, zero, suc, ◌+◌, ◌<◌, ◌≤◌, Bool, true, false, not, ◌&&◌, ◌||◌, ◌⊎◌, cond, List, [], ◌∷◌, ◌++◌, map, length, get_or, Option, Some, None, refl, sym, ap, ◌∙◌, subst, inl, inr, arith, leb-true, append_assoc}
-use Rattle.std.specs.Prelude.{slice_get, nat_eq, nat_le, if◌then◌else◌}
-use Rattle.std.specs.List.{list_any, list_all}
+use Rattle.std.proofs.Common.{◌≡◌, ℕ, zero, suc, ◌+◌, ◌<◌, Bool, true, false, not, ◌&&◌, ◌||◌, ◌⊎◌, cond, List, [], ◌∷◌, ◌++◌, map, length, get_or, Option, Some, None, refl, sym, ap, ◌∙◌, subst, inl, inr, arith, append_assoc}
+use Rattle.std.specs.Prelude.{slice_get, nat_eq, nat_le}
+use Rattle.std.specs.List.{list_all}
 use Rattle.std.proofs.lemmas.List.{append-nil}
 use Rattle.std.proofs.lemmas.Bool.{cases_lt, leb-false}
 use Rattle.std.proofs.lemmas.Bool.Decides.{Decides-eqb}
@@ -26,7 +26,7 @@ use Rattle.rule_table.specs.Tests.{same_term, equated, follows, has_number}
 use Rattle.rule_table.specs.LinkTable.{first_of, fault_unless, keeps_below, pure_fault, all_equated, matches, matches_some, spatial_fault, covers_some, disjunct_fault, parts_fault, link_fault}
 use Rattle.rule_table.proofs.LinkRule.{none_of_two, no_fault}
 use Rattle.rule_table.proofs.Reflects.{both, same_term_is}
-use Rattle.back_links.specs.Listing.{numbers, value_choices, stands_in_spatial}
+use Rattle.back_links.specs.Listing.{value_choices, stands_in_spatial}
 use Rattle.back_links.specs.Prospects.{lookup, known, could_equal, could_equal_all, could_match, could_match_some, could_match_all, both_known, known_pure, could_follow, could_keep, kept_variables, could_link, has_value, have_values, are_alike, has_cover, have_covers}
 use Rattle.back_links.proofs.Selecting.{IsSelection, every_true, any_true, any_in_range}
 
@@ -34,7 +34,7 @@ both_true : (a b : Bool) → a ≡ true → b ≡ true → a && b ≡ true
 both_true true b p q = q
 both_true false b p q = p
 
-cond_none : (b : Bool) (rest : Option RuleFault) (f : RuleFault) → cond b rest (Some f) ≡ None → (b ≡ true) × (rest ≡ None)
+pub cond_none : (b : Bool) (rest : Option RuleFault) (f : RuleFault) → cond b rest (Some f) ≡ None → (b ≡ true) × (rest ≡ None)
 cond_none true rest f e = (refl, e)
 cond_none false rest f e = cc
 
@@ -115,6 +115,7 @@ module _ (s whole : Bindings) (agrees : Agrees s whole) (pures : List Pure) wher
       stays (Some v) e lt =
           let same : v ≡ Univ q.0 = sym (agrees q.0 v e) ∙ h q.0 lt in
           subst (λ (w : Term). same_term w (Univ q.0) ≡ true) (sym same) ((Decides-eqb q.0 q.0).1 refl)
+
       one : (b : Bool) → nat_le kept q.0 ≡ b → b || could_keep (lookup s q.0) q.0 ≡ true
       one true e = refl
       one false e = stays (lookup s q.0) refl (leb-false kept q.0 e)
@@ -183,8 +184,8 @@ module _ (bud companion : Judgement) (p : ℕ) where
       let a = antecedent bud in
       let b = antecedent companion in
       both_true (list_all (λ q. nat_le (kept_variables companion p) q.0 || could_keep (lookup s q.0) q.0) s) (could_match_all a.pure a.spatial s places b.spatial && list_all (λ x. could_follow a.pure (known_pure s x)) b.pure)
-        (keep_ok s whole agrees a.pure (kept_variables companion p) f.keeps s)
-        (both_true (could_match_all a.pure a.spatial s places b.spatial) (list_all (λ x. could_follow a.pure (known_pure s x)) b.pure) (match_all_ok s whole agrees a.pure a.spatial f.all [] 0 places rest b.spatial f.spatial) (follow_all_ok s whole agrees a.pure 0 b.pure f.pure))
+      (keep_ok s whole agrees a.pure (kept_variables companion p) f.keeps s)
+      (both_true (could_match_all a.pure a.spatial s places b.spatial) (list_all (λ x. could_follow a.pure (known_pure s x)) b.pure) (match_all_ok s whole agrees a.pure a.spatial f.all [] 0 places rest b.spatial f.spatial) (follow_all_ok s whole agrees a.pure 0 b.pure f.pure))
 
   module _ (values : List Term) where
     among : (n : ℕ) (m : ℕ) (q : ℕ × Term) (vs : List Term) → OneOf (λ r. r ≡ q) (map (λ v. (m, v)) vs) → (m ≡ q.0) × OneOf (λ v. v ≡ q.1) vs

@@ -76,15 +76,15 @@ any_true test x (y ∷ ys) (inr o) t = right (test y) (list_any test ys) (any_tr
     right true b p = refl
     right false b p = p
 
+pub stands_in_range : (a n m : ℕ) → a ≤ m → m < a + n → OneOf (λ k. k ≡ m) (range_with_len a n)
+stands_in_range a zero m low high = absurd (omega arith)
+stands_in_range a (suc n) m low high = elim (cases_lt a m) [
+  | inl more ↦ inr (stands_in_range (a + 1) n m (omega arith) (omega arith))
+  | inr le ↦ inl (omega arith)
+]
+
 pub any_in_range : (test : ℕ → Bool) (a n m : ℕ) → a ≤ m → m < a + n → test m ≡ true → list_any test (range_with_len a n) ≡ true
-any_in_range test a n m low high t = any_true test m (range_with_len a n) (stands a n low high) t
-  where
-    stands : (a n : ℕ) → a ≤ m → m < a + n → OneOf (λ k. k ≡ m) (range_with_len a n)
-    stands a zero low high = absurd (omega arith)
-    stands a (suc n) low high = elim (cases_lt a m) [
-      | inl more ↦ inr (stands (a + 1) n (omega arith) (omega arith))
-      | inr le ↦ inl (omega arith)
-    ]
+any_in_range test a n m low high t = any_true test m (range_with_len a n) (stands_in_range a n m low high) t
 
 -- ---- filters
 

@@ -1,5 +1,5 @@
 -- The links that begin with choices that are made.
-use Rattle.std.specs.Prelude.{ℕ, List, [], ◌∷◌, ◌++◌, map}
+use Rattle.std.specs.Prelude.{ℕ, List, [], ◌∷◌, ◌++◌}
 use Rattle.std.specs.List.{filter, flat_map}
 use Rattle.std.specs.Option.{is_none}
 use Rattle.heap_formula.specs.declared.terms.Term.{Term}

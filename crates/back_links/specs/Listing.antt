@@ -1,5 +1,5 @@
 -- All links of a bud to a companion.
-use Rattle.std.specs.Prelude.{ℕ, List, [], ◌∷◌, map, length, Bool, false, ◌||◌}
+use Rattle.std.specs.Prelude.{◌≡◌, ℕ, List, [], ◌∷◌, map, length, Bool, ◌||◌}
 use Rattle.std.specs.List.{filter, flat_map, range_with_len, list_any}
 use Rattle.std.specs.Option.{is_none}
 use Rattle.heap_formula.specs.declared.terms.Term.{Term}
@@ -10,6 +10,7 @@ use Rattle.heap_formula.specs.declared.atoms.Spatial.{Spatial}
 use Rattle.heap_formula.specs.declared.atoms.Spatial.TheVariants.{Cell, Pred}
 use Rattle.heap_formula.specs.declared.judgements.Judgement.{Judgement}
 use Rattle.heap_formula.specs.declared.proof_rules.Link.{Link}
+use Rattle.heap_formula.specs.Words.{OneOf}
 use Rattle.heap_formula.specs.Symbolic.{SymbolicHeap}
 use Rattle.heap_formula.specs.Fresh.{judgement_bound}
 use Rattle.heap_formula.specs.Judgements.{antecedent}
@@ -64,6 +65,13 @@ value_choices values sources = map (λ n. map (λ v. (n, v)) values) sources
 -- `nil`, and the bud's universal variables
 abbrev pub values_of : Judgement → List Term
 values_of bud = Nil ∷ map Univ (universals bud)
+
+-- the pairs have these sources, in this order, and some of the values
+abbrev pub IsMade : List Term → List ℕ → Bindings → Type 0
+IsMade values [] [] = Unit {0}
+IsMade values [] (q ∷ s) = ⊥
+IsMade values (n ∷ ns) [] = ⊥
+IsMade values (n ∷ ns) (q ∷ s) = (q.0 ≡ n) × OneOf (λ v. v ≡ q.1) values × IsMade values ns s
 
 -- an atom of the bud for each of the companion's
 abbrev pub maps : Judgement → Judgement → List (List ℕ)

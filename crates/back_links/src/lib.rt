@@ -7,6 +7,8 @@ mod faults;
 mod listing;
 mod matching;
 mod prospects;
+#[cfg(test)]
+mod tests;
 mod variables;
 
 pub use faults::link_fault;

@@ -1,8 +1,11 @@
 // All links from a bud to a companion, by depth-first search.
-ghost use Rattle.std.specs.Prelude.{◌≡◌, ◌≤◌, ◌∷◌, [], ◌++◌, drop, length, take, IfOk, OnOk};
+ghost use Rattle.std.specs.Prelude.{◌≡◌, ◌≤◌, ◌∷◌, [], ◌++◌, drop, length, take, IfOk, OnOk, None};
 ghost use Rattle.heap_formula.specs.Judgements.{antecedent as antecedent_of};
 ghost use Rattle.rule_table.specs.Answer.{disjuncts as disjuncts_of};
-ghost use Rattle.back_links.specs.Listing.{links, link_of, number_choices, value_choices};
+ghost use Rattle.back_links.specs.Listing.{links, link_of, number_choices, value_choices, values_of, universals as universals_of, IsMade};
+ghost use Rattle.heap_formula.specs.Words.{OneOf};
+ghost use Rattle.heap_formula.specs.declared.proof_rules.Link.{Link as LinkParts};
+ghost use Rattle.rule_table.specs.LinkTable.{link_fault as fault_of};
 ghost use Rattle.back_links.specs.Branches.{if_right, by_entries, by_pairs, by_places};
 
 use crate::covering::covers_at;
@@ -194,11 +197,7 @@ fn choose_places(
     Ok(())
 }
 
-/// The first `most` links from the bud to the companion, which is node `target`, that have no fault and whose
-/// substitution sends each universal variable of the companion, in ascending order, to `nil` or a universal variable of
-/// the bud; `p` is the number of program variables for `from` judgements and 0 for entailments. The order is by map, then
-/// by the substitution's values (`nil` first, then by number), then by disjuncts, each as lists.
-pub fn all_links(
+fn first_links(
     alloc: Global,
     bud: &Judgement,
     companion: &Judgement,
@@ -223,6 +222,30 @@ pub fn all_links(
         values: &values,
         most: most as usize,
     };
-    choose_places(alloc, &search, &[], antecedent(companion).spatial(), &mut found)?;
+    choose_places(
+        alloc,
+        &search,
+        &[],
+        antecedent(companion).spatial(),
+        &mut found,
+    )?;
     Ok(found)
+}
+
+/// The first `most` links from the bud to the companion, which is node `target`, that have no fault and whose
+/// substitution sends each universal variable of the companion, in ascending order, to `nil` or a universal variable of
+/// the bud; `p` is the number of program variables for `from` judgements and 0 for entailments. The order is by map, then
+/// by the substitution's values (`nil` first, then by number), then by disjuncts, each as lists.
+pub fn all_links(
+    alloc: Global,
+    bud: &Judgement,
+    companion: &Judgement,
+    target: u32,
+    p: u16,
+    most: u32,
+) -> Result<Vec<Link>, OutOfMemory>
+    ensures links { IfOk result (λ v. v.items ≡ take most (links bud.now companion.now target p)) }
+    ensures complete { (link : LinkParts) → link.target ≡ target → IsMade (values_of bud.now) (universals_of companion.now) link.subst → fault_of bud.now companion.now link p ≡ None → OneOf (λ l. l ≡ link) (links bud.now companion.now target p) }
+{
+    first_links(alloc, bud, companion, target, p, most)
 }

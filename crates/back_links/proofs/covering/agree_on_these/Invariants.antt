@@ -1,8 +1,6 @@
-use Rattle.std.proofs.Common.{◌≡◌, ◌+◌, ◌≤◌, ◌&&◌, map, drop, length}
-use Rattle.heap_formula.specs.Substitution.{apply_pure, apply_spatial, apply_heap}
-use Rattle.rule_table.specs.LinkTable.{counts_agree, all_follow, disjunct_fault, keeps_below}
-use Rattle.rule_table.specs.RuleLink.{count_of}
-use Rattle.rule_table.specs.Tests.{has_pure}
+use Rattle.std.proofs.Common.{◌≡◌, map, drop}
+use Rattle.heap_formula.specs.Substitution.{apply_spatial}
+use Rattle.rule_table.specs.LinkTable.{counts_agree}
 use Rattle.back_links.proofs.covering.agree_on_these.Given as goal
 
 abbrev pub invariant-loop-z : goal.invariant-loop-z

@@ -1,8 +1,5 @@
-use Rattle.std.proofs.Common.{◌≡◌, ◌+◌, ◌≤◌, ◌&&◌, map, drop, length}
-use Rattle.heap_formula.specs.Substitution.{apply_pure, apply_spatial, apply_heap}
-use Rattle.rule_table.specs.LinkTable.{counts_agree, all_follow, disjunct_fault, keeps_below}
+use Rattle.std.proofs.Common.{◌≡◌, ◌+◌, ◌≤◌, drop}
 use Rattle.rule_table.specs.RuleLink.{count_of}
-use Rattle.rule_table.specs.Tests.{has_pure}
 use Rattle.back_links.proofs.covering.count_in.Given as goal
 
 abbrev pub invariant-loop-y : goal.invariant-loop-y

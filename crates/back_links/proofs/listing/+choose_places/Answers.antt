@@ -1,4 +1,4 @@
-use Rattle.std.proofs.Common.{◌≡◌, ℕ, false, ◌<◌, ◌≤◌, ◌++◌, ◌∷◌, [], List, length, take, drop, get_or, sym, ap, ◌∙◌, subst, arith}
+use Rattle.std.proofs.Common.{◌≡◌, ℕ, ◌<◌, ◌≤◌, ◌++◌, ◌∷◌, [], List, length, take, drop, sym, ap, ◌∙◌, subst, arith}
 use Rattle.std.specs.Result.{OnOk}
 use Rattle.heap_formula.specs.Symbolic.{SymbolicHeap}
 use Rattle.std.proofs.lemmas.Bool.Decides.{nat_tests}
@@ -6,7 +6,6 @@ use Rattle.heap_formula.specs.declared.atoms.Spatial.{Spatial}
 use Rattle.heap_formula.specs.declared.proof_rules.Link.{Link}
 use Rattle.heap_formula.specs.Judgements.{antecedent}
 use Rattle.back_links.specs.Listing.{number_choices}
-use Rattle.back_links.specs.Prospects.{could_place}
 use Rattle.back_links.specs.Branches.{by_places}
 use Rattle.back_links.proofs.Selecting.{number_next, number_cut, numbers_done, emptied, tail_is}
 use Rattle.back_links.proofs.Cuts.{places_end, places_all, could_cut}
@@ -40,5 +39,5 @@ returns-then-is_empty t c =
     let s = c.args.search.now in
     let none : length c.args.rest.now ≡ 0 = grind (arith, nat_tests, sym c.is_empty.ensures ∙ c.if-is_empty.true) in
     subst (λ (zs : List Link). OnOk c.choose_values.result (c.choose_values.new.found.items ≡ take s.most (c.args.found.now.items ++ zs)))
-      (places_end s.bud.now s.companion.now s.target s.variables s.values.now s.sources.now c.args.made.now ∙ ap (λ (xs : List Spatial). by_places s.bud.now s.companion.now s.target s.variables s.values.now s.sources.now c.args.made.now (number_choices (antecedent s.bud.now).spatial xs)) (sym (emptied c.args.rest.now none)))
-      c.choose_values.ensures
+    (places_end s.bud.now s.companion.now s.target s.variables s.values.now s.sources.now c.args.made.now ∙ ap (λ (xs : List Spatial). by_places s.bud.now s.companion.now s.target s.variables s.values.now s.sources.now c.args.made.now (number_choices (antecedent s.bud.now).spatial xs)) (sym (emptied c.args.rest.now none)))
+    c.choose_values.ensures

@@ -1,4 +1,4 @@
-use Rattle.std.proofs.Common.{◌≡◌, ℕ, false, ◌<◌, ◌≤◌, ◌++◌, ◌∷◌, [], List, length, take, drop, get_or, sym, ap, ◌∙◌, subst, arith}
+use Rattle.std.proofs.Common.{◌≡◌, ℕ, false, ◌<◌, ◌++◌, ◌∷◌, [], List, length, take, drop, get_or, sym, ap, ◌∙◌, subst, arith}
 use Rattle.std.specs.Result.{OnOk}
 use Rattle.std.proofs.lemmas.Bool.Decides.{nat_tests}
 use Rattle.heap_formula.specs.declared.terms.Term.{Term}
@@ -42,5 +42,5 @@ returns-then-is_empty t c =
     let s = c.args.search.now in
     let none : length c.args.rest.now ≡ 0 = grind (arith, nat_tests, sym c.is_empty.ensures ∙ c.if-is_empty.true) in
     subst (λ (zs : List Link). OnOk c.choose_covers.result (c.choose_covers.new.found.items ≡ take s.most (c.args.found.now.items ++ zs)))
-      (pairs_end s.bud.now s.companion.now s.target s.variables c.args.places.now c.args.made.now ∙ ap (λ (ns : List ℕ). by_pairs s.bud.now s.companion.now s.target s.variables c.args.places.now c.args.made.now (value_choices s.values.now ns)) (sym (emptied c.args.rest.now none)))
-      c.choose_covers.ensures
+    (pairs_end s.bud.now s.companion.now s.target s.variables c.args.places.now c.args.made.now ∙ ap (λ (ns : List ℕ). by_pairs s.bud.now s.companion.now s.target s.variables c.args.places.now c.args.made.now (value_choices s.values.now ns)) (sym (emptied c.args.rest.now none)))
+    c.choose_covers.ensures

@@ -1,7 +1,6 @@
-use Rattle.std.proofs.Common.{◌≡◌, [], List, false, sym, ap, ◌∙◌, ◌++◌}
+use Rattle.std.proofs.Common.{◌≡◌, [], false, sym, ap, ◌∙◌, ◌++◌}
 use Rattle.back_links.specs.Listing.{number_choices}
 use Rattle.back_links.specs.Branches.{by_entries}
-use Rattle.heap_formula.specs.Symbolic.{SymbolicHeap}
 use Rattle.heap_formula.specs.Substitution.{Bindings}
 use Rattle.rule_table.specs.Answer.{disjuncts}
 use Rattle.back_links.specs.Prospects.{have_covers}

@@ -1,8 +1,7 @@
-use Rattle.std.proofs.Common.{◌≡◌, sym, ◌∙◌, ap, true, get_or}
+use Rattle.std.proofs.Common.{sym, ◌∙◌, ap}
 use Rattle.heap_formula.specs.declared.terms.Term.TheVariants.{Nil}
 use Rattle.heap_formula.specs.declared.atoms.Pure.{Pure}
 use Rattle.heap_formula.specs.declared.atoms.Pure.TheVariants.{Eq}
-use Rattle.heap_formula.specs.Substitution.{apply_pure}
 use Rattle.rule_table.specs.Tests.{follows}
 use Rattle.back_links.proofs.LinkLoops.{pure_step}
 use Rattle.back_links.proofs.matching.pure_fault.Goals as goal

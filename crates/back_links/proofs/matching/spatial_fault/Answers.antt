@@ -1,4 +1,4 @@
-use Rattle.std.proofs.Common.{◌≡◌, ℕ, ◌<◌, ◌≤◌, sym, ◌∙◌, ap, arith, length, Some, not, ◌&&◌, take, get_or}
+use Rattle.std.proofs.Common.{◌≡◌, ℕ, ◌<◌, sym, ◌∙◌, ap, arith, length, Some, not, ◌&&◌, take, get_or}
 use Rattle.std.specs.Prelude.{slice_get}
 use Rattle.heap_formula.specs.declared.atoms.Spatial.{Spatial}
 use Rattle.heap_formula.specs.declared.proof_rules.RuleFault.TheVariants.{LinkSpatial}

@@ -1,4 +1,4 @@
-use Rattle.std.proofs.Common.{◌≡◌, drop, not, ◌||◌}
+use Rattle.std.proofs.Common.{◌≡◌, drop}
 use Rattle.std.specs.List.{list_all}
 use Rattle.back_links.specs.Prospects.{could_follow, known_pure}
 use Rattle.back_links.proofs.prospects.could_follow_all.Given as goal

@@ -1,4 +1,4 @@
-use Rattle.std.proofs.Common.{◌≡◌, drop, not, ◌||◌}
+use Rattle.std.proofs.Common.{◌≡◌, drop}
 use Rattle.std.specs.List.{list_any}
 use Rattle.std.proofs.Common.{[], ◌∷◌}
 use Rattle.back_links.specs.Prospects.{could_link}

@@ -1,4 +1,4 @@
-use Rattle.std.proofs.Common.{◌≡◌, drop, not, ◌||◌}
+use Rattle.std.proofs.Common.{◌≡◌, drop}
 use Rattle.std.specs.List.{list_all}
 use Rattle.back_links.specs.Prospects.{has_cover}
 use Rattle.back_links.proofs.prospects.have_covers.Given as goal

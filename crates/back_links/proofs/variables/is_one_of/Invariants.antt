@@ -1,6 +1,6 @@
-use Rattle.std.proofs.Common.{◌≡◌, drop, not, ◌||◌}
+use Rattle.std.proofs.Common.{◌≡◌, drop}
 use Rattle.std.specs.List.{list_any}
-use Rattle.heap_formula.specs.declared.terms.Term.TheVariants.{Nil, Univ}
+use Rattle.heap_formula.specs.declared.terms.Term.TheVariants.{Univ}
 use Rattle.rule_table.specs.Tests.{same_term}
 use Rattle.back_links.proofs.variables.is_one_of.Given as goal
 

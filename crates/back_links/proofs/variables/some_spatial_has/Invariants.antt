@@ -1,4 +1,4 @@
-use Rattle.std.proofs.Common.{◌≡◌, drop, not, ◌||◌}
+use Rattle.std.proofs.Common.{◌≡◌, drop}
 use Rattle.std.specs.List.{list_any}
 use Rattle.back_links.specs.Listing.{stands_in_spatial}
 use Rattle.back_links.proofs.variables.some_spatial_has.Given as goal

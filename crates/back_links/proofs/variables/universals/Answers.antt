@@ -1,5 +1,4 @@
-use Rattle.std.proofs.Common.{◌≡◌, ℕ, ◌++◌, ◌-◌, ◌+◌, sym, ◌∙◌, subst, List}
-use Rattle.std.specs.List.{filter, range_with_len}
+use Rattle.std.proofs.Common.{ℕ, sym, ◌∙◌}
 use Rattle.back_links.specs.Listing.{stands_in}
 use Rattle.back_links.proofs.Selecting.{kept_next, left_next}
 use Rattle.back_links.proofs.variables.universals.Goals.{then-stands_in+in_ok-push, else-stands_in}

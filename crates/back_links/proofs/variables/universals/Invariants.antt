@@ -1,4 +1,4 @@
-use Rattle.std.proofs.Common.{◌≡◌, ◌++◌, ◌-◌, ◌≤◌}
+use Rattle.std.proofs.Common.{◌≡◌, ◌++◌, ◌-◌}
 use Rattle.std.specs.List.{filter, range_with_len}
 use Rattle.back_links.specs.Listing.{stands_in}
 use Rattle.back_links.proofs.variables.universals.Given as goal
