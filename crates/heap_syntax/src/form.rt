@@ -18,18 +18,24 @@ pub trait TermForm<'a> {
     /// A term.
     type Term: Copy + Drop;
 
+    /// A term without where it lies in memory.
+    ghost Value: { Type 0 };
+
+    /// What a contract sees of a term.
+    ghost seen: { Self.Term → Value };
+
     /// The grammar of the terms.
-    ghost terms: { Self → Terms Self.Term };
+    ghost terms: { Self → Terms Value };
 
     /// Reads a term.
     fn read_term(&self, cursor: &mut Cursor<'_, 'a>) -> Result<Self::Term, Refusal>
-        ensures { Gives (λ x. (x, cursor.new)) result ((terms self.now).syntax.read cursor.old) };
+        ensures { Gives (λ x. (seen x, cursor.new)) result ((terms self.now).syntax.read cursor.old) };
 }
 
 /// How the spatial atoms over these terms are read: a name that begins a predicate atom may begin a term too.
 pub trait AtomForm<'a>: TermForm<'a> {
     /// The grammar of the spatial atoms.
-    ghost atoms: { Self → Syntax (Spatial Self.Term) };
+    ghost atoms: { Self → Syntax (Spatial Self.Value) };
 
     /// Reads a spatial atom.
     fn read_atom(
@@ -37,13 +43,13 @@ pub trait AtomForm<'a>: TermForm<'a> {
         alloc: Global,
         cursor: &mut Cursor<'_, 'a>,
     ) -> Result<SpatialTree<'a, Self::Term>, Refusal>
-        ensures { Gives (λ x. (spatial_of x, cursor.new)) result ((atoms self.now).read cursor.old) };
+        ensures { Gives (λ x. (spatial_of Self.seen x, cursor.new)) result ((atoms self.now).read cursor.old) };
 }
 
 /// How the terms are written.
 pub trait WrittenForm<'a>: TermForm<'a> {
     /// Writes a term.
     fn write_term(&self, tree: Self::Term, writer: &mut WordWriter) -> Result<(), OutOfMemory>
-        requires { (Self.terms self.now).syntax.fits tree }
-        ensures { OnOk result (writer.new ≡ write_all writer.old ((Self.terms self.now).syntax.words tree)) };
+        requires { (Self.terms self.now).syntax.fits (Self.seen tree) }
+        ensures { OnOk result (writer.new ≡ write_all writer.old ((Self.terms self.now).syntax.words (Self.seen tree))) };
 }

@@ -47,9 +47,14 @@ pub struct ProofForm {
 }
 
 impl<'a> TermForm<'a> for ProofForm {
+    ghost use Rattle.proof_syntax.specs.declared.tree.TermTree.{TermTree};
     ghost use Rattle.proof_syntax.specs.Grammar as grammar;
 
     type Term = TermTree;
+
+    ghost Value = { TermTree };
+
+    ghost seen = { λ t. t };
 
     ghost terms = { λ form. grammar.terms_of (grammar.terms form.universal) };
 
