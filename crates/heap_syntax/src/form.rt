@@ -13,7 +13,7 @@ use cyc_lex::WordWriter;
 use cyc_memory::OutOfMemory;
 use std::alloc::Global;
 
-/// The terms of a format, and how they are read.
+/// The terms of a format, how they are read, and the spatial atoms over them.
 pub trait TermForm<'a> {
     /// A term.
     type Term: Copy + Drop;
@@ -27,23 +27,23 @@ pub trait TermForm<'a> {
     /// The grammar of the terms.
     ghost terms: { Self → Terms Value };
 
+    /// The grammar of the spatial atoms over them.
+    ghost atoms: { Self → Syntax (Spatial Value) };
+
     /// Reads a term.
     fn read_term(&self, cursor: &mut Cursor<'_, 'a>) -> Result<Self::Term, Refusal>
         ensures { Gives (λ x. (seen x, cursor.new)) result ((terms self.now).syntax.read cursor.old) };
 }
 
-/// How the spatial atoms over these terms are read: a name that begins a predicate atom may begin a term too.
+/// How the spatial atoms are read: a name that begins a predicate atom may begin a term too.
 pub trait AtomForm<'a>: TermForm<'a> {
-    /// The grammar of the spatial atoms.
-    ghost atoms: { Self → Syntax (Spatial Self.Value) };
-
     /// Reads a spatial atom.
     fn read_atom(
         &self,
         alloc: Global,
         cursor: &mut Cursor<'_, 'a>,
     ) -> Result<SpatialTree<'a, Self::Term>, Refusal>
-        ensures { Gives (λ x. (spatial_of Self.seen x, cursor.new)) result ((atoms self.now).read cursor.old) };
+        ensures { Gives (λ x. (spatial_of Self.seen x, cursor.new)) result ((Self.atoms self.now).read cursor.old) };
 }
 
 /// How the terms are written.

@@ -58,6 +58,8 @@ impl<'a> TermForm<'a> for ProofForm {
 
     ghost terms = { λ form. grammar.terms_of (grammar.terms form.universal) };
 
+    ghost atoms = { λ form. grammar.spatial (grammar.terms form.universal) };
+
     #[tactic(auto, unfolding(crate::specs::Grammar::terms))]
     fn read_term(&self, cursor: &mut Cursor<'_, 'a>) -> Result<TermTree, Refusal> {
         if self.universal {
@@ -69,10 +71,6 @@ impl<'a> TermForm<'a> for ProofForm {
 }
 
 impl<'a> AtomForm<'a> for ProofForm {
-    ghost use Rattle.proof_syntax.specs.Grammar as grammar;
-
-    ghost atoms = { λ form. grammar.spatial (grammar.terms form.universal) };
-
     fn read_atom(
         &self,
         alloc: Global,
