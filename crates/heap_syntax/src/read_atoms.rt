@@ -13,8 +13,9 @@ use crate::word::{free_name, reserved_words};
 use cyc_grammar::{Cursor, Refusal};
 use std::alloc::Global;
 
+/// Reads `=` or `!=`; true at `=`.
 #[tactic(auto, unfolding(crate::specs::Grammar::sign))]
-fn sign(cursor: &mut Cursor<'_, '_>) -> Result<bool, Refusal>
+pub fn sign(cursor: &mut Cursor<'_, '_>) -> Result<bool, Refusal>
     ensures { Gives (λ x. (x, cursor.new)) result (sign.read cursor.old) }
 {
     if cursor.is_symbol_next("=") {
