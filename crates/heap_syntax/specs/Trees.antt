@@ -14,11 +14,14 @@ pub record Heap (T : Type 0) : Type 0 where
   pub pure : List (PureTree T)
   pub spatial : List (Spatial T)
 
--- ---- what a contract sees of the code's trees
+-- ---- what a contract sees of the code's trees, where it sees each term by seen
 
-abbrev pub spatial_of : {T : Type 0} → SpatialTree T → Spatial T
-spatial_of (spatials.Cell address fields) = Cell address fields.items
-spatial_of (spatials.Predicate name args) = Predicate name.now args.items
+abbrev pub pure_of : {T S : Type 0} → (T → S) → PureTree T → PureTree S
+pure_of seen p = record { left = seen p.left; is_equation = p.is_equation; right = seen p.right }
 
-abbrev pub heap_of : {T : Type 0} → HeapTree T → Heap T
-heap_of h = record { pure = h.pure.items; spatial = map spatial_of h.spatial.items }
+abbrev pub spatial_of : {T S : Type 0} → (T → S) → SpatialTree T → Spatial S
+spatial_of seen (spatials.Cell address fields) = Cell (seen address) (map seen fields.items)
+spatial_of seen (spatials.Predicate name args) = Predicate name.now (map seen args.items)
+
+abbrev pub heap_of : {T S : Type 0} → (T → S) → HeapTree T → Heap S
+heap_of seen h = record { pure = map (pure_of seen) h.pure.items; spatial = map (spatial_of seen) h.spatial.items }

@@ -1,11 +1,11 @@
 //! Writing terms and atoms.
 
-ghost use Rattle.std.specs.Prelude.{◌≡◌, OnOk};
+ghost use Rattle.std.specs.Prelude.{◌≡◌, map, OnOk};
 ghost use Rattle.cyc_lex.specs.Writing.{write_all};
 ghost use Rattle.cyc_grammar.specs.Syntax.{after, words_many, fits_many};
 ghost use Rattle.heap_syntax.specs.Words.{comma};
 ghost use Rattle.heap_syntax.specs.Grammar.{sign, pure, pures, fields, arguments, spatial};
-ghost use Rattle.heap_syntax.specs.Trees.{spatial_of};
+ghost use Rattle.heap_syntax.specs.Trees.{pure_of, spatial_of};
 
 use crate::form::WrittenForm;
 use crate::tree::{PureTree, SpatialTree};
@@ -25,8 +25,8 @@ fn write_sign(is_equation: bool, writer: &mut WordWriter) -> Result<(), OutOfMem
 
 #[tactic(auto, using(cyc_lex::proofs::WritingLaws::write_all_on), unfolding(crate::specs::Grammar::pure))]
 fn write_pure<'a, F: WrittenForm<'a>>(form: &F, tree: PureTree<F::Term>, writer: &mut WordWriter) -> Result<(), OutOfMemory>
-    requires { (pure (F.terms form.now).syntax).fits tree }
-    ensures { OnOk result (writer.new ≡ write_all writer.old ((pure (F.terms form.now).syntax).words tree)) }
+    requires { (pure (F.terms form.now).syntax).fits (pure_of F.seen tree) }
+    ensures { OnOk result (writer.new ≡ write_all writer.old ((pure (F.terms form.now).syntax).words (pure_of F.seen tree))) }
 {
     form.write_term(tree.left, writer)?;
     write_sign(tree.is_equation, writer)?;
@@ -38,8 +38,8 @@ fn write_more_pures<'a, F: WrittenForm<'a>>(
     trees: &[PureTree<F::Term>],
     writer: &mut WordWriter,
 ) -> Result<(), OutOfMemory>
-    requires { fits_many (after comma (pure (F.terms form.now).syntax)) trees.now }
-    ensures { OnOk result (writer.new ≡ write_all writer.old (words_many (after comma (pure (F.terms form.now).syntax)) trees.now)) }
+    requires { fits_many (after comma (pure (F.terms form.now).syntax)) (map (pure_of F.seen) trees.now) }
+    ensures { OnOk result (writer.new ≡ write_all writer.old (words_many (after comma (pure (F.terms form.now).syntax)) (map (pure_of F.seen) trees.now))) }
 {
     for tree in trees {
         writer.symbol(",")?;
@@ -54,8 +54,8 @@ pub fn write_pures<'a, F: WrittenForm<'a>>(
     trees: &[PureTree<F::Term>],
     writer: &mut WordWriter,
 ) -> Result<(), OutOfMemory>
-    requires { (pures (F.terms form.now)).fits trees.now }
-    ensures { OnOk result (writer.new ≡ write_all writer.old ((pures (F.terms form.now)).words trees.now)) }
+    requires { (pures (F.terms form.now)).fits (map (pure_of F.seen) trees.now) }
+    ensures { OnOk result (writer.new ≡ write_all writer.old ((pures (F.terms form.now)).words (map (pure_of F.seen) trees.now))) }
 {
     match trees {
         [] => {
@@ -75,8 +75,8 @@ fn write_more_terms<'a, F: WrittenForm<'a>>(
     trees: &[F::Term],
     writer: &mut WordWriter,
 ) -> Result<(), OutOfMemory>
-    requires { fits_many (after comma (F.terms form.now).syntax) trees.now }
-    ensures { OnOk result (writer.new ≡ write_all writer.old (words_many (after comma (F.terms form.now).syntax) trees.now)) }
+    requires { fits_many (after comma (F.terms form.now).syntax) (map F.seen trees.now) }
+    ensures { OnOk result (writer.new ≡ write_all writer.old (words_many (after comma (F.terms form.now).syntax) (map F.seen trees.now))) }
 {
     for tree in trees {
         writer.symbol(",")?;
@@ -91,8 +91,8 @@ fn write_fields<'a, F: WrittenForm<'a>>(
     trees: &[F::Term],
     writer: &mut WordWriter,
 ) -> Result<(), OutOfMemory>
-    requires { (fields (F.terms form.now)).fits trees.now }
-    ensures { OnOk result (writer.new ≡ write_all writer.old ((fields (F.terms form.now)).words trees.now)) }
+    requires { (fields (F.terms form.now)).fits (map F.seen trees.now) }
+    ensures { OnOk result (writer.new ≡ write_all writer.old ((fields (F.terms form.now)).words (map F.seen trees.now))) }
 {
     match trees {
         [] => unreachable!(),
@@ -110,8 +110,8 @@ fn write_arguments<'a, F: WrittenForm<'a>>(
     trees: &[F::Term],
     writer: &mut WordWriter,
 ) -> Result<(), OutOfMemory>
-    requires { (arguments (F.terms form.now)).fits trees.now }
-    ensures { OnOk result (writer.new ≡ write_all writer.old ((arguments (F.terms form.now)).words trees.now)) }
+    requires { (arguments (F.terms form.now)).fits (map F.seen trees.now) }
+    ensures { OnOk result (writer.new ≡ write_all writer.old ((arguments (F.terms form.now)).words (map F.seen trees.now))) }
 {
     match trees {
         [] => writer.symbol(")"),
@@ -125,8 +125,8 @@ pub fn write_spatial<'a, F: WrittenForm<'a>>(
     tree: &SpatialTree<'a, F::Term>,
     writer: &mut WordWriter,
 ) -> Result<(), OutOfMemory>
-    requires { (spatial (F.terms form.now)).fits (spatial_of tree.now) }
-    ensures { OnOk result (writer.new ≡ write_all writer.old ((spatial (F.terms form.now)).words (spatial_of tree.now))) }
+    requires { (spatial (F.terms form.now)).fits (spatial_of F.seen tree.now) }
+    ensures { OnOk result (writer.new ≡ write_all writer.old ((spatial (F.terms form.now)).words (spatial_of F.seen tree.now))) }
 {
     match tree {
         SpatialTree::Cell(address, fields) => {

@@ -13,37 +13,43 @@ use cyc_lex::WordWriter;
 use cyc_memory::OutOfMemory;
 use std::alloc::Global;
 
-/// The terms of a format, and how they are read.
+/// The terms of a format, how they are read, and the spatial atoms over them.
 pub trait TermForm<'a> {
     /// A term.
     type Term: Copy + Drop;
 
+    /// A term without where it lies in memory.
+    ghost Value: { Type 0 };
+
+    /// What a contract sees of a term.
+    ghost seen: { Self.Term → Value };
+
     /// The grammar of the terms.
-    ghost terms: { Self → Terms Self.Term };
+    ghost terms: { Self → Terms Value };
+
+    /// The grammar of the spatial atoms over them.
+    ghost atoms: { Self → Syntax (Spatial Value) };
 
     /// Reads a term.
     fn read_term(&self, cursor: &mut Cursor<'_, 'a>) -> Result<Self::Term, Refusal>
-        ensures { Gives (λ x. (x, cursor.new)) result ((terms self.now).syntax.read cursor.old) };
+        ensures { Gives (λ x. (seen x, cursor.new)) result ((terms self.now).syntax.read cursor.old) };
 }
 
-/// How the spatial atoms over these terms are read: a name that begins a predicate atom may begin a term too.
+/// How the spatial atoms are read: a name that begins a predicate atom may begin a term too.
 pub trait AtomForm<'a>: TermForm<'a> {
-    /// The grammar of the spatial atoms.
-    ghost atoms: { Self → Syntax (Spatial Self.Term) };
-
     /// Reads a spatial atom.
     fn read_atom(
         &self,
         alloc: Global,
         cursor: &mut Cursor<'_, 'a>,
     ) -> Result<SpatialTree<'a, Self::Term>, Refusal>
-        ensures { Gives (λ x. (spatial_of x, cursor.new)) result ((atoms self.now).read cursor.old) };
+        ensures { Gives (λ x. (spatial_of Self.seen x, cursor.new)) result ((Self.atoms self.now).read cursor.old) };
 }
 
 /// How the terms are written.
 pub trait WrittenForm<'a>: TermForm<'a> {
     /// Writes a term.
     fn write_term(&self, tree: Self::Term, writer: &mut WordWriter) -> Result<(), OutOfMemory>
-        requires { (Self.terms self.now).syntax.fits tree }
-        ensures { OnOk result (writer.new ≡ write_all writer.old ((Self.terms self.now).syntax.words tree)) };
+        requires { (Self.terms self.now).syntax.fits (Self.seen tree) }
+        ensures { OnOk result (writer.new ≡ write_all writer.old ((Self.terms self.now).syntax.words (Self.seen tree))) };
 }

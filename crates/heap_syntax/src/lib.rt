@@ -12,7 +12,7 @@ mod heap_writing;
 
 pub use form::{AtomForm, TermForm, WrittenForm};
 pub use mark::Mark;
-pub use read_atoms::{arguments, fields, spatial};
+pub use read_atoms::{arguments, fields, sign, spatial};
 pub use read_heaps::{heap, heaps};
 pub use tree::{HeapTree, PureTree, SpatialTree};
 pub use word::{free_name, reserved_words};

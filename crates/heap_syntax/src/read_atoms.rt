@@ -1,11 +1,11 @@
 //! Reading terms and atoms from the front of a list of tokens.
 
-ghost use Rattle.std.specs.Prelude.{◌≡◌, ◌++◌, ◌∷◌, []};
+ghost use Rattle.std.specs.Prelude.{◌≡◌, ◌++◌, ◌∷◌, [], map};
 ghost use Rattle.cyc_grammar.specs.Syntax.{many, after, is_one};
 ghost use Rattle.cyc_grammar.specs.Giving.{Gives, with_front};
 ghost use Rattle.heap_syntax.specs.Words.{comma};
 ghost use Rattle.heap_syntax.specs.Grammar.{sign, pure, pures, fields, arguments, spatial};
-ghost use Rattle.heap_syntax.specs.Trees.{spatial_of};
+ghost use Rattle.heap_syntax.specs.Trees.{pure_of, spatial_of};
 
 use crate::form::TermForm;
 use crate::tree::{PureTree, SpatialTree};
@@ -13,8 +13,9 @@ use crate::word::{free_name, reserved_words};
 use cyc_grammar::{Cursor, Refusal};
 use std::alloc::Global;
 
+/// Reads `=` or `!=`; true at `=`.
 #[tactic(auto, unfolding(crate::specs::Grammar::sign))]
-fn sign(cursor: &mut Cursor<'_, '_>) -> Result<bool, Refusal>
+pub fn sign(cursor: &mut Cursor<'_, '_>) -> Result<bool, Refusal>
     ensures { Gives (λ x. (x, cursor.new)) result (sign.read cursor.old) }
 {
     if cursor.is_symbol_next("=") {
@@ -27,7 +28,7 @@ fn sign(cursor: &mut Cursor<'_, '_>) -> Result<bool, Refusal>
 
 #[tactic(auto, unfolding(crate::specs::Grammar::pure))]
 fn pure<'a, F: TermForm<'a>>(form: &F, cursor: &mut Cursor<'_, 'a>) -> Result<PureTree<F::Term>, Refusal>
-    ensures { Gives (λ x. (x, cursor.new)) result ((pure (F.terms form.now).syntax).read cursor.old) }
+    ensures { Gives (λ x. (pure_of F.seen x, cursor.new)) result ((pure (F.terms form.now).syntax).read cursor.old) }
 {
     let left = form.read_term(cursor)?;
     let is_equation = sign(cursor)?;
@@ -45,8 +46,8 @@ fn more_pures<'a, F: TermForm<'a>>(
     mut items: Vec<PureTree<F::Term>>,
     cursor: &mut Cursor<'_, 'a>,
 ) -> Result<Vec<PureTree<F::Term>>, Refusal>
-    ensures { Gives (λ x. (x.items, cursor.new)) result
-        (with_front items.items ((many (is_one comma) (after comma (pure (F.terms form.now).syntax))).read cursor.old)) }
+    ensures { Gives (λ x. (map (pure_of F.seen) x.items, cursor.new)) result
+        (with_front (map (pure_of F.seen) items.items) ((many (is_one comma) (after comma (pure (F.terms form.now).syntax))).read cursor.old)) }
 {
     for _ in 0..cursor.left() {
         if !cursor.is_symbol_next(",") {
@@ -68,7 +69,7 @@ pub fn pures<'a, F: TermForm<'a>>(
     form: &F,
     cursor: &mut Cursor<'_, 'a>,
 ) -> Result<Vec<PureTree<F::Term>>, Refusal>
-    ensures { Gives (λ x. (x.items, cursor.new)) result ((pures (F.terms form.now)).read cursor.old) }
+    ensures { Gives (λ x. (map (pure_of F.seen) x.items, cursor.new)) result ((pures (F.terms form.now)).read cursor.old) }
 {
     let mut items = Vec::new(alloc);
     if cursor.is_keyword_next("true") {
@@ -88,8 +89,8 @@ fn more_terms<'a, F: TermForm<'a>>(
     mut items: Vec<F::Term>,
     cursor: &mut Cursor<'_, 'a>,
 ) -> Result<Vec<F::Term>, Refusal>
-    ensures { Gives (λ x. (x.items, cursor.new)) result
-        (with_front items.items ((many (is_one comma) (after comma (F.terms form.now).syntax)).read cursor.old)) }
+    ensures { Gives (λ x. (map F.seen x.items, cursor.new)) result
+        (with_front (map F.seen items.items) ((many (is_one comma) (after comma (F.terms form.now).syntax)).read cursor.old)) }
 {
     for _ in 0..cursor.left() {
         if !cursor.is_symbol_next(",") {
@@ -111,7 +112,7 @@ pub fn fields<'a, F: TermForm<'a>>(
     form: &F,
     cursor: &mut Cursor<'_, 'a>,
 ) -> Result<Vec<F::Term>, Refusal>
-    ensures { Gives (λ x. (x.items, cursor.new)) result ((fields (F.terms form.now)).read cursor.old) }
+    ensures { Gives (λ x. (map F.seen x.items, cursor.new)) result ((fields (F.terms form.now)).read cursor.old) }
 {
     let mut items = Vec::new(alloc);
     items.push(form.read_term(cursor)?)?;
@@ -127,7 +128,7 @@ pub fn arguments<'a, F: TermForm<'a>>(
     form: &F,
     cursor: &mut Cursor<'_, 'a>,
 ) -> Result<Vec<F::Term>, Refusal>
-    ensures { Gives (λ x. (x.items, cursor.new)) result ((arguments (F.terms form.now)).read cursor.old) }
+    ensures { Gives (λ x. (map F.seen x.items, cursor.new)) result ((arguments (F.terms form.now)).read cursor.old) }
 {
     if cursor.is_symbol_next(")") {
         cursor.symbol(")")?;
@@ -143,7 +144,7 @@ pub fn spatial<'a, F: TermForm<'a>>(
     form: &F,
     cursor: &mut Cursor<'_, 'a>,
 ) -> Result<SpatialTree<'a, F::Term>, Refusal>
-    ensures { Gives (λ x. (spatial_of x, cursor.new)) result ((spatial (F.terms form.now)).read cursor.old) }
+    ensures { Gives (λ x. (spatial_of F.seen x, cursor.new)) result ((spatial (F.terms form.now)).read cursor.old) }
 {
     if cursor.is_name_next(reserved_words()) {
         let name = free_name(cursor)?;

@@ -21,8 +21,8 @@ fn more_spatials<'a, F: AtomForm<'a>>(
     mut items: Vec<SpatialTree<'a, F::Term>>,
     cursor: &mut Cursor<'_, 'a>,
 ) -> Result<Vec<SpatialTree<'a, F::Term>>, Refusal>
-    ensures { Gives (λ x. (map spatial_of x.items, cursor.new)) result
-        (with_front (map spatial_of items.entry.items) ((many (is_one star) (after star (F.atoms form.now))).read cursor.old)) }
+    ensures { Gives (λ x. (map (spatial_of F.seen) x.items, cursor.new)) result
+        (with_front (map (spatial_of F.seen) items.entry.items) ((many (is_one star) (after star (F.atoms form.now))).read cursor.old)) }
 {
     for _ in 0..cursor.left() {
         if !cursor.is_symbol_next("*") {
@@ -43,7 +43,7 @@ fn spatials<'a, F: AtomForm<'a>>(
     form: &F,
     cursor: &mut Cursor<'_, 'a>,
 ) -> Result<Vec<SpatialTree<'a, F::Term>>, Refusal>
-    ensures { Gives (λ x. (map spatial_of x.items, cursor.new)) result ((spatials (F.terms form.now) (F.atoms form.now)).read cursor.old) }
+    ensures { Gives (λ x. (map (spatial_of F.seen) x.items, cursor.new)) result ((spatials (F.terms form.now) (F.atoms form.now)).read cursor.old) }
 {
     let mut items: Vec<SpatialTree<'a, F::Term>> = Vec::new(alloc);
     if cursor.is_keyword_next("emp") {
@@ -61,7 +61,7 @@ pub fn heap<'a, F: AtomForm<'a>>(
     form: &F,
     cursor: &mut Cursor<'_, 'a>,
 ) -> Result<HeapTree<'a, F::Term>, Refusal>
-    ensures { Gives (λ x. (heap_of x, cursor.new)) result ((heap (F.terms form.now) (F.atoms form.now)).read cursor.old) }
+    ensures { Gives (λ x. (heap_of F.seen x, cursor.new)) result ((heap (F.terms form.now) (F.atoms form.now)).read cursor.old) }
 {
     let pure = pures(alloc, form, cursor)?;
     let spatial = spatials(alloc, form, cursor)?;
@@ -76,8 +76,8 @@ fn more_heaps<'a, F: AtomForm<'a>>(
     mut items: Vec<HeapTree<'a, F::Term>>,
     cursor: &mut Cursor<'_, 'a>,
 ) -> Result<Vec<HeapTree<'a, F::Term>>, Refusal>
-    ensures { Gives (λ x. (map heap_of x.items, cursor.new)) result
-        (with_front (map heap_of items.entry.items) ((more_listed (marked between.now) (heap (F.terms form.now) (F.atoms form.now))).read cursor.old)) }
+    ensures { Gives (λ x. (map (heap_of F.seen) x.items, cursor.new)) result
+        (with_front (map (heap_of F.seen) items.entry.items) ((more_listed (marked between.now) (heap (F.terms form.now) (F.atoms form.now))).read cursor.old)) }
 {
     for _ in 0..cursor.left() {
         if !between.is_next(cursor) {
@@ -101,7 +101,7 @@ pub fn heaps<'a, F: AtomForm<'a>>(
     behind: &Mark<'_>,
     cursor: &mut Cursor<'_, 'a>,
 ) -> Result<Vec<HeapTree<'a, F::Term>>, Refusal>
-    ensures { Gives (λ x. (map heap_of x.items, cursor.new)) result
+    ensures { Gives (λ x. (map (heap_of F.seen) x.items, cursor.new)) result
         ((heaps (marked between.now) (marked behind.now) (heap (F.terms form.now) (F.atoms form.now))).read cursor.old) }
 {
     let mut items: Vec<HeapTree<'a, F::Term>> = Vec::new(alloc);

@@ -7,7 +7,8 @@ use Rattle.cyc_grammar.specs.Classes.{symbol, keyword, numeral, the_end, number,
 use Rattle.heap_syntax.specs.Grammar as shared
 use Rattle.heap_syntax.specs.Grammar.{Terms}
 pub use Rattle.heap_syntax.specs.Words.{nil, true_word, emp, pred_word, or_word, last_word, cyclist_word, version, equal, unequal, comma, colon, semicolon, star, bar, arrow, assign, turnstile, opening, closing, opening_brace, closing_brace, reserved, free_name}
-pub use Rattle.heap_syntax.specs.Grammar.{Any, cons, IsSome, sign, pure, some_heap}
+pub use Rattle.heap_syntax.specs.Grammar.{Any, cons, IsSome, some_heap}
+unfoldable pub use Rattle.heap_syntax.specs.Grammar.{sign, pure}
 use Rattle.proof_syntax.specs.declared.tree.TermTree.{TermTree}
 use Rattle.proof_syntax.specs.declared.tree.TermTree.TheVariants.{Nil, Univ, Exist}
 use Rattle.proof_syntax.specs.declared.tree.SideTree.{SideTree}

@@ -3,7 +3,10 @@ use Rattle.std.specs.Prelude.{ℕ, List, map}
 use Rattle.proof_syntax.specs.declared.tree.TermTree.{TermTree}
 use Rattle.heap_syntax.specs.declared.tree.PureTree.{PureTree as AnyPureTree}
 use Rattle.heap_syntax.specs.Trees as heaps
-pub use Rattle.heap_syntax.specs.Trees.{Cell, Predicate, spatial_of, heap_of}
+pub use Rattle.heap_syntax.specs.Trees.{Cell, Predicate}
+use Rattle.heap_syntax.specs.declared.tree.SpatialTree.{SpatialTree}
+use Rattle.heap_syntax.specs.declared.tree.SpatialTree.TheVariants as spatials
+use Rattle.heap_syntax.specs.declared.tree.HeapTree.{HeapTree}
 use Rattle.proof_syntax.specs.declared.tree.DefinitionTree.{DefinitionTree}
 use Rattle.proof_syntax.specs.declared.tree.EntailmentTree.{EntailmentTree}
 use Rattle.proof_syntax.specs.declared.tree.SideTree.{SideTree}
@@ -67,6 +70,13 @@ pub record File : Type 0 where
   pub nodes : List Node
 
 -- ---- what a contract sees of the code's trees
+
+abbrev pub spatial_of : SpatialTree TermTree → Spatial
+spatial_of (spatials.Cell address fields) = Cell address fields.items
+spatial_of (spatials.Predicate name args) = Predicate name.now args.items
+
+abbrev pub heap_of : HeapTree TermTree → Heap
+heap_of h = record { pure = h.pure.items; spatial = map spatial_of h.spatial.items }
 
 abbrev pub definition_of : DefinitionTree → Definition
 definition_of d = record { name = d.name.now; arity = d.arity; cases = map heap_of d.cases.items }

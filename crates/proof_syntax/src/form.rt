@@ -47,11 +47,18 @@ pub struct ProofForm {
 }
 
 impl<'a> TermForm<'a> for ProofForm {
+    ghost use Rattle.proof_syntax.specs.declared.tree.TermTree.{TermTree};
     ghost use Rattle.proof_syntax.specs.Grammar as grammar;
 
     type Term = TermTree;
 
+    ghost Value = { TermTree };
+
+    ghost seen = { λ t. t };
+
     ghost terms = { λ form. grammar.terms_of (grammar.terms form.universal) };
+
+    ghost atoms = { λ form. grammar.spatial (grammar.terms form.universal) };
 
     #[tactic(auto, unfolding(crate::specs::Grammar::terms))]
     fn read_term(&self, cursor: &mut Cursor<'_, 'a>) -> Result<TermTree, Refusal> {
@@ -64,10 +71,6 @@ impl<'a> TermForm<'a> for ProofForm {
 }
 
 impl<'a> AtomForm<'a> for ProofForm {
-    ghost use Rattle.proof_syntax.specs.Grammar as grammar;
-
-    ghost atoms = { λ form. grammar.spatial (grammar.terms form.universal) };
-
     fn read_atom(
         &self,
         alloc: Global,

@@ -9,13 +9,13 @@ ghost use Rattle.cyc_grammar.specs.Giving.{Gives, IsWithin, with_front, words};
 ghost use Rattle.proof_syntax.specs.Grammar.{cases, disjuncts, pred_word, node_word, definition, definitions, judgement, premises, node, more_nodes, nodes, body, file};
 ghost use Rattle.proof_syntax.specs.Trees.{File, heap_of, definition_of, entailment_of, node_of, file_of};
 
-use crate::form::ProofForm;
 use crate::number_list::more_numbers;
 use crate::read_reasons::reason;
+use crate::term_heaps::{heap, heaps};
 use crate::tree::{DefinitionTree, EntailmentTree, FileTree, HeapTree, NodeTree};
 use cyc_grammar::{Cursor, Refusal, read_fault};
 use cyc_lex::{ReadFault, Token, Tokens};
-use heap_syntax::{Mark, free_name, heap, heaps};
+use heap_syntax::{Mark, free_name};
 use std::alloc::Global;
 
 #[tactic(auto, unfolding(crate::specs::Grammar::cases))]
@@ -24,7 +24,6 @@ fn cases<'a>(alloc: Global, cursor: &mut Cursor<'_, 'a>) -> Result<Vec<HeapTree<
 {
     heaps(
         alloc,
-        &ProofForm { universal: false },
         &Mark::Symbol("|"),
         &Mark::Symbol("}"),
         cursor,
@@ -82,7 +81,6 @@ fn disjuncts<'a>(alloc: Global, cursor: &mut Cursor<'_, 'a>) -> Result<Vec<HeapT
 {
     heaps(
         alloc,
-        &ProofForm { universal: false },
         &Mark::Keyword("or"),
         &Mark::Keyword("by"),
         cursor,
@@ -93,7 +91,7 @@ fn disjuncts<'a>(alloc: Global, cursor: &mut Cursor<'_, 'a>) -> Result<Vec<HeapT
 fn judgement<'a>(alloc: Global, cursor: &mut Cursor<'_, 'a>) -> Result<EntailmentTree<'a>, Refusal>
     ensures { Gives (λ x. (entailment_of x, cursor.new)) result (judgement.read cursor.old) }
 {
-    let antecedent = heap(alloc, &ProofForm { universal: true }, cursor)?;
+    let antecedent = heap(alloc, true, cursor)?;
     cursor.symbol("|-")?;
     let disjuncts = disjuncts(alloc, cursor)?;
     Ok(EntailmentTree {

@@ -6,12 +6,12 @@ ghost use Rattle.cyc_grammar.specs.Giving.{Gives, with_front};
 ghost use Rattle.proof_syntax.specs.Grammar.{comma, numbers, bracketed, two_numbers, side, rewrite, split, cut, instantiate, pair, pairs1, pairs, link, Parts, parts, to_reason, reason_word, reason, parts_read};
 ghost use Rattle.proof_syntax.specs.Trees.{heap_of, link_of, reason_of};
 
-use crate::form::{ProofForm, universal_term};
+use crate::form::universal_term;
 use crate::number_list::more_numbers;
 use crate::reason_word::{ReasonWord, side_from_text};
+use crate::term_heaps::heap;
 use crate::tree::{HeapTree, LinkTree, PairTree, ReasonTree, SideTree, TermTree};
 use cyc_grammar::{Cursor, Refusal};
-use heap_syntax::heap;
 use std::alloc::Global;
 
 fn numbers(alloc: Global, cursor: &mut Cursor<'_, '_>) -> Result<Vec<u32>, Refusal>
@@ -78,7 +78,7 @@ fn cut<'a>(alloc: Global, cursor: &mut Cursor<'_, 'a>) -> Result<(Vec<u32>, Heap
     ensures { Gives (λ x. ((x.0.items, heap_of x.1), cursor.new)) result (cut.read cursor.old) }
 {
     let positions = bracketed(alloc, cursor)?;
-    let formula = heap(alloc, &ProofForm { universal: false }, cursor)?;
+    let formula = heap(alloc, false, cursor)?;
     Ok((positions, formula))
 }
 

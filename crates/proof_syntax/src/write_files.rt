@@ -7,13 +7,13 @@ ghost use Rattle.cyc_lex.specs.Writing.{write, write_all};
 ghost use Rattle.proof_syntax.specs.Grammar.{cases, disjuncts, definition, definitions, judgement, premises, node, more_nodes, nodes, body, file};
 ghost use Rattle.proof_syntax.specs.Trees.{heap_of, definition_of, entailment_of, node_of, file_of};
 
-use crate::form::ProofForm;
 use crate::number_list::write_numbers;
+use crate::term_heaps::{write_heap, write_heaps};
 use crate::tree::{DefinitionTree, EntailmentTree, FileTree, HeapTree, NodeTree};
 use crate::write_reasons::write_reason;
 use cyc_lex::WordWriter;
 use cyc_memory::OutOfMemory;
-use heap_syntax::{Mark, write_heap, write_heaps};
+use heap_syntax::Mark;
 use std::alloc::Global;
 
 #[tactic(auto, unfolding(crate::specs::Grammar::cases))]
@@ -22,7 +22,6 @@ fn write_cases(trees: &[HeapTree<'_>], writer: &mut WordWriter) -> Result<(), Ou
     ensures { OnOk result (writer.new ≡ write_all writer.old (cases.words (map heap_of trees.now))) }
 {
     write_heaps(
-        &ProofForm { universal: false },
         &Mark::Symbol("|"),
         &Mark::Symbol("}"),
         trees,
@@ -65,7 +64,6 @@ fn write_disjuncts(trees: &[HeapTree<'_>], writer: &mut WordWriter) -> Result<()
     ensures { OnOk result (writer.new ≡ write_all writer.old (disjuncts.words (map heap_of trees.now))) }
 {
     write_heaps(
-        &ProofForm { universal: false },
         &Mark::Keyword("or"),
         &Mark::Keyword("by"),
         trees,
@@ -78,7 +76,7 @@ fn write_judgement(tree: &EntailmentTree<'_>, writer: &mut WordWriter) -> Result
     requires { judgement.fits (entailment_of tree.now) }
     ensures { OnOk result (writer.new ≡ write_all writer.old (judgement.words (entailment_of tree.now))) }
 {
-    write_heap(&ProofForm { universal: true }, &tree.antecedent, writer)?;
+    write_heap(true, &tree.antecedent, writer)?;
     writer.symbol("|-")?;
     write_disjuncts(&tree.disjuncts, writer)
 }

@@ -10,5 +10,5 @@ use Rattle.heap_syntax.proofs.heap_writing.write_heaps.Goals as goal
 pub returns : goal.returns
 unfolding listed
 returns g c =
-    let whole = ap (map heap_of) (first-item c.args.trees.now c.first-item.result c.in-len1-up.len_at_least c.first-item.is) in
+    let whole = ap (map (heap_of g.F.TermForm.seen)) (first-item c.args.trees.now c.first-item.result c.in-len1-up.len_at_least c.first-item.is) in
     on-ok c.write.result (λ e. subst (λ (xs : List (Heap _)). c.write.new.writer ≡ write_all c.args.writer.now ((heaps (marked c.args.between.now) (marked c.args.behind.now) (heap (g.F.TermForm.terms c.args.form.now) (spatial (g.F.TermForm.terms c.args.form.now)))).words xs)) (sym whole) (wrote-ended _ _ _ _ _ _ _ c.in_ok-write_heap-in-len1-up.ensures c.in_ok-write_more_heaps-in-len1-up.ensures e)) c.write.ensures

@@ -10,14 +10,14 @@ use Rattle.heap_syntax.proofs.heap_writing.write_more_heaps.Goals as goal
 
 pub write_heap-requires : goal.write_heap-requires
 write_heap-requires g c =
-    let left = ap (map heap_of) (left-item c.args.trees.now c.loop-tree.tree-index c.tree-item.result c.loop-tree-test.true c.tree-item.is) in
-    λ k. ((refl, tt), (item-fits (after (marked c.args.between.now) (heap (g.F.TermForm.terms c.args.form.now) (spatial (g.F.TermForm.terms c.args.form.now)))) (heap_of c.tree-item.result) (map heap_of (drop (c.loop-tree.tree-index + 1) c.args.trees.now)) (map heap_of (drop c.loop-tree.tree-index c.args.trees.now)) left c.loop-tree.invariant.1).0)
+    let left = ap (map (heap_of g.F.TermForm.seen)) (left-item c.args.trees.now c.loop-tree.tree-index c.tree-item.result c.loop-tree-test.true c.tree-item.is) in
+    λ k. ((refl, tt), (item-fits (after (marked c.args.between.now) (heap (g.F.TermForm.terms c.args.form.now) (spatial (g.F.TermForm.terms c.args.form.now)))) (heap_of g.F.TermForm.seen c.tree-item.result) (map (heap_of g.F.TermForm.seen) (drop (c.loop-tree.tree-index + 1) c.args.trees.now)) (map (heap_of g.F.TermForm.seen) (drop c.loop-tree.tree-index c.args.trees.now)) left c.loop-tree.invariant.1).0)
 
 pub loop-tree-preserved : goal.loop-tree-preserved
 loop-tree-preserved g c =
-    let left = ap (map heap_of) (left-item c.args.trees.now c.loop-tree.tree-index c.tree-item.result c.loop-tree-test.true c.tree-item.is) in
-    let wrote : c.write_heap.new.writer ≡ write_all c.loop-tree.writer ((after (marked c.args.between.now) (heap (g.F.TermForm.terms c.args.form.now) (spatial (g.F.TermForm.terms c.args.form.now)))).words (heap_of c.tree-item.result)) = wrote-behind _ _ _ _ _ c.in_ok-write.ensures c.in_ok-write_heap.ensures in
-    (wrote-item (after (marked c.args.between.now) (heap (g.F.TermForm.terms c.args.form.now) (spatial (g.F.TermForm.terms c.args.form.now)))) c.loop-tree.writer c.write_heap.new.writer (write_all c.args.writer.now (words_many (after (marked c.args.between.now) (heap (g.F.TermForm.terms c.args.form.now) (spatial (g.F.TermForm.terms c.args.form.now)))) (map heap_of (c.args.trees.now)))) (heap_of c.tree-item.result) (map heap_of (drop (c.loop-tree.tree-index + 1) c.args.trees.now)) (map heap_of (drop c.loop-tree.tree-index c.args.trees.now)) left wrote c.loop-tree.invariant.0, (item-fits (after (marked c.args.between.now) (heap (g.F.TermForm.terms c.args.form.now) (spatial (g.F.TermForm.terms c.args.form.now)))) (heap_of c.tree-item.result) (map heap_of (drop (c.loop-tree.tree-index + 1) c.args.trees.now)) (map heap_of (drop c.loop-tree.tree-index c.args.trees.now)) left c.loop-tree.invariant.1).1)
+    let left = ap (map (heap_of g.F.TermForm.seen)) (left-item c.args.trees.now c.loop-tree.tree-index c.tree-item.result c.loop-tree-test.true c.tree-item.is) in
+    let wrote : c.write_heap.new.writer ≡ write_all c.loop-tree.writer ((after (marked c.args.between.now) (heap (g.F.TermForm.terms c.args.form.now) (spatial (g.F.TermForm.terms c.args.form.now)))).words (heap_of g.F.TermForm.seen c.tree-item.result)) = wrote-behind _ _ _ _ _ c.in_ok-write.ensures c.in_ok-write_heap.ensures in
+    (wrote-item (after (marked c.args.between.now) (heap (g.F.TermForm.terms c.args.form.now) (spatial (g.F.TermForm.terms c.args.form.now)))) c.loop-tree.writer c.write_heap.new.writer (write_all c.args.writer.now (words_many (after (marked c.args.between.now) (heap (g.F.TermForm.terms c.args.form.now) (spatial (g.F.TermForm.terms c.args.form.now)))) (map (heap_of g.F.TermForm.seen) (c.args.trees.now)))) (heap_of g.F.TermForm.seen c.tree-item.result) (map (heap_of g.F.TermForm.seen) (drop (c.loop-tree.tree-index + 1) c.args.trees.now)) (map (heap_of g.F.TermForm.seen) (drop c.loop-tree.tree-index c.args.trees.now)) left wrote c.loop-tree.invariant.0, (item-fits (after (marked c.args.between.now) (heap (g.F.TermForm.terms c.args.form.now) (spatial (g.F.TermForm.terms c.args.form.now)))) (heap_of g.F.TermForm.seen c.tree-item.result) (map (heap_of g.F.TermForm.seen) (drop (c.loop-tree.tree-index + 1) c.args.trees.now)) (map (heap_of g.F.TermForm.seen) (drop c.loop-tree.tree-index c.args.trees.now)) left c.loop-tree.invariant.1).1)
 
 pub returns : goal.returns
-returns g c = wrote-all (after (marked c.args.between.now) (heap (g.F.TermForm.terms c.args.form.now) (spatial (g.F.TermForm.terms c.args.form.now)))) c.loop-tree.writer (write_all c.args.writer.now (words_many (after (marked c.args.between.now) (heap (g.F.TermForm.terms c.args.form.now) (spatial (g.F.TermForm.terms c.args.form.now)))) (map heap_of (c.args.trees.now)))) (map heap_of (drop c.loop-tree.tree-index c.args.trees.now)) (ap (map heap_of) (none-at c.args.trees.now c.loop-tree.tree-index (omega arith))) c.loop-tree.invariant.0
+returns g c = wrote-all (after (marked c.args.between.now) (heap (g.F.TermForm.terms c.args.form.now) (spatial (g.F.TermForm.terms c.args.form.now)))) c.loop-tree.writer (write_all c.args.writer.now (words_many (after (marked c.args.between.now) (heap (g.F.TermForm.terms c.args.form.now) (spatial (g.F.TermForm.terms c.args.form.now)))) (map (heap_of g.F.TermForm.seen) (c.args.trees.now)))) (map (heap_of g.F.TermForm.seen) (drop c.loop-tree.tree-index c.args.trees.now)) (ap (map (heap_of g.F.TermForm.seen)) (none-at c.args.trees.now c.loop-tree.tree-index (omega arith))) c.loop-tree.invariant.0

@@ -10,14 +10,14 @@ use Rattle.heap_syntax.proofs.heap_writing.write_more_spatials.Goals as goal
 
 pub write_spatial-requires : goal.write_spatial-requires
 write_spatial-requires g c =
-    let left = ap (map spatial_of) (left-item c.args.trees.now c.loop-tree.tree-index c.tree-item.result c.loop-tree-test.true c.tree-item.is) in
-    λ k. ((refl, tt), (item-fits (after star (spatial (g.F.TermForm.terms c.args.form.now))) (spatial_of c.tree-item.result) (map spatial_of (drop (c.loop-tree.tree-index + 1) c.args.trees.now)) (map spatial_of (drop c.loop-tree.tree-index c.args.trees.now)) left c.loop-tree.invariant.1).0)
+    let left = ap (map (spatial_of g.F.TermForm.seen)) (left-item c.args.trees.now c.loop-tree.tree-index c.tree-item.result c.loop-tree-test.true c.tree-item.is) in
+    λ k. ((refl, tt), (item-fits (after star (spatial (g.F.TermForm.terms c.args.form.now))) (spatial_of g.F.TermForm.seen c.tree-item.result) (map (spatial_of g.F.TermForm.seen) (drop (c.loop-tree.tree-index + 1) c.args.trees.now)) (map (spatial_of g.F.TermForm.seen) (drop c.loop-tree.tree-index c.args.trees.now)) left c.loop-tree.invariant.1).0)
 
 pub loop-tree-preserved : goal.loop-tree-preserved
 loop-tree-preserved g c =
-    let left = ap (map spatial_of) (left-item c.args.trees.now c.loop-tree.tree-index c.tree-item.result c.loop-tree-test.true c.tree-item.is) in
-    let wrote : c.write_spatial.new.writer ≡ write_all c.loop-tree.writer ((after star (spatial (g.F.TermForm.terms c.args.form.now))).words (spatial_of c.tree-item.result)) = wrote-behind _ _ _ _ _ c.in_ok-symbol.ensures.ok c.in_ok-write_spatial.ensures in
-    (wrote-item (after star (spatial (g.F.TermForm.terms c.args.form.now))) c.loop-tree.writer c.write_spatial.new.writer (write_all c.args.writer.now (words_many (after star (spatial (g.F.TermForm.terms c.args.form.now))) (map spatial_of (c.args.trees.now)))) (spatial_of c.tree-item.result) (map spatial_of (drop (c.loop-tree.tree-index + 1) c.args.trees.now)) (map spatial_of (drop c.loop-tree.tree-index c.args.trees.now)) left wrote c.loop-tree.invariant.0, (item-fits (after star (spatial (g.F.TermForm.terms c.args.form.now))) (spatial_of c.tree-item.result) (map spatial_of (drop (c.loop-tree.tree-index + 1) c.args.trees.now)) (map spatial_of (drop c.loop-tree.tree-index c.args.trees.now)) left c.loop-tree.invariant.1).1)
+    let left = ap (map (spatial_of g.F.TermForm.seen)) (left-item c.args.trees.now c.loop-tree.tree-index c.tree-item.result c.loop-tree-test.true c.tree-item.is) in
+    let wrote : c.write_spatial.new.writer ≡ write_all c.loop-tree.writer ((after star (spatial (g.F.TermForm.terms c.args.form.now))).words (spatial_of g.F.TermForm.seen c.tree-item.result)) = wrote-behind _ _ _ _ _ c.in_ok-symbol.ensures.ok c.in_ok-write_spatial.ensures in
+    (wrote-item (after star (spatial (g.F.TermForm.terms c.args.form.now))) c.loop-tree.writer c.write_spatial.new.writer (write_all c.args.writer.now (words_many (after star (spatial (g.F.TermForm.terms c.args.form.now))) (map (spatial_of g.F.TermForm.seen) (c.args.trees.now)))) (spatial_of g.F.TermForm.seen c.tree-item.result) (map (spatial_of g.F.TermForm.seen) (drop (c.loop-tree.tree-index + 1) c.args.trees.now)) (map (spatial_of g.F.TermForm.seen) (drop c.loop-tree.tree-index c.args.trees.now)) left wrote c.loop-tree.invariant.0, (item-fits (after star (spatial (g.F.TermForm.terms c.args.form.now))) (spatial_of g.F.TermForm.seen c.tree-item.result) (map (spatial_of g.F.TermForm.seen) (drop (c.loop-tree.tree-index + 1) c.args.trees.now)) (map (spatial_of g.F.TermForm.seen) (drop c.loop-tree.tree-index c.args.trees.now)) left c.loop-tree.invariant.1).1)
 
 pub returns : goal.returns
-returns g c = wrote-all (after star (spatial (g.F.TermForm.terms c.args.form.now))) c.loop-tree.writer (write_all c.args.writer.now (words_many (after star (spatial (g.F.TermForm.terms c.args.form.now))) (map spatial_of (c.args.trees.now)))) (map spatial_of (drop c.loop-tree.tree-index c.args.trees.now)) (ap (map spatial_of) (none-at c.args.trees.now c.loop-tree.tree-index (omega arith))) c.loop-tree.invariant.0
+returns g c = wrote-all (after star (spatial (g.F.TermForm.terms c.args.form.now))) c.loop-tree.writer (write_all c.args.writer.now (words_many (after star (spatial (g.F.TermForm.terms c.args.form.now))) (map (spatial_of g.F.TermForm.seen) (c.args.trees.now)))) (map (spatial_of g.F.TermForm.seen) (drop c.loop-tree.tree-index c.args.trees.now)) (ap (map (spatial_of g.F.TermForm.seen)) (none-at c.args.trees.now c.loop-tree.tree-index (omega arith))) c.loop-tree.invariant.0

@@ -9,5 +9,5 @@ use Rattle.heap_syntax.proofs.heap_writing.write_more_spatials.Given as goal
 
 abbrev pub invariant-loop-tree : goal.invariant-loop-tree
 invariant-loop-tree g l =
-    (write_all l.writer (words_many (after star (spatial (g.F.TermForm.terms l.form))) (map spatial_of (drop l.tree-index l.trees))) ≡ write_all l.fn.writer (words_many (after star (spatial (g.F.TermForm.terms l.form))) (map spatial_of l.trees)))
-    × fits_many (after star (spatial (g.F.TermForm.terms l.form))) (map spatial_of (drop l.tree-index l.trees))
+    (write_all l.writer (words_many (after star (spatial (g.F.TermForm.terms l.form))) (map (spatial_of g.F.TermForm.seen) (drop l.tree-index l.trees))) ≡ write_all l.fn.writer (words_many (after star (spatial (g.F.TermForm.terms l.form))) (map (spatial_of g.F.TermForm.seen) l.trees)))
+    × fits_many (after star (spatial (g.F.TermForm.terms l.form))) (map (spatial_of g.F.TermForm.seen) (drop l.tree-index l.trees))

@@ -9,5 +9,5 @@ use Rattle.heap_syntax.proofs.heap_writing.write_spatials.Goals as goal
 pub returns-in_ok-write_spatial-in-len1-up : goal.returns-in_ok-write_spatial-in-len1-up
 unfolding spatials spatials1
 returns-in_ok-write_spatial-in-len1-up g c =
-    let whole = ap (map spatial_of) (first-item c.args.trees.now c.first-item.result c.in-len1-up.len_at_least c.first-item.is) in
+    let whole = ap (map (spatial_of g.F.TermForm.seen)) (first-item c.args.trees.now c.first-item.result c.in-len1-up.len_at_least c.first-item.is) in
     on-ok c.write_more_spatials.result (λ e. subst (λ (xs : List (Spatial _)). c.write_more_spatials.new.writer ≡ write_all c.args.writer.now ((spatials (g.F.TermForm.terms c.args.form.now) (spatial (g.F.TermForm.terms c.args.form.now))).words xs)) (sym whole) (wrote-both _ _ _ _ _ c.in_ok-write_spatial-in-len1-up.ensures e)) c.write_more_spatials.ensures

@@ -9,5 +9,5 @@ use Rattle.heap_syntax.proofs.read_heaps.more_heaps.Given as goal
 
 abbrev pub invariant-loop : goal.invariant-loop
 invariant-loop g l =
-    with_front (map heap_of l.items.items) (read_many (is_one (marked l.between)) (after (marked l.between) (heap (g.F.TermForm.terms l.form) (g.F.AtomForm.atoms l.form))) (length l.fn.cursor - l.counter) l.cursor)
-    ≡ with_front (map heap_of l.fn.items.items) (read_many (is_one (marked l.between)) (after (marked l.between) (heap (g.F.TermForm.terms l.form) (g.F.AtomForm.atoms l.form))) (length l.fn.cursor) l.fn.cursor)
+    with_front (map (heap_of g.F.TermForm.seen) l.items.items) (read_many (is_one (marked l.between)) (after (marked l.between) (heap (g.F.TermForm.terms l.form) (g.F.TermForm.atoms l.form))) (length l.fn.cursor - l.counter) l.cursor)
+    ≡ with_front (map (heap_of g.F.TermForm.seen) l.fn.items.items) (read_many (is_one (marked l.between)) (after (marked l.between) (heap (g.F.TermForm.terms l.form) (g.F.TermForm.atoms l.form))) (length l.fn.cursor) l.fn.cursor)

@@ -8,5 +8,5 @@ use Rattle.heap_syntax.proofs.read_heaps.more_spatials.Given as goal
 
 abbrev pub invariant-loop : goal.invariant-loop
 invariant-loop g l =
-    with_front (map spatial_of l.items.items) (read_many (is_one star) (after star (g.F.AtomForm.atoms l.form)) (length l.fn.cursor - l.counter) l.cursor)
-    ≡ with_front (map spatial_of l.fn.items.items) (read_many (is_one star) (after star (g.F.AtomForm.atoms l.form)) (length l.fn.cursor) l.fn.cursor)
+    with_front (map (spatial_of g.F.TermForm.seen) l.items.items) (read_many (is_one star) (after star (g.F.TermForm.atoms l.form)) (length l.fn.cursor - l.counter) l.cursor)
+    ≡ with_front (map (spatial_of g.F.TermForm.seen) l.fn.items.items) (read_many (is_one star) (after star (g.F.TermForm.atoms l.form)) (length l.fn.cursor) l.fn.cursor)

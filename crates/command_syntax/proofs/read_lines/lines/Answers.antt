@@ -1,0 +1,15 @@
+use Rattle.std.proofs.Common.{List, ◌≡◌, ◌∙◌, ap, subst}
+use Rattle.std.specs.Prelude.{map}
+use Rattle.cyc_grammar.specs.Giving.{Gives, with_front}
+use Rattle.cyc_grammar.specs.Syntax.{Reading}
+use Rattle.cyc_grammar.proofs.Loop.{with_front-nil}
+use Rattle.command_syntax.specs.Trees.{line_of}
+use Rattle.command_syntax.specs.declared.tree.LineTree.{LineTree}
+use Rattle.command_syntax.specs.Grammar.{lines}
+use Rattle.command_syntax.proofs.read_lines.lines.Goals as goal
+
+pub returns : goal.returns
+returns g c =
+    let read = (lines (g.F.VariableForm.variables c.args.form.now)).read c.args.cursor.now in
+    let same : with_front (map (line_of g.F.VariableForm.seen) c.new-items.result.items) read ≡ read = ap (λ (front : List (LineTree _)). with_front front read) (ap (map (line_of g.F.VariableForm.seen)) c.new-items.ensures.items) ∙ with_front-nil read in
+    subst (λ (r : Reading (List (LineTree _))). Gives (λ x. (map (line_of g.F.VariableForm.seen) x.items, c.more_lines.new.cursor)) c.more_lines.result r) same c.more_lines.ensures

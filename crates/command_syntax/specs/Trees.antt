@@ -1,0 +1,32 @@
+-- Trees of programs without where they lie in memory; V is the type of the variables.
+use Rattle.std.specs.Prelude.{ℕ, Bool}
+use Rattle.command_syntax.specs.declared.tree.OperandTree.{OperandTree}
+use Rattle.command_syntax.specs.declared.tree.OperandTree.TheVariants.{Nil, Variable}
+use Rattle.command_syntax.specs.declared.tree.CommandTree.{CommandTree}
+use Rattle.command_syntax.specs.declared.tree.CommandTree.TheVariants.{Stop, Goto, Free, If, StoreAtNil, Change}
+use Rattle.command_syntax.specs.declared.tree.ChangeTree.{ChangeTree}
+use Rattle.command_syntax.specs.declared.tree.ChangeTree.TheVariants.{New, Assign, Load, Store}
+use Rattle.command_syntax.specs.declared.tree.LineTree.{LineTree}
+
+-- ---- what a contract sees of the code's trees, where it sees each variable by seen
+
+abbrev pub operand_of : {V W : Type 0} → (V → W) → OperandTree V → OperandTree W
+operand_of seen Nil = Nil
+operand_of seen (Variable v) = Variable (seen v)
+
+abbrev pub change_of : {V W : Type 0} → (V → W) → ChangeTree V → ChangeTree W
+change_of seen (New n) = New n
+change_of seen (Assign t) = Assign (operand_of seen t)
+change_of seen (Load t n) = Load (operand_of seen t) n
+change_of seen (Store n t) = Store n (operand_of seen t)
+
+abbrev pub command_of : {V W : Type 0} → (V → W) → CommandTree V → CommandTree W
+command_of seen Stop = Stop
+command_of seen (Goto n) = Goto n
+command_of seen (Free t) = Free (operand_of seen t)
+command_of seen (If t b u n) = If (operand_of seen t) b (operand_of seen u) n
+command_of seen (StoreAtNil n t) = StoreAtNil n (operand_of seen t)
+command_of seen (Change v c) = Change (seen v) (change_of seen c)
+
+abbrev pub line_of : {V W : Type 0} → (V → W) → LineTree V → LineTree W
+line_of seen l = record { number = l.number; command = command_of seen l.command }

@@ -1,0 +1,128 @@
+//! Reading commands, each with the semicolon behind it.
+
+ghost use Rattle.std.specs.Prelude.{◌≡◌};
+ghost use Rattle.cyc_grammar.specs.Giving.{Gives};
+ghost use Rattle.command_syntax.specs.Grammar.{operand, last_number, store, source, change, branch, command};
+ghost use Rattle.command_syntax.specs.Trees.{operand_of, change_of, command_of};
+
+use crate::form::VariableForm;
+use crate::tree::{ChangeTree, CommandTree, OperandTree};
+use cyc_grammar::{Cursor, Refusal};
+use heap_syntax::sign;
+
+#[tactic(auto, unfolding(crate::specs::Grammar::operand))]
+fn operand<'a, F: VariableForm<'a>>(
+    form: &F,
+    cursor: &mut Cursor<'_, 'a>,
+) -> Result<OperandTree<F::Variable>, Refusal>
+    ensures { Gives (λ x. (operand_of F.seen x, cursor.new)) result ((operand (F.variables form.now)).read cursor.old) }
+{
+    if cursor.is_keyword_next("nil") {
+        cursor.keyword("nil")?;
+        return Ok(OperandTree::Nil);
+    }
+    Ok(OperandTree::Variable(form.read_variable(cursor)?))
+}
+
+#[tactic(auto, unfolding(crate::specs::Grammar::last_number))]
+fn last_number(cursor: &mut Cursor<'_, '_>) -> Result<u32, Refusal>
+    ensures { Gives (λ x. (x, cursor.new)) result (last_number.read cursor.old) }
+{
+    let number = cursor.number()?;
+    cursor.symbol(";")?;
+    Ok(number)
+}
+
+/// The field's number and what is stored there.
+#[tactic(auto, unfolding(crate::specs::Grammar::store))]
+fn store<'a, F: VariableForm<'a>>(
+    form: &F,
+    cursor: &mut Cursor<'_, 'a>,
+) -> Result<(u32, OperandTree<F::Variable>), Refusal>
+    ensures { Gives (λ x. ((x.0, operand_of F.seen x.1), cursor.new)) result ((store (F.variables form.now)).read cursor.old) }
+{
+    cursor.symbol(".")?;
+    let field = cursor.number()?;
+    cursor.symbol(":=")?;
+    let value = operand(form, cursor)?;
+    cursor.symbol(";")?;
+    Ok((field, value))
+}
+
+#[tactic(auto, unfolding(crate::specs::Grammar::change, crate::specs::Grammar::source, crate::specs::Grammar::field))]
+fn change<'a, F: VariableForm<'a>>(
+    form: &F,
+    cursor: &mut Cursor<'_, 'a>,
+) -> Result<ChangeTree<F::Variable>, Refusal>
+    ensures { Gives (λ x. (change_of F.seen x, cursor.new)) result ((change (F.variables form.now)).read cursor.old) }
+{
+    if cursor.is_symbol_next(".") {
+        let (field, value) = store(form, cursor)?;
+        return Ok(ChangeTree::Store(field, value));
+    }
+    cursor.symbol(":=")?;
+    if cursor.is_keyword_next("new") {
+        cursor.keyword("new")?;
+        return Ok(ChangeTree::New(last_number(cursor)?));
+    }
+    let value = operand(form, cursor)?;
+    if cursor.is_symbol_next(".") {
+        cursor.symbol(".")?;
+        return Ok(ChangeTree::Load(value, last_number(cursor)?));
+    }
+    cursor.symbol(";")?;
+    Ok(ChangeTree::Assign(value))
+}
+
+/// The condition and the line's number.
+#[tactic(auto, unfolding(crate::specs::Grammar::branch))]
+fn branch<'a, F: VariableForm<'a>>(
+    form: &F,
+    cursor: &mut Cursor<'_, 'a>,
+) -> Result<(OperandTree<F::Variable>, bool, OperandTree<F::Variable>, u32), Refusal>
+    ensures { Gives (λ x. ((operand_of F.seen x.0, (x.1, (operand_of F.seen x.2, x.3))), cursor.new)) result ((branch (F.variables form.now)).read cursor.old) }
+{
+    let left = operand(form, cursor)?;
+    let is_equation = sign(cursor)?;
+    let right = operand(form, cursor)?;
+    cursor.keyword("goto")?;
+    let target = last_number(cursor)?;
+    Ok((left, is_equation, right, target))
+}
+
+/// Reads a command and the semicolon behind it.
+#[tactic(auto, unfolding(crate::specs::Grammar::command, crate::specs::Grammar::update))]
+pub fn command<'a, F: VariableForm<'a>>(
+    form: &F,
+    cursor: &mut Cursor<'_, 'a>,
+) -> Result<CommandTree<F::Variable>, Refusal>
+    ensures { Gives (λ x. (command_of F.seen x, cursor.new)) result ((command (F.variables form.now)).read cursor.old) }
+{
+    if cursor.is_keyword_next("stop") {
+        cursor.keyword("stop")?;
+        cursor.symbol(";")?;
+        return Ok(CommandTree::Stop);
+    }
+    if cursor.is_keyword_next("goto") {
+        cursor.keyword("goto")?;
+        return Ok(CommandTree::Goto(last_number(cursor)?));
+    }
+    if cursor.is_keyword_next("free") {
+        cursor.keyword("free")?;
+        let address = operand(form, cursor)?;
+        cursor.symbol(";")?;
+        return Ok(CommandTree::Free(address));
+    }
+    if cursor.is_keyword_next("if") {
+        cursor.keyword("if")?;
+        let (left, is_equation, right, target) = branch(form, cursor)?;
+        return Ok(CommandTree::If(left, is_equation, right, target));
+    }
+    if cursor.is_keyword_next("nil") {
+        cursor.keyword("nil")?;
+        let (field, value) = store(form, cursor)?;
+        return Ok(CommandTree::StoreAtNil(field, value));
+    }
+    let variable = form.read_variable(cursor)?;
+    Ok(CommandTree::Change(variable, change(form, cursor)?))
+}

@@ -1,0 +1,59 @@
+//! Reading the lines of a program.
+
+ghost use Rattle.std.specs.Prelude.{◌≡◌, ◌++◌, ◌∷◌, [], map};
+ghost use Rattle.cyc_grammar.specs.Giving.{Gives, with_front};
+ghost use Rattle.command_syntax.specs.Grammar.{line, lines};
+ghost use Rattle.command_syntax.specs.Trees.{line_of};
+
+use crate::form::VariableForm;
+use crate::read_commands::command;
+use crate::tree::LineTree;
+use cyc_grammar::{Cursor, Refusal};
+use std::alloc::Global;
+
+#[tactic(auto, unfolding(crate::specs::Grammar::line))]
+fn line<'a, F: VariableForm<'a>>(
+    form: &F,
+    cursor: &mut Cursor<'_, 'a>,
+) -> Result<LineTree<F::Variable>, Refusal>
+    ensures { Gives (λ x. (line_of F.seen x, cursor.new)) result ((line (F.variables form.now)).read cursor.old) }
+{
+    cursor.keyword("line")?;
+    let number = cursor.number()?;
+    cursor.symbol(":")?;
+    let command = command(form, cursor)?;
+    Ok(LineTree { number, command })
+}
+
+/// Reads the lines behind some.
+#[tactic(auto, unfolding(crate::specs::Grammar::lines))]
+fn more_lines<'a, F: VariableForm<'a>>(
+    form: &F,
+    mut items: Vec<LineTree<F::Variable>>,
+    cursor: &mut Cursor<'_, 'a>,
+) -> Result<Vec<LineTree<F::Variable>>, Refusal>
+    ensures { Gives (λ x. (map (line_of F.seen) x.items, cursor.new)) result (with_front (map (line_of F.seen) items.items) ((lines (F.variables form.now)).read cursor.old)) }
+{
+    for _ in 0..cursor.left() {
+        if !cursor.is_keyword_next("line") {
+            return Ok(items);
+        }
+        items.push(line(form, cursor)?)?;
+    }
+    if cursor.is_keyword_next("line") {
+        return Err(Refusal::Dead(cursor.left()));
+    }
+    Ok(items)
+}
+
+/// Reads the lines of a program, of which there may be none.
+pub fn lines<'a, F: VariableForm<'a>>(
+    alloc: Global,
+    form: &F,
+    cursor: &mut Cursor<'_, 'a>,
+) -> Result<Vec<LineTree<F::Variable>>, Refusal>
+    ensures { Gives (λ x. (map (line_of F.seen) x.items, cursor.new)) result ((lines (F.variables form.now)).read cursor.old) }
+{
+    let items: Vec<LineTree<F::Variable>> = Vec::new(alloc);
+    more_lines(form, items, cursor)
+}
