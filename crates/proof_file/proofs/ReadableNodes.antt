@@ -1,20 +1,18 @@
 -- What the grammar lets through has universal variables alone where it must.
-use Rattle.std.proofs.Common.{◌≡◌, ℕ, zero, suc, ◌<◌, ◌≤◌, Bool, true, false, ◌&&◌, List, [], ◌∷◌, map, length, refl, ap, ◌∙◌, arith}
-use Rattle.std.specs.Prelude.{nat_le}
+use Rattle.std.proofs.Common.{◌≡◌, ℕ, Bool, true, false, ◌&&◌, List, [], ◌∷◌, map, length, refl, ap, ◌∙◌, arith}
 use Rattle.std.specs.List.{list_all}
 use Rattle.std.proofs.lemmas.Bool.{le-leb}
 use Rattle.std.proofs.lemmas.List.{length-map}
 use Rattle.heap_formula.specs.declared.terms.Term.{Term}
 use Rattle.heap_formula.specs.Words.{Each}
-use Rattle.heap_formula.specs.Definitions.{Definition as DefinitionValue}
 use Rattle.rule_table.specs.Tests.{is_universal, are_universal, is_universal_pure, is_universal_spatial}
-use Rattle.cyc_grammar.specs.Syntax.{Syntax, Class, after, fits_many, list1, or_empty}
+use Rattle.cyc_grammar.specs.Syntax.{Syntax, Class, after, fits_many, list1}
 use Rattle.heap_syntax.specs.Grammar as shared
 use Rattle.proof_syntax.specs.declared.tree.TermTree.{TermTree}
 use Rattle.proof_syntax.specs.declared.tree.TermTree.TheVariants.{Nil, Univ, Exist}
 use Rattle.proof_syntax.specs.declared.tree.PairTree.{PairTree}
-use Rattle.proof_syntax.specs.Trees.{PureTree, Spatial, Cell, Predicate, Heap, Definition, Entailment, LinkData, Reason, Absurd, Rewrite, Split, Distinct, Weaken, Unfold, Cut, Done, Choose, PureRight, Instantiate, Frame, UnfoldRight, Link, Node, File}
-use Rattle.proof_syntax.specs.Grammar.{uterm, terms, pure, pures, fields, arguments, spatial, spatials, heap, judgement, pair, pairs1, pairs, link, parts, split, instantiate, reason, node, nodes, more_nodes, body, file, some_pure, some_spatial, some_pair, comma, star, colon, closing}
+use Rattle.proof_syntax.specs.Trees.{PureTree, Spatial, Cell, Predicate, Heap, Definition, LinkData, Reason, Absurd, Rewrite, Split, Distinct, Weaken, Unfold, Cut, Done, Choose, PureRight, Instantiate, Frame, UnfoldRight, Link, Node, File}
+use Rattle.proof_syntax.specs.Grammar.{uterm, terms, pure, pures, spatial, spatials, heap, judgement, pair, pairs1, pairs, link, parts, split, instantiate, reason, node, nodes, more_nodes, body, file, some_pure, some_spatial, some_pair, comma, star, colon, closing}
 use Rattle.proof_file.specs.Values.{term_value, pure_value, spatial_value, heap_value, definition_value, pair_value, reason_value, node_value}
 use Rattle.proof_file.specs.Readable.{is_universal_heap, is_universal_reason, is_readable, are_readable, has_few_cases, all_have_few_cases}
 use Rattle.proof_file.specs.Small.{IsSmallDefinition}

@@ -1,15 +1,15 @@
 -- The spans count the words of the grammar, so each flaw's number is that of the token at which it stands.
-use Rattle.std.proofs.Common.{◌≡◌, ℕ, zero, suc, ◌+◌, ◌<◌, ◌≤◌, Bool, true, false, List, [], ◌∷◌, ◌++◌, length, refl, arith, inl, inr, length-append}
+use Rattle.std.proofs.Common.{◌≡◌, ℕ, ◌+◌, ◌<◌, Bool, true, false, List, [], ◌∷◌, ◌++◌, length, refl, arith, length-append}
 use Rattle.heap_formula.specs.Words.{Each}
 use Rattle.cyc_lex.specs.Word.{Word}
 use Rattle.cyc_grammar.specs.Classes.{the_end}
-use Rattle.cyc_grammar.specs.Syntax.{Syntax, Class, one, seq, many, after, before, words_many, fits_many, list1, or_empty, is_one}
+use Rattle.cyc_grammar.specs.Syntax.{Syntax, Class, one, many, after, words_many, fits_many, list1}
 use Rattle.heap_syntax.specs.Grammar as shared
 use Rattle.proof_syntax.specs.declared.tree.TermTree.{TermTree}
 use Rattle.proof_syntax.specs.declared.tree.TermTree.TheVariants.{Nil, Univ, Exist}
 use Rattle.proof_syntax.specs.declared.tree.PairTree.{PairTree}
 use Rattle.proof_syntax.specs.Trees.{PureTree, Spatial, Cell, Predicate, Heap, Definition, Entailment, LinkData, Reason, Absurd, Rewrite, Split, Distinct, Weaken, Unfold, Cut, Done, Choose, PureRight, Instantiate, Frame, UnfoldRight, Link, Node, File}
-use Rattle.proof_syntax.specs.Grammar.{term, uterm, terms, sign, pure, pures, fields, arguments, spatial, spatials, heap, heaps, cases, definition, disjuncts, judgement, numbers, bracketed, two_numbers, side, rewrite, split, cut, instantiate, pair, pairs1, pairs, link, parts, reason, premises, node, definitions, more_nodes, nodes, body, file, some_pure, some_spatial, some_heap, some_pair, comma, star, colon, arrow, opening, closing, opening_bracket, closing_bracket, opening_brace, closing_brace, semicolon, or_word, by_word, bar, last_word, turnstile}
+use Rattle.proof_syntax.specs.Grammar.{term, uterm, terms, sign, pure, pures, fields, arguments, spatial, spatials, heap, heaps, cases, definition, disjuncts, judgement, numbers, bracketed, two_numbers, side, rewrite, split, cut, instantiate, pair, pairs1, pairs, link, parts, reason, premises, node, definitions, more_nodes, nodes, body, file, some_pure, some_spatial, some_heap, some_pair, comma, star, colon, arrow, opening, closing, closing_bracket, closing_brace, semicolon, or_word, by_word, bar, last_word, turnstile}
 use Rattle.proof_file.specs.Spans.{total, total_or, term_span, pure_span, pures_span, spatial_span, spatials_span, heap_span, definition_span, entailment_span, pair_span, link_span, reason_span, premises_rest, node_span}
 
 -- ---- lists

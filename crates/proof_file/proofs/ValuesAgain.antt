@@ -1,5 +1,5 @@
 -- Values that have a text are what their tree says.
-use Rattle.std.proofs.Common.{◌≡◌, ℕ, zero, suc, ◌+◌, ◌<◌, Bool, true, false, List, [], ◌∷◌, length, take, map, Option, Some, None, refl, sym, ap, subst, ◌∙◌, arith}
+use Rattle.std.proofs.Common.{◌≡◌, ℕ, zero, suc, ◌+◌, Bool, true, false, List, [], ◌∷◌, length, take, map, Option, Some, None, refl, sym, ap, subst, ◌∙◌, arith}
 use Rattle.std.specs.Prelude.{not, ◌&&◌, is_some, if◌then◌else◌, slice_get, nat_lt, nat_le}
 use Rattle.std.specs.List.{list_any}
 use Rattle.std.specs.Str.{bytes_eq, chars, is_utf8}
@@ -15,7 +15,6 @@ use Rattle.heap_formula.specs.declared.judgements.Judgement.{Judgement}
 use Rattle.heap_formula.specs.declared.judgements.Judgement.TheVariants.{Entail, Term as Halting}
 use Rattle.heap_formula.specs.declared.proof_rules.Side.{Side}
 use Rattle.heap_formula.specs.declared.proof_rules.Side.TheVariants as sides
-use Rattle.heap_formula.specs.declared.proof_rules.Rule.{Rule}
 use Rattle.heap_formula.specs.declared.proof_rules.Rule.TheVariants as rules
 use Rattle.heap_formula.specs.declared.proof_rules.Reason.{Reason as ReasonValue}
 use Rattle.heap_formula.specs.declared.proof_rules.Reason.TheVariants.{Step, Back}
@@ -27,14 +26,14 @@ use Rattle.cyc_lex.proofs.BoolParts.{and-parts}
 use Rattle.cyc_lex.specs.declared.fault.What.TheVariants.{Predicates, Arguments}
 use Rattle.cyc_lex.specs.declared.fault.IllFault.TheVariants.{Duplicate}
 use Rattle.cyc_grammar.specs.Classes.{is_free_name}
-use Rattle.cyc_grammar.specs.Syntax.{Class, after, uncons, fits_many}
-use Rattle.proof_syntax.specs.Trees.{Spatial, Heap, Definition, Node, File}
+use Rattle.cyc_grammar.specs.Syntax.{Class}
+use Rattle.proof_syntax.specs.Trees.{Heap, Definition, Node}
 use Rattle.heap_syntax.specs.Grammar as shared
-use Rattle.proof_syntax.specs.Grammar.{reserved, uterm, terms, pure, spatial, spatials, heap, heaps, cases, definition, disjuncts, judgement, cut, split, parts, reason, node, nodes, more_nodes, definitions, body, file, some_heap, bar, closing_brace, or_word, by_word}
+use Rattle.proof_syntax.specs.Grammar.{reserved, uterm, terms, spatial, heap, heaps, cases, definition, disjuncts, judgement, cut, split, parts, reason, node, nodes, more_nodes, definitions, body, file, bar, closing_brace, or_word, by_word}
 use Rattle.proof_file.specs.declared.node.FileNode.{FileNode}
 use Rattle.proof_file.specs.declared.file.ProofFile.{ProofFile}
 use Rattle.proof_file.specs.Spans.{total, heap_span, definition_span, node_span}
-use Rattle.proof_file.specs.Flaws.{Found, ill_if, over_if, or_later, listed_flaw, arity_in, case_flaw, head_flaw, definition_flaw, node_flaw, file_flaw}
+use Rattle.proof_file.specs.Flaws.{Found, ill_if, over_if, or_later, listed_flaw, arity_in, case_flaw, head_flaw, definition_flaw, node_flaw}
 use Rattle.proof_file.specs.Values.{term_value, pure_value, place_of, spatial_value, heap_value, definition_value, judgement_value, side_value, pair_value, reason_value, node_value}
 use Rattle.proof_file.specs.Written.{term_tree, pure_tree, name_in, name_of, spatial_tree, heap_tree, definition_tree, judgement_tree, side_tree, pair_tree, reason_tree, node_tree, tree_of}
 use Rattle.proof_file.specs.Reading.{IsFileOf}
@@ -115,19 +114,19 @@ defined : (o : Option DefinitionValue) → is_free_name reserved (name_in o) ≡
 defined None e = absurd (no_name e)
 defined (Some d) e = (d, refl)
 
-module _ (ds : List DefinitionValue) where
-  abbrev defs : List Definition
-  defs = map (definition_tree ds) ds
+abbrev trees_of : List DefinitionValue → List Definition
+trees_of ds = map (definition_tree ds) ds
 
-  -- the name of a number has that place
-  found_place : listed_flaw (definition_flaw (map (definition_tree ds) ds)) definition_span 0 4 (map (definition_tree ds) ds) ≡ None → (p : ℕ) → is_free_name reserved (name_of ds p) ≡ true → place_of (map (definition_tree ds) ds) (name_of ds p) ≡ p
-  found_place none p free =
-      let d = defined (slice_get ds p) free in
-      let there = get_map (definition_tree ds) ds p d.0 d.1 in
-      let at = flaw_at (definition_flaw (map (definition_tree ds) ds)) definition_span 0 4 (map (definition_tree ds) ds) p (definition_tree ds d.0) there none in
-      let here : 0 + p ≡ p = omega arith in
-      let first = no_earlier (map (definition_tree ds) ds) p at.0 (definition_tree ds d.0) (subst (λ n. definition_flaw (map (definition_tree ds) ds) n at.0 (definition_tree ds d.0) ≡ None) here at.1) in
-      ap (λ o. place_of (map (definition_tree ds) ds) (name_in o)) d.1 ∙ place_first (map (definition_tree ds) ds) p (definition_tree ds d.0) there first
+-- the name of a number has that place
+found_place : (ds : List DefinitionValue) → listed_flaw (definition_flaw (trees_of ds)) definition_span 0 4 (trees_of ds) ≡ None → (p : ℕ) → is_free_name reserved (name_of ds p) ≡ true → place_of (trees_of ds) (name_of ds p) ≡ p
+found_place ds none p free =
+    let d = defined (slice_get ds p) free in
+    let tree = definition_tree ds d.0 in
+    let there = get_map (definition_tree ds) ds p d.0 d.1 in
+    let at = flaw_at (definition_flaw (trees_of ds)) definition_span 0 4 (trees_of ds) p tree there none in
+    let here : 0 + p ≡ p = omega arith in
+    let first = no_earlier (trees_of ds) p at.0 tree (subst (λ n. definition_flaw (trees_of ds) n at.0 tree ≡ None) here at.1) in
+    ap (λ o. place_of (trees_of ds) (name_in o)) d.1 ∙ place_first (trees_of ds) p tree there first
 
 -- ---- terms and atoms
 
@@ -242,7 +241,7 @@ file_known f =
     let none = neither (listed_flaw (definition_flaw tree.definitions) definition_span 0 4 tree.definitions) (listed_flaw (node_flaw tree.definitions) node_span 0 (4 + total definition_span tree.definitions) tree.nodes) f.flawless in
     let placed = found_place ds none.0 in
     record {
-      version = f.one;
+      version = f.first_version;
       most = f.sixteen;
       definitions = sym (each_known (definition_tree ds) (definition_value tree.definitions) definition.fits (definition_known ds tree.definitions placed) ds (definitions_fit tree.definitions f.fits.1.0));
       nodes = sym (each_known (node_tree ds) (node_value tree.definitions) node.fits (node_known ds tree.definitions placed) f.nodes (nodes_fit tree.nodes f.fits.1.1));

@@ -1,18 +1,18 @@
 -- A flaw stands at a token of its part.
-use Rattle.std.proofs.Common.{◌≡◌, ◌⊎◌, inl, inr, ℕ, zero, suc, ◌+◌, ◌<◌, ◌≤◌, Bool, true, false, List, [], ◌∷◌, length, take, Option, Some, None, refl, subst, arith}
+use Rattle.std.proofs.Common.{◌≡◌, ℕ, suc, ◌+◌, ◌<◌, ◌≤◌, Bool, true, false, List, [], ◌∷◌, length, take, Option, Some, None, subst, arith}
 use Rattle.std.specs.Prelude.{nat_eq, nat_lt, nat_le, is_some, not}
 use Rattle.cyc_lex.specs.declared.fault.IllFault.{IllFault}
 use Rattle.cyc_lex.specs.declared.fault.What.{What}
 use Rattle.cyc_lex.specs.declared.fault.What.TheVariants.{Arguments, Pure, Spatial as SpatialAtoms, Cases, Disjuncts, Nodes, Predicates, Variable, Locals}
-use Rattle.cyc_lex.specs.declared.fault.IllFault.TheVariants.{Parameter, Duplicate, Unknown, Arity}
+use Rattle.cyc_lex.specs.declared.fault.IllFault.TheVariants.{Parameter, Duplicate, Arity}
 use Rattle.proof_syntax.specs.declared.tree.TermTree.{TermTree}
 use Rattle.proof_syntax.specs.declared.tree.TermTree.TheVariants.{Nil, Univ, Exist}
 use Rattle.proof_syntax.specs.declared.tree.PairTree.{PairTree}
-use Rattle.proof_syntax.specs.Trees.{PureTree, Spatial, Cell, Predicate, Heap, Definition, Entailment, LinkData, Reason, Absurd, Rewrite, Split, Distinct, Weaken, Unfold, Cut, Done, Choose, PureRight, Instantiate, Frame, UnfoldRight, Link, Node, File}
+use Rattle.proof_syntax.specs.Trees.{PureTree, Spatial, Cell, Predicate, Heap, Definition, Entailment, Reason, Absurd, Rewrite, Split, Distinct, Weaken, Unfold, Cut, Done, Choose, PureRight, Instantiate, Frame, UnfoldRight, Link, Node, File}
 use Rattle.proof_file.specs.declared.flaw.Flaw.{Flaw}
 use Rattle.proof_file.specs.declared.flaw.Scope.{Scope}
 use Rattle.proof_file.specs.declared.flaw.Scope.TheVariants.{Node as InNode, Case as InCase}
-use Rattle.proof_file.specs.Spans.{total, total_or, term_span, pure_span, pures_span, spatial_span, spatials_span, heap_span, definition_span, entailment_span, pair_span, link_span, reason_span, premises_rest, node_span}
+use Rattle.proof_file.specs.Spans.{total, total_or, term_span, pure_span, pures_span, spatial_span, spatials_span, heap_span, definition_span, entailment_span, pair_span, reason_span, node_span}
 use Rattle.proof_file.specs.Flaws.{Found, ill_if, over_if, or_later, listed_flaw, term_flaw, argument_flaw, pure_flaw, arity_in, use_flaw, cell_flaw, spatial_flaw, heap_flaw, case_flaw, head_flaw, definition_flaw, disjunct_flaw, entailment_flaw, pair_flaw, reason_flaw, node_flaw, file_flaw}
 
 -- each flaw stands before token m

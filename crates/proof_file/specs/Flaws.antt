@@ -8,13 +8,12 @@ use Rattle.cyc_lex.specs.declared.fault.What.TheVariants.{Predicates, Arguments,
 use Rattle.proof_syntax.specs.declared.tree.TermTree.{TermTree}
 use Rattle.proof_syntax.specs.declared.tree.TermTree.TheVariants.{Nil, Univ, Exist}
 use Rattle.proof_syntax.specs.declared.tree.PairTree.{PairTree}
-use Rattle.proof_syntax.specs.Trees.{PureTree, Spatial, Cell, Predicate, Heap, Definition, Entailment, LinkData, Reason, Absurd, Rewrite, Split, Distinct, Weaken, Unfold, Cut, Done, Choose, PureRight, Instantiate, Frame, UnfoldRight, Link, Node, File}
-use Rattle.proof_file.specs.declared.flaw.Item.{Item}
+use Rattle.proof_syntax.specs.Trees.{PureTree, Spatial, Cell, Predicate, Heap, Definition, Entailment, Reason, Absurd, Rewrite, Split, Distinct, Weaken, Unfold, Cut, Done, Choose, PureRight, Instantiate, Frame, UnfoldRight, Link, Node, File}
 use Rattle.proof_file.specs.declared.flaw.Item.TheVariants.{Ill, Over}
 use Rattle.proof_file.specs.declared.flaw.Flaw.{Flaw}
 use Rattle.proof_file.specs.declared.flaw.Scope.{Scope}
 use Rattle.proof_file.specs.declared.flaw.Scope.TheVariants.{Node as InNode, Case as InCase}
-use Rattle.proof_file.specs.Spans.{total, total_or, term_span, pure_span, pures_span, spatial_span, heap_span, definition_span, entailment_span, pair_span, node_span}
+use Rattle.proof_file.specs.Spans.{total, term_span, pure_span, pures_span, spatial_span, heap_span, definition_span, entailment_span, pair_span, node_span}
 
 -- a flaw, or none
 abbrev pub Found : Type 0
