@@ -88,7 +88,7 @@ pub record AtomLaw {T : Type 0} (atom : Syntax (Spatial T)) : Type 0 where
 
 -- ---- pure atoms
 
-sign-law : Lawful sign
+pub sign-law : Lawful sign
 unfolding sign
 sign-law =
     shaped-law {A = Unit {0} ⊎ Unit {0}} to_sign from_sign Any _ (λ x f. (there x, tt)) (λ b h. here b)
@@ -102,7 +102,7 @@ sign-law =
     here true = refl
     here false = refl
 
-sign-closed : (b : Bool) (d : Word) → sign.more b d ≡ false
+pub sign-closed : (b : Bool) (d : Word) → sign.more b d ≡ false
 unfolding sign
 sign-closed true d = refl
 sign-closed false d = refl
