@@ -117,7 +117,7 @@ impl<'a> VariableForm<'a> for NameVariables {
 
     ghost seen = { text_of };
 
-    ghost variables = { λ _ . one words.free_name };
+    ghost variables = { λ _. one words.free_name };
 
     fn read_variable(&self, cursor: &mut Cursor<'_, 'a>) -> Result<&'a str, Refusal> {
         free_name(cursor)

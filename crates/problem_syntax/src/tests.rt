@@ -53,7 +53,10 @@ fn reads_all_forms(rt: HostRuntime) -> Result<(), Fail> {
 fn finds_first_dead_token(rt: HostRuntime) -> Result<(), Fail> {
     let alloc = rt.alloc();
     assert_eq!(rt; dead(alloc, b"cyclist proof 1;")?, Some((1, 1, 9)));
-    assert_eq!(rt; dead(alloc, b"cyclist problem 1;\npred p(x,) {")?, Some((9, 2, 10)));
+    assert_eq!(rt;
+        dead(alloc, b"cyclist problem 1;\npred p(x,) {")?,
+        Some((9, 2, 10))
+    );
     assert_eq!(rt;
         dead(alloc, b"cyclist problem 1;\npred p() { true : x' -> (x) };")?,
         Some((12, 2, 20))
@@ -67,11 +70,17 @@ fn finds_first_dead_token(rt: HostRuntime) -> Result<(), Fail> {
         Some((8, 2, 14))
     );
     assert_eq!(rt;
-        dead(alloc, b"cyclist problem 1;\ngoal true : x |- true : emp;\nend;")?,
+        dead(
+            alloc,
+            b"cyclist problem 1;\ngoal true : x |- true : emp;\nend;"
+        )?,
         Some((8, 2, 15))
     );
     assert_eq!(rt;
-        dead(alloc, b"cyclist problem 1;\ngoal x' = y : emp |- true : p(x') or true : emp;\nend; end")?,
+        dead(
+            alloc,
+            b"cyclist problem 1;\ngoal x' = y : emp |- true : p(x') or true : emp;\nend; end"
+        )?,
         Some((26, 3, 6))
     );
     Ok(())
