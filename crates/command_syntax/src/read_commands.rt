@@ -79,7 +79,15 @@ fn change<'a, F: VariableForm<'a>>(
 fn branch<'a, F: VariableForm<'a>>(
     form: &F,
     cursor: &mut Cursor<'_, 'a>,
-) -> Result<(OperandTree<F::Variable>, bool, OperandTree<F::Variable>, u32), Refusal>
+) -> Result<
+    (
+        OperandTree<F::Variable>,
+        bool,
+        OperandTree<F::Variable>,
+        u32,
+    ),
+    Refusal,
+>
     ensures { Gives (λ x. ((operand_of F.seen x.0, (x.1, (operand_of F.seen x.2, x.3))), cursor.new)) result ((branch (F.variables form.now)).read cursor.old) }
 {
     let left = operand(form, cursor)?;

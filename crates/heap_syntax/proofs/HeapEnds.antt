@@ -14,7 +14,7 @@ pub listed-inner : {A : Type 0} (default : A) (m n : Class (Unit {0})) (a : Synt
 unfolding listed
 listed-inner {A = A} default m n a h k ia = shaped-inner {A = A × List A} cons (uncons default) IsSome _ (seq-inner a _ ia (before-inner (more_listed m a) n k (many-inner (is_one m) _ (after-inner m a h ia))))
 
-sign-inner : Inner sign
+pub sign-inner : Inner sign
 unfolding sign
 sign-inner = shaped-inner {A = Unit {0} ⊎ Unit {0}} to_sign from_sign Any _ (alt-inner (is_one equal) (one equal) (one unequal) (one-inner equal (λ u f. syms.equal_word)) (one-inner unequal (λ u f. syms.unequal_word)))
 

@@ -6,7 +6,7 @@ use Rattle.std.proofs.lemmas.Slice.Eq.{bytes_eq-Decides}
 use Rattle.cyc_lex.specs.Word.{Word}
 use Rattle.cyc_lex.proofs.Letters.{letters-name}
 use Rattle.cyc_grammar.specs.Syntax.{Syntax, Class, one, seq, more_many, fits_many, fits_alt, after, before, is_one, uncons, join_empty, split_empty}
-use Rattle.cyc_grammar.specs.Classes.{is_free_name}
+use Rattle.cyc_grammar.specs.Classes.{keyword, is_free_name}
 use Rattle.cyc_grammar.proofs.Laws.{Lawful, Stops, Begins, BeginsNot, BeginsNot-append, ClassLaw, one-law, seq-law, shaped-law, alt-law, many-law, after-law, before-law, list1-law, or_empty-law, class-begins, uncons-cons, some-true, Stops-never}
 use Rattle.cyc_grammar.proofs.ClassLaws.{symbol-law, keyword-law, name-law}
 use Rattle.heap_syntax.specs.declared.tree.PureTree.{PureTree}
@@ -88,7 +88,7 @@ pub record AtomLaw {T : Type 0} (atom : Syntax (Spatial T)) : Type 0 where
 
 -- ---- pure atoms
 
-sign-law : Lawful sign
+pub sign-law : Lawful sign
 unfolding sign
 sign-law =
     shaped-law {A = Unit {0} ⊎ Unit {0}} to_sign from_sign Any _ (λ x f. (there x, tt)) (λ b h. here b)
@@ -102,7 +102,7 @@ sign-law =
     here true = refl
     here false = refl
 
-sign-closed : (b : Bool) (d : Word) → sign.more b d ≡ false
+pub sign-closed : (b : Bool) (d : Word) → sign.more b d ≡ false
 unfolding sign
 sign-closed true d = refl
 sign-closed false d = refl
@@ -122,9 +122,9 @@ pure-closed : {T : Type 0} (t : Terms T) → TermLaw t → (p : PureTree T) (d :
 unfolding pure
 pure-closed t a p d f h = a.closed p.right d f.1.1.1 h
 
-pure-not : {T : Type 0} (t : Terms T) → TermLaw t → (p : PureTree T) → (pure t.syntax).fits p → BeginsNot (is_one true_word) ((pure t.syntax).words p)
+pure-not : {T : Type 0} (t : Terms T) (test : Word → Bool) → ((x : T) → t.syntax.fits x → BeginsNot test (t.syntax.words x)) → (p : PureTree T) → (pure t.syntax).fits p → BeginsNot test ((pure t.syntax).words p)
 unfolding pure
-pure-not t a p f = BeginsNot-append (is_one true_word) _ _ (a.not_true p.left f.1.0)
+pure-not t test each p f = BeginsNot-append test _ _ (each p.left f.1.0)
 
 pures1-law : {T : Type 0} (t : Terms T) → TermLaw t → Lawful (pures1 t)
 unfolding pures1
@@ -137,7 +137,7 @@ pures1-some t ps f = listed-some (some_pure t) comma colon (pure t.syntax) ps f
 
 pures1-not : {T : Type 0} (t : Terms T) → TermLaw t → (ps : List (PureTree T)) → (pures1 t).fits ps → BeginsNot (is_one true_word) ((pures1 t).words ps)
 unfolding pures1
-pures1-not t a ps f = listed-not (some_pure t) comma colon (pure t.syntax) (is_one true_word) (pure-not t a) ps f
+pures1-not t a ps f = listed-not (some_pure t) comma colon (pure t.syntax) (is_one true_word) (pure-not t (is_one true_word) a.not_true) ps f
 
 pures-law : {T : Type 0} (t : Terms T) → TermLaw t → Lawful (pures t)
 unfolding pures
@@ -153,6 +153,11 @@ pures-law {T = T} t a =
     here : (ps : List (PureTree T)) → join_empty (split_empty ps) ≡ ps
     here [] = refl
     here (p ∷ ps) = refl
+
+pures-not : {T : Type 0} (t : Terms T) (test : Word → Bool) → test (true_word.word tt) ≡ false → ((x : T) → t.syntax.fits x → BeginsNot test (t.syntax.words x)) → (ps : List (PureTree T)) → (pures t).fits ps → BeginsNot test ((pures t).words ps)
+unfolding pures pures1
+pures-not t test none each [] f = none
+pures-not t test none each (p ∷ ps) f = listed-not (some_pure t) comma colon (pure t.syntax) test (pure-not t test each) (p ∷ ps) f.1
 
 pures-closed : {T : Type 0} (t : Terms T) (ps : List (PureTree T)) (d : Word) → (pures t).more ps d ≡ false
 unfolding pures pures1
@@ -195,20 +200,20 @@ pub nil-no-name : is_one free_name (nil.word tt) ≡ false
 unfolding is_free_name
 nil-no-name = rw (letters-name (codes "nil") refl) refl
 
--- a name is none of the reserved words
-pub free-not : (w : List ℕ) → is_free_name reserved w ≡ false → (s : List ℕ) → is_free_name reserved s ≡ true → bytes_eq s w ≡ false
+free-not : (w : List ℕ) → is_free_name reserved w ≡ false → (s : List ℕ) → is_free_name reserved s ≡ true → bytes_eq s w ≡ false
 free-not w taken s h = by_test (bytes_eq s w) refl
   where
     by_test : (b : Bool) → bytes_eq s w ≡ b → b ≡ false
     by_test true e = let same : is_free_name reserved s ≡ is_free_name reserved w = ap (is_free_name reserved) ((bytes_eq-Decides s w).0 e) in absurd cc
     by_test false e = refl
 
-emp-reserved : is_free_name reserved (codes "emp") ≡ false
+-- a name is none of the reserved keywords
+pub free-no : (w : List ℕ) → is_free_name reserved w ≡ false → (s : List ℕ) → is_free_name reserved s ≡ true → is_one (keyword w) (free_name.word s) ≡ false
+free-no w taken s h = rw (free-not w taken s h) refl
+
+pub emp-reserved : is_free_name reserved (codes "emp") ≡ false
 unfolding is_free_name
 emp-reserved = rw (letters-name (codes "emp") refl) refl
-
-pub free-not-emp : (s : List ℕ) → is_free_name reserved s ≡ true → is_one emp (free_name.word s) ≡ false
-free-not-emp s h = rw (free-not (codes "emp") emp-reserved s h) refl
 
 -- terms that begin with no name
 pub record Nameless {T : Type 0} (t : Terms T) : Type 0 where
@@ -254,7 +259,7 @@ spatial-closed t (Cell x ts) d = fields-closed t ts d
 
 spatial-not : {T : Type 0} (t : Terms T) → Nameless t → (s : Spatial T) → (spatial t).fits s → BeginsNot (is_one emp) ((spatial t).words s)
 unfolding spatial predicate cell
-spatial-not t n (Predicate s ts) f = free-not-emp s f.1.0
+spatial-not t n (Predicate s ts) f = free-no (codes "emp") emp-reserved s f.1.0
 spatial-not t n (Cell x ts) f = BeginsNot-append (is_one emp) _ _ (n.not_emp x f.1.0)
 
 pub spatial-all : {T : Type 0} (t : Terms T) → TermLaw t → Nameless t → AtomLaw (spatial t)
@@ -285,6 +290,11 @@ heap-law {T = T} t atom a b =
     shaped-law {A = List (PureTree T) × List (Spatial T)} to_heap from_heap Any _ (λ x f. (refl, tt)) (λ c h. refl)
     (seq-law (pures t) (spatials t atom) (pures-law t a) (spatials-law t atom b)
     (λ ps cs r fp fc h. closed-stops (pures t) (λ ps d f. pures-closed t ps d) ps fp ((spatials t atom).words cs ++ r)))
+
+-- what neither "true" nor a term begins with, no heap begins with
+pub heap-not : {T : Type 0} (t : Terms T) (atom : Syntax (Spatial T)) (test : Word → Bool) → test (true_word.word tt) ≡ false → ((x : T) → t.syntax.fits x → BeginsNot test (t.syntax.words x)) → (h : Heap T) → (heap t atom).fits h → BeginsNot test ((heap t atom).words h)
+unfolding heap
+heap-not t atom test none each h f = BeginsNot-append test _ _ (pures-not t test none each h.pure f.1.0)
 
 spatials-end : {T : Type 0} (t : Terms T) (atom : Syntax (Spatial T)) → AtomLaw atom → (d : Word) → is_one star d ≡ false → (cs : List (Spatial T)) → (spatials t atom).fits cs → (spatials t atom).more cs d ≡ false
 unfolding spatials spatials1

@@ -24,7 +24,11 @@ fn write_sign(is_equation: bool, writer: &mut WordWriter) -> Result<(), OutOfMem
 }
 
 #[tactic(auto, using(cyc_lex::proofs::WritingLaws::write_all_on), unfolding(crate::specs::Grammar::pure))]
-fn write_pure<'a, F: WrittenForm<'a>>(form: &F, tree: PureTree<F::Term>, writer: &mut WordWriter) -> Result<(), OutOfMemory>
+fn write_pure<'a, F: WrittenForm<'a>>(
+    form: &F,
+    tree: PureTree<F::Term>,
+    writer: &mut WordWriter,
+) -> Result<(), OutOfMemory>
     requires { (pure (F.terms form.now).syntax).fits (pure_of F.seen tree) }
     ensures { OnOk result (writer.new ≡ write_all writer.old ((pure (F.terms form.now).syntax).words (pure_of F.seen tree))) }
 {

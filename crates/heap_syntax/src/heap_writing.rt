@@ -7,10 +7,10 @@ ghost use Rattle.heap_syntax.specs.Words.{star, marked};
 ghost use Rattle.heap_syntax.specs.Grammar.{spatial, spatials, heap, heaps};
 ghost use Rattle.heap_syntax.specs.Trees.{spatial_of, heap_of};
 
+use crate::atom_writing::{write_pures, write_spatial};
 use crate::form::WrittenForm;
 use crate::mark::Mark;
 use crate::tree::{HeapTree, SpatialTree};
-use crate::atom_writing::{write_pures, write_spatial};
 use cyc_lex::WordWriter;
 use cyc_memory::OutOfMemory;
 

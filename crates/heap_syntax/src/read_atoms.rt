@@ -27,7 +27,10 @@ pub fn sign(cursor: &mut Cursor<'_, '_>) -> Result<bool, Refusal>
 }
 
 #[tactic(auto, unfolding(crate::specs::Grammar::pure))]
-fn pure<'a, F: TermForm<'a>>(form: &F, cursor: &mut Cursor<'_, 'a>) -> Result<PureTree<F::Term>, Refusal>
+fn pure<'a, F: TermForm<'a>>(
+    form: &F,
+    cursor: &mut Cursor<'_, 'a>,
+) -> Result<PureTree<F::Term>, Refusal>
     ensures { Gives (λ x. (pure_of F.seen x, cursor.new)) result ((pure (F.terms form.now).syntax).read cursor.old) }
 {
     let left = form.read_term(cursor)?;

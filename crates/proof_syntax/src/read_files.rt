@@ -22,12 +22,7 @@ use std::alloc::Global;
 fn cases<'a>(alloc: Global, cursor: &mut Cursor<'_, 'a>) -> Result<Vec<HeapTree<'a>>, Refusal>
     ensures { Gives (λ x. (map heap_of x.items, cursor.new)) result (cases.read cursor.old) }
 {
-    heaps(
-        alloc,
-        &Mark::Symbol("|"),
-        &Mark::Symbol("}"),
-        cursor,
-    )
+    heaps(alloc, &Mark::Symbol("|"), &Mark::Symbol("}"), cursor)
 }
 
 #[tactic(auto, unfolding(crate::specs::Grammar::definition))]
@@ -79,12 +74,7 @@ fn definitions<'a>(
 fn disjuncts<'a>(alloc: Global, cursor: &mut Cursor<'_, 'a>) -> Result<Vec<HeapTree<'a>>, Refusal>
     ensures { Gives (λ x. (map heap_of x.items, cursor.new)) result (disjuncts.read cursor.old) }
 {
-    heaps(
-        alloc,
-        &Mark::Keyword("or"),
-        &Mark::Keyword("by"),
-        cursor,
-    )
+    heaps(alloc, &Mark::Keyword("or"), &Mark::Keyword("by"), cursor)
 }
 
 #[tactic(auto, unfolding(crate::specs::Grammar::judgement))]

@@ -35,7 +35,13 @@ pub fn heaps<'a>(
 ) -> Result<Vec<HeapTree<'a>>, Refusal>
     ensures { Gives (λ x. (map heap_of x.items, cursor.new)) result ((heaps (marked between.now) (marked behind.now)).read cursor.old) }
 {
-    heap_syntax::heaps(alloc, &ProofForm { universal: false }, between, behind, cursor)
+    heap_syntax::heaps(
+        alloc,
+        &ProofForm { universal: false },
+        between,
+        behind,
+        cursor,
+    )
 }
 
 pub fn write_heap(

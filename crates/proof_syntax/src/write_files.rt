@@ -21,12 +21,7 @@ fn write_cases(trees: &[HeapTree<'_>], writer: &mut WordWriter) -> Result<(), Ou
     requires { cases.fits (map heap_of trees.now) }
     ensures { OnOk result (writer.new ≡ write_all writer.old (cases.words (map heap_of trees.now))) }
 {
-    write_heaps(
-        &Mark::Symbol("|"),
-        &Mark::Symbol("}"),
-        trees,
-        writer,
-    )
+    write_heaps(&Mark::Symbol("|"), &Mark::Symbol("}"), trees, writer)
 }
 
 #[tactic(auto, using(cyc_lex::proofs::WritingLaws::write_all_on), unfolding(crate::specs::Grammar::definition, cyc_lex::specs::Writing::write_all))]
@@ -63,12 +58,7 @@ fn write_disjuncts(trees: &[HeapTree<'_>], writer: &mut WordWriter) -> Result<()
     requires { disjuncts.fits (map heap_of trees.now) }
     ensures { OnOk result (writer.new ≡ write_all writer.old (disjuncts.words (map heap_of trees.now))) }
 {
-    write_heaps(
-        &Mark::Keyword("or"),
-        &Mark::Keyword("by"),
-        trees,
-        writer,
-    )
+    write_heaps(&Mark::Keyword("or"), &Mark::Keyword("by"), trees, writer)
 }
 
 #[tactic(auto, using(cyc_lex::proofs::WritingLaws::write_all_on), unfolding(crate::specs::Grammar::judgement, cyc_lex::specs::Writing::write_all))]

@@ -28,4 +28,3 @@ returns-in_err-read_atom g c =
     let lt : c.loop.counter < length c.args.cursor.now = rw (← c.left-end.ensures) c.loop-test.true in
     let p = err_from_is_err_and c.from_residual-in_err-read_atom.result c.from_residual-in_err-read_atom.ensures.1 in
     rw (p.1, p.2) (ends (is_one star) (after star (g.F.TermForm.atoms c.args.form.now)) c.in_err-read_atom.field-0.0 (map (spatial_of g.F.TermForm.seen) c.loop.items.items) (length c.args.cursor.now) c.loop.counter c.loop.cursor (with_front (map (spatial_of g.F.TermForm.seen) c.args.items.items) (read_many (is_one star) (after star (g.F.TermForm.atoms c.args.form.now)) (length c.args.cursor.now) c.args.cursor.now)) lt (sym c.if-not-is_symbol_next.ensures) (rw (c.in_ok-symbol.ensures) c.in_err-read_atom.ensures) c.loop.invariant)
-

@@ -1,0 +1,2 @@
+pub mod ProblemLaws
+pub mod ProblemEnds

@@ -1,0 +1,75 @@
+-- The texts of the grammar are of lexemes, and the end word stands last.
+use Rattle.std.proofs.Common.{◌≡◌, ℕ, Bool, true, false, List, [], refl, ◌⊎◌}
+use Rattle.std.specs.Prelude.{codes}
+use Rattle.cyc_lex.specs.Word.{are_lexemes}
+use Rattle.cyc_lex.proofs.Letters.{letters-name}
+use Rattle.cyc_grammar.specs.Syntax.{one, seq, is_one}
+use Rattle.cyc_grammar.specs.Classes.{number}
+use Rattle.cyc_grammar.proofs.ClassLaws.{number-lexeme}
+use Rattle.cyc_grammar.proofs.Ends.{Inner, EndsLast, one-inner, seq-inner, after-inner, before-inner, alt-inner, many-inner, shaped-inner, nothing-inner, or_empty-inner, end-once}
+use Rattle.heap_syntax.specs.Words.{nil, pred_word, or_word, last_word, cyclist_word, version, comma, semicolon, bar, arrow, turnstile, opening, closing, opening_brace, closing_brace, prime, free_name}
+use Rattle.heap_syntax.specs.Grammar.{Any}
+use Rattle.heap_syntax.proofs.WordTexts.{nil-word, pred-word, or-word, last-word, cyclist-word, version-word, syms}
+use Rattle.heap_syntax.proofs.HeapEnds.{listed-inner, fields-inner, arguments-inner, free_name-inner, heap-inner, heaps-inner}
+use Rattle.command_syntax.proofs.CommandLaws.{lines-inner}
+use Rattle.problem_syntax.specs.Trees.{Heap, Line, Definition, Goal}
+use Rattle.problem_syntax.specs.Grammar.{problem_word, goal_word, from_word, given_word, option_words, option, is_false, no_prime, forget, primes, to_named, from_named, term, terms, Atoms, to_spatial, from_spatial, behind_address, behind_name, spatial, heap, parameters, cases, to_definition, from_definition, definition, to_goal, from_goal, disjuncts, state, entailment, goal, definitions, lines, to_problem, from_problem, last_part, body, problem}
+
+-- ---- terms and spatial atoms
+
+option-inner : Inner (option prime)
+option-inner = record { inner = each }
+  where
+    each : (b : Bool) → Unit {0} → are_lexemes (option_words prime b) ≡ true
+    each true f = (one-inner prime (λ u f. syms.prime_word)).inner tt tt
+    each false f = refl
+
+primes-inner : (b : Bool) → Inner (primes b)
+unfolding primes
+primes-inner true = option-inner
+primes-inner false = shaped-inner {A = Unit {0}} no_prime forget is_false _ nothing-inner
+
+term-inner : (b : Bool) → Inner (term b)
+unfolding term
+term-inner b = shaped-inner {A = Unit {0} ⊎ (List ℕ × Bool)} to_named from_named Any _ (alt-inner (is_one nil) (one nil) _ (one-inner nil (λ u f. nil-word)) (seq-inner (one free_name) (primes b) free_name-inner (primes-inner b)))
+
+address-inner : (b : Bool) → Inner (behind_address b)
+address-inner b = after-inner arrow _ syms.arrow_word (after-inner opening _ syms.opening_word (fields-inner (terms b) (term-inner b)))
+
+spatial-inner : (b : Bool) → Inner (spatial b)
+unfolding spatial behind_name
+spatial-inner b = shaped-inner {A = Atoms} to_spatial from_spatial Any _ (alt-inner (is_one free_name) _ _
+    (seq-inner (one free_name) _ free_name-inner (alt-inner (is_one opening) _ _ (after-inner opening _ syms.opening_word (arguments-inner (terms b) (term-inner b))) (seq-inner (primes b) (behind_address b) (primes-inner b) (address-inner b))))
+    (after-inner nil _ nil-word (address-inner b)))
+
+heap-of : (b : Bool) → Inner (heap b)
+heap-of b = heap-inner (terms b) (spatial b) (term-inner b) (spatial-inner b)
+
+-- ---- definitions and goals
+
+definition-inner : Inner definition
+unfolding definition parameters cases
+definition-inner = shaped-inner {A = List ℕ × (List (List ℕ) × List Heap)} to_definition from_definition Any _ (after-inner pred_word _ pred-word (seq-inner (one free_name) _ free_name-inner (after-inner opening _ syms.opening_word
+    (seq-inner _ _ (or_empty-inner closing _ syms.closing_word (listed-inner [] comma closing (one free_name) syms.comma_word syms.closing_word free_name-inner))
+    (after-inner opening_brace _ syms.opening_brace_word (before-inner _ semicolon syms.semicolon_word (heaps-inner bar closing_brace (terms false) (spatial false) syms.bar_word syms.closing_brace_word (term-inner false) (spatial-inner false))))))))
+
+goal-inner : Inner goal
+unfolding goal state entailment disjuncts
+goal-inner = shaped-inner {A = (ℕ × Heap) ⊎ (Heap × List Heap)} to_goal from_goal Any _ (alt-inner (is_one from_word) _ _
+    (after-inner from_word _ (letters-name (codes "from") refl) (seq-inner (one number) _ (one-inner number number-lexeme) (after-inner given_word _ (letters-name (codes "given") refl) (before-inner (heap true) semicolon syms.semicolon_word (heap-of true)))))
+    (seq-inner (heap true) _ (heap-of true) (after-inner turnstile _ syms.turnstile_word (heaps-inner or_word semicolon (terms true) (spatial true) or-word syms.semicolon_word (term-inner true) (spatial-inner true)))))
+
+-- ---- problems
+
+last_part-inner : Inner last_part
+unfolding last_part
+last_part-inner = after-inner goal_word _ (letters-name (codes "goal") refl) (before-inner _ semicolon syms.semicolon_word (before-inner goal last_word last-word goal-inner))
+
+body-inner : Inner body
+unfolding body definitions
+body-inner = shaped-inner {A = List Definition × (List Line × Goal)} to_problem from_problem Any _ (after-inner cyclist_word _ cyclist-word (after-inner problem_word _ (letters-name (codes "problem") refl) (after-inner version _ version-word (after-inner semicolon _ syms.semicolon_word
+    (seq-inner _ _ (many-inner (is_one pred_word) definition definition-inner) (seq-inner lines last_part (lines-inner (one free_name) free_name-inner) last_part-inner))))))
+
+pub problem-last : EndsLast problem
+unfolding problem
+problem-last = end-once body body-inner

@@ -1,0 +1,13 @@
+//! Problem files as trees: their grammar, and reading a tree from tokens with the exact syntax fault.
+#![tactic(auto)]
+
+mod form;
+mod read_definitions;
+mod read_problem;
+mod tree;
+
+pub use read_problem::read_problem_tree;
+pub use tree::{DefinitionTree, GoalTree, HeapTree, LineTree, NameTree, ProblemTree};
+
+#[cfg(test)]
+mod tests;
