@@ -5,10 +5,10 @@ use std::alloc::Global;
 use std::test::Fail;
 
 /// A text, and how a run on it ends: its status and its line.
-type Text<'a> = (&'a [u8], u8, &'a str);
+type Text = (&'static [u8], u8, &'static str);
 
 /// The number of the first text that is answered otherwise, if there is one.
-fn first_other(alloc: Global, texts: &[Text<'_>]) -> Result<Option<usize>, Fail> {
+fn first_other(alloc: Global, texts: &'static [Text]) -> Result<Option<usize>, Fail> {
     let mut words = Vec::new(alloc);
     words.push(String::from_str(alloc, "check")?)?;
     for (number, text) in texts.iter().enumerate() {
@@ -26,392 +26,398 @@ fn first_other(alloc: Global, texts: &[Text<'_>]) -> Result<Option<usize>, Fail>
 }
 
 // The plainest texts, and a fault of each kind.
+static FIRST: &[Text] = &[
+    (
+        b"cyclist proof 1;\nnode true : emp |- true : emp by Done;\nend;\n",
+        0,
+        "accepted entailment nodes 1 links 0",
+    ),
+    (b"", 3, "unreadable syntax token 0 line 1 column 1"),
+    (b"a!\n", 3, "unreadable byte offset 1 line 1 column 2"),
+    (b"\xff\n", 3, "unreadable utf8 offset 0 line 1 column 1"),
+    (
+        b"1234567890\n",
+        3,
+        "unreadable number offset 0 line 1 column 1",
+    ),
+    (
+        b"aaaaaaaaaaaaaaaaaaaaaaaaaaaaaaaaaaaaaaaaaaaaaaaaaaaaaaaaaaaaaaaaa\n",
+        3,
+        "unreadable name offset 0 line 1 column 1",
+    ),
+    (
+        b"cyclist proof 1;\nnode true : $0 -> (nil) |- true : emp by Done;\nend;\n",
+        1,
+        "refused node 0 NotEmpty",
+    ),
+    (
+        b"cyclist proof 1;\nnode true : emp |- true : emp by Done to 0;\nend;\n",
+        1,
+        "refused node 0 PremiseCount",
+    ),
+    (
+        b"cyclist proof 1;\nnode true : emp |- true : emp by Done to 0;\nend\n",
+        3,
+        "unreadable syntax token 18 line 4 column 1",
+    ),
+    (
+        b"cyclist proof 1;\nnode true : emp |- true : emp by Done to 0;\nend",
+        3,
+        "unreadable syntax token 18 line 3 column 4",
+    ),
+    (
+        b"cyclist proof 1;\nnode true : emp |- true : emp by Done to 007;\nend;\n",
+        3,
+        "unreadable syntax token 15 line 2 column 42",
+    ),
+    (
+        b"cyclist proof 1;\nnode true : emp |- true : emp by Done to 0;\nend; end;\n",
+        3,
+        "unreadable syntax token 19 line 3 column 6",
+    ),
+];
+
 #[test]
 fn first_texts(rt: HostRuntime) -> Result<(), Fail> {
     let alloc = rt.alloc();
-    let texts: [Text<'_>; 12] = [
-        (
-            b"cyclist proof 1;\nnode true : emp |- true : emp by Done;\nend;\n",
-            0,
-            "accepted entailment nodes 1 links 0",
-        ),
-        (b"", 3, "unreadable syntax token 0 line 1 column 1"),
-        (b"a!\n", 3, "unreadable byte offset 1 line 1 column 2"),
-        (b"\xff\n", 3, "unreadable utf8 offset 0 line 1 column 1"),
-        (
-            b"1234567890\n",
-            3,
-            "unreadable number offset 0 line 1 column 1",
-        ),
-        (
-            b"aaaaaaaaaaaaaaaaaaaaaaaaaaaaaaaaaaaaaaaaaaaaaaaaaaaaaaaaaaaaaaaaa\n",
-            3,
-            "unreadable name offset 0 line 1 column 1",
-        ),
-        (
-            b"cyclist proof 1;\nnode true : $0 -> (nil) |- true : emp by Done;\nend;\n",
-            1,
-            "refused node 0 NotEmpty",
-        ),
-        (
-            b"cyclist proof 1;\nnode true : emp |- true : emp by Done to 0;\nend;\n",
-            1,
-            "refused node 0 PremiseCount",
-        ),
-        (
-            b"cyclist proof 1;\nnode true : emp |- true : emp by Done to 0;\nend\n",
-            3,
-            "unreadable syntax token 18 line 4 column 1",
-        ),
-        (
-            b"cyclist proof 1;\nnode true : emp |- true : emp by Done to 0;\nend",
-            3,
-            "unreadable syntax token 18 line 3 column 4",
-        ),
-        (
-            b"cyclist proof 1;\nnode true : emp |- true : emp by Done to 007;\nend;\n",
-            3,
-            "unreadable syntax token 15 line 2 column 42",
-        ),
-        (
-            b"cyclist proof 1;\nnode true : emp |- true : emp by Done to 0;\nend; end;\n",
-            3,
-            "unreadable syntax token 19 line 3 column 6",
-        ),
-    ];
-    assert_eq!(rt; first_other(alloc, &texts)?, None);
+    assert_eq!(rt; first_other(alloc, FIRST)?, None);
     Ok(())
 }
 
 // Several atoms, disjuncts, fields, nodes and definitions, with and without blanks.
+static RIGHT: &[Text] = &[
+    (
+        b"cyclist proof 1;\nnode $0 = nil, $0 != $1, nil = nil : emp |- true : emp by Done;\nend;\n",
+        0,
+        "accepted entailment nodes 1 links 0",
+    ),
+    (
+        b"cyclist proof 1;\nnode nil = nil : emp |- true : emp by Weaken 0 to 1;\nnode true : emp |- true : emp by Done;\nend;\n",
+        0,
+        "accepted entailment nodes 2 links 0",
+    ),
+    (
+        b"cyclist proof 1;\nnode true : emp |- nil != nil : emp or true : emp by Choose 1 to 1;\nnode true : emp |- true : emp by Done;\nend;\n",
+        0,
+        "accepted entailment nodes 2 links 0",
+    ),
+    (
+        b"cyclist proof 1;\nnode true : $0 -> (nil, $1, $2) |- true : $0 -> (nil, $1, $2) by Frame 0 0 to 1;\nnode true : emp |- true : emp by Done;\nend;\n",
+        0,
+        "accepted entailment nodes 2 links 0",
+    ),
+    (
+        b"cyclist proof 1;\nnode true : emp |- true : emp by Done;\nnode true : emp |- true : emp by Done;\nend;\n",
+        0,
+        "accepted entailment nodes 2 links 0",
+    ),
+    (
+        b"cyclist proof 1; # a comment\r\n\tnode true:emp|-true:emp by Done;end;# the end",
+        0,
+        "accepted entailment nodes 1 links 0",
+    ),
+    (
+        b"cyclist proof 1;node true:emp|-true:emp by Done;end;",
+        0,
+        "accepted entailment nodes 1 links 0",
+    ),
+    (
+        b"cyclist proof 1;\npred Done(0) { true : emp };\nnode true : Done() |- true : emp by Unfold 0 to 1;\nnode true : emp |- true : emp by Done;\nend;\n",
+        0,
+        "accepted entailment nodes 2 links 0",
+    ),
+    (
+        b"cyclist proof 1;\npred a(0) { true : b() };\npred b(0) { true : emp };\nnode true : emp |- true : emp by Done;\nend;\n",
+        0,
+        "accepted entailment nodes 1 links 0",
+    ),
+    (
+        b"cyclist proof 1;\npred \xc3\xa9t\xc3\xa9(0) { true : emp | true : \xc3\xa9t\xc3\xa9() };\nnode true : emp |- true : emp by Done;\nend;\n",
+        0,
+        "accepted entailment nodes 1 links 0",
+    ),
+    (
+        b"cyclist proof 1;\nnode true : nil -> (nil) |- nil != nil : emp by Absurd;\nend;\n",
+        0,
+        "accepted entailment nodes 1 links 0",
+    ),
+    (
+        b"cyclist proof 1;\nnode $3 != $3 : emp |- nil != nil : emp by Absurd;\nend;\n",
+        0,
+        "accepted entailment nodes 1 links 0",
+    ),
+    (
+        b"cyclist proof 1;\nnode true : $0 -> ($1) * $2 -> (nil) * $0 -> (nil) |- nil != nil : emp by Absurd;\nend;\n",
+        0,
+        "accepted entailment nodes 1 links 0",
+    ),
+];
+
 #[test]
 fn texts_that_are_right(rt: HostRuntime) -> Result<(), Fail> {
     let alloc = rt.alloc();
-    let texts: [Text<'_>; 13] = [
-        (
-            b"cyclist proof 1;\nnode $0 = nil, $0 != $1, nil = nil : emp |- true : emp by Done;\nend;\n",
-            0,
-            "accepted entailment nodes 1 links 0",
-        ),
-        (
-            b"cyclist proof 1;\nnode nil = nil : emp |- true : emp by Weaken 0 to 1;\nnode true : emp |- true : emp by Done;\nend;\n",
-            0,
-            "accepted entailment nodes 2 links 0",
-        ),
-        (
-            b"cyclist proof 1;\nnode true : emp |- nil != nil : emp or true : emp by Choose 1 to 1;\nnode true : emp |- true : emp by Done;\nend;\n",
-            0,
-            "accepted entailment nodes 2 links 0",
-        ),
-        (
-            b"cyclist proof 1;\nnode true : $0 -> (nil, $1, $2) |- true : $0 -> (nil, $1, $2) by Frame 0 0 to 1;\nnode true : emp |- true : emp by Done;\nend;\n",
-            0,
-            "accepted entailment nodes 2 links 0",
-        ),
-        (
-            b"cyclist proof 1;\nnode true : emp |- true : emp by Done;\nnode true : emp |- true : emp by Done;\nend;\n",
-            0,
-            "accepted entailment nodes 2 links 0",
-        ),
-        (
-            b"cyclist proof 1; # a comment\r\n\tnode true:emp|-true:emp by Done;end;# the end",
-            0,
-            "accepted entailment nodes 1 links 0",
-        ),
-        (
-            b"cyclist proof 1;node true:emp|-true:emp by Done;end;",
-            0,
-            "accepted entailment nodes 1 links 0",
-        ),
-        (
-            b"cyclist proof 1;\npred Done(0) { true : emp };\nnode true : Done() |- true : emp by Unfold 0 to 1;\nnode true : emp |- true : emp by Done;\nend;\n",
-            0,
-            "accepted entailment nodes 2 links 0",
-        ),
-        (
-            b"cyclist proof 1;\npred a(0) { true : b() };\npred b(0) { true : emp };\nnode true : emp |- true : emp by Done;\nend;\n",
-            0,
-            "accepted entailment nodes 1 links 0",
-        ),
-        (
-            b"cyclist proof 1;\npred \xc3\xa9t\xc3\xa9(0) { true : emp | true : \xc3\xa9t\xc3\xa9() };\nnode true : emp |- true : emp by Done;\nend;\n",
-            0,
-            "accepted entailment nodes 1 links 0",
-        ),
-        (
-            b"cyclist proof 1;\nnode true : nil -> (nil) |- nil != nil : emp by Absurd;\nend;\n",
-            0,
-            "accepted entailment nodes 1 links 0",
-        ),
-        (
-            b"cyclist proof 1;\nnode $3 != $3 : emp |- nil != nil : emp by Absurd;\nend;\n",
-            0,
-            "accepted entailment nodes 1 links 0",
-        ),
-        (
-            b"cyclist proof 1;\nnode true : $0 -> ($1) * $2 -> (nil) * $0 -> (nil) |- nil != nil : emp by Absurd;\nend;\n",
-            0,
-            "accepted entailment nodes 1 links 0",
-        ),
-    ];
-    assert_eq!(rt; first_other(alloc, &texts)?, None);
+    assert_eq!(rt; first_other(alloc, RIGHT)?, None);
     Ok(())
 }
 
 // The first bad place, though the grammar may fail before it.
+static TOKENS: &[Text] = &[
+    (
+        b"cyclist proof 1;\nnode ! true",
+        3,
+        "unreadable byte offset 22 line 2 column 6",
+    ),
+    (
+        b"cyclist proof 1;\nnode \xc3\xa9 \xe2\x82\xac",
+        3,
+        "unreadable byte offset 25 line 2 column 8",
+    ),
+    (
+        b"cyclist proof 1;\nnode true \xff",
+        3,
+        "unreadable utf8 offset 27 line 2 column 11",
+    ),
+    (b"# \xc3(\n", 3, "unreadable utf8 offset 2 line 1 column 3"),
+    (
+        b"cyclist proof 1234567890;",
+        3,
+        "unreadable number offset 14 line 1 column 15",
+    ),
+    (
+        b"proof cyclist @",
+        3,
+        "unreadable byte offset 14 line 1 column 15",
+    ),
+    (b"a - b", 3, "unreadable byte offset 2 line 1 column 3"),
+    (
+        b"a\n\r\nb xxxxxxxxxxxxxxxxxxxxxxxxxxxxxxxxxxxxxxxxxxxxxxxxxxxxxxxxxxxxxxxxx",
+        3,
+        "unreadable name offset 6 line 3 column 3",
+    ),
+];
+
 #[test]
 fn faults_of_tokens(rt: HostRuntime) -> Result<(), Fail> {
     let alloc = rt.alloc();
-    let texts: [Text<'_>; 8] = [
-        (
-            b"cyclist proof 1;\nnode ! true",
-            3,
-            "unreadable byte offset 22 line 2 column 6",
-        ),
-        (
-            b"cyclist proof 1;\nnode \xc3\xa9 \xe2\x82\xac",
-            3,
-            "unreadable byte offset 25 line 2 column 8",
-        ),
-        (
-            b"cyclist proof 1;\nnode true \xff",
-            3,
-            "unreadable utf8 offset 27 line 2 column 11",
-        ),
-        (b"# \xc3(\n", 3, "unreadable utf8 offset 2 line 1 column 3"),
-        (
-            b"cyclist proof 1234567890;",
-            3,
-            "unreadable number offset 14 line 1 column 15",
-        ),
-        (
-            b"proof cyclist @",
-            3,
-            "unreadable byte offset 14 line 1 column 15",
-        ),
-        (b"a - b", 3, "unreadable byte offset 2 line 1 column 3"),
-        (
-            b"a\n\r\nb xxxxxxxxxxxxxxxxxxxxxxxxxxxxxxxxxxxxxxxxxxxxxxxxxxxxxxxxxxxxxxxxx",
-            3,
-            "unreadable name offset 6 line 3 column 3",
-        ),
-    ];
-    assert_eq!(rt; first_other(alloc, &texts)?, None);
+    assert_eq!(rt; first_other(alloc, TOKENS)?, None);
     Ok(())
 }
 
 // The first token with which no text begins.
+static GRAMMAR: &[Text] = &[
+    (b"cyclist", 3, "unreadable syntax token 1 line 1 column 8"),
+    (
+        b"cyclist proof 2;\nnode true : emp |- true : emp by Done;\nend;\n",
+        3,
+        "unreadable syntax token 2 line 1 column 15",
+    ),
+    (
+        b"cyclist proof 01;\nnode true : emp |- true : emp by Done;\nend;\n",
+        3,
+        "unreadable syntax token 2 line 1 column 15",
+    ),
+    (
+        b"cyclist proof 1;\nend;\n",
+        3,
+        "unreadable syntax token 4 line 2 column 1",
+    ),
+    (
+        b"cyclist proof 1;\nnode true, nil = nil : emp |- true : emp by Done;\nend;\n",
+        3,
+        "unreadable syntax token 6 line 2 column 10",
+    ),
+    (
+        b"cyclist proof 1;\nnode nil = : emp |- true : emp by Done;\nend;\n",
+        3,
+        "unreadable syntax token 7 line 2 column 12",
+    ),
+    (
+        b"cyclist proof 1;\nnode $0 = ?0 : emp |- true : emp by Done;\nend;\n",
+        3,
+        "unreadable syntax token 8 line 2 column 11",
+    ),
+    (
+        b"cyclist proof 1;\nnode true : emp true |- true : emp by Done;\nend;\n",
+        3,
+        "unreadable syntax token 8 line 2 column 17",
+    ),
+    (
+        b"cyclist proof 1;\nnode true : $0 -> () |- true : emp by Done;\nend;\n",
+        3,
+        "unreadable syntax token 11 line 2 column 20",
+    ),
+    (
+        b"cyclist proof 1;\nnode true : emp |- true : emp or by Done;\nend;\n",
+        3,
+        "unreadable syntax token 13 line 2 column 34",
+    ),
+    (
+        b"cyclist proof 1;\nnode true : emp |- true : emp by done;\nend;\n",
+        3,
+        "unreadable syntax token 13 line 2 column 34",
+    ),
+    (
+        b"cyclist proof 1;\nnode true : emp |- true : emp by Done to;\nend;\n",
+        3,
+        "unreadable syntax token 15 line 2 column 41",
+    ),
+    (
+        b"cyclist proof 1;\nnode true : emp |- true : emp by Weaken;\nend;\n",
+        3,
+        "unreadable syntax token 14 line 2 column 40",
+    ),
+    (
+        b"cyclist proof 1;\nnode true : emp |- true : emp by Done\nend;\n",
+        3,
+        "unreadable syntax token 14 line 3 column 1",
+    ),
+    (
+        b"cyclist proof 1;\npred from(0) { true : emp };\nnode true : emp |- true : emp by Done;\nend;\n",
+        3,
+        "unreadable syntax token 5 line 2 column 6",
+    ),
+    (
+        b"cyclist proof 1;\npred p(0) { };\nnode true : emp |- true : emp by Done;\nend;\n",
+        3,
+        "unreadable syntax token 10 line 2 column 13",
+    ),
+    (
+        b"cyclist proof 1;\nnode true : emp |- true : emp by Done;\npred p(0) { true : emp };\nend;\n",
+        3,
+        "unreadable syntax token 15 line 3 column 1",
+    ),
+    (
+        b"cyclist proof 1;\npred p(9) { true : emp };\nnode true : emp |- true : emp by Done;\nend",
+        3,
+        "unreadable syntax token 27 line 4 column 4",
+    ),
+];
+
 #[test]
 fn faults_of_grammar(rt: HostRuntime) -> Result<(), Fail> {
     let alloc = rt.alloc();
-    let texts: [Text<'_>; 18] = [
-        (b"cyclist", 3, "unreadable syntax token 1 line 1 column 8"),
-        (
-            b"cyclist proof 2;\nnode true : emp |- true : emp by Done;\nend;\n",
-            3,
-            "unreadable syntax token 2 line 1 column 15",
-        ),
-        (
-            b"cyclist proof 01;\nnode true : emp |- true : emp by Done;\nend;\n",
-            3,
-            "unreadable syntax token 2 line 1 column 15",
-        ),
-        (
-            b"cyclist proof 1;\nend;\n",
-            3,
-            "unreadable syntax token 4 line 2 column 1",
-        ),
-        (
-            b"cyclist proof 1;\nnode true, nil = nil : emp |- true : emp by Done;\nend;\n",
-            3,
-            "unreadable syntax token 6 line 2 column 10",
-        ),
-        (
-            b"cyclist proof 1;\nnode nil = : emp |- true : emp by Done;\nend;\n",
-            3,
-            "unreadable syntax token 7 line 2 column 12",
-        ),
-        (
-            b"cyclist proof 1;\nnode $0 = ?0 : emp |- true : emp by Done;\nend;\n",
-            3,
-            "unreadable syntax token 8 line 2 column 11",
-        ),
-        (
-            b"cyclist proof 1;\nnode true : emp true |- true : emp by Done;\nend;\n",
-            3,
-            "unreadable syntax token 8 line 2 column 17",
-        ),
-        (
-            b"cyclist proof 1;\nnode true : $0 -> () |- true : emp by Done;\nend;\n",
-            3,
-            "unreadable syntax token 11 line 2 column 20",
-        ),
-        (
-            b"cyclist proof 1;\nnode true : emp |- true : emp or by Done;\nend;\n",
-            3,
-            "unreadable syntax token 13 line 2 column 34",
-        ),
-        (
-            b"cyclist proof 1;\nnode true : emp |- true : emp by done;\nend;\n",
-            3,
-            "unreadable syntax token 13 line 2 column 34",
-        ),
-        (
-            b"cyclist proof 1;\nnode true : emp |- true : emp by Done to;\nend;\n",
-            3,
-            "unreadable syntax token 15 line 2 column 41",
-        ),
-        (
-            b"cyclist proof 1;\nnode true : emp |- true : emp by Weaken;\nend;\n",
-            3,
-            "unreadable syntax token 14 line 2 column 40",
-        ),
-        (
-            b"cyclist proof 1;\nnode true : emp |- true : emp by Done\nend;\n",
-            3,
-            "unreadable syntax token 14 line 3 column 1",
-        ),
-        (
-            b"cyclist proof 1;\npred from(0) { true : emp };\nnode true : emp |- true : emp by Done;\nend;\n",
-            3,
-            "unreadable syntax token 5 line 2 column 6",
-        ),
-        (
-            b"cyclist proof 1;\npred p(0) { };\nnode true : emp |- true : emp by Done;\nend;\n",
-            3,
-            "unreadable syntax token 10 line 2 column 13",
-        ),
-        (
-            b"cyclist proof 1;\nnode true : emp |- true : emp by Done;\npred p(0) { true : emp };\nend;\n",
-            3,
-            "unreadable syntax token 15 line 3 column 1",
-        ),
-        (
-            b"cyclist proof 1;\npred p(9) { true : emp };\nnode true : emp |- true : emp by Done;\nend",
-            3,
-            "unreadable syntax token 27 line 4 column 4",
-        ),
-    ];
-    assert_eq!(rt; first_other(alloc, &texts)?, None);
+    assert_eq!(rt; first_other(alloc, GRAMMAR)?, None);
     Ok(())
 }
 
 // What is ill-formed, and what passes a limit, at its token.
+static SAID: &[Text] = &[
+    (
+        b"cyclist proof 1;\npred p(1) { $1 = nil : emp };\nnode true : emp |- true : emp by Done;\nend;\n",
+        4,
+        "ill-formed parameter token 11 line 2 column 14",
+    ),
+    (
+        b"cyclist proof 1;\nnode true : q() |- true : emp by Done;\nend;\n",
+        4,
+        "ill-formed unknown token 7 line 2 column 13",
+    ),
+    (
+        b"cyclist proof 1;\npred p(1) { true : emp };\nnode true : p() |- true : emp by Done;\nend;\n",
+        4,
+        "ill-formed arity token 18 line 3 column 13",
+    ),
+    (
+        b"cyclist proof 1;\npred p(0) { true : q() };\npred p(0) { true : emp };\nnode true : emp |- true : emp by Done;\nend;\n",
+        4,
+        "ill-formed unknown token 12 line 2 column 20",
+    ),
+    (
+        b"cyclist proof 1;\npred p(0) { true : emp };\npred p(0) { true : q() };\nnode true : emp |- true : emp by Done;\nend;\n",
+        4,
+        "ill-formed duplicate token 16 line 3 column 6",
+    ),
+    (
+        b"cyclist proof 1;\nnode true : emp |- true : emp by Cut [] true : q() to 0 0;\nend;\n",
+        4,
+        "ill-formed unknown token 18 line 2 column 48",
+    ),
+    (
+        b"cyclist proof 1;\npred p(9) { true : emp };\nnode true : emp |- true : emp by Done;\nend;\n",
+        5,
+        "limit arguments token 7 line 2 column 8",
+    ),
+    (
+        b"cyclist proof 1;\npred p(0) { true : ?16 -> (nil) };\nnode true : emp |- true : emp by Done;\nend;\n",
+        5,
+        "limit locals token 13 line 2 column 21",
+    ),
+    (
+        b"cyclist proof 1;\nnode $65535 = nil : emp |- true : emp by Done;\nend;\n",
+        5,
+        "limit variable token 6 line 2 column 7",
+    ),
+    (
+        b"cyclist proof 1;\nnode true : emp |- true : emp by Instantiate ?65535 nil to 0;\nend;\n",
+        5,
+        "limit variable token 15 line 2 column 47",
+    ),
+    (
+        b"cyclist proof 1;\nnode true : $0 -> (nil, nil, nil, nil, nil, nil, nil, nil, nil) |- true : emp by Done;\nend;\n",
+        5,
+        "limit arguments token 27 line 2 column 60",
+    ),
+    (
+        b"cyclist proof 1;\nnode true : emp |- true : emp by Link 0 { $65535 := nil } [] [0];\nend;\n",
+        5,
+        "limit variable token 17 line 2 column 44",
+    ),
+];
+
 #[test]
 fn faults_of_what_is_said(rt: HostRuntime) -> Result<(), Fail> {
     let alloc = rt.alloc();
-    let texts: [Text<'_>; 12] = [
-        (
-            b"cyclist proof 1;\npred p(1) { $1 = nil : emp };\nnode true : emp |- true : emp by Done;\nend;\n",
-            4,
-            "ill-formed parameter token 11 line 2 column 14",
-        ),
-        (
-            b"cyclist proof 1;\nnode true : q() |- true : emp by Done;\nend;\n",
-            4,
-            "ill-formed unknown token 7 line 2 column 13",
-        ),
-        (
-            b"cyclist proof 1;\npred p(1) { true : emp };\nnode true : p() |- true : emp by Done;\nend;\n",
-            4,
-            "ill-formed arity token 18 line 3 column 13",
-        ),
-        (
-            b"cyclist proof 1;\npred p(0) { true : q() };\npred p(0) { true : emp };\nnode true : emp |- true : emp by Done;\nend;\n",
-            4,
-            "ill-formed unknown token 12 line 2 column 20",
-        ),
-        (
-            b"cyclist proof 1;\npred p(0) { true : emp };\npred p(0) { true : q() };\nnode true : emp |- true : emp by Done;\nend;\n",
-            4,
-            "ill-formed duplicate token 16 line 3 column 6",
-        ),
-        (
-            b"cyclist proof 1;\nnode true : emp |- true : emp by Cut [] true : q() to 0 0;\nend;\n",
-            4,
-            "ill-formed unknown token 18 line 2 column 48",
-        ),
-        (
-            b"cyclist proof 1;\npred p(9) { true : emp };\nnode true : emp |- true : emp by Done;\nend;\n",
-            5,
-            "limit arguments token 7 line 2 column 8",
-        ),
-        (
-            b"cyclist proof 1;\npred p(0) { true : ?16 -> (nil) };\nnode true : emp |- true : emp by Done;\nend;\n",
-            5,
-            "limit locals token 13 line 2 column 21",
-        ),
-        (
-            b"cyclist proof 1;\nnode $65535 = nil : emp |- true : emp by Done;\nend;\n",
-            5,
-            "limit variable token 6 line 2 column 7",
-        ),
-        (
-            b"cyclist proof 1;\nnode true : emp |- true : emp by Instantiate ?65535 nil to 0;\nend;\n",
-            5,
-            "limit variable token 15 line 2 column 47",
-        ),
-        (
-            b"cyclist proof 1;\nnode true : $0 -> (nil, nil, nil, nil, nil, nil, nil, nil, nil) |- true : emp by Done;\nend;\n",
-            5,
-            "limit arguments token 27 line 2 column 60",
-        ),
-        (
-            b"cyclist proof 1;\nnode true : emp |- true : emp by Link 0 { $65535 := nil } [] [0];\nend;\n",
-            5,
-            "limit variable token 17 line 2 column 44",
-        ),
-    ];
-    assert_eq!(rt; first_other(alloc, &texts)?, None);
+    assert_eq!(rt; first_other(alloc, SAID)?, None);
     Ok(())
 }
 
 // The least node that is not right, with its first fault.
+static NODES: &[Text] = &[
+    (
+        b"cyclist proof 1;\nnode true : $0 -> (nil) |- true : emp by Done;\nnode true : emp |- true : $0 -> (nil) by Done to 1;\nend;\n",
+        1,
+        "refused node 0 NotEmpty",
+    ),
+    (
+        b"cyclist proof 1;\nnode true : emp |- true : emp by Done;\nnode true : emp |- true : $0 -> (nil) by Done;\nnode nil != nil : emp |- true : emp by Frame 0 0;\nend;\n",
+        1,
+        "refused node 1 NotEmpty",
+    ),
+    (
+        b"cyclist proof 1;\nnode nil = nil : emp |- true : emp by Weaken 0 to 0;\nend;\n",
+        1,
+        "refused node 0 NoSuchNode",
+    ),
+    (
+        b"cyclist proof 1;\nnode nil = nil : emp |- true : emp by Weaken 0 to 2;\nnode true : emp |- true : emp by Done;\nend;\n",
+        1,
+        "refused node 0 NoSuchNode",
+    ),
+    (
+        b"cyclist proof 1;\nnode nil = nil : emp |- true : emp by Weaken 0 to 1;\nnode nil = nil : emp |- true : emp by Done;\nend;\n",
+        1,
+        "refused node 0 PremiseDiffers 0",
+    ),
+    (
+        b"cyclist proof 1;\nnode nil = nil : emp |- true : emp by Weaken 1 to 1;\nnode true : emp |- true : emp by Done;\nend;\n",
+        1,
+        "refused node 0 NoSuchAtom",
+    ),
+    (
+        b"cyclist proof 1;\nnode true : emp |- true : emp or true : emp by Choose 2 to 1;\nnode true : emp |- true : emp by Done;\nend;\n",
+        1,
+        "refused node 0 NoSuchAtom",
+    ),
+    (
+        b"cyclist proof 1;\nnode true : emp |- true : emp or true : emp by Done;\nend;\n",
+        1,
+        "refused node 0 NotSingle",
+    ),
+];
+
 #[test]
 fn faults_of_nodes(rt: HostRuntime) -> Result<(), Fail> {
     let alloc = rt.alloc();
-    let texts: [Text<'_>; 8] = [
-        (
-            b"cyclist proof 1;\nnode true : $0 -> (nil) |- true : emp by Done;\nnode true : emp |- true : $0 -> (nil) by Done to 1;\nend;\n",
-            1,
-            "refused node 0 NotEmpty",
-        ),
-        (
-            b"cyclist proof 1;\nnode true : emp |- true : emp by Done;\nnode true : emp |- true : $0 -> (nil) by Done;\nnode nil != nil : emp |- true : emp by Frame 0 0;\nend;\n",
-            1,
-            "refused node 1 NotEmpty",
-        ),
-        (
-            b"cyclist proof 1;\nnode nil = nil : emp |- true : emp by Weaken 0 to 0;\nend;\n",
-            1,
-            "refused node 0 NoSuchNode",
-        ),
-        (
-            b"cyclist proof 1;\nnode nil = nil : emp |- true : emp by Weaken 0 to 2;\nnode true : emp |- true : emp by Done;\nend;\n",
-            1,
-            "refused node 0 NoSuchNode",
-        ),
-        (
-            b"cyclist proof 1;\nnode nil = nil : emp |- true : emp by Weaken 0 to 1;\nnode nil = nil : emp |- true : emp by Done;\nend;\n",
-            1,
-            "refused node 0 PremiseDiffers 0",
-        ),
-        (
-            b"cyclist proof 1;\nnode nil = nil : emp |- true : emp by Weaken 1 to 1;\nnode true : emp |- true : emp by Done;\nend;\n",
-            1,
-            "refused node 0 NoSuchAtom",
-        ),
-        (
-            b"cyclist proof 1;\nnode true : emp |- true : emp or true : emp by Choose 2 to 1;\nnode true : emp |- true : emp by Done;\nend;\n",
-            1,
-            "refused node 0 NoSuchAtom",
-        ),
-        (
-            b"cyclist proof 1;\nnode true : emp |- true : emp or true : emp by Done;\nend;\n",
-            1,
-            "refused node 0 NotSingle",
-        ),
-    ];
-    assert_eq!(rt; first_other(alloc, &texts)?, None);
+    assert_eq!(rt; first_other(alloc, NODES)?, None);
     Ok(())
 }
