@@ -12,7 +12,6 @@ use Rattle.proof_check.specs.Files.{AreRight, graph_of, nodes_of}
 use Rattle.proof_check.specs.Verdicts.{file_graph, state_limit, HasRightNodes, IsLeastFault, IsVerdict}
 use Rattle.cyc_top.specs.Answers.{verdict_status}
 
-
 pub same_back : (f g : ProofFile) → AreSame f g → AreSame g f
 same_back f g same =
     record { version = sym same.version; most = sym same.most; definitions = sym same.definitions; nodes = sym same.nodes }
