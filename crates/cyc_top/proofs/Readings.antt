@@ -1,7 +1,6 @@
 -- Bytes are read in one way.
 use Rattle.std.proofs.Common.{◌≡◌, ◌≢◌, ◌⊎◌, inl, inr, ℕ, List, Result, Ok, Err, refl, sym, subst}
 use Rattle.cyc_lex.specs.declared.fault.LexFault.{LexFault}
-use Rattle.cyc_lex.specs.declared.fault.LexFault.TheVariants as lexical
 use Rattle.cyc_lex.specs.declared.fault.ReadFault.{ReadFault}
 use Rattle.cyc_lex.specs.declared.fault.ReadFault.TheVariants as faults
 use Rattle.cyc_lex.specs.Lexing.{tokens_of}
