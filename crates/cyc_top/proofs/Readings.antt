@@ -1,29 +1,14 @@
 -- Bytes are read in one way.
-use Rattle.std.proofs.Common.{◌≡◌, ◌≢◌, ◌⊎◌, inl, inr, ℕ, ◌+◌, List, [], ◌∷◌, ◌++◌, length, take, drop, Option, Some, None, Result, Ok, Err, refl, sym, ap, subst, ◌∙◌, take-append-drop}
-use Rattle.std.specs.Prelude.{map}
-use Rattle.cyc_lex.specs.declared.fault.IllFault.{IllFault}
-use Rattle.cyc_lex.specs.declared.fault.What.{What}
+use Rattle.std.proofs.Common.{◌≡◌, ◌≢◌, ◌⊎◌, inl, inr, ℕ, List, Result, Ok, Err, refl, sym, subst}
 use Rattle.cyc_lex.specs.declared.fault.LexFault.{LexFault}
-use Rattle.cyc_lex.specs.declared.fault.LexFault.TheVariants as lexical
 use Rattle.cyc_lex.specs.declared.fault.ReadFault.{ReadFault}
 use Rattle.cyc_lex.specs.declared.fault.ReadFault.TheVariants as faults
 use Rattle.cyc_lex.specs.Lexing.{tokens_of}
 use Rattle.cyc_lex.specs.Placed.{Placed}
-use Rattle.cyc_lex.specs.Word.{word_of}
-use Rattle.cyc_grammar.specs.Syntax.{read_whole}
-use Rattle.cyc_grammar.specs.Faults.{IsSyntaxFault}
-use Rattle.cyc_grammar.proofs.Laws.{ok_is, whole_again}
-use Rattle.proof_syntax.specs.Trees.{File}
-use Rattle.proof_syntax.specs.Grammar.{file}
-use Rattle.proof_syntax.proofs.GrammarLaws.{file-law}
 use Rattle.proof_file.specs.declared.file.ProofFile.{ProofFile}
-use Rattle.proof_file.specs.declared.flaw.Item.{Item}
 use Rattle.proof_file.specs.declared.flaw.Item.TheVariants.{Ill, Over}
-use Rattle.proof_file.specs.declared.flaw.Flaw.{Flaw}
-use Rattle.proof_file.specs.Flaws.{file_flaw}
-use Rattle.proof_file.specs.Reading.{AreSame, HasFlaw, IsFileOf, IsLexFault, IsRead, IsReadFrom, Reads, SpellsFile, SpellsTree}
-use Rattle.proof_file.proofs.Readings.{same_tree, no_syntax_fault, no_flaw, one_flaw, one_file, no_tokens, ok_tokens}
-use Rattle.cyc_top.specs.declared.endings.Status.{Status}
+use Rattle.proof_file.specs.Reading.{AreSame, IsLexFault, IsRead, IsReadFrom, Reads}
+use Rattle.proof_file.proofs.Readings.{no_syntax_fault, no_flaw, one_flaw, one_file, no_tokens, ok_tokens}
 use Rattle.cyc_top.specs.Answers.{fault_status}
 
 -- two readings give the same definitions and nodes, or faults that end a task in the same way
