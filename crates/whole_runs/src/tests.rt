@@ -1,6 +1,7 @@
 //! Texts, and the status and line that a run on each ends with. The places were counted by hand.
-use cyc_io::{StdSink, StdSource};
+use cyc_io::{PlainSink, PlainSource, StdSink, StdSource};
 use cyc_top::run;
+use proof_file::{read_file, write_file};
 use std::alloc::Global;
 use std::test::Fail;
 
@@ -23,6 +24,34 @@ fn first_other(alloc: Global, texts: &'static [Text]) -> Result<Option<usize>, F
         }
     }
     Ok(None)
+}
+
+/// The number of the first text that is answered otherwise when a read takes one byte and a write three, if there is one.
+fn first_other_by_bytes(alloc: Global, texts: &'static [Text]) -> Result<Option<usize>, Fail> {
+    let mut words = Vec::new(alloc);
+    words.push(String::from_str(alloc, "check")?)?;
+    for (number, text) in texts.iter().enumerate() {
+        let (input, code, line) = *text;
+        let mut src = PlainSource::new(Vec::from_slice(alloc, input)?, 1);
+        let mut out = PlainSink::new(alloc, 1000, 3)?;
+        let status = run(alloc, words.as_slice(), &mut src, &mut out);
+        let is_line = out.written().strip_suffix(b"\n".as_slice()) == Some(line.as_bytes());
+        if status.code() != code || !is_line {
+            return Ok(Some(number));
+        }
+    }
+    Ok(None)
+}
+
+/// What is written of the file that the bytes spell.
+fn written_again(alloc: Global, bytes: &[u8]) -> Result<Vec<u8>, &'static str> {
+    if bytes.len() > 10000 {
+        return Err("long");
+    }
+    match read_file(alloc, bytes) {
+        Err(_) => Err("not read"),
+        Ok(file) => write_file(alloc, &file).map_err(|_| "no memory"),
+    }
 }
 
 // The plainest texts, and a fault of each kind.
@@ -419,5 +448,88 @@ static NODES: &[Text] = &[
 fn faults_of_nodes(rt: HostRuntime) -> Result<(), Fail> {
     let alloc = rt.alloc();
     assert_eq!(rt; first_other(alloc, NODES)?, None);
+    Ok(())
+}
+
+// Accepted files, each in the written form.
+static ACCEPTED: &[Text] = &[
+    (
+        b"cyclist proof 1;\nnode true : $0 -> (nil) |- $0 != nil : $0 -> (nil) or true : emp by Choose 0 to 1;\nnode true : $0 -> (nil) |- $0 != nil : $0 -> (nil) by Distinct 0 0 to 2;\nnode $0 != nil : $0 -> (nil) |- $0 != nil : $0 -> (nil) by PureRight 0 to 3;\nnode $0 != nil : $0 -> (nil) |- true : $0 -> (nil) by Frame 0 0 to 4;\nnode $0 != nil : emp |- true : emp by Done;\nend;\n",
+        0,
+        "accepted entailment nodes 5 links 0",
+    ),
+    (
+        b"cyclist proof 1;\nnode true : $0 -> ($1) |- true : $0 -> ($1) by Frame 0 0 to 1;\nnode true : emp |- true : emp by Done;\nend;\n",
+        0,
+        "accepted entailment nodes 2 links 0",
+    ),
+    (
+        b"cyclist proof 1;\nnode $0 = $1 : $0 -> ($1) |- true : $1 -> (?0) by Rewrite 0 left to 1;\nnode true : $1 -> ($1) |- true : $1 -> (?0) by Instantiate ?0 $1 to 2;\nnode true : $1 -> ($1) |- true : $1 -> ($1) by Frame 0 0 to 3;\nnode true : emp |- true : emp by Done;\nend;\n",
+        0,
+        "accepted entailment nodes 4 links 0",
+    ),
+    (
+        b"cyclist proof 1;\nnode true : nil -> (nil) * nil -> (nil) * nil -> (nil) * nil -> (nil) * nil -> (nil) * nil -> (nil) * nil -> (nil) * nil -> (nil) * nil -> (nil) * nil -> (nil) * nil -> (nil) * nil -> (nil) * nil -> (nil) * nil -> (nil) * nil -> (nil) * nil -> (nil) |- true : emp by Absurd;\nend;\n",
+        0,
+        "accepted entailment nodes 1 links 0",
+    ),
+    (
+        b"cyclist proof 1;\nnode nil != nil : emp |- true : emp or true : emp or true : emp or true : emp or true : emp or true : emp or true : emp or true : emp or true : emp or true : emp or true : emp or true : emp or true : emp or true : emp or true : emp or true : emp by Absurd;\nend;\n",
+        0,
+        "accepted entailment nodes 1 links 0",
+    ),
+    (
+        b"cyclist proof 1;\nnode nil = nil, nil = nil, nil = nil, nil = nil, nil = nil, nil = nil, nil = nil, nil = nil, nil = nil, nil = nil, nil = nil, nil = nil, nil = nil, nil = nil, nil = nil, nil = nil, nil = nil, nil = nil, nil = nil, nil = nil, nil = nil, nil = nil, nil = nil, nil = nil, nil = nil, nil = nil, nil = nil, nil = nil, nil = nil, nil = nil, nil = nil, nil = nil, nil = nil, nil = nil, nil = nil, nil = nil, nil = nil, nil = nil, nil = nil, nil = nil, nil = nil, nil = nil, nil = nil, nil = nil, nil = nil, nil = nil, nil = nil, nil = nil, nil = nil, nil = nil, nil = nil, nil = nil, nil = nil, nil = nil, nil = nil, nil = nil, nil = nil, nil = nil, nil = nil, nil = nil, nil = nil, nil = nil, nil = nil, nil = nil : emp |- true : emp by Done;\nend;\n",
+        0,
+        "accepted entailment nodes 1 links 0",
+    ),
+    (
+        b"cyclist proof 1;\npred e(1) { $0 = nil : emp };\nnode true : e($0) |- $0 = nil : emp by Unfold 0 to 1;\nnode $0 = nil : emp |- $0 = nil : emp by Rewrite 0 left to 2;\nnode true : emp |- nil = nil : emp by PureRight 0 to 3;\nnode true : emp |- true : emp by Done;\nend;\n",
+        0,
+        "accepted entailment nodes 4 links 0",
+    ),
+    (
+        b"cyclist proof 1;\nnode true : $0 -> (nil) |- true : $0 -> (nil) by Cut [0] true : $0 -> (nil) to 1 1;\nnode true : $0 -> (nil) |- true : $0 -> (nil) by Frame 0 0 to 2;\nnode true : emp |- true : emp by Done;\nend;\n",
+        0,
+        "accepted entailment nodes 3 links 0",
+    ),
+    (
+        b"cyclist proof 1;\nnode true : emp |- true : emp by Done;\nnode true : emp |- true : emp by Link 1 { } [] [0];\nend;\n",
+        0,
+        "accepted entailment nodes 2 links 1",
+    ),
+    (
+        b"cyclist proof 1;\npred ls(2) { $0 = $1 : emp | true : $0 -> (?0) * ls(?0, $1) };\nnode true : ls($0, $1) * ls($1, $2) |- true : ls($0, $2) by Unfold 0 to 1 4;\nnode $0 = $1 : ls($1, $2) |- true : ls($0, $2) by Rewrite 0 left to 2;\nnode true : ls($1, $2) |- true : ls($1, $2) by Frame 0 0 to 3;\nnode true : emp |- true : emp by Done;\nnode true : ls($1, $2) * $0 -> ($3) * ls($3, $1) |- true : ls($0, $2) by UnfoldRight 0 1 to 5;\nnode true : ls($1, $2) * $0 -> ($3) * ls($3, $1) |- true : $0 -> (?0) * ls(?0, $2) by Instantiate ?0 $3 to 6;\nnode true : ls($1, $2) * $0 -> ($3) * ls($3, $1) |- true : $0 -> ($3) * ls($3, $2) by Frame 1 0 to 7;\nnode true : ls($1, $2) * ls($3, $1) |- true : ls($3, $2) by Link 0 { $0 := $3, $1 := $1, $2 := $2 } [1 0] [0];\nend;\n",
+        0,
+        "accepted entailment nodes 8 links 1",
+    ),
+    (
+        b"cyclist proof 1;\npred p(1) { true : $0 -> (?0) * p(?0) };\nnode true : p($0) |- nil != nil : emp by Unfold 0 to 1;\nnode true : $0 -> ($1) * p($1) |- nil != nil : emp by Cut [1] nil != nil : emp to 2 3;\nnode true : p($1) |- nil != nil : emp by Link 0 { $0 := $1 } [0] [0];\nnode nil != nil : $0 -> ($1) |- nil != nil : emp by Absurd;\nend;\n",
+        0,
+        "accepted entailment nodes 4 links 1",
+    ),
+];
+
+#[test]
+fn accepted_files(rt: HostRuntime) -> Result<(), Fail> {
+    let alloc = rt.alloc();
+    assert_eq!(rt; first_other(alloc, ACCEPTED)?, None);
+    Ok(())
+}
+
+#[test]
+fn files_are_written_as_they_were_read(rt: HostRuntime) -> Result<(), Fail> {
+    let alloc = rt.alloc();
+    for (bytes, _, _) in ACCEPTED {
+        let written = written_again(alloc, bytes)?;
+        assert!(rt; written.as_slice() == *bytes);
+    }
+    Ok(())
+}
+
+#[test]
+fn texts_in_small_pieces(rt: HostRuntime) -> Result<(), Fail> {
+    let alloc = rt.alloc();
+    assert_eq!(rt; first_other_by_bytes(alloc, FIRST)?, None);
     Ok(())
 }
