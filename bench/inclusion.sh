@@ -4,12 +4,7 @@
 # Turns: n atoms, of which the first is unfolded again and again, behind it two ways on, one of which turns the order of the
 # atoms round; the more atoms, the more forests. Its numbers of states were counted by another program.
 # Prints figures; it passes and fails nothing.
-set -u
-top=$(cd "$(dirname "$0")/.." && pwd)
-program=${1:-$top/crates/cyclist/out/cyclist}
-[ -x "$program" ] || { echo "no program at $program; build it with $top/cyclist" >&2; exit 1; }
-work=$(mktemp -d)
-trap 'rm -rf "$work"' EXIT
+. "$(dirname "${BASH_SOURCE[0]}")/common.sh"
 
 ring() { # K
   awk -v K="$1" '
@@ -61,11 +56,8 @@ turns() { # ATOMS NODES: so many atoms, and nodes before the two ways part
 }
 
 measure() { # NAME STATES
-  local start end spent
-  start=$(date +%s.%N)
-  "$program" check < "$work/file" > "$work/answer"
-  end=$(date +%s.%N)
-  spent=$(echo "$end - $start" | bc)
+  local spent
+  spent=$(seconds "$program" check)
   printf '%-12s %8d states %8.2f s %10.0f states/s  %s\n' "$1" "$2" "$spent" "$(echo "$2 / $spent" | bc -l)" "$(cut -c1-60 "$work/answer")"
 }
 

@@ -2,12 +2,7 @@
 # bench/reading.sh [PROGRAM]: how fast texts are read and answered. First megabytes a second for large texts, beside those
 # of `wc -c` on the same bytes; then seconds for more and more nodes, definitions, and nodes of a loop.
 # Prints figures; it passes and fails nothing.
-set -u
-top=$(cd "$(dirname "$0")/.." && pwd)
-program=${1:-$top/crates/cyclist/out/cyclist}
-[ -x "$program" ] || { echo "no program at $program; build it with $top/cyclist" >&2; exit 1; }
-work=$(mktemp -d)
-trap 'rm -rf "$work"' EXIT
+. "$(dirname "${BASH_SOURCE[0]}")/common.sh"
 
 repeated() { # TEXT COUNT: the text so many times
   yes "$1" | head -n "$2"
@@ -33,14 +28,6 @@ loop() {
   for ((i = 0; i < $1; i++)); do echo "node true : e(\$0) |- true : emp by Unfold 0 to $((i + 1));"; done
   echo 'node true : e($0) |- true : emp by Link 0 { $0 := $0 } [0] [0];'
   echo 'end;'
-}
-
-seconds() { # COMMAND..: of a run with the file as its input
-  local start end
-  start=$(date +%s.%N)
-  "$@" < "$work/file" > "$work/answer"
-  end=$(date +%s.%N)
-  echo "$end - $start" | bc
 }
 
 rate() { # NAME: megabytes a second
