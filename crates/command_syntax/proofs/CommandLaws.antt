@@ -1,14 +1,14 @@
 -- Programs over lawful variables are lawful, and their texts are of lexemes.
-use Rattle.std.proofs.Common.{◌≡◌, ℕ, Bool, true, false, List, [], ◌∷◌, ◌++◌, refl, inl, inr, ◌⊎◌}
+use Rattle.std.proofs.Common.{◌≡◌, ℕ, Bool, false, List, [], ◌∷◌, ◌++◌, refl, inl, inr, ◌⊎◌}
 use Rattle.std.specs.Prelude.{codes}
-use Rattle.cyc_lex.specs.Word.{Word, is_lexeme}
+use Rattle.cyc_lex.specs.Word.{Word}
 use Rattle.cyc_lex.proofs.Letters.{letters-name}
-use Rattle.cyc_grammar.specs.Syntax.{Syntax, Class, one, seq, alt, after, before, is_one}
+use Rattle.cyc_grammar.specs.Syntax.{Syntax, one, seq, alt, after, before, is_one}
 use Rattle.cyc_grammar.specs.Classes.{number}
-use Rattle.cyc_grammar.proofs.Laws.{Lawful, Stops, Begins, BeginsNot, BeginsNot-append, one-law, seq-law, shaped-law, alt-law, many-law, after-law, before-law, Stops-never}
+use Rattle.cyc_grammar.proofs.Laws.{Lawful, Begins, BeginsNot, BeginsNot-append, one-law, seq-law, shaped-law, alt-law, many-law, after-law, before-law, Stops-never}
 use Rattle.cyc_grammar.proofs.ClassLaws.{symbol-law, keyword-law, number-law, number-lexeme}
 use Rattle.cyc_grammar.proofs.Ends.{Inner, one-inner, seq-inner, after-inner, before-inner, alt-inner, many-inner, shaped-inner}
-use Rattle.heap_syntax.specs.Words.{nil, equal, unequal, colon, semicolon, assign}
+use Rattle.heap_syntax.specs.Words.{nil, colon, semicolon, assign}
 use Rattle.heap_syntax.specs.Grammar.{Any, sign}
 use Rattle.heap_syntax.proofs.HeapLaws.{closed-stops, sign-law, sign-closed}
 use Rattle.heap_syntax.proofs.HeapEnds.{sign-inner}

@@ -1,5 +1,4 @@
 -- Trees of programs without where they lie in memory; V is the type of the variables.
-use Rattle.std.specs.Prelude.{ℕ, Bool}
 use Rattle.command_syntax.specs.declared.tree.OperandTree.{OperandTree}
 use Rattle.command_syntax.specs.declared.tree.OperandTree.TheVariants.{Nil, Variable}
 use Rattle.command_syntax.specs.declared.tree.CommandTree.{CommandTree}

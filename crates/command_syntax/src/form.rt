@@ -1,10 +1,13 @@
 //! Forms of program variables: what tells the lines of one format from those of another.
 
-ghost use Rattle.std.specs.Prelude.{◌≡◌};
+ghost use Rattle.std.specs.Prelude.{◌≡◌, OnOk};
+ghost use Rattle.cyc_lex.specs.Writing.{write_all};
 ghost use Rattle.cyc_grammar.specs.Giving.{Gives};
 ghost use Rattle.cyc_grammar.specs.Syntax.{Syntax};
 
 use cyc_grammar::{Cursor, Refusal};
+use cyc_lex::WordWriter;
+use cyc_memory::OutOfMemory;
 
 /// The program variables of a format, and how they are read.
 pub trait VariableForm<'a> {
@@ -23,4 +26,16 @@ pub trait VariableForm<'a> {
     /// Reads a variable.
     fn read_variable(&self, cursor: &mut Cursor<'_, 'a>) -> Result<Self::Variable, Refusal>
         ensures { Gives (λ x. (seen x, cursor.new)) result ((variables self.now).read cursor.old) };
+}
+
+/// How the program variables are written.
+pub trait WrittenVariable<'a>: VariableForm<'a> {
+    /// Writes a variable.
+    fn write_variable(
+        &self,
+        variable: Self::Variable,
+        writer: &mut WordWriter,
+    ) -> Result<(), OutOfMemory>
+        requires { (Self.variables self.now).fits (Self.seen variable) }
+        ensures { OnOk result (writer.new ≡ write_all writer.old ((Self.variables self.now).words (Self.seen variable))) };
 }

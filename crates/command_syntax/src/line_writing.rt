@@ -1,0 +1,43 @@
+//! Writing the lines of a program.
+
+ghost use Rattle.std.specs.Prelude.{◌≡◌, map, OnOk};
+ghost use Rattle.cyc_lex.specs.Writing.{write_all};
+ghost use Rattle.command_syntax.specs.Grammar.{line, lines};
+ghost use Rattle.command_syntax.specs.Trees.{line_of};
+
+use crate::command_writing::write_command;
+use crate::form::WrittenVariable;
+use crate::tree::LineTree;
+use cyc_lex::WordWriter;
+use cyc_memory::OutOfMemory;
+
+#[tactic(auto, using(cyc_lex::proofs::WritingLaws::write_all_on), unfolding(crate::specs::Grammar::line, cyc_lex::specs::Writing::write_all))]
+fn write_line<'a, F: WrittenVariable<'a>>(
+    form: &F,
+    tree: LineTree<F::Variable>,
+    writer: &mut WordWriter,
+) -> Result<(), OutOfMemory>
+    requires { (line (F.variables form.now)).fits (line_of F.seen tree) }
+    ensures { OnOk result (writer.new ≡ write_all writer.old ((line (F.variables form.now)).words (line_of F.seen tree))) }
+{
+    writer.name("line")?;
+    writer.number(tree.number)?;
+    writer.symbol(":")?;
+    write_command(form, tree.command, writer)
+}
+
+/// Writes the lines of a program.
+#[tactic(auto, unfolding(crate::specs::Grammar::lines))]
+pub fn write_lines<'a, F: WrittenVariable<'a>>(
+    form: &F,
+    trees: &[LineTree<F::Variable>],
+    writer: &mut WordWriter,
+) -> Result<(), OutOfMemory>
+    requires { (lines (F.variables form.now)).fits (map (line_of F.seen) trees.now) }
+    ensures { OnOk result (writer.new ≡ write_all writer.old ((lines (F.variables form.now)).words (map (line_of F.seen) trees.now))) }
+{
+    for tree in trees {
+        write_line(form, *tree, writer)?;
+    }
+    Ok(())
+}
