@@ -1,0 +1,7 @@
+mod TokenPlaces
+pub mod NoFlaw
+pub mod Fitting
+pub mod Programs
+pub mod WithinSpans
+pub mod SpanLaws
+mod ShortTexts

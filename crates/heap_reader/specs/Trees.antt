@@ -1,0 +1,22 @@
+-- What a contract sees of heaps as trees, where their terms hold nothing borrowed, and of the predicates that are known.
+use Rattle.std.specs.Prelude.{ℕ, List, map}
+use Rattle.heap_syntax.specs.declared.tree.SpatialTree.{SpatialTree}
+use Rattle.heap_syntax.specs.declared.tree.SpatialTree.TheVariants as trees
+use Rattle.heap_syntax.specs.declared.tree.HeapTree.{HeapTree}
+use Rattle.heap_syntax.specs.Trees.{Spatial, Cell, Predicate, Heap}
+use Rattle.heap_reader.specs.declared.head.Head.{Head}
+
+abbrev pub spatial_of : {T : Type 0} → SpatialTree T → Spatial T
+spatial_of (trees.Cell address fields) = Cell address fields.items
+spatial_of (trees.Predicate name args) = Predicate name.now args.items
+
+abbrev pub heap_of : {T : Type 0} → HeapTree T → Heap T
+heap_of h = record { pure = h.pure.items; spatial = map spatial_of h.spatial.items }
+
+-- a predicate's name and arity
+pub record Heading : Type 0 where
+  pub name : List ℕ
+  pub arity : ℕ
+
+abbrev pub heading_of : Head → Heading
+heading_of h = record { name = h.name.now; arity = h.arity }

@@ -1,0 +1,32 @@
+// Telling a flaw by its token's line and column.
+ghost use Rattle.std.specs.Prelude.{◌<◌, ◌^◌, length};
+ghost use Rattle.heap_reader.specs.Told.{IsFlawTold};
+
+use crate::flaw::{Flaw, Item};
+use cyc_lex::{ReadFault, Tokens};
+
+/// The flaw as a reader tells it, with its token's line and column.
+pub fn flaw_fault(tokens: &Tokens<'_>, flaw: Flaw) -> ReadFault
+    requires there { flaw.token < length tokens.now }
+    requires few { length tokens.now < 2 ^ 32 }
+    ensures { IsFlawTold tokens.now flaw result }
+{
+    let all = tokens.as_slice();
+    let place = &all[flaw.token];
+    let token = flaw.token as u32;
+    let (line, column) = (place.line, place.column);
+    match flaw.item {
+        Item::Ill(fault) => ReadFault::IllFormed {
+            fault,
+            token,
+            line,
+            column,
+        },
+        Item::Over(what) => ReadFault::Limit {
+            what,
+            token,
+            line,
+            column,
+        },
+    }
+}
