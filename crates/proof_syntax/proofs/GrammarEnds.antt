@@ -3,7 +3,7 @@ use Rattle.std.proofs.Common.{◌≡◌, ℕ, Bool, true, false, List, refl, ◌
 use Rattle.std.specs.Prelude.{codes}
 use Rattle.cyc_lex.specs.Word.{is_lexeme}
 use Rattle.cyc_lex.proofs.Letters.{letters-name}
-use Rattle.cyc_grammar.specs.Syntax.{Syntax, Class, one, seq, is_one, uncons}
+use Rattle.cyc_grammar.specs.Syntax.{Class, one, is_one, uncons}
 use Rattle.cyc_grammar.specs.Classes.{number, keyword_of}
 use Rattle.cyc_grammar.proofs.ClassLaws.{number-lexeme}
 use Rattle.cyc_grammar.proofs.Ends.{Inner, EndsLast, one-inner, seq-inner, after-inner, before-inner, alt-inner, many-inner, shaped-inner, nothing-inner, headed-inner, list1-inner, or_empty-inner, end-once}
@@ -14,15 +14,22 @@ use Rattle.proof_syntax.specs.declared.tree.SideTree.TheVariants.{Left, Right}
 use Rattle.proof_syntax.specs.declared.reason_word.ReasonWord.{ReasonWord}
 use Rattle.proof_syntax.specs.declared.reason_word.ReasonWord.TheVariants as words
 use Rattle.proof_syntax.specs.ReasonWords.{side_text, sides}
-use Rattle.proof_syntax.specs.Trees.{Heap, Definition, Entailment, Reason, Node}
-use Rattle.proof_syntax.specs.Grammar.{Any, nil, pred_word, node_word, or_word, by_word, to_word, last_word, cyclist_word, proof_word, version, dollar, query, comma, semicolon, bar, assign, turnstile, opening, closing, opening_brace, closing_brace, opening_bracket, closing_bracket, free_name, to_term, from_term, term, to_uterm, from_uterm, IsUniversal, uterm, terms, terms_of, spatial, heap, cons, IsSome, heaps, to_definition, from_definition, cases, definition, to_entailment, from_entailment, disjuncts, judgement, numbers, bracketed, two_numbers, side, rewrite, split, cut, instantiate, to_pair, from_pair, pair, some_pair, pairs1, pairs, to_link, from_link, link, Parts, parts, to_reason, from_reason, reason_word, reason, to_premises, from_premises, premises, to_node, from_node, node, some_node, definitions, more_nodes, nodes, to_file, from_file, body, file}
+use Rattle.proof_syntax.specs.Trees.{Heap, Line, Definition, Entailment, Judgement, Reason, Node}
+use Rattle.proof_syntax.specs.Grammar.{Any, nil, pred_word, node_word, from_word, given_word, or_word, by_word, to_word, last_word, cyclist_word, proof_word, version, dollar, query, comma, semicolon, bar, assign, turnstile, opening, closing, opening_brace, closing_brace, opening_bracket, closing_bracket, free_name, to_term, from_term, term, to_uterm, from_uterm, IsUniversal, uterm, terms, terms_of, spatial, heap, cons, IsSome, heaps, to_definition, from_definition, cases, definition, variable, lines, to_entailment, from_entailment, disjuncts, entailment, state, to_judgement, from_judgement, judgement, numbers, bracketed, two_numbers, side, rewrite, split, cut, instantiate, to_pair, from_pair, pair, some_pair, pairs1, pairs, to_link, from_link, link, Parts, parts, to_reason, from_reason, reason_word, reason, to_premises, from_premises, premises, to_node, from_node, node, some_node, definitions, more_nodes, nodes, to_file, from_file, body, file}
 use Rattle.heap_syntax.proofs.WordTexts.{nil-word, pred-word, or-word, last-word, cyclist-word, version-word, syms}
+use Rattle.command_syntax.proofs.CommandLaws.{lines-inner}
 use Rattle.heap_syntax.proofs.HeapEnds.{free_name-inner, spatial-inner, heap-inner, heaps-inner}
 
 -- ---- words
 
 node-word : is_lexeme (node_word.word tt) ≡ true
 node-word = letters-name (codes "node") refl
+
+from-word : is_lexeme (from_word.word tt) ≡ true
+from-word = letters-name (codes "from") refl
+
+given-word : is_lexeme (given_word.word tt) ≡ true
+given-word = letters-name (codes "given") refl
 
 by-word : is_lexeme (by_word.word tt) ≡ true
 by-word = letters-name (codes "by") refl
@@ -69,9 +76,17 @@ unfolding definition cases
 definition-inner = shaped-inner {A = List ℕ × (ℕ × List Heap)} to_definition from_definition Any _ (after-inner pred_word _ pred-word (seq-inner (one free_name) _ free_name-inner
     (after-inner opening _ syms.opening_word (seq-inner (one number) _ number-inner (after-inner closing _ syms.closing_word (after-inner opening_brace _ syms.opening_brace_word (before-inner _ semicolon syms.semicolon_word (heaps-of bar closing_brace syms.bar_word syms.closing_brace_word))))))))
 
+entailment-inner : Inner entailment
+unfolding entailment disjuncts
+entailment-inner = shaped-inner {A = Heap × List Heap} to_entailment from_entailment Any _ (seq-inner (heap (terms true)) _ (heap-of true) (after-inner turnstile _ syms.turnstile_word (heaps-of or_word by_word or-word by-word)))
+
+state-inner : Inner state
+unfolding state
+state-inner = after-inner from_word _ from-word (seq-inner (one number) _ number-inner (after-inner given_word _ given-word (before-inner (heap (terms true)) by_word by-word (heap-of true))))
+
 judgement-inner : Inner judgement
-unfolding judgement disjuncts
-judgement-inner = shaped-inner {A = Heap × List Heap} to_entailment from_entailment Any _ (seq-inner (heap (terms true)) _ (heap-of true) (after-inner turnstile _ syms.turnstile_word (heaps-of or_word by_word or-word by-word)))
+unfolding judgement
+judgement-inner = shaped-inner {A = (ℕ × Heap) ⊎ Entailment} to_judgement from_judgement Any _ (alt-inner (is_one from_word) state entailment state-inner entailment-inner)
 
 -- ---- reasons
 
@@ -119,6 +134,8 @@ parts-inner words.PureRight = number-inner
 parts-inner words.Instantiate = after-inner query _ syms.query_word (seq-inner (one number) uterm number-inner uterm-inner)
 parts-inner words.Frame = two_numbers-inner
 parts-inner words.UnfoldRight = two_numbers-inner
+parts-inner words.Exec = nothing-inner
+parts-inner words.Drop = number-inner
 parts-inner words.Link = link-inner
 
 reason-inner : Inner reason
@@ -139,9 +156,15 @@ reason-inner = shaped-inner {A = (w : ReasonWord) × Parts w} to_reason from_rea
     said words.Instantiate = letters-name (codes "Instantiate") refl
     said words.Frame = letters-name (codes "Frame") refl
     said words.UnfoldRight = letters-name (codes "UnfoldRight") refl
+    said words.Exec = letters-name (codes "Exec") refl
+    said words.Drop = letters-name (codes "Drop") refl
     said words.Link = letters-name (codes "Link") refl
 
--- ---- nodes and files
+-- ---- lines, nodes and files
+
+variable-inner : Inner variable
+unfolding variable
+variable-inner = after-inner dollar (one number) syms.dollar_word number-inner
 
 premises-inner : Inner premises
 unfolding premises
@@ -149,7 +172,7 @@ premises-inner = shaped-inner {A = (ℕ × List ℕ) ⊎ Unit {0}} to_premises f
 
 node-inner : Inner node
 unfolding node
-node-inner = shaped-inner {A = Entailment × (Reason × List ℕ)} to_node from_node Any _ (after-inner node_word _ node-word (seq-inner judgement _ judgement-inner (seq-inner reason premises reason-inner premises-inner)))
+node-inner = shaped-inner {A = Judgement × (Reason × List ℕ)} to_node from_node Any _ (after-inner node_word _ node-word (seq-inner judgement _ judgement-inner (seq-inner reason premises reason-inner premises-inner)))
 
 nodes-inner : Inner nodes
 unfolding nodes more_nodes
@@ -157,8 +180,8 @@ nodes-inner = shaped-inner {A = Node × List Node} cons (uncons some_node) IsSom
 
 pub body-inner : Inner body
 unfolding body definitions
-body-inner = shaped-inner {A = List Definition × List Node} to_file from_file Any _ (after-inner cyclist_word _ cyclist-word (after-inner proof_word _ proof-word (after-inner version _ version-word (after-inner semicolon _ syms.semicolon_word
-    (seq-inner _ _ (many-inner (is_one pred_word) definition definition-inner) (before-inner nodes semicolon syms.semicolon_word nodes-inner))))))
+body-inner = shaped-inner {A = List Definition × (List Line × List Node)} to_file from_file Any _ (after-inner cyclist_word _ cyclist-word (after-inner proof_word _ proof-word (after-inner version _ version-word (after-inner semicolon _ syms.semicolon_word
+    (seq-inner _ _ (many-inner (is_one pred_word) definition definition-inner) (seq-inner lines _ (lines-inner variable variable-inner) (before-inner nodes semicolon syms.semicolon_word nodes-inner)))))))
 
 pub file-last : EndsLast file
 unfolding file

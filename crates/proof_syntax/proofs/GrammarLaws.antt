@@ -1,11 +1,10 @@
 -- The grammar is lawful: what is read is spelled so, what is spelled is read, and a fault is exact.
-use Rattle.std.proofs.Common.{◌≡◌, ℕ, ◌<◌, Bool, true, false, List, [], ◌∷◌, ◌++◌, length, Some, refl, ap, arith, inl, inr, ◌⊎◌}
-use Rattle.std.specs.Prelude.{codes}
+use Rattle.std.proofs.Common.{◌≡◌, ℕ, ◌<◌, Bool, true, false, List, [], ◌∷◌, ◌++◌, length, Some, refl, arith, inl, inr, ◌⊎◌}
 use Rattle.cyc_lex.specs.Word.{Word}
-use Rattle.cyc_grammar.specs.Syntax.{Syntax, Class, one, seq, alt, more_many, fits_many, after, before, headed, is_one, uncons, list1}
+use Rattle.cyc_grammar.specs.Syntax.{one, seq, alt, after, before, headed, is_one, uncons, list1}
 use Rattle.cyc_grammar.specs.Classes.{the_end, number, find_text, keyword_of}
-use Rattle.cyc_grammar.proofs.Laws.{Lawful, Stops, Begins, BeginsNot, BeginsNot-append, ClassLaw, one-law, seq-law, shaped-law, alt-law, many-law, after-law, before-law, nothing-law, headed-law, list1-law, or_empty-law, class-begins, uncons-cons, some-true, Stops-never}
-use Rattle.cyc_grammar.proofs.ClassLaws.{symbol-law, keyword-law, numeral-law, the_end-law, number-law, name-law, keyword_of-law}
+use Rattle.cyc_grammar.proofs.Laws.{Lawful, Stops, Begins, BeginsNot, BeginsNot-append, ClassLaw, one-law, seq-law, shaped-law, alt-law, many-law, after-law, before-law, nothing-law, headed-law, list1-law, or_empty-law, uncons-cons, Stops-never}
+use Rattle.cyc_grammar.proofs.ClassLaws.{symbol-law, keyword-law, numeral-law, the_end-law, number-law, keyword_of-law}
 use Rattle.proof_syntax.specs.declared.tree.TermTree.{TermTree}
 use Rattle.proof_syntax.specs.declared.tree.TermTree.TheVariants.{Nil, Univ, Exist}
 use Rattle.proof_syntax.specs.declared.tree.PairTree.{PairTree}
@@ -14,9 +13,11 @@ use Rattle.proof_syntax.specs.declared.tree.SideTree.TheVariants.{Left, Right}
 use Rattle.proof_syntax.specs.declared.reason_word.ReasonWord.{ReasonWord}
 use Rattle.proof_syntax.specs.declared.reason_word.ReasonWord.TheVariants as words
 use Rattle.proof_syntax.specs.ReasonWords.{reason_text, reason_words, side_text, sides}
-use Rattle.proof_syntax.specs.Trees.{Heap, Definition, Entailment, Reason, Absurd, Rewrite, Split, Distinct, Weaken, Unfold, Cut, Done, Choose, PureRight, Instantiate, Frame, UnfoldRight, Link, Node}
-use Rattle.proof_syntax.specs.Grammar.{Any, nil, true_word, emp, pred_word, node_word, or_word, by_word, to_word, last_word, dollar, query, comma, semicolon, star, bar, assign, turnstile, opening, closing, opening_brace, closing_brace, opening_bracket, closing_bracket, free_name, to_term, from_term, term, to_uterm, from_uterm, IsUniversal, uterm, terms, terms_of, spatial, heap, some_heap, cons, IsSome, heaps, to_definition, from_definition, cases, definition, to_entailment, from_entailment, disjuncts, judgement, numbers, bracketed, two_numbers, side, rewrite, split, cut, instantiate, to_pair, from_pair, pair, some_pair, pairs1, pairs, to_link, from_link, link, Parts, parts, made_of, to_reason, from_reason, reason_word, reason, to_premises, from_premises, premises, to_node, from_node, node, some_node, definitions, more_nodes, nodes, to_file, from_file, body, file}
-use Rattle.heap_syntax.proofs.HeapLaws.{TermLaw, AtomLaw, Nameless, closed-stops, list-end, listed-closed, spatial-all, heap-law, heap-end, heaps-law, free_name-law, nil-no-name}
+use Rattle.proof_syntax.specs.Trees.{Heap, Line, Definition, Entailment, Judgement, Entails, From, Reason, Absurd, Rewrite, Split, Distinct, Weaken, Unfold, Cut, Done, Choose, PureRight, Instantiate, Frame, UnfoldRight, Exec, Drop, Link, Node}
+use Rattle.proof_syntax.specs.Grammar.{Any, nil, true_word, emp, pred_word, node_word, from_word, given_word, or_word, by_word, to_word, last_word, dollar, query, comma, semicolon, star, bar, assign, turnstile, opening, closing, opening_brace, closing_brace, opening_bracket, closing_bracket, free_name, to_term, from_term, term, to_uterm, from_uterm, IsUniversal, uterm, terms, terms_of, spatial, heap, some_heap, cons, IsSome, to_definition, from_definition, cases, definition, variable, lines, to_entailment, from_entailment, disjuncts, entailment, state, to_judgement, from_judgement, judgement, numbers, bracketed, two_numbers, side, rewrite, split, cut, instantiate, to_pair, from_pair, pair, some_pair, pairs1, pairs, to_link, from_link, link, Parts, parts, made_of, to_reason, from_reason, reason_word, reason, to_premises, from_premises, premises, to_node, from_node, node, some_node, definitions, more_nodes, nodes, to_file, from_file, body, file}
+use Rattle.command_syntax.specs.Grammar as commands
+use Rattle.command_syntax.proofs.CommandLaws.{VariableLaw, lines-law, lines-end}
+use Rattle.heap_syntax.proofs.HeapLaws.{TermLaw, AtomLaw, Nameless, closed-stops, list-end, listed-closed, spatial-all, heap-law, heap-end, heap-not, heaps-law, free_name-law, nil-no-name}
 
 -- ---- terms
 
@@ -185,16 +186,51 @@ disjuncts-closed : (hs : List Heap) (d : Word) → disjuncts.more hs d ≡ false
 unfolding disjuncts
 disjuncts-closed hs d = listed-closed some_heap or_word by_word (heap (terms false)) hs d
 
-judgement-law : Lawful judgement
-unfolding judgement
-judgement-law =
+entailment-law : Lawful entailment
+unfolding entailment
+entailment-law =
     shaped-law {A = Heap × List Heap} to_entailment from_entailment Any _ (λ x f. (refl, tt)) (λ c h. refl)
     (seq-law (heap (terms true)) (after turnstile disjuncts) (heap-lawful true) (after-law turnstile disjuncts (symbol-law _) disjuncts-law)
     (λ x y r fx fy h. heap-stops true (turnstile.word tt) refl x fx))
 
-judgement-closed : (x : Entailment) (d : Word) → judgement.more x d ≡ false
-unfolding judgement
-judgement-closed x d = disjuncts-closed x.disjuncts d
+entailment-closed : (x : Entailment) (d : Word) → entailment.more x d ≡ false
+unfolding entailment
+entailment-closed x d = disjuncts-closed x.disjuncts d
+
+state-law : Lawful state
+unfolding state
+state-law = after-law from_word _ (keyword-law _) (seq-law (one number) (after given_word (before (heap (terms true)) by_word)) (one-law number number-law)
+    (after-law given_word _ (keyword-law _) (before-law (heap (terms true)) by_word (keyword-law _) (heap-lawful true) (λ h f. heap-stops true (by_word.word tt) refl h f)))
+    (λ x y r fx fy h. Stops-never ((after given_word (before (heap (terms true)) by_word)).words y ++ r)))
+
+uterm-no-from : (x : TermTree) → (terms true).fits x → BeginsNot (is_one from_word) ((terms true).words x)
+unfolding terms uterm
+uterm-no-from Nil f = refl
+uterm-no-from (Univ n) f = refl
+uterm-no-from (Exist n) f = refl
+
+no-from : (e : Entailment) → entailment.fits e → BeginsNot (is_one from_word) (entailment.words e)
+unfolding entailment
+no-from e f = BeginsNot-append (is_one from_word) _ _ (heap-not (terms_of (terms true)) (spatial (terms true)) (is_one from_word) refl uterm-no-from e.antecedent f.1.0)
+
+judgement-law : Lawful judgement
+unfolding judgement state
+judgement-law =
+    shaped-law {A = (ℕ × Heap) ⊎ Entailment} to_judgement from_judgement Any _ (λ x f. (there x, tt)) (λ j h. here j)
+    (alt-law (is_one from_word) state entailment (λ p f. refl) no-from state-law entailment-law)
+  where
+    there : (x : (ℕ × Heap) ⊎ Entailment) → from_judgement (to_judgement x) ≡ x
+    there (inl p) = refl
+    there (inr e) = refl
+
+    here : (j : Judgement) → to_judgement (from_judgement j) ≡ j
+    here (From n h) = refl
+    here (Entails e) = refl
+
+judgement-closed : (x : Judgement) (d : Word) → judgement.more x d ≡ false
+unfolding judgement state
+judgement-closed (From n h) d = refl
+judgement-closed (Entails e) d = entailment-closed e d
 
 -- ---- the parts of a reason
 
@@ -306,6 +342,8 @@ reason_word-law = keyword_of-law reason_text reason_words words.Done found
     found words.Instantiate = refl
     found words.Frame = refl
     found words.UnfoldRight = refl
+    found words.Exec = refl
+    found words.Drop = refl
     found words.Link = refl
 
 parts-law : (w : ReasonWord) → Lawful (parts w)
@@ -323,6 +361,8 @@ parts-law words.PureRight = one-law number number-law
 parts-law words.Instantiate = instantiate-law
 parts-law words.Frame = two_numbers-law
 parts-law words.UnfoldRight = two_numbers-law
+parts-law words.Exec = nothing-law
+parts-law words.Drop = one-law number number-law
 parts-law words.Link = link-law
 
 reason-there : (x : (w : ReasonWord) × Parts w) → from_reason (to_reason x) ≡ x
@@ -342,6 +382,8 @@ reason-there x = there x.0 x.1
     there words.Instantiate p = refl
     there words.Frame p = refl
     there words.UnfoldRight p = refl
+    there words.Exec u = refl
+    there words.Drop k = refl
     there words.Link l = refl
 
 reason-here : (r : Reason) → to_reason (from_reason r) ≡ r
@@ -358,6 +400,8 @@ reason-here (PureRight k) = refl
 reason-here (Instantiate v t) = refl
 reason-here (Frame i j) = refl
 reason-here (UnfoldRight j c) = refl
+reason-here Exec = refl
+reason-here (Drop k) = refl
 reason-here (Link l) = refl
 
 reason-law : Lawful reason
@@ -380,6 +424,8 @@ reason-end d h (PureRight k) f = refl
 reason-end d h (Instantiate v t) f = uterm-closed t d f.1.1.1
 reason-end d h (Frame i j) f = refl
 reason-end d h (UnfoldRight j c) f = refl
+reason-end d h Exec f = refl
+reason-end d h (Drop k) f = refl
 reason-end d h (Link l) f = bracketed-closed l.disjuncts d
 
 -- ---- premises
@@ -416,7 +462,7 @@ premises-apart r (n ∷ ns) rest f = reason-end (to_word.word tt) refl r f
 node-law : Lawful node
 unfolding node
 node-law =
-    shaped-law {A = Entailment × (Reason × List ℕ)} to_node from_node Any _ (λ x f. (refl, tt)) (λ n h. refl)
+    shaped-law {A = Judgement × (Reason × List ℕ)} to_node from_node Any _ (λ x f. (refl, tt)) (λ n h. refl)
     (after-law node_word _ (keyword-law _)
     (seq-law judgement (seq reason premises) judgement-law (seq-law reason premises reason-law premises-law (λ x y r fx fy h. premises-apart x y r fx))
     (λ x y r fx fy h. closed-stops judgement (λ x d f. judgement-closed x d) x fx ((seq reason premises).words y ++ r))))
@@ -429,7 +475,7 @@ node-starts : (x : Node) → Begins (is_one node_word) (node.words x)
 unfolding node
 node-starts x = refl
 
--- ---- files
+-- ---- definitions, nodes
 
 definition-starts : (x : Definition) → Begins (is_one pred_word) (definition.words x)
 unfolding definition
@@ -466,16 +512,40 @@ nodes-closed : (ns : List Node) (d : Word) → nodes.more ns d ≡ false
 unfolding nodes
 nodes-closed ns d = refl
 
-definitions-apart : (ds : List Definition) (ns : List Node) (rest : List Word) → Stops (definitions.more ds) ((before nodes semicolon).words ns ++ rest)
+-- ---- lines
+
+dollar_variables : VariableLaw variable
+unfolding variable
+dollar_variables = record {
+  law = after-law dollar (one number) (symbol-law _) (one-law number number-law);
+  closed = λ n d f. refl;
+  not_nil = λ n f. refl;
+  not_stop = λ n f. refl;
+  not_goto = λ n f. refl;
+  not_free = λ n f. refl;
+  not_if = λ n f. refl;
+  not_new = λ n f. refl;
+}
+
+lines-apart : (ls : List Line) (ns : List Node) (rest : List Word) → Stops (lines.more ls) ((before nodes semicolon).words ns ++ rest)
 unfolding nodes node
-definitions-apart ds ns rest = definitions-end (node_word.word tt) refl ds
+lines-apart ls ns rest = lines-end variable (node_word.word tt) refl ls
+
+definitions-apart : (ds : List Definition) (ls : List Line) (ns : List Node) (rest : List Word) → Stops (definitions.more ds) ((seq lines (before nodes semicolon)).words (ls, ns) ++ rest)
+unfolding nodes node commands.lines commands.line
+definitions-apart ds [] ns rest = definitions-end (node_word.word tt) refl ds
+definitions-apart ds (l ∷ ls) ns rest = definitions-end (commands.line_word.word tt) refl ds
+
+-- ---- files
 
 body-law : Lawful body
 unfolding body
 body-law =
-    shaped-law {A = List Definition × List Node} to_file from_file Any _ (λ x f. (refl, tt)) (λ n h. refl)
+    shaped-law {A = List Definition × (List Line × List Node)} to_file from_file Any _ (λ x f. (refl, tt)) (λ n h. refl)
     (after-law _ _ (keyword-law _) (after-law _ _ (keyword-law _) (after-law _ _ (numeral-law _) (after-law semicolon _ (symbol-law _)
-    (seq-law definitions (before nodes semicolon) definitions-law (before-law nodes semicolon (symbol-law _) nodes-law (λ ns f. nodes-closed ns (semicolon.word tt))) (λ ds ns r fx fy h. definitions-apart ds ns r))))))
+    (seq-law definitions (seq lines (before nodes semicolon)) definitions-law
+    (seq-law lines (before nodes semicolon) (lines-law variable dollar_variables) (before-law nodes semicolon (symbol-law _) nodes-law (λ ns f. nodes-closed ns (semicolon.word tt))) (λ ls ns r fls fns h. lines-apart ls ns r))
+    (λ ds p r fx fy h. definitions-apart ds p.0 p.1 r))))))
 
 pub file-law : Lawful file
 unfolding file body

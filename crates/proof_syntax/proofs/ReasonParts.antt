@@ -6,7 +6,7 @@ use Rattle.cyc_grammar.specs.Giving.{Fails}
 use Rattle.cyc_grammar.proofs.Loop.{passed_on}
 use Rattle.proof_syntax.specs.declared.reason_word.ReasonWord.{ReasonWord}
 use Rattle.proof_syntax.specs.Grammar.{Parts, parts, made_of, parts_read, reason_word, reason, behind_word, FitsBehind}
-use Rattle.proof_syntax.specs.Trees.{Reason, Absurd, Rewrite, Split, Distinct, Weaken, Unfold, Cut, Done, Choose, PureRight, Instantiate, Frame, UnfoldRight, Link, word_of_reason}
+use Rattle.proof_syntax.specs.Trees.{Reason, Absurd, Rewrite, Split, Distinct, Weaken, Unfold, Cut, Done, Choose, PureRight, Instantiate, Frame, UnfoldRight, Exec, Drop, Link, word_of_reason}
 
 pub part_at : (v w : ReasonWord) (ws : List Word) (p : Parts v) (rest : List Word) → w ≡ v → (parts v).read ws ≡ Ok (p, rest) → parts_read w ws ≡ Ok (made_of v p, rest)
 part_at v w ws p rest same h = subst (λ (u : ReasonWord). parts_read u ws ≡ Ok (made_of v p, rest)) (sym same) (rw h refl)
@@ -29,6 +29,8 @@ reason-words (PureRight k) = refl
 reason-words (Instantiate v t) = refl
 reason-words (Frame i j) = refl
 reason-words (UnfoldRight j c) = refl
+reason-words Exec = refl
+reason-words (Drop k) = refl
 reason-words (Link l) = refl
 
 pub reason-fits : (r : Reason) → reason.fits r → FitsBehind r
@@ -46,4 +48,6 @@ reason-fits (PureRight k) f = f.1.1
 reason-fits (Instantiate v t) f = f.1.1
 reason-fits (Frame i j) f = f.1.1
 reason-fits (UnfoldRight j c) f = f.1.1
+reason-fits Exec f = tt
+reason-fits (Drop k) f = f.1.1
 reason-fits (Link l) f = f.1.1

@@ -7,8 +7,8 @@ use Rattle.cyc_lex.specs.Word.{Word}
 use Rattle.cyc_lex.specs.Writing.{Written, write, write_all}
 use Rattle.cyc_grammar.specs.Classes.{number}
 use Rattle.cyc_grammar.proofs.WrittenTexts.{wrote-behind, wrote-both, wrote-ended}
-use Rattle.proof_syntax.specs.Trees.{Definition, Node}
-use Rattle.proof_syntax.specs.Grammar.{to_word, cyclist_word, proof_word, version, semicolon, numbers, premises, definitions, nodes, body}
+use Rattle.proof_syntax.specs.Trees.{Definition, Line, Node}
+use Rattle.proof_syntax.specs.Grammar.{to_word, cyclist_word, proof_word, version, semicolon, numbers, premises, definitions, lines, nodes, body}
 
 pub premises-wrote : (old a b c d : Written) (n : ℕ) (ns : List ℕ) → a ≡ write old (to_word.word tt) → b ≡ write a (number.word n) → c ≡ write_all b (numbers.words ns) → d ≡ write c (semicolon.word tt) → d ≡ write_all old (premises.words (n ∷ ns))
 unfolding premises write_all
@@ -20,12 +20,13 @@ one-text : decimal 1 ≡ codes "1"
 unfolding digits
 one-text = refl
 
-pub body-wrote : (old a b c d e f g : Written) (ds : List Definition) (ns : List Node) → a ≡ write old (cyclist_word.word tt) → b ≡ write a (proof_word.word tt) → c ≡ write b (record { kind = Number; text = decimal 1 }) → d ≡ write c (semicolon.word tt)
-    → e ≡ write_all d (definitions.words ds) → f ≡ write_all e (nodes.words ns) → g ≡ write f (semicolon.word tt) → g ≡ write_all old (body.words (record { definitions = ds; nodes = ns }))
+pub body-wrote : (old a b c d e l f g : Written) (ds : List Definition) (ls : List Line) (ns : List Node) → a ≡ write old (cyclist_word.word tt) → b ≡ write a (proof_word.word tt) → c ≡ write b (record { kind = Number; text = decimal 1 }) → d ≡ write c (semicolon.word tt)
+    → e ≡ write_all d (definitions.words ds) → l ≡ write_all e (lines.words ls) → f ≡ write_all l (nodes.words ns) → g ≡ write f (semicolon.word tt) → g ≡ write_all old (body.words (record { definitions = ds; lines = ls; nodes = ns }))
 unfolding body
-body-wrote old a b c d e f g ds ns ha hb hc hd he hf hg =
-    let rest : List Word = definitions.words ds ++ (nodes.words ns ++ semicolon.word tt ∷ []) in
+body-wrote old a b c d e l f g ds ls ns ha hb hc hd he hl hf hg =
+    let last : List Word = lines.words ls ++ (nodes.words ns ++ semicolon.word tt ∷ []) in
+    let rest : List Word = definitions.words ds ++ last in
     wrote-behind old a g (cyclist_word.word tt) (proof_word.word tt ∷ version.word tt ∷ semicolon.word tt ∷ rest) ha
     (wrote-behind a b g (proof_word.word tt) (version.word tt ∷ semicolon.word tt ∷ rest) hb
     (wrote-behind b c g (version.word tt) (semicolon.word tt ∷ rest) (hc ∙ ap (λ (s : List ℕ). write b (record { kind = Number; text = s })) one-text)
-    (wrote-behind c d g (semicolon.word tt) rest hd (wrote-ended d e f g (definitions.words ds) (nodes.words ns) (semicolon.word tt) he hf hg))))
+    (wrote-behind c d g (semicolon.word tt) rest hd (wrote-both d e g (definitions.words ds) last he (wrote-ended e l f g (lines.words ls) (nodes.words ns) (semicolon.word tt) hl hf hg)))))

@@ -1,14 +1,15 @@
 -- The grammar of proof files.
-use Rattle.std.specs.Prelude.{ℕ, ◌<◌, Bool, true, false, List, [], ◌∷◌, ◌⊎◌, codes, length, Ok}
+use Rattle.std.specs.Prelude.{ℕ, Bool, true, false, List, [], ◌∷◌, ◌⊎◌, codes, Ok}
 use Rattle.std.proofs.Common.{inl, inr}
 use Rattle.cyc_lex.specs.Word.{Word}
 use Rattle.cyc_grammar.specs.Syntax.{Reading, ◌>>=◌, Syntax, Class, one, seq, alt, many, shaped, after, before, headed, nothing, is_one, uncons, list1, or_empty}
-use Rattle.cyc_grammar.specs.Classes.{symbol, keyword, numeral, the_end, number, name, keyword_of}
+use Rattle.cyc_grammar.specs.Classes.{symbol, keyword, the_end, number, keyword_of}
 use Rattle.heap_syntax.specs.Grammar as shared
 use Rattle.heap_syntax.specs.Grammar.{Terms}
 pub use Rattle.heap_syntax.specs.Words.{nil, true_word, emp, pred_word, or_word, last_word, cyclist_word, version, equal, unequal, comma, colon, semicolon, star, bar, arrow, assign, turnstile, opening, closing, opening_brace, closing_brace, reserved, free_name}
 pub use Rattle.heap_syntax.specs.Grammar.{Any, cons, IsSome, some_heap}
 unfoldable pub use Rattle.heap_syntax.specs.Grammar.{sign, pure}
+use Rattle.command_syntax.specs.Grammar as commands
 use Rattle.proof_syntax.specs.declared.tree.TermTree.{TermTree}
 use Rattle.proof_syntax.specs.declared.tree.TermTree.TheVariants.{Nil, Univ, Exist}
 use Rattle.proof_syntax.specs.declared.tree.SideTree.{SideTree}
@@ -16,12 +17,18 @@ use Rattle.proof_syntax.specs.declared.tree.PairTree.{PairTree}
 use Rattle.proof_syntax.specs.declared.reason_word.ReasonWord.{ReasonWord}
 use Rattle.proof_syntax.specs.declared.reason_word.ReasonWord.TheVariants as words
 use Rattle.proof_syntax.specs.ReasonWords.{reason_text, reason_words, side_text, sides}
-use Rattle.proof_syntax.specs.Trees.{PureTree, Spatial, Heap, Definition, Entailment, LinkData, Reason, Absurd, Rewrite, Split, Distinct, Weaken, Unfold, Cut, Done, Choose, PureRight, Instantiate, Frame, UnfoldRight, Link, Node, File}
+use Rattle.proof_syntax.specs.Trees.{PureTree, Spatial, Heap, Line, Definition, Entailment, Judgement, Entails, From, LinkData, Reason, Absurd, Rewrite, Split, Distinct, Weaken, Unfold, Cut, Done, Choose, PureRight, Instantiate, Frame, UnfoldRight, Exec, Drop, Link, Node, File}
 
 -- ---- words
 
 abbrev pub node_word : Class (Unit {0})
 node_word = keyword (codes "node")
+
+abbrev pub from_word : Class (Unit {0})
+from_word = keyword (codes "from")
+
+abbrev pub given_word : Class (Unit {0})
+given_word = keyword (codes "given")
 
 abbrev pub by_word : Class (Unit {0})
 by_word = keyword (codes "by")
@@ -132,7 +139,15 @@ cases = heaps bar closing_brace
 unfoldable pub definition : Syntax Definition
 definition = shaped {A = List ℕ × (ℕ × List Heap)} to_definition from_definition Any (after pred_word (seq (one free_name) (after opening (seq (one number) (after closing (after opening_brace (before cases semicolon)))))))
 
--- ---- judgement = uheap "|-" heap { "or" heap }, and "by" behind it
+-- ---- the lines of the program, with uvar = "$" number as their variables
+
+unfoldable pub variable : Syntax ℕ
+variable = after dollar (one number)
+
+abbrev pub lines : Syntax (List Line)
+lines = commands.lines variable
+
+-- ---- judgement = uheap "|-" heap { "or" heap } | "from" number "given" uheap, and "by" behind it
 
 abbrev pub to_entailment : Heap × List Heap → Entailment
 to_entailment p = record { antecedent = p.0; disjuncts = p.1 }
@@ -143,8 +158,23 @@ from_entailment e = (e.antecedent, e.disjuncts)
 unfoldable pub disjuncts : Syntax (List Heap)
 disjuncts = heaps or_word by_word
 
-unfoldable pub judgement : Syntax Entailment
-judgement = shaped {A = Heap × List Heap} to_entailment from_entailment Any (seq (heap (terms true)) (after turnstile disjuncts))
+unfoldable pub entailment : Syntax Entailment
+entailment = shaped {A = Heap × List Heap} to_entailment from_entailment Any (seq (heap (terms true)) (after turnstile disjuncts))
+
+-- "from" number "given" uheap "by"
+unfoldable pub state : Syntax (ℕ × Heap)
+state = after from_word (seq (one number) (after given_word (before (heap (terms true)) by_word)))
+
+abbrev pub to_judgement : (ℕ × Heap) ⊎ Entailment → Judgement
+to_judgement (inl p) = From p.0 p.1
+to_judgement (inr e) = Entails e
+
+abbrev pub from_judgement : Judgement → (ℕ × Heap) ⊎ Entailment
+from_judgement (From n h) = inl (n, h)
+from_judgement (Entails e) = inr e
+
+unfoldable pub judgement : Syntax Judgement
+judgement = shaped {A = (ℕ × Heap) ⊎ Entailment} to_judgement from_judgement Any (alt (is_one from_word) state entailment)
 
 -- ---- the parts of a reason
 
@@ -222,6 +252,8 @@ Parts words.PureRight = ℕ
 Parts words.Instantiate = ℕ × TermTree
 Parts words.Frame = ℕ × ℕ
 Parts words.UnfoldRight = ℕ × ℕ
+Parts words.Exec = Unit {0}
+Parts words.Drop = ℕ
 Parts words.Link = LinkData
 
 unfoldable pub parts : (w : ReasonWord) → Syntax (Parts w)
@@ -238,6 +270,8 @@ parts words.PureRight = one number
 parts words.Instantiate = instantiate
 parts words.Frame = two_numbers
 parts words.UnfoldRight = two_numbers
+parts words.Exec = nothing
+parts words.Drop = one number
 parts words.Link = link
 
 abbrev pub made_of : (w : ReasonWord) → Parts w → Reason
@@ -254,6 +288,8 @@ made_of words.PureRight k = PureRight k
 made_of words.Instantiate p = Instantiate p.0 p.1
 made_of words.Frame p = Frame p.0 p.1
 made_of words.UnfoldRight p = UnfoldRight p.0 p.1
+made_of words.Exec u = Exec
+made_of words.Drop k = Drop k
 made_of words.Link l = Link l
 
 abbrev pub to_reason : (w : ReasonWord) × Parts w → Reason
@@ -273,6 +309,8 @@ from_reason (PureRight k) = (words.PureRight, k)
 from_reason (Instantiate v t) = (words.Instantiate, (v, t))
 from_reason (Frame i j) = (words.Frame, (i, j))
 from_reason (UnfoldRight j c) = (words.UnfoldRight, (j, c))
+from_reason Exec = (words.Exec, tt)
+from_reason (Drop k) = (words.Drop, k)
 from_reason (Link l) = (words.Link, l)
 
 -- what is read behind a rule's word, as a reason
@@ -300,6 +338,8 @@ behind_word (PureRight k) = (one number).words k
 behind_word (Instantiate v t) = instantiate.words (v, t)
 behind_word (Frame i j) = two_numbers.words (i, j)
 behind_word (UnfoldRight j c) = two_numbers.words (j, c)
+behind_word Exec = []
+behind_word (Drop k) = (one number).words k
 behind_word (Link l) = link.words l
 
 -- these words have a text
@@ -317,6 +357,8 @@ FitsBehind (PureRight k) = (one number).fits k
 FitsBehind (Instantiate v t) = instantiate.fits (v, t)
 FitsBehind (Frame i j) = two_numbers.fits (i, j)
 FitsBehind (UnfoldRight j c) = two_numbers.fits (j, c)
+FitsBehind Exec = Unit {0}
+FitsBehind (Drop k) = (one number).fits k
 FitsBehind (Link l) = link.fits l
 
 -- ---- [ "to" number { number } ] ";"
@@ -334,19 +376,19 @@ premises = shaped {A = (ℕ × List ℕ) ⊎ Unit {0}} to_premises from_premises
 
 -- ---- node = "node" judgement "by" reason premises
 
-abbrev pub to_node : Entailment × (Reason × List ℕ) → Node
+abbrev pub to_node : Judgement × (Reason × List ℕ) → Node
 to_node p = record { judgement = p.0; reason = p.1.0; premises = p.1.1 }
 
-abbrev pub from_node : Node → Entailment × (Reason × List ℕ)
+abbrev pub from_node : Node → Judgement × (Reason × List ℕ)
 from_node n = (n.judgement, (n.reason, n.premises))
 
 unfoldable pub node : Syntax Node
-node = shaped {A = Entailment × (Reason × List ℕ)} to_node from_node Any (after node_word (seq judgement (seq reason premises)))
+node = shaped {A = Judgement × (Reason × List ℕ)} to_node from_node Any (after node_word (seq judgement (seq reason premises)))
 
--- ---- file = "cyclist" "proof" "1" ";" { pred } node { node } "end" ";", and the end of the text
+-- ---- file = "cyclist" "proof" "1" ";" { pred } { line } node { node } "end" ";", and the end of the text
 
 abbrev pub some_node : Node
-some_node = record { judgement = record { antecedent = some_heap; disjuncts = some_heap ∷ [] }; reason = Done; premises = [] }
+some_node = record { judgement = Entails (record { antecedent = some_heap; disjuncts = some_heap ∷ [] }); reason = Done; premises = [] }
 
 unfoldable pub definitions : Syntax (List Definition)
 definitions = many (is_one pred_word) definition
@@ -358,14 +400,14 @@ more_nodes = many (is_one node_word) node
 unfoldable pub nodes : Syntax (List Node)
 nodes = shaped {A = Node × List Node} cons (uncons some_node) IsSome (seq node (before more_nodes last_word))
 
-abbrev pub to_file : List Definition × List Node → File
-to_file p = record { definitions = p.0; nodes = p.1 }
+abbrev pub to_file : List Definition × (List Line × List Node) → File
+to_file p = record { definitions = p.0; lines = p.1.0; nodes = p.1.1 }
 
-abbrev pub from_file : File → List Definition × List Node
-from_file f = (f.definitions, f.nodes)
+abbrev pub from_file : File → List Definition × (List Line × List Node)
+from_file f = (f.definitions, (f.lines, f.nodes))
 
 unfoldable pub body : Syntax File
-body = shaped {A = List Definition × List Node} to_file from_file Any (after cyclist_word (after proof_word (after version (after semicolon (seq definitions (before nodes semicolon))))))
+body = shaped {A = List Definition × (List Line × List Node)} to_file from_file Any (after cyclist_word (after proof_word (after version (after semicolon (seq definitions (seq lines (before nodes semicolon)))))))
 
 unfoldable pub file : Syntax File
 file = before body the_end

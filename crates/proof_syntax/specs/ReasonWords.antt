@@ -3,7 +3,7 @@ use Rattle.std.specs.Prelude.{ℕ, List, [], ◌∷◌, codes}
 use Rattle.proof_syntax.specs.declared.tree.SideTree.{SideTree}
 use Rattle.proof_syntax.specs.declared.tree.SideTree.TheVariants.{Left, Right}
 use Rattle.proof_syntax.specs.declared.reason_word.ReasonWord.{ReasonWord}
-use Rattle.proof_syntax.specs.declared.reason_word.ReasonWord.TheVariants.{Absurd, Rewrite, Split, Distinct, Weaken, Unfold, Cut, Done, Choose, PureRight, Instantiate, Frame, UnfoldRight, Link}
+use Rattle.proof_syntax.specs.declared.reason_word.ReasonWord.TheVariants.{Absurd, Rewrite, Split, Distinct, Weaken, Unfold, Cut, Done, Choose, PureRight, Instantiate, Frame, UnfoldRight, Exec, Drop, Link}
 
 -- the text of a rule's word
 abbrev pub reason_text : ReasonWord → List ℕ
@@ -20,11 +20,13 @@ reason_text PureRight = codes "PureRight"
 reason_text Instantiate = codes "Instantiate"
 reason_text Frame = codes "Frame"
 reason_text UnfoldRight = codes "UnfoldRight"
+reason_text Exec = codes "Exec"
+reason_text Drop = codes "Drop"
 reason_text Link = codes "Link"
 
 -- all of them
 abbrev pub reason_words : List ReasonWord
-reason_words = Absurd ∷ Rewrite ∷ Split ∷ Distinct ∷ Weaken ∷ Unfold ∷ Cut ∷ Done ∷ Choose ∷ PureRight ∷ Instantiate ∷ Frame ∷ UnfoldRight ∷ Link ∷ []
+reason_words = Absurd ∷ Rewrite ∷ Split ∷ Distinct ∷ Weaken ∷ Unfold ∷ Cut ∷ Done ∷ Choose ∷ PureRight ∷ Instantiate ∷ Frame ∷ UnfoldRight ∷ Exec ∷ Drop ∷ Link ∷ []
 
 -- the text of a side
 abbrev pub side_text : SideTree → List ℕ

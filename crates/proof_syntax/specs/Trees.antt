@@ -7,8 +7,11 @@ pub use Rattle.heap_syntax.specs.Trees.{Cell, Predicate}
 use Rattle.heap_syntax.specs.declared.tree.SpatialTree.{SpatialTree}
 use Rattle.heap_syntax.specs.declared.tree.SpatialTree.TheVariants as spatials
 use Rattle.heap_syntax.specs.declared.tree.HeapTree.{HeapTree}
+use Rattle.command_syntax.specs.declared.tree.LineTree.{LineTree}
 use Rattle.proof_syntax.specs.declared.tree.DefinitionTree.{DefinitionTree}
 use Rattle.proof_syntax.specs.declared.tree.EntailmentTree.{EntailmentTree}
+use Rattle.proof_syntax.specs.declared.tree.JudgementTree.{JudgementTree}
+use Rattle.proof_syntax.specs.declared.tree.JudgementTree.TheVariants as judgements
 use Rattle.proof_syntax.specs.declared.tree.SideTree.{SideTree}
 use Rattle.proof_syntax.specs.declared.tree.PairTree.{PairTree}
 use Rattle.proof_syntax.specs.declared.tree.LinkTree.{LinkTree}
@@ -29,6 +32,10 @@ Spatial = heaps.Spatial TermTree
 abbrev pub Heap : Type 0
 Heap = heaps.Heap TermTree
 
+-- a line of the program, where a variable is its number
+abbrev pub Line : Type 0
+Line = LineTree ℕ
+
 pub record Definition : Type 0 where
   pub name : List ℕ
   pub arity : ℕ
@@ -37,6 +44,10 @@ pub record Definition : Type 0 where
 pub record Entailment : Type 0 where
   pub antecedent : Heap
   pub disjuncts : List Heap
+
+pub data Judgement : Type 0 where
+  Entails : Entailment → Judgement
+  From : ℕ → Heap → Judgement
 
 pub record LinkData : Type 0 where
   pub target : ℕ
@@ -58,15 +69,18 @@ pub data Reason : Type 0 where
   Instantiate : ℕ → TermTree → Reason
   Frame : ℕ → ℕ → Reason
   UnfoldRight : ℕ → ℕ → Reason
+  Exec : Reason
+  Drop : ℕ → Reason
   Link : LinkData → Reason
 
 pub record Node : Type 0 where
-  pub judgement : Entailment
+  pub judgement : Judgement
   pub reason : Reason
   pub premises : List ℕ
 
 pub record File : Type 0 where
   pub definitions : List Definition
+  pub lines : List Line
   pub nodes : List Node
 
 -- ---- what a contract sees of the code's trees
@@ -83,6 +97,10 @@ definition_of d = record { name = d.name.now; arity = d.arity; cases = map heap_
 
 abbrev pub entailment_of : EntailmentTree → Entailment
 entailment_of e = record { antecedent = heap_of e.antecedent; disjuncts = map heap_of e.disjuncts.items }
+
+abbrev pub judgement_of : JudgementTree → Judgement
+judgement_of (judgements.Entailment e) = Entails (entailment_of e)
+judgement_of (judgements.From n h) = From n (heap_of h)
 
 abbrev pub link_of : LinkTree → LinkData
 link_of l = record { target = l.target; substitution = l.substitution.items; mapped = l.map.items; disjuncts = l.disjuncts.items }
@@ -101,6 +119,8 @@ reason_of (reasons.PureRight k) = PureRight k
 reason_of (reasons.Instantiate v t) = Instantiate v t
 reason_of (reasons.Frame i j) = Frame i j
 reason_of (reasons.UnfoldRight j c) = UnfoldRight j c
+reason_of reasons.Exec = Exec
+reason_of (reasons.Drop k) = Drop k
 reason_of (reasons.Link l) = Link (link_of l)
 
 -- the word with which a reason begins
@@ -118,10 +138,12 @@ word_of_reason (PureRight k) = words.PureRight
 word_of_reason (Instantiate v t) = words.Instantiate
 word_of_reason (Frame i j) = words.Frame
 word_of_reason (UnfoldRight j c) = words.UnfoldRight
+word_of_reason Exec = words.Exec
+word_of_reason (Drop k) = words.Drop
 word_of_reason (Link l) = words.Link
 
 abbrev pub node_of : NodeTree → Node
-node_of n = record { judgement = entailment_of n.judgement; reason = reason_of n.reason; premises = n.premises.items }
+node_of n = record { judgement = judgement_of n.judgement; reason = reason_of n.reason; premises = n.premises.items }
 
 abbrev pub file_of : FileTree → File
-file_of f = record { definitions = map definition_of f.definitions.items; nodes = map node_of f.nodes.items }
+file_of f = record { definitions = map definition_of f.definitions.items; lines = f.lines.items; nodes = map node_of f.nodes.items }

@@ -1,4 +1,4 @@
-//! The terms of proof files: reading and writing them, and the heaps over them.
+//! The terms and program variables of proof files: reading and writing them.
 
 ghost use Rattle.std.specs.Prelude.{◌≡◌, OnOk};
 ghost use Rattle.cyc_lex.specs.Writing.{write, write_all};
@@ -6,6 +6,7 @@ ghost use Rattle.cyc_grammar.specs.Giving.{Gives};
 ghost use Rattle.proof_syntax.specs.Grammar.{term, uterm, terms};
 
 use crate::tree::TermTree;
+use command_syntax::{VariableForm, WrittenVariable};
 use cyc_grammar::{Cursor, Refusal};
 use cyc_lex::WordWriter;
 use cyc_memory::OutOfMemory;
@@ -107,5 +108,36 @@ pub fn write_universal_term(tree: TermTree, writer: &mut WordWriter) -> Result<(
 impl<'a> WrittenForm<'a> for ProofForm {
     fn write_term(&self, tree: TermTree, writer: &mut WordWriter) -> Result<(), OutOfMemory> {
         write_any_term(tree, writer)
+    }
+}
+
+/// Universal variables as program variables, by their numbers.
+#[derive(Clone, Copy, Debug)]
+pub struct DollarVariables;
+
+impl<'a> VariableForm<'a> for DollarVariables {
+    ghost use Rattle.std.specs.Prelude.{ℕ};
+    ghost use Rattle.proof_syntax.specs.Grammar as grammar;
+
+    type Variable = u32;
+
+    ghost Value = { ℕ };
+
+    ghost seen = { λ n. n };
+
+    ghost variables = { λ _. grammar.variable };
+
+    #[tactic(auto, unfolding(crate::specs::Grammar::variable))]
+    fn read_variable(&self, cursor: &mut Cursor<'_, 'a>) -> Result<u32, Refusal> {
+        cursor.symbol("$")?;
+        cursor.number()
+    }
+}
+
+impl<'a> WrittenVariable<'a> for DollarVariables {
+    #[tactic(auto, unfolding(crate::specs::Grammar::variable, cyc_lex::specs::Writing::write_all))]
+    fn write_variable(&self, variable: u32, writer: &mut WordWriter) -> Result<(), OutOfMemory> {
+        writer.symbol("$")?;
+        writer.number(variable)
     }
 }

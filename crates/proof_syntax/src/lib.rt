@@ -2,6 +2,7 @@
 #![tactic(auto)]
 
 mod form;
+mod line_lists;
 mod number_list;
 mod read_files;
 mod read_reasons;
@@ -13,8 +14,8 @@ mod write_reasons;
 
 pub use read_files::read_tree;
 pub use tree::{
-    DefinitionTree, EntailmentTree, FileTree, HeapTree, LinkTree, NodeTree, PairTree, PureTree,
-    ReasonTree, SideTree, SpatialTree, TermTree,
+    DefinitionTree, EntailmentTree, FileTree, HeapTree, JudgementTree, LineTree, LinkTree,
+    NodeTree, PairTree, PureTree, ReasonTree, SideTree, SpatialTree, TermTree,
 };
 pub use write_files::write_tree;
 

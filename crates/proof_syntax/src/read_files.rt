@@ -6,13 +6,14 @@ ghost use Rattle.cyc_grammar.specs.Syntax.{read_whole};
 ghost use Rattle.cyc_grammar.specs.Classes.{are_tokens};
 ghost use Rattle.cyc_grammar.specs.Faults.{Reads, IsRead};
 ghost use Rattle.cyc_grammar.specs.Giving.{Gives, IsWithin, with_front, words};
-ghost use Rattle.proof_syntax.specs.Grammar.{cases, disjuncts, pred_word, node_word, definition, definitions, judgement, premises, node, more_nodes, nodes, body, file};
-ghost use Rattle.proof_syntax.specs.Trees.{File, heap_of, definition_of, entailment_of, node_of, file_of};
+ghost use Rattle.proof_syntax.specs.Grammar.{cases, disjuncts, pred_word, node_word, definition, definitions, entailment, state, judgement, premises, node, more_nodes, nodes, body, file};
+ghost use Rattle.proof_syntax.specs.Trees.{File, heap_of, definition_of, entailment_of, judgement_of, node_of, file_of};
 
+use crate::line_lists::lines;
 use crate::number_list::more_numbers;
 use crate::read_reasons::reason;
 use crate::term_heaps::{heap, heaps};
-use crate::tree::{DefinitionTree, EntailmentTree, FileTree, HeapTree, NodeTree};
+use crate::tree::{DefinitionTree, EntailmentTree, FileTree, HeapTree, JudgementTree, NodeTree};
 use cyc_grammar::{Cursor, Refusal, read_fault};
 use cyc_lex::{ReadFault, Token, Tokens};
 use heap_syntax::{Mark, free_name};
@@ -77,9 +78,9 @@ fn disjuncts<'a>(alloc: Global, cursor: &mut Cursor<'_, 'a>) -> Result<Vec<HeapT
     heaps(alloc, &Mark::Keyword("or"), &Mark::Keyword("by"), cursor)
 }
 
-#[tactic(auto, unfolding(crate::specs::Grammar::judgement))]
-fn judgement<'a>(alloc: Global, cursor: &mut Cursor<'_, 'a>) -> Result<EntailmentTree<'a>, Refusal>
-    ensures { Gives (λ x. (entailment_of x, cursor.new)) result (judgement.read cursor.old) }
+#[tactic(auto, unfolding(crate::specs::Grammar::entailment))]
+fn entailment<'a>(alloc: Global, cursor: &mut Cursor<'_, 'a>) -> Result<EntailmentTree<'a>, Refusal>
+    ensures { Gives (λ x. (entailment_of x, cursor.new)) result (entailment.read cursor.old) }
 {
     let antecedent = heap(alloc, true, cursor)?;
     cursor.symbol("|-")?;
@@ -88,6 +89,30 @@ fn judgement<'a>(alloc: Global, cursor: &mut Cursor<'_, 'a>) -> Result<Entailmen
         antecedent,
         disjuncts,
     })
+}
+
+/// The number of a line and the symbolic state there.
+#[tactic(auto, unfolding(crate::specs::Grammar::state))]
+fn state<'a>(alloc: Global, cursor: &mut Cursor<'_, 'a>) -> Result<(u32, HeapTree<'a>), Refusal>
+    ensures { Gives (λ x. ((x.0, heap_of x.1), cursor.new)) result (state.read cursor.old) }
+{
+    cursor.keyword("from")?;
+    let line = cursor.number()?;
+    cursor.keyword("given")?;
+    let heap = heap(alloc, true, cursor)?;
+    cursor.keyword("by")?;
+    Ok((line, heap))
+}
+
+#[tactic(auto, unfolding(crate::specs::Grammar::judgement))]
+fn judgement<'a>(alloc: Global, cursor: &mut Cursor<'_, 'a>) -> Result<JudgementTree<'a>, Refusal>
+    ensures { Gives (λ x. (judgement_of x, cursor.new)) result (judgement.read cursor.old) }
+{
+    if cursor.is_keyword_next("from") {
+        let (line, heap) = state(alloc, cursor)?;
+        return Ok(JudgementTree::From(line, heap));
+    }
+    Ok(JudgementTree::Entailment(entailment(alloc, cursor)?))
 }
 
 #[tactic(auto, unfolding(crate::specs::Grammar::premises))]
@@ -162,9 +187,14 @@ fn body<'a>(alloc: Global, cursor: &mut Cursor<'_, 'a>) -> Result<FileTree<'a>, 
     cursor.numeral("1")?;
     cursor.symbol(";")?;
     let definitions = definitions(alloc, cursor)?;
+    let lines = lines(alloc, cursor)?;
     let nodes = nodes(alloc, cursor)?;
     cursor.symbol(";")?;
-    Ok(FileTree { definitions, nodes })
+    Ok(FileTree {
+        definitions,
+        lines,
+        nodes,
+    })
 }
 
 #[tactic(auto, unfolding(crate::specs::Grammar::file))]

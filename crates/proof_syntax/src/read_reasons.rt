@@ -215,6 +215,8 @@ fn parts<'a>(
             let (atom, case) = two_numbers(cursor)?;
             Ok(ReasonTree::UnfoldRight(atom, case))
         }
+        ReasonWord::Exec => Ok(ReasonTree::Exec),
+        ReasonWord::Drop => Ok(ReasonTree::Drop(cursor.number()?)),
         ReasonWord::Link => Ok(ReasonTree::Link(link(alloc, cursor)?)),
     }
 }

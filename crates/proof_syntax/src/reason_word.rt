@@ -22,6 +22,8 @@ pub enum ReasonWord {
     Instantiate,
     Frame,
     UnfoldRight,
+    Exec,
+    Drop,
     Link,
 }
 
@@ -44,6 +46,8 @@ impl ReasonWord {
             ReasonWord::Instantiate => "Instantiate",
             ReasonWord::Frame => "Frame",
             ReasonWord::UnfoldRight => "UnfoldRight",
+            ReasonWord::Exec => "Exec",
+            ReasonWord::Drop => "Drop",
             ReasonWord::Link => "Link",
         }
     }
@@ -66,6 +70,8 @@ impl ReasonWord {
             "Instantiate" => Some(ReasonWord::Instantiate),
             "Frame" => Some(ReasonWord::Frame),
             "UnfoldRight" => Some(ReasonWord::UnfoldRight),
+            "Exec" => Some(ReasonWord::Exec),
+            "Drop" => Some(ReasonWord::Drop),
             "Link" => Some(ReasonWord::Link),
             _ => None,
         }

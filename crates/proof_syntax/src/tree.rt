@@ -17,6 +17,9 @@ pub type SpatialTree<'a> = heap_syntax::SpatialTree<'a, TermTree>;
 /// A symbolic heap over these terms.
 pub type HeapTree<'a> = heap_syntax::HeapTree<'a, TermTree>;
 
+/// A line of the program; a program variable is the number behind its `$`.
+pub type LineTree = command_syntax::LineTree<u32>;
+
 /// The definition of a predicate, which has at least one case.
 #[derive(Debug, Drop)]
 pub struct DefinitionTree<'a> {
@@ -30,6 +33,14 @@ pub struct DefinitionTree<'a> {
 pub struct EntailmentTree<'a> {
     pub antecedent: HeapTree<'a>,
     pub disjuncts: Vec<HeapTree<'a>>,
+}
+
+/// What a node says.
+#[derive(Debug, Drop)]
+pub enum JudgementTree<'a> {
+    Entailment(EntailmentTree<'a>),
+    /// The number of a line, and the symbolic state there, which has universal variables alone.
+    From(u32, HeapTree<'a>),
 }
 
 /// The side of an equation that is replaced.
@@ -71,13 +82,15 @@ pub enum ReasonTree<'a> {
     Instantiate(u32, TermTree),
     Frame(u32, u32),
     UnfoldRight(u32, u32),
+    Exec,
+    Drop(u32),
     Link(LinkTree),
 }
 
 /// A node of a proof; the numbers of its premises count nodes from 0.
 #[derive(Debug, Drop)]
 pub struct NodeTree<'a> {
-    pub judgement: EntailmentTree<'a>,
+    pub judgement: JudgementTree<'a>,
     pub reason: ReasonTree<'a>,
     pub premises: Vec<u32>,
 }
@@ -86,5 +99,6 @@ pub struct NodeTree<'a> {
 #[derive(Debug, Drop)]
 pub struct FileTree<'a> {
     pub definitions: Vec<DefinitionTree<'a>>,
+    pub lines: Vec<LineTree>,
     pub nodes: Vec<NodeTree<'a>>,
 }

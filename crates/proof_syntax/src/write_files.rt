@@ -4,12 +4,13 @@ ghost use Rattle.std.specs.Prelude.{◌≡◌, map, OnOk, IfOk, false};
 ghost use Rattle.cyc_lex.specs.Spacing.{text_of};
 ghost use Rattle.cyc_lex.specs.Spelling.{Spells};
 ghost use Rattle.cyc_lex.specs.Writing.{write, write_all};
-ghost use Rattle.proof_syntax.specs.Grammar.{cases, disjuncts, definition, definitions, judgement, premises, node, more_nodes, nodes, body, file};
-ghost use Rattle.proof_syntax.specs.Trees.{heap_of, definition_of, entailment_of, node_of, file_of};
+ghost use Rattle.proof_syntax.specs.Grammar.{cases, disjuncts, definition, definitions, entailment, state, judgement, premises, node, more_nodes, nodes, body, file};
+ghost use Rattle.proof_syntax.specs.Trees.{heap_of, definition_of, entailment_of, judgement_of, node_of, file_of};
 
+use crate::line_lists::write_lines;
 use crate::number_list::write_numbers;
 use crate::term_heaps::{write_heap, write_heaps};
-use crate::tree::{DefinitionTree, EntailmentTree, FileTree, HeapTree, NodeTree};
+use crate::tree::{DefinitionTree, EntailmentTree, FileTree, HeapTree, JudgementTree, NodeTree};
 use crate::write_reasons::write_reason;
 use cyc_lex::WordWriter;
 use cyc_memory::OutOfMemory;
@@ -61,14 +62,38 @@ fn write_disjuncts(trees: &[HeapTree<'_>], writer: &mut WordWriter) -> Result<()
     write_heaps(&Mark::Keyword("or"), &Mark::Keyword("by"), trees, writer)
 }
 
-#[tactic(auto, using(cyc_lex::proofs::WritingLaws::write_all_on), unfolding(crate::specs::Grammar::judgement, cyc_lex::specs::Writing::write_all))]
-fn write_judgement(tree: &EntailmentTree<'_>, writer: &mut WordWriter) -> Result<(), OutOfMemory>
-    requires { judgement.fits (entailment_of tree.now) }
-    ensures { OnOk result (writer.new ≡ write_all writer.old (judgement.words (entailment_of tree.now))) }
+#[tactic(auto, using(cyc_lex::proofs::WritingLaws::write_all_on), unfolding(crate::specs::Grammar::entailment, cyc_lex::specs::Writing::write_all))]
+fn write_entailment(tree: &EntailmentTree<'_>, writer: &mut WordWriter) -> Result<(), OutOfMemory>
+    requires { entailment.fits (entailment_of tree.now) }
+    ensures { OnOk result (writer.new ≡ write_all writer.old (entailment.words (entailment_of tree.now))) }
 {
     write_heap(true, &tree.antecedent, writer)?;
     writer.symbol("|-")?;
     write_disjuncts(&tree.disjuncts, writer)
+}
+
+/// Writes the number of a line and the symbolic state there.
+#[tactic(auto, using(cyc_lex::proofs::WritingLaws::write_all_on), unfolding(crate::specs::Grammar::state, cyc_lex::specs::Writing::write_all))]
+fn write_state(line: u32, heap: &HeapTree<'_>, writer: &mut WordWriter) -> Result<(), OutOfMemory>
+    requires { state.fits (line, heap_of heap.now) }
+    ensures { OnOk result (writer.new ≡ write_all writer.old (state.words (line, heap_of heap.now))) }
+{
+    writer.name("from")?;
+    writer.number(line)?;
+    writer.name("given")?;
+    write_heap(true, heap, writer)?;
+    writer.name("by")
+}
+
+#[tactic(auto, unfolding(crate::specs::Grammar::judgement))]
+fn write_judgement(tree: &JudgementTree<'_>, writer: &mut WordWriter) -> Result<(), OutOfMemory>
+    requires { judgement.fits (judgement_of tree.now) }
+    ensures { OnOk result (writer.new ≡ write_all writer.old (judgement.words (judgement_of tree.now))) }
+{
+    match tree {
+        JudgementTree::Entailment(entailment) => write_entailment(entailment, writer),
+        JudgementTree::From(line, heap) => write_state(*line, heap, writer),
+    }
 }
 
 #[tactic(auto, using(cyc_lex::proofs::WritingLaws::write_all_on), unfolding(crate::specs::Grammar::premises, cyc_lex::specs::Writing::write_all))]
@@ -133,6 +158,7 @@ fn write_body(tree: &FileTree<'_>, writer: &mut WordWriter) -> Result<(), OutOfM
     writer.number(1)?;
     writer.symbol(";")?;
     write_definitions(&tree.definitions, writer)?;
+    write_lines(&tree.lines, writer)?;
     write_nodes(&tree.nodes, writer)?;
     writer.symbol(";")
 }

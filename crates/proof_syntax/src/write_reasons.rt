@@ -90,7 +90,7 @@ fn write_parts(tree: &ReasonTree<'_>, writer: &mut WordWriter) -> Result<(), Out
     ensures { OnOk result (writer.new ≡ write_all writer.old (behind_word (reason_of tree.now))) }
 {
     match tree {
-        ReasonTree::Absurd | ReasonTree::Done => Ok(()),
+        ReasonTree::Absurd | ReasonTree::Done | ReasonTree::Exec => Ok(()),
         ReasonTree::Rewrite(position, side) => {
             writer.number(*position)?;
             writer.name(text_of_side(*side))
@@ -108,7 +108,8 @@ fn write_parts(tree: &ReasonTree<'_>, writer: &mut WordWriter) -> Result<(), Out
         ReasonTree::Weaken(number)
         | ReasonTree::Unfold(number)
         | ReasonTree::Choose(number)
-        | ReasonTree::PureRight(number) => writer.number(*number),
+        | ReasonTree::PureRight(number)
+        | ReasonTree::Drop(number) => writer.number(*number),
         ReasonTree::Cut(positions, formula) => {
             write_bracketed(positions, writer)?;
             write_heap(false, formula, writer)
@@ -147,6 +148,8 @@ fn word_of_reason(tree: &ReasonTree<'_>) -> ReasonWord
         ReasonTree::Instantiate(_, _) => ReasonWord::Instantiate,
         ReasonTree::Frame(_, _) => ReasonWord::Frame,
         ReasonTree::UnfoldRight(_, _) => ReasonWord::UnfoldRight,
+        ReasonTree::Exec => ReasonWord::Exec,
+        ReasonTree::Drop(_) => ReasonWord::Drop,
         ReasonTree::Link(_) => ReasonWord::Link,
     }
 }

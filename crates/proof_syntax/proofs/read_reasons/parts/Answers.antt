@@ -49,6 +49,10 @@ pub returns-in_err-atom-in-UnfoldRight : goal.returns-in_err-atom-in-UnfoldRight
 unfolding parts
 returns-in_err-atom-in-UnfoldRight c = let p = err_from_is_err_and c.from_residual-in_err-atom-in-UnfoldRight.result c.from_residual-in_err-atom-in-UnfoldRight.ensures.1 in rw (p.1, p.2) (fault_at words.UnfoldRight _ _ _ c.in-UnfoldRight.is c.in_err-atom-in-UnfoldRight.ensures)
 
+pub returns-in_err-number-in-Drop : goal.returns-in_err-number-in-Drop
+unfolding parts
+returns-in_err-number-in-Drop c = let p = err_from_is_err_and c.from_residual-in_err-number-in-Drop.result c.from_residual-in_err-number-in-Drop.ensures.1 in rw (p.1, p.2) (fault_at words.Drop _ _ _ c.in-Drop.is c.in_err-number-in-Drop.ensures)
+
 pub returns-in_err-link-in-Link : goal.returns-in_err-link-in-Link
 unfolding parts
 returns-in_err-link-in-Link c = let p = err_from_is_err_and c.from_residual-in_err-link-in-Link.result c.from_residual-in_err-link-in-Link.ensures.1 in rw (p.1, p.2) (fault_at words.Link _ _ _ c.in-Link.is c.in_err-link-in-Link.ensures)
@@ -60,6 +64,10 @@ returns-in-Absurd c = part_at words.Absurd _ _ tt _ c.in-Absurd.is refl
 pub returns-in-Done : goal.returns-in-Done
 unfolding parts
 returns-in-Done c = part_at words.Done _ _ tt _ c.in-Done.is refl
+
+pub returns-in-Exec : goal.returns-in-Exec
+unfolding parts
+returns-in-Exec c = part_at words.Exec _ _ tt _ c.in-Exec.is refl
 
 pub returns-in_ok-position-in-Rewrite : goal.returns-in_ok-position-in-Rewrite
 unfolding parts
@@ -104,6 +112,10 @@ returns-in_ok-left-in-Frame c = part_at words.Frame _ _ _ _ c.in-Frame.is c.in_o
 pub returns-in_ok-atom-in-UnfoldRight : goal.returns-in_ok-atom-in-UnfoldRight
 unfolding parts
 returns-in_ok-atom-in-UnfoldRight c = part_at words.UnfoldRight _ _ _ _ c.in-UnfoldRight.is c.in_ok-atom-in-UnfoldRight.ensures
+
+pub returns-in_ok-number-in-Drop : goal.returns-in_ok-number-in-Drop
+unfolding parts
+returns-in_ok-number-in-Drop c = part_at words.Drop _ _ _ _ c.in-Drop.is c.in_ok-number-in-Drop.ensures
 
 pub returns-in_ok-link-in-Link : goal.returns-in_ok-link-in-Link
 unfolding parts

@@ -1,10 +1,8 @@
-use Rattle.std.proofs.Common.{◌≡◌, List, sym, subst, ap}
-use Rattle.std.specs.Prelude.{map}
+use Rattle.std.proofs.Common.{ap}
 use Rattle.heap_syntax.specs.Trees as shared
-use Rattle.heap_syntax.specs.Words.{marked}
-use Rattle.proof_syntax.proofs.SeenTrees.{itself, heap-same, heaps-same, gives-same}
+use Rattle.proof_syntax.proofs.SeenTrees.{itself, heap-same, gives-same}
 use Rattle.proof_syntax.specs.Trees.{Heap, heap_of}
-use Rattle.proof_syntax.specs.Grammar.{terms, heap, heaps}
+use Rattle.proof_syntax.specs.Grammar.{terms, heap}
 use Rattle.proof_syntax.proofs.term_heaps.heap.Goals as goal
 
 pub returns : goal.returns

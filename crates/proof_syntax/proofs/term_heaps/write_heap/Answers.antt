@@ -1,12 +1,9 @@
-use Rattle.std.proofs.Common.{◌≡◌, List, sym, subst, ap, refl}
-use Rattle.std.specs.Prelude.{map}
+use Rattle.std.proofs.Common.{◌≡◌, sym, subst, refl}
 use Rattle.std.specs.Prelude.{OnOk}
 use Rattle.cyc_lex.specs.Writing.{write_all}
-use Rattle.heap_syntax.specs.Trees as shared
-use Rattle.heap_syntax.specs.Words.{marked}
-use Rattle.proof_syntax.proofs.SeenTrees.{itself, heap-same, heaps-same, gives-same}
-use Rattle.proof_syntax.specs.Trees.{Heap, heap_of}
-use Rattle.proof_syntax.specs.Grammar.{terms, heap, heaps}
+use Rattle.proof_syntax.proofs.SeenTrees.{heap-same}
+use Rattle.proof_syntax.specs.Trees.{Heap}
+use Rattle.proof_syntax.specs.Grammar.{terms, heap}
 use Rattle.proof_syntax.proofs.term_heaps.write_heap.Goals as goal
 
 pub write_heap-requires : goal.write_heap-requires

@@ -1,0 +1,10 @@
+use Rattle.std.proofs.Common.{List, ap}
+use Rattle.std.specs.Prelude.{map}
+use Rattle.command_syntax.specs.Trees.{line_of}
+use Rattle.proof_syntax.proofs.SeenTrees.{number_itself, lines-same, gives-same}
+use Rattle.proof_syntax.specs.Trees.{Line}
+use Rattle.proof_syntax.specs.Grammar.{lines}
+use Rattle.proof_syntax.proofs.line_lists.lines.Goals as goal
+
+pub returns : goal.returns
+returns c = gives-same (λ x. (map (line_of number_itself) x.items, c.lines.new.cursor)) (λ x. (x.items, c.lines.new.cursor)) (λ x. ap (λ (ls : List Line). (ls, c.lines.new.cursor)) (lines-same x.items)) c.lines.result (lines.read c.args.cursor.now) c.lines.ensures

@@ -1,0 +1,28 @@
+//! Reading and writing the lines of proof files.
+
+ghost use Rattle.std.specs.Prelude.{◌≡◌, OnOk};
+ghost use Rattle.cyc_lex.specs.Writing.{write_all};
+ghost use Rattle.cyc_grammar.specs.Giving.{Gives};
+ghost use Rattle.proof_syntax.specs.Grammar.{lines};
+
+use crate::form::DollarVariables;
+use crate::tree::LineTree;
+use cyc_grammar::{Cursor, Refusal};
+use cyc_lex::WordWriter;
+use cyc_memory::OutOfMemory;
+use std::alloc::Global;
+
+/// Reads the lines of the program, of which there may be none.
+pub fn lines(alloc: Global, cursor: &mut Cursor<'_, '_>) -> Result<Vec<LineTree>, Refusal>
+    ensures { Gives (λ x. (x.items, cursor.new)) result (lines.read cursor.old) }
+{
+    command_syntax::lines(alloc, &DollarVariables, cursor)
+}
+
+/// Writes the lines of the program.
+pub fn write_lines(trees: &[LineTree], writer: &mut WordWriter) -> Result<(), OutOfMemory>
+    requires { lines.fits trees.now }
+    ensures { OnOk result (writer.new ≡ write_all writer.old (lines.words trees.now)) }
+{
+    command_syntax::write_lines(&DollarVariables, trees, writer)
+}
