@@ -1,20 +1,36 @@
 -- What the grammar lets through has universal variables alone where it must.
-use Rattle.std.proofs.Common.{◌≡◌, ℕ, Bool, true, false, ◌&&◌, List, [], ◌∷◌, map, length, refl, ap, ◌∙◌, arith}
+use Rattle.std.proofs.Common.{◌≡◌, ℕ, zero, suc, ◌+◌, ◌<◌, Bool, true, false, ◌&&◌, List, [], ◌∷◌, map, length, None, refl, ap, ◌∙◌, arith}
 use Rattle.std.specs.List.{list_all}
-use Rattle.std.proofs.lemmas.Bool.{le-leb}
+use Rattle.std.specs.Prelude.{◌||◌, nat_eq, nat_lt, nat_le}
+use Rattle.std.proofs.lemmas.Bool.{le-leb, lt-ltb, ltb-false}
 use Rattle.std.proofs.lemmas.List.{length-map}
 use Rattle.heap_formula.specs.declared.terms.Term.{Term}
 use Rattle.heap_formula.specs.Words.{Each}
+use Rattle.heap_formula.specs.Judgements.{antecedent}
 use Rattle.rule_table.specs.Tests.{is_universal, are_universal, is_universal_pure, is_universal_spatial}
 use Rattle.cyc_grammar.specs.Syntax.{Syntax, Class, after, fits_many, list1}
 use Rattle.heap_syntax.specs.Grammar as shared
+use Rattle.command_syntax.specs.declared.tree.OperandTree.{OperandTree}
+use Rattle.command_syntax.specs.declared.tree.OperandTree.TheVariants as operands
+use Rattle.command_syntax.specs.declared.tree.ChangeTree.TheVariants as changes
+use Rattle.command_syntax.specs.declared.tree.CommandTree.{CommandTree}
+use Rattle.command_syntax.specs.declared.tree.CommandTree.TheVariants.{Stop, Goto, Free, If, StoreAtNil, Change}
+use Rattle.cyc_lex.specs.declared.fault.IllFault.TheVariants.{NoLine}
 use Rattle.proof_syntax.specs.declared.tree.TermTree.{TermTree}
 use Rattle.proof_syntax.specs.declared.tree.TermTree.TheVariants.{Nil, Univ, Exist}
 use Rattle.proof_syntax.specs.declared.tree.PairTree.{PairTree}
-use Rattle.proof_syntax.specs.Trees.{PureTree, Spatial, Cell, Predicate, Heap, Definition, LinkData, Reason, Absurd, Rewrite, Split, Distinct, Weaken, Unfold, Cut, Done, Choose, PureRight, Instantiate, Frame, UnfoldRight, Link, Node, File}
-use Rattle.proof_syntax.specs.Grammar.{uterm, terms, pure, pures, spatial, spatials, heap, judgement, pair, pairs1, pairs, link, parts, split, instantiate, reason, node, nodes, more_nodes, body, file, some_pure, some_spatial, some_pair, comma, star, colon, closing}
-use Rattle.proof_file.specs.Values.{term_value, pure_value, spatial_value, heap_value, definition_value, pair_value, reason_value, node_value}
-use Rattle.proof_file.specs.Readable.{is_universal_heap, is_universal_reason, is_readable, are_readable, has_few_cases, all_have_few_cases}
+use Rattle.proof_syntax.specs.Trees.{PureTree, Spatial, Cell, Predicate, Heap, Line, Definition, Judgement, Entails, From, LinkData, Reason, Absurd, Rewrite, Split, Distinct, Weaken, Unfold, Cut, Done, Choose, PureRight, Instantiate, Frame, UnfoldRight, Exec, Drop, Link, Node, File}
+use Rattle.proof_syntax.specs.Grammar.{uterm, terms, pure, pures, spatial, spatials, heap, entailment, state, judgement, pair, pairs1, pairs, link, parts, split, instantiate, reason, node, nodes, more_nodes, body, file, some_pure, some_spatial, some_pair, comma, star, colon, closing}
+use Rattle.heap_reader.specs.Trees.{Heading}
+use Rattle.heap_reader.specs.Flaws.{ill_if, listed_flaw, heap_flaw}
+use Rattle.heap_reader.specs.Values.{pure_value, spatial_value, heap_value, operand_value, command_value}
+use Rattle.heap_reader.proofs.NoFlaw.{neither, not_ill}
+use Rattle.proof_file.proofs.Fitting.{node_parts, file_parts}
+use Rattle.proof_file.specs.declared.scope.Scope.TheVariants.{Node as InNode}
+use Rattle.proof_file.specs.Spans.{term_span, node_span}
+use Rattle.proof_file.specs.Flaws.{headings, term_flaw, judgement_flaw, node_flaw, first_node, file_flaw}
+use Rattle.proof_file.specs.Values.{term_value, variable_value, definition_value, program_value, judgement_value, pair_value, reason_value, node_value}
+use Rattle.proof_file.specs.Readable.{is_universal_heap, is_universal_reason, is_readable, are_readable, is_universal_command, are_universal_commands, is_at_line, are_at_lines, has_few_cases, all_have_few_cases}
 use Rattle.proof_file.specs.Small.{IsSmallDefinition}
 
 both_true : (p q : Bool) → p ≡ true → q ≡ true → p && q ≡ true
@@ -61,21 +77,21 @@ universal_terms [] e = refl
 universal_terms (t ∷ ts) e =
     both_true (is_universal (term_value t)) (are_universal (map term_value ts)) (terms_fit t e.0) (universal_terms ts e.1)
 
-universal_pure : (x : PureTree) → (pure (terms true)).fits x → is_universal_pure (pure_value x) ≡ true
+universal_pure : (x : PureTree) → (pure (terms true)).fits x → is_universal_pure (pure_value term_value x) ≡ true
 unfolding shared.pure
 universal_pure x f =
     by_sign x.is_equation (both_true (is_universal (term_value x.left)) (is_universal (term_value x.right)) (terms_fit x.left f.1.0) (terms_fit x.right f.1.1.1))
   where
-    by_sign : (b : Bool) → is_universal (term_value x.left) && is_universal (term_value x.right) ≡ true → is_universal_pure (pure_value (record x { is_equation = b })) ≡ true
+    by_sign : (b : Bool) → is_universal (term_value x.left) && is_universal (term_value x.right) ≡ true → is_universal_pure (pure_value term_value (record x { is_equation = b })) ≡ true
     by_sign true e = e
     by_sign false e = e
 
-universal_spatial : (ds : List Definition) (x : Spatial) → (spatial (terms true)).fits x → is_universal_spatial (spatial_value ds x) ≡ true
+universal_spatial : (hs : List Heading) (x : Spatial) → (spatial (terms true)).fits x → is_universal_spatial (spatial_value term_value hs x) ≡ true
 unfolding shared.spatial shared.cell shared.predicate shared.fields shared.arguments
-universal_spatial ds (Cell t ts) f =
+universal_spatial hs (Cell t ts) f =
     both_true (is_universal (term_value t)) (are_universal (map term_value ts)) (terms_fit t f.1.0) (universal_terms ts (listed_fit Nil comma closing (terms true) ts f.1.1))
-universal_spatial ds (Predicate name []) f = refl
-universal_spatial ds (Predicate name (t ∷ ts)) f = universal_terms (t ∷ ts) (listed_fit Nil comma closing (terms true) (t ∷ ts) f.1.1.1)
+universal_spatial hs (Predicate name []) f = refl
+universal_spatial hs (Predicate name (t ∷ ts)) f = universal_terms (t ∷ ts) (listed_fit Nil comma closing (terms true) (t ∷ ts) f.1.1.1)
 
 pures_fit : (xs : List PureTree) → (pures (terms true)).fits xs → Each (pure (terms true)).fits xs
 unfolding shared.pures shared.pures1
@@ -87,10 +103,10 @@ unfolding shared.spatials shared.spatials1
 spatials_fit b [] f = tt
 spatials_fit b (x ∷ xs) f = list_fit some_spatial star (spatial (terms b)) (x ∷ xs) f.1
 
-universal_heap : (ds : List Definition) (h : Heap) → (heap (terms true)).fits h → is_universal_heap (heap_value ds h) ≡ true
+universal_heap : (hs : List Heading) (h : Heap) → (heap (terms true)).fits h → is_universal_heap (heap_value term_value hs h) ≡ true
 unfolding shared.heap
-universal_heap ds h f =
-    both_true (list_all is_universal_pure (map pure_value h.pure)) (list_all is_universal_spatial (map (spatial_value ds) h.spatial)) (all_pass is_universal_pure pure_value (pure (terms true)).fits universal_pure h.pure (pures_fit h.pure f.1.0)) (all_pass is_universal_spatial (spatial_value ds) (spatial (terms true)).fits (universal_spatial ds) h.spatial (spatials_fit true h.spatial f.1.1))
+universal_heap hs h f =
+    both_true (list_all is_universal_pure (map (pure_value term_value) h.pure)) (list_all is_universal_spatial (map (spatial_value term_value hs) h.spatial)) (all_pass is_universal_pure (pure_value term_value) (pure (terms true)).fits universal_pure h.pure (pures_fit h.pure f.1.0)) (all_pass is_universal_spatial (spatial_value term_value hs) (spatial (terms true)).fits (universal_spatial hs) h.spatial (spatials_fit true h.spatial f.1.1))
 
 -- ---- reasons and nodes
 
@@ -107,40 +123,108 @@ link_pairs : (l : LinkData) → link.fits l → Each pair.fits l.substitution
 unfolding link
 link_pairs l f = pairs_fit l.substitution f.1.1.0
 
-universal_reason : (ds : List Definition) (r : Reason) → reason.fits r → is_universal_reason (reason_value ds r) ≡ true
+universal_reason : (hs : List Heading) (r : Reason) → reason.fits r → is_universal_reason (reason_value hs r) ≡ true
 unfolding reason parts split instantiate
-universal_reason ds (Split t u) f =
+universal_reason hs (Split t u) f =
     both_true (is_universal (term_value t)) (is_universal (term_value u)) (universal_term t f.1.1.0) (universal_term u f.1.1.1)
-universal_reason ds (Instantiate v t) f = universal_term t f.1.1.1
-universal_reason ds (Link l) f =
+universal_reason hs (Instantiate v t) f = universal_term t f.1.1.1
+universal_reason hs (Link l) f =
     all_pass (λ (p : ℕ × Term). is_universal p.1) pair_value pair.fits universal_pair l.substitution (link_pairs l f.1.1)
-universal_reason ds Absurd f = refl
-universal_reason ds (Rewrite k s) f = refl
-universal_reason ds (Distinct i j) f = refl
-universal_reason ds (Weaken k) f = refl
-universal_reason ds (Unfold k) f = refl
-universal_reason ds (Cut places formula) f = refl
-universal_reason ds Done f = refl
-universal_reason ds (Choose j) f = refl
-universal_reason ds (PureRight k) f = refl
-universal_reason ds (Frame i j) f = refl
-universal_reason ds (UnfoldRight j c) f = refl
+universal_reason hs Absurd f = refl
+universal_reason hs (Rewrite k s) f = refl
+universal_reason hs (Distinct i j) f = refl
+universal_reason hs (Weaken k) f = refl
+universal_reason hs (Unfold k) f = refl
+universal_reason hs (Cut places formula) f = refl
+universal_reason hs Done f = refl
+universal_reason hs (Choose j) f = refl
+universal_reason hs (PureRight k) f = refl
+universal_reason hs (Frame i j) f = refl
+universal_reason hs (UnfoldRight j c) f = refl
+universal_reason hs Exec f = refl
+universal_reason hs (Drop k) f = refl
 
-readable_node : (ds : List Definition) (n : Node) → node.fits n → is_readable (node_value ds n) ≡ true
-unfolding node judgement
-readable_node ds n f =
-    both_true (is_universal_heap (heap_value ds n.judgement.antecedent)) (is_universal_reason (reason_value ds n.reason)) (universal_heap ds n.judgement.antecedent f.1.0.1.0) (universal_reason ds n.reason f.1.1.0)
+universal_antecedent : (hs : List Heading) (j : Judgement) → judgement.fits j → is_universal_heap (antecedent (judgement_value hs j)) ≡ true
+unfolding judgement entailment state
+universal_antecedent hs (Entails e) f = universal_heap hs e.antecedent f.1.1.0
+universal_antecedent hs (From n h) f = universal_heap hs h f.1.1
+
+readable_node : (hs : List Heading) (n : Node) → node.fits n → is_readable (node_value hs n) ≡ true
+unfolding node
+readable_node hs n f =
+    both_true (is_universal_heap (antecedent (judgement_value hs n.judgement))) (is_universal_reason (reason_value hs n.reason)) (universal_antecedent hs n.judgement f.1.0) (universal_reason hs n.reason f.1.1.0)
 
 nodes_fit : (ns : List Node) → nodes.fits ns → Each node.fits ns
 unfolding nodes more_nodes
 nodes_fit [] f = tt
 nodes_fit (n ∷ ns) f = (f.1.0, many_fit node ns f.1.1)
 
-pub nodes_readable : (f : File) → file.fits f → are_readable (map (node_value f.definitions) f.nodes) ≡ true
+pub nodes_readable : (f : File) → file.fits f → are_readable (map (node_value (headings f.definitions)) f.nodes) ≡ true
 unfolding file body
 nodes_readable f fit =
-    all_pass is_readable (node_value f.definitions) node.fits (readable_node f.definitions) f.nodes (nodes_fit f.nodes fit.1.1)
+    all_pass is_readable (node_value (headings f.definitions)) node.fits (readable_node (headings f.definitions)) f.nodes (nodes_fit f.nodes fit.1.1.1)
 
-pub cases_few : (ds all : List Definition) → Each IsSmallDefinition ds → all_have_few_cases (map (definition_value all) ds) ≡ true
-cases_few ds all small =
-    all_pass has_few_cases (definition_value all) IsSmallDefinition (λ d s. let l = length-map d.cases (heap_value all) in let few = s.few in le-leb (length (map (heap_value all) d.cases)) 16 (omega arith)) ds small
+pub cases_few : (ds : List Definition) (hs : List Heading) → Each IsSmallDefinition ds → all_have_few_cases (map (definition_value hs) ds) ≡ true
+cases_few ds hs small =
+    all_pass has_few_cases (definition_value hs) IsSmallDefinition (λ d s. let l = length-map d.cases (heap_value term_value hs) in let few = s.few in le-leb (length (map (heap_value term_value hs) d.cases)) 16 (omega arith)) ds small
+
+-- ---- commands
+
+universal_operand : (t : OperandTree ℕ) → is_universal (operand_value variable_value t) ≡ true
+universal_operand operands.Nil = refl
+universal_operand (operands.Variable n) = refl
+
+universal_both : (t u : OperandTree ℕ) → is_universal (operand_value variable_value t) && is_universal (operand_value variable_value u) ≡ true
+universal_both t u =
+    both_true (is_universal (operand_value variable_value t)) (is_universal (operand_value variable_value u)) (universal_operand t) (universal_operand u)
+
+universal_command : (c : CommandTree ℕ) → is_universal_command (command_value variable_value c) ≡ true
+universal_command Stop = refl
+universal_command (Goto n) = refl
+universal_command (Free t) = universal_operand t
+universal_command (If t true u n) = universal_both t u
+universal_command (If t false u n) = universal_both t u
+universal_command (StoreAtNil n t) = universal_operand t
+universal_command (Change v (changes.New n)) = refl
+universal_command (Change v (changes.Assign t)) = universal_operand t
+universal_command (Change v (changes.Load t n)) = universal_operand t
+universal_command (Change v (changes.Store n t)) = universal_operand t
+
+pub commands_universal : (ls : List Line) → are_universal_commands (program_value ls) ≡ true
+commands_universal [] = refl
+commands_universal (l ∷ ls) =
+    both_true (is_universal_command (command_value variable_value l.command)) (are_universal_commands (program_value ls)) (universal_command l.command) (commands_universal ls)
+
+-- ---- judgements that start from a line
+
+positive : (n : ℕ) → nat_eq n 0 ≡ false → 0 < n
+positive zero e = absurd cc
+positive (suc n) e = omega arith
+
+line_there : (count n : ℕ) → nat_eq n 0 || nat_lt count n ≡ false → nat_lt 0 n && nat_le n count ≡ true
+line_there count n e =
+    by_tests (nat_eq n 0) (nat_lt count n) refl refl e
+  where
+    by_tests : (none out : Bool) → nat_eq n 0 ≡ none → nat_lt count n ≡ out → none || out ≡ false → nat_lt 0 n && nat_le n count ≡ true
+    by_tests true out z o e = absurd cc
+    by_tests false true z o e = absurd cc
+    by_tests false false z o e =
+        let some = positive n z in
+        let within = ltb-false count n o in
+        both_true (nat_lt 0 n) (nat_le n count) (lt-ltb 0 n (omega arith)) (le-leb n count within)
+
+judgement_at_line : (hs : List Heading) (count k : ℕ) (j : Judgement) → judgement_flaw hs count k j ≡ None → is_at_line count (judgement_value hs j) ≡ true
+judgement_at_line hs count k (Entails j) e = refl
+judgement_at_line hs count k (From n h) e =
+    let out = nat_eq n 0 || nat_lt count n in
+    line_there count n (not_ill out NoLine (k + 1) (neither (ill_if out NoLine (k + 1)) (heap_flaw (term_flaw InNode) term_span hs (k + 3) h) e).0)
+
+nodes_at_lines : (hs : List Heading) (count n k : ℕ) (xs : List Node) → listed_flaw (node_flaw hs count) node_span n k xs ≡ None → are_at_lines count (map (node_value hs) xs) ≡ true
+nodes_at_lines hs count n k [] e = refl
+nodes_at_lines hs count n k (x ∷ xs) e =
+    let both = neither (node_flaw hs count n k x) (listed_flaw (node_flaw hs count) node_span (suc n) (k + node_span x) xs) e in
+    let first = judgement_at_line hs count (k + 1) x.judgement (node_parts hs count n k x both.0).1 in
+    both_true (is_at_line count (judgement_value hs x.judgement)) (are_at_lines count (map (node_value hs) xs)) first (nodes_at_lines hs count (suc n) (k + node_span x) xs both.1)
+
+pub file_at_lines : (f : File) → file_flaw f ≡ None → are_at_lines (length f.lines) (map (node_value (headings f.definitions)) f.nodes) ≡ true
+file_at_lines f e = nodes_at_lines (headings f.definitions) (length f.lines) 0 (first_node f) f.nodes (file_parts f e).2

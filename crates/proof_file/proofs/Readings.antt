@@ -18,9 +18,9 @@ use Rattle.proof_syntax.specs.Grammar.{body, file}
 use Rattle.proof_syntax.proofs.GrammarLaws.{file-law}
 use Rattle.proof_syntax.proofs.GrammarEnds.{body-inner}
 use Rattle.proof_file.specs.declared.file.ProofFile.{ProofFile}
-use Rattle.proof_file.specs.declared.flaw.Item.{Item}
-use Rattle.proof_file.specs.declared.flaw.Item.TheVariants.{Ill, Over}
-use Rattle.proof_file.specs.declared.flaw.Flaw.{Flaw}
+use Rattle.heap_reader.specs.declared.flaw.Item.{Item}
+use Rattle.heap_reader.specs.declared.flaw.Item.TheVariants.{Ill, Over}
+use Rattle.heap_reader.specs.declared.flaw.Flaw.{Flaw}
 use Rattle.proof_file.specs.Flaws.{file_flaw}
 use Rattle.proof_file.specs.Written.{tree_of, text_of_file}
 use Rattle.proof_file.specs.Reading.{AreSame, HasFlaw, IsFileOf, IsLexFault, IsRead, IsReadAgain, Reads, SpellsFile, SpellsTree}
@@ -64,6 +64,7 @@ one_file ts f g first second =
       version = first.3.version ∙ sym of_first.version;
       most = first.3.most ∙ sym of_first.most;
       definitions = first.3.definitions ∙ sym of_first.definitions;
+      program = first.3.program ∙ sym of_first.program;
       nodes = first.3.nodes ∙ sym of_first.nodes;
     }
 
@@ -82,15 +83,15 @@ ok_tokens ts us bytes first second = cc
 -- ---- what is written
 
 -- a file's text spells it
-pub text_is_read : (f : ProofFile) → IsRead (text_of_file f.defs.list f.nodes) (Ok f)
+pub text_is_read : (f : ProofFile) → IsRead (text_of_file f.defs.list f.program f.nodes) (Ok f)
 unfolding file
 text_is_read f =
-    let t = tree_of f.defs.list f.nodes in
+    let t = tree_of f.defs.list f.program f.nodes in
     let has = lexemes-read (body.words t) (body-inner.inner t f.fits) in
     (has.0, has.1, (t, (f.fits, has.2), f.flawless, file_known f))
 
 -- what is written of a file, if anything, spells it
-pub written_is_read : {V E : Type 0} (items : V → List ℕ) (f : ProofFile) (t : File) (r : Result V E) → t ≡ tree_of f.defs.list f.nodes → IfOk r (λ v. items v ≡ text_of (body.words t)) → IfOk r (λ v. IsRead (items v) (Ok f))
+pub written_is_read : {V E : Type 0} (items : V → List ℕ) (f : ProofFile) (t : File) (r : Result V E) → t ≡ tree_of f.defs.list f.program f.nodes → IfOk r (λ v. items v ≡ text_of (body.words t)) → IfOk r (λ v. IsRead (items v) (Ok f))
 written_is_read items f t (Ok v) same h =
     subst (λ bs. IsRead bs (Ok f)) (sym (h ∙ ap (λ u. text_of (body.words u)) same)) (text_is_read f)
 written_is_read items f t (Err e) same h = tt
@@ -108,6 +109,6 @@ again f bytes (Err (faults.Limit a k l c)) first second =
 again f bytes (Err faults.OutOfMemory) first second = refl
 
 -- what is read of a file's text is that file
-pub text_read_again : (f : ProofFile) (bytes : List ℕ) (answer : Result ProofFile ReadFault) → bytes ≡ text_of_file f.defs.list f.nodes → Reads bytes answer → IsReadAgain f answer
+pub text_read_again : (f : ProofFile) (bytes : List ℕ) (answer : Result ProofFile ReadFault) → bytes ≡ text_of_file f.defs.list f.program f.nodes → Reads bytes answer → IsReadAgain f answer
 text_read_again f bytes answer same =
     again f bytes answer (subst (λ bs. IsRead bs (Ok f)) (sym same) (text_is_read f))

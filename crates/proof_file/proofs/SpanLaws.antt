@@ -1,63 +1,27 @@
 -- The spans count the words of the grammar, so each flaw's number is that of the token at which it stands.
 use Rattle.std.proofs.Common.{◌≡◌, ℕ, ◌+◌, ◌<◌, Bool, true, false, List, [], ◌∷◌, ◌++◌, length, refl, arith, length-append}
 use Rattle.heap_formula.specs.Words.{Each}
-use Rattle.cyc_lex.specs.Word.{Word}
 use Rattle.cyc_grammar.specs.Classes.{the_end}
-use Rattle.cyc_grammar.specs.Syntax.{Syntax, Class, one, many, after, words_many, fits_many, list1}
+use Rattle.cyc_grammar.specs.Syntax.{Class, words_many, fits_many, list1}
 use Rattle.heap_syntax.specs.Grammar as shared
+use Rattle.heap_reader.specs.Spans.{total, total_or, heap_span, line_span}
+use Rattle.heap_reader.proofs.SpanLaws.{between, listed_words, alone, spatial_words, heap_words as every_heap, lines_words}
 use Rattle.proof_syntax.specs.declared.tree.TermTree.{TermTree}
 use Rattle.proof_syntax.specs.declared.tree.TermTree.TheVariants.{Nil, Univ, Exist}
 use Rattle.proof_syntax.specs.declared.tree.PairTree.{PairTree}
-use Rattle.proof_syntax.specs.Trees.{PureTree, Spatial, Cell, Predicate, Heap, Definition, Entailment, LinkData, Reason, Absurd, Rewrite, Split, Distinct, Weaken, Unfold, Cut, Done, Choose, PureRight, Instantiate, Frame, UnfoldRight, Link, Node, File}
-use Rattle.proof_syntax.specs.Grammar.{term, uterm, terms, sign, pure, pures, fields, arguments, spatial, spatials, heap, heaps, cases, definition, disjuncts, judgement, numbers, bracketed, two_numbers, side, rewrite, split, cut, instantiate, pair, pairs1, pairs, link, parts, reason, premises, node, definitions, more_nodes, nodes, body, file, some_pure, some_spatial, some_heap, some_pair, comma, star, colon, arrow, opening, closing, closing_bracket, closing_brace, semicolon, or_word, by_word, bar, last_word, turnstile}
-use Rattle.proof_file.specs.Spans.{total, total_or, term_span, pure_span, pures_span, spatial_span, spatials_span, heap_span, definition_span, entailment_span, pair_span, link_span, reason_span, premises_rest, node_span}
+use Rattle.proof_syntax.specs.Trees.{Heap, Definition, Entailment, Judgement, Entails, From, LinkData, Reason, Absurd, Rewrite, Split, Distinct, Weaken, Unfold, Cut, Done, Choose, PureRight, Instantiate, Frame, UnfoldRight, Exec, Drop, Link, Node, File}
+use Rattle.proof_syntax.specs.Grammar.{term, uterm, terms, terms_of, spatial, heap, heaps, cases, definition, variable, lines, disjuncts, entailment, state, judgement, numbers, bracketed, two_numbers, side, rewrite, split, cut, instantiate, pair, pairs1, pairs, link, parts, reason, premises, node, definitions, more_nodes, nodes, body, file, some_heap, some_pair, comma, closing_bracket, closing_brace, semicolon, or_word, by_word, bar, last_word, turnstile}
+use Rattle.proof_file.proofs.Fitting.{HasDisjunct}
+use Rattle.proof_file.specs.Spans.{term_span, variable_span, definition_span, entailment_span, judgement_span, pair_span, link_span, reason_span, premises_rest, node_span}
 
 -- ---- lists
-
--- members with a word before each
-behind_each : {A : Type 0} (c : Class (Unit {0})) (a : Syntax A) (span : A → ℕ) → ((x : A) → a.fits x → length (a.words x) + 1 ≡ span x) → (xs : List A) → fits_many (after c a) xs → length (words_many (after c a) xs) ≡ total span xs
-behind_each c a span one [] f = refl
-behind_each c a span one (x ∷ xs) f =
-    let h = one x f.0 in
-    let r = behind_each c a span one xs f.1 in
-    let l = length-append (c.word tt ∷ a.words x) (words_many (after c a) xs) in
-    omega arith
-
--- members with a word between neighbours
-between : {A : Type 0} (default : A) (c : Class (Unit {0})) (a : Syntax A) (span : A → ℕ) → ((x : A) → a.fits x → length (a.words x) + 1 ≡ span x) → (xs : List A) → (list1 default c a).fits xs → length ((list1 default c a).words xs) + 1 ≡ total span xs
-between default c a span one [] f = absurd (omega (arith, f.0))
-between default c a span one (x ∷ xs) f =
-    let h = one x f.1.0 in
-    let r = behind_each c a span one xs f.1.1 in
-    let l = length-append (a.words x) (words_many (after c a) xs) in
-    omega arith
-
--- members with a word between neighbours and one behind the last
-listed : {A : Type 0} (default : A) (c behind : Class (Unit {0})) (a : Syntax A) (span : A → ℕ) → ((x : A) → a.fits x → length (a.words x) + 1 ≡ span x) → (xs : List A) → (shared.listed default c behind a).fits xs → length ((shared.listed default c behind a).words xs) ≡ total span xs
-unfolding shared.listed
-listed default c behind a span one [] f = absurd (omega (arith, f.0))
-listed default c behind a span one (x ∷ xs) f =
-    let h = one x f.1.0 in
-    let r = behind_each c a span one xs f.1.1 in
-    let l = length-append (words_many (after c a) xs) (behind.word tt ∷ []) in
-    let k = length-append (a.words x) (words_many (after c a) xs ++ behind.word tt ∷ []) in
-    omega arith
-
--- members that stand alone
-alone : {A : Type 0} (test : Word → Bool) (a : Syntax A) (span : A → ℕ) → ((x : A) → a.fits x → length (a.words x) ≡ span x) → (xs : List A) → (many test a).fits xs → length ((many test a).words xs) ≡ total span xs
-alone test a span one [] f = refl
-alone test a span one (x ∷ xs) f =
-    let h = one x f.0 in
-    let r = alone test a span one xs f.1 in
-    let l = length-append (a.words x) (words_many a xs) in
-    omega arith
 
 numbers_words : (ns : List ℕ) → length (numbers.words ns) ≡ length ns
 unfolding numbers
 numbers_words [] = refl
 numbers_words (n ∷ ns) = let r = numbers_words ns in omega arith
 
--- ---- terms and atoms
+-- ---- terms and heaps
 
 term_words : (t : TermTree) → length (term.words t) + 1 ≡ term_span t
 unfolding term
@@ -76,62 +40,14 @@ unfolding terms
 terms_words true t f = uterm_words t f
 terms_words false t f = term_words t
 
-sign_words : (b : Bool) → length (sign.words b) ≡ 1
-unfolding shared.sign
-sign_words true = refl
-sign_words false = refl
+heap_words : (b : Bool) (h : Heap) → (heap (terms b)).fits h → length ((heap (terms b)).words h) + 1 ≡ heap_span term_span h
+heap_words b h f =
+    every_heap (terms_of (terms b)) term_span (terms_words b) (spatial (terms b)) (spatial_words (terms_of (terms b)) term_span (terms_words b)) h f
 
-module _ (b : Bool) where
-  pure_words : (x : PureTree) → (pure (terms b)).fits x → length ((pure (terms b)).words x) + 1 ≡ pure_span x
-  unfolding shared.pure
-  pure_words x f =
-      let l = terms_words b x.left f.1.0 in
-      let s = sign_words x.is_equation in
-      let r = terms_words b x.right f.1.1.1 in
-      let p = length-append (sign.words x.is_equation) ((terms b).words x.right) in
-      let q = length-append ((terms b).words x.left) (sign.words x.is_equation ++ (terms b).words x.right) in
-      omega arith
+-- ---- definitions and judgements
 
-  pures_words : (xs : List PureTree) → (pures (terms b)).fits xs → length ((pures (terms b)).words xs) ≡ pures_span xs
-  unfolding shared.pures shared.pures1
-  pures_words [] f = refl
-  pures_words (x ∷ xs) f = listed some_pure comma colon (pure (terms b)) pure_span pure_words (x ∷ xs) f.1
-
-  fields_words : (ts : List TermTree) → (fields (terms b)).fits ts → length ((fields (terms b)).words ts) ≡ total term_span ts
-  unfolding shared.fields
-  fields_words ts f = listed Nil comma closing (terms b) term_span (terms_words b) ts f
-
-  arguments_words : (ts : List TermTree) → (arguments (terms b)).fits ts → length ((arguments (terms b)).words ts) ≡ total_or 1 term_span ts
-  unfolding shared.arguments
-  arguments_words [] f = refl
-  arguments_words (t ∷ ts) f = fields_words (t ∷ ts) f.1
-
-  spatial_words : (x : Spatial) → (spatial (terms b)).fits x → length ((spatial (terms b)).words x) + 1 ≡ spatial_span x
-  unfolding shared.spatial shared.cell shared.predicate
-  spatial_words (Cell t ts) f =
-      let a = terms_words b t f.1.0 in
-      let r = fields_words ts f.1.1 in
-      let l = length-append ((terms b).words t) (arrow.word tt ∷ (opening.word tt ∷ (fields (terms b)).words ts)) in
-      omega arith
-  spatial_words (Predicate name ts) f = let r = arguments_words ts f.1.1 in omega arith
-
-  spatials_words : (xs : List Spatial) → (spatials (terms b)).fits xs → length ((spatials (terms b)).words xs) + 1 ≡ spatials_span xs
-  unfolding shared.spatials shared.spatials1
-  spatials_words [] f = refl
-  spatials_words (x ∷ xs) f = between some_spatial star (spatial (terms b)) spatial_span spatial_words (x ∷ xs) f.1
-
-  heap_words : (h : Heap) → (heap (terms b)).fits h → length ((heap (terms b)).words h) + 1 ≡ heap_span h
-  unfolding shared.heap
-  heap_words h f =
-      let p = pures_words h.pure f.1.0 in
-      let s = spatials_words h.spatial f.1.1 in
-      let l = length-append ((pures (terms b)).words h.pure) ((spatials (terms b)).words h.spatial) in
-      omega arith
-
--- ---- lists of heaps, definitions and judgements
-
-pub heaps_words : (c behind : Class (Unit {0})) (hs : List Heap) → (heaps c behind).fits hs → length ((heaps c behind).words hs) ≡ total heap_span hs
-heaps_words c behind hs f = listed some_heap c behind (heap (terms false)) heap_span (heap_words false) hs f
+heaps_words : (c behind : Class (Unit {0})) (hs : List Heap) → (heaps c behind).fits hs → length ((heaps c behind).words hs) ≡ total (heap_span term_span) hs
+heaps_words c behind hs f = listed_words some_heap c behind (heap (terms false)) (heap_span term_span) (heap_words false) hs f
 
 pub definition_words : (d : Definition) → definition.fits d → length (definition.words d) ≡ definition_span d
 unfolding definition cases
@@ -140,13 +56,27 @@ definition_words d f =
     let l = length-append ((heaps bar closing_brace).words d.cases) (semicolon.word tt ∷ []) in
     omega arith
 
-judgement_words : (e : Entailment) → judgement.fits e → length (judgement.words e) ≡ entailment_span e
-unfolding judgement disjuncts
-judgement_words e f =
+entailment_words : (e : Entailment) → entailment.fits e → length (entailment.words e) ≡ entailment_span e
+unfolding entailment disjuncts
+entailment_words e f =
     let a = heap_words true e.antecedent f.1.0 in
     let d = heaps_words or_word by_word e.disjuncts f.1.1 in
     let l = length-append ((heap (terms true)).words e.antecedent) (turnstile.word tt ∷ (heaps or_word by_word).words e.disjuncts) in
     omega arith
+
+judgement_words : (j : Judgement) → judgement.fits j → length (judgement.words j) ≡ judgement_span j
+unfolding judgement state
+judgement_words (Entails e) f = entailment_words e f.1
+judgement_words (From n h) f =
+    let a = heap_words true h f.1.1 in
+    let l = length-append ((heap (terms true)).words h) (by_word.word tt ∷ []) in
+    omega arith
+
+-- ---- lines
+
+variable_words : (n : ℕ) → variable.fits n → length (variable.words n) + 1 ≡ variable_span n
+unfolding variable
+variable_words n f = refl
 
 -- ---- reasons
 
@@ -202,6 +132,8 @@ reason_words (PureRight k) f = refl
 reason_words (Instantiate v t) f = let a = uterm_words t f.1.1.1 in omega arith
 reason_words (Frame i j) f = refl
 reason_words (UnfoldRight j c) f = refl
+reason_words Exec f = refl
+reason_words (Drop k) f = refl
 reason_words (Link l) f = let a = link_words l f.1.1 in omega arith
 
 -- ---- nodes and files
@@ -234,35 +166,42 @@ nodes_words (n ∷ ns) f =
     let k = length-append (node.words n) (words_many node ns ++ last_word.word tt ∷ []) in
     omega arith
 
--- the words of a file: the header, the definitions, the nodes, the last statement, and the end
-pub file_words : (f : File) → file.fits f → length (file.words f) ≡ 4 + total definition_span f.definitions + total node_span f.nodes + 3
+-- the words of a file: the header, the definitions, the lines, the nodes, the last statement, and the end
+pub file_words : (f : File) → file.fits f → length (file.words f) ≡ 4 + total definition_span f.definitions + total (line_span variable_span) f.lines + total node_span f.nodes + 3
 unfolding file body definitions
 file_words f fit =
     let d = alone (λ w. true) definition definition_span definition_words f.definitions fit.1.0 in
-    let n = nodes_words f.nodes fit.1.1 in
+    let l = lines_words variable variable_span variable_words f.lines fit.1.1.0 in
+    let n = nodes_words f.nodes fit.1.1.1 in
     let a = length-append (nodes.words f.nodes) (semicolon.word tt ∷ []) in
-    let b = length-append (words_many definition f.definitions) (nodes.words f.nodes ++ semicolon.word tt ∷ []) in
+    let e = length-append (lines.words f.lines) (nodes.words f.nodes ++ semicolon.word tt ∷ []) in
+    let b = length-append (words_many definition f.definitions) (lines.words f.lines ++ (nodes.words f.nodes ++ semicolon.word tt ∷ [])) in
     let c = length-append (body.words f) (the_end.word tt ∷ []) in
     omega arith
 
--- each node has a disjunct
-some_disjunct : (n : Node) → node.fits n → 0 < length n.judgement.disjuncts
-unfolding node judgement disjuncts shared.listed
-some_disjunct n f = f.1.0.1.1.0
+-- each entailment has a disjunct
+some_disjunct : (j : Judgement) → judgement.fits j → HasDisjunct j
+unfolding judgement entailment disjuncts shared.listed
+some_disjunct (Entails e) f = f.1.1.1.0
+some_disjunct (From n h) f = tt
 
-disjuncts_some : (ns : List Node) → fits_many node ns → Each (λ (n : Node). 0 < length n.judgement.disjuncts) ns
-disjuncts_some [] f = tt
-disjuncts_some (n ∷ ns) f = (some_disjunct n f.0, disjuncts_some ns f.1)
+node_some : (n : Node) → node.fits n → HasDisjunct n.judgement
+unfolding node
+node_some n f = some_disjunct n.judgement f.1.0
 
-list_some : (ns : List Node) → nodes.fits ns → Each (λ (n : Node). 0 < length n.judgement.disjuncts) ns
+many_some : (ns : List Node) → fits_many node ns → Each (λ (n : Node). HasDisjunct n.judgement) ns
+many_some [] f = tt
+many_some (n ∷ ns) f = (node_some n f.0, many_some ns f.1)
+
+list_some : (ns : List Node) → nodes.fits ns → Each (λ (n : Node). HasDisjunct n.judgement) ns
 unfolding nodes more_nodes
 list_some [] g = absurd (omega (arith, g.0))
-list_some (n ∷ ns) g = disjuncts_some (n ∷ ns) (g.1.0, g.1.1)
+list_some (n ∷ ns) g = many_some (n ∷ ns) (g.1.0, g.1.1)
 
-pub nodes_some : (f : File) → file.fits f → Each (λ (n : Node). 0 < length n.judgement.disjuncts) f.nodes
+pub nodes_some : (f : File) → file.fits f → Each (λ (n : Node). HasDisjunct n.judgement) f.nodes
 unfolding file body
-nodes_some f fit = list_some f.nodes fit.1.1
+nodes_some f fit = list_some f.nodes fit.1.1.1
 
 pub file_some : (f : File) → file.fits f → 0 < length f.nodes
 unfolding file body nodes
-file_some f fit = fit.1.1.0
+file_some f fit = fit.1.1.1.0

@@ -11,6 +11,8 @@ use Rattle.heap_formula.specs.declared.atoms.Pure.{Pure}
 use Rattle.heap_formula.specs.declared.atoms.Pure.TheVariants.{Eq, Neq}
 use Rattle.heap_formula.specs.declared.atoms.Spatial.{Spatial as SpatialAtom}
 use Rattle.heap_formula.specs.declared.atoms.Spatial.TheVariants as atoms
+use Rattle.heap_formula.specs.declared.commands.Command.{Command}
+use Rattle.heap_formula.specs.declared.commands.Command.TheVariants as commands
 use Rattle.heap_formula.specs.declared.judgements.Judgement.{Judgement}
 use Rattle.heap_formula.specs.declared.judgements.Judgement.TheVariants.{Entail, Term as Halting}
 use Rattle.heap_formula.specs.declared.proof_rules.Side.{Side}
@@ -23,21 +25,28 @@ use Rattle.heap_formula.specs.Symbolic.{SymbolicHeap}
 use Rattle.heap_formula.specs.Words.{Each}
 use Rattle.cyc_lex.specs.Word.{is_name_text, is_identifier}
 use Rattle.cyc_lex.proofs.BoolParts.{and-parts}
-use Rattle.cyc_lex.specs.declared.fault.What.TheVariants.{Predicates, Arguments}
+use Rattle.cyc_lex.specs.declared.fault.What.TheVariants.{Predicates, Arguments, Cases}
 use Rattle.cyc_lex.specs.declared.fault.IllFault.TheVariants.{Duplicate}
 use Rattle.cyc_grammar.specs.Classes.{is_free_name}
 use Rattle.cyc_grammar.specs.Syntax.{Class}
 use Rattle.proof_syntax.specs.Trees.{Heap, Definition, Node}
 use Rattle.heap_syntax.specs.Grammar as shared
-use Rattle.proof_syntax.specs.Grammar.{reserved, uterm, terms, spatial, heap, heaps, cases, definition, disjuncts, judgement, cut, split, parts, reason, node, nodes, more_nodes, definitions, body, file, bar, closing_brace, or_word, by_word}
+use Rattle.proof_syntax.specs.Grammar.{reserved, uterm, terms, spatial, heap, heaps, cases, definition, disjuncts, entailment, state, judgement, cut, split, parts, reason, node, nodes, more_nodes, definitions, body, file, bar, closing_brace, or_word, by_word}
 use Rattle.proof_file.specs.declared.node.FileNode.{FileNode}
 use Rattle.proof_file.specs.declared.file.ProofFile.{ProofFile}
-use Rattle.proof_file.specs.Spans.{total, heap_span, definition_span, node_span}
-use Rattle.proof_file.specs.Flaws.{Found, ill_if, over_if, or_later, listed_flaw, arity_in, case_flaw, head_flaw, definition_flaw, node_flaw}
-use Rattle.proof_file.specs.Values.{term_value, pure_value, place_of, spatial_value, heap_value, definition_value, judgement_value, side_value, pair_value, reason_value, node_value}
-use Rattle.proof_file.specs.Written.{term_tree, pure_tree, name_in, name_of, spatial_tree, heap_tree, definition_tree, judgement_tree, side_tree, pair_tree, reason_tree, node_tree, tree_of}
+use Rattle.heap_reader.specs.Trees.{Heading}
+use Rattle.heap_reader.specs.Flaws.{Found, ill_if, over_if, or_later, listed_flaw, arity_in, heaps_flaw}
+use Rattle.heap_reader.specs.Values.{pure_value, place_of, spatial_value, heap_value, operand_value, command_value}
+use Rattle.heap_reader.proofs.NoFlaw.{neither, not_ill}
+use Rattle.proof_file.specs.declared.scope.Scope.TheVariants.{Case as InCase}
+use Rattle.proof_file.specs.Spans.{term_span, definition_span}
+use Rattle.proof_file.specs.Flaws.{heading, headings, term_flaw, head_flaw, definition_flaw}
+use Rattle.proof_file.specs.Values.{term_value, variable_value, definition_value, program_value, judgement_value, side_value, pair_value, reason_value, node_value}
+use Rattle.proof_file.specs.Written.{term_tree, pure_tree, operand_tree, store_tree, command_tree, lines_behind, name_in, name_of, spatial_tree, heap_tree, definition_tree, judgement_tree, side_tree, pair_tree, reason_tree, node_tree, tree_of}
 use Rattle.proof_file.specs.Reading.{IsFileOf}
-use Rattle.proof_file.proofs.Fitting.{neither, not_ill}
+use Rattle.proof_file.specs.Readable.{is_universal_command, are_universal_commands}
+use Rattle.proof_file.proofs.Fitting.{file_parts}
+use Rattle.rule_table.specs.Tests.{is_universal}
 use Rattle.proof_file.proofs.ReadableNodes.{behind_fit, many_fit, spatials_fit}
 
 -- ---- lists
@@ -74,18 +83,18 @@ flaw_at flaw span n k (y ∷ ys) (suc p) x e none =
 
 -- ---- names
 
-own_place : (y : Definition) (ys : List Definition) (name : List ℕ) (b : Bool) → y.name ≡ name → bytes_eq y.name name ≡ b → (if b then 0 else suc (place_of ys name)) ≡ 0
+own_place : (y : Heading) (ys : List Heading) (name : List ℕ) (b : Bool) → y.name ≡ name → bytes_eq y.name name ≡ b → (if b then 0 else suc (place_of ys name)) ≡ 0
 own_place y ys name true same e = refl
 own_place y ys name false same e = let yes = (bytes_eq-Decides y.name name).1 same in absurd cc
 
-later_place : (y : Definition) (front ys : List Definition) (name : List ℕ) (p : ℕ) (b : Bool) → (arity_in front name ≡ None → place_of ys name ≡ p) → (if b then Some y.arity else arity_in front name) ≡ None → (if b then 0 else suc (place_of ys name)) ≡ suc p
+later_place : (y : Heading) (front ys : List Heading) (name : List ℕ) (p : ℕ) (b : Bool) → (arity_in front name ≡ None → place_of ys name ≡ p) → (if b then Some y.arity else arity_in front name) ≡ None → (if b then 0 else suc (place_of ys name)) ≡ suc p
 later_place y front ys name p true rest e = absurd cc
 later_place y front ys name p false rest e = ap suc (rest e)
 
--- the first definition with a name is that which has none before it
-place_first : (ys : List Definition) (p : ℕ) (x : Definition) → slice_get ys p ≡ Some x → arity_in (take p ys) x.name ≡ None → place_of ys x.name ≡ p
+-- the first predicate with a name is that which has none before it
+place_first : (ys : List Heading) (p : ℕ) (x : Heading) → slice_get ys p ≡ Some x → arity_in (take p ys) x.name ≡ None → place_of ys x.name ≡ p
 place_first [] p x e none = absurd cc
-place_first (y ∷ ys) zero x e none = let same : y ≡ x = cc in own_place y ys x.name (bytes_eq y.name x.name) (ap (λ (d : Definition). d.name) same) refl
+place_first (y ∷ ys) zero x e none = let same : y ≡ x = cc in own_place y ys x.name (bytes_eq y.name x.name) (ap (λ (d : Heading). d.name) same) refl
 place_first (y ∷ ys) (suc p) x e none =
     later_place y (take p ys) ys x.name p (bytes_eq y.name x.name) (place_first ys p x e) none
 
@@ -93,12 +102,12 @@ none_of : {X : Type 0} (o : Option X) → is_some o ≡ false → o ≡ None
 none_of None e = refl
 none_of (Some x) e = absurd cc
 
-no_earlier : (ds : List Definition) (n k : ℕ) (d : Definition) → definition_flaw ds n k d ≡ None → arity_in (take n ds) d.name ≡ None
-no_earlier ds n k d e =
-    let all = neither (head_flaw ds n k d) (listed_flaw (case_flaw ds d.arity) heap_span 0 (k + 6) d.cases) e in
-    let head = neither (over_if (nat_le 4096 n) Predicates k) (or_later (ill_if (is_some (arity_in (take n ds) d.name)) Duplicate (k + 1)) (over_if (nat_lt 8 d.arity) Arguments (k + 3))) all.0 in
-    let taken = neither (ill_if (is_some (arity_in (take n ds) d.name)) Duplicate (k + 1)) (over_if (nat_lt 8 d.arity) Arguments (k + 3)) head.1 in
-    none_of (arity_in (take n ds) d.name) (not_ill _ Duplicate (k + 1) taken.0)
+no_earlier : (hs : List Heading) (n k : ℕ) (d : Definition) → definition_flaw hs n k d ≡ None → arity_in (take n hs) d.name ≡ None
+no_earlier hs n k d e =
+    let all = neither (head_flaw hs n k d) (heaps_flaw (term_flaw (InCase d.arity)) term_span hs Cases (k + 6) d.cases) e in
+    let head = neither (over_if (nat_le 4096 n) Predicates k) (or_later (ill_if (is_some (arity_in (take n hs) d.name)) Duplicate (k + 1)) (over_if (nat_lt 8 d.arity) Arguments (k + 3))) all.0 in
+    let taken = neither (ill_if (is_some (arity_in (take n hs) d.name)) Duplicate (k + 1)) (over_if (nat_lt 8 d.arity) Arguments (k + 3)) head.1 in
+    none_of (arity_in (take n hs) d.name) (not_ill _ Duplicate (k + 1) taken.0)
 
 -- the empty text is no name
 no_name : is_free_name reserved [] ≡ true → ⊥
@@ -117,16 +126,20 @@ defined (Some d) e = (d, refl)
 abbrev trees_of : List DefinitionValue → List Definition
 trees_of ds = map (definition_tree ds) ds
 
+abbrev heads_of : List DefinitionValue → List Heading
+heads_of ds = headings (trees_of ds)
+
 -- the name of a number has that place
-found_place : (ds : List DefinitionValue) → listed_flaw (definition_flaw (trees_of ds)) definition_span 0 4 (trees_of ds) ≡ None → (p : ℕ) → is_free_name reserved (name_of ds p) ≡ true → place_of (trees_of ds) (name_of ds p) ≡ p
+found_place : (ds : List DefinitionValue) → listed_flaw (definition_flaw (heads_of ds)) definition_span 0 4 (trees_of ds) ≡ None → (p : ℕ) → is_free_name reserved (name_of ds p) ≡ true → place_of (heads_of ds) (name_of ds p) ≡ p
 found_place ds none p free =
     let d = defined (slice_get ds p) free in
     let tree = definition_tree ds d.0 in
     let there = get_map (definition_tree ds) ds p d.0 d.1 in
-    let at = flaw_at (definition_flaw (trees_of ds)) definition_span 0 4 (trees_of ds) p tree there none in
+    let known = get_map heading (trees_of ds) p tree there in
+    let at = flaw_at (definition_flaw (heads_of ds)) definition_span 0 4 (trees_of ds) p tree there none in
     let here : 0 + p ≡ p = omega arith in
-    let first = no_earlier (trees_of ds) p at.0 tree (subst (λ n. definition_flaw (trees_of ds) n at.0 tree ≡ None) here at.1) in
-    ap (λ o. place_of (trees_of ds) (name_in o)) d.1 ∙ place_first (trees_of ds) p tree there first
+    let first = no_earlier (heads_of ds) p at.0 tree (subst (λ n. definition_flaw (heads_of ds) n at.0 tree ≡ None) here at.1) in
+    ap (λ o. place_of (heads_of ds) (name_in o)) d.1 ∙ place_first (heads_of ds) p (heading tree) known first
 
 -- ---- terms and atoms
 
@@ -138,23 +151,23 @@ term_known (terms.Exist n) = refl
 terms_known : (ts : List Term) → map term_value (map term_tree ts) ≡ ts
 terms_known ts = all_known term_tree term_value term_known ts
 
-pure_known : (x : Pure) → pure_value (pure_tree x) ≡ x
+pure_known : (x : Pure) → pure_value term_value (pure_tree x) ≡ x
 pure_known (Eq t u) = λ i. Eq (term_known t i) (term_known u i)
 pure_known (Neq t u) = λ i. Neq (term_known t i) (term_known u i)
 
-module _ (ds : List DefinitionValue) (ts : List Definition) (placed : (p : ℕ) → is_free_name reserved (name_of ds p) ≡ true → place_of ts (name_of ds p) ≡ p) where
-  spatial_known : (b : Bool) (x : SpatialAtom) → (spatial (terms b)).fits (spatial_tree ds x) → spatial_value ts (spatial_tree ds x) ≡ x
+module _ (ds : List DefinitionValue) (ts : List Heading) (placed : (p : ℕ) → is_free_name reserved (name_of ds p) ≡ true → place_of ts (name_of ds p) ≡ p) where
+  spatial_known : (b : Bool) (x : SpatialAtom) → (spatial (terms b)).fits (spatial_tree ds x) → spatial_value term_value ts (spatial_tree ds x) ≡ x
   unfolding shared.spatial shared.predicate shared.cell
   spatial_known b (atoms.Cell t us) f = λ i. atoms.Cell (term_known t i) (terms_known us i)
   spatial_known b (atoms.Pred p us) f =
       let same = placed p f.1.0 in
       λ i. atoms.Pred (same i) (terms_known us i)
 
-  heap_known : (b : Bool) (h : SymbolicHeap) → (heap (terms b)).fits (heap_tree ds h) → heap_value ts (heap_tree ds h) ≡ h
+  heap_known : (b : Bool) (h : SymbolicHeap) → (heap (terms b)).fits (heap_tree ds h) → heap_value term_value ts (heap_tree ds h) ≡ h
   unfolding shared.heap
   heap_known b h f =
-      let pure = all_known pure_tree pure_value pure_known h.pure in
-      let spatial = each_known (spatial_tree ds) (spatial_value ts) (spatial (terms b)).fits (spatial_known b) h.spatial (spatials_fit b (map (spatial_tree ds) h.spatial) f.1.1) in
+      let pure = all_known pure_tree (pure_value term_value) pure_known h.pure in
+      let spatial = each_known (spatial_tree ds) (spatial_value term_value ts) (spatial (terms b)).fits (spatial_known b) h.spatial (spatials_fit b (map (spatial_tree ds) h.spatial) f.1.1) in
       λ i. record { pure = pure i; spatial = spatial i }
 
   heaps_fit : (between behind : Class (Unit {0})) (hs : List Heap) → (heaps between behind).fits hs → Each (heap (terms false)).fits hs
@@ -162,13 +175,9 @@ module _ (ds : List DefinitionValue) (ts : List Definition) (placed : (p : ℕ) 
   heaps_fit between behind [] f = tt
   heaps_fit between behind (h ∷ hs) f = (f.1.0, behind_fit between (heap (terms false)) hs f.1.1)
 
-  heaps_known : (between behind : Class (Unit {0})) (hs : List SymbolicHeap) → (heaps between behind).fits (map (heap_tree ds) hs) → map (heap_value ts) (map (heap_tree ds) hs) ≡ hs
+  heaps_known : (between behind : Class (Unit {0})) (hs : List SymbolicHeap) → (heaps between behind).fits (map (heap_tree ds) hs) → map (heap_value term_value ts) (map (heap_tree ds) hs) ≡ hs
   heaps_known between behind hs f =
-      each_known (heap_tree ds) (heap_value ts) (heap (terms false)).fits (heap_known false) hs (heaps_fit between behind (map (heap_tree ds) hs) f)
-
-  no_heaps : (between behind : Class (Unit {0})) → (heaps between behind).fits [] → ⊥
-  unfolding shared.listed
-  no_heaps between behind f = absurd (omega (arith, f.0))
+      each_known (heap_tree ds) (heap_value term_value ts) (heap (terms false)).fits (heap_known false) hs (heaps_fit between behind (map (heap_tree ds) hs) f)
 
   definition_known : (d : DefinitionValue) → definition.fits (definition_tree ds d) → definition_value ts (definition_tree ds d) ≡ d
   unfolding definition cases
@@ -177,12 +186,14 @@ module _ (ds : List DefinitionValue) (ts : List Definition) (placed : (p : ℕ) 
       λ i. record { name = d.name; arity = d.arity; cases = same i }
 
   judgement_known : (j : Judgement) → judgement.fits (judgement_tree ds j) → judgement_value ts (judgement_tree ds j) ≡ j
-  unfolding judgement disjuncts
+  unfolding judgement entailment state disjuncts
   judgement_known (Entail a bs) f =
-      let left = heap_known true a f.1.0 in
-      let right = heaps_known or_word by_word bs f.1.1 in
+      let left = heap_known true a f.1.1.0 in
+      let right = heaps_known or_word by_word bs f.1.1.1 in
       λ i. Entail (left i) (right i)
-  judgement_known (Halting k a) f = absurd (no_heaps or_word by_word f.1.1)
+  judgement_known (Halting k a) f =
+      let state = heap_known true a f.1.1 in
+      λ i. Halting k (state i)
 
   side_known : (s : Side) → side_value (side_tree s) ≡ s
   side_known sides.Left = refl
@@ -208,8 +219,8 @@ module _ (ds : List DefinitionValue) (ts : List Definition) (placed : (p : ℕ) 
   reason_known (Step (rules.Instantiate v t)) f = λ i. Step (rules.Instantiate v (term_known t i))
   reason_known (Step (rules.Frame m n)) f = refl
   reason_known (Step (rules.UnfoldRight m n)) f = refl
-  reason_known (Step rules.Exec) f = absurd f.1.1.0.0
-  reason_known (Step (rules.Drop k)) f = absurd f.1.1.0.0
+  reason_known (Step rules.Exec) f = refl
+  reason_known (Step (rules.Drop k)) f = refl
   reason_known (Back l) f =
       let pairs = all_known pair_tree pair_value pair_known l.subst in
       λ i. Back (record { target = l.target; subst = pairs i; map = l.map; disjuncts = l.disjuncts })
@@ -220,6 +231,47 @@ module _ (ds : List DefinitionValue) (ts : List Definition) (placed : (p : ℕ) 
       let judgement = judgement_known n.judgement f.1.0 in
       let reason = reason_known n.reason f.1.1.0 in
       λ i. record { judgement = judgement i; reason = reason i; premises = n.premises }
+
+-- ---- commands
+
+operand_known : (t : Term) → is_universal t ≡ true → operand_value variable_value (operand_tree t) ≡ t
+operand_known terms.Nil e = refl
+operand_known (terms.Univ n) e = refl
+operand_known (terms.Exist n) e = absurd cc
+
+store_known : (t : Term) (k : ℕ) (u : Term) → is_universal t ≡ true → is_universal u ≡ true → command_value variable_value (store_tree t k u) ≡ commands.Store t k u
+store_known terms.Nil k u e g = let same = operand_known u g in λ i. commands.Store terms.Nil k (same i)
+store_known (terms.Univ n) k u e g = let same = operand_known u g in λ i. commands.Store (terms.Univ n) k (same i)
+store_known (terms.Exist n) k u e g = absurd cc
+
+command_known : (c : Command) → is_universal_command c ≡ true → command_value variable_value (command_tree c) ≡ c
+command_known (commands.Assign x t) e = let same = operand_known t e in λ i. commands.Assign x (same i)
+command_known (commands.Load x t k) e = let same = operand_known t e in λ i. commands.Load x (same i) k
+command_known (commands.Store t k u) e =
+    let both = and-parts (is_universal t) (is_universal u) e in
+    store_known t k u both.0 both.1
+command_known (commands.New x k) e = refl
+command_known (commands.Free t) e = let same = operand_known t e in λ i. commands.Free (same i)
+command_known (commands.IfEq t u j) e =
+    let both = and-parts (is_universal t) (is_universal u) e in
+    let left = operand_known t both.0 in
+    let right = operand_known u both.1 in
+    λ i. commands.IfEq (left i) (right i) j
+command_known (commands.IfNeq t u j) e =
+    let both = and-parts (is_universal t) (is_universal u) e in
+    let left = operand_known t both.0 in
+    let right = operand_known u both.1 in
+    λ i. commands.IfNeq (left i) (right i) j
+command_known (commands.Goto j) e = refl
+command_known commands.Stop e = refl
+
+commands_known : (n : ℕ) (cs : List Command) → are_universal_commands cs ≡ true → program_value (lines_behind n cs) ≡ cs
+commands_known n [] e = refl
+commands_known n (c ∷ cs) e =
+    let both = and-parts (is_universal_command c) (are_universal_commands cs) e in
+    let first = command_known c both.0 in
+    let rest = commands_known (n + 1) cs both.1 in
+    λ i. first i ∷ rest i
 
 -- ---- files
 
@@ -232,17 +284,18 @@ definitions_fit : (ds : List Definition) → definitions.fits ds → Each defini
 unfolding definitions
 definitions_fit ds f = many_fit definition ds f
 
--- the definitions and nodes of a file are what its tree says
-pub file_known : (f : ProofFile) → IsFileOf (tree_of f.defs.list f.nodes) f
+-- the definitions, the program and the nodes of a file are what its tree says
+pub file_known : (f : ProofFile) → IsFileOf (tree_of f.defs.list f.program f.nodes) f
 unfolding file body
 file_known f =
     let ds = f.defs.list in
-    let tree = tree_of ds f.nodes in
-    let none = neither (listed_flaw (definition_flaw tree.definitions) definition_span 0 4 tree.definitions) (listed_flaw (node_flaw tree.definitions) node_span 0 (4 + total definition_span tree.definitions) tree.nodes) f.flawless in
-    let placed = found_place ds none.0 in
+    let tree = tree_of ds f.program f.nodes in
+    let hs = headings tree.definitions in
+    let placed = found_place ds (file_parts tree f.flawless).0 in
     record {
       version = f.first_version;
       most = f.sixteen;
-      definitions = sym (each_known (definition_tree ds) (definition_value tree.definitions) definition.fits (definition_known ds tree.definitions placed) ds (definitions_fit tree.definitions f.fits.1.0));
-      nodes = sym (each_known (node_tree ds) (node_value tree.definitions) node.fits (node_known ds tree.definitions placed) f.nodes (nodes_fit tree.nodes f.fits.1.1));
+      definitions = sym (each_known (definition_tree ds) (definition_value hs) definition.fits (definition_known ds hs placed) ds (definitions_fit tree.definitions f.fits.1.0));
+      program = sym (commands_known 0 f.program f.universal);
+      nodes = sym (each_known (node_tree ds) (node_value hs) node.fits (node_known ds hs placed) f.nodes (nodes_fit tree.nodes f.fits.1.1.1));
     }

@@ -6,9 +6,13 @@ use Rattle.cyc_grammar.specs.Classes.{number, is_free_name}
 use Rattle.proof_syntax.specs.declared.tree.TermTree.TheVariants.{Nil, Univ, Exist}
 use Rattle.proof_syntax.specs.declared.reason_word.ReasonWord.{ReasonWord}
 use Rattle.proof_syntax.specs.declared.reason_word.ReasonWord.TheVariants as words
-use Rattle.proof_syntax.specs.Trees.{Cell, Predicate}
+use Rattle.proof_syntax.specs.Trees.{Cell, Predicate, Entails, From}
 use Rattle.heap_syntax.specs.Grammar as shared
-use Rattle.proof_syntax.specs.Grammar.{term, uterm, terms, sign, pure, pures, fields, arguments, spatial, spatials, heap, heaps, cases, definition, disjuncts, judgement, numbers, bracketed, two_numbers, side, rewrite, split, cut, instantiate, pair, pairs1, pairs, link, parts, reason, premises, node, definitions, more_nodes, nodes, body, file, from_reason, reserved, comma, colon, star, bar, closing, closing_brace, or_word, by_word, some_pure, some_spatial, some_heap, some_pair, some_node}
+use Rattle.command_syntax.specs.declared.tree.OperandTree.TheVariants as operands
+use Rattle.command_syntax.specs.declared.tree.ChangeTree.TheVariants as changes
+use Rattle.command_syntax.specs.declared.tree.CommandTree.TheVariants.{Stop, Goto, Free, If, StoreAtNil, Change}
+use Rattle.command_syntax.specs.Grammar as commands
+use Rattle.proof_syntax.specs.Grammar.{term, uterm, terms, sign, pure, pures, fields, arguments, spatial, spatials, heap, heaps, cases, definition, variable, lines, disjuncts, entailment, state, judgement, numbers, bracketed, two_numbers, side, rewrite, split, cut, instantiate, pair, pairs1, pairs, link, parts, reason, premises, node, definitions, more_nodes, nodes, body, file, from_reason, reserved, comma, colon, star, bar, closing, closing_brace, or_word, by_word, some_pure, some_spatial, some_heap, some_pair, some_node}
 
 abbrev pub HasOneFit : {T : Type 0} → Syntax T → Type 0
 HasOneFit {T = T} s = (t : T) → IsProp (s.fits t)
@@ -97,9 +101,41 @@ definition-fit d =
     ×_prop Unit-prop (×_prop (name-fit d.name) (×_prop le_prop (heaps-fit bar closing_brace d.cases)))
 
 judgement-fit : HasOneFit judgement
-unfolding judgement disjuncts
-judgement-fit e =
-    ×_prop Unit-prop (×_prop (heap-fit true e.antecedent) (heaps-fit or_word by_word e.disjuncts))
+unfolding judgement entailment state disjuncts
+judgement-fit (Entails e) =
+    ×_prop Unit-prop (×_prop Unit-prop (×_prop (heap-fit true e.antecedent) (heaps-fit or_word by_word e.disjuncts)))
+judgement-fit (From n h) = ×_prop Unit-prop (×_prop le_prop (heap-fit true h))
+
+-- ---- lines
+
+operand-fit : HasOneFit (commands.operand variable)
+unfolding commands.operand variable
+operand-fit operands.Nil = ×_prop Unit-prop Unit-prop
+operand-fit (operands.Variable n) = ×_prop Unit-prop le_prop
+
+change-fit : HasOneFit (commands.change variable)
+unfolding commands.change commands.source commands.store commands.field commands.last_number
+change-fit (changes.New n) = ×_prop Unit-prop le_prop
+change-fit (changes.Assign t) = ×_prop Unit-prop (×_prop (operand-fit t) Unit-prop)
+change-fit (changes.Load t n) = ×_prop Unit-prop (×_prop (operand-fit t) le_prop)
+change-fit (changes.Store n t) = ×_prop Unit-prop (×_prop le_prop (operand-fit t))
+
+command-fit : HasOneFit (commands.command variable)
+unfolding commands.command commands.branch commands.update commands.store commands.last_number shared.sign variable
+command-fit Stop = ×_prop Unit-prop Unit-prop
+command-fit (Goto n) = ×_prop Unit-prop le_prop
+command-fit (Free t) = ×_prop Unit-prop (operand-fit t)
+command-fit (If t b u n) = ×_prop Unit-prop (×_prop (operand-fit t) (×_prop (sign-fit b) (×_prop (operand-fit u) le_prop)))
+command-fit (StoreAtNil n t) = ×_prop Unit-prop (×_prop le_prop (operand-fit t))
+command-fit (Change v c) = ×_prop Unit-prop (×_prop le_prop (change-fit c))
+
+line-fit : HasOneFit (commands.line variable)
+unfolding commands.line
+line-fit l = ×_prop Unit-prop (×_prop le_prop (command-fit l.command))
+
+lines-fit : HasOneFit lines
+unfolding commands.lines
+lines-fit ls = many-fit (commands.line variable) line-fit ls
 
 -- ---- reasons
 
@@ -140,6 +176,8 @@ parts-fit words.PureRight p = le_prop
 parts-fit words.Instantiate p = ×_prop le_prop (uterm-fit p.1)
 parts-fit words.Frame p = ×_prop le_prop le_prop
 parts-fit words.UnfoldRight p = ×_prop le_prop le_prop
+parts-fit words.Exec p = Unit-prop
+parts-fit words.Drop p = le_prop
 parts-fit words.Link p = link-fit p
 
 reason-fit : HasOneFit reason
@@ -165,4 +203,5 @@ nodes-fit ns =
 
 pub file-fit : HasOneFit file
 unfolding file body definitions
-file-fit f = ×_prop Unit-prop (×_prop (many-fit definition definition-fit f.definitions) (nodes-fit f.nodes))
+file-fit f =
+    ×_prop Unit-prop (×_prop (many-fit definition definition-fit f.definitions) (×_prop (lines-fit f.lines) (nodes-fit f.nodes)))

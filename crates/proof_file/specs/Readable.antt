@@ -1,6 +1,11 @@
--- Nodes as the grammar lets them through: universal variables alone in an antecedent and in the terms of a reason.
-use Rattle.std.specs.Prelude.{Bool, true, ◌&&◌, List, length, nat_le}
+-- Nodes and commands as the grammar lets them through: universal variables alone in an antecedent, in the terms of a
+-- reason and in a command.
+use Rattle.std.specs.Prelude.{ℕ, Bool, true, ◌&&◌, List, length, nat_lt, nat_le}
 use Rattle.std.specs.List.{list_all}
+use Rattle.heap_formula.specs.declared.commands.Command.{Command}
+use Rattle.heap_formula.specs.declared.commands.Command.TheVariants as commands
+use Rattle.heap_formula.specs.declared.judgements.Judgement.{Judgement}
+use Rattle.heap_formula.specs.declared.judgements.Judgement.TheVariants.{Entail, Term as Halting}
 use Rattle.heap_formula.specs.declared.proof_rules.Rule.{Rule}
 use Rattle.heap_formula.specs.declared.proof_rules.Rule.TheVariants.{Split, Instantiate}
 use Rattle.heap_formula.specs.declared.proof_rules.Reason.{Reason}
@@ -28,6 +33,28 @@ is_readable n = is_universal_heap (antecedent n.judgement) && is_universal_reaso
 
 abbrev pub are_readable : List FileNode → Bool
 are_readable ns = list_all is_readable ns
+
+abbrev pub is_universal_command : Command → Bool
+is_universal_command (commands.Assign x t) = is_universal t
+is_universal_command (commands.Load x t k) = is_universal t
+is_universal_command (commands.Store t k u) = is_universal t && is_universal u
+is_universal_command (commands.New x k) = true
+is_universal_command (commands.Free t) = is_universal t
+is_universal_command (commands.IfEq t u j) = is_universal t && is_universal u
+is_universal_command (commands.IfNeq t u j) = is_universal t && is_universal u
+is_universal_command (commands.Goto j) = true
+is_universal_command commands.Stop = true
+
+abbrev pub are_universal_commands : List Command → Bool
+are_universal_commands cs = list_all is_universal_command cs
+
+-- a judgement that starts from a line names one of so many
+abbrev pub is_at_line : ℕ → Judgement → Bool
+is_at_line count (Entail a bs) = true
+is_at_line count (Halting i a) = nat_lt 0 i && nat_le i count
+
+abbrev pub are_at_lines : ℕ → List FileNode → Bool
+are_at_lines count ns = list_all (λ n. is_at_line count n.judgement) ns
 
 -- a predicate has at most sixteen cases
 abbrev pub has_few_cases : Definition → Bool

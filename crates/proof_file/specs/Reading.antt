@@ -11,12 +11,11 @@ use Rattle.cyc_lex.specs.Word.{word_of}
 use Rattle.cyc_grammar.specs.Faults.{IsSyntaxFault, StandsAt}
 use Rattle.proof_syntax.specs.Trees.{File}
 use Rattle.proof_syntax.specs.Grammar.{file}
-use Rattle.proof_file.specs.declared.flaw.Item.{Item}
-use Rattle.proof_file.specs.declared.flaw.Item.TheVariants.{Ill, Over}
-use Rattle.proof_file.specs.declared.flaw.Flaw.{Flaw}
+use Rattle.heap_reader.specs.declared.flaw.Item.{Item}
+use Rattle.heap_reader.specs.declared.flaw.Item.TheVariants.{Ill, Over}
 use Rattle.proof_file.specs.declared.file.ProofFile.{ProofFile}
-use Rattle.proof_file.specs.Flaws.{file_flaw}
-use Rattle.proof_file.specs.Values.{definition_value, node_value}
+use Rattle.proof_file.specs.Flaws.{headings, file_flaw}
+use Rattle.proof_file.specs.Values.{definition_value, program_value, node_value}
 
 -- the tokens spell this tree
 abbrev pub SpellsTree : List Placed → File → Type 0
@@ -26,8 +25,9 @@ SpellsTree ts tree = file.fits tree × (map word_of ts ≡ file.words tree)
 pub record IsFileOf (tree : File) (f : ProofFile) : Type 0 where
   pub version : f.version ≡ 1
   pub most : f.defs.most ≡ 16
-  pub definitions : f.defs.list ≡ map (definition_value tree.definitions) tree.definitions
-  pub nodes : f.nodes ≡ map (node_value tree.definitions) tree.nodes
+  pub definitions : f.defs.list ≡ map (definition_value (headings tree.definitions)) tree.definitions
+  pub program : f.program ≡ program_value tree.lines
+  pub nodes : f.nodes ≡ map (node_value (headings tree.definitions)) tree.nodes
 
 -- the tokens spell a tree without a flaw, and this is what it says
 abbrev pub SpellsFile : List Placed → ProofFile → Type 0
@@ -83,19 +83,12 @@ ReadsFrom ts (Err (faults.Syntax token line column)) = IsReadFrom ts (Err (fault
 ReadsFrom ts (Err (faults.IllFormed fault token line column)) = IsReadFrom ts (Err (faults.IllFormed fault token line column))
 ReadsFrom ts (Err (faults.Limit what token line column)) = IsReadFrom ts (Err (faults.Limit what token line column))
 
--- the fault tells the flaw and where its token stands
-abbrev pub IsFlawTold : List Placed → Flaw → ReadFault → Type 0
-IsFlawTold ts flaw (faults.IllFormed fault token line column) = (flaw ≡ record { item = Ill fault; token = token }) × StandsAt ts token line column
-IsFlawTold ts flaw (faults.Limit what token line column) = (flaw ≡ record { item = Over what; token = token }) × StandsAt ts token line column
-IsFlawTold ts flaw (faults.Syntax token line column) = ⊥
-IsFlawTold ts flaw (faults.Lex fault) = ⊥
-IsFlawTold ts flaw faults.OutOfMemory = ⊥
-
--- two files have one version, the same definitions and the same nodes
+-- two files have one version, the same definitions, the same program and the same nodes
 pub record AreSame (f g : ProofFile) : Type 0 where
   pub version : f.version ≡ g.version
   pub most : f.defs.most ≡ g.defs.most
   pub definitions : f.defs.list ≡ g.defs.list
+  pub program : f.program ≡ g.program
   pub nodes : f.nodes ≡ g.nodes
 
 -- the file is read, but for want of memory

@@ -1,45 +1,28 @@
 -- Parts of trees that fit the values' types: numbers of 16 bits, lists within the limits.
-use Rattle.std.specs.Prelude.{◌<◌, ◌≤◌, List, length}
+use Rattle.std.specs.Prelude.{◌<◌, ◌≤◌, length}
 use Rattle.heap_formula.specs.Words.{Each}
-use Rattle.proof_syntax.specs.declared.tree.TermTree.{TermTree}
-use Rattle.proof_syntax.specs.declared.tree.TermTree.TheVariants.{Nil, Univ, Exist}
+use Rattle.heap_reader.specs.Small.{IsSmall, IsSmallHeap}
 use Rattle.proof_syntax.specs.declared.tree.PairTree.{PairTree}
-use Rattle.proof_syntax.specs.Trees.{PureTree, Spatial, Cell, Predicate, Heap, Definition, Entailment, Reason, Absurd, Rewrite, Split, Distinct, Weaken, Unfold, Cut, Done, Choose, PureRight, Instantiate, Frame, UnfoldRight, Link, Node, File}
-
-abbrev pub IsSmallTerm : TermTree → Type 0
-IsSmallTerm Nil = Unit {0}
-IsSmallTerm (Univ n) = n < 65536
-IsSmallTerm (Exist n) = n < 65536
-
-abbrev pub AreSmallTerms : List TermTree → Type 0
-AreSmallTerms ts = Each IsSmallTerm ts × (length ts ≤ 8)
-
-abbrev pub IsSmallPure : PureTree → Type 0
-IsSmallPure x = IsSmallTerm x.left × IsSmallTerm x.right
-
-abbrev pub IsSmallSpatial : Spatial → Type 0
-IsSmallSpatial (Cell t ts) = IsSmallTerm t × AreSmallTerms ts
-IsSmallSpatial (Predicate name ts) = AreSmallTerms ts
-
-pub record IsSmallHeap (h : Heap) : Type 0 where
-  pub pure : Each IsSmallPure h.pure
-  pub pure_few : length h.pure ≤ 64
-  pub spatial : Each IsSmallSpatial h.spatial
-  pub spatial_few : length h.spatial ≤ 16
+use Rattle.proof_syntax.specs.Trees.{Definition, Entailment, Judgement, Entails, From, Reason, Absurd, Rewrite, Split, Distinct, Weaken, Unfold, Cut, Done, Choose, PureRight, Instantiate, Frame, UnfoldRight, Exec, Drop, Link, Node, File}
+use Rattle.proof_file.specs.Values.{term_value}
 
 pub record IsSmallEntailment (e : Entailment) : Type 0 where
-  pub antecedent : IsSmallHeap e.antecedent
-  pub disjuncts : Each IsSmallHeap e.disjuncts
+  pub antecedent : IsSmallHeap term_value e.antecedent
+  pub disjuncts : Each (IsSmallHeap term_value) e.disjuncts
   pub some : 0 < length e.disjuncts
   pub few : length e.disjuncts ≤ 16
 
+abbrev pub IsSmallJudgement : Judgement → Type 0
+IsSmallJudgement (Entails e) = IsSmallEntailment e
+IsSmallJudgement (From n h) = IsSmallHeap term_value h
+
 abbrev pub IsSmallPair : PairTree → Type 0
-IsSmallPair p = (p.variable < 65536) × IsSmallTerm p.value
+IsSmallPair p = (p.variable < 65536) × IsSmall term_value p.value
 
 abbrev pub IsSmallReason : Reason → Type 0
-IsSmallReason (Split t u) = IsSmallTerm t × IsSmallTerm u
-IsSmallReason (Cut places formula) = IsSmallHeap formula
-IsSmallReason (Instantiate v t) = (v < 65536) × IsSmallTerm t
+IsSmallReason (Split t u) = IsSmall term_value t × IsSmall term_value u
+IsSmallReason (Cut places formula) = IsSmallHeap term_value formula
+IsSmallReason (Instantiate v t) = (v < 65536) × IsSmall term_value t
 IsSmallReason (Link l) = Each IsSmallPair l.substitution
 IsSmallReason Absurd = Unit {0}
 IsSmallReason (Rewrite k side) = Unit {0}
@@ -51,12 +34,14 @@ IsSmallReason (Choose j) = Unit {0}
 IsSmallReason (PureRight k) = Unit {0}
 IsSmallReason (Frame i j) = Unit {0}
 IsSmallReason (UnfoldRight j c) = Unit {0}
+IsSmallReason Exec = Unit {0}
+IsSmallReason (Drop k) = Unit {0}
 
 abbrev pub IsSmallNode : Node → Type 0
-IsSmallNode n = IsSmallEntailment n.judgement × IsSmallReason n.reason
+IsSmallNode n = IsSmallJudgement n.judgement × IsSmallReason n.reason
 
 pub record IsSmallDefinition (d : Definition) : Type 0 where
-  pub cases : Each IsSmallHeap d.cases
+  pub cases : Each (IsSmallHeap term_value) d.cases
   pub few : length d.cases ≤ 16
 
 pub record IsSmallFile (f : File) : Type 0 where

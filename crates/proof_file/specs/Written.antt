@@ -1,12 +1,13 @@
--- What is written of a file: its values as trees, predicates by their names in place of their numbers. What version 1
--- of the format lacks becomes a tree that the grammar lacks.
-use Rattle.std.specs.Prelude.{ℕ, true, false, List, [], map, Option, Some, None, slice_get}
+-- What is written of a file: its values as trees, predicates by their names in place of their numbers.
+use Rattle.std.specs.Prelude.{ℕ, ◌+◌, true, false, List, [], ◌∷◌, map, Option, Some, None, slice_get}
 use Rattle.heap_formula.specs.declared.terms.Term.{Term}
 use Rattle.heap_formula.specs.declared.terms.Term.TheVariants as terms
 use Rattle.heap_formula.specs.declared.atoms.Pure.{Pure}
 use Rattle.heap_formula.specs.declared.atoms.Pure.TheVariants.{Eq, Neq}
 use Rattle.heap_formula.specs.declared.atoms.Spatial.{Spatial as SpatialAtom}
 use Rattle.heap_formula.specs.declared.atoms.Spatial.TheVariants as atoms
+use Rattle.heap_formula.specs.declared.commands.Command.{Command}
+use Rattle.heap_formula.specs.declared.commands.Command.TheVariants as commands
 use Rattle.heap_formula.specs.declared.judgements.Judgement.{Judgement}
 use Rattle.heap_formula.specs.declared.judgements.Judgement.TheVariants.{Entail, Term as Halting}
 use Rattle.heap_formula.specs.declared.proof_rules.Side.{Side}
@@ -19,12 +20,17 @@ use Rattle.heap_formula.specs.declared.proof_rules.Reason.TheVariants.{Step, Bac
 use Rattle.heap_formula.specs.Definitions.{Definition as DefinitionValue}
 use Rattle.heap_formula.specs.Symbolic.{SymbolicHeap}
 use Rattle.cyc_lex.specs.Spacing.{text_of}
+use Rattle.command_syntax.specs.declared.tree.OperandTree.{OperandTree}
+use Rattle.command_syntax.specs.declared.tree.OperandTree.TheVariants as operands
+use Rattle.command_syntax.specs.declared.tree.ChangeTree.TheVariants as changes
+use Rattle.command_syntax.specs.declared.tree.CommandTree.{CommandTree}
+use Rattle.command_syntax.specs.declared.tree.CommandTree.TheVariants.{Stop, Goto, Free, If, StoreAtNil, Change}
 use Rattle.proof_syntax.specs.declared.tree.TermTree.{TermTree}
 use Rattle.proof_syntax.specs.declared.tree.TermTree.TheVariants.{Nil, Univ, Exist}
 use Rattle.proof_syntax.specs.declared.tree.SideTree.{SideTree}
 use Rattle.proof_syntax.specs.declared.tree.SideTree.TheVariants.{Left, Right}
 use Rattle.proof_syntax.specs.declared.tree.PairTree.{PairTree}
-use Rattle.proof_syntax.specs.Trees.{PureTree, Spatial, Cell, Predicate, Heap, Definition, Entailment, LinkData, Reason, Absurd, Rewrite, Split, Distinct, Weaken, Unfold, Cut, Done, Choose, PureRight, Instantiate, Frame, UnfoldRight, Link, Node, File}
+use Rattle.proof_syntax.specs.Trees.{PureTree, Spatial, Cell, Predicate, Heap, Line, Definition, Judgement as JudgementTree, Entails, From, LinkData, Reason, Absurd, Rewrite, Split, Distinct, Weaken, Unfold, Cut, Done, Choose, PureRight, Instantiate, Frame, UnfoldRight, Exec, Drop, Link, Node, File}
 use Rattle.proof_syntax.specs.Grammar.{body}
 use Rattle.proof_file.specs.declared.node.FileNode.{FileNode}
 
@@ -36,6 +42,40 @@ term_tree (terms.Exist n) = Exist n
 abbrev pub pure_tree : Pure → PureTree
 pure_tree (Eq t u) = record { left = term_tree t; is_equation = true; right = term_tree u }
 pure_tree (Neq t u) = record { left = term_tree t; is_equation = false; right = term_tree u }
+
+-- ---- lines
+
+-- no existential variable stands in a program
+abbrev pub operand_tree : Term → OperandTree ℕ
+operand_tree terms.Nil = operands.Nil
+operand_tree (terms.Univ n) = operands.Variable n
+operand_tree (terms.Exist n) = operands.Nil
+
+abbrev pub store_tree : Term → ℕ → Term → CommandTree ℕ
+store_tree terms.Nil k u = StoreAtNil k (operand_tree u)
+store_tree (terms.Univ x) k u = Change x (changes.Store k (operand_tree u))
+store_tree (terms.Exist x) k u = StoreAtNil k (operand_tree u)
+
+abbrev pub command_tree : Command → CommandTree ℕ
+command_tree commands.Stop = Stop
+command_tree (commands.Goto j) = Goto j
+command_tree (commands.Free t) = Free (operand_tree t)
+command_tree (commands.IfEq t u j) = If (operand_tree t) true (operand_tree u) j
+command_tree (commands.IfNeq t u j) = If (operand_tree t) false (operand_tree u) j
+command_tree (commands.New x k) = Change x (changes.New k)
+command_tree (commands.Assign x t) = Change x (changes.Assign (operand_tree t))
+command_tree (commands.Load x t k) = Change x (changes.Load (operand_tree t) k)
+command_tree (commands.Store t k u) = store_tree t k u
+
+-- the lines with these commands, of which n stand before
+abbrev pub lines_behind : ℕ → List Command → List Line
+lines_behind n [] = []
+lines_behind n (c ∷ cs) = record { number = n + 1; command = command_tree c } ∷ lines_behind (n + 1) cs
+
+abbrev pub lines_tree : List Command → List Line
+lines_tree cs = lines_behind 0 cs
+
+-- ---- definitions and nodes
 
 abbrev pub name_in : Option DefinitionValue → List ℕ
 name_in (Some d) = d.name
@@ -55,10 +95,9 @@ heap_tree ds h = record { pure = map pure_tree h.pure; spatial = map (spatial_tr
 abbrev pub definition_tree : List DefinitionValue → DefinitionValue → Definition
 definition_tree ds d = record { name = d.name; arity = d.arity; cases = map (heap_tree ds) d.cases }
 
--- a claim of termination has no text, and so no disjunct
-abbrev pub judgement_tree : List DefinitionValue → Judgement → Entailment
-judgement_tree ds (Entail a bs) = record { antecedent = heap_tree ds a; disjuncts = map (heap_tree ds) bs }
-judgement_tree ds (Halting i a) = record { antecedent = heap_tree ds a; disjuncts = [] }
+abbrev pub judgement_tree : List DefinitionValue → Judgement → JudgementTree
+judgement_tree ds (Entail a bs) = Entails (record { antecedent = heap_tree ds a; disjuncts = map (heap_tree ds) bs })
+judgement_tree ds (Halting i a) = From i (heap_tree ds a)
 
 abbrev pub side_tree : Side → SideTree
 side_tree sides.Left = Left
@@ -69,10 +108,6 @@ pair_tree p = record { variable = p.0; value = term_tree p.1 }
 
 abbrev pub link_tree : LinkValue → LinkData
 link_tree l = record { target = l.target; substitution = map pair_tree l.subst; mapped = l.map; disjuncts = l.disjuncts }
-
--- a reason that has no text, since its terms are existential variables
-abbrev pub no_reason : Reason
-no_reason = Split (Exist 0) (Exist 0)
 
 abbrev pub rule_tree : List DefinitionValue → Rule → Reason
 rule_tree ds rules.Absurd = Absurd
@@ -88,8 +123,8 @@ rule_tree ds (rules.PureRight k) = PureRight k
 rule_tree ds (rules.Instantiate v t) = Instantiate v (term_tree t)
 rule_tree ds (rules.Frame i j) = Frame i j
 rule_tree ds (rules.UnfoldRight j c) = UnfoldRight j c
-rule_tree ds rules.Exec = no_reason
-rule_tree ds (rules.Drop k) = no_reason
+rule_tree ds rules.Exec = Exec
+rule_tree ds (rules.Drop k) = Drop k
 
 abbrev pub reason_tree : List DefinitionValue → ReasonValue → Reason
 reason_tree ds (Step rule) = rule_tree ds rule
@@ -98,10 +133,10 @@ reason_tree ds (Back link) = Link (link_tree link)
 abbrev pub node_tree : List DefinitionValue → FileNode → Node
 node_tree ds n = record { judgement = judgement_tree ds n.judgement; reason = reason_tree ds n.reason; premises = n.premises }
 
--- the tree of these definitions and nodes
-abbrev pub tree_of : List DefinitionValue → List FileNode → File
-tree_of ds ns = record { definitions = map (definition_tree ds) ds; nodes = map (node_tree ds) ns }
+-- the tree of these definitions, lines and nodes
+abbrev pub tree_of : List DefinitionValue → List Command → List FileNode → File
+tree_of ds cs ns = record { definitions = map (definition_tree ds) ds; lines = lines_tree cs; nodes = map (node_tree ds) ns }
 
 -- their text
-abbrev pub text_of_file : List DefinitionValue → List FileNode → List ℕ
-text_of_file ds ns = text_of (body.words (tree_of ds ns))
+abbrev pub text_of_file : List DefinitionValue → List Command → List FileNode → List ℕ
+text_of_file ds cs ns = text_of (body.words (tree_of ds cs ns))

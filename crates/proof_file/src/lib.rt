@@ -2,9 +2,11 @@
 #![tactic(auto)]
 
 mod file;
-mod flaw;
+mod head_list;
+mod line_trees;
 mod node;
 mod reading;
+mod scope;
 mod trees;
 mod values;
 mod walk;
@@ -14,6 +16,9 @@ pub use file::ProofFile;
 pub use node::{FileNode, FileNodes};
 pub use reading::read_file;
 pub use writing::{write_file, written_files_are_read_again};
+
+#[cfg(test)]
+mod flaw_tests;
 
 #[cfg(test)]
 mod tests;

@@ -3,57 +3,41 @@ ghost use Rattle.std.specs.Prelude.{◌≡◌, ◌+◌, ◌-◌, ◌<◌, ◌≤
 ghost use Rattle.cyc_lex.specs.Word.{EndsOnce, word_of};
 ghost use Rattle.proof_syntax.specs.Grammar.{file};
 ghost use Rattle.proof_syntax.specs.Trees.{file_of};
-ghost use Rattle.proof_file.specs.Flaws.{file_flaw as first_flaw};
-ghost use Rattle.proof_file.specs.Reading.{IsFlawTold, IsFileOf, ReadsFrom, Reads};
+ghost use Rattle.heap_reader.specs.Trees.{heading_of};
+ghost use Rattle.proof_file.specs.Flaws.{headings, file_flaw as first_flaw};
+ghost use Rattle.proof_file.specs.Reading.{IsFileOf, ReadsFrom, Reads};
 
 use crate::file::ProofFile;
-use crate::flaw::{Flaw, Item};
+use crate::head_list::heads;
 use crate::node::FileNodes;
+use crate::scope::ProgramVariables;
 use crate::values::{definitions, nodes};
 use crate::walk::file_flaw;
 use cyc_lex::{LexFault, ReadFault, Tokens, tokens};
 use cyc_memory::OutOfMemory;
+use heap_reader::{Head, flaw_fault, program};
 use pred_defs::Defs;
 use proof_syntax::{FileTree, read_tree};
 use std::alloc::Global;
 
-/// The flaw as a reader tells it, with its token's line and column.
-fn flaw_fault(tokens: &Tokens<'_>, flaw: Flaw) -> ReadFault
-    requires there { flaw.token < length tokens.now }
-    requires few { length tokens.now < 2 ^ 32 }
-    ensures { IsFlawTold tokens.now flaw result }
-{
-    let all = tokens.as_slice();
-    let place = &all[flaw.token];
-    let token = flaw.token as u32;
-    let (line, column) = (place.line, place.column);
-    match flaw.item {
-        Item::Ill(fault) => ReadFault::IllFormed {
-            fault,
-            token,
-            line,
-            column,
-        },
-        Item::Over(what) => ReadFault::Limit {
-            what,
-            token,
-            line,
-            column,
-        },
-    }
-}
-
 /// The file that a tree without a flaw says.
-fn file_of_tree(alloc: Global, tree: &FileTree<'_>) -> Result<ProofFile, OutOfMemory>
+fn file_of_tree(
+    alloc: Global,
+    heads: &[Head<'_>],
+    tree: &FileTree<'_>,
+) -> Result<ProofFile, OutOfMemory>
+    requires known { map heading_of heads.now ≡ headings (file_of tree.now).definitions }
     requires fits { file.fits (file_of tree.now) }
     requires right { first_flaw (file_of tree.now) ≡ None }
     ensures { IfOk result (IsFileOf (file_of tree.now)) }
 {
-    let defs = Defs::from_vec(alloc, 16, definitions(alloc, &tree.definitions)?);
-    let nodes = FileNodes::from_vec(nodes(alloc, &tree.definitions, &tree.nodes)?);
+    let defs = Defs::from_vec(alloc, 16, definitions(alloc, heads, &tree.definitions)?);
+    let program = program(alloc, &ProgramVariables, &tree.lines)?;
+    let nodes = FileNodes::from_vec(nodes(alloc, heads, &tree.nodes)?);
     Ok(ProofFile {
         version: 1,
         defs,
+        program,
         nodes,
     })
 }
@@ -67,10 +51,14 @@ fn read_tokens(alloc: Global, tokens: &Tokens<'_>) -> Result<ProofFile, ReadFaul
         Ok(tree) => tree,
         Err(fault) => return Err(fault),
     };
-    if let Some(flaw) = file_flaw(&tree) {
+    let heads = match heads(alloc, &tree.definitions) {
+        Ok(heads) => heads,
+        Err(OutOfMemory) => return Err(ReadFault::OutOfMemory),
+    };
+    if let Some(flaw) = file_flaw(&heads, &tree) {
         return Err(flaw_fault(tokens, flaw));
     }
-    match file_of_tree(alloc, &tree) {
+    match file_of_tree(alloc, &heads, &tree) {
         Ok(file) => Ok(file),
         Err(OutOfMemory) => Err(ReadFault::OutOfMemory),
     }

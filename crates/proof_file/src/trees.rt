@@ -1,15 +1,16 @@
 // Files as trees, with the names of predicates borrowed from the definitions.
 ghost use Rattle.std.specs.Prelude.{◌≡◌, map, IfOk};
-ghost use Rattle.proof_syntax.specs.Trees.{spatial_of, heap_of, definition_of, entailment_of, link_of, reason_of, node_of, file_of};
+ghost use Rattle.proof_syntax.specs.Trees.{spatial_of, heap_of, definition_of, judgement_of, link_of, reason_of, node_of, file_of};
 ghost use Rattle.proof_file.specs.Written.{term_tree, pure_tree, name_of as name_of_predicate, spatial_tree, heap_tree, definition_tree, judgement_tree, side_tree, pair_tree, link_tree, rule_tree, reason_tree, node_tree, tree_of};
 
 use crate::file::ProofFile;
+use crate::line_trees::lines;
 use crate::node::FileNode;
 use cyc_memory::OutOfMemory;
 use heap_formula::{Def, Heap, Judgement, Link, Pure, Reason, Rule, Side, Spatial, Term};
 use proof_syntax::{
-    DefinitionTree, EntailmentTree, FileTree, HeapTree, LinkTree, NodeTree, PairTree, PureTree,
-    ReasonTree, SideTree, SpatialTree, TermTree,
+    DefinitionTree, EntailmentTree, FileTree, HeapTree, JudgementTree, LinkTree, NodeTree,
+    PairTree, PureTree, ReasonTree, SideTree, SpatialTree, TermTree,
 };
 use std::alloc::Global;
 
@@ -147,30 +148,24 @@ fn definitions<'a>(alloc: Global, defs: &'a [Def]) -> Result<Vec<DefinitionTree<
     Ok(trees)
 }
 
-// A claim of termination has no disjunct, and so no text.
 fn judgement<'a>(
     alloc: Global,
     defs: &'a [Def],
     value: &Judgement,
-) -> Result<EntailmentTree<'a>, OutOfMemory>
-    ensures { IfOk result (λ e. entailment_of e ≡ judgement_tree defs.now value.now) }
+) -> Result<JudgementTree<'a>, OutOfMemory>
+    ensures { IfOk result (λ j. judgement_of j ≡ judgement_tree defs.now value.now) }
 {
     match value {
         Judgement::Entail(left, right) => {
             let antecedent = heap(alloc, defs, left)?;
             let disjuncts = heaps(alloc, defs, right.heaps())?;
-            Ok(EntailmentTree {
+            Ok(JudgementTree::Entailment(EntailmentTree {
                 antecedent,
                 disjuncts,
-            })
+            }))
         }
-        Judgement::Term(_, state) => {
-            let antecedent = heap(alloc, defs, state)?;
-            let disjuncts = Vec::new(alloc);
-            Ok(EntailmentTree {
-                antecedent,
-                disjuncts,
-            })
+        Judgement::Term(line, state) => {
+            Ok(JudgementTree::From(*line, heap(alloc, defs, state)?))
         }
     }
 }
@@ -219,7 +214,6 @@ fn link(alloc: Global, value: &Link) -> Result<LinkTree, OutOfMemory>
     })
 }
 
-// A rule on programs has existential variables in its terms, and so no text.
 fn rule<'a>(alloc: Global, defs: &'a [Def], value: &Rule) -> Result<ReasonTree<'a>, OutOfMemory>
     ensures { IfOk result (λ r. reason_of r ≡ rule_tree defs.now value.now) }
 {
@@ -240,7 +234,8 @@ fn rule<'a>(alloc: Global, defs: &'a [Def], value: &Rule) -> Result<ReasonTree<'
         Rule::Instantiate(v, value) => ReasonTree::Instantiate(u32::from(*v), term(*value)),
         Rule::Frame(i, j) => ReasonTree::Frame(*i, *j),
         Rule::UnfoldRight(j, c) => ReasonTree::UnfoldRight(*j, *c),
-        Rule::Exec | Rule::Drop(_) => ReasonTree::Split(TermTree::Exist(0), TermTree::Exist(0)),
+        Rule::Exec => ReasonTree::Exec,
+        Rule::Drop(k) => ReasonTree::Drop(*k),
     })
 }
 
@@ -282,10 +277,15 @@ fn nodes<'a>(
 
 /// The tree of a file.
 pub fn file_tree<'a>(alloc: Global, file: &'a ProofFile) -> Result<FileTree<'a>, OutOfMemory>
-    ensures { IfOk result (λ t. file_of t ≡ tree_of file.now.defs.list file.now.nodes) }
+    ensures { IfOk result (λ t. file_of t ≡ tree_of file.now.defs.list file.now.program file.now.nodes) }
 {
     let defs = file.defs.as_slice();
     let definitions = definitions(alloc, defs)?;
+    let lines = lines(alloc, &file.program)?;
     let nodes = nodes(alloc, defs, file.nodes.as_slice())?;
-    Ok(FileTree { definitions, nodes })
+    Ok(FileTree {
+        definitions,
+        lines,
+        nodes,
+    })
 }

@@ -1,6 +1,8 @@
 use Rattle.std.proofs.Common.{◌≡◌, ◌+◌, drop}
-use Rattle.proof_file.specs.Spans.{total, pair_span}
-use Rattle.proof_file.specs.Flaws.{listed_flaw, pair_flaw}
+use Rattle.heap_reader.specs.Spans.{total}
+use Rattle.heap_reader.specs.Flaws.{listed_flaw}
+use Rattle.proof_file.specs.Spans.{pair_span}
+use Rattle.proof_file.specs.Flaws.{pair_flaw}
 use Rattle.proof_file.proofs.walk.pairs.Given as goal
 
 abbrev pub invariant-loop-tree : goal.invariant-loop-tree
