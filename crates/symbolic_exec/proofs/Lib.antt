@@ -1,0 +1,4 @@
+mod FirstCell
+mod Limits
+mod FreshNumbers
+pub mod ProgramLines

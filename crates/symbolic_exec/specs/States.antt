@@ -1,0 +1,26 @@
+-- Symbolic states as the program makes them, and their sizes.
+use Rattle.std.specs.Prelude.{ℕ, zero, suc, ◌+◌, ◌≤◌, min, List, [], ◌∷◌, length, Bool, ◌&&◌, nat_le}
+use Rattle.heap_formula.specs.declared.terms.Term.{Term}
+use Rattle.heap_formula.specs.declared.terms.Term.TheVariants.{Univ}
+use Rattle.heap_formula.specs.declared.commands.Command.{Command}
+use Rattle.heap_formula.specs.declared.commands.Command.TheVariants.{New}
+use Rattle.heap_formula.specs.Symbolic.{SymbolicHeap}
+use Rattle.symbolic_exec.specs.declared.commands.Setting.{Setting}
+
+-- the variables from n on, k of them; the number after the greatest stands for all that pass it
+abbrev pub variables_up_to : ℕ → ℕ → List Term
+variables_up_to n zero = []
+variables_up_to n (suc k) = Univ (min n 65535) ∷ variables_up_to (suc n) k
+
+-- within the limits with this many more pure atoms, and this many more spatial ones
+abbrev pub has_room_for : ℕ → ℕ → ℕ → SymbolicHeap → Bool
+has_room_for most pure spatial a = nat_le (length a.pure + pure) 64 && nat_le (length a.spatial + spatial) most
+
+-- a line of a program, a number for a fresh variable, and a limit of some version
+abbrev pub IsSetting : Setting → Type 0
+IsSetting at = (at.line ≤ 4096) × (at.fresh ≤ 65536) × (at.most ≤ 32)
+
+-- the number of fields of a new cell, 0 where there is none
+abbrev pub new_fields : Command → ℕ
+new_fields (New x k) = k
+new_fields _ = 0

@@ -1,0 +1,72 @@
+// The premises at the command of a judgement's line.
+ghost use Rattle.std.specs.Prelude.{◌≡◌, ◌≤◌, IfOk, List, length};
+ghost use Rattle.heap_formula.specs.Closedness.{IsUniversalHeap};
+ghost use Rattle.heap_formula.specs.Definitions.{Definition};
+ghost use Rattle.heap_formula.specs.Judgements.{IsLocallySound, antecedent};
+ghost use Rattle.heap_formula.specs.Programs.{counted_from_one};
+ghost use Rattle.heap_formula.specs.Words.{Each};
+ghost use Rattle.rule_table.specs.Answered.{IsAnswer};
+ghost use Rattle.rule_table.specs.ExecTable.{exec_answer};
+ghost use Rattle.rule_table.specs.Soundness.{IsUniversalPremise};
+ghost use Rattle.symbolic_exec.specs.Lines.{IsPremiseAtLine};
+
+use crate::commands::{Setting, command_premises};
+use goto_lang::Program;
+use heap_formula::{Command, Judgement, Premise, RuleError, RuleFault};
+use rule_table::fresh;
+use std::alloc::Global;
+
+fn command_at(program: &Program, line: u32) -> Option<Command>
+    ensures { result ≡ counted_from_one program.now line }
+{
+    let lines = program.lines();
+    if line == 0 {
+        None
+    } else {
+        lines.get(line as usize - 1).copied()
+    }
+}
+
+fn exec(
+    alloc: Global,
+    program: &Program,
+    judgement: &Judgement,
+    most: u8,
+) -> Result<Vec<Premise>, RuleError>
+    requires { most ≤ 32 }
+    ensures { IsAnswer result (exec_answer most program.now judgement.now) }
+{
+    let Judgement::Term(line, a) = judgement else {
+        return Err(RuleError::Fault(RuleFault::WrongJudgement));
+    };
+    let _lines = program.lines();
+    let Some(command) = command_at(program, *line) else {
+        return Err(RuleError::Fault(RuleFault::WrongJudgement));
+    };
+    let setting = Setting {
+        line: *line,
+        fresh: fresh(judgement, program.variables()),
+        most,
+    };
+    command_premises(alloc, setting, a, command)
+}
+
+/// What is left of a judgement on the program's runs after the command at its line: a premise for each line to which
+/// the command may lead, none at `stop`. A command that reads, writes or frees takes the first cell whose address is its
+/// term or stands with it in one equation. `most` is the greatest number of spatial atoms of a heap, 16 or 32 by the
+/// format's version. Where the line is none of the program's, the answer is `WrongJudgement`, as for an entailment.
+pub fn premises_exec(
+    alloc: Global,
+    program: &Program,
+    judgement: &Judgement,
+    most: u8,
+) -> Result<Vec<Premise>, RuleError>
+    requires { most ≤ 32 }
+    ensures answer { IsAnswer result (exec_answer most program.now judgement.now) }
+    ensures sound { IfOk result (λ v. (ds : List Definition) → IsLocallySound ds program.now judgement.now v.items) }
+    ensures keeps { IfOk result (λ v. IsUniversalHeap (antecedent judgement.now) → Each IsUniversalPremise v.items) }
+    ensures lines { IfOk result (λ v. Each (IsPremiseAtLine (length program.now)) v.items) }
+{
+    let _lines = program.lines();
+    exec(alloc, program, judgement, most)
+}

@@ -1,0 +1,14 @@
+//! Symbolic execution of a command: what is left to prove of the program's runs from the lines to which the command
+//! leads (Brotherston, Bornat and Calcagno 2008).
+#![tactic(auto)]
+
+mod cells;
+mod commands;
+mod exec;
+mod states;
+
+pub use cyc_memory::OutOfMemory;
+pub use exec::premises_exec;
+
+#[cfg(test)]
+mod tests;
