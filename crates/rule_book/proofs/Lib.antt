@@ -1,1 +1,2 @@
-pub mod WithoutLines
+pub mod WholeTable
+mod PremiseLines

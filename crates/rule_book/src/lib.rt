@@ -1,16 +1,19 @@
 //! The whole rule table as one call.
 #![tactic(auto)]
 
-ghost use Rattle.std.specs.Prelude.{IfOk, List, []};
+ghost use Rattle.std.specs.Prelude.{◌≡◌, ◌≢◌, IfOk, List, length};
 ghost use Rattle.heap_formula.specs.Closedness.{IsUniversalHeap};
 ghost use Rattle.heap_formula.specs.declared.commands.Command.{Command};
+ghost use Rattle.heap_formula.specs.declared.proof_rules.Rule.TheVariants.{Exec};
 ghost use Rattle.heap_formula.specs.Judgements.{IsLocallySound, antecedent};
 ghost use Rattle.heap_formula.specs.Words.{Each};
 ghost use Rattle.rule_table.specs.Answered.{IsAnswer};
-ghost use Rattle.rule_table.specs.RuleBook.{rule_answer};
+ghost use Rattle.rule_table.specs.RuleBook.{rule_answer, variables_of as program_variables_of};
+ghost use Rattle.rule_book.specs.Lines.{IsWithinLines, IsPremiseWithin};
 ghost use Rattle.rule_table.specs.Soundness.{HasVariables, HasUniversalTerms, IsUniversalPremise};
 
-use heap_formula::{Judgement, Premise, Rule, RuleError, RuleFault};
+use goto_lang::Program;
+use heap_formula::{Judgement, Premise, Rule, RuleError};
 use match_frame::{
     premises_choose, premises_done, premises_frame, premises_instantiate, premises_pure_right,
 };
@@ -20,27 +23,40 @@ use normal_form::{
 };
 use pred_defs::Defs;
 use std::alloc::Global;
+use symbolic_exec::premises_exec;
 use unfold_rule::{premises_cut, premises_unfold, premises_unfold_right};
+
+/// How many variables of the judgement are the program's: none in an entailment.
+pub fn variables_of(program: &Program, judgement: &Judgement) -> u16
+    ensures { result ≡ program_variables_of program.now judgement.now }
+{
+    match judgement {
+        Judgement::Entail(_, _) => 0,
+        Judgement::Term(_, _) => program.variables(),
+    }
+}
 
 fn answer(
     alloc: Global,
     defs: &Defs,
+    program: &Program,
     judgement: &Judgement,
     rule: &Rule,
 ) -> Result<Vec<Premise>, RuleError>
-    ensures { IsAnswer result (rule_answer defs.now.most defs.now.list [] judgement.now rule.now) }
+    ensures { IsAnswer result (rule_answer defs.now.most defs.now.list program.now judgement.now rule.now) }
 {
+    let p = variables_of(program, judgement);
     match rule {
-        Rule::Absurd => premises_absurd(alloc, judgement, 0),
-        Rule::Rewrite(k, side) => premises_rewrite(alloc, judgement, 0, *k, *side),
-        Rule::Split(t, u) => premises_split(alloc, judgement, 0, *t, *u),
-        Rule::Distinct(i, k) => premises_distinct(alloc, judgement, 0, *i, *k),
-        Rule::Weaken(k) => premises_weaken(alloc, judgement, 0, *k),
-        Rule::Unfold(k) => premises_unfold(alloc, defs, judgement, 0, *k),
+        Rule::Absurd => premises_absurd(alloc, judgement, p),
+        Rule::Rewrite(k, side) => premises_rewrite(alloc, judgement, p, *k, *side),
+        Rule::Split(t, u) => premises_split(alloc, judgement, p, *t, *u),
+        Rule::Distinct(i, k) => premises_distinct(alloc, judgement, p, *i, *k),
+        Rule::Weaken(k) => premises_weaken(alloc, judgement, p, *k),
+        Rule::Unfold(k) => premises_unfold(alloc, defs, judgement, p, *k),
         Rule::Cut(places, formula) => premises_cut(
             alloc,
             judgement,
-            0,
+            p,
             places,
             formula,
             defs.most(),
@@ -51,24 +67,29 @@ fn answer(
         Rule::Instantiate(v, t) => premises_instantiate(alloc, judgement, *v, *t),
         Rule::Frame(i, k) => premises_frame(alloc, judgement, *i, *k),
         Rule::UnfoldRight(k, c) => premises_unfold_right(alloc, defs, judgement, *k, *c),
-        Rule::Exec => Err(RuleError::Fault(RuleFault::WrongJudgement)),
-        Rule::Drop(k) => premises_drop(alloc, judgement, 0, *k),
+        Rule::Exec => premises_exec(alloc, program, judgement, defs.most()),
+        Rule::Drop(k) => premises_drop(alloc, judgement, p, *k),
     }
 }
 
-/// The premises of a rule at a judgement, with their trace pairs, or the rule's first fault. There is no program: `Exec`
-/// is `WrongJudgement`, and no variable is a program variable.
+/// The premises of a rule at a judgement, with their trace pairs, or the rule's first fault. Beside the program's own
+/// runs, every rule but `Exec` is sound for those of any program that has no more variables, and at an entailment for
+/// those of any.
 pub fn premises(
     alloc: Global,
     defs: &Defs,
+    program: &Program,
     judgement: &Judgement,
     rule: &Rule,
 ) -> Result<Vec<Premise>, RuleError>
-    ensures answer { IsAnswer result (rule_answer defs.now.most defs.now.list [] judgement.now rule.now) }
-    ensures sound { IfOk result (λ v. (lines : List Command) → HasVariables lines 0 judgement.now → IsUniversalHeap (antecedent judgement.now) → IsLocallySound defs.now.list lines judgement.now v.items) }
+    ensures answer { IsAnswer result (rule_answer defs.now.most defs.now.list program.now judgement.now rule.now) }
+    ensures sound { IfOk result (λ v. IsUniversalHeap (antecedent judgement.now) → IsLocallySound defs.now.list program.now judgement.now v.items) }
+    ensures sound_elsewhere { IfOk result (λ v. (lines : List Command) → rule.now ≢ Exec → HasVariables lines (program_variables_of program.now judgement.now) judgement.now → IsUniversalHeap (antecedent judgement.now) → IsLocallySound defs.now.list lines judgement.now v.items) }
     ensures keeps { IfOk result (λ v. IsUniversalHeap (antecedent judgement.now) → HasUniversalTerms rule.now → Each IsUniversalPremise v.items) }
+    ensures lines { IfOk result (λ v. IsWithinLines (length program.now) judgement.now → Each (IsPremiseWithin (length program.now)) v.items) }
 {
-    answer(alloc, defs, judgement, rule)
+    let _lines = program.lines();
+    answer(alloc, defs, program, judgement, rule)
 }
 
 #[cfg(test)]

@@ -2,12 +2,13 @@
 ghost use Rattle.std.specs.Prelude.{◌≤◌, length};
 
 use crate::premises;
+use goto_lang::{Program, ProgramFault};
 use heap_formula::{
-    Args, Disjuncts, Heap, Judgement, OutOfMemory, Positions, Pure, Rule, RuleError, RuleFault,
-    Side, Spatial, Term,
+    Args, Command, Disjuncts, Heap, Judgement, OutOfMemory, Positions, Pure, Rule, RuleError,
+    RuleFault, Side, Spatial, Term,
 };
 use pred_defs::Defs;
-use rule_table::{copy_pure_atoms, copy_spatial_atoms};
+use rule_table::{antecedent, copy_pure_atoms, copy_spatial_atoms};
 use std::alloc::Global;
 use std::test::Fail;
 
@@ -44,19 +45,40 @@ fn lists(alloc: Global) -> Result<Defs, Fail> {
     Ok(defs)
 }
 
+// A program with the variables x and y.
+fn test_and_stop(alloc: Global) -> Result<Program, ProgramFault> {
+    Program::new(alloc, &[(1, Command::IfEq(X, Y, 2)), (2, Command::Stop)])
+}
+
 fn count(
     alloc: Global,
     defs: &Defs,
+    program: &Program,
     judgement: &Judgement,
     rule: &Rule,
 ) -> Result<usize, RuleError> {
-    Ok(premises(alloc, defs, judgement, rule)?.len())
+    Ok(premises(alloc, defs, program, judgement, rule)?.len())
+}
+
+// How many pure atoms stand on the left of the first premise.
+fn pure_count(
+    alloc: Global,
+    defs: &Defs,
+    program: &Program,
+    judgement: &Judgement,
+    rule: &Rule,
+) -> Result<usize, RuleError> {
+    for premise in premises(alloc, defs, program, judgement, rule)?.iter() {
+        return Ok(antecedent(&premise.judgement).pure().len());
+    }
+    Ok(0)
 }
 
 #[test]
 fn each_rule_is_in_the_book(rt: HostRuntime) -> Result<(), Fail> {
     let alloc = rt.alloc();
     let defs = lists(alloc)?;
+    let program = test_and_stop(alloc)?;
     let a = heap(alloc, &[Pure::Eq(X, Y)], &[cell(X, Y), list(Y)])?;
     let b = heap(alloc, &[Pure::Eq(Y, X)], &[list(Y), list(E)])?;
     let j = Judgement::Entail(a, Disjuncts::single(alloc, b)?);
@@ -85,11 +107,34 @@ fn each_rule_is_in_the_book(rt: HostRuntime) -> Result<(), Fail> {
             Err(RuleError::Fault(RuleFault::WrongJudgement)),
         ),
     ] {
-        assert_eq!(rt; count(alloc, &defs, &j, &rule), wanted);
+        assert_eq!(rt; count(alloc, &defs, &program, &j, &rule), wanted);
     }
-    assert_eq!(rt; count(alloc, &defs, &runs, &Rule::Drop(1)), Ok(1));
+    for (rule, wanted) in [
+        (Rule::Drop(1), Ok(1)),
+        (Rule::Exec, Ok(2)),
+        (Rule::Unfold(1), Ok(2)),
+        (Rule::Done, Err(RuleError::Fault(RuleFault::WrongJudgement))),
+    ] {
+        assert_eq!(rt; count(alloc, &defs, &program, &runs, &rule), wanted);
+    }
+    Ok(())
+}
+
+#[test]
+fn a_program_variable_keeps_its_equation(rt: HostRuntime) -> Result<(), Fail> {
+    let alloc = rt.alloc();
+    let defs = lists(alloc)?;
+    let program = test_and_stop(alloc)?;
+    let none = Program::new(alloc, &[])?;
+    let runs = Judgement::Term(1, heap(alloc, &[Pure::Eq(X, Y)], &[])?);
+    let a = heap(alloc, &[Pure::Eq(X, Y)], &[])?;
+    let entails = Judgement::Entail(a, Disjuncts::single(alloc, Heap::new(alloc))?);
+    let rule = Rule::Rewrite(0, Side::Left);
+    assert_eq!(rt; pure_count(alloc, &defs, &program, &runs, &rule), Ok(1));
+    assert_eq!(rt; pure_count(alloc, &defs, &none, &runs, &rule), Ok(0));
+    assert_eq!(rt; pure_count(alloc, &defs, &program, &entails, &rule), Ok(0));
     assert_eq!(rt;
-        count(alloc, &defs, &runs, &Rule::Exec),
+        count(alloc, &defs, &none, &runs, &Rule::Exec),
         Err(RuleError::Fault(RuleFault::WrongJudgement))
     );
     Ok(())
