@@ -1,5 +1,5 @@
 -- The verdicts on a file end a check in one way.
-use Rattle.std.proofs.Common.{◌≡◌, ℕ, [], Option, Some, None, refl, sym, ap, subst, ◌∙◌}
+use Rattle.std.proofs.Common.{◌≡◌, ℕ, Option, Some, None, refl, sym, ap, subst, ◌∙◌}
 use Rattle.heap_formula.specs.declared.proof_rules.RuleFault.{RuleFault}
 use Rattle.trace_pairs.specs.Lasso.{AllProgress}
 use Rattle.buchi_inclusion.specs.Answers.{HasAtMost}
@@ -14,21 +14,23 @@ use Rattle.cyc_top.specs.Answers.{verdict_status}
 
 pub same_back : (f g : ProofFile) → AreSame f g → AreSame g f
 same_back f g same =
-    record { version = sym same.version; most = sym same.most; definitions = sym same.definitions; nodes = sym same.nodes }
+    record { version = sym same.version; most = sym same.most; definitions = sym same.definitions; program = sym same.program; nodes = sym same.nodes }
 
--- the same definitions and nodes have the same trace graph
+-- the same definitions, program and nodes have the same trace graph
 pub same_graph : (f g : ProofFile) → AreSame f g → file_graph f ≡ file_graph g
 same_graph f g same =
-    ap (λ most. graph_of most f.defs.list [] (nodes_of f.nodes)) same.most
-    ∙ ap (λ ds. graph_of g.defs.most ds [] (nodes_of f.nodes)) same.definitions
-    ∙ ap (λ nodes. graph_of g.defs.most g.defs.list [] (nodes_of nodes)) same.nodes
+    ap (λ most. graph_of most f.defs.list f.program (nodes_of f.nodes)) same.most
+    ∙ ap (λ ds. graph_of g.defs.most ds f.program (nodes_of f.nodes)) same.definitions
+    ∙ ap (λ lines. graph_of g.defs.most g.defs.list lines (nodes_of f.nodes)) same.program
+    ∙ ap (λ nodes. graph_of g.defs.most g.defs.list g.program (nodes_of nodes)) same.nodes
 
 -- nodes without a fault stay so
 pub same_right : (f g : ProofFile) → AreSame f g → HasRightNodes f → HasRightNodes g
 same_right f g same right =
-    subst (λ nodes. AreRight g.defs.most g.defs.list [] (nodes_of nodes)) same.nodes
-    (subst (λ ds. AreRight g.defs.most ds [] (nodes_of f.nodes)) same.definitions
-    (subst (λ most. AreRight most f.defs.list [] (nodes_of f.nodes)) same.most right))
+    subst (λ nodes. AreRight g.defs.most g.defs.list g.program (nodes_of nodes)) same.nodes
+    (subst (λ lines. AreRight g.defs.most g.defs.list lines (nodes_of f.nodes)) same.program
+    (subst (λ ds. AreRight g.defs.most ds f.program (nodes_of f.nodes)) same.definitions
+    (subst (λ most. AreRight most f.defs.list f.program (nodes_of f.nodes)) same.most right)))
 
 none_some : (x : RuleFault) (fault : Option RuleFault) → fault ≡ None → fault ≡ Some x → ⊥
 none_some x None none some = cc

@@ -6,7 +6,7 @@ use Rattle.cyc_lex.specs.declared.fault.ReadFault.TheVariants as faults
 use Rattle.cyc_lex.specs.Lexing.{tokens_of}
 use Rattle.cyc_lex.specs.Placed.{Placed}
 use Rattle.proof_file.specs.declared.file.ProofFile.{ProofFile}
-use Rattle.proof_file.specs.declared.flaw.Item.TheVariants.{Ill, Over}
+use Rattle.heap_reader.specs.declared.flaw.Item.TheVariants.{Ill, Over}
 use Rattle.proof_file.specs.Reading.{AreSame, IsLexFault, IsRead, IsReadFrom, Reads}
 use Rattle.proof_file.proofs.Readings.{no_syntax_fault, no_flaw, one_flaw, one_file, no_tokens, ok_tokens}
 use Rattle.cyc_top.specs.Answers.{fault_status}

@@ -11,10 +11,8 @@ use Rattle.heap_formula.specs.declared.judgements.Judgement.{Judgement}
 use Rattle.heap_formula.specs.declared.judgements.Pair.{Pair}
 use Rattle.heap_formula.specs.declared.judgements.Premise.{Premise}
 use Rattle.heap_formula.specs.declared.proof_rules.Link.{Link}
-use Rattle.heap_formula.specs.declared.proof_rules.Rule.{Rule}
 use Rattle.heap_formula.specs.declared.proof_rules.Reason.{Reason}
 use Rattle.heap_formula.specs.declared.proof_rules.Reason.TheVariants.{Step, Back}
-use Rattle.heap_formula.specs.declared.proof_rules.RuleFault.{RuleFault}
 use Rattle.heap_formula.specs.declared.proof_rules.RuleFault.TheVariants.{PremiseCount, NoSuchNode}
 use Rattle.heap_formula.specs.Definitions.{Definition}
 use Rattle.heap_formula.specs.Words.{Each}
@@ -22,15 +20,15 @@ use Rattle.heap_formula.specs.Meaning.{Stages}
 use Rattle.heap_formula.specs.Judgements.{HoldsAt, JudgementHolds, Follows, IsBelow, antecedent}
 use Rattle.heap_formula.proofs.JudgementLaws.{holds-at_all}
 use Rattle.rule_table.specs.Answer.{Answer}
-use Rattle.rule_table.specs.LinkTable.{first_of, fault_unless, link_fault}
+use Rattle.rule_table.specs.LinkTable.{first_of, fault_unless}
 use Rattle.rule_table.specs.RuleBook.{variables_of, rule_answer}
 use Rattle.rule_table.specs.Soundness.{IsCommand}
 use Rattle.rule_table.specs.Fits.{IsPredAt, PairsFit, PremiseFits, OnPremises}
-use Rattle.rule_table.specs.Nodes.{Node, Edge, differs, premises_fault, answer_fault, target_fault, reason_fault, node_fault, edges_to, answer_edges, link_edges, reason_edges, edges_of, EdgeHolds}
-use Rattle.rule_table.proofs.LinkRule.{none_of_two, no_fault}
+use Rattle.rule_table.specs.Nodes.{Node, Edge, differs, premises_fault, answer_fault, target_fault, reason_fault, edges_to, answer_edges, link_edges, reason_edges, edges_of, EdgeHolds}
+use Rattle.rule_table.proofs.LinkRule.{none_of_two}
 use Rattle.rule_table.proofs.AllFit.{rule_fits, link_fits}
 use Rattle.rule_table.proofs.RightNodes.{found_same, node_holds}
-use Rattle.trace_pairs.specs.Graph.{Node as GraphNode, Edge as GraphEdge, Pair as GraphPair, IsEdge, Falls, IsLocal, TargetsAreNodes, has, PairsFit as GraphFits, IsPositionSet, HasPositionSets, HasFewEdges, IsGraph}
+use Rattle.trace_pairs.specs.Graph.{Node as GraphNode, Edge as GraphEdge, Pair as GraphPair, Falls, IsLocal, TargetsAreNodes, has, PairsFit as GraphFits, IsPositionSet, HasPositionSets, HasFewEdges, IsGraph}
 use Rattle.trace_pairs.specs.Lasso.{AllProgress}
 use Rattle.proof_graph.specs.Traces.{predicate_places, trace_pair}
 use Rattle.buchi_inclusion.proofs.Exact.{descends_by_lassos}
@@ -214,7 +212,7 @@ module _ (most : ℕ) (ds : List Definition) (lines : List Command) (nodes : Lis
             subst (λ (r : GraphPair). (τ r.1 ≤ σ r.0) × (r.2 ≡ true → τ r.1 < σ r.0)) same (kept_of q.progress (τ q.new) (σ q.old) f.0, less_of q.progress (τ q.new) (σ q.old) f.0)
         falls_of (q ∷ qs) σ τ f (suc i) p e = falls_of qs σ τ f.1 i p e
 
-    module _ (few_cases : Each HasFewCases ds) (no_lines : lines ≡ []) (small : HavePositionSets nodes) where
+    module _ (few_cases : Each HasFewCases ds) (small : HavePositionSets nodes) where
       sets : HasPositionSets g
       sets v n at =
           let m = mapped_at (graph_node most ds lines nodes) nodes v n at in
@@ -223,7 +221,7 @@ module _ (most : ℕ) (ds : List Definition) (lines : List Command) (nodes : Lis
       few : HasFewEdges g
       few v n at =
           let m = mapped_at (graph_node most ds lines nodes) nodes v n at in
-          subst (λ (x : GraphNode). length x.edges ≤ 256) m.is (few_edges most ds lines nodes few_cases no_lines m.from)
+          subst (λ (x : GraphNode). length x.edges ≤ 256) m.is (few_edges most ds lines nodes few_cases m.from)
 
       pub in_order : (root : Node) → slice_get nodes 0 ≡ Some root → IsGraph g
       in_order root at = record {

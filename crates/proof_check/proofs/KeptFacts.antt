@@ -1,6 +1,5 @@
 -- What the type of proof files keeps, for the law of correct files.
-use Rattle.std.proofs.Common.{◌≡◌, ℕ, zero, suc, ◌+◌, ◌<◌, ◌≤◌, Bool, true, false, ◌&&◌, List, [], ◌∷◌, map, length, Option, Some, None, refl, sym, ap, subst, arith}
-use Rattle.std.specs.Prelude.{slice_get, nat_le}
+use Rattle.std.proofs.Common.{◌≡◌, ℕ, Bool, true, List, [], ◌∷◌, length, subst, arith}
 use Rattle.std.specs.List.{list_all}
 use Rattle.std.proofs.lemmas.List.{length-map}
 use Rattle.std.proofs.lemmas.Bool.{leb-true}
@@ -9,11 +8,11 @@ use Rattle.heap_formula.specs.declared.proof_rules.Reason.{Reason}
 use Rattle.heap_formula.specs.declared.proof_rules.Reason.TheVariants.{Step, Back}
 use Rattle.heap_formula.specs.Closedness.{IsUniversal, IsUniversalHeap, InPure, InSpatial}
 use Rattle.heap_formula.specs.Definitions.{Definition}
-use Rattle.heap_formula.specs.Judgements.{antecedent, JudgementHolds}
+use Rattle.heap_formula.specs.Judgements.{antecedent}
 use Rattle.heap_formula.specs.Symbolic.{SymbolicHeap}
 use Rattle.heap_formula.specs.Words.{Each}
 use Rattle.rule_table.specs.Tests.{is_universal, is_universal_pure, is_universal_spatial}
-use Rattle.rule_table.specs.Soundness.{AreUniversal}
+use Rattle.rule_table.specs.Soundness.{IsCommand}
 use Rattle.rule_table.specs.Nodes.{Node, IsReadable}
 use Rattle.rule_table.proofs.Reflects.{both, universal_is, universal_pure_is, universal_spatial_is}
 use Rattle.trace_pairs.specs.Graph.{IsGraph}
@@ -51,14 +50,14 @@ nodes_readable ns e v node at =
 pub few_cases : (ds : List Definition) → all_have_few_cases ds ≡ true → Each HasFewCases ds
 few_cases ds e = each_passes has_few_cases HasFewCases (λ d h. leb-true (length d.cases) 16 h) ds e
 
-module _ (f : ProofFile) (right : HasRightNodes f) (small : HavePositionSets (nodes_of f.nodes)) where
+module _ (f : ProofFile) (commands : Each IsCommand f.program) (right : HasRightNodes f) (small : HavePositionSets (nodes_of f.nodes)) where
   pub graph_in_order : IsGraph (file_graph f)
   graph_in_order =
       let l = length-map f.nodes node_of in
       let some = f.some in
       let root = some_at (nodes_of f.nodes) 0 (omega arith) in
-      in_order f.defs.most f.defs.list [] (nodes_of f.nodes) tt (nodes_readable f.nodes f.readable) right (few_cases f.defs.list f.cases) refl small root.0 root.1
+      in_order f.defs.most f.defs.list f.program (nodes_of f.nodes) commands (nodes_readable f.nodes f.readable) right (few_cases f.defs.list f.cases) small root.0 root.1
 
   pub root_holds : AllProgress (file_graph f) → RootHolds f
   root_holds all root at =
-      correct_holds f.defs.most f.defs.list [] (nodes_of f.nodes) tt (nodes_readable f.nodes f.readable) right (few_cases f.defs.list f.cases) refl small root at all
+      correct_holds f.defs.most f.defs.list f.program (nodes_of f.nodes) commands (nodes_readable f.nodes f.readable) right (few_cases f.defs.list f.cases) small root at all

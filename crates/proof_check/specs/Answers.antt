@@ -1,9 +1,7 @@
 -- What the test of a node answers.
-use Rattle.std.specs.Prelude.{◌≡◌, ℕ, List, [], map, Option, Some, None, Result, Ok, Err, Vec}
-use Rattle.std.specs.declared.alloc.Global.{Global}
+use Rattle.std.specs.Prelude.{◌≡◌, List, map, Option, Some, None}
 use Rattle.heap_formula.specs.declared.proof_rules.RuleFault.{RuleFault}
 use Rattle.rule_table.specs.Nodes.{Edge}
-use Rattle.trace_pairs.specs.Graph.{Edge as GraphEdge}
 use Rattle.proof_check.specs.declared.node_tests.NodeAnswer.{NodeAnswer}
 use Rattle.proof_check.specs.declared.node_tests.NodeAnswer.TheVariants.{Right, Faulty}
 use Rattle.proof_check.specs.declared.checking.Tested.{Tested}

@@ -1,5 +1,5 @@
 -- What a verdict says of a proof file.
-use Rattle.std.specs.Prelude.{◌≡◌, ℕ, ◌<◌, ◌≤◌, List, [], length, Some, None, slice_get}
+use Rattle.std.specs.Prelude.{◌≡◌, ℕ, ◌<◌, List, Some, None, slice_get}
 use Rattle.heap_formula.specs.Judgements.{JudgementHolds}
 use Rattle.heap_formula.specs.declared.proof_rules.RuleFault.{RuleFault}
 use Rattle.rule_table.specs.Nodes.{Node, node_fault}
@@ -17,17 +17,17 @@ abbrev pub state_limit : ℕ
 state_limit = 200000
 
 abbrev pub file_graph : ProofFile → List GraphNode
-file_graph f = graph_of f.defs.most f.defs.list [] (nodes_of f.nodes)
+file_graph f = graph_of f.defs.most f.defs.list f.program (nodes_of f.nodes)
 
 abbrev pub HasRightNodes : ProofFile → Type 0
-HasRightNodes f = AreRight f.defs.most f.defs.list [] (nodes_of f.nodes)
+HasRightNodes f = AreRight f.defs.most f.defs.list f.program (nodes_of f.nodes)
 
 -- node v has this first fault, and no node before it has one
 pub record IsLeastFault (f : ProofFile) (v : ℕ) (fault : RuleFault) : Type 0 where
   pub node : Node
   pub at : slice_get (nodes_of f.nodes) v ≡ Some node
-  pub first : node_fault f.defs.most f.defs.list [] (nodes_of f.nodes) v node ≡ Some fault
-  pub before : (u : ℕ) (earlier : Node) → u < v → slice_get (nodes_of f.nodes) u ≡ Some earlier → node_fault f.defs.most f.defs.list [] (nodes_of f.nodes) u earlier ≡ None
+  pub first : node_fault f.defs.most f.defs.list f.program (nodes_of f.nodes) v node ≡ Some fault
+  pub before : (u : ℕ) (earlier : Node) → u < v → slice_get (nodes_of f.nodes) u ≡ Some earlier → node_fault f.defs.most f.defs.list f.program (nodes_of f.nodes) u earlier ≡ None
 
 -- every node is right and every lasso progresses
 pub record IsCorrect (f : ProofFile) : Type 0 where
@@ -36,7 +36,7 @@ pub record IsCorrect (f : ProofFile) : Type 0 where
 
 -- the judgement of node 0 holds
 abbrev pub RootHolds : ProofFile → Type 0
-RootHolds f = (root : Node) → slice_get (nodes_of f.nodes) 0 ≡ Some root → JudgementHolds f.defs.list [] root.judgement
+RootHolds f = (root : Node) → slice_get (nodes_of f.nodes) 0 ≡ Some root → JudgementHolds f.defs.list f.program root.judgement
 
 -- what each verdict says; the four exclude one another, so each comes exactly where what it says is true
 abbrev pub IsVerdict : ProofFile → Verdict → Type 0
@@ -48,7 +48,7 @@ IsVerdict f TooManyStates = HasRightNodes f × HasMoreThan (file_graph f) state_
 -- the nodes before v have no fault
 abbrev pub AreRightBelow : ProofFile → ℕ → Type 0
 AreRightBelow f v =
-    (u : ℕ) (node : Node) → u < v → slice_get (nodes_of f.nodes) u ≡ Some node → node_fault f.defs.most f.defs.list [] (nodes_of f.nodes) u node ≡ None
+    (u : ℕ) (node : Node) → u < v → slice_get (nodes_of f.nodes) u ≡ Some node → node_fault f.defs.most f.defs.list f.program (nodes_of f.nodes) u node ≡ None
 
 -- their positions are sets
 abbrev pub HavePositionSetsBelow : ProofFile → ℕ → Type 0

@@ -40,7 +40,7 @@ fn test_nodes(alloc: Global, file: &ProofFile) -> Result<Tested, OutOfMemory>
     let nodes = file.nodes.as_slice();
     let mut graph = TraceGraph::new(alloc);
     for (v, node) in nodes.iter().enumerate() {
-        match test_node(alloc, &file.defs, nodes, v, node)? {
+        match test_node(alloc, &file.defs, &file.program, nodes, v, node)? {
             NodeAnswer::Faulty(fault) => return Ok(Tested::OneFaulty(v as u32, fault)),
             NodeAnswer::Right(edges) => graph.push(graph_node(alloc, &node.judgement, edges)?)?,
         }
@@ -54,6 +54,7 @@ fn path_verdict(alloc: Global, file: &ProofFile, graph: &TraceGraph) -> Result<V
     requires sets { HavePositionSets (nodes_of file.now.nodes) }
     ensures { IfOk result (IsVerdict file.now) }
 {
+    let _lines = file.program.lines();
     match included(alloc, graph, MOST_STATES)? {
         Inclusion::Included => Ok(Verdict::Accepted),
         Inclusion::Counter(lasso) => Ok(Verdict::PathRefused { lasso }),

@@ -1,13 +1,15 @@
 // The law of correct files. The function does nothing.
-ghost use Rattle.std.specs.Prelude.{◌≡◌, ◌≤◌, ℕ, List, [], Some, slice_get, length};
+ghost use Rattle.std.specs.Prelude.{◌≡◌, ◌≤◌, ℕ, List, Some, slice_get, length};
 ghost use Rattle.heap_formula.specs.Definitions.{Definition};
 ghost use Rattle.heap_formula.specs.Judgements.{JudgementHolds};
+ghost use Rattle.heap_formula.specs.declared.commands.Command.{Command};
 ghost use Rattle.rule_table.specs.Nodes.{Node};
+ghost use Rattle.rule_table.specs.Soundness.{IsCommand};
 ghost use Rattle.trace_pairs.specs.Lasso.{AllProgress};
 ghost use Rattle.heap_formula.specs.Words.{Each};
 ghost use Rattle.proof_check.specs.Files.{graph_of, AreReadable, AreRight, HasFewCases, HasSmallHeaps};
 
 /// Where every node is right and every lasso progresses, the judgement of node 0 holds.
 pub fn correct_files_hold()
-    ensures { (most : ℕ) (ds : List Definition) (nodes : List Node) (root : Node) → Each HasFewCases ds → HasSmallHeaps nodes → AreReadable nodes → AreRight most ds [] nodes → slice_get nodes 0 ≡ Some root → AllProgress (graph_of most ds [] nodes) → JudgementHolds ds [] root.judgement }
+    ensures { (most : ℕ) (ds : List Definition) (lines : List Command) (nodes : List Node) (root : Node) → Each IsCommand lines → Each HasFewCases ds → HasSmallHeaps nodes → AreReadable nodes → AreRight most ds lines nodes → slice_get nodes 0 ≡ Some root → AllProgress (graph_of most ds lines nodes) → JudgementHolds ds lines root.judgement }
 {}

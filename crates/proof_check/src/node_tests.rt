@@ -7,12 +7,13 @@ ghost use Rattle.heap_formula.specs.Words.{Each};
 ghost use Rattle.heap_formula.specs.declared.proof_rules.RuleFault.TheVariants.{NoSuchNode, PremiseCount};
 ghost use Rattle.rule_table.specs.LinkTable.{first_of, fault_unless, link_premise};
 ghost use Rattle.rule_table.specs.Nodes.{same_judgement as judgements_agree, differs as premise_differs, premises_fault as first_premises_fault, answer_fault as first_answer_fault, node_fault as first_node_fault, target_fault, link_edges, edges_to, answer_edges, edges_of};
-ghost use Rattle.rule_table.specs.RuleBook.{rule_answer};
+ghost use Rattle.rule_table.specs.RuleBook.{rule_answer, variables_of as program_variables_of};
 ghost use Rattle.proof_check.specs.Files.{HasFewCases, entry_of, graph_edge, node_of, nodes_of};
 ghost use Rattle.proof_check.specs.Answers.{IsNodeAnswer};
 
 use back_links::link_fault;
 use cyc_memory::OutOfMemory;
+use goto_lang::Program;
 use heap_formula::{
     Judgement, Link, Pair, Pairs, Premise, Reason, Rule, RuleError, RuleFault, Spatial,
     is_same_judgement,
@@ -20,7 +21,7 @@ use heap_formula::{
 use pred_defs::Defs;
 use proof_file::FileNode;
 use proof_graph::trace_edge;
-use rule_book::premises;
+use rule_book::{premises, variables_of};
 use rule_table::antecedent as heap_of;
 use std::alloc::Global;
 use trace_pairs::Edge;
@@ -137,6 +138,7 @@ fn rule_answered(
 fn rule_node(
     alloc: Global,
     defs: &Defs,
+    program: &Program,
     nodes: &[FileNode],
     v: usize,
     judgement: &Judgement,
@@ -144,9 +146,9 @@ fn rule_node(
     numbers: &[u32],
 ) -> Result<NodeAnswer, OutOfMemory>
     requires { Each HasFewCases defs.now.list }
-    ensures { IfOk result (λ a. IsNodeAnswer a (first_answer_fault (nodes_of nodes.now) v numbers.now (rule_answer defs.now.most defs.now.list [] judgement.now rule.now)) (answer_edges numbers.now (rule_answer defs.now.most defs.now.list [] judgement.now rule.now))) }
+    ensures { IfOk result (λ a. IsNodeAnswer a (first_answer_fault (nodes_of nodes.now) v numbers.now (rule_answer defs.now.most defs.now.list program.now judgement.now rule.now)) (answer_edges numbers.now (rule_answer defs.now.most defs.now.list program.now judgement.now rule.now))) }
 {
-    match premises(alloc, defs, judgement, rule) {
+    match premises(alloc, defs, program, judgement, rule) {
         Err(RuleError::Fault(fault)) => Ok(NodeAnswer::Faulty(fault)),
         Err(RuleError::OutOfMemory) => Err(OutOfMemory),
         Ok(premises) => rule_answered(alloc, nodes, v, &premises, numbers),
@@ -174,15 +176,17 @@ fn linked(alloc: Global, companion: &Judgement, link: &Link) -> Result<NodeAnswe
 /// The answer for a link whose companion is there.
 fn link_answer(
     alloc: Global,
+    program: &Program,
     judgement: &Judgement,
     companion: &FileNode,
     link: &Link,
     numbers: &[u32],
 ) -> Result<NodeAnswer, OutOfMemory>
-    ensures { IfOk result (λ a. IsNodeAnswer a (first_of (target_fault judgement.now link.now 0 (Some (node_of companion.now))) (fault_unless (nat_eq (length numbers.now) 0) PremiseCount)) (link_edges link.now (Some (node_of companion.now)))) }
+    ensures { IfOk result (λ a. IsNodeAnswer a (first_of (target_fault judgement.now link.now (program_variables_of program.now judgement.now) (Some (node_of companion.now))) (fault_unless (nat_eq (length numbers.now) 0) PremiseCount)) (link_edges link.now (Some (node_of companion.now)))) }
 {
     let _atoms = heap_of(judgement).spatial();
-    if let Some(fault) = link_fault(judgement, &companion.judgement, link, 0) {
+    let p = variables_of(program, judgement);
+    if let Some(fault) = link_fault(judgement, &companion.judgement, link, p) {
         return Ok(NodeAnswer::Faulty(fault));
     }
     if !numbers.is_empty() {
@@ -193,18 +197,20 @@ fn link_answer(
 
 fn link_node(
     alloc: Global,
+    program: &Program,
     nodes: &[FileNode],
     judgement: &Judgement,
     link: &Link,
     numbers: &[u32],
 ) -> Result<NodeAnswer, OutOfMemory>
-    ensures { IfOk result (λ a. IsNodeAnswer a (first_of (target_fault judgement.now link.now 0 (slice_get (nodes_of nodes.now) link.now.target)) (fault_unless (nat_eq (length numbers.now) 0) PremiseCount)) (link_edges link.now (slice_get (nodes_of nodes.now) link.now.target))) }
+    ensures { IfOk result (λ a. IsNodeAnswer a (first_of (target_fault judgement.now link.now (program_variables_of program.now judgement.now) (slice_get (nodes_of nodes.now) link.now.target)) (fault_unless (nat_eq (length numbers.now) 0) PremiseCount)) (link_edges link.now (slice_get (nodes_of nodes.now) link.now.target))) }
 {
     if link.target as usize >= nodes.len() {
         return Ok(NodeAnswer::Faulty(RuleFault::NoSuchNode));
     }
     link_answer(
         alloc,
+        program,
         judgement,
         &nodes[link.target as usize],
         link,
@@ -216,16 +222,26 @@ fn link_node(
 pub fn test_node(
     alloc: Global,
     defs: &Defs,
+    program: &Program,
     nodes: &[FileNode],
     v: usize,
     node: &FileNode,
 ) -> Result<NodeAnswer, OutOfMemory>
     requires { Each HasFewCases defs.now.list }
-    ensures { IfOk result (λ a. IsNodeAnswer a (first_node_fault defs.now.most defs.now.list [] (nodes_of nodes.now) v (node_of node.now)) (edges_of defs.now.most defs.now.list [] (nodes_of nodes.now) (node_of node.now))) }
+    ensures { IfOk result (λ a. IsNodeAnswer a (first_node_fault defs.now.most defs.now.list program.now (nodes_of nodes.now) v (node_of node.now)) (edges_of defs.now.most defs.now.list program.now (nodes_of nodes.now) (node_of node.now))) }
 {
     let numbers = node.premises.as_slice();
     match &node.reason {
-        Reason::Step(rule) => rule_node(alloc, defs, nodes, v, &node.judgement, rule, numbers),
-        Reason::Back(link) => link_node(alloc, nodes, &node.judgement, link, numbers),
+        Reason::Step(rule) => rule_node(
+            alloc,
+            defs,
+            program,
+            nodes,
+            v,
+            &node.judgement,
+            rule,
+            numbers,
+        ),
+        Reason::Back(link) => link_node(alloc, program, nodes, &node.judgement, link, numbers),
     }
 }

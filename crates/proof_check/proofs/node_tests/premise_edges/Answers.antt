@@ -1,4 +1,4 @@
-use Rattle.std.proofs.Common.{◌≡◌, ◌<◌, ◌++◌, ◌∷◌, [], List, map, length, drop, get_or, sym, ap, ◌∙◌, arith, append_assoc, ◌+◌}
+use Rattle.std.proofs.Common.{◌<◌, ◌++◌, ◌∷◌, [], List, map, length, drop, sym, ap, ◌∙◌, arith, append_assoc, ◌+◌}
 use Rattle.rule_table.specs.Nodes.{Edge as NodeEdge, edges_to}
 use Rattle.trace_pairs.specs.Graph.{Edge}
 use Rattle.proof_check.specs.Files.{graph_edge, nodes_of}

@@ -1,8 +1,4 @@
-use Rattle.std.proofs.Common.{◌≡◌, ◌+◌, ◌≤◌, ◌<◌, ◌++◌, [], length, drop, take, map, ℕ}
-use Rattle.std.specs.Prelude.{slice_index}
-use Rattle.heap_formula.specs.Words.{Each}
-use Rattle.heap_formula.specs.Positions.{pairs_from}
-use Rattle.heap_formula.specs.declared.judgements.Pair.{Pair}
+use Rattle.std.proofs.Common.{◌≡◌, ◌++◌, drop, map}
 use Rattle.rule_table.specs.Nodes.{premises_fault, edges_to}
 use Rattle.proof_check.specs.Files.{graph_edge, nodes_of}
 use Rattle.proof_check.proofs.node_tests.premise_edges.Given as goal
