@@ -1,0 +1,5 @@
+pub mod Names
+pub mod Occurrences
+pub mod Numbered
+pub mod Numbering
+pub mod Views

@@ -1,0 +1,82 @@
+//! Lines of programs with numbers in place of names.
+
+ghost use Rattle.std.specs.Prelude.{◌≡◌, map, IfOk};
+ghost use Rattle.command_syntax.specs.Trees as programs;
+ghost use Rattle.problem_syntax.specs.Trees.{text_of, line_of};
+ghost use Rattle.name_numbers.specs.Names.{place_of};
+ghost use Rattle.name_numbers.specs.Occurrences.{plain};
+ghost use Rattle.name_numbers.specs.Numbering.{line as line_number};
+ghost use Rattle.name_numbers.specs.Views.{names_of};
+
+use crate::names::{NameUse, Names};
+use command_syntax::{ChangeTree, CommandTree, OperandTree};
+use cyc_memory::OutOfMemory;
+use problem_syntax::LineTree;
+use std::alloc::Global;
+
+fn variable<'a>(variables: &Names<'a>, text: &'a str) -> usize
+    ensures { result ≡ place_of (names_of variables.now) (plain text.entry.now) }
+{
+    variables.place_of(NameUse {
+        text,
+        primed: false,
+    })
+}
+
+fn operand<'a>(variables: &Names<'a>, tree: OperandTree<&'a str>) -> OperandTree<usize>
+    ensures { result ≡ programs.operand_of (λ s. place_of (names_of variables.now) (plain s)) (programs.operand_of text_of tree.entry) }
+{
+    match tree {
+        OperandTree::Nil => OperandTree::Nil,
+        OperandTree::Variable(text) => OperandTree::Variable(variable(variables, text)),
+    }
+}
+
+fn change<'a>(variables: &Names<'a>, tree: ChangeTree<&'a str>) -> ChangeTree<usize>
+    ensures { result ≡ programs.change_of (λ s. place_of (names_of variables.now) (plain s)) (programs.change_of text_of tree.entry) }
+{
+    match tree {
+        ChangeTree::New(count) => ChangeTree::New(count),
+        ChangeTree::Assign(value) => ChangeTree::Assign(operand(variables, value)),
+        ChangeTree::Load(cell, field) => ChangeTree::Load(operand(variables, cell), field),
+        ChangeTree::Store(field, value) => ChangeTree::Store(field, operand(variables, value)),
+    }
+}
+
+fn command<'a>(variables: &Names<'a>, tree: CommandTree<&'a str>) -> CommandTree<usize>
+    ensures { result ≡ programs.command_of (λ s. place_of (names_of variables.now) (plain s)) (programs.command_of text_of tree.entry) }
+{
+    match tree {
+        CommandTree::Stop => CommandTree::Stop,
+        CommandTree::Goto(target) => CommandTree::Goto(target),
+        CommandTree::Free(cell) => CommandTree::Free(operand(variables, cell)),
+        CommandTree::If(left, is_equal, right, target) => {
+            let left = operand(variables, left);
+            CommandTree::If(left, is_equal, operand(variables, right), target)
+        }
+        CommandTree::StoreAtNil(field, value) => {
+            CommandTree::StoreAtNil(field, operand(variables, value))
+        }
+        CommandTree::Change(text, tree) => {
+            CommandTree::Change(variable(variables, text), change(variables, tree))
+        }
+    }
+}
+
+/// The lines of a program, whose names are numbered as these variables.
+pub fn lines<'a>(
+    alloc: Global,
+    variables: &Names<'a>,
+    trees: &[LineTree<'a>],
+) -> Result<Vec<command_syntax::LineTree<usize>>, OutOfMemory>
+    ensures { IfOk result (λ v. v.items ≡ map (line_number (names_of variables.now)) (map line_of trees.now)) }
+{
+    let mut lines = Vec::with_capacity(alloc, trees.len())?;
+    for tree in trees {
+        lines.push(command_syntax::LineTree {
+            number: tree.number,
+            command: command(variables, tree.command),
+        })?;
+    }
+    Ok(lines)
+}
