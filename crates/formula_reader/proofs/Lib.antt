@@ -1,0 +1,6 @@
+mod Counts
+mod Fitting
+mod WithinSpans
+mod SpanLaws
+mod Readings
+mod Keeping

@@ -1,0 +1,79 @@
+-- The first flaw of a problem file that the grammar has: what is ill-formed or passes a limit, and at which token.
+use Rattle.std.specs.Prelude.{ℕ, ◌+◌, ◌||◌, nat_eq, nat_lt, nat_le, is_some, List, length, map, take, None}
+use Rattle.std.specs.List.{list_any}
+use Rattle.std.specs.Str.{bytes_eq}
+use Rattle.cyc_lex.specs.declared.fault.IllFault.TheVariants.{Duplicate, Parameter, NoLine}
+use Rattle.cyc_lex.specs.declared.fault.What.TheVariants.{Predicates, Arguments, Cases, Locals, Disjuncts, ProgramVariables, Variable}
+use Rattle.heap_reader.specs.Trees.{Heading}
+use Rattle.heap_reader.specs.Spans.{heap_span}
+use Rattle.heap_reader.specs.Flaws.{Found, ill_if, over_if, or_later, listed_flaw, arity_in, heap_flaw, heaps_flaw}
+use Rattle.heap_reader.specs.LineFlaws.{lines_flaw}
+use Rattle.name_numbers.specs.declared.tree.NumberedTerm.{NumberedTerm}
+use Rattle.name_numbers.specs.declared.tree.NumberedTerm.TheVariants.{Nil, Universal, Existential}
+use Rattle.name_numbers.specs.Numbered.{Heap, Definition, Goal, Entailment, From, Problem}
+use Rattle.formula_reader.specs.declared.terms.Scope.{Scope}
+use Rattle.formula_reader.specs.declared.terms.Scope.TheVariants.{Goal as InGoal, Case as InCase}
+use Rattle.formula_reader.specs.Spans.{term_span, variable_span, lines_span, parameter_span, parameters_span, definition_span, definitions_span}
+
+-- what a use of the predicate is compared with
+abbrev pub heading : Definition → Heading
+heading d = record { name = d.name; arity = length d.parameters }
+
+abbrev pub headings : List Definition → List Heading
+headings ds = map heading ds
+
+-- ---- terms; each part begins at token k, and n members stand before it
+
+-- a case has at most sixteen locals; that a parameter is below the arity, and that a number of the goal has sixteen bits,
+-- holds in each text whose other parts are within their limits
+abbrev pub term_flaw : Scope → ℕ → NumberedTerm → Found
+term_flaw scope k Nil = None
+term_flaw InGoal k (Universal n primed) = over_if (nat_lt 65534 n) Variable k
+term_flaw InGoal k (Existential n primed) = over_if (nat_lt 65534 n) Variable k
+term_flaw (InCase arity) k (Universal n primed) = ill_if (nat_le arity n) Parameter k
+term_flaw (InCase arity) k (Existential n primed) = over_if (nat_lt 15 n) Locals k
+
+-- a program has at most 64 variables
+abbrev pub variable_flaw : ℕ → ℕ → Found
+variable_flaw k v = over_if (nat_lt 63 v) ProgramVariables k
+
+-- ---- definitions
+
+-- at most eight parameters, no two with one name
+abbrev pub parameter_flaw : List (List ℕ) → ℕ → ℕ → List ℕ → Found
+parameter_flaw ps n k s = or_later (ill_if (list_any (bytes_eq s) (take n ps)) Duplicate k) (over_if (nat_le 8 n) Arguments k)
+
+abbrev pub parameters_flaw : ℕ → List (List ℕ) → Found
+parameters_flaw k ps = listed_flaw (parameter_flaw ps) parameter_span 0 k ps
+
+-- the name, which no definition before has, and the parameters
+abbrev pub head_flaw : List Heading → ℕ → ℕ → Definition → Found
+head_flaw hs n k d =
+    or_later (over_if (nat_le 4096 n) Predicates k) (or_later (ill_if (is_some (arity_in (take n hs) d.name)) Duplicate (k + 1)) (parameters_flaw (k + 3) d.parameters))
+
+abbrev pub cases_flaw : List Heading → ℕ → ℕ → List Heap → Found
+cases_flaw hs arity k cases = heaps_flaw (term_flaw (InCase arity)) term_span hs Cases k cases
+
+-- at most 4,096, no two with one name
+abbrev pub definition_flaw : List Heading → ℕ → ℕ → Definition → Found
+definition_flaw hs n k d =
+    or_later (head_flaw hs n k d) (cases_flaw hs (length d.parameters) (k + 3 + parameters_span d.parameters + 1) d.cases)
+
+abbrev pub definitions_flaw : List Heading → ℕ → List Definition → Found
+definitions_flaw hs k ds = listed_flaw (definition_flaw hs) definition_span 0 k ds
+
+-- ---- goals
+
+-- the goal of a program with so many lines
+abbrev pub goal_flaw : List Heading → ℕ → ℕ → Goal → Found
+goal_flaw hs count k (Entailment h ds) =
+    or_later (heap_flaw (term_flaw InGoal) term_span hs (k + 1) h) (heaps_flaw (term_flaw InGoal) term_span hs Disjuncts (k + 1 + heap_span term_span h) ds)
+goal_flaw hs count k (From n h) =
+    or_later (ill_if (nat_eq n 0 || nat_lt count n) NoLine (k + 2)) (heap_flaw (term_flaw InGoal) term_span hs (k + 4) h)
+
+-- ---- problems: four tokens stand before the definitions
+
+abbrev pub problem_flaw : Problem → Found
+problem_flaw p =
+    let lines_at = 4 + definitions_span p.definitions in
+    or_later (definitions_flaw (headings p.definitions) 4 p.definitions) (or_later (lines_flaw variable_flaw variable_span lines_at p.lines) (goal_flaw (headings p.definitions) (length p.lines) (lines_at + lines_span p.lines) p.goal))

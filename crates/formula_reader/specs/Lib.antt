@@ -1,0 +1,6 @@
+pub mod Spans
+pub mod Flaws
+pub mod Values
+pub mod Small
+pub mod WellFormed
+pub mod Reading

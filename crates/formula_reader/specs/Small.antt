@@ -1,0 +1,33 @@
+-- Parts of numbered problems that fit the values' types: numbers of sixteen bits, lists within the limits.
+use Rattle.std.specs.Prelude.{◌≡◌, ◌<◌, ◌≤◌, List, length, map, None}
+use Rattle.heap_formula.specs.Words.{Each}
+use Rattle.goto_lang.specs.Faults.{program_fault}
+use Rattle.heap_reader.specs.Small.{IsSmallHeap}
+use Rattle.heap_reader.specs.Values.{line_value}
+use Rattle.name_numbers.specs.Numbered.{Heap, Definition, Goal, Entailment, From, Problem}
+use Rattle.formula_reader.specs.Values.{term_value, variable_value}
+
+pub record IsSmallDefinition (d : Definition) : Type 0 where
+  pub parameters : length d.parameters ≤ 8
+  pub cases : Each (IsSmallHeap term_value) d.cases
+  pub few : length d.cases ≤ 16
+
+pub record AreSmallDisjuncts (ds : List Heap) : Type 0 where
+  pub heaps : Each (IsSmallHeap term_value) ds
+  pub some : 0 < length ds
+  pub few : length ds ≤ 16
+
+-- an entailment has a disjunct
+abbrev pub HasDisjunct : Goal → Type 0
+HasDisjunct (Entailment h ds) = 0 < length ds
+HasDisjunct (From n h) = Unit {0}
+
+abbrev pub IsSmallGoal : Goal → Type 0
+IsSmallGoal (Entailment h ds) = IsSmallHeap term_value h × AreSmallDisjuncts ds
+IsSmallGoal (From n h) = IsSmallHeap term_value h
+
+pub record IsSmallProblem (p : Problem) : Type 0 where
+  pub definitions : Each IsSmallDefinition p.definitions
+  pub few : length p.definitions ≤ 4096
+  pub program : program_fault (map (line_value variable_value) p.lines) ≡ None
+  pub goal : IsSmallGoal p.goal

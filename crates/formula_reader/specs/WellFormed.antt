@@ -1,0 +1,55 @@
+-- What a problem keeps: some text spells it, so its predicates are known, its goal's line is one of its program's, and no
+-- existential variable stands in its goal's antecedent.
+use Rattle.std.specs.Prelude.{◌≡◌, ℕ, Bool, true, not, ◌&&◌, ◌||◌, nat_eq, nat_lt, nat_le, List, [], ◌∷◌, length, map, None, Option}
+use Rattle.std.specs.List.{list_all}
+use Rattle.heap_formula.specs.declared.commands.Command.{Command}
+use Rattle.heap_formula.specs.declared.judgements.Judgement.{Judgement}
+use Rattle.heap_formula.specs.declared.judgements.Judgement.TheVariants.{Entail, Term as Halting}
+use Rattle.heap_formula.specs.Definitions.{Definition}
+use Rattle.heap_formula.specs.Symbolic.{SymbolicHeap}
+use Rattle.pred_defs.specs.declared.faults.DefFault.{DefFault}
+use Rattle.pred_defs.specs.Faults.{first_fault, case_fault}
+use Rattle.rule_table.specs.Tests.{is_universal_pure, is_universal_spatial}
+use Rattle.problem_syntax.specs.Grammar.{problem}
+use Rattle.problem_syntax.specs.Trees as named
+use Rattle.name_numbers.specs.Numbered as numbers
+use Rattle.name_numbers.specs.Numbering.{numbered}
+use Rattle.formula_reader.specs.Flaws.{headings, problem_flaw}
+use Rattle.formula_reader.specs.Values.{definition_value, program_value, goal_value}
+
+-- the numbers are those of a tree with names that the grammar has
+abbrev pub IsOfText : numbers.Problem → Type 0
+IsOfText tree = (names : named.Problem) × problem.fits names × (numbered names ≡ tree)
+
+-- what a numbered tree without a flaw says
+pub record IsSaidBy (tree : numbers.Problem) (ds : List Definition) (lines : List Command) (judgement : Judgement) : Type 0 where
+  pub text : IsOfText tree
+  pub flawless : problem_flaw tree ≡ None
+  pub definitions : ds ≡ map (definition_value (headings tree.definitions)) tree.definitions
+  pub program : lines ≡ program_value tree.lines
+  pub goal : judgement ≡ goal_value (headings tree.definitions) tree.goal
+
+abbrev pub IsWellFormed : List Definition → List Command → Judgement → Type 0
+IsWellFormed ds lines judgement = (tree : numbers.Problem) × IsSaidBy tree ds lines judgement
+
+-- ---- what follows
+
+abbrev pub goal_heaps : Judgement → List SymbolicHeap
+goal_heaps (Entail a bs) = a ∷ bs
+goal_heaps (Halting i a) = a ∷ []
+
+-- the first use of a predicate in the goal that is at fault
+abbrev pub goal_fault : List Definition → Judgement → Option DefFault
+goal_fault ds goal = first_fault (case_fault ds) (goal_heaps goal)
+
+abbrev pub is_universal_heap : SymbolicHeap → Bool
+is_universal_heap a = list_all is_universal_pure a.pure && list_all is_universal_spatial a.spatial
+
+-- at most sixteen spatial atoms
+abbrev pub is_short_heap : SymbolicHeap → Bool
+is_short_heap a = nat_le (length a.spatial) 16
+
+-- the line of the goal, if it has one, is one of so many lines
+abbrev pub has_line : ℕ → Judgement → Bool
+has_line count (Entail a bs) = true
+has_line count (Halting i a) = not (nat_eq i 0 || nat_lt count i)

@@ -1,0 +1,77 @@
+//! The first flaw of a goal and of a whole problem.
+
+ghost use Rattle.std.specs.Prelude.{◌≡◌, ◌+◌, ◌<◌, ◌^◌, length, map, None};
+ghost use Rattle.cyc_lex.specs.declared.fault.IllFault.TheVariants.{NoLine};
+ghost use Rattle.heap_reader.specs.Trees.{heading_of};
+ghost use Rattle.heap_reader.specs.Flaws.{IsName, IsWalk};
+ghost use Rattle.name_numbers.specs.Numbered.{heap_of, goal_of, problem_of, Entailment, From};
+ghost use Rattle.formula_reader.specs.Spans.{goal_span, problem_span};
+ghost use Rattle.formula_reader.specs.Flaws.{headings, goal_flaw, problem_flaw as first_flaw};
+
+use crate::terms::{Scope, Variables};
+use crate::walk::definitions;
+use cyc_lex::{IllFault, What};
+use heap_reader::{Flaw, Head, ill, walk_heap, walk_heaps, walk_lines};
+use name_numbers::{NumberedGoal, NumberedHeap, NumberedProblem};
+
+fn entailment(
+    heads: &[Head<'_>],
+    count: usize,
+    at: usize,
+    antecedent: &NumberedHeap<'_>,
+    disjuncts: &[NumberedHeap<'_>],
+) -> Result<usize, Flaw>
+    requires { at + goal_span (Entailment (heap_of antecedent.now) (map heap_of disjuncts.now)) < 2 ^ 64 }
+    ensures { IsWalk result (goal_flaw (map heading_of heads.now) count at (Entailment (heap_of antecedent.now) (map heap_of disjuncts.now))) (at + goal_span (Entailment (heap_of antecedent.now) (map heap_of disjuncts.now))) }
+{
+    let right = walk_heap(heads, &Scope::Goal, at + 1, antecedent)?;
+    walk_heaps(heads, &Scope::Goal, What::Disjuncts, right, disjuncts)
+}
+
+fn state(
+    heads: &[Head<'_>],
+    count: usize,
+    at: usize,
+    line: u32,
+    heap: &NumberedHeap<'_>,
+) -> Result<usize, Flaw>
+    requires { at + goal_span (From line (heap_of heap.now)) < 2 ^ 64 }
+    ensures { IsWalk result (goal_flaw (map heading_of heads.now) count at (From line (heap_of heap.now))) (at + goal_span (From line (heap_of heap.now))) }
+{
+    if line == 0 || line as usize > count {
+        return Err(ill(IllFault::NoLine, at + 2));
+    }
+    walk_heap(heads, &Scope::Goal, at + 4, heap)
+}
+
+/// The goal of a program with so many lines.
+fn goal(heads: &[Head<'_>], count: usize, at: usize, tree: &NumberedGoal<'_>) -> Result<usize, Flaw>
+    requires { at + goal_span (goal_of tree.now) < 2 ^ 64 }
+    ensures { IsWalk result (goal_flaw (map heading_of heads.now) count at (goal_of tree.now)) (at + goal_span (goal_of tree.now)) }
+{
+    match tree {
+        NumberedGoal::Entailment(antecedent, disjuncts) => {
+            entailment(heads, count, at, antecedent, disjuncts)
+        }
+        NumberedGoal::From(line, heap) => state(heads, count, at, *line, heap),
+    }
+}
+
+fn walk(heads: &[Head<'_>], tree: &NumberedProblem<'_>) -> Result<usize, Flaw>
+    requires known { map heading_of heads.now ≡ headings (problem_of tree.now).definitions }
+    requires fits { problem_span (problem_of tree.now) < 2 ^ 64 }
+    ensures { IsWalk result (first_flaw (problem_of tree.now)) (problem_span (problem_of tree.now)) }
+{
+    let lines = definitions(heads, 4, &tree.definitions)?;
+    let at = walk_lines(&Variables, lines, &tree.lines)?;
+    goal(heads, tree.lines.len(), at, &tree.goal)
+}
+
+/// The first flaw of a problem, by its token.
+pub fn problem_flaw(heads: &[Head<'_>], tree: &NumberedProblem<'_>) -> Option<Flaw>
+    requires known { map heading_of heads.now ≡ headings (problem_of tree.now).definitions }
+    requires fits { problem_span (problem_of tree.now) < 2 ^ 64 }
+    ensures { result ≡ first_flaw (problem_of tree.now) }
+{
+    walk(heads, tree).err()
+}

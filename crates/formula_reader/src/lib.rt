@@ -1,0 +1,16 @@
+//! Problem files: reading a text, with the exact place of each fault.
+#![tactic(auto)]
+
+mod goals;
+mod heads;
+mod problem;
+mod reading;
+mod terms;
+mod values;
+mod walk;
+
+pub use problem::Problem;
+pub use reading::{read_problem, spelled_problems_are_read};
+
+#[cfg(test)]
+mod tests;

@@ -1,0 +1,107 @@
+//! The terms and the program variables of problem files once they are numbered.
+
+ghost use Rattle.std.specs.Prelude.{◌≡◌, ◌+◌, ◌<◌, ◌^◌, nat_lt};
+ghost use Rattle.cyc_lex.specs.declared.fault.What.TheVariants.{Variable};
+ghost use Rattle.heap_reader.specs.Flaws.{over_if, IsWalk};
+ghost use Rattle.formula_reader.specs.Spans.{name_span};
+
+use cyc_lex::{IllFault, What};
+use heap_formula::Term;
+use heap_reader::{Flaw, TermReader, VariableReader, ill, over};
+use name_numbers::NumberedTerm;
+
+/// Where a term stands: in the goal, or in a case of a predicate with so many parameters.
+#[derive(Clone, Copy, Debug)]
+pub enum Scope {
+    Goal,
+    Case(usize),
+}
+
+/// The token behind a variable and the one that follows it.
+fn behind(at: usize, primed: bool) -> usize
+    requires { at + name_span primed < 2 ^ 64 }
+    ensures { result ≡ at + name_span primed }
+{
+    if primed { at + 3 } else { at + 2 }
+}
+
+fn goal_number(at: usize, n: usize, primed: bool) -> Result<usize, Flaw>
+    requires { at + name_span primed < 2 ^ 64 }
+    ensures { IsWalk result (over_if (nat_lt 65534 n) Variable at) (at + name_span primed) }
+{
+    if n > 65534 {
+        return Err(over(What::Variable, at));
+    }
+    Ok(behind(at, primed))
+}
+
+impl TermReader for Scope {
+    ghost use Rattle.formula_reader.specs.Spans as spans;
+    ghost use Rattle.formula_reader.specs.Flaws as flaws;
+    ghost use Rattle.formula_reader.specs.Values as values;
+
+    type Term = NumberedTerm;
+
+    ghost span = { spans.term_span };
+
+    ghost flaw = { flaws.term_flaw };
+
+    ghost value = { values.term_value };
+
+    fn walk(&self, at: usize, term: NumberedTerm) -> Result<usize, Flaw> {
+        match (*self, term) {
+            (_, NumberedTerm::Nil) => Ok(at + 2),
+            (Scope::Goal, NumberedTerm::Universal(n, primed)) => goal_number(at, n, primed),
+            (Scope::Goal, NumberedTerm::Existential(n, primed)) => goal_number(at, n, primed),
+            (Scope::Case(arity), NumberedTerm::Universal(n, primed)) => {
+                if n >= arity {
+                    return Err(ill(IllFault::Parameter, at));
+                }
+                Ok(behind(at, primed))
+            }
+            (Scope::Case(_), NumberedTerm::Existential(n, primed)) => {
+                if n > 15 {
+                    return Err(over(What::Locals, at));
+                }
+                Ok(behind(at, primed))
+            }
+        }
+    }
+
+    fn value(&self, term: NumberedTerm) -> Term {
+        match term {
+            NumberedTerm::Nil => Term::Nil,
+            NumberedTerm::Universal(n, _) => Term::Univ(n as u16),
+            NumberedTerm::Existential(n, _) => Term::Exist(n as u16),
+        }
+    }
+}
+
+/// Program variables by their numbers.
+#[derive(Clone, Copy, Debug)]
+pub struct Variables;
+
+impl VariableReader for Variables {
+    ghost use Rattle.formula_reader.specs.Spans as spans;
+    ghost use Rattle.formula_reader.specs.Flaws as flaws;
+    ghost use Rattle.formula_reader.specs.Values as values;
+
+    type Variable = usize;
+
+    ghost span = { spans.variable_span };
+
+    ghost flaw = { λ form. flaws.variable_flaw };
+
+    ghost value = { values.variable_value };
+
+    fn walk(&self, at: usize, variable: usize) -> Result<usize, Flaw> {
+        if variable > 63 {
+            return Err(over(What::ProgramVariables, at));
+        }
+        Ok(at + 2)
+    }
+
+    fn value(&self, variable: usize) -> u16 {
+        variable as u16
+    }
+}

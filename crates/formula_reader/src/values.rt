@@ -1,0 +1,74 @@
+//! Values of problems without a flaw.
+
+ghost use Rattle.std.specs.Prelude.{◌≡◌, ◌≤◌, length, map, IfOk};
+ghost use Rattle.heap_formula.specs.Words.{Each};
+ghost use Rattle.heap_reader.specs.Trees.{heading_of};
+ghost use Rattle.name_numbers.specs.Numbered.{definition_of, goal_of};
+ghost use Rattle.formula_reader.specs.Small.{IsSmallDefinition, IsSmallGoal};
+ghost use Rattle.formula_reader.specs.Values.{definition_value, goal_value};
+
+use crate::terms::Scope;
+use cyc_memory::OutOfMemory;
+use heap_formula::{Cases, Def, DefName, Disjuncts, Judgement};
+use heap_reader::{Head, heap_value, heap_values};
+use name_numbers::{NumberedDefinition, NumberedGoal};
+use std::alloc::Global;
+
+fn definition(
+    alloc: Global,
+    heads: &[Head<'_>],
+    tree: &NumberedDefinition<'_>,
+) -> Result<Def, OutOfMemory>
+    requires small { IsSmallDefinition (definition_of tree.now) }
+    requires few { length heads.now ≤ 4096 }
+    ensures { IfOk result (λ d. d ≡ definition_value (map heading_of heads.now) (definition_of tree.now)) }
+{
+    let arity = tree.parameters.len();
+    let name = String::from_str(alloc, tree.name)?;
+    let cases = heap_values(alloc, heads, &Scope::Case(arity), &tree.cases)?;
+    Ok(Def {
+        name: DefName::from_text(name),
+        arity: arity as u32,
+        cases: Cases::from_vec(cases),
+    })
+}
+
+/// The definitions of a problem.
+pub fn definitions(
+    alloc: Global,
+    heads: &[Head<'_>],
+    trees: &[NumberedDefinition<'_>],
+) -> Result<Vec<Def>, OutOfMemory>
+    requires small { Each IsSmallDefinition (map definition_of trees.now) }
+    requires few { length heads.now ≤ 4096 }
+    ensures value { IfOk result (λ v. v.items ≡ map (definition_value (map heading_of heads.now)) (map definition_of trees.now)) }
+    ensures size { IfOk result (λ v. length v.items ≡ length trees.now) }
+{
+    let mut made = Vec::with_capacity(alloc, trees.len())?;
+    for tree in trees {
+        made.push(definition(alloc, heads, tree)?)?;
+    }
+    Ok(made)
+}
+
+/// The goal of a problem.
+pub fn goal(
+    alloc: Global,
+    heads: &[Head<'_>],
+    tree: &NumberedGoal<'_>,
+) -> Result<Judgement, OutOfMemory>
+    requires small { IsSmallGoal (goal_of tree.now) }
+    requires few { length heads.now ≤ 4096 }
+    ensures { IfOk result (λ j. j ≡ goal_value (map heading_of heads.now) (goal_of tree.now)) }
+{
+    match tree {
+        NumberedGoal::Entailment(antecedent, disjuncts) => {
+            let antecedent = heap_value(alloc, heads, &Scope::Goal, antecedent)?;
+            let disjuncts = heap_values(alloc, heads, &Scope::Goal, disjuncts)?;
+            Ok(Judgement::Entail(antecedent, Disjuncts::from_vec(disjuncts)))
+        }
+        NumberedGoal::From(line, state) => {
+            Ok(Judgement::Term(*line, heap_value(alloc, heads, &Scope::Goal, state)?))
+        }
+    }
+}
