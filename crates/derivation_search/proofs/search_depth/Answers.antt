@@ -1,0 +1,22 @@
+use Rattle.derivation_search.proofs.Depth.{stops, next_member, none_next, more_is}
+use Rattle.derivation_search.proofs.search_depth.Goals as goal
+
+pub returns-in-Stopped-clause-searched : goal.returns-in-Stopped-clause-searched
+returns-in-Stopped-clause-searched g c s f =
+    stops s _ _ _ _ _ _ _ _ c.in-Stopped.stop (c.loop-frames.invariant.at s f) (c.in_ok-stop.ensures.visited s (c.loop-frames.invariant.kept s f)) c.in-Stopped.is c.in_ok-stop.ensures.made
+
+pub returns-then-not-branch-clause-searched : goal.returns-then-not-branch-clause-searched
+returns-then-not-branch-clause-searched g c s f = (
+  c.in-On.more,
+  none_next s _ _ _ _ _ (g.M.Moves.made c.advance.new.moves) _ _ c.advance.new.frames.items _ _ c.in_ok-advance.field-0 (c.loop-frames.invariant.at s f) (c.in_ok-stop.ensures.visited s (c.loop-frames.invariant.kept s f)) c.in-On.is c.in_ok-stop.ensures.made
+      (c.in_ok-advance.ensures.next s (c.in_ok-stop.ensures.kept s (c.loop-frames.invariant.kept s f))) c.if-not-branch.true,
+)
+
+pub loop-frames-preserved : goal.loop-frames-preserved
+loop-frames-preserved g c = record {
+  order = c.in_ok-advance.ensures.order;
+  kept = λ s f. c.in_ok-advance.ensures.kept s (c.in_ok-stop.ensures.kept s (c.loop-frames.invariant.kept s f));
+  below = (more_is _ _ _ _ c.in_ok-stop.ensures.more c.in-On.is).1;
+  at = λ s f. next_member s _ _ _ _ _ (g.M.Moves.made c.advance.new.moves) _ _ c.advance.new.frames.items _ _ c.in_ok-advance.field-0 (c.loop-frames.invariant.at s f) (c.in_ok-stop.ensures.visited s (c.loop-frames.invariant.kept s f)) c.in-On.is c.in_ok-stop.ensures.made
+      (c.in_ok-advance.ensures.next s (c.in_ok-stop.ensures.kept s (c.loop-frames.invariant.kept s f))) c.if-not-branch.false;
+}
