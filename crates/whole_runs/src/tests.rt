@@ -517,10 +517,65 @@ fn accepted_files(rt: HostRuntime) -> Result<(), Fail> {
     Ok(())
 }
 
+// Claims that programs halt: two that hold, and two with a faulty node.
+static PROGRAMS: &[Text] = &[
+    (
+        b"cyclist proof 1;\npred list(1) { $0 = nil : emp | true : $0 -> (?0) * list(?0) };\nline 1 : if $0 = nil goto 4;\nline 2 : $0 := $0.1;\nline 3 : goto 1;\nline 4 : stop;\nnode from 1 given true : list($0) by Exec to 1 2;\nnode from 4 given $0 = nil : list($0) by Exec;\nnode from 2 given $0 != nil : list($0) by Unfold 0 to 3 5;\nnode from 2 given $0 != nil, $0 = nil : emp by Rewrite 1 left to 4;\nnode from 2 given nil != nil, $0 = nil : emp by Absurd;\nnode from 2 given $0 != nil : $0 -> ($1) * list($1) by Exec to 6;\nnode from 3 given $2 != nil, $0 = $1 : $2 -> ($1) * list($1) by Rewrite 1 right to 7;\nnode from 3 given $2 != nil : $2 -> ($0) * list($0) by Exec to 8;\nnode from 1 given $2 != nil : $2 -> ($0) * list($0) by Link 0 { $0 := $0 } [1] [];\nend;\n",
+        0,
+        "accepted termination nodes 9 links 1",
+    ),
+    (
+        b"cyclist proof 1;\nline 1 : stop;\nnode from 1 given true : $0 -> (nil) by Drop 0 to 1;\nnode from 1 given true : emp by Exec;\nend;\n",
+        0,
+        "accepted termination nodes 2 links 0",
+    ),
+    (
+        b"cyclist proof 1;\nline 1 : free $0;\nline 2 : $1 := new 1;\nline 3 : if $0 = $1 goto 5;\nline 4 : stop;\nline 5 : free nil;\nline 6 : stop;\nnode from 1 given true : $0 -> ($2) by Exec to 1;\nnode from 2 given true : emp by Exec to 2;\nnode from 3 given $0 != $1 : $1 -> ($3) by Exec to 3 4;\nnode from 5 given $0 != $1, $0 = $1 : $1 -> ($3) by Rewrite 1 left to 5;\nnode from 4 given $0 != $1, $0 != $1 : $1 -> ($3) by Exec;\nnode from 5 given $1 != $1, $0 = $1 : $1 -> ($3) by Absurd;\nend;\n",
+        1,
+        "refused node 1 PremiseDiffers 0",
+    ),
+    (
+        b"cyclist proof 1;\nline 1 : free $0;\nline 2 : free $0;\nline 3 : stop;\nnode from 1 given true : $0 -> ($1) by Exec to 1;\nnode from 2 given true : emp by Exec to 2;\nnode from 3 given true : emp by Exec;\nend;\n",
+        1,
+        "refused node 1 NoCell",
+    ),
+];
+
+// Programs that are no programs.
+static ILL_PROGRAMS: &[Text] = &[
+    (
+        b"cyclist proof 1;\nline 1 : goto 2;\nnode true : emp |- true : emp by Done;\nend;\n",
+        4,
+        "ill-formed jump token 8 line 2 column 15",
+    ),
+    (
+        b"cyclist proof 1;\nline 1 : free nil;\nnode true : emp |- true : emp by Done;\nend;\n",
+        4,
+        "ill-formed falls-off token 4 line 2 column 1",
+    ),
+    (
+        b"cyclist proof 1;\nline 2 : stop;\nnode true : emp |- true : emp by Done;\nend;\n",
+        4,
+        "ill-formed numbering token 5 line 2 column 6",
+    ),
+];
+
+#[test]
+fn programs(rt: HostRuntime) -> Result<(), Fail> {
+    let alloc = rt.alloc();
+    assert_eq!(rt; first_other(alloc, PROGRAMS)?, None);
+    assert_eq!(rt; first_other(alloc, ILL_PROGRAMS)?, None);
+    Ok(())
+}
+
 #[test]
 fn files_are_written_as_they_were_read(rt: HostRuntime) -> Result<(), Fail> {
     let alloc = rt.alloc();
     for (bytes, _, _) in ACCEPTED {
+        let written = written_again(alloc, bytes)?;
+        assert!(rt; written.as_slice() == *bytes);
+    }
+    for (bytes, _, _) in PROGRAMS {
         let written = written_again(alloc, bytes)?;
         assert!(rt; written.as_slice() == *bytes);
     }
