@@ -19,6 +19,5 @@ pub use writing::{write_file, written_files_are_read_again};
 
 #[cfg(test)]
 mod flaw_tests;
-
 #[cfg(test)]
 mod tests;
