@@ -1,0 +1,5 @@
+pub mod Places
+pub mod Kinds
+pub mod Limits
+pub mod Folds
+pub mod Bound

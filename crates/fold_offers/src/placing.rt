@@ -1,0 +1,128 @@
+// Placing a case's atoms among those of a state.
+ghost use Rattle.std.specs.Prelude.{◌≡◌, ◌≤◌, ◌++◌, ◌∷◌, [], Some, IfOk, OnOk, length};
+ghost use Rattle.fold_offers.specs.Folds.{fold_by, placed, bind_atom as atom_bound, folds_of_case, folds_of, folds as folds_of_state};
+ghost use Rattle.fold_offers.specs.Bound.{IsExtended};
+ghost use Rattle.fold_offers.specs.Limits.{HasFewParameters};
+ghost use Rattle.heap_formula.specs.Words.{Each};
+
+use crate::binding::bind_atom;
+use crate::cases::{Fold, can_fold, push_fold};
+use cyc_memory::OutOfMemory;
+use heap_formula::{Def, Heap, Rule, Spatial, Term};
+use rule_table::is_among;
+use std::alloc::Global;
+
+fn copied(alloc: Global, binding: &[(Term, Term)]) -> Result<Vec<(Term, Term)>, OutOfMemory>
+    ensures { IfOk result (λ v. v.items ≡ binding.now) }
+{
+    let mut made = Vec::new(alloc);
+    for pair in binding {
+        made.push(*pair)?;
+    }
+    Ok(made)
+}
+
+fn with_place(alloc: Global, places: &[u32], place: u32) -> Result<Vec<u32>, OutOfMemory>
+    ensures { IfOk result (λ v. v.items ≡ places.now ++ place ∷ []) }
+{
+    let mut made = Vec::new(alloc);
+    for other in places {
+        made.push(*other)?;
+    }
+    made.push(place)?;
+    Ok(made)
+}
+
+/// The binding that makes the case's atom the other one too, if there is one.
+fn extended(
+    alloc: Global,
+    binding: &[(Term, Term)],
+    atom: &Spatial,
+    other: &Spatial,
+) -> Result<Option<Vec<(Term, Term)>>, OutOfMemory>
+    ensures { IfOk result (λ o. IsExtended (atom_bound binding.now atom.now other.now) o) }
+{
+    let mut bound = copied(alloc, binding)?;
+    if !bind_atom(&mut bound, atom, other)? {
+        return Ok(None);
+    }
+    Ok(Some(bound))
+}
+
+/// Appends a fold for each way to place these atoms of the case, those before them being at the places.
+fn place_atoms(
+    rules: &mut Vec<Rule>,
+    alloc: Global,
+    fold: &Fold<'_>,
+    atoms: &[Spatial],
+    places: &[u32],
+    binding: &[(Term, Term)],
+) -> Result<(), OutOfMemory>
+    requires { fold.now.arity ≤ 8 }
+    ensures { OnOk result (rules.new.items ≡ rules.old.items ++ placed (fold_by fold.now.state.now fold.now.predicate fold.now.arity fold.now.case.now) fold.now.state.now.spatial atoms.now places.now (Some binding.now)) }
+{
+    let [atom, rest @ ..] = atoms else {
+        return push_fold(rules, alloc, fold, places, binding);
+    };
+    for (i, other) in fold.state.spatial().iter().enumerate() {
+        if !is_among(places, i) {
+            if let Some(bound) = extended(alloc, binding, atom, other)? {
+                let places = with_place(alloc, places, i as u32)?;
+                place_atoms(rules, alloc, fold, rest, &places, &bound)?;
+            }
+        }
+    }
+    Ok(())
+}
+
+fn push_case(
+    rules: &mut Vec<Rule>,
+    alloc: Global,
+    state: &Heap,
+    predicate: u16,
+    arity: usize,
+    case: &Heap,
+) -> Result<(), OutOfMemory>
+    requires { arity ≤ 8 }
+    ensures { OnOk result (rules.new.items ≡ rules.old.items ++ folds_of_case state.now predicate arity case.now) }
+{
+    if !can_fold(arity, case) {
+        return Ok(());
+    }
+    let fold = Fold {
+        state,
+        predicate,
+        arity,
+        case,
+    };
+    place_atoms(rules, alloc, &fold, case.spatial(), &[], &[])
+}
+
+fn push_predicate(
+    rules: &mut Vec<Rule>,
+    alloc: Global,
+    state: &Heap,
+    predicate: u16,
+    def: &Def,
+) -> Result<(), OutOfMemory>
+    requires { def.now.arity ≤ 8 }
+    ensures { OnOk result (rules.new.items ≡ rules.old.items ++ folds_of state.now predicate def.now) }
+{
+    for case in def.cases.heaps() {
+        push_case(rules, alloc, state, predicate, def.arity as usize, case)?;
+    }
+    Ok(())
+}
+
+/// A Cut for each way to fold atoms of the state into a predicate, by predicate, then by case, then by places.
+pub fn folds(alloc: Global, state: &Heap, defs: &[Def]) -> Result<Vec<Rule>, OutOfMemory>
+    requires parameters { Each HasFewParameters defs.now }
+    requires few { length defs.now ≤ 4096 }
+    ensures { IfOk result (λ v. v.items ≡ folds_of_state state.now defs.now) }
+{
+    let mut rules = Vec::new(alloc);
+    for (q, def) in defs.iter().enumerate() {
+        push_predicate(&mut rules, alloc, state, q as u16, def)?;
+    }
+    Ok(rules)
+}

@@ -1,0 +1,4 @@
+pub mod TwoLists
+pub mod Climbing
+pub mod LowerNodes
+pub mod FewCases

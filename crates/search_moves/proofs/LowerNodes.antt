@@ -1,0 +1,64 @@
+-- The nodes before a goal, one after another.
+use Rattle.std.proofs.Common.{◌≡◌, ℕ, zero, suc, ◌+◌, add-one, ◌<◌, true, false, ◌&&◌, List, [], ◌∷◌, ◌++◌, length, append_assoc, Some, None, slice_get, take, drop, arith, sym, refl, ap, ◌∙◌}
+use Rattle.std.specs.List.{list_any}
+use Rattle.std.specs.Option.{option_copied}
+use Rattle.fold_offers.specs.Places.{each_from}
+use Rattle.proof_graph.specs.declared.nodes.GraphNode.{GraphNode}
+use Rattle.proof_graph.specs.declared.nodes.NodeView.{NodeView}
+use Rattle.proof_graph.specs.Nodes.{IsViewed}
+use Rattle.search_moves.specs.States.{has_rule, is_work, is_unfold, is_on_line, works_on}
+use Rattle.search_moves.specs.Offering.{is_entailment}
+
+lower : {X : Type 0} (xs : List X) (n v : ℕ) (x : X) → v < n → slice_get xs v ≡ Some x → drop v (take n xs) ≡ x ∷ drop (suc v) (take n xs)
+lower [] n v x l at = absurd (let e : None ≡ Some x = at in cc)
+lower (y ∷ ys) zero v x l at = absurd (omega arith)
+lower (y ∷ ys) (suc n) zero x l at = let e : Some y ≡ Some x = at in let e' : y ≡ x = cc in ap (λ z. z ∷ take n ys) e'
+lower (y ∷ ys) (suc n) (suc v) x l at = lower ys n v x (omega arith) at
+
+get_some : {X : Type 0} (xs : List X) (v : ℕ) → v < length xs → (x : X) × (slice_get xs v ≡ Some x)
+get_some [] v l = absurd (omega arith)
+get_some (y ∷ ys) zero l = (y, refl)
+get_some (y ∷ ys) (suc v) l = get_some ys v (omega arith)
+
+pub lower_next : {X : Type 0} (xs : List X) (n v : ℕ) (x : X) → v < n → slice_get xs v ≡ Some x → drop v (take n xs) ≡ x ∷ drop (v + 1) (take n xs)
+lower_next xs n v x l at = rw (add-one) (lower xs n v x l at)
+
+-- what is tested of a node's parts is tested of the node
+works_same : (i : ℕ) (nodes : List GraphNode) (v : ℕ) (view : NodeView) (seen : IsViewed nodes v view) → (is_on_line i view.judgement.now && has_rule is_work (option_copied view.reason)) ≡ works_on i seen.node
+works_same i nodes v view seen = λ k. is_on_line i (seen.judgement k) && has_rule is_work (seen.reason k)
+
+pub works_now : (i : ℕ) (nodes : List GraphNode) (n v : ℕ) (view : NodeView) → v < n → IsViewed nodes v view → (is_on_line i view.judgement.now && has_rule is_work (option_copied view.reason)) ≡ true → list_any (works_on i) (drop v (take n nodes)) ≡ true
+works_now i nodes n v view l seen is =
+    let here : works_on i seen.node ≡ true = sym (works_same i nodes v view seen) ∙ is in
+    rw (lower_next nodes n v seen.node l seen.is_node, here) refl
+
+pub works_later : (i : ℕ) (nodes : List GraphNode) (n v : ℕ) (view : NodeView) → v < n → IsViewed nodes v view → (is_on_line i view.judgement.now && has_rule is_work (option_copied view.reason)) ≡ false → list_any (works_on i) (drop v (take n nodes)) ≡ list_any (works_on i) (drop (v + 1) (take n nodes))
+works_later i nodes n v view l seen is =
+    let here : works_on i seen.node ≡ false = sym (works_same i nodes v view seen) ∙ is in
+    rw (lower_next nodes n v seen.node l seen.is_node, here) refl
+
+-- what is seen of a node is seen of the node that stands there
+pub is_seen : (nodes : List GraphNode) (v : ℕ) (view : NodeView) (node : GraphNode) → IsViewed nodes v view → slice_get nodes v ≡ Some node → (view.judgement.now ≡ node.judgement) × (option_copied view.reason ≡ node.reason)
+is_seen nodes v view node seen at =
+    let e : Some seen.node ≡ Some node = sym seen.is_node ∙ at in
+    let same : seen.node ≡ node = cc in
+    (seen.judgement ∙ ap (λ (n : GraphNode). n.judgement) same, seen.reason ∙ ap (λ (n : GraphNode). n.reason) same)
+
+pub entails_same : (nodes : List GraphNode) (v : ℕ) (view : NodeView) (node : GraphNode) → IsViewed nodes v view → slice_get nodes v ≡ Some node → (is_entailment view.judgement.now && has_rule is_unfold (option_copied view.reason)) ≡ (is_entailment node.judgement && has_rule is_unfold node.reason)
+entails_same nodes v view node seen at =
+    let s = is_seen nodes v view node seen at in
+    λ k. is_entailment (s.0 k) && has_rule is_unfold (s.1 k)
+
+pub works_there : (i : ℕ) (nodes : List GraphNode) (v : ℕ) (view : NodeView) (node : GraphNode) → IsViewed nodes v view → slice_get nodes v ≡ Some node → (is_on_line i view.judgement.now && has_rule is_work (option_copied view.reason)) ≡ works_on i node
+works_there i nodes v view node seen at =
+    let s = is_seen nodes v view node seen at in
+    λ k. is_on_line i (s.0 k) && has_rule is_work (s.1 k)
+
+-- what the node at place v gives is given
+pub node_given : {X Y : Type 0} (f : ℕ → X → List Y) (xs : List X) (n v : ℕ) (items items' more all : List Y) → v < n → n < length xs → ((x : X) → slice_get xs v ≡ Some x → more ≡ f v x) → items' ≡ items ++ more → items ++ each_from f v (drop v (take n xs)) ≡ all → items' ++ each_from f (v + 1) (drop (v + 1) (take n xs)) ≡ all
+node_given f xs n v items items' more all l m gives given so_far =
+    let there = get_some xs v (omega arith) in
+    let rest = each_from f (suc v) (drop (suc v) (take n xs)) in
+    let cut : drop v (take n xs) ≡ there.0 ∷ drop (suc v) (take n xs) = lower xs n v there.0 l there.1 in
+    let before : items ++ (f v there.0 ++ rest) ≡ all = rw cut at so_far in
+    rw (add-one, given, gives there.0 there.1, append_assoc items (f v there.0) rest) before

@@ -1,0 +1,81 @@
+// The links to be tried at a goal.
+ghost use Rattle.std.specs.Prelude.{◌≡◌, ◌<◌, ◌++◌, Some, IfOk, OnOk, length, slice_get};
+ghost use Rattle.proof_graph.specs.declared.nodes.GraphNode.{GraphNode};
+ghost use Rattle.search_moves.specs.Offering.{is_companion as is_companion_of, is_entailment as is_entailment_judgement, links_to as links_to_node, candidates as candidates_of};
+
+use crate::ways::{unfolds, works_on};
+use back_links::all_links;
+use cyc_memory::OutOfMemory;
+use goto_lang::Program;
+use heap_formula::{Judgement, Link};
+use proof_graph::Graph;
+use rule_book::variables_of;
+use std::alloc::Global;
+
+/// The greatest number of links to one companion.
+const MOST_LINKS: u32 = 1_000_000;
+
+fn is_entailment(judgement: &Judgement) -> bool
+    ensures { result ≡ is_entailment_judgement judgement.now }
+{
+    matches!(judgement, Judgement::Entail(_, _))
+}
+
+/// Whether a bud with the judgement may link back to node `v`.
+fn is_companion(graph: &Graph, v: u32, judgement: &Judgement) -> bool
+    requires { v < length graph.now }
+    ensures { (node : GraphNode) → slice_get graph.now v ≡ Some node → result ≡ is_companion_of judgement.now node }
+{
+    let node = graph.node(v);
+    match judgement {
+        Judgement::Entail(_, _) => is_entailment(node.judgement) && unfolds(node.reason),
+        Judgement::Term(line, _) => works_on(node, *line),
+    }
+}
+
+/// The links to node `v`, none if it is no companion.
+fn links_to(
+    alloc: Global,
+    program: &Program,
+    graph: &Graph,
+    v: u32,
+    judgement: &Judgement,
+) -> Result<Vec<Link>, OutOfMemory>
+    requires { v < length graph.now }
+    ensures { IfOk result (λ found. (node : GraphNode) → slice_get graph.now v ≡ Some node → found.items ≡ links_to_node MOST_LINKS program.now judgement.now v node) }
+{
+    if !is_companion(graph, v, judgement) {
+        return Ok(Vec::new(alloc));
+    }
+    let companion = graph.node(v).judgement;
+    let p = variables_of(program, judgement);
+    all_links(alloc, judgement, companion, v, p, MOST_LINKS)
+}
+
+fn push_links(links: &mut Vec<Link>, more: Vec<Link>) -> Result<(), OutOfMemory>
+    ensures { OnOk result (links.new.items ≡ links.old.items ++ more.items) }
+{
+    for link in more {
+        links.push(link)?;
+    }
+    Ok(())
+}
+
+/// The links to be tried: by companion among the nodes before the goal, of each the first 1,000,000.
+pub fn candidates(
+    alloc: Global,
+    program: &Program,
+    graph: &Graph,
+    goal: u32,
+    judgement: &Judgement,
+) -> Result<Vec<Link>, OutOfMemory>
+    requires { goal < length graph.now }
+    ensures { IfOk result (λ v. v.items ≡ candidates_of program.now graph.now goal judgement.now) }
+{
+    let mut links = Vec::new(alloc);
+    for v in 0..goal {
+        let found = links_to(alloc, program, graph, v, judgement)?;
+        push_links(&mut links, found)?;
+    }
+    Ok(links)
+}

@@ -1,0 +1,131 @@
+// Equations of a symbolic state.
+ghost use Rattle.std.specs.Prelude.{◌≡◌, ◌≤◌, ◌&&◌, ◌||◌, IfOk, length};
+ghost use Rattle.std.specs.List.{list_any};
+ghost use Rattle.back_links.specs.Listing.{is_one_of as is_one_of_terms, stands_in_pure as pure_has, stands_in_spatial as spatial_has};
+ghost use Rattle.search_moves.specs.States.{stands_in_others, some_other_has, stands_elsewhere as stands_outside, is_logical as is_logical_term, occurs_elsewhere as occurs_outside, state_side, state_rewrites as state_rewrites_of};
+
+use cyc_memory::OutOfMemory;
+use heap_formula::{Heap, Pure, Rule, Side, Spatial, Term};
+use rule_table::same_term;
+use std::alloc::Global;
+
+fn is_one_of(n: u16, terms: &[Term]) -> bool
+    ensures { result ≡ is_one_of_terms n terms.now }
+{
+    for term in terms {
+        if same_term(*term, Term::Univ(n)) {
+            return true;
+        }
+    }
+    false
+}
+
+fn stands_in_pure(n: u16, atom: Pure) -> bool
+    ensures { result ≡ pure_has n atom }
+{
+    match atom {
+        Pure::Eq(t, u) | Pure::Neq(t, u) => {
+            same_term(t, Term::Univ(n)) || same_term(u, Term::Univ(n))
+        }
+    }
+}
+
+fn stands_in_spatial(n: u16, atom: &Spatial) -> bool
+    ensures { result ≡ spatial_has n atom.now }
+{
+    match atom {
+        Spatial::Cell(t, fields) => {
+            same_term(*t, Term::Univ(n)) || is_one_of(n, fields.as_slice())
+        }
+        Spatial::Pred(_, args) => is_one_of(n, args.as_slice()),
+    }
+}
+
+fn stands_in_other(n: u16, k: usize, i: usize, atom: Pure) -> bool
+    ensures { result ≡ stands_in_others n k i atom }
+{
+    i != k && stands_in_pure(n, atom)
+}
+
+fn another_has(n: u16, k: usize, atoms: &[Pure]) -> bool
+    ensures { result ≡ some_other_has n k 0 atoms.now }
+{
+    for (i, atom) in atoms.iter().enumerate() {
+        if stands_in_other(n, k, i, *atom) {
+            return true;
+        }
+    }
+    false
+}
+
+fn some_has(n: u16, atoms: &[Spatial]) -> bool
+    ensures { result ≡ list_any (spatial_has n) atoms.now }
+{
+    for atom in atoms {
+        if stands_in_spatial(n, atom) {
+            return true;
+        }
+    }
+    false
+}
+
+/// Whether the variable stands in the state outside a pure atom.
+fn stands_elsewhere(state: &Heap, k: usize, n: u16) -> bool
+    ensures { result ≡ stands_outside state.now k n }
+{
+    another_has(n, k, state.pure()) || some_has(n, state.spatial())
+}
+
+fn is_logical(p: u16, term: Term) -> bool
+    ensures { result ≡ is_logical_term p term }
+{
+    match term {
+        Term::Univ(n) => p <= n,
+        Term::Nil | Term::Exist(_) => false,
+    }
+}
+
+fn occurs_elsewhere(state: &Heap, k: usize, term: Term) -> bool
+    ensures { result ≡ occurs_outside state.now k term }
+{
+    match term {
+        Term::Univ(n) => stands_elsewhere(state, k, n),
+        Term::Nil | Term::Exist(_) => false,
+    }
+}
+
+/// The side of an equation that gives way, by the first test that holds.
+fn side(p: u16, state: &Heap, k: usize, atom: Pure) -> Option<Side>
+    ensures { result ≡ state_side p state.now k atom }
+{
+    let Pure::Eq(left, right) = atom else {
+        return None;
+    };
+    if same_term(left, right) || is_logical(p, left) {
+        return Some(Side::Left);
+    }
+    if is_logical(p, right) {
+        return Some(Side::Right);
+    }
+    if occurs_elsewhere(state, k, left) {
+        return Some(Side::Left);
+    }
+    if same_term(left, Term::Nil) && occurs_elsewhere(state, k, right) {
+        return Some(Side::Right);
+    }
+    None
+}
+
+/// Rewrite by the first equation of which some side gives way.
+pub fn state_rewrites(alloc: Global, p: u16, state: &Heap) -> Result<Vec<Rule>, OutOfMemory>
+    ensures { IfOk result (λ v. v.items ≡ state_rewrites_of p state.now) }
+{
+    let mut rules = Vec::new(alloc);
+    for (k, atom) in state.pure().iter().enumerate() {
+        if let Some(side) = side(p, state, k, *atom) {
+            rules.push(Rule::Rewrite(k as u32, side))?;
+            return Ok(rules);
+        }
+    }
+    Ok(rules)
+}

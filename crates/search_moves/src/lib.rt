@@ -1,0 +1,22 @@
+//! What the next goal of a partial derivation is offered: the links to be tried, and the rules in their order
+//! (Brotherston, Gorogiannis and Petersen 2012).
+#![tactic(auto)]
+
+mod companions;
+mod distincts;
+mod entailments;
+mod equations;
+mod instances;
+mod offered;
+mod offering;
+mod places;
+mod right_cases;
+mod setting;
+mod states;
+mod ways;
+
+pub use offered::Offers;
+pub use offering::offers;
+
+#[cfg(test)]
+mod tests;

@@ -1,0 +1,82 @@
+// What the next goal of a partial derivation is offered.
+ghost use Rattle.std.specs.Prelude.{◌≡◌, ◌<◌, ℕ, ◌≤◌, IfOk, length};
+ghost use Rattle.heap_formula.specs.Words.{Each};
+ghost use Rattle.heap_formula.specs.Meaning.{cases_of};
+ghost use Rattle.fold_offers.specs.Limits.{HasFewParameters};
+ghost use Rattle.search_moves.specs.Limits.{IsSmall};
+ghost use Rattle.search_moves.specs.Settings.{theory_of, theory};
+ghost use Rattle.search_moves.specs.Offering.{rules_before as rules_before_links, rules_after as rules_after_links, OffersLinks, OffersRules};
+
+use crate::companions::candidates;
+use crate::offered::Offers;
+use crate::setting::Setting;
+use crate::{entailments, states};
+use cyc_memory::OutOfMemory;
+use goto_lang::Program;
+use heap_formula::{Judgement, Rule};
+use pred_defs::Defs;
+use proof_graph::Graph;
+use std::alloc::Global;
+
+fn rules_before(alloc: Global, at: &Setting<'_>) -> Result<Vec<Rule>, OutOfMemory>
+    ensures { IfOk result (λ v. v.items ≡ rules_before_links (theory_of at.now) at.now.judgement.now) }
+{
+    match at.judgement {
+        Judgement::Entail(left, _) => entailments::rules_before(alloc, at, left),
+        Judgement::Term(line, state) => states::rules_before(alloc, at, *line, state),
+    }
+}
+
+fn rules_after(
+    alloc: Global,
+    at: &Setting<'_>,
+    graph: &Graph,
+    goal: u32,
+) -> Result<Vec<Rule>, OutOfMemory>
+    requires goal { goal < length graph.now }
+    requires parameters { Each HasFewParameters at.now.defs.now.list }
+    requires cases { (q : ℕ) → length (cases_of at.now.defs.now.list q) ≤ 65536 }
+    ensures { IfOk result (λ v. v.items ≡ rules_after_links (theory_of at.now) graph.now goal at.now.judgement.now) }
+{
+    match at.judgement {
+        Judgement::Entail(left, right) => {
+            entailments::rules_after(alloc, at, left, right.heaps())
+        }
+        Judgement::Term(line, state) => {
+            states::rules_after(alloc, at, graph, goal, *line, state)
+        }
+    }
+}
+
+/// The links and the rules that the goal, a node without a reason, is offered in the partial derivation that the graph
+/// holds, in the order in which they are to be tried. A rule with a fault is not offered, and no link is where a rule
+/// goes before links.
+pub fn offers(
+    alloc: Global,
+    defs: &Defs,
+    program: &Program,
+    graph: &Graph,
+    goal: u32,
+) -> Result<Offers, OutOfMemory>
+    requires goal { goal < length graph.now }
+    requires small { Each IsSmall defs.now.list }
+    ensures links { IfOk result (λ o. OffersLinks (theory defs.now program.now) graph.now goal o.links.items) }
+    ensures rules { IfOk result (λ o. OffersRules (theory defs.now program.now) graph.now goal o.rules.items) }
+{
+    let at = Setting {
+        defs,
+        program,
+        judgement: graph.node(goal).judgement,
+    };
+    let rules = rules_before(alloc, &at)?;
+    if !rules.is_empty() {
+        return Ok(Offers {
+            links: Vec::new(alloc),
+            rules,
+        });
+    }
+    Ok(Offers {
+        links: candidates(alloc, program, graph, goal, at.judgement)?,
+        rules: rules_after(alloc, &at, graph, goal)?,
+    })
+}

@@ -1,0 +1,79 @@
+// What is assumed, and which rules have no fault.
+ghost use Rattle.std.specs.Prelude.{◌≡◌, IfOk, OnOk, ◌++◌, false};
+ghost use Rattle.std.specs.List.{filter, list_any};
+ghost use Rattle.fold_offers.specs.Places.{first_that};
+ghost use Rattle.search_moves.specs.Trying.{goes as goes_at};
+ghost use Rattle.search_moves.specs.Settings.{theory_of};
+
+use cyc_memory::OutOfMemory;
+use goto_lang::Program;
+use heap_formula::{Judgement, Rule, RuleError};
+use pred_defs::Defs;
+use rule_book::premises;
+use std::alloc::Global;
+
+/// A judgement, and what is assumed: the definitions and the program.
+#[derive(Clone, Copy)]
+pub struct Setting<'a> {
+    pub defs: &'a Defs,
+    pub program: &'a Program,
+    pub judgement: &'a Judgement,
+}
+
+/// Whether the rule has no fault.
+pub fn goes(alloc: Global, at: &Setting<'_>, rule: &Rule) -> Result<bool, OutOfMemory>
+    ensures { IfOk result (λ b. b ≡ goes_at (theory_of at.now) at.now.judgement.now rule.now) }
+{
+    match premises(alloc, at.defs, at.program, at.judgement, rule) {
+        Ok(_) => Ok(true),
+        Err(RuleError::Fault(_)) => Ok(false),
+        Err(RuleError::OutOfMemory) => Err(OutOfMemory),
+    }
+}
+
+/// The rules without a fault.
+pub fn those_that_go(
+    alloc: Global,
+    at: &Setting<'_>,
+    rules: Vec<Rule>,
+) -> Result<Vec<Rule>, OutOfMemory>
+    ensures { IfOk result (λ v. v.items ≡ filter (goes_at (theory_of at.now) at.now.judgement.now) rules.items) }
+{
+    let mut kept = Vec::new(alloc);
+    for rule in rules {
+        if goes(alloc, at, &rule)? {
+            kept.push(rule)?;
+        }
+    }
+    Ok(kept)
+}
+
+/// The first rule without a fault.
+pub fn first_that_goes(
+    alloc: Global,
+    at: &Setting<'_>,
+    rules: Vec<Rule>,
+) -> Result<Vec<Rule>, OutOfMemory>
+    ensures { IfOk result (λ v. v.items ≡ first_that (goes_at (theory_of at.now) at.now.judgement.now) rules.items) }
+{
+    let mut kept = Vec::new(alloc);
+    for rule in rules {
+        if goes(alloc, at, &rule)? {
+            kept.push(rule)?;
+            return Ok(kept);
+        }
+    }
+    Ok(kept)
+}
+
+/// Whether one of the rules has no fault.
+pub fn some_goes(alloc: Global, at: &Setting<'_>, rules: &[Rule]) -> Result<bool, OutOfMemory>
+    ensures { IfOk result (λ b. b ≡ list_any (goes_at (theory_of at.now) at.now.judgement.now) rules.now) }
+{
+    for rule in rules {
+        if goes(alloc, at, rule)? {
+            return Ok(true);
+        }
+    }
+    Ok(false)
+}

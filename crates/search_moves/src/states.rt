@@ -1,0 +1,178 @@
+// The rules at a symbolic state of a program, line by line.
+ghost use Rattle.std.specs.Prelude.{◌≡◌, ◌≤◌, ◌<◌, ◌++◌, IfOk, length};
+ghost use Rattle.std.specs.List.{list_any};
+ghost use Rattle.heap_formula.specs.Programs.{counted_from_one};
+ghost use Rattle.rule_table.specs.ExecTable.{exec_answer};
+ghost use Rattle.rule_table.specs.Tests.{equated as are_equated};
+ghost use Rattle.search_moves.specs.Settings.{theory_of};
+ghost use Rattle.search_moves.specs.States.{is_stop as is_stop_command, wanted_cell as wanted_by, reaches as reaches_term, unfolds_at as unfolds_at_term, unfolds_if, stops_that_go, misses_cell as exec_misses, folds_if, state_before, state_after};
+ghost use Rattle.heap_formula.specs.Words.{Each};
+ghost use Rattle.fold_offers.specs.Limits.{HasFewParameters};
+
+use crate::entailments::{joined, rule_alone};
+use crate::equations::state_rewrites;
+use crate::setting::{Setting, those_that_go};
+use crate::ways::{came_by_exec, was_worked_on};
+use cyc_memory::OutOfMemory;
+use fold_offers::folds;
+use goto_lang::Program;
+use heap_formula::{Command, Heap, Pure, Rule, RuleError, RuleFault, Spatial, Term};
+use proof_graph::Graph;
+use rule_book::premises;
+use rule_table::equated;
+use std::alloc::Global;
+
+/// The command of a line, if there is such a line.
+pub fn command_at(program: &Program, line: u32) -> Option<Command>
+    ensures { result ≡ counted_from_one program.now line }
+{
+    if line == 0 {
+        return None;
+    }
+    program.lines().get(line as usize - 1).copied()
+}
+
+fn is_stop(command: Option<Command>) -> bool
+    ensures { result ≡ is_stop_command command }
+{
+    matches!(command, Some(Command::Stop))
+}
+
+/// The address at which a command wants a cell.
+fn wanted_cell(command: Option<Command>) -> Option<Term>
+    ensures { result ≡ wanted_by command }
+{
+    match command? {
+        Command::Load(_, t, _) | Command::Store(t, _, _) | Command::Free(t) => Some(t),
+        _ => None,
+    }
+}
+
+fn one_is_equated(pures: &[Pure], term: Term, args: &[Term]) -> bool
+    ensures { result ≡ list_any (λ u. are_equated pures.now u term) args.now }
+{
+    for arg in args {
+        if equated(pures, *arg, term) {
+            return true;
+        }
+    }
+    false
+}
+
+fn reaches(pures: &[Pure], term: Term, atom: &Spatial) -> bool
+    ensures { result ≡ reaches_term pures.now term atom.now }
+{
+    match atom {
+        Spatial::Cell(_, _) => false,
+        Spatial::Pred(_, args) => one_is_equated(pures, term, args.as_slice()),
+    }
+}
+
+/// Unfold for each predicate that may have a cell at the term.
+fn unfolds_at(alloc: Global, state: &Heap, term: Term) -> Result<Vec<Rule>, OutOfMemory>
+    ensures { IfOk result (λ v. v.items ≡ unfolds_at_term state.now term) }
+{
+    let mut rules = Vec::new(alloc);
+    for (k, atom) in state.spatial().iter().enumerate() {
+        if reaches(state.pure(), term, atom) {
+            rules.push(Rule::Unfold(k as u32))?;
+        }
+    }
+    Ok(rules)
+}
+
+fn misses_cell(alloc: Global, at: &Setting<'_>) -> Result<bool, OutOfMemory>
+    ensures { IfOk result (λ b. b ≡ exec_misses (exec_answer at.now.defs.now.most at.now.program.now at.now.judgement.now)) }
+{
+    match premises(alloc, at.defs, at.program, at.judgement, &Rule::Exec) {
+        Ok(_) => Ok(false),
+        Err(RuleError::Fault(fault)) => Ok(matches!(fault, RuleFault::NoCell)),
+        Err(RuleError::OutOfMemory) => Err(OutOfMemory),
+    }
+}
+
+/// Where Exec wants a cell and there is none: Unfold for the predicates that may have it.
+fn missing_unfolds(
+    alloc: Global,
+    at: &Setting<'_>,
+    line: u32,
+    state: &Heap,
+) -> Result<Vec<Rule>, OutOfMemory>
+    ensures { IfOk result (λ v. v.items ≡ unfolds_if (exec_misses (exec_answer at.now.defs.now.most at.now.program.now at.now.judgement.now)) state.now (counted_from_one at.now.program.now line)) }
+{
+    if !misses_cell(alloc, at)? {
+        return Ok(Vec::new(alloc));
+    }
+    match wanted_cell(command_at(at.program, line)) {
+        None => Ok(Vec::new(alloc)),
+        Some(term) => unfolds_at(alloc, state, term),
+    }
+}
+
+/// Exec at `stop`.
+fn stops(alloc: Global, at: &Setting<'_>, line: u32) -> Result<Vec<Rule>, OutOfMemory>
+    ensures { IfOk result (λ v. v.items ≡ stops_that_go (theory_of at.now) at.now.judgement.now line) }
+{
+    if !is_stop(command_at(at.program, line)) {
+        return Ok(Vec::new(alloc));
+    }
+    rule_alone(alloc, at, Rule::Exec)
+}
+
+/// What goes before links at a state.
+pub fn rules_before(
+    alloc: Global,
+    at: &Setting<'_>,
+    line: u32,
+    state: &Heap,
+) -> Result<Vec<Rule>, OutOfMemory>
+    ensures { IfOk result (λ v. v.items ≡ state_before (theory_of at.now) at.now.judgement.now line state.now) }
+{
+    let rules = rule_alone(alloc, at, Rule::Absurd)?;
+    if !rules.is_empty() {
+        return Ok(rules);
+    }
+    let rules = stops(alloc, at, line)?;
+    if !rules.is_empty() {
+        return Ok(rules);
+    }
+    state_rewrites(alloc, at.program.variables(), state)
+}
+
+/// The folds, where Exec stands above and the line was worked on before.
+fn folds_behind_exec(
+    alloc: Global,
+    at: &Setting<'_>,
+    graph: &Graph,
+    goal: u32,
+    line: u32,
+    state: &Heap,
+) -> Result<Vec<Rule>, OutOfMemory>
+    requires goal { goal < length graph.now }
+    requires parameters { Each HasFewParameters at.now.defs.now.list }
+    ensures { IfOk result (λ v. v.items ≡ folds_if (theory_of at.now) graph.now goal line state.now) }
+{
+    if came_by_exec(graph, goal) && was_worked_on(graph, goal, line) {
+        return folds(alloc, state, at.defs.as_slice());
+    }
+    Ok(Vec::new(alloc))
+}
+
+/// What comes at a state where no link is admitted.
+pub fn rules_after(
+    alloc: Global,
+    at: &Setting<'_>,
+    graph: &Graph,
+    goal: u32,
+    line: u32,
+    state: &Heap,
+) -> Result<Vec<Rule>, OutOfMemory>
+    requires goal { goal < length graph.now }
+    requires parameters { Each HasFewParameters at.now.defs.now.list }
+    ensures { IfOk result (λ v. v.items ≡ state_after (theory_of at.now) graph.now goal at.now.judgement.now line state.now) }
+{
+    let mut rules = folds_behind_exec(alloc, at, graph, goal, line, state)?;
+    rules.push(Rule::Exec)?;
+    let rules = joined(rules, missing_unfolds(alloc, at, line, state)?)?;
+    those_that_go(alloc, at, rules)
+}
