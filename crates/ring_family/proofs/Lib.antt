@@ -1,0 +1,14 @@
+pub mod Blocks
+pub mod Turning
+pub mod Answers
+pub mod Right
+pub mod Graphs
+pub mod Places
+pub mod States
+pub mod Names
+pub mod Members
+pub mod Flawless
+pub mod Fitting
+pub mod Readable
+pub mod Growing
+pub mod Correct

@@ -1,0 +1,49 @@
+// A file of the family.
+ghost use Rattle.std.specs.Prelude.{◌≡◌, ◌≤◌, ◌+◌, ◌*◌, [], IfOk};
+ghost use Rattle.buchi_inclusion.specs.Answers.{HasAtMost, HasMoreThan};
+ghost use Rattle.proof_check.specs.Files.{nodes_of};
+ghost use Rattle.proof_check.specs.Verdicts.{file_graph, IsCorrect};
+ghost use Rattle.ring_family.specs.Ring.{ring_definitions, ring_nodes};
+
+use crate::definitions::definitions;
+use crate::nodes::nodes;
+use cyc_memory::OutOfMemory;
+use goto_lang::Program;
+use pred_defs::Defs;
+use proof_file::{FileNodes, ProofFile};
+use std::alloc::Global;
+
+/// The proof that the first of k list predicates, each of which leads to the next in a ring, entails the plain list: k
+/// blocks of eight nodes, and a link to the first.
+pub fn ring_file(alloc: Global, k: u32) -> Result<ProofFile, OutOfMemory>
+    requires from_one { 1 ≤ k }
+    requires most { k ≤ 2000 }
+    ensures version { IfOk result (λ f. f.version ≡ 1) }
+    ensures definitions { IfOk result (λ f. f.defs ≡ record { most = 16; list = ring_definitions k }) }
+    ensures program { IfOk result (λ f. f.program ≡ []) }
+    ensures nodes { IfOk result (λ f. nodes_of f.nodes ≡ ring_nodes k) }
+    ensures correct { IfOk result IsCorrect }
+    ensures at_most { IfOk result (λ f. HasAtMost (file_graph f) (8 * k + 1)) }
+    ensures at_least { IfOk result (λ f. HasMoreThan (file_graph f) (8 * k)) }
+{
+    let count = k as u16;
+    let defs = Defs::from_vec(alloc, 16, definitions(alloc, count)?);
+    let nodes = FileNodes::from_vec(nodes(alloc, count)?);
+    let program = empty_program(alloc)?;
+    Ok(ProofFile {
+        version: 1,
+        defs,
+        program,
+        nodes,
+    })
+}
+
+/// The program without lines, which has no fault.
+fn empty_program(alloc: Global) -> Result<Program, OutOfMemory>
+    ensures { IfOk result (λ p. p ≡ []) }
+{
+    match Program::new(alloc, &[]) {
+        Ok(program) => Ok(program),
+        Err(_) => Err(OutOfMemory),
+    }
+}
