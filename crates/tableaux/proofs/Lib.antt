@@ -1,0 +1,7 @@
+pub mod Grown
+pub mod Waiting
+pub mod Rows
+pub mod Graphs
+pub mod Steps
+pub mod Found
+pub mod Replays

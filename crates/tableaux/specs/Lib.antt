@@ -1,0 +1,5 @@
+pub mod Tableau
+pub mod Room
+pub mod Search
+pub mod Fair
+pub mod Nodes
