@@ -1,0 +1,206 @@
+-- A heap within the limits: how long its lists are, the numbers of its terms, and the shapes of its spatial atoms.
+use Rattle.std.proofs.Common.{◌≡◌, ℕ, zero, suc, ◌≤◌, Bool, true, false, ◌&&◌, List, [], ◌∷◌, map, length, Option, Some, None, refl, sym, subst, arith, leb-true, le-leb}
+use Rattle.std.proofs.lemmas.List.{length-map}
+use Rattle.std.specs.Prelude.{nat_le, slice_get, slice_set}
+use Rattle.heap_formula.specs.declared.terms.Term.{Term}
+use Rattle.heap_formula.specs.declared.atoms.Pure.{Pure}
+use Rattle.heap_formula.specs.declared.atoms.Pure.TheVariants.{Eq, Neq}
+use Rattle.heap_formula.specs.declared.atoms.Spatial.{Spatial}
+use Rattle.heap_formula.specs.declared.atoms.Spatial.TheVariants.{Cell, Pred}
+use Rattle.heap_formula.specs.Closedness.{InPure, InSpatial, InHeap}
+use Rattle.heap_formula.specs.Definitions.{Definition}
+use Rattle.heap_formula.specs.Positions.{without, chosen, chosen_step}
+use Rattle.heap_formula.specs.Substitution.{in_pure, in_spatial, in_heap}
+use Rattle.heap_formula.specs.Symbolic.{SymbolicHeap}
+use Rattle.heap_formula.specs.Words.{Each, max_of}
+use Rattle.pred_defs.specs.Faults.{or_later, first_fault, use_fault, arity_fault}
+use Rattle.pred_defs.specs.declared.faults.DefFault.{DefFault}
+use Rattle.rule_table.specs.Answer.{number_bound, pure_numbers, spatial_numbers, heap_numbers, is_short, has_numbers}
+use Rattle.rule_table.proofs.Reflects.{both}
+use Rattle.format_limits.specs.Limits.{HasFields, IsHeapWithin}
+
+-- ---- lists
+
+pub Each-map : {X Y : Type 0} (P : X → Type 0) (Q : Y → Type 0) (f : X → Y) → ((x : X) → P x → Q (f x)) → (xs : List X) → Each P xs → Each Q (map f xs)
+Each-map P Q f g [] e = tt
+Each-map P Q f g (x ∷ xs) e = (g x e.0, Each-map P Q f g xs e.1)
+
+pub Each-set : {X : Type 0} (P : X → Type 0) (xs : List X) (k : ℕ) (x : X) → P x → Each P xs → Each P (slice_set xs k x)
+Each-set P [] k x p e = tt
+Each-set P (y ∷ xs) zero x p e = (p, e.1)
+Each-set P (y ∷ xs) (suc k) x p e = (e.0, Each-set P xs k x p e.1)
+
+pub Each-chosen : {X : Type 0} (P : X → Type 0) (xs : List X) (p : ℕ → Bool) → Each P xs → Each P (chosen p xs)
+Each-chosen P [] p e = tt
+Each-chosen P (x ∷ xs) p e = step P (p 0) x (chosen (λ k. p (suc k)) xs) e.0 (Each-chosen P xs (λ k. p (suc k)) e.1)
+  where
+    step : {X : Type 0} (P : X → Type 0) (b : Bool) (x : X) (ys : List X) → P x → Each P ys → Each P (chosen_step b x ys)
+    step P true x ys a e = (a, e)
+    step P false x ys a e = e
+
+pub length-without : {X : Type 0} (xs : List X) (k : ℕ) → length (without k xs) ≤ length xs
+length-without [] k = omega arith
+length-without (x ∷ xs) zero = omega arith
+length-without (x ∷ xs) (suc k) = let r = length-without xs k in omega arith
+
+pub length-slice_set : {X : Type 0} (xs : List X) (k : ℕ) (x : X) → length (slice_set xs k x) ≡ length xs
+length-slice_set [] k x = refl
+length-slice_set (y ∷ xs) zero x = omega arith
+length-slice_set (y ∷ xs) (suc k) x = let r = length-slice_set xs k x in omega arith
+
+-- the greatest of a list's numbers
+pub max_each : {X : Type 0} (n : X → ℕ) (m : ℕ) (xs : List X) → max_of (map n xs) ≤ m → Each (λ x. n x ≤ m) xs
+max_each n m [] h = tt
+max_each n m (x ∷ xs) h = (omega arith, max_each n m xs (omega arith))
+
+pub each_max : {X : Type 0} (n : X → ℕ) (m : ℕ) (xs : List X) → Each (λ x. n x ≤ m) xs → max_of (map n xs) ≤ m
+each_max n m [] e = omega arith
+each_max n m (x ∷ xs) e = let here = e.0 in let r = each_max n m xs e.1 in omega arith
+
+pub each_of : {X : Type 0} (P Q : X → Type 0) → ((x : X) → P x → Q x) → (xs : List X) → Each P xs → Each Q xs
+each_of P Q g [] e = tt
+each_of P Q g (x ∷ xs) e = (g x e.0, each_of P Q g xs e.1)
+
+-- ---- numbers
+
+-- the number of a variable passes no limit
+abbrev pub IsLow : Term → Type 0
+IsLow t = number_bound t ≤ 65535
+
+low_pure : (x : Pure) → pure_numbers x ≤ 65535 → InPure IsLow x
+low_pure (Eq t u) h = (omega arith, omega arith)
+low_pure (Neq t u) h = (omega arith, omega arith)
+
+pure_low : (x : Pure) → InPure IsLow x → pure_numbers x ≤ 65535
+pure_low (Eq t u) q = let a = q.0 in let b = q.1 in omega arith
+pure_low (Neq t u) q = let a = q.0 in let b = q.1 in omega arith
+
+low_spatial : (x : Spatial) → spatial_numbers x ≤ 65535 → InSpatial IsLow x
+low_spatial (Cell t ts) h = (omega arith, max_each number_bound 65535 ts (omega arith))
+low_spatial (Pred p ts) h = max_each number_bound 65535 ts h
+
+spatial_low : (x : Spatial) → InSpatial IsLow x → spatial_numbers x ≤ 65535
+spatial_low (Cell t ts) q = let a = q.0 in let b = each_max number_bound 65535 ts q.1 in omega arith
+spatial_low (Pred p ts) q = each_max number_bound 65535 ts q
+
+low_heap : (a : SymbolicHeap) → has_numbers a ≡ true → InHeap IsLow a
+low_heap a e =
+    let h : heap_numbers a ≤ 65535 = leb-true (heap_numbers a) 65535 e in (
+      each_of (λ x. pure_numbers x ≤ 65535) (InPure IsLow) low_pure a.pure (max_each pure_numbers 65535 a.pure (omega arith)),
+      each_of (λ x. spatial_numbers x ≤ 65535) (InSpatial IsLow) low_spatial a.spatial (max_each spatial_numbers 65535 a.spatial (omega arith)),
+    )
+
+heap_low : (a : SymbolicHeap) → InHeap IsLow a → has_numbers a ≡ true
+heap_low a q =
+    let p = each_max pure_numbers 65535 a.pure (each_of (InPure IsLow) (λ x. pure_numbers x ≤ 65535) pure_low a.pure q.0) in
+    let s = each_max spatial_numbers 65535 a.spatial (each_of (InSpatial IsLow) (λ x. spatial_numbers x ≤ 65535) spatial_low a.spatial q.1) in
+    le-leb (heap_numbers a) 65535 (omega arith)
+
+-- ---- shapes
+
+-- a cell of one to eight fields, or a known predicate with its number of arguments
+abbrev pub IsShaped : List Definition → Spatial → Type 0
+IsShaped ds x = (use_fault ds x ≡ None) × HasFields x
+
+neither : (o p : Option DefFault) → or_later o p ≡ None → (o ≡ None) × (p ≡ None)
+neither None p e = (refl, e)
+neither (Some f) p e = cc
+
+no_later : (o p : Option DefFault) → o ≡ None → p ≡ None → or_later o p ≡ None
+no_later None p d e = e
+no_later (Some f) p d e = cc
+
+pub are_shaped : (ds : List Definition) (xs : List Spatial) → first_fault (use_fault ds) xs ≡ None → Each HasFields xs → Each (IsShaped ds) xs
+are_shaped ds [] e f = tt
+are_shaped ds (x ∷ xs) e f =
+    let n = neither (use_fault ds x) (first_fault (use_fault ds) xs) e in ((n.0, f.0), are_shaped ds xs n.1 f.1)
+
+are_known : (ds : List Definition) (xs : List Spatial) → Each (IsShaped ds) xs → first_fault (use_fault ds) xs ≡ None
+are_known ds [] s = refl
+are_known ds (x ∷ xs) s = no_later (use_fault ds x) (first_fault (use_fault ds) xs) s.0.0 (are_known ds xs s.1)
+
+-- a map of terms keeps the shape
+pub shape_after : (ds : List Definition) (f : Term → Term) (x : Spatial) → IsShaped ds x → IsShaped ds (in_spatial f x)
+shape_after ds f (Cell t ts) s =
+    let e = length-map ts f in
+    let a = s.1.0 in
+    let b = s.1.1 in (refl, (omega arith, omega arith))
+shape_after ds f (Pred q ts) s =
+    let e = length-map ts f in (subst (λ n. arity_fault (slice_get ds q) n ≡ None) (sym e) s.0, tt)
+
+pub shapes_after : (ds : List Definition) (f : Term → Term) (xs : List Spatial) → Each (IsShaped ds) xs → Each (IsShaped ds) (map (in_spatial f) xs)
+shapes_after ds f = Each-map (IsShaped ds) (IsShaped ds) (in_spatial f) (shape_after ds f)
+
+-- ---- heaps
+
+pub record IsSmall (ds : List Definition) (a : SymbolicHeap) : Type 0 where
+  pub pures : length a.pure ≤ 64
+  pub spatials : length a.spatial ≤ 16
+  pub low : InHeap IsLow a
+  pub shaped : Each (IsShaped ds) a.spatial
+
+pub short_pures : (most : ℕ) (a : SymbolicHeap) → is_short most a ≡ true → length a.pure ≤ 64
+short_pures most a e =
+    leb-true (length a.pure) 64 (both (nat_le (length a.pure) 64) (nat_le (length a.spatial) most) e).0
+
+pub short_spatials : (most : ℕ) (a : SymbolicHeap) → is_short most a ≡ true → length a.spatial ≤ most
+short_spatials most a e =
+    leb-true (length a.spatial) most (both (nat_le (length a.pure) 64) (nat_le (length a.spatial) most) e).1
+
+both_true : (p q : Bool) → p ≡ true → q ≡ true → p && q ≡ true
+both_true true q d e = e
+both_true false q d e = d
+
+pub small : (ds : List Definition) (a : SymbolicHeap) → IsHeapWithin ds a → IsSmall ds a
+small ds a h =
+    record {
+      pures = short_pures 16 a h.short;
+      spatials = short_spatials 16 a h.short;
+      low = low_heap a h.numbers;
+      shaped = are_shaped ds a.spatial h.known h.fields;
+    }
+
+pub within : (ds : List Definition) (a : SymbolicHeap) → IsSmall ds a → IsHeapWithin ds a
+within ds a h =
+    record {
+      short = both_true (nat_le (length a.pure) 64) (nat_le (length a.spatial) 16) (le-leb (length a.pure) 64 h.pures) (le-leb (length a.spatial) 16 h.spatials);
+      numbers = heap_low a h.low;
+      known = are_known ds a.spatial h.shaped;
+      fields = each_of (IsShaped ds) HasFields (λ x s. s.1) a.spatial h.shaped;
+    }
+
+-- what a test of its numbers and its length leaves to be shown
+pub within_tested : (ds : List Definition) (most : ℕ) (a : SymbolicHeap) → is_short most a ≡ true → has_numbers a ≡ true → (length a.spatial ≤ most → length a.spatial ≤ 16) → Each (IsShaped ds) a.spatial → IsHeapWithin ds a
+within_tested ds most a s n few shaped =
+    within ds a (record { pures = short_pures most a s; spatials = few (short_spatials most a s); low = low_heap a n; shaped = shaped })
+
+-- ---- a map of terms
+
+module _ (f : Term → Term) (g : (t : Term) → IsLow t → IsLow (f t)) where
+  low_pure_after : (x : Pure) → InPure IsLow x → InPure IsLow (in_pure f x)
+  low_pure_after (Eq t u) q = (g t q.0, g u q.1)
+  low_pure_after (Neq t u) q = (g t q.0, g u q.1)
+
+  low_spatial_after : (x : Spatial) → InSpatial IsLow x → InSpatial IsLow (in_spatial f x)
+  low_spatial_after (Cell t ts) q = (g t q.0, Each-map IsLow IsLow f g ts q.1)
+  low_spatial_after (Pred p ts) q = Each-map IsLow IsLow f g ts q
+
+  pub low_pures_after : (xs : List Pure) → Each (InPure IsLow) xs → Each (InPure IsLow) (map (in_pure f) xs)
+  low_pures_after = Each-map (InPure IsLow) (InPure IsLow) (in_pure f) low_pure_after
+
+  pub low_spatials_after : (xs : List Spatial) → Each (InSpatial IsLow) xs → Each (InSpatial IsLow) (map (in_spatial f) xs)
+  low_spatials_after = Each-map (InSpatial IsLow) (InSpatial IsLow) (in_spatial f) low_spatial_after
+
+  pub within_after : (ds : List Definition) (a : SymbolicHeap) → IsHeapWithin ds a → IsHeapWithin ds (in_heap f a)
+  within_after ds a h =
+      let s = small ds a h in
+      let p = length-map a.pure (in_pure f) in
+      let q = length-map a.spatial (in_spatial f) in
+      let m = s.pures in
+      let n = s.spatials in
+      within ds (in_heap f a) (record {
+        pures = omega arith;
+        spatials = omega arith;
+        low = (low_pures_after a.pure s.low.0, low_spatials_after a.spatial s.low.1);
+        shaped = shapes_after ds f a.spatial s.shaped;
+      })

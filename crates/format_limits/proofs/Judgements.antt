@@ -1,0 +1,79 @@
+-- Premises within the limits, but for existentials.
+use Rattle.std.proofs.Common.{◌≡◌, ℕ, ◌≤◌, true, List, [], ◌∷◌, length, arith}
+use Rattle.std.proofs.lemmas.List.{length-map}
+use Rattle.heap_formula.specs.declared.judgements.Judgement.{Judgement}
+use Rattle.heap_formula.specs.declared.judgements.Judgement.TheVariants.{Entail, Term as Runs}
+use Rattle.heap_formula.specs.declared.judgements.Premise.{Premise}
+use Rattle.heap_formula.specs.Definitions.{Definition}
+use Rattle.heap_formula.specs.Judgements.{antecedent, with_antecedent}
+use Rattle.heap_formula.specs.Substitution.{Bindings, apply_heap, apply_judgement}
+use Rattle.heap_formula.specs.Symbolic.{SymbolicHeap}
+use Rattle.heap_formula.specs.Words.{Each}
+use Rattle.rule_table.specs.Answer.{heaps_of, every, each_heap, is_short, has_numbers, limited}
+use Rattle.rule_table.specs.Fits.{OnPremises}
+use Rattle.rule_table.proofs.Reflects.{both}
+use Rattle.format_limits.specs.Limits.{IsHeapWithin, IsFormWithin}
+use Rattle.format_limits.proofs.Heaps.{Each-map, IsShaped, small, within_tested}
+use Rattle.format_limits.proofs.Gives.{limited_gives}
+
+-- the antecedent and the other heaps
+pub heaps_with : (P : SymbolicHeap → Type 0) (j : Judgement) (a : SymbolicHeap) → P a → Each P (heaps_of j) → Each P (heaps_of (with_antecedent j a))
+heaps_with P (Entail b bs) a p h = (p, h.1)
+heaps_with P (Runs i b) a p h = (p, tt)
+
+pub first_heap : (P : SymbolicHeap → Type 0) (j : Judgement) → Each P (heaps_of j) → P (antecedent j)
+first_heap P (Entail b bs) h = h.0
+first_heap P (Runs i b) h = h.0
+
+pub heaps_map : (P Q : SymbolicHeap → Type 0) (s : Bindings) (j : Judgement) → ((a : SymbolicHeap) → P a → Q (apply_heap s a)) → Each P (heaps_of j) → Each Q (heaps_of (apply_judgement s j))
+heaps_map P Q s (Entail a bs) g h = (g a h.0, Each-map P Q (apply_heap s) g bs h.1)
+heaps_map P Q s (Runs i a) g h = (g a h.0, tt)
+
+pub form_with : (n : ℕ) (j : Judgement) (a : SymbolicHeap) → IsFormWithin n j → IsFormWithin n (with_antecedent j a)
+form_with n (Entail b bs) a f = f
+form_with n (Runs i b) a f = f
+
+pub form_map : (n : ℕ) (s : Bindings) (j : Judgement) → IsFormWithin n j → IsFormWithin n (apply_judgement s j)
+form_map n s (Entail a bs) f =
+    let e = length-map bs (apply_heap s) in
+    let some = f.0 in
+    let few = f.1 in (omega arith, omega arith)
+form_map n s (Runs i a) f = f
+
+module _ (ds : List Definition) (n : ℕ) where
+  -- the heaps and the form are within the limits
+  abbrev pub IsNearly : Premise → Type 0
+  IsNearly p = Each (IsHeapWithin ds) (heaps_of p.judgement) × IsFormWithin n p.judgement
+
+  -- but for the counts of pure atoms and the numbers, and for that of spatial atoms if it is at most `most`
+  abbrev pub IsReadyHeap : ℕ → SymbolicHeap → Type 0
+  IsReadyHeap most a = (length a.spatial ≤ most → length a.spatial ≤ 16) × Each (IsShaped ds) a.spatial
+
+  abbrev pub IsReady : ℕ → Premise → Type 0
+  IsReady most p = Each (IsReadyHeap most) (heaps_of p.judgement) × IsFormWithin n p.judgement
+
+  pub ready : (most : ℕ) (a : SymbolicHeap) → IsHeapWithin ds a → IsReadyHeap most a
+  ready most a h = let s = small ds a h in ((λ _. s.spatials), s.shaped)
+
+  pub all_ready : (most : ℕ) (xs : List SymbolicHeap) → Each (IsHeapWithin ds) xs → Each (IsReadyHeap most) xs
+  all_ready most [] e = tt
+  all_ready most (a ∷ xs) e = (ready most a e.0, all_ready most xs e.1)
+
+  heaps_tested : (most : ℕ) (xs : List SymbolicHeap) → every (is_short most) xs ≡ true → every has_numbers xs ≡ true → Each (IsReadyHeap most) xs → Each (IsHeapWithin ds) xs
+  heaps_tested most [] s l e = tt
+  heaps_tested most (a ∷ xs) s l e =
+      let s' = both (is_short most a) (every (is_short most) xs) s in
+      let l' = both (has_numbers a) (every has_numbers xs) l in
+      (within_tested ds most a s'.0 l'.0 e.0.0 e.0.1, heaps_tested most xs s'.1 l'.1 e.1)
+
+  premises_tested : (most : ℕ) (ps : List Premise) → each_heap (is_short most) ps ≡ true → each_heap has_numbers ps ≡ true → Each (IsReady most) ps → Each IsNearly ps
+  premises_tested most [] s l e = tt
+  premises_tested most (p ∷ ps) s l e =
+      let s' = both (every (is_short most) (heaps_of p.judgement)) (each_heap (is_short most) ps) s in
+      let l' = both (every has_numbers (heaps_of p.judgement)) (each_heap has_numbers ps) l in
+      ((heaps_tested most (heaps_of p.judgement) s'.0 l'.0 e.0.0, e.0.1), premises_tested most ps s'.1 l'.1 e.1)
+
+  -- the last tests of a rule that adds atoms
+  pub limited_nearly : (most : ℕ) (ps : List Premise) → Each (IsReady most) ps → OnPremises IsNearly (limited most ps)
+  limited_nearly most ps e =
+      limited_gives (OnPremises IsNearly) (λ f. tt) most ps (λ s l. premises_tested most ps s l e)

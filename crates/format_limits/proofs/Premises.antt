@@ -1,0 +1,71 @@
+-- The premises of a rule are within the limits.
+use Rattle.std.proofs.Common.{◌≡◌, ℕ, suc, List, [], ◌∷◌, length, Some, refl, subst}
+use Rattle.std.specs.Prelude.{Ok, slice_get}
+use Rattle.heap_formula.specs.declared.commands.Command.{Command}
+use Rattle.heap_formula.specs.declared.commands.Command.TheVariants.{Assign, Load, Store, New, Free, IfEq, IfNeq, Goto, Stop}
+use Rattle.heap_formula.specs.declared.judgements.Judgement.{Judgement}
+use Rattle.heap_formula.specs.declared.judgements.Premise.{Premise}
+use Rattle.heap_formula.specs.declared.proof_rules.Rule.{Rule}
+use Rattle.heap_formula.specs.declared.proof_rules.Rule.TheVariants.{Absurd, Rewrite, Split, Distinct, Weaken, Unfold, Cut, Done, Choose, PureRight, Instantiate, Frame, UnfoldRight, Exec, Drop}
+use Rattle.heap_formula.specs.Definitions.{Definition}
+use Rattle.heap_formula.specs.Words.{Each}
+use Rattle.goto_lang.specs.Lines.{IsUniversalCommand, MayStandAt, IsProgram}
+use Rattle.rule_table.specs.Answer.{Answer}
+use Rattle.rule_table.specs.Fits.{OnPremises}
+use Rattle.rule_table.specs.RuleBook.{rule_answer}
+use Rattle.rule_table.specs.Soundness.{IsCommand, HasUniversalTerms, IsUniversalPremise}
+use Rattle.rule_table.proofs.Keeps.{rule_keeps}
+use Rattle.format_limits.specs.Limits.{IsJudgementWithin, IsPremiseWithin, IsDefinitionWithin, IsRuleWithin}
+use Rattle.format_limits.proofs.Judgements.{IsNearly}
+use Rattle.format_limits.proofs.Within.{rule_nearly}
+
+-- ---- commands
+
+is_command : (n i : ℕ) (c : Command) → MayStandAt n i c → IsUniversalCommand c → IsCommand c
+is_command n i (Assign x t) m u = u
+is_command n i (Load x t k) m u = u
+is_command n i (Store t k v) m u = u
+is_command n i (New x k) m u = m.1.0
+is_command n i (Free t) m u = u
+is_command n i (IfEq t v j) m u = u
+is_command n i (IfNeq t v j) m u = u
+is_command n i (Goto j) m u = tt
+is_command n i Stop m u = tt
+
+are_commands : (n : ℕ) (cs : List Command) → ((k : ℕ) (c : Command) → slice_get cs k ≡ Some c → (m : ℕ) × MayStandAt n m c) → Each IsUniversalCommand cs → Each IsCommand cs
+are_commands n [] f u = tt
+are_commands n (c ∷ cs) f u =
+    let m = f 0 c refl in (is_command n m.0 c m.1 u.0, are_commands n cs (λ k. f (suc k)) u.1)
+
+program_commands : (lines : List Command) → IsProgram lines → Each IsCommand lines
+program_commands lines p =
+    are_commands (length lines) lines (λ k c at. (suc k, p.commands (suc k) c at)) p.universal
+
+-- ---- within
+
+universal_terms : (ds : List Definition) (rule : Rule) → IsRuleWithin ds rule → HasUniversalTerms rule
+universal_terms ds Absurd r = tt
+universal_terms ds (Rewrite k side) r = tt
+universal_terms ds (Split t u) r = (r.0.0, r.1.0)
+universal_terms ds (Distinct i k) r = tt
+universal_terms ds (Weaken k) r = tt
+universal_terms ds (Unfold k) r = tt
+universal_terms ds (Cut places f) r = tt
+universal_terms ds Done r = tt
+universal_terms ds (Choose k) r = tt
+universal_terms ds (PureRight k) r = tt
+universal_terms ds (Instantiate v t) r = tt
+universal_terms ds (Frame i k) r = tt
+universal_terms ds (UnfoldRight k c) r = tt
+universal_terms ds Exec r = tt
+universal_terms ds (Drop k) r = tt
+
+all_within : (ds : List Definition) (n : ℕ) (ps : List Premise) → Each (IsNearly ds n) ps → Each IsUniversalPremise ps → Each (IsPremiseWithin ds n) ps
+all_within ds n [] h u = tt
+all_within ds n (p ∷ ps) h u = (record { heaps = h.0.0; universal = u.0; form = h.0.1 }, all_within ds n ps h.1 u.1)
+
+pub premises_within : (ds : List Definition) (lines : List Command) (j : Judgement) (rule : Rule) (ps : List Premise) → Each (IsDefinitionWithin ds) ds → IsProgram lines → IsJudgementWithin ds (length lines) j → IsRuleWithin ds rule → rule_answer 16 ds lines j rule ≡ Ok ps → Each (IsPremiseWithin ds (length lines)) ps
+premises_within ds lines j rule ps d g h r e =
+    let near = subst (λ (answer : Answer). OnPremises (IsNearly ds (length lines)) answer) e (rule_nearly ds lines j rule d g h r) in
+    let universal = subst (λ (answer : Answer). OnPremises IsUniversalPremise answer) e (rule_keeps 16 ds lines j rule h.universal (program_commands lines g) (universal_terms ds rule r)) in
+    all_within ds (length lines) ps near universal

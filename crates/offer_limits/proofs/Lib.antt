@@ -1,0 +1,7 @@
+pub mod Members
+pub mod HeapTerms
+pub mod Instances
+pub mod EntailmentLines
+pub mod Folding
+pub mod RulesWithin
+pub mod LinksWithin
