@@ -1,7 +1,7 @@
 pub mod FewEdges
 pub mod Holds
-mod SameJudgements
+pub mod SameJudgements
 mod PremiseLoops
 pub mod KeptFacts
-mod LinkPairs
 mod TestLoops
+pub mod OneAnswer

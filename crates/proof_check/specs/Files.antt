@@ -1,5 +1,5 @@
 -- A proof file as a list of nodes and as a trace graph.
-use Rattle.std.specs.Prelude.{◌≡◌, ◌≤◌, ℕ, length, List, map, Some, None, slice_get, slice_index}
+use Rattle.std.specs.Prelude.{◌≡◌, ◌≤◌, ℕ, length, List, map, Some, None, slice_get}
 use Rattle.heap_formula.specs.declared.commands.Command.{Command}
 use Rattle.heap_formula.specs.Definitions.{Definition}
 use Rattle.heap_formula.specs.Judgements.{antecedent}
@@ -7,10 +7,6 @@ use Rattle.rule_table.specs.Nodes.{Node, Edge, edges_of, node_fault, IsReadable}
 use Rattle.trace_pairs.specs.Graph.{Node as GraphNode, Edge as GraphEdge, IsPositionSet}
 use Rattle.proof_graph.specs.Traces.{positions_of, trace_edge}
 use Rattle.proof_file.specs.declared.node.FileNode.{FileNode}
-
--- a map's entry for a place, 0 past its end
-abbrev pub entry_of : List ℕ → ℕ → ℕ
-entry_of entries k = slice_index entries k
 
 abbrev pub graph_edge : Edge → GraphEdge
 graph_edge e = trace_edge e.target e.pairs

@@ -1,4 +1,4 @@
-// The law of correct files. The function does nothing.
+// The laws of correct files. The functions do nothing.
 ghost use Rattle.std.specs.Prelude.{◌≡◌, ◌≤◌, ℕ, List, Some, slice_get, length};
 ghost use Rattle.heap_formula.specs.Definitions.{Definition};
 ghost use Rattle.heap_formula.specs.Judgements.{JudgementHolds};
@@ -6,10 +6,20 @@ ghost use Rattle.heap_formula.specs.declared.commands.Command.{Command};
 ghost use Rattle.rule_table.specs.Nodes.{Node};
 ghost use Rattle.rule_table.specs.Soundness.{IsCommand};
 ghost use Rattle.trace_pairs.specs.Lasso.{AllProgress};
+ghost use Rattle.buchi_inclusion.specs.Answers.{HasAtMost};
 ghost use Rattle.heap_formula.specs.Words.{Each};
+ghost use Rattle.proof_file.specs.declared.file.ProofFile.{ProofFile};
+ghost use Rattle.proof_check.specs.declared.verdict.Verdict.{Verdict};
+ghost use Rattle.proof_check.specs.declared.verdict.Verdict.TheVariants.{Accepted};
 ghost use Rattle.proof_check.specs.Files.{graph_of, AreReadable, AreRight, HasFewCases, HasSmallHeaps};
+ghost use Rattle.proof_check.specs.Verdicts.{file_graph, state_limit, IsCorrect, IsVerdict};
 
 /// Where every node is right and every lasso progresses, the judgement of node 0 holds.
 pub fn correct_files_hold()
     ensures { (most : ℕ) (ds : List Definition) (lines : List Command) (nodes : List Node) (root : Node) → Each IsCommand lines → Each HasFewCases ds → HasSmallHeaps nodes → AreReadable nodes → AreRight most ds lines nodes → slice_get nodes 0 ≡ Some root → AllProgress (graph_of most ds lines nodes) → JudgementHolds ds lines root.judgement }
+{}
+
+/// Of a correct file with few states no check can say anything but that it is accepted.
+pub fn correct_files_are_accepted()
+    ensures { (f : ProofFile) (v : Verdict) → IsVerdict f v → IsCorrect f → HasAtMost (file_graph f) state_limit → v ≡ Accepted }
 {}

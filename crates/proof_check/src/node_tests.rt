@@ -2,22 +2,21 @@
 ghost use Rattle.std.specs.Prelude.{Ok, Some, ◌≡◌, ◌+◌, ◌<◌, ◌≤◌, ◌^◌, ◌++◌, ◌∷◌, [], ℕ, List, None, map, length, slice_get, nat_eq, nat_lt, IfOk};
 ghost use Rattle.heap_formula.specs.Closedness.{IsUniversalHeap};
 ghost use Rattle.heap_formula.specs.Judgements.{antecedent};
-ghost use Rattle.heap_formula.specs.Positions.{pairs_from};
 ghost use Rattle.heap_formula.specs.Words.{Each};
 ghost use Rattle.heap_formula.specs.declared.proof_rules.RuleFault.TheVariants.{NoSuchNode, PremiseCount};
 ghost use Rattle.rule_table.specs.LinkTable.{first_of, fault_unless, link_premise};
 ghost use Rattle.rule_table.specs.Nodes.{same_judgement as judgements_agree, differs as premise_differs, premises_fault as first_premises_fault, answer_fault as first_answer_fault, node_fault as first_node_fault, target_fault, link_edges, edges_to, answer_edges, edges_of};
 ghost use Rattle.rule_table.specs.RuleBook.{rule_answer, variables_of as program_variables_of};
-ghost use Rattle.proof_check.specs.Files.{HasFewCases, entry_of, graph_edge, node_of, nodes_of};
+ghost use Rattle.proof_check.specs.Files.{HasFewCases, graph_edge, node_of, nodes_of};
 ghost use Rattle.proof_check.specs.Answers.{IsNodeAnswer};
 
 use back_links::link_fault;
 use cyc_memory::OutOfMemory;
 use goto_lang::Program;
 use heap_formula::{
-    Judgement, Link, Pair, Pairs, Premise, Reason, Rule, RuleError, RuleFault, Spatial,
-    is_same_judgement,
+    Judgement, Link, Premise, Reason, Rule, RuleError, RuleFault, is_same_judgement,
 };
+use link_traces::pairs_of_link;
 use pred_defs::Defs;
 use proof_file::FileNode;
 use proof_graph::trace_edge;
@@ -31,38 +30,6 @@ use trace_pairs::Edge;
 pub enum NodeAnswer {
     Right(Vec<Edge>),
     Faulty(RuleFault),
-}
-
-/// The trace pairs of a link: the map's entry for each predicate atom of the companion.
-fn link_pairs(alloc: Global, entries: &[u32], atoms: &[Spatial]) -> Result<Pairs, OutOfMemory>
-    requires few { length atoms.now ≤ 32 }
-    requires small { Each (λ p. p.old < 256) (pairs_from (entry_of entries.now) 0 atoms.now) }
-    ensures { IfOk result (λ p. p ≡ pairs_from (entry_of entries.now) 0 atoms.now) }
-{
-    let mut pairs = Pairs::new(alloc);
-    for (k, atom) in atoms.iter().enumerate() {
-        if let Spatial::Pred(_, _) = atom {
-            pairs.push(Pair {
-                old: old_at(entries, k),
-                new: k as u8,
-                progress: false,
-            })?;
-        }
-    }
-    Ok(pairs)
-}
-
-fn entry_at(entries: &[u32], k: usize) -> u32
-    ensures { result ≡ entry_of entries.now k }
-{
-    if k < entries.len() { entries[k] } else { 0 }
-}
-
-fn old_at(entries: &[u32], k: usize) -> u8
-    requires { entry_of entries.now k < 256 }
-    ensures { result ≡ entry_of entries.now k }
-{
-    entry_at(entries, k) as u8
 }
 
 fn is_same(a: &Judgement, b: &Judgement) -> bool
@@ -159,8 +126,7 @@ fn link_edge(alloc: Global, companion: &Judgement, link: &Link) -> Result<Edge, 
     requires { Each (λ p. p.old < 256) (link_premise companion.now link.now).pairs }
     ensures { IfOk result (λ e. e ≡ graph_edge (record { target = link.now.target; pairs = (link_premise companion.now link.now).pairs })) }
 {
-    let atoms = heap_of(companion).spatial();
-    let pairs = link_pairs(alloc, link.map.as_slice(), atoms)?;
+    let pairs = pairs_of_link(alloc, companion, link)?;
     Ok(trace_edge(alloc, link.target, pairs.as_slice())?)
 }
 

@@ -27,6 +27,10 @@ abbrev pub with_reason : Reason → List (List Pair) → GraphNode → GraphNode
 with_reason reason lists node =
     record { judgement = node.judgement; reason = Some reason; premises = premises_of (first_slot reason) lists }
 
+-- the node without its reason
+abbrev pub without_reason : GraphNode → GraphNode
+without_reason node = open_node node.judgement
+
 -- the list with another member at a place
 abbrev pub changed_at : {X : Type 0} → (X → X) → List X → ℕ → List X
 changed_at f [] i = []

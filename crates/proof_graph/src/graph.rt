@@ -2,7 +2,7 @@
 
 ghost use Rattle.std.specs.Prelude.{IsTrue, ◌≡◌, ◌<◌, ◌≤◌, ◌↔◌, [], ◌∷◌, ◌++◌, Err, length, IfOk, OnOk, OnErr};
 ghost use Rattle.trace_pairs.specs.Graph.{IsGraph};
-ghost use Rattle.proof_graph.specs.Nodes.{open_node, with_reason, with_premise, changed_at, nodes_below, HasPremise, HasJudgement, IsViewed};
+ghost use Rattle.proof_graph.specs.Nodes.{open_node, with_reason, without_reason, with_premise, changed_at, nodes_below, HasPremise, HasJudgement, IsViewed};
 ghost use Rattle.proof_graph.specs.Traces.{trace_graph_of, HasJoints};
 
 use crate::copies::{copy_of_judgement, copy_of_node, copy_of_reason};
@@ -120,6 +120,17 @@ impl Graph {
         place.reason = Some(reason);
         place.premises = premises;
         Ok(())
+    }
+
+    /// Takes a node's reason away, and its premises with it.
+    pub fn clear_reason(&mut self, node: u32)
+        requires { node < length self.old }
+        ensures { self.new ≡ changed_at without_reason self.old node }
+    {
+        let none = GraphPremises::from_vec(Vec::new(self.alloc));
+        let place = &mut self.nodes[node as usize];
+        place.reason = None;
+        place.premises = none;
     }
 
     /// Puts the number of a node into slot `i` of a node's premises.

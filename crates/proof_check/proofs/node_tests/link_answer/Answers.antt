@@ -1,5 +1,5 @@
 use Rattle.std.proofs.Common.{◌≤◌, sym, ◌∙◌, length, subst}
-use Rattle.proof_check.proofs.LinkPairs.{link_pairs_small}
+use Rattle.link_traces.proofs.SmallEntries.{link_pairs_small}
 use Rattle.proof_check.proofs.node_tests.link_answer.Goals as goal
 
 pub linked-requires : goal.linked-requires

@@ -2,8 +2,8 @@ use Rattle.std.proofs.Common.{◌≡◌, ◌<◌, ◌++◌, drop}
 use Rattle.heap_formula.specs.Words.{Each}
 use Rattle.heap_formula.specs.Positions.{pairs_from}
 use Rattle.heap_formula.specs.declared.judgements.Pair.{Pair}
-use Rattle.proof_check.specs.Files.{entry_of}
-use Rattle.proof_check.proofs.node_tests.link_pairs.Given as goal
+use Rattle.link_traces.specs.Entries.{entry_of}
+use Rattle.link_traces.proofs.link_pairs.Given as goal
 
 abbrev pub invariant-loop-k : goal.invariant-loop-k
 invariant-loop-k l =
