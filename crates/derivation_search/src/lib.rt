@@ -35,6 +35,12 @@ pub trait Moves {
     /// The reasons made so far.
     ghost made: { Self → List Self.Reason };
 
+    /// What a derivation is about.
+    type Subject;
+
+    /// What this one is about, which no move changes.
+    ghost subject: { Self → Self.Subject };
+
     /// What the moves need of their own state.
     ghost in_order: { Self → Type 0 };
 
@@ -58,14 +64,17 @@ pub trait Moves {
         ensures order { OnOk result (in_order self.new) }
         ensures made { OnOk result (made self.new ≡ made self.old) }
         ensures kept { OnOk result ((s : System Self.Reason) → follows self.old s → follows self.new s) }
+        ensures subject { OnOk result (subject self.new ≡ subject self.old) }
         ensures tried { IfOk result (λ t. (s : System Self.Reason) → follows self.old s → FaresSo s (after (made self.old) link.now) t) };
 
-    /// Whether the derivation's product states are above the limit.
+    /// Whether the product states of a derivation without open goals are above the limit.
     fn has_too_many_states(&mut self, alloc: Global) -> Result<bool, OutOfMemory>
-        requires { in_order self.old }
+        requires order { in_order self.old }
+        requires complete { (s : System Self.Reason) → follows self.old s → s.complete (made self.old) ≡ true }
         ensures order { OnOk result (in_order self.new) }
         ensures made { OnOk result (made self.new ≡ made self.old) }
         ensures kept { OnOk result ((s : System Self.Reason) → follows self.old s → follows self.new s) }
+        ensures subject { OnOk result (subject self.new ≡ subject self.old) }
         ensures above { IfOk result (λ b. (s : System Self.Reason) → follows self.old s → s.above (made self.old) ≡ b) };
 
     /// Takes the reason at the next goal, if it fits within the depth; else leaves the derivation as it was.
@@ -78,6 +87,7 @@ pub trait Moves {
         requires { in_order self.old }
         ensures order { OnOk result (in_order self.new) }
         ensures kept { OnOk result ((s : System Self.Reason) → follows self.old s → follows self.new s) }
+        ensures subject { OnOk result (subject self.new ≡ subject self.old) }
         ensures fits { IfOk result (λ b. (s : System Self.Reason) → follows self.old s → s.fits bound (made self.old) reason ≡ b) }
         ensures made { IfOk result (λ b. (b ≡ true → made self.new ≡ after (made self.old) reason) × (b ≡ false → made self.new ≡ made self.old)) };
 
@@ -86,6 +96,7 @@ pub trait Moves {
         requires { in_order self.old }
         ensures order { OnOk result (in_order self.new) }
         ensures kept { OnOk result ((s : System Self.Reason) → follows self.old s → follows self.new s) }
+        ensures subject { OnOk result (subject self.new ≡ subject self.old) }
         ensures made { OnOk result (made self.new ≡ front (made self.old)) };
 }
 
@@ -125,6 +136,7 @@ fn try_links<M: Moves>(
     ensures made { OnOk result (M.made moves.new ≡ M.made moves.old) }
     ensures order { OnOk result (M.in_order moves.new) }
     ensures kept { OnOk result ((s : System M.Reason) → M.follows moves.old s → M.follows moves.new s) }
+    ensures subject { OnOk result (M.subject moves.new ≡ M.subject moves.old) }
     ensures tried { IfOk result (λ l. (s : System M.Reason) → M.follows moves.old s → AreLinksTried s most count (M.made moves.old) links.items l) }
 {
     let mut admitted = VecDeque::new(alloc);
@@ -157,6 +169,7 @@ fn visit_member<M: Moves>(
     ensures made { OnOk result (M.made moves.new ≡ M.made moves.old) }
     ensures order { OnOk result (M.in_order moves.new) }
     ensures kept { OnOk result ((s : System M.Reason) → M.follows moves.old s → M.follows moves.new s) }
+    ensures subject { OnOk result (M.subject moves.new ≡ M.subject moves.old) }
     ensures visited { IfOk result (λ v. (s : System M.Reason) → M.follows moves.old s → IsVisited s most count (M.made moves.old) frames.old.items frames.new.items v) }
 {
     let count = count + 1;
@@ -193,6 +206,7 @@ fn advance<M: Moves>(
     requires { M.in_order moves.old }
     ensures order { OnOk result (M.in_order moves.new) }
     ensures kept { OnOk result ((s : System M.Reason) → M.follows moves.old s → M.follows moves.new s) }
+    ensures subject { OnOk result (M.subject moves.new ≡ M.subject moves.old) }
     ensures next { IfOk result (λ more. (s : System M.Reason) → M.follows moves.old s → IsNext s bound (M.made moves.old) frames.old.items (M.made moves.new) frames.new.items more) }
 {
     while let Some(mut frame) = frames.pop() {
@@ -220,6 +234,7 @@ pub fn search_depth<M: Moves>(
     requires most { 0 < most }
     ensures order { OnOk result (M.in_order moves.new) }
     ensures kept { OnOk result ((s : System M.Reason) → M.follows moves.old s → M.follows moves.new s) }
+    ensures subject { OnOk result (M.subject moves.new ≡ M.subject moves.old) }
     ensures searched { IfOk result (λ stop. (s : System M.Reason) → M.follows moves.old s → IsDepthSearched s most bound (M.made moves.new) stop) }
 {
     let mut frames = Vec::new(alloc);

@@ -125,7 +125,7 @@ record Found {J R : Type 0} (c : Calculus J R) (Occurs : J → Type 0) (Allows :
   holds : Holds c Occurs Allows j d
   closed : holds.t.goals ≡ []
 
-nil_is : {X : Type 0} (xs : List X) → is_nil xs ≡ true → xs ≡ []
+pub nil_is : {X : Type 0} (xs : List X) → is_nil xs ≡ true → xs ≡ []
 nil_is [] h = refl
 nil_is (x ∷ xs) h = absurd (both_ways false refl h)
 

@@ -20,7 +20,7 @@ at_next_in_order {J} {R} c Occurs Allows fair j nodes graph (g ∷ rest) r t ok 
         let e'' : next_tableau c nodes graph g rest ps r ≡ t = cc in subst (InOrder c Occurs Allows j) e'' (next_in_order c Occurs Allows fair j nodes graph g rest r ps ok allowed has)
 
 -- a fault stays one
-fold_none : {J R : Type 0} (c : Calculus J R) (d : List R) → fold (step c) None d ≡ None
+pub fold_none : {J R : Type 0} (c : Calculus J R) (d : List R) → fold (step c) None d ≡ None
 fold_none c [] = refl
 fold_none c (r ∷ d) = fold_none c d
 

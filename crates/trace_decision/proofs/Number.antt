@@ -108,7 +108,7 @@ reached_has g states i (suc k) n (x ∷ ss) s at e r =
     let h = reached_has g states (suc i) k n ss s at (omega arith) r in
     elim (cases_Bool (is_reached g states i)) [ inl yes' ↦ rw yes' (listed_more x s (reached_from g states (suc i) ss) h) | inr no' ↦ rw no' h ]
 
-all_reached : (g : List Node) → IsGraph g → AreAllReached g (product_states g)
+pub all_reached : (g : List Node) → IsGraph g → AreAllReached g (product_states g)
 all_reached g is = record {
   some' = record {
     apart = once_apart (reached_from g (states_from 0 g) 0 (states_from 0 g));

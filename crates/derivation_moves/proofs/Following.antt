@@ -1,0 +1,219 @@
+-- What the moves tell of the search.
+use Rattle.std.proofs.Common.{◌≡◌, ℕ, zero, suc, ◌+◌, ◌-◌, ◌<◌, ◌≤◌, ◌⊎◌, inl, inr, Bool, true, false, ◌&&◌, ◌||◌, List, [], ◌∷◌, ◌++◌, map, reverse, Option, Some, None, slice_get, length, length-append, eqb-true, arith, refl, sym, ap, subst, ◌∙◌}
+use Rattle.std.specs.Prelude.{nat_eq, nat_lt, nat_le, Result, Ok, Err, OnOk}
+use Rattle.std.proofs.lemmas.Bool.{cases_Bool}
+use Rattle.std.proofs.lemmas.List.{length-map, length-reverse}
+use Rattle.std.proofs.lemmas.Option.{slice_get_within}
+use Rattle.heap_formula.specs.declared.judgements.Judgement.{Judgement}
+use Rattle.heap_formula.specs.declared.proof_rules.Reason.{Reason}
+use Rattle.trace_pairs.specs.Graph.{Node, IsGraph}
+use Rattle.proof_graph.specs.declared.nodes.GraphNode.{GraphNode}
+use Rattle.heap_formula.specs.declared.proof_rules.Reason.TheVariants.{Step, Back}
+use Rattle.heap_formula.specs.declared.proof_rules.Link.{Link}
+use Rattle.heap_formula.specs.declared.proof_rules.Rule.{Rule}
+use Rattle.search_moves.specs.Offering.{links_offered, rules_offered, OffersLinks, OffersRules}
+use Rattle.proof_graph.specs.Nodes.{open_node, with_reason, without_reason, changed_at}
+use Rattle.proof_graph.specs.Traces.{trace_graph_of}
+use Rattle.search_moves.specs.Trying.{Theory}
+use Rattle.trace_decision.specs.Decide.{number_of}
+use Rattle.derivation_search.specs.System.{System, after}
+use Rattle.derivation_search.specs.Engine.{FaresSo}
+use Rattle.derivation_search.specs.declared.Tried.{Tried}
+use Rattle.derivation_search.specs.declared.Tried.TheVariants.{Admitted, Refused, TooManyStates}
+use Rattle.tableaux.specs.Tableau.{Premise, Goal, Tableau, replay}
+use Rattle.tableaux.specs.Room.{is_nil, is_done, offered, offered_at, has_room, fits_at, fits_in}
+use Rattle.tableaux.specs.Search.{on_graph}
+use Rattle.tableaux.proofs.Graphs.{InOrder}
+use Rattle.tableaux.proofs.Steps.{Fits, next_tableau, next_is}
+use Rattle.search_calculus.specs.Calculus.{OpenGoal, MadeNode, traced, premises}
+use Rattle.search_calculus.specs.Graphs.{traces_of, made_graph, goal_graph}
+use Rattle.search_calculus.specs.Search.{links_at, rules_at, calculus_of, search_system}
+use Rattle.search_calculus.proofs.MadeRows.{made_in_order, made_is_graph, made_traces}
+use Rattle.search_calculus.proofs.ProofGraphs.{reason_given, reason_taken, goal_last}
+use Rattle.search_calculus.proofs.TraceGraphs.{replay_traces}
+use Rattle.derivation_moves.specs.declared.goals.MadeNode.{MadeNode as NodeOfCode}
+use Rattle.derivation_moves.specs.declared.effects.Effect.{Effect}
+use Rattle.derivation_moves.specs.declared.derivation.Derivation.{Derivation}
+use Rattle.derivation_moves.specs.declared.goals.OpenGoal.{OpenGoal as GoalOfCode}
+use Rattle.derivation_moves.specs.Opened.{goal_of, node_of}
+use Rattle.derivation_moves.proofs.Gives.{goal_graph_size}
+use Rattle.derivation_moves.proofs.Shows.{HasNext, last_of, next_goal}
+use Rattle.derivation_moves.specs.Effects.{IsEffect}
+use Rattle.derivation_moves.specs.Fares.{GraphFares}
+use Rattle.derivation_moves.specs.Derivations.{theory_in, nodes_in, goals_in, reasons_in, graph_with, tableau_in, IsReplayed, IsInOrder, IsItsSearch}
+
+pub record HasEffect (s : Derivation) (r : Reason) (e : Effect) : Type 0 where
+  pub goal : OpenGoal
+  pub rest : List OpenGoal
+  pub next : goals_in s ≡ goal ∷ rest
+  pub effects : IsEffect (theory_in s) (nodes_in s) goal r (Some e)
+
+-- what is so in any case
+pub on_any : {T E P : Type 0} (r : Result T E) → P → OnOk r P
+on_any (Ok x) p = p
+on_any (Err e) p = tt
+
+-- the goal on top of the stack, and the effect at it
+abbrev pub with_effect : (s : Derivation) (r : Reason) (e : Effect) (goals : List GoalOfCode) (g : GoalOfCode) (made : List NodeOfCode) (o : Option Effect) → goals ≡ s.goals.items → Some g ≡ slice_get goals (length goals - 1) → made ≡ s.made.items → o ≡ Some e → IsEffect (theory_in s) (map node_of made) (goal_of g) r o → HasEffect s r e
+with_effect s r e goals g made o same at made_is o_is is_effect =
+    let effects : IsEffect (theory_in s) (nodes_in s) (goal_of g) r (Some e) = subst (IsEffect (theory_in s) (nodes_in s) (goal_of g) r) o_is (subst (λ ms. IsEffect (theory_in s) (map node_of ms) (goal_of g) r o) made_is is_effect) in
+    let next = next_goal s g (last_of s.goals.items g (subst (λ gs. Some g ≡ slice_get gs (length gs - 1)) same at)) in
+    record { goal = goal_of g; rest = next.rest; next = next.are; effects = effects }
+
+-- the next goal is a node
+pub goal_there : (s : Derivation) → IsInOrder s → (goals : List GoalOfCode) (g : GoalOfCode) (n : ℕ) → goals ≡ s.goals.items → Some g ≡ slice_get goals (length goals - 1) → n ≡ length s.made.items → n < length s.graph
+goal_there s order goals g n same at number =
+    let next = next_goal s g (last_of s.goals.items g (subst (λ gs. Some g ≡ slice_get gs (length gs - 1)) same at)) in
+    omega (arith, ap length (order.graph ∙ ap (graph_with (theory_in s) (nodes_in s)) next.are), goal_graph_size (theory_in s) (nodes_in s) (goal_of g), length-map s.made.items node_of, number)
+
+module _ (s : Derivation) (r : Reason) (e : Effect) (order : IsInOrder s) (has : HasEffect s r e) where
+  abbrev t : Theory
+  t = theory_in s
+
+  size : length (nodes_in s) ≡ length s.made.items
+  size = length-map s.made.items node_of
+
+  abbrev more : List MadeNode
+  more = nodes_in s ++ record { goal = has.goal; reason = r } ∷ []
+
+  graph_now : s.graph ≡ goal_graph t (nodes_in s) has.goal
+  graph_now = order.graph ∙ ap (graph_with t (nodes_in s)) has.next
+
+  abbrev fits : Fits (calculus_of t) (replay (calculus_of t) s.root (reasons_in s)) r
+  fits = record { t = tableau_in s; is = order.is.replayed; g = has.goal; rest = has.rest; goals = has.next; ps = map traced e.premises.items; has = has.effects.0 }
+
+  abbrev tableau_then : Tableau Judgement Reason
+  tableau_then = next_tableau (calculus_of t) (nodes_in s) (traces_of t (nodes_in s)) has.goal has.rest (map traced e.premises.items) r
+
+  pub stepped : replay (calculus_of t) s.root (after (reasons_in s) r) ≡ Some tableau_then
+  stepped = next_is (calculus_of t) s.root (reasons_in s) r fits
+
+  made : changed_at (with_reason r e.pairs) s.graph (length s.made.items) ≡ made_graph t more
+  made =
+      (λ i. changed_at (with_reason r (sym has.effects.1 i)) (graph_now i) (sym size i))
+      ∙ reason_given t (nodes_in s) has.goal r (map traced e.premises.items) has.effects.0
+
+  -- the trace graph that was made
+  pub traces_are : (n : ℕ) (traces : List Node) → n ≡ length s.made.items → traces ≡ trace_graph_of (changed_at (with_reason r e.pairs) s.graph n) → traces ≡ tableau_then.graph
+  traces_are n traces number is =
+      is
+      ∙ (ap (λ k. trace_graph_of (changed_at (with_reason r e.pairs) s.graph k)) number
+      ∙ (ap trace_graph_of made
+      ∙ (made_traces t s.root (after (reasons_in s) r) tableau_then order.is.problem stepped
+      ∙ sym (replay_traces t s.root (after (reasons_in s) r) tableau_then stepped))))
+
+  pub graph_is : IsGraph tableau_then.graph
+  graph_is = made_is_graph t s.root (after (reasons_in s) r) tableau_then order.is.problem stepped (omega (arith, length-append (nodes_in s) (record { goal = has.goal; reason = r } ∷ [])))
+
+  -- the graph that is left
+  pub graph_again : (n : ℕ) (graph : List GraphNode) → n ≡ length s.made.items → graph ≡ changed_at without_reason (changed_at (with_reason r e.pairs) s.graph n) n → graph ≡ s.graph
+  graph_again n graph number is =
+      is
+      ∙ (ap (λ k. changed_at without_reason (changed_at (with_reason r e.pairs) s.graph k) k) number
+      ∙ ((λ i. changed_at without_reason (made i) (sym size i))
+      ∙ (reason_taken t (nodes_in s) has.goal r (map traced e.premises.items) has.effects.0 ∙ sym graph_now)))
+
+  pub fares : (traces : List Node) (tried : Tried) → traces ≡ tableau_then.graph → GraphFares traces tried → (system : System Reason) → IsItsSearch s system → FaresSo system (after (reasons_in s) r) tried
+  fares traces tried is so system search =
+      subst (λ y. FaresSo y (after (reasons_in s) r) tried) (sym search) (by tried (subst (λ g. GraphFares g tried) is so))
+    where
+      by : (tried : Tried) → GraphFares tableau_then.graph tried → FaresSo (search_system t s.root) (after (reasons_in s) r) tried
+      by Admitted h = (ap (on_graph _) stepped ∙ h.0, ap (on_graph _) stepped ∙ h.1)
+      by Refused h = (ap (on_graph _) stepped ∙ h.0, ap (on_graph _) stepped ∙ h.1)
+      by TooManyStates h = ap (on_graph _) stepped ∙ h
+
+-- ---- a derivation without open goals
+
+nil_is : {X : Type 0} (xs : List X) → is_nil xs ≡ true → xs ≡ []
+nil_is [] h = refl
+nil_is (x ∷ xs) h = absurd (let e : false ≡ true = h in cc)
+
+module _ (s : Derivation) (order : IsInOrder s) (complete : (system : System Reason) → IsItsSearch s system → system.complete (reasons_in s) ≡ true) where
+  pub closed : goals_in s ≡ []
+  closed = nil_is (goals_in s) (sym (ap is_done order.is.replayed) ∙ complete (search_system (theory_in s) s.root) refl)
+
+  some_node : 0 < length (nodes_in s)
+  some_node =
+      elim (made_in_order (theory_in s) s.root (reasons_in s) (tableau_in s) order.is.problem order.is.replayed).begun [
+        | inl b ↦ absurd (let e : None ≡ Some b.goal = sym (ap (λ (gs : List OpenGoal). slice_get gs 0) closed) ∙ b.is_goal in cc)
+        | inr root ↦ slice_get_within (nodes_in s) 0 root.root root.is_root
+      ]
+
+  pub traces_then : trace_graph_of s.graph ≡ traces_of (theory_in s) (nodes_in s)
+  traces_then =
+      ap trace_graph_of (order.graph ∙ ap (graph_with (theory_in s) (nodes_in s)) closed)
+      ∙ made_traces (theory_in s) s.root (reasons_in s) (tableau_in s) order.is.problem order.is.replayed
+
+  pub whole_graph : IsGraph (traces_of (theory_in s) (nodes_in s))
+  whole_graph = made_is_graph (theory_in s) s.root (reasons_in s) (tableau_in s) order.is.problem order.is.replayed some_node
+
+-- whether it has too many states
+pub above_is : (s : Derivation) → IsInOrder s → ((system : System Reason) → IsItsSearch s system → system.complete (reasons_in s) ≡ true) → (traces : List Node) (b : Bool) → traces ≡ trace_graph_of s.graph → nat_lt 200000 (number_of traces) ≡ b → (system : System Reason) → IsItsSearch s system →
+    system.above (reasons_in s) ≡ b
+above_is s order complete traces b is is_b system search =
+    subst (λ (y : System Reason). y.above (reasons_in s) ≡ b) (sym search)
+    (ap (on_graph (λ g. nat_lt 200000 (number_of g))) order.is.replayed
+    ∙ (ap (λ g. nat_lt 200000 (number_of g)) (sym (is ∙ traces_then s order complete)) ∙ is_b))
+
+-- ---- whether a reason fits
+
+nil_length : {X : Type 0} (xs : List X) (n : ℕ) → n ≡ length xs → is_nil xs ≡ nat_eq n 0
+nil_length [] n e = ap (λ k. nat_eq k 0) (sym e)
+nil_length {X} (x ∷ xs) n e =
+    elim (cases_Bool (nat_eq n 0)) [
+      | inl yes' ↦ absurd (let z = eqb-true n 0 yes' in omega (arith, z, e))
+      | inr no' ↦ sym no'
+    ]
+
+pub fits_is : (s : Derivation) (r : Reason) (e : Effect) → IsInOrder s → (has : HasEffect s r e) → (bound depth made others count : ℕ) (b : Bool) → depth ≡ has.goal.depth → made ≡ length s.made.items → others ≡ length has.rest → count ≡ length e.premises.items →
+    b ≡ ((nat_eq count 0 || nat_lt depth bound) && nat_le (made + 1 + (count + others)) 20000) → (system : System Reason) → IsItsSearch s system → system.fits bound (reasons_in s) r ≡ b
+fits_is s r e order has bound depth made others count b is_depth is_made is_others is_count is_b system search =
+    subst (λ (y : System Reason). y.fits bound (reasons_in s) r ≡ b) (sym search)
+    (ap (λ p. fits_in (calculus_of (theory_in s)) 20000 bound (length (reasons_in s)) p r) order.is.replayed
+    ∙ (ap (fits_at (calculus_of (theory_in s)) 20000 bound (length (reasons_in s)) (nodes_in s) r) has.next
+    ∙ (ap (has_room 20000 bound (length (reasons_in s)) has.goal has.rest) has.effects.0
+    ∙ ((λ i. (nils i || nat_lt (sym is_depth i) bound) && nat_le (sums i) 20000) ∙ sym is_b))))
+  where
+    nils : is_nil (map traced e.premises.items) ≡ nat_eq count 0
+    nils = nil_length (map traced e.premises.items) count (is_count ∙ sym (length-map e.premises.items traced))
+
+    sums : length (reasons_in s) + 1 + (length (map traced e.premises.items) + length has.rest) ≡ made + 1 + (count + others)
+    sums = omega (arith, length-map s.made.items (λ (m : NodeOfCode). m.reason), length-map e.premises.items traced, is_made, is_others, is_count)
+
+-- the goals behind the next one
+pub others_are : (s : Derivation) (r : Reason) (e : Effect) (has : HasEffect s r e) (n : ℕ) → n ≡ length s.goals.items → n - 1 ≡ length has.rest
+others_are s r e has n number = omega (arith, number, ap length has.next, length-map (reverse s.goals.items) goal_of, length-reverse s.goals.items)
+
+-- ---- what is offered
+
+module _ (s : Derivation) (g : OpenGoal) (order : IsInOrder s) (next : HasNext s g) (n : ℕ) (number : n ≡ length s.made.items) where
+  abbrev u : Theory
+  u = theory_in s
+
+  is_graph : s.graph ≡ goal_graph u (nodes_in s) g
+  is_graph = order.graph ∙ ap (graph_with u (nodes_in s)) next.are
+
+  is_number : n ≡ length (nodes_in s)
+  is_number = number ∙ sym (length-map s.made.items node_of)
+
+  pub goal_within : n < length s.graph
+  goal_within = omega (arith, ap length is_graph, goal_graph_size u (nodes_in s) g, is_number)
+
+  is_goal : (node : GraphNode) → slice_get s.graph n ≡ Some node → node ≡ open_node g.premise.judgement
+  is_goal node at =
+      let e : Some node ≡ Some (open_node g.premise.judgement) = sym at ∙ ((λ i. slice_get (is_graph i) (is_number i)) ∙ goal_last u (nodes_in s) g) in
+      cc
+
+  pub links_are : (links : List Link) (reasons : List Reason) → OffersLinks u s.graph n links → reasons ≡ map Back links → (system : System Reason) → IsItsSearch s system → reasons ≡ system.candidates (reasons_in s)
+  links_are links reasons offers are system search =
+      subst (λ (y : System Reason). reasons ≡ y.candidates (reasons_in s)) (sym search)
+      (are
+      ∙ (ap (map Back) (offers.2 ∙ (λ i. links_offered u (is_graph i) (is_number i) (is_goal offers.0 offers.1 i).judgement))
+      ∙ sym (ap (offered (links_at u)) order.is.replayed ∙ ap (offered_at (links_at u) (nodes_in s)) next.are)))
+
+  pub rules_are : (rules : List Rule) (reasons : List Reason) → OffersRules u s.graph n rules → reasons ≡ map Step rules → (system : System Reason) → IsItsSearch s system → reasons ≡ system.rules (reasons_in s)
+  rules_are rules reasons offers are system search =
+      subst (λ (y : System Reason). reasons ≡ y.rules (reasons_in s)) (sym search)
+      (are
+      ∙ (ap (map Step) (offers.2 ∙ (λ i. rules_offered u (is_graph i) (is_number i) (is_goal offers.0 offers.1 i).judgement))
+      ∙ sym (ap (offered (rules_at u)) order.is.replayed ∙ ap (offered_at (rules_at u) (nodes_in s)) next.are)))

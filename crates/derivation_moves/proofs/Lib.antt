@@ -1,0 +1,7 @@
+mod Stack
+mod Begins
+mod Gives
+mod Shows
+mod Withdraws
+mod Trials
+mod Following

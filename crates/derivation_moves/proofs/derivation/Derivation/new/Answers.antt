@@ -1,0 +1,19 @@
+use Rattle.std.proofs.Common.{◌≡◌, ◌++◌, ◌∷◌, [], ap, sym, subst, ◌∙◌}
+use Rattle.heap_formula.specs.Words.{Each}
+use Rattle.proof_graph.specs.Nodes.{open_node}
+use Rattle.search_moves.specs.Limits.{IsSmall}
+use Rattle.search_moves.specs.Settings.{theory}
+use Rattle.search_calculus.specs.Problems.{IsSmallProblem}
+use Rattle.derivation_moves.proofs.Begins.{begun, first_goal}
+use Rattle.derivation_moves.proofs.derivation.Derivation.new.Goals as goal
+
+pub returns-clause-order : goal.returns-clause-order
+returns-clause-order c =
+    begun _
+    (subst (λ (d : _). IsSmallProblem (theory d c.in_ok-copied_program.field-0) c.in_ok-copied_judgement.field-0) (sym c.in_ok-copied_definitions.ensures)
+    (subst (λ (p : _). IsSmallProblem (theory c.args.defs.now p) c.in_ok-copied_judgement.field-0) (sym c.in_ok-copied_program.ensures)
+    (subst (λ (j : _). IsSmallProblem (theory c.args.defs.now c.args.program.now) j) (sym c.in_ok-copied_judgement.ensures) c.requires.problem)))
+    (subst (λ (d : _). Each IsSmall d.list) (sym c.in_ok-copied_definitions.ensures) c.requires.small)
+    c.new.ensures.items
+    (c.in_ok-push.ensures.items ∙ (ap (λ (gs : _). gs ++ c.in_ok-first_goal.field-0 ∷ []) c.new-goals.ensures.items ∙ (ap (λ (g : _). g ∷ []) (c.in_ok-first_goal.ensures ∙ ap first_goal (sym c.in_ok-copied_judgement.ensures)))))
+    (c.in_ok-push_goal.ensures.pushed ∙ (ap (λ (ns : _). ns ++ open_node c.args.goal.now ∷ []) c.new-graph.ensures ∙ ap (λ (j : _). open_node j ∷ []) (sym c.in_ok-copied_judgement.ensures)))

@@ -1,0 +1,5 @@
+pub mod Opened
+pub mod Effects
+pub mod PremiseCounts
+pub mod Fares
+pub mod Derivations

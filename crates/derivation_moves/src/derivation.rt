@@ -1,0 +1,235 @@
+// A partial derivation: the nodes made, the open goals, and the proof graph of both.
+ghost use Rattle.std.specs.Prelude.{◌≡◌, ◌<◌, ◌≤◌, ◌+◌, ◌&&◌, ◌||◌, ◌==◌, [], ◌∷◌, ◌++◌, length, nat_lt, nat_le, true, IfOk, OnOk};
+ghost use Rattle.derivation_moves.specs.PremiseCounts.{IsPremiseCount};
+ghost use Rattle.proof_graph.specs.Nodes.{open_node, with_premise, changed_at, HasPremise};
+
+use crate::effects::Effect;
+use crate::goals::{MadeNode, OpenGoal, drop_goals, push_goals};
+use cyc_memory::OutOfMemory;
+use goto_lang::Program;
+use heap_formula::{Judgement, Pairs, Premise, Reason};
+use pred_defs::Defs;
+use proof_graph::Graph;
+use std::alloc::Global;
+
+/// The greatest number of nodes made and goals open together.
+pub const MOST_NODES: usize = 20000;
+
+/// The greatest number of product states of a derivation's trace graph.
+pub const MOST_STATES: u32 = 200000;
+
+/// A partial derivation of a goal over definitions and a program. The goals stand on a stack, the next one on top; it is the
+/// last node of the graph, which else has the nodes made.
+#[derive(Drop)]
+pub struct Derivation {
+    pub defs: Defs,
+    pub program: Program,
+    pub root: Judgement,
+    pub graph: Graph,
+    pub made: Vec<MadeNode>,
+    pub goals: Vec<OpenGoal>,
+}
+
+/// Whether premises fit at a goal of some depth, beside the nodes made and the other goals: they need a depth below the
+/// bound, and all together are at most the limit.
+pub fn has_room(bound: u32, depth: u32, made: usize, others: usize, count: usize) -> bool
+    requires { made + others < 20000 }
+    ensures fits { result ≡ ((count == 0 || nat_lt depth bound) && nat_le (made + 1 + (count + others)) 20000) }
+{
+    if count > 0 && depth >= bound {
+        return false;
+    }
+    count <= MOST_NODES - 1 - made - others
+}
+
+/// Makes the goal a node of the graph, and fills its parent's slot with it.
+pub fn show_goal(graph: &mut Graph, goal: &OpenGoal) -> Result<(), OutOfMemory>
+    requires some_node { 0 < length graph.old }
+    requires few { length graph.old < 20000 }
+    requires slot { HasPremise (graph.old ++ open_node goal.now.premise.judgement ∷ []) goal.now.parent goal.now.place }
+    requires parent { goal.now.parent < length graph.old }
+    ensures { OnOk result (graph.new ≡ changed_at (with_premise goal.now.place (length graph.old)) (graph.old ++ open_node goal.now.premise.judgement ∷ []) goal.now.parent) }
+{
+    let node = push_goal(graph, &goal.premise.judgement)?;
+    graph.set_premise(goal.parent, goal.place, node)?;
+    Ok(())
+}
+
+/// Makes the judgement a node of the graph, without a reason.
+pub fn push_goal(graph: &mut Graph, judgement: &Judgement) -> Result<u32, OutOfMemory>
+    requires { length graph.old < 20000 }
+    ensures number { IfOk result (λ number. number ≡ length graph.old) }
+    ensures pushed { OnOk result (graph.new ≡ graph.old ++ open_node judgement.now ∷ []) }
+{
+    match graph.push_node(judgement) {
+        Ok(number) => Ok(number),
+        Err(_) => Err(OutOfMemory),
+    }
+}
+
+fn copied_definitions(defs: &Defs) -> Result<Defs, OutOfMemory>
+    ensures { IfOk result (λ copy. copy ≡ defs.now) }
+{
+    Ok(defs.clone()?)
+}
+
+fn copied_program(program: &Program) -> Result<Program, OutOfMemory>
+    ensures { IfOk result (λ copy. copy ≡ program.now) }
+{
+    Ok(program.clone()?)
+}
+
+fn copied_judgement(judgement: &Judgement) -> Result<Judgement, OutOfMemory>
+    ensures { IfOk result (λ copy. copy ≡ judgement.now) }
+{
+    Ok(judgement.clone()?)
+}
+
+/// The goal that a derivation begins with.
+fn first_goal(alloc: Global, goal: &Judgement) -> Result<OpenGoal, OutOfMemory>
+    ensures { IfOk result (λ g. g ≡ record { parent = 0; place = 0; depth = 1; premise = record { judgement = goal.now; pairs = [] } }) }
+{
+    let premise = Premise {
+        judgement: copied_judgement(goal)?,
+        pairs: Pairs::new(alloc),
+    };
+    Ok(OpenGoal {
+        parent: 0,
+        place: 0,
+        depth: 1,
+        premise,
+    })
+}
+
+impl Derivation {
+    ghost use Rattle.heap_formula.specs.Words.{Each};
+    ghost use Rattle.search_calculus.specs.Problems.{IsSmallProblem};
+    ghost use Rattle.search_moves.specs.Limits.{IsSmall};
+    ghost use Rattle.search_moves.specs.Settings.{theory};
+    ghost use Rattle.derivation_search.specs.Stack.{front};
+    ghost use Rattle.derivation_moves.specs.Derivations.{IsInOrder, IsMade, IsOfSame, MayTake, reasons_in};
+
+    /// Nothing is made, and the goal is open.
+    pub fn new(
+        alloc: Global,
+        defs: &Defs,
+        program: &Program,
+        goal: &Judgement,
+    ) -> Result<Derivation, OutOfMemory>
+        requires problem { IsSmallProblem (theory defs.now program.now) goal.now }
+        requires small { Each IsSmall defs.now.list }
+        ensures order { IfOk result IsInOrder }
+        ensures defs { IfOk result (λ s. s.defs ≡ defs.now) }
+        ensures program { IfOk result (λ s. s.program ≡ program.now) }
+        ensures root { IfOk result (λ s. s.root ≡ goal.now) }
+        ensures nothing { IfOk result (λ s. reasons_in s ≡ []) }
+    {
+        let mut graph = Graph::new(alloc);
+        let _ = push_goal(&mut graph, goal)?;
+        let mut goals = Vec::new(alloc);
+        goals.push(first_goal(alloc, goal)?)?;
+        Ok(Derivation {
+            defs: copied_definitions(defs)?,
+            program: copied_program(program)?,
+            root: copied_judgement(goal)?,
+            graph,
+            made: Vec::new(alloc),
+            goals,
+        })
+    }
+
+    /// Gives the next goal this reason, and opens the goals that it leaves.
+    pub fn take(&mut self, reason: Reason, effect: Effect) -> Result<(), OutOfMemory>
+        requires order { IsInOrder self.old }
+        requires effect { MayTake self.old reason effect }
+        ensures order { OnOk result (IsInOrder self.new) }
+        ensures made { OnOk result (reasons_in self.new ≡ reasons_in self.old ++ reason ∷ []) }
+        ensures same { OnOk result (IsOfSame self.old self.new) }
+    {
+        self.give(reason, effect)?;
+        self.show_next()
+    }
+
+    fn give(&mut self, reason: Reason, effect: Effect) -> Result<(), OutOfMemory>
+        requires order { IsInOrder self.old }
+        requires effect { MayTake self.old reason effect }
+        ensures order { OnOk result (IsMade self.new) }
+        ensures made { OnOk result (reasons_in self.new ≡ reasons_in self.old ++ reason ∷ []) }
+        ensures same { OnOk result (IsOfSame self.old self.new) }
+    {
+        let Some(goal) = self.goals.pop() else {
+            unreachable!();
+        };
+        let node = self.made.len() as u32;
+        self.graph.set_reason(node, &reason, &effect.pairs)?;
+        push_goals(&mut self.goals, node, goal.depth, effect.premises)?;
+        self.made.push(MadeNode { goal, reason })?;
+        Ok(())
+    }
+
+    fn show_next(&mut self) -> Result<(), OutOfMemory>
+        requires { IsMade self.old }
+        ensures order { OnOk result (IsInOrder self.new) }
+        ensures made { OnOk result (reasons_in self.new ≡ reasons_in self.old) }
+        ensures same { OnOk result (IsOfSame self.old self.new) }
+    {
+        match self.goals.last() {
+            None => Ok(()),
+            Some(next) => show_goal(&mut self.graph, next),
+        }
+    }
+
+    /// Takes the last reason back, if there is one.
+    pub fn take_back(&mut self) -> Result<(), OutOfMemory>
+        requires { IsInOrder self.old }
+        ensures order { OnOk result (IsInOrder self.new) }
+        ensures made { OnOk result (reasons_in self.new ≡ front (reasons_in self.old)) }
+        ensures same { OnOk result (IsOfSame self.old self.new) }
+    {
+        if self.made.is_empty() {
+            return Ok(());
+        }
+        self.hide_next();
+        self.withdraw()
+    }
+
+    fn hide_next(&mut self)
+        requires order { IsInOrder self.old }
+        requires some_node { 0 < length self.old.made.items }
+        ensures order { IsMade self.new }
+        ensures made { reasons_in self.new ≡ reasons_in self.old }
+        ensures same { IsOfSame self.old self.new }
+    {
+        if !self.goals.is_empty() {
+            self.graph.truncate(self.made.len() as u32);
+        }
+    }
+
+    fn withdraw(&mut self) -> Result<(), OutOfMemory>
+        requires { IsMade self.old }
+        ensures order { OnOk result (IsInOrder self.new) }
+        ensures made { OnOk result (reasons_in self.new ≡ front (reasons_in self.old)) }
+        ensures same { OnOk result (IsOfSame self.old self.new) }
+    {
+        let Some(node) = self.made.pop() else {
+            return Ok(());
+        };
+        let number = self.made.len() as u32;
+        let count = premise_count(&self.graph, number, &node.reason);
+        self.graph.clear_reason(number);
+        drop_goals(&mut self.goals, count);
+        self.goals.push(node.goal)?;
+        Ok(())
+    }
+}
+
+/// How many premises a node has; a link has none.
+fn premise_count(graph: &Graph, node: u32, reason: &Reason) -> usize
+    requires { node < length graph.now }
+    ensures { IsPremiseCount graph.now node reason.now result }
+{
+    match reason {
+        Reason::Step(_) => graph.node(node).premises.len(),
+        Reason::Back(_) => 0,
+    }
+}

@@ -1,0 +1,160 @@
+// The moves of the search, on a partial derivation.
+ghost use Rattle.std.specs.Prelude.{◌≡◌, ◌<◌, List, map, length, nat_lt, IfOk, OnOk};
+ghost use Rattle.heap_formula.specs.declared.proof_rules.Reason.TheVariants.{Step as by_rule, Back as by_link};
+ghost use Rattle.proof_graph.specs.Nodes.{with_reason, without_reason, changed_at};
+ghost use Rattle.proof_graph.specs.Traces.{trace_graph_of};
+ghost use Rattle.trace_pairs.specs.Graph.{Node, IsGraph};
+ghost use Rattle.trace_decision.specs.Decide.{number_of};
+ghost use Rattle.derivation_moves.specs.Fares.{GraphFares};
+ghost use Rattle.derivation_moves.specs.Derivations.{IsInOrder, IsItsSearch, reasons_in, about};
+
+use crate::derivation::{Derivation, MOST_STATES, has_room};
+use crate::effects::effect_of;
+use buchi_inclusion::{Inclusion, included};
+use cyc_memory::OutOfMemory;
+use derivation_search::{Moves, Offers, Tried};
+use goto_lang::Program;
+use heap_formula::{Judgement, Link, Reason, Rule};
+use pred_defs::Defs;
+use proof_graph::{Graph, PremisePairs};
+use search_moves::offers;
+use std::alloc::Global;
+use std::collections::VecDeque;
+use trace_pairs::TraceGraph;
+
+fn as_links(alloc: Global, links: Vec<Link>) -> Result<VecDeque<Reason>, OutOfMemory>
+    ensures { IfOk result (λ q. q.items ≡ map by_link links.items) }
+{
+    let mut reasons = VecDeque::new(alloc);
+    for link in links {
+        reasons.push_back(Reason::Back(link))?;
+    }
+    Ok(reasons)
+}
+
+fn as_rules(alloc: Global, rules: Vec<Rule>) -> Result<VecDeque<Reason>, OutOfMemory>
+    ensures { IfOk result (λ q. q.items ≡ map by_rule rules.items) }
+{
+    let mut reasons = VecDeque::new(alloc);
+    for rule in rules {
+        reasons.push_back(Reason::Step(rule))?;
+    }
+    Ok(reasons)
+}
+
+/// The trace graph that a reason at a node without one would make; the graph stays as it was.
+fn traces_with(
+    graph: &mut Graph,
+    node: u32,
+    reason: &Reason,
+    pairs: &PremisePairs,
+) -> Result<TraceGraph, OutOfMemory>
+    requires { node < length graph.old }
+    ensures traces { IfOk result (λ g. g ≡ trace_graph_of (changed_at (with_reason reason.now pairs.now) graph.old node)) }
+    ensures graph { OnOk result (graph.new ≡ changed_at without_reason (changed_at (with_reason reason.now pairs.now) graph.old node) node) }
+{
+    graph.set_reason(node, reason, pairs)?;
+    let traces = graph.trace_graph()?;
+    graph.clear_reason(node);
+    Ok(traces)
+}
+
+/// How a derivation with this trace graph fares.
+fn tried(alloc: Global, traces: &TraceGraph) -> Result<Tried, OutOfMemory>
+    requires { IsGraph traces.now }
+    ensures { IfOk result (GraphFares traces.now) }
+{
+    match included(alloc, traces, MOST_STATES)? {
+        Inclusion::Included => Ok(Tried::Admitted),
+        Inclusion::Counter(_) => Ok(Tried::Refused),
+        Inclusion::TooManyStates => Ok(Tried::TooManyStates),
+    }
+}
+
+/// Whether there are more product states than the limit.
+fn is_above(tried: Tried) -> bool
+    ensures { (g : List Node) → GraphFares g tried → nat_lt 200000 (number_of g) ≡ result }
+{
+    match tried {
+        Tried::TooManyStates => true,
+        Tried::Admitted | Tried::Refused => false,
+    }
+}
+
+impl Moves for Derivation {
+    type Reason = Reason;
+
+    type Subject = (Defs, (Program, Judgement));
+
+    ghost made = { reasons_in };
+
+    ghost subject = { about };
+
+    ghost in_order = { IsInOrder };
+
+    ghost follows = { IsItsSearch };
+
+    fn is_complete(&self) -> bool {
+        self.goals.is_empty()
+    }
+
+    fn offers(&self, alloc: Global) -> Result<Offers<Reason>, OutOfMemory> {
+        if self.goals.is_empty() {
+            return Ok(Offers {
+                links: VecDeque::new(alloc),
+                rules: VecDeque::new(alloc),
+            });
+        }
+        let goal = self.made.len() as u32;
+        let offered = offers(alloc, &self.defs, &self.program, &self.graph, goal)?;
+        Ok(Offers {
+            links: as_links(alloc, offered.links)?,
+            rules: as_rules(alloc, offered.rules)?,
+        })
+    }
+
+    fn try_link(&mut self, alloc: Global, link: &Reason) -> Result<Tried, OutOfMemory> {
+        let Some(goal) = self.goals.last() else {
+            return Ok(Tried::Refused);
+        };
+        let Some(effect) = effect_of(alloc, &self.defs, &self.program, &self.made, goal, link)?
+        else {
+            return Ok(Tried::Refused);
+        };
+        let node = self.made.len() as u32;
+        let traces = traces_with(&mut self.graph, node, link, &effect.pairs)?;
+        tried(alloc, &traces)
+    }
+
+    fn has_too_many_states(&mut self, alloc: Global) -> Result<bool, OutOfMemory> {
+        let traces = self.graph.trace_graph()?;
+        let tried = tried(alloc, &traces)?;
+        Ok(is_above(tried))
+    }
+
+    fn follow(&mut self, alloc: Global, bound: u32, reason: Reason) -> Result<bool, OutOfMemory> {
+        let Some(goal) = self.goals.last() else {
+            return Ok(false);
+        };
+        let Some(effect) = effect_of(alloc, &self.defs, &self.program, &self.made, goal, &reason)?
+        else {
+            return Ok(false);
+        };
+        let others = self.goals.len() - 1;
+        if !has_room(
+            bound,
+            goal.depth,
+            self.made.len(),
+            others,
+            effect.premises.len(),
+        ) {
+            return Ok(false);
+        }
+        self.take(reason, effect)?;
+        Ok(true)
+    }
+
+    fn undo(&mut self, _alloc: Global) -> Result<(), OutOfMemory> {
+        self.take_back()
+    }
+}

@@ -1,0 +1,148 @@
+-- The calculus of a small problem is in order: heaps stay short, premises are few, and trace pairs join predicate atoms.
+use Rattle.std.proofs.Common.{◌≡◌, ℕ, zero, suc, ◌+◌, ◌≤◌, true, List, [], ◌∷◌, map, length, Option, Some, None, slice_get, nat_eq, refl, sym, ap, subst, ◌∙◌, arith}
+use Rattle.std.proofs.lemmas.Bool.{or_left, or_right, eq-eqb}
+use Rattle.std.proofs.lemmas.List.{length-map}
+use Rattle.std.specs.Prelude.{Ok, Err}
+use Rattle.heap_formula.specs.declared.atoms.Spatial.{Spatial}
+use Rattle.heap_formula.specs.declared.atoms.Spatial.TheVariants.{Cell, Pred}
+use Rattle.heap_formula.specs.declared.judgements.Judgement.{Judgement}
+use Rattle.heap_formula.specs.declared.judgements.Pair.{Pair}
+use Rattle.heap_formula.specs.declared.judgements.Premise.{Premise}
+use Rattle.heap_formula.specs.declared.proof_rules.Link.{Link}
+use Rattle.heap_formula.specs.declared.proof_rules.Reason.{Reason}
+use Rattle.heap_formula.specs.declared.proof_rules.Reason.TheVariants.{Step, Back}
+use Rattle.heap_formula.specs.declared.proof_rules.Rule.{Rule}
+use Rattle.heap_formula.specs.declared.proof_rules.RuleFault.{RuleFault}
+use Rattle.heap_formula.specs.Judgements.{antecedent}
+use Rattle.heap_formula.specs.Words.{Each}
+use Rattle.rule_table.specs.Answer.{Answer}
+use Rattle.rule_table.specs.Fits.{IsPredAt, PairsFit, PremiseFits, OnPremises}
+use Rattle.rule_table.specs.LinkTable.{link_fault, link_premise}
+use Rattle.rule_table.specs.RuleBook.{variables_of, rule_answer}
+use Rattle.rule_table.proofs.AllFit.{rule_fits, link_fits}
+use Rattle.format_limits.proofs.Few.{few_premises}
+use Rattle.trace_pairs.specs.Graph.{Edge, Pair as TracePair, has}
+use Rattle.trace_pairs.specs.System.{AreIn}
+use Rattle.proof_graph.specs.Traces.{predicate_places, trace_pair, trace_pairs_of, trace_edge}
+use Rattle.proof_graph.proofs.Places.{places_set}
+use Rattle.derivation_search.specs.Firsts.{IsIn}
+use Rattle.search_moves.specs.Trying.{Theory}
+use Rattle.tableaux.specs.Tableau.{Premise as TracedPremise}
+use Rattle.tableaux.specs.Fair.{IsPremise, ArePremises, IsBack, IsFair}
+use Rattle.search_calculus.specs.Calculus.{OpenGoal, MadeNode, judgement_of, traced, answered, edge_unless, edge_to, back, none_beside, premises}
+use Rattle.search_calculus.specs.Search.{rules_at, calculus_of}
+use Rattle.search_calculus.proofs.ShortHeaps.{IsShort, StaysShort, rule_stays_short}
+
+-- ---- pairs
+
+place_there : (n : ℕ) (xs : List Spatial) (k : ℕ) → IsPredAt xs k → has (predicate_places n xs) (n + k) ≡ true
+place_there n [] k p = let e = p.2 in cc
+place_there n (Cell t ts ∷ xs) zero p = let e = p.2 in cc
+place_there n (Cell t ts ∷ xs) (suc k) p = let e : suc n + k ≡ n + suc k = omega arith in subst (λ m. has (predicate_places (suc n) xs) m ≡ true) e (place_there (suc n) xs k p)
+place_there n (Pred q ts ∷ xs) zero p = let e : n ≡ n + 0 = omega arith in or_left (nat_eq n (n + 0)) (has (predicate_places (suc n) xs) (n + 0)) (eq-eqb n (n + 0) e)
+place_there n (Pred q ts ∷ xs) (suc k) p =
+    let e : suc n + k ≡ n + suc k = omega arith in
+    or_right (nat_eq n (n + suc k)) (has (predicate_places (suc n) xs) (n + suc k)) (subst (λ m. has (predicate_places (suc n) xs) m ≡ true) e (place_there (suc n) xs k p))
+
+place_of : (xs : List Spatial) (k : ℕ) → IsPredAt xs k → has (predicate_places 0 xs) k ≡ true
+place_of xs k p = let e : 0 + k ≡ k = omega arith in subst (λ m. has (predicate_places 0 xs) m ≡ true) e (place_there 0 xs k p)
+
+-- pairs of predicate atoms lead from positions to positions
+pairs_in : (olds news : List Spatial) (pairs : List Pair) → PairsFit olds news pairs → AreIn (trace_pairs_of pairs) (predicate_places 0 olds) (predicate_places 0 news)
+pairs_in olds news [] fit i p at = absurd (let e : None ≡ Some p = at in cc)
+pairs_in olds news (q ∷ pairs) fit zero p at =
+    let e : Some (trace_pair q) ≡ Some p = at in
+    let e' : trace_pair q ≡ p = cc in
+    subst (λ (x : TracePair). (has (predicate_places 0 olds) x.0 ≡ true) × (has (predicate_places 0 news) x.1 ≡ true)) e' (place_of olds q.old fit.0.0, place_of news q.new fit.0.1)
+pairs_in olds news (q ∷ pairs) fit (suc i) p at = pairs_in olds news pairs fit.1 i p at
+
+-- ---- premises
+
+each_premise : (t : Theory) (g : OpenGoal) (ps : List Premise) → IsShort g.premise.judgement → Each (StaysShort g.premise.judgement) ps → Each (PremiseFits g.premise.judgement) ps → (k : ℕ) (p : TracedPremise Judgement) → slice_get (map traced ps) k ≡ Some p →
+    IsPremise (calculus_of t) IsShort g p
+each_premise t g [] short stay fit k p at = absurd (let e : None ≡ Some p = at in cc)
+each_premise t g (x ∷ ps) short stay fit zero p at =
+    let e : Some (traced x) ≡ Some p = at in
+    let e' : traced x ≡ p = cc in
+    subst (IsPremise (calculus_of t) IsShort g) e' (record {
+      occurs = stay.0 short;
+      fit = pairs_in (antecedent g.premise.judgement).spatial (antecedent x.judgement).spatial x.pairs fit.0;
+    })
+each_premise t g (x ∷ ps) short stay fit (suc k) p at = each_premise t g ps short stay.1 fit.1 k p at
+
+answered_premises : (t : Theory) (g : OpenGoal) (answer : Answer) (ps : List (TracedPremise Judgement)) → IsShort g.premise.judgement → OnPremises (StaysShort g.premise.judgement) answer → OnPremises (PremiseFits g.premise.judgement) answer →
+    ((qs : List Premise) → answer ≡ Ok qs → length qs ≤ 16) → answered answer ≡ Some ps → ArePremises (calculus_of t) IsShort g ps
+answered_premises t g (Err f) ps short stay fit few h = absurd (let e : None ≡ Some ps = h in cc)
+answered_premises t g (Ok qs) ps short stay fit few h =
+    let e : Some (map traced qs) ≡ Some ps = h in
+    let e' : map traced qs ≡ ps = cc in
+    let l = length-map qs traced in
+    let n = few qs refl in
+    subst (ArePremises (calculus_of t) IsShort g) e' (record { few = omega (arith, l, n); each = each_premise t g qs short stay fit })
+
+-- ---- links
+
+-- an edge of a link leads to a node made; there is one only without a fault
+edge_back : (t : Theory) (nodes : List MadeNode) (g : OpenGoal) (link : Link) (m : MadeNode) (e : Edge) (f : Option RuleFault) → slice_get nodes link.target ≡ Some m → link_fault g.premise.judgement (judgement_of m) link (variables_of t.lines g.premise.judgement) ≡ f → edge_unless f (judgement_of m) link ≡ Some e →
+    IsBack (calculus_of t) nodes g e
+edge_back t nodes g link m e (Some f) at is h = absurd (let x : None ≡ Some e = h in cc)
+edge_back t nodes g link m e None at is h =
+    let x : Some (trace_edge link.target (link_premise (judgement_of m) link).pairs) ≡ Some e = h in
+    let x' : trace_edge link.target (link_premise (judgement_of m) link).pairs ≡ e = cc in
+    subst (IsBack (calculus_of t) nodes g) x' (record {
+      node = m;
+      is_node = at;
+      fit = pairs_in (antecedent g.premise.judgement).spatial (antecedent (judgement_of m)).spatial (link_premise (judgement_of m) link).pairs (link_fits g.premise.judgement (judgement_of m) link (variables_of t.lines g.premise.judgement) is);
+    })
+
+link_back : (t : Theory) (nodes : List MadeNode) (g : OpenGoal) (link : Link) (e : Edge) (o : Option MadeNode) → slice_get nodes link.target ≡ o → edge_to t g.premise.judgement link o ≡ Some e → IsBack (calculus_of t) nodes g e
+link_back t nodes g link e None at h = absurd (let x : None ≡ Some e = h in cc)
+link_back t nodes g link e (Some m) at h =
+    edge_back t nodes g link m e (link_fault g.premise.judgement (judgement_of m) link (variables_of t.lines g.premise.judgement)) at refl h
+
+-- a link has no premises
+pub beside_none : (o : Option Edge) (ps : List (TracedPremise Judgement)) → none_beside o ≡ Some ps → ps ≡ []
+beside_none None ps h = absurd (let e : None ≡ Some ps = h in cc)
+beside_none (Some e) ps h = let x : Some [] ≡ Some ps = h in cc
+
+-- ---- offers
+
+-- what is made of rules is no link
+step_forth : (t : Theory) (nodes : List MadeNode) (g : OpenGoal) (rules : List Rule) (k : ℕ) (r : Reason) → slice_get (map Step rules) k ≡ Some r → back t nodes g r ≡ None
+step_forth t nodes g [] k r at = absurd (let e : None ≡ Some r = at in cc)
+step_forth t nodes g (rule ∷ rules) zero r at =
+    let e : Some (Step rule) ≡ Some r = at in
+    let e' : Step rule ≡ r = cc in subst (λ (r : Reason). back t nodes g r ≡ None) e' refl
+step_forth t nodes g (rule ∷ rules) (suc k) r at = step_forth t nodes g rules k r at
+
+-- ---- the calculus
+
+pub small_is_fair : (t : Theory) → t.most ≡ 16 → Each (λ d. length d.cases ≤ 16) t.definitions → IsFair (calculus_of t) (λ j. length (antecedent j).spatial ≤ 16) (λ r. Unit {0})
+small_is_fair t most cases = record {
+  positions = λ j short. places_set (antecedent j).spatial (omega (arith, short));
+  offers = λ nodes g r occur offered. tt;
+  premises = λ nodes g r ps occur allowed h. have_premises nodes g r ps occur.goal h;
+  links_back = λ nodes g r e occur allowed h. lead_back nodes g r e h;
+  links_alone = λ nodes g r e ps b h. stand_alone nodes g r e ps b h;
+  rules_forth = λ nodes g r is_in. lead_forth nodes g r is_in;
+}
+  where
+    have_premises : (nodes : List MadeNode) (g : OpenGoal) (r : Reason) (ps : List (TracedPremise Judgement)) → IsShort g.premise.judgement → premises t nodes g r ≡ Some ps → ArePremises (calculus_of t) IsShort g ps
+    have_premises nodes g (Step rule) ps short h =
+        let same : rule_answer t.most t.definitions t.lines g.premise.judgement rule ≡ rule_answer 16 t.definitions t.lines g.premise.judgement rule =
+        ap (λ n. rule_answer n t.definitions t.lines g.premise.judgement rule) most in
+        answered_premises t g (rule_answer 16 t.definitions t.lines g.premise.judgement rule) ps short (rule_stays_short t.definitions t.lines g.premise.judgement rule) (rule_fits 16 t.definitions t.lines g.premise.judgement rule) (λ qs e. few_premises t.definitions t.lines g.premise.judgement rule qs cases e) (sym (ap answered same) ∙ h)
+    have_premises nodes g (Back link) ps short h =
+        let none : ps ≡ [] = beside_none (edge_to t g.premise.judgement link (slice_get nodes link.target)) ps h in
+        subst (ArePremises (calculus_of t) IsShort g) (sym none) (record { few = omega arith; each = λ k p at. absurd (let e : None ≡ Some p = at in cc) })
+
+    lead_back : (nodes : List MadeNode) (g : OpenGoal) (r : Reason) (e : Edge) → back t nodes g r ≡ Some e → IsBack (calculus_of t) nodes g e
+    lead_back nodes g (Step rule) e h = absurd (let x : None ≡ Some e = h in cc)
+    lead_back nodes g (Back link) e h = link_back t nodes g link e (slice_get nodes link.target) refl h
+
+    stand_alone : (nodes : List MadeNode) (g : OpenGoal) (r : Reason) (e : Edge) (ps : List (TracedPremise Judgement)) → back t nodes g r ≡ Some e → premises t nodes g r ≡ Some ps → ps ≡ []
+    stand_alone nodes g (Step rule) e ps b h = absurd (let x : None ≡ Some e = b in cc)
+    stand_alone nodes g (Back link) e ps b h = beside_none (edge_to t g.premise.judgement link (slice_get nodes link.target)) ps h
+
+    lead_forth : (nodes : List MadeNode) (g : OpenGoal) (r : Reason) → IsIn (rules_at t nodes g) r → back t nodes g r ≡ None
+    lead_forth nodes g r is_in = step_forth t nodes g _ is_in.place r is_in.at

@@ -1,0 +1,167 @@
+-- The premises of a rule have at most sixteen spatial atoms on the left, as its judgement has.
+use Rattle.std.proofs.Common.{◌≡◌, ℕ, ◌+◌, ◌≤◌, max, Bool, true, false, cond, List, [], ◌∷◌, ◌++◌, map, length, slice_get, nat_eq, arith}
+use Rattle.std.proofs.lemmas.List.{length-map}
+use Rattle.std.specs.Prelude.{Ok, if◌then◌else◌}
+use Rattle.heap_formula.specs.declared.terms.Term.{Term}
+use Rattle.heap_formula.specs.declared.terms.Term.TheVariants.{Nil, Univ, Exist}
+use Rattle.heap_formula.specs.declared.atoms.Pure.{Pure}
+use Rattle.heap_formula.specs.declared.atoms.Pure.TheVariants.{Eq, Neq}
+use Rattle.heap_formula.specs.declared.atoms.Spatial.{Spatial}
+use Rattle.heap_formula.specs.declared.atoms.Spatial.TheVariants.{Cell, Pred}
+use Rattle.heap_formula.specs.declared.commands.Command.{Command}
+use Rattle.heap_formula.specs.declared.commands.Command.TheVariants.{Assign, Load, Store, New, Free, IfEq, IfNeq, Goto, Stop}
+use Rattle.heap_formula.specs.declared.judgements.Judgement.{Judgement}
+use Rattle.heap_formula.specs.declared.judgements.Judgement.TheVariants.{Entail, Term as Runs}
+use Rattle.heap_formula.specs.declared.judgements.Premise.{Premise}
+use Rattle.heap_formula.specs.declared.proof_rules.Rule.{Rule}
+use Rattle.heap_formula.specs.declared.proof_rules.Rule.TheVariants.{Absurd, Rewrite, Split, Distinct, Weaken, Unfold, Cut, Done, Choose, PureRight, Instantiate, Frame, UnfoldRight, Exec, Drop}
+use Rattle.heap_formula.specs.declared.proof_rules.RuleFault.TheVariants.{NoSuchAtom, AtomsDiffer, HasExistential, NotFollowing, NotAbsurd, NoSuchCase, NoCell, WrongJudgement}
+use Rattle.heap_formula.specs.declared.proof_rules.Side.{Side}
+use Rattle.heap_formula.specs.Definitions.{Definition}
+use Rattle.heap_formula.specs.Fresh.{fresh_number, heap_bound, heap_exists}
+use Rattle.heap_formula.specs.Judgements.{antecedent}
+use Rattle.heap_formula.specs.Meaning.{cases_of}
+use Rattle.heap_formula.specs.Positions.{without, kept_pairs}
+use Rattle.heap_formula.specs.Programs.{counted_from_one, program_variables}
+use Rattle.heap_formula.specs.Substitution.{in_heap, apply_spatial}
+use Rattle.heap_formula.specs.Symbolic.{SymbolicHeap}
+use Rattle.heap_formula.specs.Words.{Each}
+use Rattle.rule_table.specs.Answer.{finds, heaps_of, every, each_heap, is_short, limited, one, two}
+use Rattle.rule_table.specs.ExecTable.{cell_of, renamed, renamed_term, with_atom, variables_from, with_cell, with_field, at_line, command_answer}
+use Rattle.rule_table.specs.Fits.{OnPremises}
+use Rattle.rule_table.specs.RuleBook.{variables_of, rule_answer}
+use Rattle.rule_table.specs.RuleCut.{cut_left, cut_right}
+use Rattle.rule_table.specs.RuleUnfold.{unfold_premise}
+use Rattle.rule_table.specs.Table.{with_pures, with_pure, with_right, without_spatial, rewritten, rewrite_side, rewrite_atom, named, unnamed, calls, are_empty, right_term, unfolded_right}
+use Rattle.rule_table.specs.Tests.{same_term, same_spatial, is_universal_pure, is_universal_spatial, follows, is_absurd, address_of, ascend_from, has_number}
+use Rattle.rule_table.proofs.Fits.{needs_on, finds_on, limited_on, entails_on, single_on, runs_on}
+use Rattle.rule_table.proofs.Reflects.{both}
+use Rattle.format_limits.proofs.Gives.{limited_gives}
+use Rattle.format_limits.proofs.Heaps.{length-without, short_spatials}
+
+-- the antecedent has at most sixteen spatial atoms
+abbrev pub IsShort : Judgement → Type 0
+IsShort j = length (antecedent j).spatial ≤ 16
+
+abbrev pub StaysShort : Judgement → Premise → Type 0
+StaysShort j p = IsShort j → IsShort p.judgement
+
+-- ---- rules that add spatial atoms test for it
+
+first_short : (j : Judgement) → every (is_short 16) (heaps_of j) ≡ true → IsShort j
+first_short (Entail a bs) e = short_spatials 16 a (both (is_short 16 a) (every (is_short 16) bs) e).0
+first_short (Runs i a) e = short_spatials 16 a (both (is_short 16 a) true e).0
+
+tested_short : (j : Judgement) (ps : List Premise) → each_heap (is_short 16) ps ≡ true → Each (StaysShort j) ps
+tested_short j [] e = tt
+tested_short j (p ∷ ps) e =
+    let b = both (every (is_short 16) (heaps_of p.judgement)) (each_heap (is_short 16) ps) e in ((λ h. first_short p.judgement b.0), tested_short j ps b.1)
+
+limited_short : (j : Judgement) (ps : List Premise) → OnPremises (StaysShort j) (limited 16 ps)
+limited_short j ps = limited_gives (OnPremises (StaysShort j)) (λ f. tt) 16 ps (λ s n. tested_short j ps s)
+
+-- ---- the others keep the atoms, or drop some
+
+pures_short : (j : Judgement) (xs : List Pure) → StaysShort j (with_pures j xs)
+pures_short (Entail a bs) xs h = h
+pures_short (Runs i a) xs h = h
+
+rewritten_short : (p : ℕ) (j : Judgement) (k : ℕ) (x : Pure) (v : ℕ) (u : Term) → StaysShort j (rewritten p j k x v u)
+rewritten_short p (Entail a bs) k x v u h = let e = length-map a.spatial (apply_spatial ((v, u) ∷ [])) in omega (arith, e, h)
+rewritten_short p (Runs i a) k x v u h = let e = length-map a.spatial (apply_spatial ((v, u) ∷ [])) in omega (arith, e, h)
+
+side_short : (p : ℕ) (j : Judgement) (k : ℕ) (x : Pure) (t u : Term) → OnPremises (StaysShort j) (rewrite_side p j k x t u)
+side_short p j k x Nil u = tt
+side_short p j k x (Exist m) u = tt
+side_short p j k x (Univ v) u = (rewritten_short p j k x v u, tt)
+
+test_short : (b : Bool) (p : ℕ) (j : Judgement) (k : ℕ) (x : Pure) (t u : Term) → OnPremises (StaysShort j) (cond b (Ok (one (with_pures j (without k (antecedent j).pure)))) (rewrite_side p j k x t u))
+test_short true p j k x t u = (pures_short j (without k (antecedent j).pure), tt)
+test_short false p j k x t u = side_short p j k x t u
+
+atom_short : (p : ℕ) (j : Judgement) (k : ℕ) (side : Side) (x : Pure) → OnPremises (StaysShort j) (rewrite_atom p j k side x)
+atom_short p j k side (Neq t u) = tt
+atom_short p j k side (Eq t u) = test_short (same_term t u) p j k (Eq t u) (named side t u) (unnamed side t u)
+
+unfold_short : (ds : List Definition) (p : ℕ) (j : Judgement) (k : ℕ) (x : Spatial) → OnPremises (StaysShort j) (calls x (λ q ts. limited 16 (map (unfold_premise j k ts (fresh_number p j)) (cases_of ds q))))
+unfold_short ds p j k (Cell t ts) = tt
+unfold_short ds p j k (Pred q ts) = limited_short j (map (unfold_premise j k ts (fresh_number p j)) (cases_of ds q))
+
+empty_short : (P : Premise → Type 0) (xs : List Spatial) (ps : List Pure) (ys : List Spatial) → OnPremises P (are_empty xs ps ys)
+empty_short P [] [] [] = tt
+empty_short P [] [] (y ∷ ys) = tt
+empty_short P [] (p ∷ ps) ys = tt
+empty_short P (x ∷ xs) ps ys = tt
+
+dropped_short : (k : ℕ) (xs : List Spatial) → length xs ≤ 16 → length (without k xs) ≤ 16
+dropped_short k xs h = let e = length-without xs k in omega (arith, e, h)
+
+right_short : (ds : List Definition) (a b : SymbolicHeap) (k c : ℕ) (x : Spatial) → OnPremises (StaysShort (Entail a (b ∷ []))) (calls x (λ q ts. finds (slice_get (cases_of ds q) c) NoSuchCase (λ case. limited 16 (one (with_right a (unfolded_right b k (in_heap (right_term ts (heap_exists b)) case) ∷ []))))))
+right_short ds a b k c (Cell t ts) = tt
+right_short ds a b k c (Pred q ts) =
+    finds_on (StaysShort (Entail a (b ∷ []))) (slice_get (cases_of ds q) c) NoSuchCase _ (λ case at.
+    limited_short (Entail a (b ∷ [])) (one (with_right a (unfolded_right b k (in_heap (right_term ts (heap_exists b)) case) ∷ []))))
+
+command_short : (i : ℕ) (a : SymbolicHeap) (n : ℕ) (c : Command) → OnPremises (StaysShort (Runs i a)) (command_answer 16 i a n c)
+command_short i a n Stop = tt
+command_short i a n (Goto j) = limited_short (Runs i a) (one (at_line j a a))
+command_short i a n (IfEq t u j) =
+    limited_short (Runs i a) (two (at_line j a (with_atom a (Eq t u))) (at_line (i + 1) a (with_atom a (Neq t u))))
+command_short i a n (IfNeq t u j) =
+    limited_short (Runs i a) (two (at_line j a (with_atom a (Neq t u))) (at_line (i + 1) a (with_atom a (Eq t u))))
+command_short i a n (Assign x t) =
+    limited_short (Runs i a) (one (at_line (i + 1) a (with_atom (renamed x n a) (Eq (Univ x) (renamed_term x n t)))))
+command_short i a n (Load x t k) =
+    finds_on (StaysShort (Runs i a)) (cell_of a.pure t a.spatial) NoCell _ (λ c found.
+    finds_on (StaysShort (Runs i a)) (counted_from_one c.fields k) NoCell _ (λ f field. limited_short (Runs i a) (one (at_line (i + 1) a (with_atom (renamed x n a) (Eq (Univ x) (renamed_term x n f)))))))
+command_short i a n (Store t k u) =
+    finds_on (StaysShort (Runs i a)) (cell_of a.pure t a.spatial) NoCell _ (λ c found.
+    finds_on (StaysShort (Runs i a)) (counted_from_one c.fields k) NoCell _ (λ f field. limited_short (Runs i a) (one (at_line (i + 1) a (with_field a c k u)))))
+command_short i a n (New x k) =
+    limited_short (Runs i a) (one (at_line (i + 1) a (with_cell (renamed x n a) x (variables_from (n + 1) k))))
+command_short i a n (Free t) =
+    finds_on (StaysShort (Runs i a)) (cell_of a.pure t a.spatial) NoCell _ (λ c found.
+    limited_short (Runs i a) (one (record { judgement = Runs (i + 1) (without_spatial c.place a); pairs = kept_pairs c.place a.spatial })))
+
+-- the premises of a rule have short antecedents
+pub rule_stays_short : (ds : List Definition) (lines : List Command) (j : Judgement) (rule : Rule) → OnPremises (StaysShort j) (rule_answer 16 ds lines j rule)
+rule_stays_short ds lines j Absurd = needs_on (StaysShort j) (is_absurd (antecedent j)) NotAbsurd (Ok []) (λ _. tt)
+rule_stays_short ds lines j (Rewrite k side) =
+    finds_on (StaysShort j) (slice_get (antecedent j).pure k) NoSuchAtom _ (λ x at. atom_short (variables_of lines j) j k side x)
+rule_stays_short ds lines j (Split t u) =
+    limited_on (StaysShort j) 32 (two (with_pure j (Eq t u)) (with_pure j (Neq t u))) (pures_short j ((antecedent j).pure ++ Eq t u ∷ []), (pures_short j ((antecedent j).pure ++ Neq t u ∷ []), tt))
+rule_stays_short ds lines j (Distinct i k) =
+    finds_on (StaysShort j) (slice_get (antecedent j).spatial i) NoSuchAtom _ (λ x at_i.
+    finds_on (StaysShort j) (slice_get (antecedent j).spatial k) NoSuchAtom _ (λ y at_k.
+    finds_on (StaysShort j) (address_of x) NoCell _ (λ t is_t.
+    finds_on (StaysShort j) (address_of y) NoCell _ (λ u is_u.
+    limited_on (StaysShort j) 32 (one (with_pure j (Neq t (if nat_eq i k then Nil else u)))) (pures_short j ((antecedent j).pure ++ Neq t (if nat_eq i k then Nil else u) ∷ []), tt)))))
+rule_stays_short ds lines j (Weaken k) =
+    finds_on (StaysShort j) (slice_get (antecedent j).pure k) NoSuchAtom _ (λ x at. (pures_short j (without k (antecedent j).pure), tt))
+rule_stays_short ds lines j (Unfold k) =
+    finds_on (StaysShort j) (slice_get (antecedent j).spatial k) NoSuchAtom _ (λ x at. unfold_short ds (variables_of lines j) j k x)
+rule_stays_short ds lines j (Cut places f) =
+    needs_on (StaysShort j) (ascend_from 0 (length (antecedent j).spatial) places) NoSuchAtom _ (λ _.
+    limited_short j (two (cut_left (antecedent j) (has_number places) f) (cut_right j (has_number places) f (max (fresh_number (variables_of lines j) j) (heap_bound f)))))
+rule_stays_short ds lines j Done =
+    single_on StaysShort j _ (λ a b. empty_short (StaysShort (Entail a (b ∷ []))) a.spatial b.pure b.spatial)
+rule_stays_short ds lines j (Choose k) =
+    entails_on StaysShort j _ (λ a bs. finds_on (StaysShort (Entail a bs)) (slice_get bs k) NoSuchAtom _ (λ b at. ((λ h. h), tt)))
+rule_stays_short ds lines j (PureRight k) =
+    single_on StaysShort j _ (λ a b.
+    finds_on (StaysShort (Entail a (b ∷ []))) (slice_get b.pure k) NoSuchAtom _ (λ x at.
+    needs_on (StaysShort (Entail a (b ∷ []))) (is_universal_pure x) HasExistential _ (λ _.
+    needs_on (StaysShort (Entail a (b ∷ []))) (follows a.pure x) NotFollowing _ (λ _. ((λ h. h), tt)))))
+rule_stays_short ds lines j (Instantiate v t) = single_on StaysShort j _ (λ a b. ((λ h. h), tt))
+rule_stays_short ds lines j (Frame i k) =
+    single_on StaysShort j _ (λ a b.
+    finds_on (StaysShort (Entail a (b ∷ []))) (slice_get a.spatial i) NoSuchAtom _ (λ x at_i.
+    finds_on (StaysShort (Entail a (b ∷ []))) (slice_get b.spatial k) NoSuchAtom _ (λ y at_k.
+    needs_on (StaysShort (Entail a (b ∷ []))) (is_universal_spatial y) HasExistential _ (λ _.
+    needs_on (StaysShort (Entail a (b ∷ []))) (same_spatial x y) AtomsDiffer _ (λ _. (dropped_short i a.spatial, tt))))))
+rule_stays_short ds lines j (UnfoldRight k c) =
+    single_on StaysShort j _ (λ a b. finds_on (StaysShort (Entail a (b ∷ []))) (slice_get b.spatial k) NoSuchAtom _ (λ x at. right_short ds a b k c x))
+rule_stays_short ds lines j Exec =
+    runs_on StaysShort j _ (λ i a. finds_on (StaysShort (Runs i a)) (counted_from_one lines i) WrongJudgement _ (λ c at. command_short i a (fresh_number (program_variables lines) j) c))
+rule_stays_short ds lines j (Drop k) =
+    runs_on StaysShort j _ (λ i a. finds_on (StaysShort (Runs i a)) (slice_get a.spatial k) NoSuchAtom _ (λ x at. (dropped_short k a.spatial, tt)))

@@ -1,0 +1,4 @@
+pub mod Calculus
+pub mod Graphs
+pub mod Problems
+pub mod Search
