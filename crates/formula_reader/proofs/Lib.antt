@@ -1,6 +1,6 @@
 mod Counts
-mod Fitting
+pub mod Fitting
 mod WithinSpans
 mod SpanLaws
-mod Readings
-mod Keeping
+pub mod Readings
+pub mod Keeping

@@ -27,7 +27,7 @@ same_tree ts t u first second =
     ok_is t u (sym (whole_again problem problem-law t first.0) ∙ ap (read_whole problem) (sym first.1 ∙ second.1) ∙ whole_again problem problem-law u second.0)
 
 -- tokens that spell a tree have no syntax fault
-no_syntax_fault : (ts : List Placed) (t : named.Problem) (token line column : ℕ) → SpellsTree ts t → IsSyntaxFault problem ts token line column → ⊥
+pub no_syntax_fault : (ts : List Placed) (t : named.Problem) (token line column : ℕ) → SpellsTree ts t → IsSyntaxFault problem ts token line column → ⊥
 no_syntax_fault ts t token line column spelled fault =
     fault.first.dead (t, drop (token + 1) (map word_of ts), spelled.0, sym spelled.1 ∙ sym (take-append-drop (token + 1) (map word_of ts)))
 
@@ -35,14 +35,23 @@ none_some : (x : Flaw) (flaw : Option Flaw) → flaw ≡ None → flaw ≡ Some 
 none_some x None none some = cc
 none_some x (Some y) none some = cc
 
+some_item : (x y : Flaw) (flaw : Option Flaw) → flaw ≡ Some x → flaw ≡ Some y → x.item ≡ y.item
+some_item x y flaw first second = let e : Some x ≡ Some y = sym first ∙ second in cc
+
 -- a tree that says a problem has no flaw
-no_flaw : (ts : List Placed) (p : Problem) (item : Item) (token line column : ℕ) → SpellsProblem ts p → HasFlaw ts item token line column → ⊥
+pub no_flaw : (ts : List Placed) (p : Problem) (item : Item) (token line column : ℕ) → SpellsProblem ts p → HasFlaw ts item token line column → ⊥
 no_flaw ts p item token line column spelled flaw =
     let same : flaw_of spelled.0 ≡ flaw_of flaw.0 = ap flaw_of (same_tree ts spelled.0 flaw.0 spelled.1 flaw.1) in
     none_some _ (flaw_of spelled.0) spelled.2 (same ∙ flaw.2)
 
+-- a tree has one flaw
+pub one_flaw : (ts : List Placed) (a b : Item) (token line column token' line' column' : ℕ) → HasFlaw ts a token line column → HasFlaw ts b token' line' column' → a ≡ b
+one_flaw ts a b token line column token' line' column' first second =
+    let same : flaw_of first.0 ≡ flaw_of second.0 = ap flaw_of (same_tree ts first.0 second.0 first.1 second.1) in
+    some_item _ _ (flaw_of second.0) (sym same ∙ first.2) second.2
+
 -- a tree says one problem
-one_problem : (ts : List Placed) (p q : Problem) → SpellsProblem ts p → SpellsProblem ts q → AreSame p q
+pub one_problem : (ts : List Placed) (p q : Problem) → SpellsProblem ts p → SpellsProblem ts q → AreSame p q
 one_problem ts p q first second =
     let same : second.0 ≡ first.0 = same_tree ts second.0 first.0 second.1 first.1 in
     let of_first : IsProblemOf (numbered first.0) q = subst (λ t. IsProblemOf (numbered t) q) same second.3 in
@@ -54,7 +63,7 @@ one_problem ts p q first second =
     }
 
 -- bytes with a bad place have no tokens
-no_tokens : (bytes : List ℕ) (fault : LexFault) (ts : List Placed) → IsLexFault bytes fault → tokens_of bytes ≡ Ok ts → ⊥
+pub no_tokens : (bytes : List ℕ) (fault : LexFault) (ts : List Placed) → IsLexFault bytes fault → tokens_of bytes ≡ Ok ts → ⊥
 no_tokens bytes lexical.OutOfMemory ts bad good = bad
 no_tokens bytes (lexical.BadByte o l c) ts bad good = cc
 no_tokens bytes (lexical.BadUtf8 o l c) ts bad good = cc
@@ -62,7 +71,7 @@ no_tokens bytes (lexical.LongNumber o l c) ts bad good = cc
 no_tokens bytes (lexical.LongName o l c) ts bad good = cc
 
 -- the tokens of bytes are one list
-ok_tokens : (ts us : List Placed) (bytes : List ℕ) → tokens_of bytes ≡ Ok ts → tokens_of bytes ≡ Ok us → us ≡ ts
+pub ok_tokens : (ts us : List Placed) (bytes : List ℕ) → tokens_of bytes ≡ Ok ts → tokens_of bytes ≡ Ok us → us ≡ ts
 ok_tokens ts us bytes first second = cc
 
 -- bytes that spell a problem are read as that problem

@@ -8,7 +8,7 @@ ghost use Rattle.goto_lang.specs.Lines.{IsUniversalCommand, commands_of, IsProgr
 
 use crate::faults::ProgramFault;
 use heap_formula::{Command, Count, Term};
-use std::alloc::Global;
+use std::alloc::{AllocError, Global};
 use std::marker::Model;
 
 /// The greatest number of lines.
@@ -34,6 +34,15 @@ impl Model for Program {
     ghost view = { λ p. p.lines.items };
 
     ghost invariant = { λ p. IsProgram p.lines.items };
+}
+
+impl Clone for Program {
+    ghost is_clone = { λ program copy. copy ≡ program };
+
+    fn clone(&self) -> Result<Program, AllocError> {
+        let lines = self.lines.clone()?;
+        Ok(Program { lines })
+    }
 }
 
 fn fault_of_variable(variable: u16) -> Option<ProgramFault>

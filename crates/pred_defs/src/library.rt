@@ -33,6 +33,19 @@ impl Model for Defs {
     ghost invariant = { λ d. (d.most ≤ 32) × (length d.items.items ≤ 4096) };
 }
 
+impl Clone for Defs {
+    ghost is_clone = { λ defs copy. copy ≡ defs };
+
+    fn clone(&self) -> Result<Defs, AllocError> {
+        let items = self.items.clone()?;
+        Ok(Defs {
+            alloc: self.alloc,
+            most: self.most,
+            items,
+        })
+    }
+}
+
 impl Defs {
     /// No definitions. `most` is the greatest number of spatial atoms of a heap, 16 or 32 by the format's version.
     pub fn new(alloc: Global, most: u8) -> Defs

@@ -1,0 +1,147 @@
+-- The calculus of a problem within the limits is fair, for the judgements and the reasons within them.
+use Rattle.std.proofs.Common.{◌≡◌, ℕ, ◌+◌, ◌⊎◌, inl, inr, arith, length-append, List, [], ◌∷◌, map, Some, None, slice_get, length, refl, sym, ap, subst, ◌∙◌}
+use Rattle.std.specs.Prelude.{Ok, Err}
+use Rattle.std.proofs.lemmas.Bool.{cases_eq}
+use Rattle.std.proofs.lemmas.Option.{slice_get_within}
+use Rattle.heap_formula.specs.declared.judgements.Judgement.{Judgement}
+use Rattle.heap_formula.specs.declared.judgements.Premise.{Premise}
+use Rattle.heap_formula.specs.declared.proof_rules.Link.{Link}
+use Rattle.heap_formula.specs.declared.proof_rules.Reason.{Reason}
+use Rattle.heap_formula.specs.declared.proof_rules.Reason.TheVariants.{Step, Back}
+use Rattle.heap_formula.specs.declared.proof_rules.Rule.{Rule}
+use Rattle.heap_formula.specs.Judgements.{antecedent}
+use Rattle.heap_formula.specs.Words.{Each}
+use Rattle.rule_table.specs.Answer.{Answer}
+use Rattle.rule_table.specs.RuleBook.{rule_answer}
+use Rattle.format_limits.specs.Limits.{IsHeapWithin, IsJudgementWithin, IsPremiseWithin, IsRuleWithin, IsReasonWithin}
+use Rattle.format_limits.proofs.Heaps.{Each-map, small}
+use Rattle.format_limits.proofs.Judgements.{first_heap}
+use Rattle.format_limits.proofs.Few.{are_few}
+use Rattle.format_limits.proofs.Premises.{premises_within}
+use Rattle.offer_limits.proofs.Members.{each_get}
+use Rattle.offer_limits.proofs.RulesWithin.{rules_within}
+use Rattle.offer_limits.proofs.LinksWithin.{links_within}
+use Rattle.buchi_core.proofs.Lists.{get_one, get_within}
+use Rattle.proof_graph.specs.declared.nodes.GraphNode.{GraphNode}
+use Rattle.proof_graph.specs.Nodes.{open_node}
+use Rattle.derivation_search.specs.Firsts.{IsIn}
+use Rattle.search_moves.specs.Trying.{Theory}
+use Rattle.search_moves.specs.Offering.{links_offered, rules_offered}
+use Rattle.tableaux.specs.Tableau.{Premise as TracedPremise}
+use Rattle.tableaux.specs.Fair.{AllOccur, IsFair}
+use Rattle.search_calculus.specs.Calculus.{OpenGoal, MadeNode, judgement_of, traced, answered, edge_to, premises}
+use Rattle.search_calculus.specs.Graphs.{goal_graph}
+use Rattle.search_calculus.specs.Problems.{IsSmallProblem}
+use Rattle.search_calculus.specs.Search.{links_at, rules_at, calculus_of}
+use Rattle.search_calculus.proofs.ProofGraphs.{shown, length-shown, goal_graph_is, goal_last, goal_shows}
+use Rattle.search_calculus.proofs.ShortHeaps.{IsShort}
+use Rattle.search_calculus.proofs.Fairness.{beside_none, small_is_fair}
+use Rattle.found_files.specs.Found.{IsWithinLimits}
+
+abbrev pub Occurs : Theory → Judgement → Type 0
+Occurs t j = IsJudgementWithin t.definitions (length t.lines) j
+
+abbrev pub Allows : Theory → Reason → Type 0
+Allows t r = IsReasonWithin t.definitions r
+
+-- ---- answers
+
+-- an answer with premises
+pub record HasAnswer (answer : Answer) (ps : List (TracedPremise Judgement)) : Type 0 where
+  pub premises : List Premise
+  pub is_answer : answer ≡ Ok premises
+  pub are : map traced premises ≡ ps
+
+pub answer_of : (answer : Answer) (ps : List (TracedPremise Judgement)) → answered answer ≡ Some ps → HasAnswer answer ps
+answer_of (Ok qs) ps h = record { premises = qs; is_answer = refl; are = (let e : Some (map traced qs) ≡ Some ps = h in cc) }
+answer_of (Err f) ps h = absurd (let e : None ≡ Some ps = h in cc)
+
+-- ---- judgements within the limits are short
+
+short_within : (t : Theory) (j : Judgement) → Occurs t j → IsShort j
+short_within t j h = (small t.definitions (antecedent j) (first_heap (IsHeapWithin t.definitions) j h.heaps)).spatials
+
+-- ---- the graph of a goal
+
+-- what is so of the judgements of the nodes made and of the goal is so of those of the graph's nodes
+goal_has : (P : Judgement → Type 0) (t : Theory) (nodes : List MadeNode) (g : OpenGoal) → ((i : ℕ) (m : MadeNode) → slice_get nodes i ≡ Some m → P (judgement_of m)) → P g.premise.judgement →
+    (v : ℕ) (node : GraphNode) → slice_get (goal_graph t nodes g) v ≡ Some node → P node.judgement
+goal_has P t nodes g each here v node at =
+    elim (cases_eq v (length nodes)) [
+      | inl last ↦
+          (let is : slice_get (goal_graph t nodes g) v ≡ Some (open_node g.premise.judgement) = ap (slice_get (goal_graph t nodes g)) last ∙ goal_last t nodes g in
+          subst (λ (x : GraphNode). P x.judgement) (get_one (goal_graph t nodes g) v (open_node g.premise.judgement) node is at) here)
+      | inr other ↦
+          (let m = get_within nodes v (omega (arith, other, size, slice_get_within (goal_graph t nodes g) v node at)) in
+          let shown = goal_shows t nodes g v m.0 m.1 in
+          subst P (sym shown.judgement ∙ ap (λ (x : GraphNode). x.judgement) (get_one (goal_graph t nodes g) v shown.node node shown.is_node at)) (each v m.0 m.1))
+    ]
+  where
+    size : length (goal_graph t nodes g) ≡ length nodes + 1
+    size =
+        ap length (goal_graph_is t nodes g)
+        ∙ (length-append (shown t nodes g) (open_node g.premise.judgement ∷ []) ∙ ap (λ n. n + 1) (length-shown t nodes g))
+
+-- ---- the calculus
+
+module _ (t : Theory) (goal : Judgement) (limits : IsWithinLimits t goal) where
+  pub is_small : IsSmallProblem t goal
+  is_small = record { most = limits.most; cases = are_few t.definitions t.definitions limits.definitions; short = short_within t goal limits.goal_within }
+
+  -- the answer does not depend on the greatest number of atoms but by the limit
+  pub answer_within : (j : Judgement) (rule : Rule) (qs : List Premise) → rule_answer t.most t.definitions t.lines j rule ≡ Ok qs → rule_answer 16 t.definitions t.lines j rule ≡ Ok qs
+  answer_within j rule qs h = ap (λ n. rule_answer n t.definitions t.lines j rule) (sym limits.most) ∙ h
+
+  small_fair : IsFair (calculus_of t) IsShort (λ r. Unit {0})
+  small_fair = small_is_fair t is_small.most is_small.cases
+
+  all_short : (nodes : List MadeNode) (g : OpenGoal) → AllOccur (Occurs t) nodes g → AllOccur IsShort nodes g
+  all_short nodes g occur = record {
+    goal = short_within t g.premise.judgement occur.goal;
+    made = λ i m at. short_within t (judgement_of m) (occur.made i m at);
+  }
+
+  -- what a goal within the limits is offered is within them
+  offered : (nodes : List MadeNode) (g : OpenGoal) (r : Reason) → AllOccur (Occurs t) nodes g → IsIn (links_at t nodes g) r ⊎ IsIn (rules_at t nodes g) r → Allows t r
+  offered nodes g r occur offer =
+      elim offer [
+        | inl link ↦ each_get (Allows t) (links_at t nodes g) link.place r (Each-map (λ (l : Link). Allows t (Back l)) (Allows t) Back (λ l h. h) (links_offered t graph (length nodes) g.premise.judgement) links) link.at
+        | inr rule ↦ each_get (Allows t) (rules_at t nodes g) rule.place r (Each-map (IsRuleWithin t.definitions) (Allows t) Step (λ x h. h) (rules_offered t graph (length nodes) g.premise.judgement) rules) rule.at
+      ]
+    where
+      graph : List GraphNode
+      graph = goal_graph t nodes g
+
+      links : Each (λ (link : Link). IsReasonWithin t.definitions (Back link)) (links_offered t graph (length nodes) g.premise.judgement)
+      links = links_within t graph (length nodes) g.premise.judgement occur.goal (goal_has (Occurs t) t nodes g occur.made occur.goal)
+
+      rules : Each (IsRuleWithin t.definitions) (rules_offered t graph (length nodes) g.premise.judgement)
+      rules = rules_within t graph (length nodes) g.premise.judgement limits.most limits.definitions limits.program occur.goal
+
+  -- the premises of a reason within the limits are within them
+  premises_occur : (nodes : List MadeNode) (g : OpenGoal) (r : Reason) (ps : List (TracedPremise Judgement)) → AllOccur (Occurs t) nodes g → Allows t r → premises t nodes g r ≡ Some ps →
+      (k : ℕ) (p : TracedPremise Judgement) → slice_get ps k ≡ Some p → Occurs t p.judgement
+  premises_occur nodes g (Step rule) ps occur allowed h k p at =
+      let a = answer_of (rule_answer t.most t.definitions t.lines g.premise.judgement rule) ps h in
+      let each = premises_within t.definitions t.lines g.premise.judgement rule a.premises limits.definitions limits.program occur.goal allowed (answer_within g.premise.judgement rule a.premises a.is_answer) in
+      each_get (λ (q : TracedPremise Judgement). Occurs t q.judgement) (map traced a.premises) k p
+      (Each-map (IsPremiseWithin t.definitions (length t.lines)) (λ (q : TracedPremise Judgement). Occurs t q.judgement) traced (λ q w. w) a.premises each)
+      (subst (λ qs. slice_get qs k ≡ Some p) (sym a.are) at)
+  premises_occur nodes g (Back link) ps occur allowed h k p at =
+      let none : ps ≡ [] = beside_none (edge_to t g.premise.judgement link (slice_get nodes link.target)) ps h in
+      absurd (let e : None ≡ Some p = subst (λ qs. slice_get qs k ≡ Some p) none at in cc)
+
+  pub within_is_fair : IsFair (calculus_of t) (Occurs t) (Allows t)
+  within_is_fair = record {
+    positions = λ j h. small_fair.positions j (short_within t j h);
+    offers = λ nodes g r occur offer. offered nodes g r occur offer;
+    premises = λ nodes g r ps occur allowed h. (
+        let few = small_fair.premises nodes g r ps (all_short nodes g occur) tt h in
+        record {
+          few = few.few;
+          each = λ k p at. record { occurs = premises_occur nodes g r ps occur allowed h k p at; fit = (few.each k p at).fit };
+        });
+    links_back = λ nodes g r e occur allowed h. small_fair.links_back nodes g r e (all_short nodes g occur) tt h;
+    links_alone = small_fair.links_alone;
+    rules_forth = small_fair.rules_forth;
+  }

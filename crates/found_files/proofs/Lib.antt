@@ -1,0 +1,8 @@
+pub mod Fair
+pub mod Made
+pub mod Rows
+pub mod Right
+pub mod Graph
+pub mod Within
+pub mod Few
+pub mod Found

@@ -1,0 +1,60 @@
+-- The nodes of the file may stand in it.
+use Rattle.std.proofs.Common.{◌≡◌, ℕ, suc, ◌≤◌, List, [], ◌∷◌, map, Some, slice_get, length, refl, subst, arith}
+use Rattle.std.proofs.lemmas.Option.{slice_get_within}
+use Rattle.heap_formula.specs.declared.judgements.Judgement.{Judgement}
+use Rattle.heap_formula.specs.declared.judgements.Premise.{Premise}
+use Rattle.heap_formula.specs.declared.proof_rules.Reason.{Reason}
+use Rattle.heap_formula.specs.declared.proof_rules.Reason.TheVariants.{Step, Back}
+use Rattle.heap_formula.specs.Words.{Each}
+use Rattle.rule_table.specs.RuleBook.{variables_of}
+use Rattle.format_limits.specs.Limits.{HasShortNumbers, IsShortNumber}
+use Rattle.format_limits.proofs.Shorts.{rule_short, link_short}
+use Rattle.trace_pairs.specs.Graph.{Edge}
+use Rattle.proof_file.specs.declared.node.FileNode.{FileNode}
+use Rattle.problem_files.specs.Nodes.{IsNodeWithin}
+use Rattle.search_moves.specs.Trying.{Theory}
+use Rattle.search_calculus.specs.Calculus.{MadeNode, judgement_of}
+use Rattle.found_files.specs.Files.{numbers_of, nodes_made}
+use Rattle.found_files.specs.Found.{IsWithinLimits}
+use Rattle.found_files.proofs.Fair.{Occurs, Allows, answer_within}
+use Rattle.found_files.proofs.Made.{LeadsToPremise, IsBy, AllMade}
+use Rattle.found_files.proofs.Rows.{file_node_at}
+
+each_from : {X : Type 0} (P : X → Type 0) (xs : List X) → ((i : ℕ) (x : X) → slice_get xs i ≡ Some x → P x) → Each P xs
+each_from P [] each = tt
+each_from P (x ∷ xs) each = (each 0 x refl, each_from P xs (λ i y at. each (suc i) y at))
+
+targets_short : (nodes : List MadeNode) (v : ℕ) (ps : List Premise) (es : List Edge) → length nodes ≤ 20000 → length es ≡ length ps → ((k : ℕ) (p : Premise) (e : Edge) → slice_get ps k ≡ Some p → slice_get es k ≡ Some e → LeadsToPremise nodes v p e) →
+    Each IsShortNumber (map (λ (e : Edge). e.target) es)
+targets_short nodes v [] [] few size each = tt
+targets_short nodes v [] (e ∷ es) few size each = absurd (omega (arith, size))
+targets_short nodes v (p ∷ ps) [] few size each = absurd (omega (arith, size))
+targets_short nodes v (p ∷ ps) (e ∷ es) few size each =
+    let h = each 0 p e refl refl in
+    let within = slice_get_within nodes e.target h.node h.is_node in (omega arith, targets_short nodes v ps es few (omega (arith, size)) (λ k q x a b. each (suc k) q x a b))
+
+module _ (t : Theory) (goal : Judgement) (limits : IsWithinLimits t goal) (nodes : List MadeNode) (all' : AllMade t nodes) (few : length nodes ≤ 20000) where
+  reason_short : (v : ℕ) (j : Judgement) (r : Reason) (es : List Edge) → Occurs t j → IsBy t nodes v j r es → HasShortNumbers r
+  reason_short v j (Step rule) es within by =
+      rule_short t.definitions t.lines j by.premises limits.definitions within rule (answer_within t goal limits j rule by.premises by.is_answer)
+  reason_short v j (Back link) es within by =
+      let less = slice_get_within nodes link.target by.companion by.is_companion in
+      link_short t.definitions (length t.lines) (variables_of t.lines j) j (judgement_of by.companion) link within by.no_fault (omega arith)
+
+  numbers_short : (v : ℕ) (j : Judgement) (r : Reason) (es : List Edge) → IsBy t nodes v j r es → Each IsShortNumber (numbers_of r es)
+  numbers_short v j (Step rule) es by = targets_short nodes v by.premises es few by.edges.as_many by.edges.each
+  numbers_short v j (Back link) es by = tt
+
+  pub all_within : ((v : ℕ) (m : MadeNode) → slice_get nodes v ≡ Some m → Occurs t (judgement_of m) × Allows t m.reason) → Each (IsNodeWithin t.definitions (length t.lines)) (nodes_made t nodes)
+  all_within stand = each_from (IsNodeWithin t.definitions (length t.lines)) (nodes_made t nodes) each
+    where
+      each : (v : ℕ) (x : FileNode) → slice_get (nodes_made t nodes) v ≡ Some x → IsNodeWithin t.definitions (length t.lines) x
+      each v x at =
+          let f = file_node_at t nodes all' v x at in
+          let s = stand v f.m f.is_m in
+          subst (IsNodeWithin t.definitions (length t.lines)) f.is (record {
+            judgement = s.0;
+            reason = s.1;
+            numbers = reason_short v (judgement_of f.m) f.m.reason f.made.traces.edges s.0 f.made.by;
+            premises = numbers_short v (judgement_of f.m) f.m.reason f.made.traces.edges f.made.by;
+          })

@@ -1,0 +1,41 @@
+-- What a search finds, as a proof.
+use Rattle.std.specs.Prelude.{◌≡◌, ◌≤◌, List, [], Some, length, slice_get}
+use Rattle.heap_formula.specs.declared.judgements.Judgement.{Judgement}
+use Rattle.heap_formula.specs.declared.proof_rules.Reason.{Reason}
+use Rattle.heap_formula.specs.Words.{Each}
+use Rattle.goto_lang.specs.Lines.{IsProgram}
+use Rattle.trace_pairs.specs.Lasso.{AllProgress}
+use Rattle.buchi_inclusion.specs.Answers.{HasAtMost}
+use Rattle.proof_file.specs.declared.node.FileNode.{FileNode}
+use Rattle.proof_check.specs.Files.{graph_of, AreRight, nodes_of}
+use Rattle.format_limits.specs.Limits.{IsDefinitionWithin, IsJudgementWithin}
+use Rattle.problem_files.specs.Nodes.{IsNodeWithin}
+use Rattle.search_moves.specs.Trying.{Theory}
+use Rattle.tableaux.specs.Tableau.{Tableau, replay}
+use Rattle.search_calculus.specs.Search.{calculus_of}
+use Rattle.found_files.specs.Files.{nodes_made}
+
+-- a problem within the limits of a proof file
+pub record IsWithinLimits (t : Theory) (goal : Judgement) : Type 0 where
+  pub most : t.most ≡ 16
+  pub definitions : Each (IsDefinitionWithin t.definitions) t.definitions
+  pub program : IsProgram t.lines
+  pub goal_within : IsJudgementWithin t.definitions (length t.lines) goal
+
+-- the nodes are a correct proof of the goal, may stand in a file, and have few product states
+pub record AreProof (t : Theory) (goal : Judgement) (nodes : List FileNode) : Type 0 where
+  pub root : FileNode
+  pub is_root : slice_get nodes 0 ≡ Some root
+  pub proves : root.judgement ≡ goal
+  pub right : AreRight t.most t.definitions t.lines (nodes_of nodes)
+  pub paths : AllProgress (graph_of t.most t.definitions t.lines (nodes_of nodes))
+  pub states : HasAtMost (graph_of t.most t.definitions t.lines (nodes_of nodes)) 200000
+  pub within : Each (IsNodeWithin t.definitions (length t.lines)) nodes
+  pub few : length nodes ≤ 20000
+
+-- the reasons make a proof of the goal, with no goal left open
+pub record MakesProof (t : Theory) (goal : Judgement) (reasons : List Reason) : Type 0 where
+  pub tableau : Tableau Judgement Reason
+  pub made : replay (calculus_of t) goal reasons ≡ Some tableau
+  pub closed : tableau.goals ≡ []
+  pub proof : AreProof t goal (nodes_made t tableau.nodes)

@@ -1,0 +1,35 @@
+-- The tree of a file with a problem's definitions and program, and with nodes within the limits, has a text and no flaw.
+use Rattle.std.proofs.Common.{◌≡◌, ℕ, ◌<◌, ◌≤◌, List, length, map, None, sym, subst}
+use Rattle.heap_formula.specs.declared.commands.Command.{Command}
+use Rattle.heap_formula.specs.Definitions.{Definition}
+use Rattle.heap_formula.specs.Words.{Each}
+use Rattle.goto_lang.specs.Lines.{IsProgram}
+use Rattle.format_limits.specs.Limits.{IsDefinitionWithin}
+use Rattle.heap_reader.specs.Flaws.{or_later, listed_flaw}
+use Rattle.proof_syntax.specs.Grammar as grammar
+use Rattle.proof_file.specs.declared.node.FileNode.{FileNode}
+use Rattle.proof_file.specs.Spans.{definition_span, node_span}
+use Rattle.proof_file.specs.Flaws.{definition_flaw, program_flaw, node_flaw, first_line, first_node, nodes_flaw, file_flaw}
+use Rattle.proof_file.specs.Written.{node_tree, tree_of}
+use Rattle.problem_files.specs.Nodes.{IsNodeWithin}
+use Rattle.problem_files.proofs.Lists.{none_later}
+use Rattle.problem_files.proofs.Names.{HaveFreeNames, HaveOwnNames, few_parameters, heads_of}
+use Rattle.problem_files.proofs.ProgramLines.{program_fits, lines_long, program_flawless}
+use Rattle.problem_files.proofs.DefinitionTrees.{definitions_fit, definitions_flawless}
+use Rattle.problem_files.proofs.NodesFit.{nodes_fit}
+use Rattle.problem_files.proofs.NodesFlawless.{nodes_flawless}
+
+module _ (ds : List Definition) (cs : List Command) (ns : List FileNode) (w : Each (IsDefinitionWithin ds) ds) (program : IsProgram cs) (nodes : Each (IsNodeWithin ds (length cs)) ns) where
+  pub file_fits : HaveFreeNames ds → 0 < length ns → grammar.file.fits (tree_of ds cs ns)
+  unfolding grammar.file grammar.body grammar.definitions
+  file_fits free some =
+      (tt, (definitions_fit ds free w, (program_fits cs program, nodes_fit ds (length cs) free program.few_lines ns some nodes)))
+
+  pub file_flawless : HaveOwnNames ds → length ds ≤ 4096 → length ns ≤ 20000 → file_flaw (tree_of ds cs ns) ≡ None
+  file_flawless own few most =
+      let file = tree_of ds cs ns in
+      let hs = heads_of ds ds in
+      let first = definitions_flawless ds few own w in
+      let second = program_flawless cs program (first_line file) in
+      let third = subst (λ (count : ℕ). listed_flaw (node_flaw hs count) node_span 0 (first_node file) (map (node_tree ds) ns) ≡ None) (sym (lines_long 0 cs)) (nodes_flawless ds (length cs) own (few_parameters ds ds w) ns most nodes (first_node file)) in
+      none_later (listed_flaw (definition_flaw hs) definition_span 0 4 file.definitions) (or_later (program_flaw (first_line file) file.lines) (nodes_flaw file)) first (none_later (program_flaw (first_line file) file.lines) (nodes_flaw file) second third)

@@ -1,0 +1,90 @@
+-- A judgement's tree fits the grammar, and has no flaw.
+use Rattle.std.proofs.Common.{◌≡◌, ℕ, ◌+◌, ◌≤◌, true, false, List, [], ◌∷◌, None, refl, arith}
+use Rattle.std.specs.Prelude.{◌||◌, nat_eq, nat_lt, nat_le}
+use Rattle.std.specs.List.{list_all}
+use Rattle.std.proofs.lemmas.Bool.{and_from, le-leb, lt-ltb, le-ltb, ne_eqb}
+use Rattle.heap_formula.specs.declared.terms.Term.{Term}
+use Rattle.heap_formula.specs.declared.atoms.Pure.{Pure}
+use Rattle.heap_formula.specs.declared.atoms.Pure.TheVariants.{Eq, Neq}
+use Rattle.heap_formula.specs.declared.atoms.Spatial.{Spatial}
+use Rattle.heap_formula.specs.declared.atoms.Spatial.TheVariants.{Cell, Pred}
+use Rattle.heap_formula.specs.declared.judgements.Judgement.{Judgement}
+use Rattle.heap_formula.specs.declared.judgements.Judgement.TheVariants.{Entail, Term as Runs}
+use Rattle.heap_formula.specs.Closedness.{InPure, InSpatial, InHeap, IsUniversal, IsUniversalHeap}
+use Rattle.heap_formula.specs.Definitions.{Definition}
+use Rattle.heap_formula.specs.Symbolic.{SymbolicHeap}
+use Rattle.heap_formula.specs.Words.{Each}
+use Rattle.rule_table.specs.Tests.{is_universal, are_universal, is_universal_pure, is_universal_spatial}
+use Rattle.goto_lang.specs.Lines.{IsLineOf}
+use Rattle.format_limits.specs.Limits.{IsHeapWithin, IsJudgementWithin}
+use Rattle.format_limits.proofs.Heaps.{each_of, IsLow, small}
+use Rattle.cyc_lex.specs.declared.fault.IllFault.TheVariants.{NoLine}
+use Rattle.cyc_lex.specs.declared.fault.What.TheVariants.{Disjuncts}
+use Rattle.proof_syntax.specs.Grammar as grammar
+use Rattle.heap_reader.specs.Spans.{heap_span}
+use Rattle.heap_reader.specs.Flaws.{ill_if, heap_flaw}
+use Rattle.proof_file.specs.declared.scope.Scope.TheVariants.{Node as InNode}
+use Rattle.proof_file.specs.Spans.{term_span}
+use Rattle.proof_file.specs.Flaws.{term_flaw, judgement_flaw}
+use Rattle.proof_file.specs.Readable.{is_universal_heap, is_at_line}
+use Rattle.proof_file.specs.Written.{heap_tree, judgement_tree}
+use Rattle.problem_files.proofs.Lists.{none_later, all_true}
+use Rattle.problem_files.proofs.Names.{HaveFreeNames, HaveOwnNames, HaveFewParameters, heads_of}
+use Rattle.problem_files.proofs.Terms.{IsFlawless, term_flawless, term_readable}
+use Rattle.problem_files.proofs.Heaps.{in_heap_both, heap_fits, heaps_fit, heap_flawless, heaps_flawless}
+
+-- ---- heaps outside definitions
+
+-- no term of the heap has a flaw
+low_flawless : (ds : List Definition) (a : SymbolicHeap) → IsHeapWithin ds a → InHeap (IsFlawless (term_flaw InNode)) a
+low_flawless ds a w =
+    let low = (small ds a w).low in
+    in_heap_both IsLow IsLow (IsFlawless (term_flaw InNode)) (λ t b _. term_flawless t b) a low low
+
+pub node_heap_flawless : (ds : List Definition) → HaveOwnNames ds → HaveFewParameters ds → (a : SymbolicHeap) → IsHeapWithin ds a → (k : ℕ) → heap_flaw (term_flaw InNode) term_span (heads_of ds ds) k (heap_tree ds a) ≡ None
+node_heap_flawless ds own few a w = heap_flawless (term_flaw InNode) term_span ds own few a w (low_flawless ds a w)
+
+-- ---- judgements
+
+module _ (ds : List Definition) (count : ℕ) where
+  pub judgement_fits : HaveFreeNames ds → count ≤ 4096 → (j : Judgement) → IsJudgementWithin ds count j → grammar.judgement.fits (judgement_tree ds j)
+  unfolding grammar.judgement grammar.entailment grammar.state grammar.disjuncts
+  judgement_fits free most (Entail a bs) w =
+      (tt, (tt, (heap_fits ds free true a w.heaps.0 w.universal, heaps_fit ds free grammar.or_word grammar.by_word bs w.form.0 w.heaps.1)))
+  judgement_fits free most (Runs i a) w =
+      let last = w.form.1 in (tt, (omega arith, heap_fits ds free true a w.heaps.0 w.universal))
+
+  line_there : (i k : ℕ) → IsLineOf count i → ill_if (nat_eq i 0 || nat_lt count i) NoLine k ≡ None
+  line_there i k l =
+      let first = l.0 in
+      let positive : nat_eq i 0 ≡ false = ne_eqb i 0 (λ e. omega (arith, e)) in
+      rw (positive, le-ltb count i l.1) refl
+
+  pub judgement_flawless : HaveOwnNames ds → HaveFewParameters ds → (j : Judgement) → IsJudgementWithin ds count j → (k : ℕ) → judgement_flaw (heads_of ds ds) count k (judgement_tree ds j) ≡ None
+  judgement_flawless own few (Entail a bs) w k =
+      none_later _ _ (node_heap_flawless ds own few a w.heaps.0 k) (heaps_flawless (term_flaw InNode) term_span ds own few Disjuncts bs w.form.1 w.heaps.1 (each_of (IsHeapWithin ds) (InHeap (IsFlawless (term_flaw InNode))) (low_flawless ds) bs w.heaps.1) (k + heap_span term_span (heap_tree ds a)))
+  judgement_flawless own few (Runs i a) w k =
+      none_later _ _ (line_there i (k + 1) w.form) (node_heap_flawless ds own few a w.heaps.0 (k + 3))
+
+  pub judgement_at_line : (j : Judgement) → IsJudgementWithin ds count j → is_at_line count j ≡ true
+  judgement_at_line (Entail a bs) w = refl
+  judgement_at_line (Runs i a) w =
+      and_from (nat_lt 0 i) (nat_le i count) (lt-ltb 0 i w.form.0) (le-leb i count w.form.1)
+
+-- ---- universal variables alone
+
+terms_readable : (ts : List Term) → Each IsUniversal ts → are_universal ts ≡ true
+terms_readable [] u = refl
+terms_readable (t ∷ ts) u = and_from (is_universal t) (are_universal ts) (term_readable t u.0) (terms_readable ts u.1)
+
+pure_readable : (x : Pure) → InPure IsUniversal x → is_universal_pure x ≡ true
+pure_readable (Eq t u) q = and_from (is_universal t) (is_universal u) (term_readable t q.0) (term_readable u q.1)
+pure_readable (Neq t u) q = and_from (is_universal t) (is_universal u) (term_readable t q.0) (term_readable u q.1)
+
+spatial_readable : (x : Spatial) → InSpatial IsUniversal x → is_universal_spatial x ≡ true
+spatial_readable (Cell t ts) q = and_from (is_universal t) (are_universal ts) (term_readable t q.0) (terms_readable ts q.1)
+spatial_readable (Pred k ts) q = terms_readable ts q
+
+pub heap_readable : (a : SymbolicHeap) → IsUniversalHeap a → is_universal_heap a ≡ true
+heap_readable a u =
+    and_from (list_all is_universal_pure a.pure) (list_all is_universal_spatial a.spatial) (all_true is_universal_pure a.pure (each_of (InPure IsUniversal) (λ x. is_universal_pure x ≡ true) pure_readable a.pure u.0)) (all_true is_universal_spatial a.spatial (each_of (InSpatial IsUniversal) (λ x. is_universal_spatial x ≡ true) spatial_readable a.spatial u.1))

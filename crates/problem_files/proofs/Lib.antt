@@ -1,0 +1,15 @@
+pub mod Lists
+pub mod Names
+pub mod Terms
+pub mod Heaps
+pub mod Judgements
+pub mod Reasons
+pub mod NodesFit
+pub mod NodesFlawless
+pub mod ProblemHeaps
+pub mod ProblemNames
+pub mod Kept
+pub mod ProblemKeeps
+pub mod ProgramLines
+pub mod DefinitionTrees
+pub mod FileTrees

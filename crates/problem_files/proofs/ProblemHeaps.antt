@@ -1,0 +1,183 @@
+-- What holds of the value of a problem's heap whose tree has a text and no flaw.
+use Rattle.std.proofs.Common.{◌≡◌, ℕ, ◌+◌, ◌<◌, ◌≤◌, Bool, true, false, List, [], ◌∷◌, length, map, None, arith}
+use Rattle.std.specs.Prelude.{if◌then◌else◌, nat_le}
+use Rattle.std.proofs.lemmas.List.{length-map}
+use Rattle.heap_formula.specs.declared.terms.Term.{Term}
+use Rattle.heap_formula.specs.declared.atoms.Pure.{Pure}
+use Rattle.heap_formula.specs.declared.atoms.Pure.TheVariants.{Eq, Neq}
+use Rattle.heap_formula.specs.declared.atoms.Spatial.{Spatial as SpatialAtom}
+use Rattle.heap_formula.specs.declared.atoms.Spatial.TheVariants as atoms
+use Rattle.heap_formula.specs.Closedness.{InPure, InSpatial, InHeap}
+use Rattle.heap_formula.specs.Definitions.{Definition}
+use Rattle.heap_formula.specs.Fresh.{univ_bound, exist_bound, pure_bound, spatial_bound, heap_bound, pure_exists, spatial_exists, heap_exists}
+use Rattle.heap_formula.specs.Symbolic.{SymbolicHeap}
+use Rattle.heap_formula.specs.Words.{Each}
+use Rattle.pred_defs.specs.Faults.{case_fault}
+use Rattle.format_limits.specs.Limits.{HasFields, IsHeapWithin}
+use Rattle.format_limits.proofs.Heaps.{Each-map, each_max, each_of, IsLow, are_shaped, within}
+use Rattle.cyc_lex.specs.declared.fault.What.TheVariants.{Arguments, Pure as PureAtoms, Spatial as SpatialAtoms}
+use Rattle.cyc_grammar.specs.Syntax.{Syntax, Class, after, fits_many}
+use Rattle.heap_syntax.specs.declared.tree.PureTree.{PureTree}
+use Rattle.heap_syntax.specs.Trees.{Spatial, Cell, Predicate, Heap}
+use Rattle.heap_syntax.specs.Words.{star}
+use Rattle.heap_syntax.specs.Grammar as shared
+use Rattle.problem_syntax.specs.Trees as named
+use Rattle.problem_syntax.specs.Trees.{Nil, Plain, Primed}
+use Rattle.problem_syntax.specs.Grammar.{terms, behind_name, spatial, heap}
+use Rattle.heap_reader.specs.Trees.{Heading}
+use Rattle.heap_reader.specs.Spans.{pure_span, pures_span, spatial_span}
+use Rattle.heap_reader.specs.Flaws.{Found, over_if, or_later, listed_flaw, argument_flaw, arguments_flaw, pure_flaw, arity_in, use_flaw, spatial_flaw, heap_flaw}
+use Rattle.heap_reader.specs.Small.{IsSmallSpatial, IsSmallHeap}
+use Rattle.heap_reader.specs.Values.{pure_value, spatial_value, heap_value}
+use Rattle.heap_reader.proofs.NoFlaw.{neither, each_of as each_flawless}
+use Rattle.name_numbers.specs.Numbering as numbers
+use Rattle.formula_reader.specs.Values.{term_value}
+
+mapped : {X Y : Type 0} (f : X → Y) (P : Y → Type 0) (xs : List X) → Each (λ x. P (f x)) xs → Each P (map f xs)
+mapped f P xs e = Each-map (λ x. P (f x)) P f (λ x p. p) xs e
+
+-- members of a text, and members that stand behind a word
+
+pub many_parts : {T : Type 0} (a : Syntax T) (xs : List T) → fits_many a xs → Each a.fits xs
+many_parts a [] f = tt
+many_parts a (x ∷ xs) f = (f.0, many_parts a xs f.1)
+
+pub behind_parts : {T : Type 0} (c : Class (Unit {0})) (a : Syntax T) (xs : List T) → fits_many (after c a) xs → Each a.fits xs
+behind_parts c a xs f = many_parts (after c a) xs f
+
+-- ---- what holds of each term without a flaw holds of the terms of a heap without one
+
+module _ {T : Type 0} (flaw : ℕ → T → Found) (span : T → ℕ) (value : T → Term) (Q : Term → Type 0) (one : (k : ℕ) (t : T) → flaw k t ≡ None → Q (value t)) where
+  arguments_keep : (k : ℕ) (ts : List T) → arguments_flaw flaw span k ts ≡ None → Each Q (map value ts)
+  arguments_keep k ts e =
+      mapped value Q ts (each_flawless (argument_flaw flaw span) span (λ t. Q (value t)) (λ n j t h. one j t (neither (over_if (nat_le 8 n) Arguments j) (flaw j t) h).1) 0 k ts e)
+
+  pure_keeps : (x : PureTree T) → Q (value x.left) → Q (value x.right) → InPure Q (pure_value value x)
+  pure_keeps x left right = by_sign x.is_equation
+    where
+      by_sign : (b : Bool) → InPure Q (if b then Eq (value x.left) (value x.right) else Neq (value x.left) (value x.right))
+      by_sign true = (left, right)
+      by_sign false = (left, right)
+
+  pures_keep : (k : ℕ) (xs : List (PureTree T)) → listed_flaw (pure_flaw flaw span) (pure_span span) 0 k xs ≡ None → Each (InPure Q) (map (pure_value value) xs)
+  pures_keep k xs e =
+      mapped (pure_value value) (InPure Q) xs (each_flawless (pure_flaw flaw span) (pure_span span) (λ x. InPure Q (pure_value value x)) (λ n j x h.
+      let sides = neither (flaw j x.left) (flaw (j + span x.left) x.right) (neither (over_if (nat_le 64 n) PureAtoms j) (or_later (flaw j x.left) (flaw (j + span x.left) x.right)) h).1 in
+      pure_keeps x (one j x.left sides.0) (one (j + span x.left) x.right sides.1)) 0 k xs e)
+
+  module _ (hs : List Heading) where
+    spatial_keeps : (n k : ℕ) (x : Spatial T) → spatial_flaw flaw span hs n k x ≡ None → InSpatial Q (spatial_value value hs x)
+    spatial_keeps n k (Cell t ts) e =
+        let a = neither (over_if (nat_le 16 n) SpatialAtoms k) (or_later (flaw k t) (arguments_flaw flaw span (k + span t + 1) ts)) e in
+        let b = neither (flaw k t) (arguments_flaw flaw span (k + span t + 1) ts) a.1 in
+        (one k t b.0, arguments_keep (k + span t + 1) ts b.1)
+    spatial_keeps n k (Predicate name ts) e =
+        let a = neither (use_flaw (arity_in hs name) (length ts) k) (or_later (over_if (nat_le 16 n) SpatialAtoms k) (arguments_flaw flaw span (k + 2) ts)) e in
+        let b = neither (over_if (nat_le 16 n) SpatialAtoms k) (arguments_flaw flaw span (k + 2) ts) a.1 in
+        arguments_keep (k + 2) ts b.1
+
+    pub heap_keeps : (k : ℕ) (h : Heap T) → heap_flaw flaw span hs k h ≡ None → InHeap Q (heap_value value hs h)
+    heap_keeps k h e =
+        let p = k + pures_span span h.pure in
+        let a = neither (listed_flaw (pure_flaw flaw span) (pure_span span) 0 k h.pure) (listed_flaw (spatial_flaw flaw span hs) (spatial_span span) 0 p h.spatial) e in (
+          pures_keep k h.pure a.0,
+          mapped (spatial_value value hs) (InSpatial Q) h.spatial (each_flawless (spatial_flaw flaw span hs) (spatial_span span) (λ x. InSpatial Q (spatial_value value hs x)) spatial_keeps 0 p h.spatial a.1),
+        )
+
+-- ---- a fact of each term as a bound of the heap
+
+module _ (P Q : Term → Type 0) (g : (t : Term) → P t → Q t) where
+  in_pure_each : (x : Pure) → InPure P x → InPure Q x
+  in_pure_each (Eq t u) p = (g t p.0, g u p.1)
+  in_pure_each (Neq t u) p = (g t p.0, g u p.1)
+
+  in_spatial_each : (x : SpatialAtom) → InSpatial P x → InSpatial Q x
+  in_spatial_each (atoms.Cell t ts) p = (g t p.0, each_of P Q g ts p.1)
+  in_spatial_each (atoms.Pred q ts) p = each_of P Q g ts p
+
+  pub in_heap_each : (a : SymbolicHeap) → InHeap P a → InHeap Q a
+  in_heap_each a p =
+      (each_of (InPure P) (InPure Q) in_pure_each a.pure p.0, each_of (InSpatial P) (InSpatial Q) in_spatial_each a.spatial p.1)
+
+module _ (m : ℕ) where
+  pure_bounded : (x : Pure) → InPure (λ t. univ_bound t ≤ m) x → pure_bound x ≤ m
+  pure_bounded (Eq t u) q = let a = q.0 in let b = q.1 in omega arith
+  pure_bounded (Neq t u) q = let a = q.0 in let b = q.1 in omega arith
+
+  spatial_bounded : (x : SpatialAtom) → InSpatial (λ t. univ_bound t ≤ m) x → spatial_bound x ≤ m
+  spatial_bounded (atoms.Cell t ts) q = let a = q.0 in let b = each_max univ_bound m ts q.1 in omega arith
+  spatial_bounded (atoms.Pred p ts) q = each_max univ_bound m ts q
+
+  pub heap_bounded : (a : SymbolicHeap) → InHeap (λ t. univ_bound t ≤ m) a → heap_bound a ≤ m
+  heap_bounded a q =
+      let p = each_max pure_bound m a.pure (each_of (InPure (λ t. univ_bound t ≤ m)) (λ x. pure_bound x ≤ m) pure_bounded a.pure q.0) in
+      let s = each_max spatial_bound m a.spatial (each_of (InSpatial (λ t. univ_bound t ≤ m)) (λ x. spatial_bound x ≤ m) spatial_bounded a.spatial q.1) in
+      omega arith
+
+  pure_open : (x : Pure) → InPure (λ t. exist_bound t ≤ m) x → pure_exists x ≤ m
+  pure_open (Eq t u) q = let a = q.0 in let b = q.1 in omega arith
+  pure_open (Neq t u) q = let a = q.0 in let b = q.1 in omega arith
+
+  spatial_open : (x : SpatialAtom) → InSpatial (λ t. exist_bound t ≤ m) x → spatial_exists x ≤ m
+  spatial_open (atoms.Cell t ts) q = let a = q.0 in let b = each_max exist_bound m ts q.1 in omega arith
+  spatial_open (atoms.Pred p ts) q = each_max exist_bound m ts q
+
+  pub heap_open : (a : SymbolicHeap) → InHeap (λ t. exist_bound t ≤ m) a → heap_exists a ≤ m
+  heap_open a q =
+      let p = each_max pure_exists m a.pure (each_of (InPure (λ t. exist_bound t ≤ m)) (λ x. pure_exists x ≤ m) pure_open a.pure q.0) in
+      let s = each_max spatial_exists m a.spatial (each_of (InSpatial (λ t. exist_bound t ≤ m)) (λ x. spatial_exists x ≤ m) spatial_open a.spatial q.1) in
+      omega arith
+
+-- ---- a cell of a text has a field
+
+abbrev HasField : named.Spatial → Type 0
+HasField (Cell t ts) = 0 < length ts
+HasField (Predicate name ts) = Unit {0}
+
+module _ (b : Bool) where
+  atom_has_field : (x : named.Spatial) → (spatial b).fits x → HasField x
+  unfolding spatial behind_name shared.fields shared.listed
+  atom_has_field (Predicate name ts) f = tt
+  atom_has_field (Cell Nil ts) f = f.1.0
+  atom_has_field (Cell (Plain s) ts) f = f.1.1.1.0
+  atom_has_field (Cell (Primed s) ts) f = f.1.1.1.0
+
+  atoms_have_fields : (xs : List named.Spatial) → (shared.spatials (terms b) (spatial b)).fits xs → Each HasField xs
+  unfolding shared.spatials shared.spatials1
+  atoms_have_fields [] f = tt
+  atoms_have_fields (x ∷ xs) f =
+      (atom_has_field x f.1.1.0, each_of (spatial b).fits HasField atom_has_field xs (behind_parts star (spatial b) xs f.1.1.1))
+
+  heap_has_fields : (h : named.Heap) → (heap b).fits h → Each HasField h.spatial
+  unfolding shared.heap
+  heap_has_fields h f = atoms_have_fields h.spatial f.1.1
+
+-- ---- a heap of a text without a flaw is within the limits
+
+module _ (hs : List Heading) (scope : numbers.Scope) where
+  fields_kept : (x : named.Spatial) → HasField x → IsSmallSpatial term_value (numbers.spatial scope x) → HasFields (spatial_value term_value hs (numbers.spatial scope x))
+  fields_kept (Cell t ts) some small =
+      let m = length-map ts (numbers.term scope) in
+      let n = length-map (map (numbers.term scope) ts) term_value in
+      let few = small.1.1 in
+      (omega arith, omega arith)
+  fields_kept (Predicate name ts) some small = tt
+
+  all_fields_kept : (xs : List named.Spatial) → Each HasField xs → Each (IsSmallSpatial term_value) (map (numbers.spatial scope) xs) → Each HasFields (map (spatial_value term_value hs) (map (numbers.spatial scope) xs))
+  all_fields_kept [] some small = tt
+  all_fields_kept (x ∷ xs) some small = (fields_kept x some.0 small.0, all_fields_kept xs some.1 small.1)
+
+  pub heap_within : (ds : List Definition) (b : Bool) (h : named.Heap) → (heap b).fits h → IsSmallHeap term_value (numbers.heap scope h) → InHeap IsLow (heap_value term_value hs (numbers.heap scope h)) → case_fault ds (heap_value term_value hs (numbers.heap scope h)) ≡ None → IsHeapWithin ds (heap_value term_value hs (numbers.heap scope h))
+  heap_within ds b h fits small low known =
+      let tree = numbers.heap scope h in
+      let a = heap_value term_value hs tree in
+      let m = length-map tree.pure (pure_value term_value) in
+      let n = length-map tree.spatial (spatial_value term_value hs) in
+      let few_pure = small.pure_few in
+      let few_spatial = small.spatial_few in
+      within ds a (record {
+        pures = omega arith;
+        spatials = omega arith;
+        low = low;
+        shaped = are_shaped ds a.spatial known (all_fields_kept h.spatial (heap_has_fields b h fits) small.spatial);
+      })

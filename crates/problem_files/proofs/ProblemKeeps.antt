@@ -1,0 +1,292 @@
+-- What a problem's text keeps: its definitions, program and goal are within the limits of a proof file, and its predicates
+-- have names of their own.
+use Rattle.std.proofs.Common.{◌≡◌, ℕ, ◌+◌, ◌<◌, ◌≤◌, Bool, true, false, List, [], ◌∷◌, length, map, Option, Some, None, refl, sym, subst, arith}
+use Rattle.std.specs.Prelude.{not, ◌||◌, nat_eq, nat_lt, nat_le}
+use Rattle.std.specs.List.{list_all}
+use Rattle.std.proofs.Math.Logic.{∥∥₁_elim}
+use Rattle.std.proofs.lemmas.Bool.{ltb-false, or_parts, eqb-false}
+use Rattle.std.proofs.lemmas.List.{length-map}
+use Rattle.heap_formula.specs.declared.terms.Term.{Term}
+use Rattle.heap_formula.specs.declared.atoms.Pure.{Pure}
+use Rattle.heap_formula.specs.declared.atoms.Spatial.{Spatial}
+use Rattle.heap_formula.specs.declared.commands.Command.{Command}
+use Rattle.heap_formula.specs.declared.judgements.Judgement.{Judgement}
+use Rattle.heap_formula.specs.Closedness.{InPure, InSpatial, InHeap, IsUniversal, IsUniversalHeap}
+use Rattle.heap_formula.specs.Definitions.{Definition as DefinitionValue}
+use Rattle.heap_formula.specs.Fresh.{univ_bound, exist_bound}
+use Rattle.heap_formula.specs.Judgements.{antecedent}
+use Rattle.heap_formula.specs.Symbolic.{SymbolicHeap}
+use Rattle.heap_formula.specs.Words.{Each}
+use Rattle.goto_lang.specs.Lines.{IsLineOf}
+use Rattle.goto_lang.proofs.Faultless.{faultless_is_program}
+use Rattle.pred_defs.specs.declared.faults.DefFault.{DefFault}
+use Rattle.pred_defs.specs.Faults.{case_fault, definition_fault, first_fault, or_later as then_fault}
+use Rattle.rule_table.specs.Tests.{is_universal_pure, is_universal_spatial}
+use Rattle.rule_table.proofs.Reflects.{both, universal_pure_is, universal_spatial_is}
+use Rattle.rule_table.proofs.Rewrites.{Each-get}
+use Rattle.format_limits.specs.Limits.{IsHeapWithin, IsJudgementWithin, IsCaseWithin, IsDefinitionWithin}
+use Rattle.format_limits.proofs.Heaps.{IsLow}
+use Rattle.cyc_lex.specs.declared.fault.What.TheVariants.{Cases, Disjuncts, Locals, Variable}
+use Rattle.cyc_lex.specs.declared.fault.IllFault.TheVariants.{NoLine, Parameter}
+use Rattle.cyc_grammar.specs.Syntax.{Syntax, Class}
+use Rattle.cyc_grammar.specs.Classes.{is_free_name}
+use Rattle.heap_syntax.specs.Grammar as shared
+use Rattle.heap_syntax.specs.Words.{reserved, bar, closing_brace, or_word, semicolon}
+use Rattle.heap_syntax.specs.Trees.{Heap as AnyHeap}
+use Rattle.problem_syntax.specs.Trees as named
+use Rattle.problem_syntax.specs.Grammar.{heap, cases, definition, definitions, disjuncts, state, entailment, goal, last_part, body, problem}
+use Rattle.heap_reader.specs.Trees.{Heading}
+use Rattle.heap_reader.specs.Spans.{heap_span}
+use Rattle.heap_reader.specs.Flaws.{ill_if, over_if, or_later, heap_flaw, counted_flaw, heaps_flaw}
+use Rattle.heap_reader.specs.LineFlaws.{lines_flaw}
+use Rattle.heap_reader.specs.Small.{IsSmallHeap}
+use Rattle.heap_reader.specs.Values.{heap_value, line_value}
+use Rattle.heap_reader.proofs.Programs.{lines_universal}
+use Rattle.heap_reader.proofs.NoFlaw.{neither, not_over, not_ill, at_most, below, each_of as each_flawless}
+use Rattle.name_numbers.specs.declared.tree.NumberedTerm.{NumberedTerm}
+use Rattle.name_numbers.specs.declared.tree.NumberedTerm.TheVariants.{Nil, Universal, Existential}
+use Rattle.name_numbers.specs.Names.{Name, firsts}
+use Rattle.name_numbers.specs.Occurrences.{primed_names}
+use Rattle.name_numbers.specs.Numbered.{Heap, Definition, Problem}
+use Rattle.name_numbers.specs.Numbering as numbers
+use Rattle.name_numbers.specs.Numbering.{numbered}
+use Rattle.formula_reader.specs.declared.problem.Problem.{Problem as ProblemValue}
+use Rattle.formula_reader.specs.declared.terms.Scope.TheVariants.{Goal as InGoal, Case as InCase}
+use Rattle.formula_reader.specs.Spans.{term_span, variable_span, lines_span, parameters_span, definition_span, definitions_span}
+use Rattle.formula_reader.specs.Flaws.{headings, term_flaw, variable_flaw, head_flaw, cases_flaw, definition_flaw, definitions_flaw, goal_flaw, problem_flaw}
+use Rattle.formula_reader.specs.Small.{IsSmallDefinition, IsSmallGoal}
+use Rattle.formula_reader.specs.Values.{term_value, variable_value, definition_value, program_value, goal_value}
+use Rattle.formula_reader.specs.WellFormed.{IsOfText, IsWellFormed, goal_fault, is_universal_heap, has_line}
+use Rattle.formula_reader.proofs.Fitting.{definition_small}
+use Rattle.formula_reader.proofs.Keeping.{small_of, is_closed, is_known, has_universal_antecedent, has_its_line}
+use Rattle.problem_files.proofs.ProblemHeaps.{many_parts, behind_parts, heap_keeps, in_heap_each, heap_bounded, heap_open, heap_within}
+use Rattle.problem_files.proofs.ProblemNames.{own_names}
+use Rattle.problem_files.proofs.Kept.{IsKept, kept_prop}
+
+-- ---- lists
+
+-- no member is at fault where none is the first
+each_right : {X : Type 0} (f : X → Option DefFault) (xs : List X) → first_fault f xs ≡ None → Each (λ x. f x ≡ None) xs
+each_right f [] e = tt
+each_right f (x ∷ xs) e = by_fault (f x) refl e (each_right f xs)
+  where
+    by_fault : (o : Option DefFault) → f x ≡ o → then_fault o (first_fault f xs) ≡ None → (first_fault f xs ≡ None → Each (λ y. f y ≡ None) xs) → (f x ≡ None) × Each (λ y. f y ≡ None) xs
+    by_fault None h g rest = (h, rest g)
+    by_fault (Some fault) h g rest = absurd cc
+
+-- a list of heaps of a text has a member, and each has a text
+heaps_parts : {T : Type 0} (between behind : Class (Unit {0})) (a : Syntax (AnyHeap T)) (xs : List (AnyHeap T)) → (shared.heaps between behind a).fits xs → (0 < length xs) × Each a.fits xs
+unfolding shared.listed
+heaps_parts between behind a [] f = let none = f.0 in absurd (omega arith)
+heaps_parts between behind a (x ∷ xs) f = (f.0, (f.1.0, behind_parts between a xs f.1.1))
+
+-- ---- terms
+
+-- a term of a case of a predicate with so many parameters
+record IsCaseTerm (arity : ℕ) (t : Term) : Type 0 where
+  low : IsLow t
+  parameter : univ_bound t ≤ arity
+  few : exist_bound t ≤ 16
+
+case_term : (arity : ℕ) → arity ≤ 8 → (k : ℕ) (t : NumberedTerm) → term_flaw (InCase arity) k t ≡ None → IsCaseTerm arity (term_value t)
+case_term arity narrow k Nil e = record { low = omega arith; parameter = omega arith; few = omega arith }
+case_term arity narrow k (Universal n primed) e =
+    let h = below arity n (not_ill (nat_le arity n) Parameter k e) in
+    record { low = omega arith; parameter = omega arith; few = omega arith }
+case_term arity narrow k (Existential n primed) e =
+    let h = at_most 15 n (not_over (nat_lt 15 n) Locals k e) in
+    record { low = omega arith; parameter = omega arith; few = omega arith }
+
+goal_term : (k : ℕ) (t : NumberedTerm) → term_flaw InGoal k t ≡ None → IsLow (term_value t)
+goal_term k Nil e = omega arith
+goal_term k (Universal n primed) e = let h = at_most 65534 n (not_over (nat_lt 65534 n) Variable k e) in omega arith
+goal_term k (Existential n primed) e = let h = at_most 65534 n (not_over (nat_lt 65534 n) Variable k e) in omega arith
+
+-- ---- definitions
+
+module _ (hs : List Heading) where
+  abbrev HasCaseTerms : ℕ → Heap → Type 0
+  HasCaseTerms arity h = InHeap (IsCaseTerm arity) (heap_value term_value hs h)
+
+  -- what a definition without a flaw keeps
+  record IsGood (d : Definition) : Type 0 where
+    small : IsSmallDefinition d
+    terms : Each (HasCaseTerms (length d.parameters)) d.cases
+
+  good : (n k : ℕ) (d : Definition) → definition_flaw hs n k d ≡ None → IsGood d
+  good n k d e =
+      let p = k + 3 + parameters_span d.parameters + 1 in
+      let arity = length d.parameters in
+      let small = (definition_small hs n k d e).1 in
+      let a = neither (head_flaw hs n k d) (cases_flaw hs arity p d.cases) e in
+      record {
+        small = small;
+        terms = each_flawless (counted_flaw (term_flaw (InCase arity)) term_span hs Cases) (heap_span term_span) (HasCaseTerms arity) (λ m j c g. heap_keeps (term_flaw (InCase arity)) term_span term_value (IsCaseTerm arity) (case_term arity small.parameters) hs j c (neither (over_if (nat_le 16 m) Cases j) (heap_flaw (term_flaw (InCase arity)) term_span hs j c) g).1) 0 p d.cases a.1;
+      }
+
+  module _ (ds : List DefinitionValue) where
+    case_within : (ps : List Name) (arity : ℕ) (h : named.Heap) → (heap false).fits h → IsSmallHeap term_value (numbers.case ps h) → HasCaseTerms arity (numbers.case ps h) → case_fault ds (heap_value term_value hs (numbers.case ps h)) ≡ None → IsCaseWithin ds arity (heap_value term_value hs (numbers.case ps h))
+    unfolding numbers.case
+    case_within ps arity h fits small terms known =
+        let scope = numbers.Case ps (numbers.locals ps h) in
+        let a = heap_value term_value hs (numbers.heap scope h) in
+        record {
+          heap = heap_within hs scope ds false h fits small (in_heap_each (IsCaseTerm arity) IsLow (λ t c. c.low) a terms) known;
+          parameters = heap_bounded arity a (in_heap_each (IsCaseTerm arity) (λ t. univ_bound t ≤ arity) (λ t c. c.parameter) a terms);
+          locals = heap_open 16 a (in_heap_each (IsCaseTerm arity) (λ t. exist_bound t ≤ 16) (λ t c. c.few) a terms);
+        }
+
+    cases_within : (ps : List Name) (arity : ℕ) (xs : List named.Heap) → Each (heap false).fits xs → Each (IsSmallHeap term_value) (map (numbers.case ps) xs) → Each (HasCaseTerms arity) (map (numbers.case ps) xs) → Each (λ c. case_fault ds c ≡ None) (map (heap_value term_value hs) (map (numbers.case ps) xs)) → Each (IsCaseWithin ds arity) (map (heap_value term_value hs) (map (numbers.case ps) xs))
+    cases_within ps arity [] fits small terms known = tt
+    cases_within ps arity (x ∷ xs) fits small terms known =
+        (case_within ps arity x fits.0 small.0 terms.0 known.0, cases_within ps arity xs fits.1 small.1 terms.1 known.1)
+
+    definition_within : (d : named.Definition) → definition.fits d → IsGood (numbers.definition d) → definition_fault ds (definition_value hs (numbers.definition d)) ≡ None → IsDefinitionWithin ds (definition_value hs (numbers.definition d))
+    unfolding definition cases
+    definition_within d fits g known =
+        let ps = numbers.parameter_names d in
+        let trees = map (numbers.case ps) d.cases in
+        let parts = heaps_parts bar closing_brace (heap false) d.cases fits.1.1.1 in
+        let some = parts.0 in
+        let few = g.small.few in
+        let m = length-map d.cases (numbers.case ps) in
+        let n = length-map trees (heap_value term_value hs) in
+        record {
+          arity = g.small.parameters;
+          some_case = omega arith;
+          few = omega arith;
+          cases = cases_within ps (length d.parameters) d.cases parts.1 g.small.cases g.terms (each_right (case_fault ds) (map (heap_value term_value hs) trees) known);
+        }
+
+    definitions_within : (xs : List named.Definition) → Each definition.fits xs → Each IsGood (map numbers.definition xs) → Each (λ d. definition_fault ds d ≡ None) (map (definition_value hs) (map numbers.definition xs)) → Each (IsDefinitionWithin ds) (map (definition_value hs) (map numbers.definition xs))
+    definitions_within [] fits g known = tt
+    definitions_within (x ∷ xs) fits g known = (definition_within x fits.0 g.0 known.0, definitions_within xs fits.1 g.1 known.1)
+
+  -- ---- names
+
+  definition_free : (d : named.Definition) → definition.fits d → is_free_name reserved d.name ≡ true
+  unfolding definition
+  definition_free d fits = fits.1.0
+
+  definitions_free : (xs : List named.Definition) → Each definition.fits xs → Each (λ (d : DefinitionValue). is_free_name reserved d.name ≡ true) (map (definition_value hs) (map numbers.definition xs))
+  definitions_free [] fits = tt
+  definitions_free (x ∷ xs) fits = (definition_free x fits.0, definitions_free xs fits.1)
+
+-- ---- goals
+
+universal_pures : (xs : List Pure) → list_all is_universal_pure xs ≡ true → Each (InPure IsUniversal) xs
+universal_pures [] e = tt
+universal_pures (x ∷ xs) e =
+    let b = both (is_universal_pure x) (list_all is_universal_pure xs) e in (universal_pure_is x b.0, universal_pures xs b.1)
+
+universal_spatials : (xs : List Spatial) → list_all is_universal_spatial xs ≡ true → Each (InSpatial IsUniversal) xs
+universal_spatials [] e = tt
+universal_spatials (x ∷ xs) e =
+    let b = both (is_universal_spatial x) (list_all is_universal_spatial xs) e in
+    (universal_spatial_is x b.0, universal_spatials xs b.1)
+
+universal_heap : (a : SymbolicHeap) → is_universal_heap a ≡ true → IsUniversalHeap a
+universal_heap a e =
+    let b = both (list_all is_universal_pure a.pure) (list_all is_universal_spatial a.spatial) e in
+    (universal_pures a.pure b.0, universal_spatials a.spatial b.1)
+
+line_of : (count i : ℕ) → not (nat_eq i 0 || nat_lt count i) ≡ true → IsLineOf count i
+line_of count i e =
+    by_test (nat_eq i 0 || nat_lt count i) refl e
+  where
+    by_test : (b : Bool) → (nat_eq i 0 || nat_lt count i) ≡ b → not b ≡ true → IsLineOf count i
+    by_test true h g = absurd cc
+    by_test false h g =
+        let parts = or_parts (nat_eq i 0) (nat_lt count i) h in
+        let some = eqb-false i 0 parts.0 in
+        let most = ltb-false count i parts.1 in
+        (omega arith, omega arith)
+
+module _ (hs : List Heading) (ds : List DefinitionValue) where
+  goal_heap_terms : (k : ℕ) (h : Heap) → heap_flaw (term_flaw InGoal) term_span hs k h ≡ None → InHeap IsLow (heap_value term_value hs h)
+  goal_heap_terms k h e = heap_keeps (term_flaw InGoal) term_span term_value IsLow goal_term hs k h e
+
+  disjunct_within : (us : List Name) (h : named.Heap) → (heap true).fits h → IsSmallHeap term_value (numbers.disjunct us h) → InHeap IsLow (heap_value term_value hs (numbers.disjunct us h)) → case_fault ds (heap_value term_value hs (numbers.disjunct us h)) ≡ None → IsHeapWithin ds (heap_value term_value hs (numbers.disjunct us h))
+  unfolding numbers.disjunct
+  disjunct_within us h fits small low known = heap_within hs (numbers.Disjunct us (firsts (primed_names h))) ds true h fits small low known
+
+  disjuncts_within : (us : List Name) (xs : List named.Heap) → Each (heap true).fits xs → Each (IsSmallHeap term_value) (map (numbers.disjunct us) xs) → Each (λ h. InHeap IsLow (heap_value term_value hs h)) (map (numbers.disjunct us) xs) → Each (λ c. case_fault ds c ≡ None) (map (heap_value term_value hs) (map (numbers.disjunct us) xs)) → Each (IsHeapWithin ds) (map (heap_value term_value hs) (map (numbers.disjunct us) xs))
+  disjuncts_within us [] fits small low known = tt
+  disjuncts_within us (x ∷ xs) fits small low known =
+      (disjunct_within us x fits.0 small.0 low.0 known.0, disjuncts_within us xs fits.1 small.1 low.1 known.1)
+
+  goal_within : (us : List Name) (count k : ℕ) (g : named.Goal) → goal.fits g → goal_flaw hs count k (numbers.goal us g) ≡ None → IsSmallGoal (numbers.goal us g) → goal_fault ds (goal_value hs (numbers.goal us g)) ≡ None → is_universal_heap (antecedent (goal_value hs (numbers.goal us g))) ≡ true → (n : ℕ) → has_line n (goal_value hs (numbers.goal us g)) ≡ true → IsJudgementWithin ds n (goal_value hs (numbers.goal us g))
+  unfolding goal entailment state disjuncts
+  goal_within us count k (named.Entailment h xs) fits right small known universal n line =
+      let left = numbers.heap (numbers.Antecedent us) h in
+      let trees = map (numbers.disjunct us) xs in
+      let p = k + 1 + heap_span term_span left in
+      let flaws = neither (heap_flaw (term_flaw InGoal) term_span hs (k + 1) left) (heaps_flaw (term_flaw InGoal) term_span hs Disjuncts p trees) right in
+      let low = each_flawless (counted_flaw (term_flaw InGoal) term_span hs Disjuncts) (heap_span term_span) (λ c. InHeap IsLow (heap_value term_value hs c)) (λ m j c g. goal_heap_terms j c (neither (over_if (nat_le 16 m) Disjuncts j) (heap_flaw (term_flaw InGoal) term_span hs j c) g).1) 0 p trees flaws.1 in
+      let each_known = each_right (case_fault ds) (heap_value term_value hs left ∷ map (heap_value term_value hs) trees) known in
+      let parts = heaps_parts or_word semicolon (heap true) xs fits.1.1 in
+      let some = small.1.some in
+      let few = small.1.few in
+      let m = length-map trees (heap_value term_value hs) in
+      record {
+        heaps = (
+          heap_within hs (numbers.Antecedent us) ds true h fits.1.0 small.0 (goal_heap_terms (k + 1) left flaws.0) each_known.0,
+          disjuncts_within us xs parts.1 small.1.heaps low each_known.1,
+        );
+        universal = universal_heap (heap_value term_value hs left) universal;
+        form = (omega arith, omega arith);
+      }
+  goal_within us count k (named.From i h) fits right small known universal n line =
+      let left = numbers.heap (numbers.Antecedent us) h in
+      let flaws = neither (ill_if (nat_eq i 0 || nat_lt count i) NoLine (k + 2)) (heap_flaw (term_flaw InGoal) term_span hs (k + 4) left) right in
+      let each_known = each_right (case_fault ds) (heap_value term_value hs left ∷ []) known in
+      record {
+        heaps = (heap_within hs (numbers.Antecedent us) ds true h fits.1.1 small (goal_heap_terms (k + 4) left flaws.1) each_known.0, tt);
+        universal = universal_heap (heap_value term_value hs left) universal;
+        form = line_of n i line;
+      }
+
+-- ---- problems
+
+-- what a text keeps
+text_keeps : (names : named.Problem) → problem.fits names → problem_flaw (numbered names) ≡ None → IsKept (map (definition_value (headings (numbered names).definitions)) (numbered names).definitions) (program_value (numbered names).lines) (goal_value (headings (numbered names).definitions) (numbered names).goal)
+unfolding problem body definitions last_part
+text_keeps names fits right =
+    let tree = numbered names in
+    let text : IsOfText tree = (names, fits, refl) in
+    let hs = headings tree.definitions in
+    let ds = map (definition_value hs) tree.definitions in
+    let at = 4 + definitions_span tree.definitions in
+    let goal_at = at + lines_span tree.lines in
+    let a = neither (definitions_flaw hs 4 tree.definitions) (or_later (lines_flaw variable_flaw variable_span at tree.lines) (goal_flaw hs (length tree.lines) goal_at tree.goal)) right in
+    let b = neither (lines_flaw variable_flaw variable_span at tree.lines) (goal_flaw hs (length tree.lines) goal_at tree.goal) a.1 in
+    let small = small_of tree text right in
+    let each_fits = many_parts definition names.definitions fits.1.0 in
+    let each_good = each_flawless (definition_flaw hs) definition_span (IsGood hs) (good hs) 0 4 tree.definitions a.0 in
+    let few = small.few in
+    let m = length-map tree.definitions (definition_value hs) in
+    record {
+      few = omega arith;
+      definitions = definitions_within hs ds names.definitions each_fits each_good (each_right (definition_fault ds) ds (is_closed tree text right));
+      program = faultless_is_program (map (line_value variable_value) tree.lines) small.program (lines_universal variable_value tree.lines);
+      judgement = goal_within hs ds (numbers.universals names) (length tree.lines) goal_at names.goal fits.1.1.1 b.1 small.goal (is_known tree text right) (has_universal_antecedent tree text right) (length (program_value tree.lines)) (has_its_line tree text right);
+      free = λ q d at_q. Each-get (λ (v : DefinitionValue). is_free_name reserved v.name ≡ true) ds q d at_q (definitions_free hs names.definitions each_fits);
+      own = own_names tree.definitions hs a.0;
+    }
+
+said_keeps : (tree : Problem) → IsOfText tree → problem_flaw tree ≡ None → IsKept (map (definition_value (headings tree.definitions)) tree.definitions) (program_value tree.lines) (goal_value (headings tree.definitions) tree.goal)
+said_keeps tree text right =
+    subst (λ (t : Problem). problem_flaw t ≡ None → IsKept (map (definition_value (headings t.definitions)) t.definitions) (program_value t.lines) (goal_value (headings t.definitions) t.goal)) text.2 (text_keeps text.0 text.1) right
+
+well_formed_keeps : (ds : List DefinitionValue) (lines : List Command) (judgement : Judgement) → IsWellFormed ds lines judgement → IsKept ds lines judgement
+well_formed_keeps ds lines judgement w =
+    let tree = w.0 in
+    let said = w.1 in
+    let read = map (definition_value (headings tree.definitions)) tree.definitions in
+    let kept = said_keeps tree said.text said.flawless in
+    subst (λ (x : List DefinitionValue). IsKept x lines judgement) (sym said.definitions) (subst (λ (x : List Command). IsKept read x judgement) (sym said.program) (subst (λ (x : Judgement). IsKept read (program_value tree.lines) x) (sym said.goal) kept))
+
+-- what a problem keeps
+pub problem_keeps : (p : ProblemValue) → IsKept p.defs.list p.program p.goal
+problem_keeps p =
+    ∥∥₁_elim p.well_formed (kept_prop p.defs.list p.program p.goal) (well_formed_keeps p.defs.list p.program p.goal)

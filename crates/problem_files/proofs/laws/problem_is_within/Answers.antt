@@ -1,0 +1,11 @@
+use Rattle.problem_files.proofs.ProblemKeeps.{problem_keeps}
+use Rattle.problem_files.proofs.laws.problem_is_within.Goals as goal
+
+pub returns-clause-definitions : goal.returns-clause-definitions
+returns-clause-definitions c = (problem_keeps c.args._problem.now).definitions
+
+pub returns-clause-program : goal.returns-clause-program
+returns-clause-program c = (problem_keeps c.args._problem.now).program
+
+pub returns-clause-goal : goal.returns-clause-goal
+returns-clause-goal c = (problem_keeps c.args._problem.now).judgement

@@ -1,0 +1,13 @@
+-- Nodes that may stand in a problem's proof file.
+use Rattle.std.specs.Prelude.{ℕ, List}
+use Rattle.heap_formula.specs.Definitions.{Definition}
+use Rattle.heap_formula.specs.Words.{Each}
+use Rattle.proof_file.specs.declared.node.FileNode.{FileNode}
+use Rattle.format_limits.specs.Limits.{IsJudgementWithin, IsReasonWithin, HasShortNumbers, IsShortNumber}
+
+-- a node over these definitions and so many lines
+pub record IsNodeWithin (ds : List Definition) (count : ℕ) (node : FileNode) : Type 0 where
+  pub judgement : IsJudgementWithin ds count node.judgement
+  pub reason : IsReasonWithin ds node.reason
+  pub numbers : HasShortNumbers node.reason
+  pub premises : Each IsShortNumber node.premises

@@ -1,0 +1,33 @@
+// A problem's definitions and program as a proof file.
+ghost use Rattle.std.specs.Prelude.{◌≡◌, ◌<◌, ◌≤◌, length, IfOk};
+ghost use Rattle.heap_formula.specs.Words.{Each};
+ghost use Rattle.problem_files.specs.Nodes.{IsNodeWithin};
+
+use cyc_memory::OutOfMemory;
+use formula_reader::Problem;
+use proof_file::{FileNodes, ProofFile};
+use std::alloc::Global;
+
+/// A proof file with copies of the problem's definitions and program, and with these nodes.
+pub fn file_for(
+    alloc: Global,
+    problem: &Problem,
+    nodes: FileNodes,
+) -> Result<ProofFile, OutOfMemory>
+    requires some_node { 0 < length nodes }
+    requires few { length nodes ≤ 20000 }
+    requires within { Each (IsNodeWithin problem.now.defs.list (length problem.now.program)) nodes }
+    ensures version { IfOk result (λ f. f.version ≡ 1) }
+    ensures definitions { IfOk result (λ f. f.defs ≡ problem.now.defs) }
+    ensures program { IfOk result (λ f. f.program ≡ problem.now.program) }
+    ensures nodes { IfOk result (λ f. f.nodes ≡ nodes) }
+{
+    let defs = problem.defs.clone()?;
+    let program = problem.program.clone()?;
+    Ok(ProofFile {
+        version: 1,
+        defs,
+        program,
+        nodes,
+    })
+}

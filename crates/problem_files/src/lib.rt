@@ -1,0 +1,11 @@
+//! Proof files for problems: a problem's definitions and program with the nodes of a proof.
+#![tactic(auto)]
+
+mod files;
+mod laws;
+
+pub use files::file_for;
+pub use laws::problem_is_within;
+
+#[cfg(test)]
+mod tests;
