@@ -1,0 +1,2 @@
+mod FileNodes
+mod Proofs

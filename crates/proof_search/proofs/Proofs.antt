@@ -1,0 +1,143 @@
+-- What is found is a proof of the problem's goal.
+use Rattle.std.proofs.Common.{◌≡◌, ℕ, ◌<◌, ◌≤◌, List, [], ◌∷◌, map, Some, None, slice_get, length, arith, refl, sym, ap, subst, ◌∙◌}
+use Rattle.std.proofs.lemmas.Option.{slice_get_within}
+use Rattle.std.proofs.lemmas.Bool.{and_parts, leb-true}
+use Rattle.std.specs.Prelude.{nat_le}
+use Rattle.heap_formula.specs.declared.judgements.Judgement.{Judgement}
+use Rattle.heap_formula.specs.declared.judgements.Judgement.TheVariants.{Entail, Term as Runs}
+use Rattle.trace_pairs.specs.Lasso.{AllProgress}
+use Rattle.buchi_inclusion.specs.Answers.{HasAtMost}
+use Rattle.heap_formula.specs.declared.proof_rules.Reason.{Reason}
+use Rattle.heap_formula.specs.Definitions.{Definition}
+use Rattle.heap_formula.specs.Judgements.{antecedent}
+use Rattle.heap_formula.specs.Words.{Each}
+use Rattle.goto_lang.specs.Lines.{IsProgram}
+use Rattle.symbolic_exec.proofs.ProgramLines.{program_commands}
+use Rattle.trace_pairs.specs.Graph.{IsPositionSet}
+use Rattle.proof_graph.specs.Traces.{positions_of}
+use Rattle.proof_graph.proofs.Places.{places_set}
+use Rattle.derivation_search.specs.System.{search_of, IsFound}
+use Rattle.formula_reader.specs.declared.problem.Problem.{Problem}
+use Rattle.proof_file.specs.declared.file.ProofFile.{ProofFile}
+use Rattle.proof_file.specs.declared.node.FileNode.{FileNode}
+use Rattle.proof_check.specs.Files.{graph_of, AreRight, nodes_of, node_of, HavePositionSets}
+use Rattle.proof_check.specs.Verdicts.{IsCorrect, RootHolds}
+use Rattle.proof_check.proofs.Holds.{mapped_at, each_at}
+use Rattle.proof_check.proofs.KeptFacts.{root_holds}
+use Rattle.rule_table.specs.Nodes.{Node}
+use Rattle.format_limits.specs.Limits.{IsDefinitionWithin, IsJudgementWithin}
+use Rattle.problem_files.specs.Nodes.{IsNodeWithin}
+use Rattle.search_moves.specs.Limits.{IsSmall}
+use Rattle.search_moves.specs.Settings.{theory}
+use Rattle.search_moves.specs.Trying.{Theory}
+use Rattle.tableaux.specs.Tableau.{Tableau, replay}
+use Rattle.search_calculus.specs.Problems.{IsSmallProblem}
+use Rattle.search_calculus.specs.Search.{calculus_of, search_system}
+use Rattle.found_files.specs.Files.{nodes_made}
+use Rattle.found_files.specs.Found.{IsWithinLimits, AreProof, MakesProof}
+use Rattle.found_files.proofs.Found.{makes_proof}
+use Rattle.derivation_moves.specs.declared.derivation.Derivation.{Derivation}
+use Rattle.derivation_moves.specs.Derivations.{theory_in, nodes_in, goals_in, reasons_in, tableau_in, about, IsInOrder, IsItsSearch}
+use Rattle.proof_search.specs.Outcomes.{search_for, reasons_of, IsProofFor}
+use Rattle.proof_search.proofs.FileNodes.{reasons_made}
+
+abbrev pub theory_for : Problem → Theory
+theory_for problem = theory problem.defs problem.program
+
+small_each : (ds xs : List Definition) → Each (IsDefinitionWithin ds) xs → Each IsSmall xs
+small_each ds [] h = tt
+small_each ds (x ∷ xs) h = (record { parameters = h.0.arity; cases = h.0.few }, small_each ds xs h.1)
+
+pub are_small : (problem : Problem) → IsWithinLimits (theory_for problem) problem.goal → Each IsSmall problem.defs.list
+are_small problem limits = small_each problem.defs.list problem.defs.list limits.definitions
+
+-- the moves, with what they found
+pub record HasFound (problem : Problem) (moves : Derivation) : Type 0 where
+  pub same_theory : theory_in moves ≡ theory_for problem
+  pub closed : goals_in moves ≡ []
+  pub tableau : Tableau Judgement Reason
+  pub made : replay (calculus_of (theory_for problem)) problem.goal (reasons_in moves) ≡ Some tableau
+  pub nodes : tableau.nodes ≡ nodes_in moves
+  pub proof : AreProof (theory_for problem) problem.goal (nodes_made (theory_for problem) (nodes_in moves))
+
+some_is : {X : Type 0} (x y : X) → Some x ≡ Some y → x ≡ y
+some_is x y e = cc
+
+pub has_found : (problem : Problem) (moves : Derivation) (most depth : ℕ) → IsInOrder moves → about moves ≡ (problem.defs, (problem.program, problem.goal)) → IsWithinLimits (theory_for problem) problem.goal → IsFound (reasons_in moves) ≡ search_of (search_for problem) most depth → HasFound problem moves
+has_found problem moves most depth order is_about limits found =
+    let same_defs = ap (λ (x : _). x.0) is_about in
+    let same_program = ap (λ (x : _). x.1.0) is_about in
+    let same_root = ap (λ (x : _). x.1.1) is_about in
+    let same : theory_in moves ≡ theory_for problem = λ i. record { most = (same_defs i).most; definitions = (same_defs i).list; lines = same_program i } in
+    let makes = makes_proof (theory_for problem) problem.goal most depth (reasons_in moves) limits (sym found) in
+    let both : makes.tableau ≡ tableau_in moves = some_is makes.tableau (tableau_in moves) (sym makes.made ∙ ((λ i. replay (calculus_of (sym same i)) (sym same_root i) (reasons_in moves)) ∙ order.is.replayed)) in
+    record {
+      same_theory = same;
+      closed = sym (ap (λ (b : Tableau Judgement Reason). b.goals) both) ∙ makes.closed;
+      tableau = makes.tableau;
+      made = makes.made;
+      nodes = ap (λ (b : Tableau Judgement Reason). b.nodes) both;
+      proof = subst (λ ns. AreProof (theory_for problem) problem.goal (nodes_made (theory_for problem) ns)) (ap (λ (b : Tableau Judgement Reason). b.nodes) both) makes.proof;
+    }
+
+-- a proof has a node
+pub some_node : (t : Theory) (goal : Judgement) (nodes : List FileNode) → AreProof t goal nodes → 0 < length nodes
+some_node t goal nodes proof = let n = slice_get_within nodes 0 proof.root proof.is_root in omega (arith, n)
+
+-- an antecedent within the limits has few spatial atoms
+few_atoms : (ds : List Definition) (count : ℕ) (j : Judgement) → IsJudgementWithin ds count j → length (antecedent j).spatial ≤ 32
+few_atoms ds count (Entail a bs) h =
+    let few = leb-true (length a.spatial) 16 (and_parts (nat_le (length a.pure) 64) (nat_le (length a.spatial) 16) h.heaps.0.short).1 in omega (arith, few)
+few_atoms ds count (Runs i a) h =
+    let few = leb-true (length a.spatial) 16 (and_parts (nat_le (length a.pure) 64) (nat_le (length a.spatial) 16) h.heaps.0.short).1 in omega (arith, few)
+
+position_sets : (t : Theory) (nodes : List FileNode) → Each (IsNodeWithin t.definitions (length t.lines)) nodes → HavePositionSets (nodes_of nodes)
+position_sets t nodes within v node at =
+    let m = mapped_at node_of nodes v node at in
+    let w = each_at (IsNodeWithin t.definitions (length t.lines)) nodes v m.from m.at within in
+    let few = few_atoms t.definitions (length t.lines) m.from.judgement w.judgement in
+    subst (λ (n : Node). IsPositionSet (positions_of n.judgement)) m.is (places_set (antecedent m.from.judgement).spatial few)
+
+module _ (problem : Problem) (f : ProofFile) (moves : Derivation) (h : HasFound problem moves) (is_program : IsProgram problem.program) (same_defs : f.defs ≡ problem.defs) (same_program : f.program ≡ problem.program)
+    (same_nodes : f.nodes ≡ nodes_made (theory_for problem) (nodes_in moves)) (same_reasons : reasons_of f ≡ reasons_in moves) where
+  graph_same : graph_of problem.defs.most problem.defs.list problem.program (nodes_of (nodes_made (theory_for problem) (nodes_in moves))) ≡ graph_of f.defs.most f.defs.list f.program (nodes_of f.nodes)
+  graph_same = λ i. graph_of (sym same_defs i).most (sym same_defs i).list (sym same_program i) (nodes_of (sym same_nodes i))
+
+  correct : IsCorrect f
+  correct = record {
+    nodes = subst (λ (ds : _). AreRight ds.most ds.list f.program (nodes_of f.nodes)) (sym same_defs)
+        (subst (λ lines. AreRight problem.defs.most problem.defs.list lines (nodes_of f.nodes)) (sym same_program)
+        (subst (λ ns. AreRight problem.defs.most problem.defs.list problem.program (nodes_of ns)) (sym same_nodes) h.proof.right));
+    paths = subst AllProgress graph_same h.proof.paths;
+  }
+
+  sets : HavePositionSets (nodes_of f.nodes)
+  sets = subst (λ ns. HavePositionSets (nodes_of ns)) (sym same_nodes) (position_sets (theory_for problem) (nodes_made (theory_for problem) (nodes_in moves)) h.proof.within)
+
+  pub is_proof : IsProofFor problem f
+  is_proof = record {
+    definitions = same_defs;
+    program = same_program;
+    tableau = h.tableau;
+    made = ap (replay (calculus_of (theory_for problem)) problem.goal) same_reasons ∙ h.made;
+    nodes = same_nodes ∙ ap (nodes_made (theory_for problem)) (sym h.nodes);
+    root = h.proof.root;
+    is_root = ap (λ (ns : List FileNode). slice_get ns 0) same_nodes ∙ h.proof.is_root;
+    goal = h.proof.proves;
+    correct = correct;
+    states = subst (λ g. HasAtMost g 200000) graph_same h.proof.states;
+    holds = root_holds f (program_commands f.program (subst IsProgram (sym same_program) is_program)) correct.nodes sets correct.paths;
+  }
+
+-- the search that new moves follow
+pub follows : (problem : Problem) (moves : Derivation) → moves.defs ≡ problem.defs → moves.program ≡ problem.program → moves.root ≡ problem.goal → IsItsSearch moves (search_for problem)
+follows problem moves d p g = λ i. search_system (theory (sym d i) (sym p i)) (sym g i)
+
+pub same_about : (problem : Problem) (moves : Derivation) → moves.defs ≡ problem.defs → moves.program ≡ problem.program → moves.root ≡ problem.goal → about moves ≡ (problem.defs, (problem.program, problem.goal))
+same_about problem moves d p g = λ i. (d i, (p i, g i))
+
+pub within : (problem : Problem) → Each (IsDefinitionWithin problem.defs.list) problem.defs.list → IsProgram problem.program → IsJudgementWithin problem.defs.list (length problem.program) problem.goal → IsWithinLimits (theory_for problem) problem.goal
+within problem definitions program goal = record { most = problem.sixteen; definitions = definitions; program = program; goal_within = goal }
+
+pub same_reasons : (problem : Problem) (f : ProofFile) (moves : Derivation) → f.nodes ≡ nodes_made (theory_for problem) (nodes_in moves) → reasons_of f ≡ reasons_in moves
+same_reasons problem f moves e = ap (map (λ (n : FileNode). n.reason)) e ∙ reasons_made (theory_for problem) moves.made.items

@@ -1,0 +1,52 @@
+-- What the answers of the prover say.
+use Rattle.std.specs.Prelude.{◌≡◌, List, map, Some, slice_get}
+use Rattle.heap_formula.specs.declared.proof_rules.Reason.{Reason}
+use Rattle.derivation_search.specs.System.{System, Outcome, IsFound, IsNotFound, HasTooManyDerivations, HasTooManyStates}
+use Rattle.buchi_inclusion.specs.Answers.{HasAtMost}
+use Rattle.formula_reader.specs.declared.problem.Problem.{Problem}
+use Rattle.proof_file.specs.declared.file.ProofFile.{ProofFile}
+use Rattle.proof_file.specs.declared.node.FileNode.{FileNode}
+use Rattle.proof_check.specs.Verdicts.{file_graph, state_limit, IsCorrect, RootHolds}
+use Rattle.search_moves.specs.Settings.{theory}
+use Rattle.heap_formula.specs.declared.judgements.Judgement.{Judgement}
+use Rattle.tableaux.specs.Tableau.{Tableau, replay}
+use Rattle.search_calculus.specs.Search.{calculus_of, search_system}
+use Rattle.found_files.specs.Files.{nodes_made}
+use Rattle.proof_search.specs.declared.prover.Proved.{Proved}
+use Rattle.proof_search.specs.declared.prover.Proved.TheVariants.{Found, NotFound, TooManyDerivations, TooManyStates}
+
+-- the search for a proof of a problem's goal
+abbrev pub search_for : Problem → System Reason
+search_for problem = search_system (theory problem.defs problem.program) problem.goal
+
+-- the reasons of a file's nodes
+abbrev pub reasons_of : ProofFile → List Reason
+reasons_of f = map (λ (n : FileNode). n.reason) f.nodes
+
+-- how the search ends that has this answer
+abbrev pub outcome_of : Proved → Outcome Reason
+outcome_of (Found f) = IsFound (reasons_of f)
+outcome_of NotFound = IsNotFound
+outcome_of TooManyDerivations = HasTooManyDerivations
+outcome_of TooManyStates = HasTooManyStates
+
+-- a correct proof of the problem's goal, which holds; its nodes are what its reasons make of the goal
+pub record IsProofFor (problem : Problem) (f : ProofFile) : Type 0 where
+  pub definitions : f.defs ≡ problem.defs
+  pub program : f.program ≡ problem.program
+  pub tableau : Tableau Judgement Reason
+  pub made : replay (calculus_of (theory problem.defs problem.program)) problem.goal (reasons_of f) ≡ Some tableau
+  pub nodes : f.nodes ≡ nodes_made (theory problem.defs problem.program) tableau.nodes
+  pub root : FileNode
+  pub is_root : slice_get f.nodes 0 ≡ Some root
+  pub goal : root.judgement ≡ problem.goal
+  pub correct : IsCorrect f
+  pub states : HasAtMost (file_graph f) state_limit
+  pub holds : RootHolds f
+
+-- what is found is a proof
+abbrev pub IsProved : Problem → Proved → Type 0
+IsProved problem (Found f) = IsProofFor problem f
+IsProved problem NotFound = Unit {0}
+IsProved problem TooManyDerivations = Unit {0}
+IsProved problem TooManyStates = Unit {0}

@@ -1,0 +1,106 @@
+// A derivation without open goals as a proof file.
+ghost use Rattle.std.specs.Prelude.{◌≡◌, ◌≤◌, ◌<◌, [], length, slice_get, IfOk};
+ghost use Rattle.search_calculus.specs.Graphs.{slots_filled};
+ghost use Rattle.search_moves.specs.Settings.{theory};
+ghost use Rattle.found_files.specs.Files.{nodes_made};
+ghost use Rattle.found_files.specs.Found.{AreProof};
+ghost use Rattle.derivation_moves.specs.Derivations.{IsInOrder, theory_in, nodes_in, goals_in};
+ghost use Rattle.proof_search.specs.Results.{numbers_in, file_node_at, file_nodes_from};
+
+use cyc_memory::OutOfMemory;
+use derivation_moves::{Derivation, MadeNode};
+use formula_reader::Problem;
+use heap_formula::{Judgement, Positions, Reason};
+use problem_files::file_for;
+use proof_file::{FileNode, FileNodes, ProofFile};
+use proof_graph::{Graph, GraphPremise};
+use std::alloc::Global;
+
+fn filled_slots(alloc: Global, premises: &[GraphPremise]) -> Result<Vec<u32>, OutOfMemory>
+    ensures { IfOk result (λ v. v.items ≡ slots_filled premises.now) }
+{
+    let mut numbers = Vec::new(alloc);
+    for premise in premises {
+        if let Some(node) = premise.slot {
+            numbers.push(node)?;
+        }
+    }
+    Ok(numbers)
+}
+
+/// The numbers of a node's premises; a link has none.
+fn numbers(
+    alloc: Global,
+    reason: &Reason,
+    premises: &[GraphPremise],
+) -> Result<Positions, OutOfMemory>
+    ensures { IfOk result (λ p. p ≡ numbers_in reason.now premises.now) }
+{
+    match reason {
+        Reason::Step(_) => Ok(Positions::from_vec(filled_slots(alloc, premises)?)),
+        Reason::Back(_) => Ok(Positions::from_vec(Vec::new(alloc))),
+    }
+}
+
+fn copied_judgement(judgement: &Judgement) -> Result<Judgement, OutOfMemory>
+    ensures { IfOk result (λ copy. copy ≡ judgement.now) }
+{
+    Ok(judgement.clone()?)
+}
+
+fn copied_reason(reason: &Reason) -> Result<Reason, OutOfMemory>
+    ensures { IfOk result (λ copy. copy ≡ reason.now) }
+{
+    Ok(reason.clone()?)
+}
+
+/// A node made, with the numbers of its premises.
+fn file_node(
+    alloc: Global,
+    graph: &Graph,
+    number: u32,
+    node: &MadeNode,
+) -> Result<FileNode, OutOfMemory>
+    requires { number < length graph.now }
+    ensures { IfOk result (λ f. f ≡ file_node_at (slice_get graph.now number) node.now) }
+{
+    let judgement = copied_judgement(&node.goal.premise.judgement)?;
+    let reason = copied_reason(&node.reason)?;
+    let premises = numbers(alloc, &node.reason, graph.node(number).premises)?;
+    Ok(FileNode {
+        judgement,
+        reason,
+        premises,
+    })
+}
+
+/// The nodes made, with the numbers of their premises as the graph has them.
+fn file_nodes(alloc: Global, graph: &Graph, made: &[MadeNode]) -> Result<Vec<FileNode>, OutOfMemory>
+    requires { length made.now ≤ length graph.now }
+    ensures { IfOk result (λ v. v.items ≡ file_nodes_from graph.now 0 made.now) }
+{
+    let _count = graph.len();
+    let mut nodes = Vec::new(alloc);
+    for (v, node) in made.iter().enumerate() {
+        nodes.push(file_node(alloc, graph, v as u32, node)?)?;
+    }
+    Ok(nodes)
+}
+
+/// The proof that a derivation without open goals is, as a file of the problem.
+pub fn file_of(
+    alloc: Global,
+    problem: &Problem,
+    moves: &Derivation,
+) -> Result<ProofFile, OutOfMemory>
+    requires order { IsInOrder moves.now }
+    requires closed { goals_in moves.now ≡ [] }
+    requires theory { theory_in moves.now ≡ theory problem.now.defs problem.now.program }
+    requires proof { AreProof (theory problem.now.defs problem.now.program) problem.now.goal (nodes_made (theory problem.now.defs problem.now.program) (nodes_in moves.now)) }
+    ensures definitions { IfOk result (λ f. f.defs ≡ problem.now.defs) }
+    ensures program { IfOk result (λ f. f.program ≡ problem.now.program) }
+    ensures nodes { IfOk result (λ f. f.nodes ≡ nodes_made (theory problem.now.defs problem.now.program) (nodes_in moves.now)) }
+{
+    let nodes = file_nodes(alloc, &moves.graph, &moves.made)?;
+    file_for(alloc, problem, FileNodes::from_vec(nodes))
+}

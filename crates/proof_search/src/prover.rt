@@ -1,0 +1,44 @@
+// The search, depth by depth.
+ghost use Rattle.std.specs.Prelude.{◌≡◌, ◌<◌, ◌≤◌, IfOk};
+ghost use Rattle.derivation_search.specs.System.{search_of};
+ghost use Rattle.proof_search.specs.Outcomes.{search_for, outcome_of, IsProved};
+
+use crate::found::file_of;
+use cyc_memory::OutOfMemory;
+use derivation_moves::Derivation;
+use derivation_search::{Stop, search_depth};
+use formula_reader::Problem;
+use problem_files::problem_is_within;
+use proof_file::ProofFile;
+use std::alloc::Global;
+
+/// What comes of a search: a proof; nothing, within the depth; or that a limit was met, on partial derivations of one depth
+/// or on product states.
+#[derive(Debug, Drop)]
+pub enum Proved {
+    Found(ProofFile),
+    NotFound,
+    TooManyDerivations,
+    TooManyStates,
+}
+
+/// Searches for a proof of the problem's goal at depth 1, 2, .. up to `depth`. At each depth partial derivations are
+/// counted, the empty one first, and links that are not admitted; the search stops where `most` are counted.
+pub fn prove(alloc: Global, problem: &Problem, depth: u32, most: u32) -> Result<Proved, OutOfMemory>
+    requires depth { depth ≤ 40 }
+    requires most { 0 < most }
+    ensures outcome { IfOk result (λ proved. outcome_of proved ≡ search_of (search_for problem.now) most depth) }
+    ensures proved { IfOk result (IsProved problem.now) }
+{
+    problem_is_within(problem);
+    for bound in 1..depth + 1 {
+        let mut moves = Derivation::new(alloc, &problem.defs, &problem.program, &problem.goal)?;
+        match search_depth(alloc, &mut moves, bound, most)? {
+            None => {}
+            Some(Stop::TooManyDerivations) => return Ok(Proved::TooManyDerivations),
+            Some(Stop::TooManyStates) => return Ok(Proved::TooManyStates),
+            Some(Stop::Found) => return Ok(Proved::Found(file_of(alloc, problem, &moves)?)),
+        }
+    }
+    Ok(Proved::NotFound)
+}
