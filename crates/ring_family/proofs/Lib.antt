@@ -1,3 +1,4 @@
+pub mod TextSizes
 pub mod Blocks
 pub mod Turning
 pub mod Answers
@@ -12,3 +13,5 @@ pub mod Fitting
 pub mod Readable
 pub mod Growing
 pub mod Correct
+pub mod Short
+pub mod Accepted

@@ -32,12 +32,12 @@ each_node P k blocks bud v x h =
 
 -- ---- names and arities
 
-name_from : (k i n p r : ℕ) → p < n → r ≡ i + p → name_of (definitions_from k i n) p ≡ 112 ∷ decimal r
+pub name_from : (k i n p r : ℕ) → p < n → r ≡ i + p → name_of (definitions_from k i n) p ≡ 112 ∷ decimal r
 name_from k i zero p r b e = absurd (omega arith)
 name_from k i (suc n) zero r b e = let same : i ≡ r = omega arith in ap (λ x. 112 ∷ decimal x) same
 name_from k i (suc n) (suc p) r b e = name_from k (suc i) n p r (omega arith) (omega arith)
 
-last_name : (k i n p : ℕ) → p ≡ n → name_of (definitions_from k i n) p ≡ 113 ∷ []
+pub last_name : (k i n p : ℕ) → p ≡ n → name_of (definitions_from k i n) p ≡ 113 ∷ []
 last_name k i zero zero e = refl
 last_name k i zero (suc p) e = absurd (omega arith)
 last_name k i (suc n) zero e = absurd (omega arith)

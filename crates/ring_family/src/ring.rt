@@ -1,9 +1,10 @@
 // A file of the family.
-ghost use Rattle.std.specs.Prelude.{◌≡◌, ◌≤◌, ◌+◌, ◌*◌, [], IfOk};
+ghost use Rattle.std.specs.Prelude.{◌≡◌, ◌<◌, ◌≤◌, ◌+◌, ◌*◌, [], length, IfOk};
 ghost use Rattle.buchi_inclusion.specs.Answers.{HasAtMost, HasMoreThan};
+ghost use Rattle.proof_file.specs.Written.{text_of_file};
 ghost use Rattle.proof_check.specs.Files.{nodes_of};
 ghost use Rattle.proof_check.specs.Verdicts.{file_graph, IsCorrect};
-ghost use Rattle.ring_family.specs.Ring.{ring_definitions, ring_nodes};
+ghost use Rattle.ring_family.specs.Ring.{ring_definitions, ring_nodes, file_nodes};
 
 use crate::definitions::definitions;
 use crate::nodes::nodes;
@@ -22,6 +23,8 @@ pub fn ring_file(alloc: Global, k: u32) -> Result<ProofFile, OutOfMemory>
     ensures definitions { IfOk result (λ f. f.defs ≡ record { most = 16; list = ring_definitions k }) }
     ensures program { IfOk result (λ f. f.program ≡ []) }
     ensures nodes { IfOk result (λ f. nodes_of f.nodes ≡ ring_nodes k) }
+    ensures file_form { IfOk result (λ f. f.nodes ≡ file_nodes (ring_nodes k)) }
+    ensures short { IfOk result (λ f. length (text_of_file f.defs.list f.program f.nodes) < 16777216) }
     ensures correct { IfOk result IsCorrect }
     ensures at_most { IfOk result (λ f. HasAtMost (file_graph f) (8 * k + 1)) }
     ensures at_least { IfOk result (λ f. HasMoreThan (file_graph f) (8 * k)) }

@@ -59,6 +59,7 @@ fn texts(rt: HostRuntime) -> Result<(), Fail> {
     let alloc = rt.alloc();
     assert_eq!(rt; text(alloc, 1)?.as_slice(), ONE);
     assert_eq!(rt; text(alloc, 2)?.as_slice(), TWO);
+    assert!(rt; text(alloc, 2000)?.len() < 16_777_216);
     Ok(())
 }
 
@@ -77,5 +78,6 @@ fn verdicts(rt: HostRuntime) -> Result<(), Fail> {
     assert_eq!(rt; is_accepted(alloc, 1)?, true);
     assert_eq!(rt; is_accepted(alloc, 2)?, true);
     assert_eq!(rt; is_accepted(alloc, 11)?, true);
+    assert_eq!(rt; is_accepted(alloc, 2000)?, true);
     Ok(())
 }

@@ -10,13 +10,14 @@ use Rattle.proof_syntax.specs.Grammar.{file}
 use Rattle.proof_file.specs.declared.node.FileNode.{FileNode}
 use Rattle.proof_file.specs.Readable.{are_readable, are_universal_commands, are_at_lines, all_have_few_cases}
 use Rattle.proof_file.specs.Flaws.{file_flaw}
-use Rattle.proof_file.specs.Written.{tree_of}
+use Rattle.proof_file.specs.Written.{tree_of, text_of_file}
 use Rattle.proof_check.specs.Files.{AreRight, graph_of, nodes_of}
 use Rattle.ring_family.specs.Ring.{ring_definitions, ring_nodes, file_nodes}
 use Rattle.ring_family.proofs.Correct.{definitions_long, nodes_long, right, paths, states_at_most, states_at_least, moved}
 use Rattle.ring_family.proofs.Readable.{readable, at_lines, few_cases, nodes_again}
 use Rattle.ring_family.proofs.Flawless.{no_flaw}
 use Rattle.ring_family.proofs.Fitting.{file_fits}
+use Rattle.ring_family.proofs.Short.{ring_text_short}
 use Rattle.ring_family.proofs.ring.ring_file.Goals as goal
 
 -- what holds of the family's lists
@@ -54,6 +55,16 @@ invariant_of-result c =
 
 pub returns-clause-nodes : goal.returns-clause-nodes
 returns-clause-nodes c = ap nodes_of (c.from_vec-nodes.ensures ∙ c.in_ok-nodes.ensures) ∙ nodes_again (ring_nodes c.args.k)
+
+pub returns-clause-file_form : goal.returns-clause-file_form
+returns-clause-file_form c = c.from_vec-nodes.ensures ∙ c.in_ok-nodes.ensures
+
+pub returns-clause-short : goal.returns-clause-short
+returns-clause-short c =
+    let k = c.args.k in
+    let d = c.from_vec-defs.ensures ∙ ap (λ (l : List Definition). record { most = 16; list = l }) c.in_ok-definitions.ensures in
+    let n = c.from_vec-nodes.ensures ∙ c.in_ok-nodes.ensures in
+    kept (λ book program nodes. length (text_of_file book.list program nodes) < 16777216) k c.from_vec-defs.result c.in_ok-program.program c.from_vec-nodes.result d c.in_ok-program.ensures n (ring_text_short k c.requires.from_one c.requires.most)
 
 pub returns-clause-correct : goal.returns-clause-correct
 returns-clause-correct c =
