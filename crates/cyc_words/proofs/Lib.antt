@@ -1,0 +1,9 @@
+pub mod Faults
+pub mod Rows
+pub mod Walks
+pub mod Levels
+pub mod Stops
+pub mod Numbers
+pub mod Ranges
+pub mod Taken
+pub mod Parses

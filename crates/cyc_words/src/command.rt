@@ -1,0 +1,47 @@
+// The command `cyclist`, as clap builds it.
+ghost use Rattle.std.specs.Prelude.{◌≡◌, IfOk, false};
+ghost use Rattle.clap.specs.Words.{rule_of};
+ghost use Rattle.cyc_words.specs.Command.{IsCommand, cyclist_app, depth_rule, prove_app, ring_app, size_rule};
+
+use clap::{Arg, Command};
+use std::alloc::{AllocError, Global};
+
+fn depth_argument<'a>(alloc: Global) -> Arg<'a>
+    ensures rule { rule_of result ≡ depth_rule }
+    ensures local { result.global ≡ false }
+{
+    Arg::new(alloc, "depth")
+        .long("depth")
+        .value_parser(clap::value_parser!(u32).range(1..=40))
+        .default_value("16")
+}
+
+fn size_argument<'a>(alloc: Global) -> Arg<'a>
+    ensures rule { rule_of result ≡ size_rule }
+    ensures local { result.global ≡ false }
+{
+    Arg::new(alloc, "K")
+        .required(true)
+        .value_parser(clap::value_parser!(u32).range(1..=2000))
+}
+
+fn prove_command<'a>(alloc: Global) -> Result<Command<'a>, AllocError>
+    ensures { IfOk result (λ command. IsCommand command prove_app) }
+{
+    Command::new(alloc, "prove").arg(depth_argument(alloc))
+}
+
+fn ring_command<'a>(alloc: Global) -> Result<Command<'a>, AllocError>
+    ensures { IfOk result (λ command. IsCommand command ring_app) }
+{
+    Command::new(alloc, "ring").arg(size_argument(alloc))
+}
+
+pub fn cyclist_command<'a>(alloc: Global) -> Result<Command<'a>, AllocError>
+    ensures { IfOk result (λ command. IsCommand command cyclist_app) }
+{
+    Command::new(alloc, "cyclist")
+        .subcommand(Command::new(alloc, "check"))?
+        .subcommand(prove_command(alloc)?)?
+        .subcommand(ring_command(alloc)?)
+}

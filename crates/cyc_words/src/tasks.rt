@@ -1,0 +1,15 @@
+// What command lines ask for.
+
+/// What a command line asks for.
+#[derive(Clone, Copy, Debug, PartialEq, Eq)]
+pub enum Task {
+    /// Check the proof file that the input spells.
+    Check,
+    /// Search the problem that the input spells for a proof, down to this depth, 1 to 40.
+    Prove(u32),
+    /// The ring family's file of this size, 1 to 2,000. No input is read.
+    Ring(u32),
+}
+
+/// The line that says which words have a meaning.
+pub const USAGE: &str = "usage: cyclist check | prove [--depth N] | ring K\n";
