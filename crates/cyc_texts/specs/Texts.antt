@@ -85,3 +85,16 @@ input_limit_text = codes "limit input\n"
 -- there are too many product states
 abbrev pub states_limit_text : List ℕ
 states_limit_text = codes "limit states\n"
+
+-- there are too many partial derivations at one depth
+abbrev pub derivations_limit_text : List ℕ
+derivations_limit_text = codes "limit derivations\n"
+
+-- no proof was found within this depth
+abbrev pub not_found_text : ℕ → List ℕ
+not_found_text depth = codes "not found depth " ++ decimal depth ++ codes "\n"
+
+-- the proof of a ring of k predicates is right, and has so many nodes, of which so many are links
+abbrev pub ring_text : ℕ → ℕ → ℕ → List ℕ
+ring_text k nodes links =
+    codes "ring " ++ decimal k ++ codes " accepted nodes " ++ decimal nodes ++ codes " links " ++ decimal links ++ codes "\n"

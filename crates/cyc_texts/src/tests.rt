@@ -42,6 +42,11 @@ fn verdicts(rt: HostRuntime) -> Result<(), Fail> {
             path_refused_line(alloc, &stemmed)?,
             "refused path stem 0.0 cycle 12.1\n",
         ),
+        (not_found_line(alloc, 16)?, "not found depth 16\n"),
+        (
+            ring_line(alloc, 2000, 16001, 1)?,
+            "ring 2000 accepted nodes 16001 links 1\n",
+        ),
     ] {
         assert!(rt; line.as_slice() == text.as_bytes(), "{text}");
     }

@@ -1,23 +1,38 @@
 -- Each task has one way to end for each input.
-use Rattle.std.proofs.Common.{◌≡◌, ℕ, List, sym, ◌∙◌, arith, subst, inl, inr, Option, Some, None}
+use Rattle.std.proofs.Common.{◌≡◌, ℕ, ◌≤◌, List, true, false, ap, sym, ◌∙◌, arith, subst, inl, inr, length, Option, Some, None}
 use Rattle.std.specs.Prelude.{Result, Ok, Err}
+use Rattle.std.specs.Io.KnownBytes.{Appends}
+use Rattle.heap_formula.specs.declared.proof_rules.Reason.{Reason}
+use Rattle.heap_formula.specs.Judgements.{JudgementHolds}
+use Rattle.derivation_search.specs.System.{IsFound, search_of}
 use Rattle.cyc_lex.specs.declared.fault.ReadFault.{ReadFault}
 use Rattle.cyc_lex.specs.declared.fault.ReadFault.TheVariants as faults
+use Rattle.formula_reader.specs.declared.problem.Problem.{Problem}
+use Rattle.formula_reader.specs.Reading as problems
 use Rattle.proof_file.specs.declared.file.ProofFile.{ProofFile}
+use Rattle.proof_file.specs.Reading.{AreSame, IsRead}
 use Rattle.proof_check.specs.declared.verdict.Verdict.{Verdict}
 use Rattle.proof_check.specs.declared.verdict.Verdict.TheVariants.{Accepted, RuleRefused, PathRefused, TooManyStates}
+use Rattle.proof_check.specs.Verdicts.{IsVerdict, RootHolds}
+use Rattle.proof_search.specs.declared.prover.Proved.{Proved}
+use Rattle.proof_search.specs.declared.prover.Proved.TheVariants.{Found, NotFound, TooManyDerivations}
+use Rattle.proof_search.specs.declared.prover.Proved.TheVariants as answers
+use Rattle.proof_search.specs.Outcomes.{search_for, IsProved}
+use Rattle.cyc_words.specs.Words.{reads_input}
+use Rattle.cyc_words.specs.declared.tasks.Task.{Task}
+use Rattle.cyc_words.specs.declared.tasks.Task.TheVariants.{Check, Prove, Ring}
 use Rattle.cyc_top.specs.declared.endings.Status.{Status}
 use Rattle.cyc_top.specs.declared.endings.Status.TheVariants as status
-use Rattle.cyc_top.specs.declared.tasks.Task.{Task}
-use Rattle.cyc_top.specs.declared.tasks.Task.TheVariants.{Check}
-use Rattle.cyc_top.specs.Answers.{Answers, IsAnswer, IsChecked, IsHeadline, IsReadAnswer, IsTold, fault_status, verdict_status}
-use Rattle.proof_file.specs.Reading.{IsRead}
-use Rattle.proof_check.specs.Verdicts.{IsVerdict, RootHolds}
-use Rattle.cyc_top.proofs.Readings.{IsSameReading, one_reading}
+use Rattle.cyc_top.specs.Answers.{Answers, IsAnswer, IsChecked, IsHeadline, IsReadAnswer, IsSearchAnswer, IsSearched, IsTold, WroteProof, derivation_limit, fault_status, input_limit, proved_status, proved_text, verdict_status}
+use Rattle.cyc_top.proofs.OneReading.{AreAlike}
+use Rattle.cyc_top.proofs.Readings.{one_reading}
+use Rattle.cyc_top.proofs.ProblemReadings.{one_problem_reading}
 use Rattle.cyc_top.proofs.OneVerdict.{one_ending}
+use Rattle.cyc_top.proofs.OneSearch.{one_search, found_search, goal_holds, proof_accepted}
 
--- an input that was read in one way is answered with one status
-pub read_answer_ends : (r q : Result ProofFile ReadFault) (s t : Status) (xs ys : List ℕ) → IsSameReading r q → IsReadAnswer r s xs → IsReadAnswer q t ys → s ≡ t
+-- ---- an input that was read in one way is answered with one status
+
+pub read_answer_ends : (r q : Result ProofFile ReadFault) (s t : Status) (xs ys : List ℕ) → AreAlike AreSame r q → IsReadAnswer r s xs → IsReadAnswer q t ys → s ≡ t
 read_answer_ends (Ok f) (Ok g) s t xs ys same first second = first.2 ∙ one_ending f g same first.0 second.0 first.1 second.1 ∙ sym second.2
 read_answer_ends (Err a) (Err b) s t xs ys same first second = first.0 ∙ same ∙ sym second.0
 read_answer_ends (Ok f) (Err b) s t xs ys same first second = absurd same
@@ -28,6 +43,18 @@ pub checked_ends : (input : List ℕ) (s t : Status) (xs ys : List ℕ) → IsCh
 checked_ends input s t xs ys first second =
     read_answer_ends first.1 second.1 s t xs ys (one_reading input first.1 second.1 first.2 second.2) first.3 second.3
 
+search_answer_ends : (depth : ℕ) (r q : Result Problem ReadFault) (s t : Status) (xs ys : List ℕ) → AreAlike problems.AreSame r q → IsSearchAnswer depth r s xs → IsSearchAnswer depth q t ys → s ≡ t
+search_answer_ends depth (Ok p) (Ok q) s t xs ys same first second =
+    first.2 ∙ one_search depth p q first.0 second.0 same first.1.0 second.1.0 ∙ sym second.2
+search_answer_ends depth (Err a) (Err b) s t xs ys same first second = first.0 ∙ same ∙ sym second.0
+search_answer_ends depth (Ok p) (Err b) s t xs ys same first second = absurd same
+search_answer_ends depth (Err a) (Ok q) s t xs ys same first second = absurd same
+
+-- so is a searched one
+searched_ends : (depth : ℕ) (input : List ℕ) (s t : Status) (xs ys : List ℕ) → IsSearched depth input s xs → IsSearched depth input t ys → s ≡ t
+searched_ends depth input s t xs ys first second =
+    search_answer_ends depth first.1 second.1 s t xs ys (one_problem_reading input first.1 second.1 first.2 second.2) first.3 second.3
+
 -- a task is answered for an input with one status
 pub one_status : (task : Option Task) (input : List ℕ) (s t : Status) (xs ys : List ℕ) → IsAnswer task input s xs → IsAnswer task input t ys → s ≡ t
 one_status None input s t xs ys first second = first.0 ∙ sym second.0
@@ -35,17 +62,26 @@ one_status (Some Check) input s t xs ys (inl first) (inl second) = first.1 ∙ s
 one_status (Some Check) input s t xs ys (inr first) (inr second) = checked_ends input s t xs ys first second
 one_status (Some Check) input s t xs ys (inl first) (inr second) = absurd (omega (arith, first.0, second.0))
 one_status (Some Check) input s t xs ys (inr first) (inl second) = absurd (omega (arith, first.0, second.0))
+one_status (Some (Prove depth)) input s t xs ys (inl first) (inl second) = first.1 ∙ sym second.1
+one_status (Some (Prove depth)) input s t xs ys (inr first) (inr second) = searched_ends depth input s t xs ys first second
+one_status (Some (Prove depth)) input s t xs ys (inl first) (inr second) = absurd (omega (arith, first.0, second.0))
+one_status (Some (Prove depth)) input s t xs ys (inr first) (inl second) = absurd (omega (arith, first.0, second.0))
+one_status (Some (Ring k)) input s t xs ys first second = first.0 ∙ sym second.0
 
 -- the input that was told
 pub told_is : (told : Option (List ℕ)) (input other : List ℕ) → told ≡ Some input → IsTold told other → input ≡ other
 told_is None input other e told = cc
 told_is (Some xs) input other e told = cc
 
+-- an answer to what was told is one for the told input
+answer_for : (task : Option Task) (told : Option (List ℕ)) (input : List ℕ) (s : Status) (xs : List ℕ) → told ≡ Some input → Answers task told s xs → IsAnswer task input s xs
+answer_for task told input s xs e answer =
+    subst (λ i. IsAnswer task i s xs) (sym (told_is told input answer.0 e answer.1)) answer.2
+
 -- an answer to what was told is the one that the told input has
 pub told_status : (task : Option Task) (told : Option (List ℕ)) (input : List ℕ) (s t : Status) (xs ys : List ℕ) → told ≡ Some input → IsAnswer task input t ys → Answers task told s xs → s ≡ t
 told_status task told input s t xs ys e expected answer =
-    let same : answer.0 ≡ input = sym (told_is told input answer.0 e answer.1) in
-    one_status task input s t xs ys (subst (λ i. IsAnswer task i s xs) same answer.2) expected
+    one_status task input s t xs ys (answer_for task told input s xs e answer) expected
 
 -- ---- success
 
@@ -69,13 +105,74 @@ pub success_reads : (input : List ℕ) (r : Result ProofFile ReadFault) (xs : Li
 success_reads input (Ok file) xs is answer = (file, is, success_accepts file answer.0 answer.1 answer.2)
 success_reads input (Err fault) xs is answer = absurd (fault_fails fault answer.0)
 
+-- a search that ends with success found a proof
+success_holds : (p : Problem) (a : Proved) → IsProved p a → status.Success ≡ proved_status a → JudgementHolds p.defs.list p.program p.goal
+success_holds p (Found f) is e = goal_holds p f is
+success_holds p NotFound is e = absurd cc
+success_holds p TooManyDerivations is e = absurd cc
+success_holds p answers.TooManyStates is e = absurd cc
+
+-- so it read a problem whose goal holds
+success_proves : (depth : ℕ) (input : List ℕ) (r : Result Problem ReadFault) (xs : List ℕ) → problems.IsRead input r → IsSearchAnswer depth r status.Success xs → (p : Problem) × problems.IsRead input (Ok p) × JudgementHolds p.defs.list p.program p.goal
+success_proves depth input (Ok p) xs is answer = (p, is, success_holds p answer.0 answer.1.1 answer.2)
+success_proves depth input (Err fault) xs is answer = absurd (fault_fails fault answer.0)
+
 -- a task that ends with success says what it says
 pub success_true : (task : Option Task) (told : Option (List ℕ)) (input xs : List ℕ) → IsTold told input → IsAnswer task input status.Success xs → IsHeadline task told
 success_true None told input xs is answer = absurd (let e : status.Success ≡ status.Usage = answer.0 in cc)
 success_true (Some Check) told input xs is (inl long) = absurd (let e : status.Success ≡ status.Limit = long.1 in cc)
 success_true (Some Check) told input xs is (inr checked) = (input, is, success_reads input checked.1 xs checked.2 checked.3)
+success_true (Some (Prove depth)) told input xs is (inl long) = absurd (let e : status.Success ≡ status.Limit = long.1 in cc)
+success_true (Some (Prove depth)) told input xs is (inr searched) = (input, is, success_proves depth input searched.1 xs searched.2 searched.3)
+success_true (Some (Ring k)) told input xs is answer = tt
 
 -- an answer of success is true
 pub answered_true : (task : Option Task) (told : Option (List ℕ)) (s : Status) (xs : List ℕ) → Answers task told s xs → s ≡ status.Success → IsHeadline task told
 answered_true task told s xs answer e =
     success_true task told answer.0 xs answer.1 (subst (λ s. IsAnswer task answer.0 s xs) e answer.2)
+
+-- ---- searches
+
+-- what a search with success writes, a check accepts
+success_accepted : (depth : ℕ) (p : Problem) (a : Proved) (text : List ℕ) → IsProved p a → status.Success ≡ proved_status a → text ≡ proved_text depth a → length text ≤ input_limit → (line : List ℕ) × IsAnswer (Some Check) text status.Success line
+success_accepted depth p (Found f) text is e said short = proof_accepted p f text is said short
+success_accepted depth p NotFound text is e said short = absurd cc
+success_accepted depth p TooManyDerivations text is e said short = absurd cc
+success_accepted depth p answers.TooManyStates text is e said short = absurd cc
+
+search_accepted : (depth : ℕ) (r : Result Problem ReadFault) (text : List ℕ) → IsSearchAnswer depth r status.Success text → length text ≤ input_limit → (line : List ℕ) × IsAnswer (Some Check) text status.Success line
+search_accepted depth (Ok p) text answer short = success_accepted depth p answer.0 text answer.1.1 answer.2 answer.3 short
+search_accepted depth (Err fault) text answer short = absurd (fault_fails fault answer.0)
+
+task_accepted : (depth : ℕ) (input text : List ℕ) → IsAnswer (Some (Prove depth)) input status.Success text → length text ≤ input_limit → (line : List ℕ) × IsAnswer (Some Check) text status.Success line
+task_accepted depth input text (inl long) short = absurd (let e : status.Success ≡ status.Limit = long.1 in cc)
+task_accepted depth input text (inr searched) short = search_accepted depth searched.1 text searched.3 short
+
+-- a search that ended with success wrote a proof
+pub wrote_proof : (depth : ℕ) (task : Option Task) (told old new : Option (List ℕ)) (s : Status) (text : List ℕ) → task ≡ Some (Prove depth) → Answers task told s text → s ≡ status.Success → Appends old new text → WroteProof old new
+wrote_proof depth task told old new s text is answer e wrote =
+    (text, wrote, task_accepted depth answer.0 text (subst (λ t. IsAnswer t answer.0 status.Success text) is (subst (λ s. IsAnswer task answer.0 s text) e answer.2)))
+
+search_finds : (depth : ℕ) (r : Result Problem ReadFault) (q : Problem) (d : List Reason) (s : Status) (text : List ℕ) → AreAlike problems.AreSame r (Ok q) → search_of (search_for q) derivation_limit depth ≡ IsFound d → IsSearchAnswer depth r s text → s ≡ status.Success
+search_finds depth (Ok p) q d s text same found answer = answer.2 ∙ found_search depth p q answer.0 d same answer.1.0 found
+search_finds depth (Err fault) q d s text same found answer = absurd same
+
+task_finds : (depth : ℕ) (input : List ℕ) (q : Problem) (d : List Reason) (s : Status) (text : List ℕ) → length input ≤ input_limit → problems.IsRead input (Ok q) → search_of (search_for q) derivation_limit depth ≡ IsFound d → IsAnswer (Some (Prove depth)) input s text → s ≡ status.Success
+task_finds depth input q d s text short is found (inl long) = absurd (omega (arith, long.0))
+task_finds depth input q d s text short is found (inr searched) =
+    search_finds depth searched.1 q d s text (one_problem_reading input searched.1 (Ok q) searched.2 is) found searched.3
+
+-- a search that finds within its limits is answered with success
+pub found_succeeds : (depth : ℕ) (task : Option Task) (told : Option (List ℕ)) (input : List ℕ) (q : Problem) (d : List Reason) (s : Status) (text : List ℕ) → task ≡ Some (Prove depth) → told ≡ Some input → length input ≤ input_limit → problems.IsRead input (Ok q) → search_of (search_for q) derivation_limit depth ≡ IsFound d → Answers task told s text → s ≡ status.Success
+found_succeeds depth task told input q d s text is e short read found answer =
+    task_finds depth input q d s text short read found (subst (λ t. IsAnswer t input s text) is (answer_for task told input s text e answer))
+
+-- ---- rings
+
+-- a ring is answered with success
+pub ring_succeeds : (k : ℕ) (task : Option Task) (told : Option (List ℕ)) (s : Status) (text : List ℕ) → task ≡ Some (Ring k) → Answers task told s text → s ≡ status.Success
+ring_succeeds k task told s text is answer = (subst (λ t. IsAnswer t answer.0 s text) is answer.2).0
+
+-- it needs no input
+pub ring_reads_not : (k : ℕ) (task : Option Task) → task ≡ Some (Ring k) → reads_input task ≡ true → ⊥
+ring_reads_not k task is reads = let e : false ≡ true = ap reads_input (sym is) ∙ reads in cc

@@ -1,4 +1,8 @@
-pub mod Told
+pub mod OneReading
 pub mod Readings
+pub mod ProblemReadings
 pub mod OneVerdict
+pub mod OneSearch
+pub mod Told
 pub mod Exact
+pub mod RingFiles

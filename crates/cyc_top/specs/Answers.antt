@@ -1,10 +1,10 @@
 -- The answer to a task, and what is written of it.
-use Rattle.std.specs.Prelude.{◌≡◌, ◌≢◌, ◌+◌, ◌<◌, ◌≤◌, ◌⊎◌, ℕ, List, [], ◌∷◌, length, count_by, Option, Some, None, Result, Ok, Err, Bool, true, false}
+use Rattle.std.specs.Prelude.{◌≡◌, ◌≢◌, ◌+◌, ◌*◌, ◌<◌, ◌≤◌, ◌⊎◌, ℕ, List, [], ◌∷◌, length, count_by, Option, Some, None, Result, Ok, Err, Bool, true, false}
 use Rattle.std.specs.Io.KnownBytes.{Appends, IsAtEnd}
 use Rattle.heap_formula.specs.declared.proof_rules.Reason.{Reason}
 use Rattle.heap_formula.specs.declared.proof_rules.Reason.TheVariants.{Step, Back}
 use Rattle.cyc_io.specs.Bytes.{AppendsProperPrefix, Came}
-use Rattle.cyc_texts.specs.Texts.{accepted_text, node_refused_text, path_refused_text, lexical_text, syntax_text, ill_formed_text, limit_text, input_limit_text, states_limit_text}
+use Rattle.cyc_texts.specs.Texts.{accepted_text, node_refused_text, path_refused_text, lexical_text, syntax_text, ill_formed_text, limit_text, input_limit_text, states_limit_text, derivations_limit_text, not_found_text, ring_text}
 use Rattle.cyc_lex.specs.declared.fault.ReadFault.{ReadFault}
 use Rattle.cyc_lex.specs.declared.fault.ReadFault.TheVariants as faults
 use Rattle.proof_file.specs.declared.node.FileNode.{FileNode}
@@ -13,9 +13,18 @@ use Rattle.proof_check.specs.declared.verdict.Verdict.{Verdict}
 use Rattle.proof_check.specs.declared.verdict.Verdict.TheVariants.{Accepted, RuleRefused, PathRefused, TooManyStates}
 use Rattle.cyc_top.specs.declared.endings.Status.{Status}
 use Rattle.cyc_top.specs.declared.endings.Status.TheVariants as status
-use Rattle.cyc_top.specs.declared.tasks.Task.{Task}
-use Rattle.cyc_top.specs.declared.tasks.Task.TheVariants.{Check}
-use Rattle.cyc_top.specs.Words.{usage_text}
+use Rattle.cyc_words.specs.declared.tasks.Task.{Task}
+use Rattle.cyc_words.specs.declared.tasks.Task.TheVariants.{Check, Prove, Ring}
+use Rattle.cyc_words.specs.Words.{usage_text}
+use Rattle.heap_formula.specs.Judgements.{JudgementHolds}
+use Rattle.derivation_search.specs.System.{search_of}
+use Rattle.formula_reader.specs.declared.problem.Problem.{Problem}
+use Rattle.formula_reader.specs.Reading as problems
+use Rattle.proof_file.specs.Written.{text_of_file}
+use Rattle.proof_search.specs.declared.prover.Proved.{Proved}
+use Rattle.proof_search.specs.declared.prover.Proved.TheVariants.{Found, NotFound, TooManyDerivations}
+use Rattle.proof_search.specs.declared.prover.Proved.TheVariants as answers
+use Rattle.proof_search.specs.Outcomes.{outcome_of, search_for, IsProved}
 use Rattle.proof_file.specs.Reading.{IsRead}
 use Rattle.proof_check.specs.Verdicts.{IsVerdict, RootHolds}
 
@@ -92,9 +101,48 @@ abbrev pub IsChecked : List ℕ → Status → List ℕ → Type 0
 IsChecked input ending text =
     (length input ≤ input_limit) × (read : Result ProofFile ReadFault) × IsRead input read × IsReadAnswer read ending text
 
--- the task, with this input, is answered so
+-- ---- the answers of the prover
+
+-- the count of partial derivations at one depth at which a search stops
+abbrev pub derivation_limit : ℕ
+derivation_limit = 1000000
+
+-- how a search with this answer ends
+abbrev pub proved_status : Proved → Status
+proved_status (Found f) = status.Success
+proved_status NotFound = status.NotFound
+proved_status TooManyDerivations = status.Limit
+proved_status answers.TooManyStates = status.Limit
+
+-- what is written of it: the proof, or a line
+abbrev pub proved_text : ℕ → Proved → List ℕ
+proved_text depth (Found f) = text_of_file f.defs.list f.program f.nodes
+proved_text depth NotFound = not_found_text depth
+proved_text depth TooManyDerivations = derivations_limit_text
+proved_text depth answers.TooManyStates = states_limit_text
+
+-- a search within the depth for a proof of the problem comes to this answer
+abbrev pub IsSearch : ℕ → Problem → Proved → Type 0
+IsSearch depth problem proved = (outcome_of proved ≡ search_of (search_for problem) derivation_limit depth) × IsProved problem proved
+
+-- a search that read its input so is answered so
+abbrev pub IsSearchAnswer : ℕ → Result Problem ReadFault → Status → List ℕ → Type 0
+IsSearchAnswer depth (Ok problem) ending text =
+    (proved : Proved) × IsSearch depth problem proved × (ending ≡ proved_status proved) × (text ≡ proved_text depth proved)
+IsSearchAnswer depth (Err fault) ending text = (ending ≡ fault_status fault) × (text ≡ fault_text fault) × (fault ≢ faults.OutOfMemory)
+
+-- the input is read as a problem, and answered so
+abbrev pub IsSearched : ℕ → List ℕ → Status → List ℕ → Type 0
+IsSearched depth input ending text =
+    (length input ≤ input_limit) × (read : Result Problem ReadFault) × problems.IsRead input read × IsSearchAnswer depth read ending text
+
+-- ---- answers to the words
+
+-- the task, with this input, is answered so; a ring's proof has eight nodes for each predicate, and the one link
 abbrev pub IsAnswer : Option Task → List ℕ → Status → List ℕ → Type 0
 IsAnswer (Some Check) input ending text = IsTooLong input ending text ⊎ IsChecked input ending text
+IsAnswer (Some (Prove depth)) input ending text = IsTooLong input ending text ⊎ IsSearched depth input ending text
+IsAnswer (Some (Ring k)) input ending text = (ending ≡ status.Success) × (text ≡ ring_text k (8 * k + 1) 1)
 IsAnswer None input ending text = (ending ≡ status.Usage) × (text ≡ usage_text)
 
 -- ---- answers over what a source tells
@@ -129,7 +177,19 @@ WrotePart task told old new = (ending : Status) × ((text : List ℕ) × Answers
 abbrev pub ToldTrue : Option (List ℕ) → Type 0
 ToldTrue told = (input : List ℕ) × IsTold told input × ((file : ProofFile) × IsRead input (Ok file) × RootHolds file)
 
--- what the success of a task says of the input
+-- some input, which is the one that was told, spells a problem whose goal holds
+abbrev pub ToldProvable : Option (List ℕ) → Type 0
+ToldProvable told =
+    (input : List ℕ) × IsTold told input × ((problem : Problem) × problems.IsRead input (Ok problem) × JudgementHolds problem.defs.list problem.program problem.goal)
+
+-- what the success of a task says of the input; a ring has none
 abbrev pub IsHeadline : Option Task → Option (List ℕ) → Type 0
 IsHeadline (Some Check) told = ToldTrue told
+IsHeadline (Some (Prove depth)) told = ToldProvable told
+IsHeadline (Some (Ring k)) told = Unit {0}
 IsHeadline None told = ⊥
+
+-- a text was written that a check accepts, where it is no longer than an input may be
+abbrev pub WroteProof : Option (List ℕ) → Option (List ℕ) → Type 0
+WroteProof old new =
+    (text : List ℕ) × Appends old new text × (length text ≤ input_limit → (line : List ℕ) × IsAnswer (Some Check) text status.Success line)

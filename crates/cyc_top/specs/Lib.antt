@@ -1,3 +1,3 @@
 pub mod Endings
-pub mod Words
 pub mod Answers
+pub mod Rings

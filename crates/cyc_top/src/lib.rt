@@ -1,16 +1,24 @@
 //! The top call: words and a source of bytes in, one line and a status out.
 #![tactic(auto)]
 
-ghost use Rattle.std.specs.Prelude.{◌≡◌, ◌≤◌, ℕ, List, map, string_bytes, true, false, Some, ◌⊎◌};
+ghost use Rattle.std.specs.Prelude.{◌≡◌, ◌≤◌, ℕ, List, length, map, string_bytes, true, false, Some, Ok, ◌⊎◌};
+ghost use Rattle.heap_formula.specs.declared.proof_rules.Reason.{Reason};
+ghost use Rattle.derivation_search.specs.System.{IsFound, search_of};
+ghost use Rattle.formula_reader.specs.declared.problem.Problem.{Problem};
+ghost use Rattle.formula_reader.specs.Reading as problems;
+ghost use Rattle.proof_search.specs.Outcomes.{search_for};
 ghost use Rattle.cyc_io.specs.Causes.{Rose};
-ghost use Rattle.cyc_top.specs.Words.{meaning_of, reads_input};
+ghost use Rattle.cyc_words.specs.Words.{meaning_of, reads_input};
+ghost use Rattle.cyc_words.specs.declared.tasks.Task.TheVariants.{Prove, Ring};
 ghost use Rattle.cyc_top.specs.Endings.{is_answer};
-ghost use Rattle.cyc_top.specs.Answers.{IsAnswer, IsHeadline, IsReadThrough, WroteAnswer, WrotePart};
+ghost use Rattle.cyc_top.specs.Answers.{IsAnswer, IsHeadline, IsReadThrough, WroteAnswer, WrotePart, WroteProof, derivation_limit, input_limit};
 
 mod answers;
 mod endings;
+mod faults;
 mod inputs;
-mod tasks;
+mod rings;
+mod searches;
 mod verdicts;
 
 use cyc_io::{Sink, Source, write_all};
@@ -31,6 +39,16 @@ pub fn run<S: Source, K: Sink>(alloc: Global, words: &[String], src: &mut S, out
         → (result ≡ status) ⊎ (result ≡ Status.OutOfMemory) }
     // What was checked with success is true.
     ensures headline { result ≡ Status.Success → IsHeadline (meaning_of (map string_bytes words.now)) (S.left src.old) }
+    // A search that finds within its limits ends with success.
+    ensures complete { (depth : ℕ) (input : List ℕ) (problem : Problem) (d : List Reason) → meaning_of (map string_bytes words.now) ≡ Some (Prove depth)
+        → S.left src.old ≡ Some input → length input ≤ input_limit → problems.IsRead input (Ok problem)
+        → search_of (search_for problem) derivation_limit depth ≡ IsFound d
+        → ¬ Rose (S.faults src.old) (S.faults src.new) → ¬ Rose (K.faults out.old) (K.faults out.new)
+        → (result ≡ Status.Success) ⊎ (result ≡ Status.OutOfMemory) }
+    // What prove writes, check accepts.
+    ensures proof { (depth : ℕ) → meaning_of (map string_bytes words.now) ≡ Some (Prove depth) → result ≡ Status.Success → WroteProof (K.written out.old) (K.written out.new) }
+    // A ring's proof is right, so that there is no refusal.
+    ensures ring { (k : ℕ) → meaning_of (map string_bytes words.now) ≡ Some (Ring k) → (result ≡ Status.Success) ⊎ ((result ≡ Status.WriteFault) ⊎ (result ≡ Status.OutOfMemory)) }
     // A task that needs its input was answered at the input's end, or after one byte more than may come.
     ensures through { is_answer result ≡ true → reads_input (meaning_of (map string_bytes words.now)) ≡ true
         → IsReadThrough (S.left src.old) (S.left src.new) }

@@ -7,7 +7,7 @@ static FILE: &[u8] = b"cyclist proof 1;\nnode true : emp |- true : emp by Done;\
 
 static ACCEPTED: &str = "accepted entailment nodes 1 links 0\n";
 
-static USAGE: &str = "usage: cyclist check\n";
+static USAGE: &str = "usage: cyclist check | prove [--depth N] | ring K\n";
 
 fn words_of(alloc: Global, line: &str) -> Result<Vec<String>, Fail> {
     let mut words = Vec::new(alloc);
@@ -67,13 +67,24 @@ fn words_and_inputs(rt: HostRuntime) -> Result<(), Fail> {
         ("check check", FILE, 2, USAGE),
         ("Check", FILE, 2, USAGE),
         ("--help", FILE, 2, USAGE),
+        ("prove --depth 41", FILE, 2, USAGE),
+        ("ring 0", FILE, 2, USAGE),
+        ("ring 2001", FILE, 2, USAGE),
+        ("ring 1", FILE, 0, "ring 1 accepted nodes 9 links 1\n"),
         (
             "check",
             empty,
             3,
             "unreadable syntax token 0 line 1 column 1\n",
         ),
+        (
+            "prove",
+            empty,
+            3,
+            "unreadable syntax token 0 line 1 column 1\n",
+        ),
         ("check", long.as_slice(), 5, "limit input\n"),
+        ("prove", long.as_slice(), 5, "limit input\n"),
     ] {
         let words = words_of(alloc, line)?;
         let mut src = StdSource::new(input);

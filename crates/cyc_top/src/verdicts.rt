@@ -1,15 +1,12 @@
 // Answers to a check, by its input.
-ghost use Rattle.std.specs.Prelude.{◌≡◌, ◌≢◌, ◌≤◌, ◌<◌, length, IfOk};
-ghost use Rattle.cyc_top.specs.Answers.{IsChecked, fault_status, fault_text, input_limit, is_back, link_count, nodes_text, verdict_status, verdict_text};
+ghost use Rattle.std.specs.Prelude.{◌≡◌, ◌≤◌, ◌<◌, length, IfOk};
+ghost use Rattle.cyc_top.specs.Answers.{IsChecked, input_limit, is_back, link_count, nodes_text, verdict_status, verdict_text};
 
 use crate::answers::{Answer, fixed_answer};
 use crate::endings::Status;
-use cyc_lex::ReadFault;
+use crate::faults::answer_to_fault;
 use cyc_memory::OutOfMemory;
-use cyc_texts::{
-    accepted_line, ill_formed_line, lexical_line, limit_line, node_refused_line, path_refused_line,
-    syntax_line,
-};
+use cyc_texts::{accepted_line, node_refused_line, path_refused_line};
 use heap_formula::Reason;
 use proof_check::{Verdict, check};
 use proof_file::{FileNode, ProofFile, read_file};
@@ -24,7 +21,8 @@ fn is_link(node: &FileNode) -> bool
     }
 }
 
-fn links_of(nodes: &[FileNode]) -> usize
+/// How many of the nodes are links.
+pub fn links_of(nodes: &[FileNode]) -> usize
     ensures { result ≡ link_count nodes.now }
 {
     let mut links = 0;
@@ -64,39 +62,6 @@ fn answer_to_verdict(
         }
         Verdict::PathRefused { lasso } => (Status::Refused, path_refused_line(alloc, &lasso)?),
         Verdict::TooManyStates => return fixed_answer(alloc, Status::Limit, "limit states\n"),
-    };
-    Ok(Answer { status, text })
-}
-
-// Want of memory has no answer.
-fn answer_to_fault(alloc: Global, fault: ReadFault) -> Result<Answer, OutOfMemory>
-    ensures known { IfOk result (λ a. fault ≢ ReadFault.OutOfMemory) }
-    ensures status { IfOk result (λ a. a.status ≡ fault_status fault) }
-    ensures text { IfOk result (λ a. a.text.items ≡ fault_text fault) }
-{
-    let (status, text) = match fault {
-        ReadFault::Lex(fault) => (Status::Unreadable, lexical_line(alloc, fault)?),
-        ReadFault::Syntax {
-            token,
-            line,
-            column,
-        } => (Status::Unreadable, syntax_line(alloc, token, line, column)?),
-        ReadFault::IllFormed {
-            fault,
-            token,
-            line,
-            column,
-        } => (
-            Status::IllFormed,
-            ill_formed_line(alloc, fault, token, line, column)?,
-        ),
-        ReadFault::Limit {
-            what,
-            token,
-            line,
-            column,
-        } => (Status::Limit, limit_line(alloc, what, token, line, column)?),
-        ReadFault::OutOfMemory => return Err(OutOfMemory),
     };
     Ok(Answer { status, text })
 }
