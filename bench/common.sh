@@ -1,4 +1,5 @@
-# What the benchmarks share: the program to measure, a folder for its input and answer, and the seconds of a run.
+# What the benchmarks share: the program to measure, a folder for its input and answer, the seconds of a run, and a family
+# of proofs.
 set -u
 top=$(cd "$(dirname "${BASH_SOURCE[0]}")/.." && pwd)
 program=${1:-$top/crates/cyclist/out/cyclist}
@@ -12,4 +13,28 @@ seconds() { # COMMAND..: of a run with the file as its input
   "$@" < "$work/file" > "$work/answer"
   end=$(date +%s.%N)
   echo "$end - $start" | bc
+}
+
+ring() { # K: the proof that the ring of K predicates entails the plain list
+  awk -v K="$1" '
+    function node(left, right, reason) { printf "node %s |- %s by %s;\n", left, right, reason }
+    BEGIN {
+      print "cyclist proof 1;"
+      for (i = 0; i < K; i++) printf "pred p%d(1) { $0 = nil : emp | true : $0 -> (?0) * p%d(?0) };\n", i, (i + 1) % K
+      print "pred q(1) { $0 = nil : emp | true : $0 -> (?0) * q(?0) };"
+      for (i = 0; i < K; i++) {
+        b = 8 * i; v = "$" i; u = "$" (i + 1); j = (i + 1) % K
+        node("true : p" i "(" v ")", "true : q(" v ")", "Unfold 0 to " b + 1 " " b + 5)
+        node(v " = nil : emp", "true : q(" v ")", "Rewrite 0 left to " b + 2)
+        node("true : emp", "true : q(nil)", "UnfoldRight 0 0 to " b + 3)
+        node("true : emp", "nil = nil : emp", "PureRight 0 to " b + 4)
+        node("true : emp", "true : emp", "Done")
+        rest = "true : " v " -> (" u ") * p" j "(" u ")"
+        node(rest, "true : q(" v ")", "UnfoldRight 0 1 to " b + 6)
+        node(rest, "true : " v " -> (?0) * q(?0)", "Instantiate ?0 " u " to " b + 7)
+        node(rest, "true : " v " -> (" u ") * q(" u ")", "Frame 0 0 to " b + 8)
+      }
+      node("true : p0($" K ")", "true : q($" K ")", "Link 0 { $0 := $" K " } [0] [0]")
+      print "end;"
+    }'
 }

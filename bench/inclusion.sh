@@ -6,30 +6,6 @@
 # Prints figures; it passes and fails nothing.
 . "$(dirname "${BASH_SOURCE[0]}")/common.sh"
 
-ring() { # K
-  awk -v K="$1" '
-    function node(left, right, reason) { printf "node %s |- %s by %s;\n", left, right, reason }
-    BEGIN {
-      print "cyclist proof 1;"
-      for (i = 0; i < K; i++) printf "pred p%d(1) { $0 = nil : emp | true : $0 -> (?0) * p%d(?0) };\n", i, (i + 1) % K
-      print "pred q(1) { $0 = nil : emp | true : $0 -> (?0) * q(?0) };"
-      for (i = 0; i < K; i++) {
-        b = 8 * i; v = "$" i; u = "$" (i + 1); j = (i + 1) % K
-        node("true : p" i "(" v ")", "true : q(" v ")", "Unfold 0 to " b + 1 " " b + 5)
-        node(v " = nil : emp", "true : q(" v ")", "Rewrite 0 left to " b + 2)
-        node("true : emp", "true : q(nil)", "UnfoldRight 0 0 to " b + 3)
-        node("true : emp", "nil = nil : emp", "PureRight 0 to " b + 4)
-        node("true : emp", "true : emp", "Done")
-        rest = "true : " v " -> (" u ") * p" j "(" u ")"
-        node(rest, "true : q(" v ")", "UnfoldRight 0 1 to " b + 6)
-        node(rest, "true : " v " -> (?0) * q(?0)", "Instantiate ?0 " u " to " b + 7)
-        node(rest, "true : " v " -> (" u ") * q(" u ")", "Frame 0 0 to " b + 8)
-      }
-      node("true : p0($" K ")", "true : q($" K ")", "Link 0 { $0 := $" K " } [0] [0]")
-      print "end;"
-    }'
-}
-
 turns() { # ATOMS NODES: so many atoms, and nodes before the two ways part
   awk -v n="$1" -v k="$2" '
     function pures(count, more,   i, s) {
