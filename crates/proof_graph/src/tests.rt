@@ -86,6 +86,7 @@ fn a_graph(rt: HostRuntime) -> Result<(), Fail> {
     assert!(rt; graph.len() == 2);
     graph.set_reason(1, &Reason::Back(link), &one)?;
     assert_eq!(rt; edges_of(alloc, &graph, 1)?.as_slice(), [(0, 0)].as_slice());
+    assert!(rt; graph.len() == 2);
     graph.clear_reason(1);
     assert!(rt; graph.len() == 2);
     assert!(rt; graph.node(1).reason.is_none() && graph.node(1).premises.is_empty());
