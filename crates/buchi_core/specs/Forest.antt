@@ -1,13 +1,9 @@
 -- Age forests: the start, the step and its event.
-use Rattle.std.specs.Prelude.{ℕ, zero, suc, ◌≡◌, ◌<◌, Bool, true, false, cond, not, ◌&&◌, ◌||◌, List, [], ◌∷◌, ◌++◌, map, Option, Some, None, slice_get, length, filter, nat_eq, ltb, leb}
+pub use Rattle.position_sets.specs.Sets.{Pair, has, IsPositionSet}
+use Rattle.std.specs.Prelude.{ℕ, zero, suc, Bool, true, false, cond, not, ◌&&◌, ◌||◌, List, [], ◌∷◌, ◌++◌, map, Option, Some, None, slice_get, length, filter, nat_eq, ltb, leb}
 use Rattle.std.specs.List.{list_any}
-use Rattle.std.specs.List.Sorted.{IsStrictlyIncreasing}
 use Rattle.buchi_core.specs.declared.event.Event.{Event}
 use Rattle.buchi_core.specs.declared.event.Event.TheVariants.{Dies, Green, Nothing}
-
--- a position before a step, one after it, and whether the trace progresses
-abbrev pub Pair : Type 0
-Pair = ℕ × ℕ × Bool
 
 -- an entry: the place of its parent, if it has one, and its set
 pub record Entry : Type 0 where
@@ -18,14 +14,6 @@ pub record Entry : Type 0 where
 abbrev pub every : {X : Type 0} → (X → Bool) → List X → Bool
 every t [] = true
 every t (x ∷ xs) = t x && every t xs
-
--- the position stands in the set
-abbrev pub has : List ℕ → ℕ → Bool
-has xs q = list_any (λ x. nat_eq x q) xs
-
--- a set of positions: they rise strictly, and are below 32
-abbrev pub IsPositionSet : List ℕ → Type 0
-IsPositionSet positions = IsStrictlyIncreasing positions × ((q : ℕ) → has positions q ≡ true → q < 32)
 
 -- a pair leads from the set to the position
 abbrev pub leads : List Pair → List ℕ → ℕ → Bool

@@ -13,7 +13,7 @@ mod trim;
 pub use age_forest::{AgeForest, Entry};
 pub use cyc_memory::OutOfMemory;
 pub use event::{Event, earlier};
-pub use sets::is_position_set;
+pub use position_sets::is_position_set;
 pub use stepping::{start, step};
 
 #[cfg(test)]

@@ -6,8 +6,8 @@ ghost use Rattle.buchi_core.specs.Forest.{has, same_parent, parent_has, stays, t
 ghost use Rattle.buchi_core.specs.View.{entries_of};
 
 use crate::age_forest::Entry;
-use crate::sets::has_position;
 use cyc_memory::OutOfMemory;
+use position_sets::has_position;
 use std::alloc::Global;
 
 /// Whether an entry is the child of a parent, or a top entry.

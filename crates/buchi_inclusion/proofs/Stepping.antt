@@ -2,7 +2,7 @@
 use Rattle.std.proofs.Common.{◌≡◌, ℕ, ◌≤◌, List, arith, Some, slice_get, length, refl, subst, ap, ◌∙◌}
 use Rattle.std.proofs.lemmas.Option.{slice_get_within}
 use Rattle.trace_pairs.specs.Graph.{Pair, Edge, Node, IsGraph}
-use Rattle.trace_pairs.proofs.Orders.{set_short}
+use Rattle.position_sets.proofs.Members.{set_short}
 use Rattle.buchi_core.specs.declared.event.Event.{Event}
 use Rattle.buchi_core.specs.Forest.{Entry, next_forest, event_of}
 use Rattle.buchi_inclusion.specs.Product.{State, Moves}

@@ -2,6 +2,7 @@
 use Rattle.std.proofs.Common.{◌≡◌, ℕ, zero, suc, ◌<◌, inl, inr, List, [], ◌∷◌, Bool, true, false, ◌||◌, ◌&&◌, arith, Some, None, slice_get, length, map, nat_eq, sym, refl, ap, ◌∙◌, subst, Vec, Global, eqb-true}
 use Rattle.std.proofs.lemmas.Bool.{cases_Bool, both_ways, or_cases, or_left, or_right, and_parts, and_from, eq-eqb}
 use Rattle.std.proofs.lemmas.Option.{slice_get_within}
+use Rattle.position_sets.proofs.Members.{has_at, at_has}
 use Rattle.trace_pairs.specs.Graph.{Node, Pair, IsGraph, has}
 use Rattle.trace_pairs.specs.declared.lasso.Step.{Step}
 use Rattle.trace_pairs.specs.declared.reach.Visit.{Visit}
@@ -13,20 +14,6 @@ use Rattle.trace_pairs.specs.Visits.{IsAllowed, IsVisited, AreVisits, AllTargets
 use Rattle.trace_pairs.specs.Turn.{after, after_progress, turn_all, turn_ahead, AreReaches, reach_row, reach_rows, lists_of, AreAllBelow, SomeReturns, NoneReturns}
 use Rattle.trace_pairs.proofs.PathEnds.{is_edge, edge_is}
 use Rattle.trace_pairs.proofs.Turns.{Chain, TurnProgresses, chain_append, turn_progresses}
-
--- membership in words
-pub has_at : (xs : List ℕ) (q : ℕ) → has xs q ≡ true → (k : ℕ) × (slice_get xs k ≡ Some q)
-has_at [] q h = absurd (both_ways false refl h)
-has_at (x ∷ xs) q h =
-    elim (or_cases (nat_eq x q) (has xs q) h) [
-      | inl e ↦ (0, ap Some (eqb-true x q e))
-      | inr m ↦ (let r = has_at xs q m in (suc r.0, r.1))
-    ]
-
-pub at_has : (xs : List ℕ) (k q : ℕ) → slice_get xs k ≡ Some q → has xs q ≡ true
-at_has [] k q h = absurd (let e : None ≡ Some q = h in cc)
-at_has (x ∷ xs) zero q h = or_left (nat_eq x q) (has xs q) (eq-eqb x q (let e : Some x ≡ Some q = h in let e' : x ≡ q = cc in e'))
-at_has (x ∷ xs) (suc k) q h = or_right (nat_eq x q) (has xs q) (at_has xs k q h)
 
 -- what is led to is led to by a pair
 record By (P : Pair → Type 0) (pairs : List Pair) (r : ℕ) : Type 0 where

@@ -4,7 +4,7 @@ use Rattle.std.proofs.lemmas.List.{length-map}
 use Rattle.buchi_core.specs.Forest.{Entry}
 use Rattle.buchi_core.specs.View.{entry_of, entries_of}
 use Rattle.buchi_core.proofs.Entries.{next_short}
-use Rattle.buchi_core.proofs.PositionSets.{set_short}
+use Rattle.position_sets.proofs.Members.{set_short}
 use Rattle.buchi_core.proofs.stepping.step.Goals as goal
 
 pub invariant_of-result : goal.invariant_of-result
