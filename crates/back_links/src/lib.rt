@@ -13,3 +13,4 @@ mod variables;
 
 pub use faults::link_fault;
 pub use listing::all_links;
+pub use variables::{some_spatial_has, stands_in_pure};

@@ -1,5 +1,5 @@
 // The universal variables of a judgement.
-ghost use Rattle.std.specs.Prelude.{◌≡◌, IfOk, map};
+ghost use Rattle.std.specs.Prelude.{◌≡◌, IfOk};
 ghost use Rattle.std.specs.List.{list_any};
 ghost use Rattle.heap_formula.specs.declared.terms.Term.TheVariants.{Univ};
 ghost use Rattle.back_links.specs.Listing.{is_one_of as term_stands, stands_in_pure as pure_has, stands_in_spatial as spatial_has, stands_in_heap as heap_has, stands_in as judgement_has, universals as universals_of, values_of};
@@ -19,7 +19,8 @@ fn is_one_of(n: u16, terms: &[Term]) -> bool
     false
 }
 
-fn stands_in_pure(n: u16, atom: Pure) -> bool
+/// Whether the universal variable is a side of the atom.
+pub fn stands_in_pure(n: u16, atom: Pure) -> bool
     ensures { result ≡ pure_has n atom }
 {
     match atom {
@@ -50,7 +51,8 @@ fn some_pure_has(n: u16, atoms: &[Pure]) -> bool
     false
 }
 
-fn some_spatial_has(n: u16, atoms: &[Spatial]) -> bool
+/// Whether the universal variable is a term of one of the atoms.
+pub fn some_spatial_has(n: u16, atoms: &[Spatial]) -> bool
     ensures { result ≡ list_any (spatial_has n) atoms.now }
 {
     for x in atoms {

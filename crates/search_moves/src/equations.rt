@@ -1,45 +1,12 @@
 // Equations of a symbolic state.
-ghost use Rattle.std.specs.Prelude.{◌≡◌, ◌≤◌, ◌&&◌, ◌||◌, IfOk, length};
-ghost use Rattle.std.specs.List.{list_any};
-ghost use Rattle.back_links.specs.Listing.{is_one_of as is_one_of_terms, stands_in_pure as pure_has, stands_in_spatial as spatial_has};
+ghost use Rattle.std.specs.Prelude.{◌≡◌, ◌&&◌, ◌||◌, IfOk};
 ghost use Rattle.search_moves.specs.States.{stands_in_others, some_other_has, stands_elsewhere as stands_outside, is_logical as is_logical_term, occurs_elsewhere as occurs_outside, state_side, state_rewrites as state_rewrites_of};
 
+use back_links::{some_spatial_has, stands_in_pure};
 use cyc_memory::OutOfMemory;
 use heap_formula::{Heap, Pure, Rule, Side, Spatial, Term};
 use rule_table::same_term;
 use std::alloc::Global;
-
-fn is_one_of(n: u16, terms: &[Term]) -> bool
-    ensures { result ≡ is_one_of_terms n terms.now }
-{
-    for term in terms {
-        if same_term(*term, Term::Univ(n)) {
-            return true;
-        }
-    }
-    false
-}
-
-fn stands_in_pure(n: u16, atom: Pure) -> bool
-    ensures { result ≡ pure_has n atom }
-{
-    match atom {
-        Pure::Eq(t, u) | Pure::Neq(t, u) => {
-            same_term(t, Term::Univ(n)) || same_term(u, Term::Univ(n))
-        }
-    }
-}
-
-fn stands_in_spatial(n: u16, atom: &Spatial) -> bool
-    ensures { result ≡ spatial_has n atom.now }
-{
-    match atom {
-        Spatial::Cell(t, fields) => {
-            same_term(*t, Term::Univ(n)) || is_one_of(n, fields.as_slice())
-        }
-        Spatial::Pred(_, args) => is_one_of(n, args.as_slice()),
-    }
-}
 
 fn stands_in_other(n: u16, k: usize, i: usize, atom: Pure) -> bool
     ensures { result ≡ stands_in_others n k i atom }
@@ -58,22 +25,11 @@ fn another_has(n: u16, k: usize, atoms: &[Pure]) -> bool
     false
 }
 
-fn some_has(n: u16, atoms: &[Spatial]) -> bool
-    ensures { result ≡ list_any (spatial_has n) atoms.now }
-{
-    for atom in atoms {
-        if stands_in_spatial(n, atom) {
-            return true;
-        }
-    }
-    false
-}
-
 /// Whether the variable stands in the state outside a pure atom.
 fn stands_elsewhere(state: &Heap, k: usize, n: u16) -> bool
     ensures { result ≡ stands_outside state.now k n }
 {
-    another_has(n, k, state.pure()) || some_has(n, state.spatial())
+    another_has(n, k, state.pure()) || some_spatial_has(n, state.spatial())
 }
 
 fn is_logical(p: u16, term: Term) -> bool
