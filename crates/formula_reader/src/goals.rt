@@ -1,9 +1,8 @@
 //! The first flaw of a goal and of a whole problem.
 
-ghost use Rattle.std.specs.Prelude.{◌≡◌, ◌+◌, ◌<◌, ◌^◌, length, map, None};
+ghost use Rattle.std.specs.Prelude.{◌≡◌, ◌+◌, ◌<◌, ◌^◌, map};
 ghost use Rattle.cyc_lex.specs.declared.fault.IllFault.TheVariants.{NoLine};
-ghost use Rattle.heap_reader.specs.Trees.{heading_of};
-ghost use Rattle.heap_reader.specs.Flaws.{IsName, IsWalk};
+ghost use Rattle.heap_reader.specs.Flaws.{IsWalk};
 ghost use Rattle.name_numbers.specs.Numbered.{heap_of, goal_of, problem_of, Entailment, From};
 ghost use Rattle.formula_reader.specs.Spans.{goal_span, problem_span};
 ghost use Rattle.formula_reader.specs.Flaws.{headings, goal_flaw, problem_flaw as first_flaw};
@@ -11,32 +10,32 @@ ghost use Rattle.formula_reader.specs.Flaws.{headings, goal_flaw, problem_flaw a
 use crate::terms::{Scope, Variables};
 use crate::walk::definitions;
 use cyc_lex::{IllFault, What};
-use heap_reader::{Flaw, Head, ill, walk_heap, walk_heaps, walk_lines};
+use heap_reader::{Flaw, Heads, ill, walk_heap, walk_heaps, walk_lines};
 use name_numbers::{NumberedGoal, NumberedHeap, NumberedProblem};
 
 fn entailment(
-    heads: &[Head<'_>],
+    heads: &Heads<'_>,
     count: usize,
     at: usize,
     antecedent: &NumberedHeap<'_>,
     disjuncts: &[NumberedHeap<'_>],
 ) -> Result<usize, Flaw>
     requires { at + goal_span (Entailment (heap_of antecedent.now) (map heap_of disjuncts.now)) < 2 ^ 64 }
-    ensures { IsWalk result (goal_flaw (map heading_of heads.now) count at (Entailment (heap_of antecedent.now) (map heap_of disjuncts.now))) (at + goal_span (Entailment (heap_of antecedent.now) (map heap_of disjuncts.now))) }
+    ensures { IsWalk result (goal_flaw heads.now count at (Entailment (heap_of antecedent.now) (map heap_of disjuncts.now))) (at + goal_span (Entailment (heap_of antecedent.now) (map heap_of disjuncts.now))) }
 {
     let right = walk_heap(heads, &Scope::Goal, at + 1, antecedent)?;
     walk_heaps(heads, &Scope::Goal, What::Disjuncts, right, disjuncts)
 }
 
 fn state(
-    heads: &[Head<'_>],
+    heads: &Heads<'_>,
     count: usize,
     at: usize,
     line: u32,
     heap: &NumberedHeap<'_>,
 ) -> Result<usize, Flaw>
     requires { at + goal_span (From line (heap_of heap.now)) < 2 ^ 64 }
-    ensures { IsWalk result (goal_flaw (map heading_of heads.now) count at (From line (heap_of heap.now))) (at + goal_span (From line (heap_of heap.now))) }
+    ensures { IsWalk result (goal_flaw heads.now count at (From line (heap_of heap.now))) (at + goal_span (From line (heap_of heap.now))) }
 {
     if line == 0 || line as usize > count {
         return Err(ill(IllFault::NoLine, at + 2));
@@ -45,9 +44,9 @@ fn state(
 }
 
 /// The goal of a program with so many lines.
-fn goal(heads: &[Head<'_>], count: usize, at: usize, tree: &NumberedGoal<'_>) -> Result<usize, Flaw>
+fn goal(heads: &Heads<'_>, count: usize, at: usize, tree: &NumberedGoal<'_>) -> Result<usize, Flaw>
     requires { at + goal_span (goal_of tree.now) < 2 ^ 64 }
-    ensures { IsWalk result (goal_flaw (map heading_of heads.now) count at (goal_of tree.now)) (at + goal_span (goal_of tree.now)) }
+    ensures { IsWalk result (goal_flaw heads.now count at (goal_of tree.now)) (at + goal_span (goal_of tree.now)) }
 {
     match tree {
         NumberedGoal::Entailment(antecedent, disjuncts) => {
@@ -57,8 +56,8 @@ fn goal(heads: &[Head<'_>], count: usize, at: usize, tree: &NumberedGoal<'_>) ->
     }
 }
 
-fn walk(heads: &[Head<'_>], tree: &NumberedProblem<'_>) -> Result<usize, Flaw>
-    requires known { map heading_of heads.now ≡ headings (problem_of tree.now).definitions }
+fn walk(heads: &Heads<'_>, tree: &NumberedProblem<'_>) -> Result<usize, Flaw>
+    requires known { heads.now ≡ headings (problem_of tree.now).definitions }
     requires fits { problem_span (problem_of tree.now) < 2 ^ 64 }
     ensures { IsWalk result (first_flaw (problem_of tree.now)) (problem_span (problem_of tree.now)) }
 {
@@ -68,8 +67,8 @@ fn walk(heads: &[Head<'_>], tree: &NumberedProblem<'_>) -> Result<usize, Flaw>
 }
 
 /// The first flaw of a problem, by its token.
-pub fn problem_flaw(heads: &[Head<'_>], tree: &NumberedProblem<'_>) -> Option<Flaw>
-    requires known { map heading_of heads.now ≡ headings (problem_of tree.now).definitions }
+pub fn problem_flaw(heads: &Heads<'_>, tree: &NumberedProblem<'_>) -> Option<Flaw>
+    requires known { heads.now ≡ headings (problem_of tree.now).definitions }
     requires fits { problem_span (problem_of tree.now) < 2 ^ 64 }
     ensures { result ≡ first_flaw (problem_of tree.now) }
 {

@@ -1,23 +1,19 @@
 //! The heads of a problem's definitions.
 
 ghost use Rattle.std.specs.Prelude.{◌≡◌, ◌<◌, ◌^◌, map, IfOk};
-ghost use Rattle.heap_reader.specs.Trees.{heading_of};
 ghost use Rattle.name_numbers.specs.Numbered.{definition_of};
 ghost use Rattle.formula_reader.specs.Spans.{definitions_span};
 ghost use Rattle.formula_reader.specs.Flaws.{headings};
 
 use cyc_memory::OutOfMemory;
-use heap_reader::Head;
+use heap_reader::{Head, Heads};
 use name_numbers::NumberedDefinition;
 use std::alloc::Global;
 
 /// What uses of the predicates are compared with.
-pub fn heads<'a>(
-    alloc: Global,
-    trees: &[NumberedDefinition<'a>],
-) -> Result<Vec<Head<'a>>, OutOfMemory>
+pub fn heads<'a>(alloc: Global, trees: &[NumberedDefinition<'a>]) -> Result<Heads<'a>, OutOfMemory>
     requires { definitions_span (map definition_of trees.now) < 2 ^ 32 }
-    ensures { IfOk result (λ v. map heading_of v.items ≡ headings (map definition_of trees.now)) }
+    ensures { IfOk result (λ h. h ≡ headings (map definition_of trees.now)) }
 {
     let mut heads = Vec::with_capacity(alloc, trees.len())?;
     for tree in trees {
@@ -26,5 +22,5 @@ pub fn heads<'a>(
             arity: tree.parameters.len() as u32,
         })?;
     }
-    Ok(heads)
+    Heads::new(alloc, heads)
 }

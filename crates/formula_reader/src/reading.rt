@@ -4,7 +4,6 @@ ghost use Rattle.std.specs.Prelude.{◌≡◌, ℕ, List, Result, Ok, ◌-◌, �
 ghost use Rattle.cyc_lex.specs.Word.{EndsOnce, word_of};
 ghost use Rattle.cyc_lex.specs.declared.fault.ReadFault.{ReadFault as ReadFaultValue};
 ghost use Rattle.problem_syntax.specs.Trees.{problem_of as named_problem_of};
-ghost use Rattle.heap_reader.specs.Trees.{heading_of};
 ghost use Rattle.name_numbers.specs.Numbered.{problem_of};
 ghost use Rattle.name_numbers.specs.Numbering.{numbered};
 ghost use Rattle.formula_reader.specs.declared.problem.Problem.{Problem as ProblemValue};
@@ -20,7 +19,7 @@ use crate::terms::Variables;
 use crate::values::{definitions, goal};
 use cyc_lex::{LexFault, ReadFault, Tokens, tokens};
 use cyc_memory::OutOfMemory;
-use heap_reader::{Head, flaw_fault, program};
+use heap_reader::{Heads, flaw_fault, program};
 use name_numbers::{NumberedProblem, number_problem};
 use pred_defs::Defs;
 use problem_syntax::{ProblemTree, read_problem_tree};
@@ -29,10 +28,10 @@ use std::alloc::Global;
 /// The problem that a numbered tree without a flaw says.
 fn problem_of_tree(
     alloc: Global,
-    heads: &[Head<'_>],
+    heads: &Heads<'_>,
     tree: &NumberedProblem<'_>,
 ) -> Result<Problem, OutOfMemory>
-    requires known { map heading_of heads.now ≡ headings (problem_of tree.now).definitions }
+    requires known { heads.now ≡ headings (problem_of tree.now).definitions }
     requires text { IsOfText (problem_of tree.now) }
     requires right { first_flaw (problem_of tree.now) ≡ None }
     ensures { IfOk result (IsProblemOf (problem_of tree.now)) }
@@ -51,9 +50,9 @@ fn problem_of_tree(
 fn numbers<'a>(
     alloc: Global,
     tree: &ProblemTree<'a>,
-) -> Result<(Vec<Head<'a>>, NumberedProblem<'a>), OutOfMemory>
+) -> Result<(Heads<'a>, NumberedProblem<'a>), OutOfMemory>
     requires { problem_span (numbered (named_problem_of tree.now)) < 2 ^ 32 }
-    ensures known { IfOk result (λ r. map heading_of r.0.items ≡ headings (problem_of r.1).definitions) }
+    ensures known { IfOk result (λ r. r.0 ≡ headings (problem_of r.1).definitions) }
     ensures numbers { IfOk result (λ r. problem_of r.1 ≡ numbered (named_problem_of tree.now)) }
 {
     let tree = number_problem(alloc, tree)?;

@@ -2,7 +2,6 @@
 
 ghost use Rattle.std.specs.Prelude.{◌≡◌, ◌≤◌, length, map, IfOk};
 ghost use Rattle.heap_formula.specs.Words.{Each};
-ghost use Rattle.heap_reader.specs.Trees.{heading_of};
 ghost use Rattle.name_numbers.specs.Numbered.{definition_of, goal_of};
 ghost use Rattle.formula_reader.specs.Small.{IsSmallDefinition, IsSmallGoal};
 ghost use Rattle.formula_reader.specs.Values.{definition_value, goal_value};
@@ -10,18 +9,18 @@ ghost use Rattle.formula_reader.specs.Values.{definition_value, goal_value};
 use crate::terms::Scope;
 use cyc_memory::OutOfMemory;
 use heap_formula::{Cases, Def, DefName, Disjuncts, Judgement};
-use heap_reader::{Head, heap_value, heap_values};
+use heap_reader::{Heads, heap_value, heap_values};
 use name_numbers::{NumberedDefinition, NumberedGoal};
 use std::alloc::Global;
 
 fn definition(
     alloc: Global,
-    heads: &[Head<'_>],
+    heads: &Heads<'_>,
     tree: &NumberedDefinition<'_>,
 ) -> Result<Def, OutOfMemory>
     requires small { IsSmallDefinition (definition_of tree.now) }
     requires few { length heads.now ≤ 4096 }
-    ensures { IfOk result (λ d. d ≡ definition_value (map heading_of heads.now) (definition_of tree.now)) }
+    ensures { IfOk result (λ d. d ≡ definition_value heads.now (definition_of tree.now)) }
 {
     let arity = tree.parameters.len();
     let name = String::from_str(alloc, tree.name)?;
@@ -36,12 +35,12 @@ fn definition(
 /// The definitions of a problem.
 pub fn definitions(
     alloc: Global,
-    heads: &[Head<'_>],
+    heads: &Heads<'_>,
     trees: &[NumberedDefinition<'_>],
 ) -> Result<Vec<Def>, OutOfMemory>
     requires small { Each IsSmallDefinition (map definition_of trees.now) }
     requires few { length heads.now ≤ 4096 }
-    ensures value { IfOk result (λ v. v.items ≡ map (definition_value (map heading_of heads.now)) (map definition_of trees.now)) }
+    ensures value { IfOk result (λ v. v.items ≡ map (definition_value heads.now) (map definition_of trees.now)) }
     ensures size { IfOk result (λ v. length v.items ≡ length trees.now) }
 {
     let mut made = Vec::with_capacity(alloc, trees.len())?;
@@ -54,12 +53,12 @@ pub fn definitions(
 /// The goal of a problem.
 pub fn goal(
     alloc: Global,
-    heads: &[Head<'_>],
+    heads: &Heads<'_>,
     tree: &NumberedGoal<'_>,
 ) -> Result<Judgement, OutOfMemory>
     requires small { IsSmallGoal (goal_of tree.now) }
     requires few { length heads.now ≤ 4096 }
-    ensures { IfOk result (λ j. j ≡ goal_value (map heading_of heads.now) (goal_of tree.now)) }
+    ensures { IfOk result (λ j. j ≡ goal_value heads.now (goal_of tree.now)) }
 {
     match tree {
         NumberedGoal::Entailment(antecedent, disjuncts) => {

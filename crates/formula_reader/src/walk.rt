@@ -1,19 +1,18 @@
 //! A walk over a problem's definitions in the order of their tokens, up to the first flaw. Each function is given the number
 //! of the part's first token and gives that of the token behind it and the one that follows every part of its kind.
 
-ghost use Rattle.std.specs.Prelude.{◌≡◌, ◌+◌, ◌<◌, ◌≤◌, ◌^◌, length, map, is_some, take};
+ghost use Rattle.std.specs.Prelude.{◌≡◌, ◌+◌, ◌<◌, ◌≤◌, ◌^◌, length, map, take};
 ghost use Rattle.std.specs.List.{list_any};
 ghost use Rattle.std.specs.Str.{bytes_eq};
-ghost use Rattle.heap_reader.specs.Trees.{heading_of};
 ghost use Rattle.heap_reader.specs.Spans.{total};
-ghost use Rattle.heap_reader.specs.Flaws.{listed_flaw, arity_in as arity_of_first, IsName, IsWalk};
+ghost use Rattle.heap_reader.specs.Flaws.{IsWalk};
 ghost use Rattle.name_numbers.specs.Numbered.{text_of, definition_of};
 ghost use Rattle.formula_reader.specs.Spans.{parameter_span, parameters_span, definition_span, definitions_span};
 ghost use Rattle.formula_reader.specs.Flaws.{parameter_flaw, parameters_flaw, head_flaw, definition_flaw, definitions_flaw};
 
 use crate::terms::Scope;
 use cyc_lex::{IllFault, What};
-use heap_reader::{Flaw, Head, arity_in, ill, over, walk_heaps};
+use heap_reader::{Flaw, Heads, ill, over, walk_heaps};
 use name_numbers::NumberedDefinition;
 
 /// Whether one of the texts is this one.
@@ -72,29 +71,21 @@ fn parameters(parameters: &[&str], at: usize) -> Result<usize, Flaw>
     }
 }
 
-/// Whether one of the first predicates has the name.
-fn is_taken(heads: &[Head<'_>], n: usize, name: &str) -> bool
-    requires { n ≤ length heads.now }
-    ensures { result ≡ is_some (arity_of_first (take n (map heading_of heads.now)) name.now) }
-{
-    arity_in(&heads[..n], name).is_some()
-}
-
 /// The word, the name and the parameters of a definition, and the brace behind them.
 fn definition_head(
-    heads: &[Head<'_>],
+    heads: &Heads<'_>,
     n: usize,
     at: usize,
     tree: &NumberedDefinition<'_>,
 ) -> Result<usize, Flaw>
     requires there { n ≤ length heads.now }
     requires fits { at + definition_span (definition_of tree.now) < 2 ^ 64 }
-    ensures { IsWalk result (head_flaw (map heading_of heads.now) n at (definition_of tree.now)) (at + 3 + parameters_span (definition_of tree.now).parameters + 1) }
+    ensures { IsWalk result (head_flaw heads.now n at (definition_of tree.now)) (at + 3 + parameters_span (definition_of tree.now).parameters + 1) }
 {
     if n >= 4096 {
         return Err(over(What::Predicates, at));
     }
-    if is_taken(heads, n, tree.name) {
+    if heads.has_among(n, tree.name) {
         return Err(ill(IllFault::Duplicate, at + 1));
     }
     let behind = parameters(&tree.parameters, at + 3)?;
@@ -102,14 +93,14 @@ fn definition_head(
 }
 
 fn definition(
-    heads: &[Head<'_>],
+    heads: &Heads<'_>,
     n: usize,
     at: usize,
     tree: &NumberedDefinition<'_>,
 ) -> Result<usize, Flaw>
     requires there { n ≤ length heads.now }
     requires fits { at + definition_span (definition_of tree.now) < 2 ^ 64 }
-    ensures { IsWalk result (definition_flaw (map heading_of heads.now) n at (definition_of tree.now)) (at + definition_span (definition_of tree.now)) }
+    ensures { IsWalk result (definition_flaw heads.now n at (definition_of tree.now)) (at + definition_span (definition_of tree.now)) }
 {
     let first = definition_head(heads, n, at, tree)?;
     let scope = Scope::Case(tree.parameters.len());
@@ -119,13 +110,13 @@ fn definition(
 
 /// Goes over definitions, the first of which begins at a token, and gives the token behind them.
 pub fn definitions(
-    heads: &[Head<'_>],
+    heads: &Heads<'_>,
     at: usize,
     trees: &[NumberedDefinition<'_>],
 ) -> Result<usize, Flaw>
     requires there { length trees.now ≤ length heads.now }
     requires fits { at + definitions_span (map definition_of trees.now) < 2 ^ 64 }
-    ensures { IsWalk result (definitions_flaw (map heading_of heads.now) at (map definition_of trees.now)) (at + definitions_span (map definition_of trees.now)) }
+    ensures { IsWalk result (definitions_flaw heads.now at (map definition_of trees.now)) (at + definitions_span (map definition_of trees.now)) }
 {
     let mut next = at;
     for (n, tree) in trees.iter().enumerate() {

@@ -5,3 +5,5 @@ pub mod Programs
 pub mod WithinSpans
 pub mod SpanLaws
 mod ShortTexts
+pub mod Readings
+mod Indexes

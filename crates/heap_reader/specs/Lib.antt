@@ -5,3 +5,5 @@ pub mod LineFlaws
 pub mod Values
 pub mod Small
 pub mod Told
+pub mod Reading
+pub mod Indexes

@@ -1,14 +1,14 @@
 // A walk over atoms in the order of their tokens, up to the first flaw. Each function is given the number of the part's
 // first token and gives that of the token behind it and the one that follows every part of its kind.
-ghost use Rattle.std.specs.Prelude.{◌≡◌, ◌+◌, ◌<◌, ◌^◌, length, map};
+ghost use Rattle.std.specs.Prelude.{◌+◌, ◌<◌, ◌^◌};
 ghost use Rattle.heap_syntax.specs.Trees.{Cell, Predicate};
-ghost use Rattle.heap_reader.specs.Trees.{spatial_of, heading_of};
+ghost use Rattle.heap_reader.specs.Trees.{spatial_of};
 ghost use Rattle.heap_reader.specs.Spans.{total, total_or, pure_span, pures_span, spatial_span};
-ghost use Rattle.heap_reader.specs.Flaws.{listed_flaw, argument_flaw, arguments_flaw, pure_flaw, arity_in as arity_of_first, use_flaw, cell_flaw, spatial_flaw, IsName, IsWalk};
+ghost use Rattle.heap_reader.specs.Flaws.{listed_flaw, argument_flaw, arguments_flaw, pure_flaw, arity_in, use_flaw, cell_flaw, spatial_flaw, IsName, IsWalk};
 
 use crate::flaw::{Flaw, ill, over};
 use crate::form::TermReader;
-use crate::head::{Head, arity_in};
+use crate::head::Heads;
 use cyc_lex::{IllFault, What};
 use heap_syntax::{PureTree, SpatialTree};
 
@@ -110,10 +110,10 @@ fn argument_part<F: TermReader>(form: &F, at: usize, terms: &[F::Term]) -> Resul
 }
 
 /// The name of a predicate with so many arguments.
-fn predicate_name(heads: &[Head<'_>], at: usize, name: &str, n: usize) -> Result<(), Flaw>
-    ensures { IsName result (use_flaw (arity_of_first (map heading_of heads.now) name.now) n at) }
+fn predicate_name(heads: &Heads<'_>, at: usize, name: &str, n: usize) -> Result<(), Flaw>
+    ensures { IsName result (use_flaw (arity_in heads.now name.now) n at) }
 {
-    match arity_in(heads, name) {
+    match heads.arity_of(name) {
         None => Err(ill(IllFault::Unknown, at)),
         Some(arity) => {
             if n != arity as usize {
@@ -125,7 +125,7 @@ fn predicate_name(heads: &[Head<'_>], at: usize, name: &str, n: usize) -> Result
 }
 
 fn predicate<F: TermReader>(
-    heads: &[Head<'_>],
+    heads: &Heads<'_>,
     form: &F,
     n: usize,
     at: usize,
@@ -133,7 +133,7 @@ fn predicate<F: TermReader>(
     args: &[F::Term],
 ) -> Result<usize, Flaw>
     requires { at + spatial_span F.span (Predicate name.now args.now) < 2 ^ 64 }
-    ensures { IsWalk result (spatial_flaw (F.flaw form.now) F.span (map heading_of heads.now) n at (Predicate name.now args.now)) (at + spatial_span F.span (Predicate name.now args.now)) }
+    ensures { IsWalk result (spatial_flaw (F.flaw form.now) F.span heads.now n at (Predicate name.now args.now)) (at + spatial_span F.span (Predicate name.now args.now)) }
 {
     predicate_name(heads, at, name, args.len())?;
     if n >= 16 {
@@ -145,14 +145,14 @@ fn predicate<F: TermReader>(
 
 /// A spatial atom before which so many stand.
 pub fn spatial_atom<F: TermReader>(
-    heads: &[Head<'_>],
+    heads: &Heads<'_>,
     form: &F,
     n: usize,
     at: usize,
     tree: &SpatialTree<'_, F::Term>,
 ) -> Result<usize, Flaw>
     requires { at + spatial_span F.span (spatial_of tree.now) < 2 ^ 64 }
-    ensures { IsWalk result (spatial_flaw (F.flaw form.now) F.span (map heading_of heads.now) n at (spatial_of tree.now)) (at + spatial_span F.span (spatial_of tree.now)) }
+    ensures { IsWalk result (spatial_flaw (F.flaw form.now) F.span heads.now n at (spatial_of tree.now)) (at + spatial_span F.span (spatial_of tree.now)) }
 {
     match tree {
         SpatialTree::Cell(address, fields) => cell(form, n, at, *address, fields),

@@ -1,24 +1,24 @@
 // A walk over heaps in the order of their tokens, up to the first flaw.
-ghost use Rattle.std.specs.Prelude.{◌≡◌, ◌+◌, ◌<◌, ◌^◌, map};
-ghost use Rattle.heap_reader.specs.Trees.{spatial_of, heap_of, heading_of};
+ghost use Rattle.std.specs.Prelude.{◌+◌, ◌<◌, ◌^◌, map};
+ghost use Rattle.heap_reader.specs.Trees.{spatial_of, heap_of};
 ghost use Rattle.heap_reader.specs.Spans.{total, spatial_span, spatials_span, heap_span};
 ghost use Rattle.heap_reader.specs.Flaws.{listed_flaw, spatial_flaw, heap_flaw, counted_flaw, heaps_flaw, IsWalk};
 
 use crate::atom_walk::{pure_part, spatial_atom};
 use crate::flaw::{Flaw, over};
 use crate::form::TermReader;
-use crate::head::Head;
+use crate::head::Heads;
 use cyc_lex::What;
 use heap_syntax::{HeapTree, SpatialTree};
 
 fn spatial_atoms<F: TermReader>(
-    heads: &[Head<'_>],
+    heads: &Heads<'_>,
     form: &F,
     at: usize,
     trees: &[SpatialTree<'_, F::Term>],
 ) -> Result<usize, Flaw>
     requires { at + total (spatial_span F.span) (map spatial_of trees.now) < 2 ^ 64 }
-    ensures { IsWalk result (listed_flaw (spatial_flaw (F.flaw form.now) F.span (map heading_of heads.now)) (spatial_span F.span) 0 at (map spatial_of trees.now)) (at + total (spatial_span F.span) (map spatial_of trees.now)) }
+    ensures { IsWalk result (listed_flaw (spatial_flaw (F.flaw form.now) F.span heads.now) (spatial_span F.span) 0 at (map spatial_of trees.now)) (at + total (spatial_span F.span) (map spatial_of trees.now)) }
 {
     let mut next = at;
     for (n, tree) in trees.iter().enumerate() {
@@ -29,13 +29,13 @@ fn spatial_atoms<F: TermReader>(
 
 /// The spatial atoms of a heap, or the word `emp`.
 fn spatial_part<F: TermReader>(
-    heads: &[Head<'_>],
+    heads: &Heads<'_>,
     form: &F,
     at: usize,
     trees: &[SpatialTree<'_, F::Term>],
 ) -> Result<usize, Flaw>
     requires { at + spatials_span F.span (map spatial_of trees.now) < 2 ^ 64 }
-    ensures { IsWalk result (listed_flaw (spatial_flaw (F.flaw form.now) F.span (map heading_of heads.now)) (spatial_span F.span) 0 at (map spatial_of trees.now)) (at + spatials_span F.span (map spatial_of trees.now)) }
+    ensures { IsWalk result (listed_flaw (spatial_flaw (F.flaw form.now) F.span heads.now) (spatial_span F.span) 0 at (map spatial_of trees.now)) (at + spatials_span F.span (map spatial_of trees.now)) }
 {
     match trees {
         [] => Ok(at + 2),
@@ -46,20 +46,20 @@ fn spatial_part<F: TermReader>(
 /// Goes over a heap that begins at a token, and gives the token behind it and the one that follows it. Its predicates
 /// are compared with the heads; a heap has at most 64 pure and sixteen spatial atoms.
 pub fn walk_heap<F: TermReader>(
-    heads: &[Head<'_>],
+    heads: &Heads<'_>,
     form: &F,
     at: usize,
     tree: &HeapTree<'_, F::Term>,
 ) -> Result<usize, Flaw>
     requires { at + heap_span F.span (heap_of tree.now) < 2 ^ 64 }
-    ensures { IsWalk result (heap_flaw (F.flaw form.now) F.span (map heading_of heads.now) at (heap_of tree.now)) (at + heap_span F.span (heap_of tree.now)) }
+    ensures { IsWalk result (heap_flaw (F.flaw form.now) F.span heads.now at (heap_of tree.now)) (at + heap_span F.span (heap_of tree.now)) }
 {
     let spatial = pure_part(form, at, &tree.pure)?;
     spatial_part(heads, form, spatial, &tree.spatial)
 }
 
 fn counted_heap<F: TermReader>(
-    heads: &[Head<'_>],
+    heads: &Heads<'_>,
     form: &F,
     what: What,
     n: usize,
@@ -67,7 +67,7 @@ fn counted_heap<F: TermReader>(
     tree: &HeapTree<'_, F::Term>,
 ) -> Result<usize, Flaw>
     requires { at + heap_span F.span (heap_of tree.now) < 2 ^ 64 }
-    ensures { IsWalk result (counted_flaw (F.flaw form.now) F.span (map heading_of heads.now) what n at (heap_of tree.now)) (at + heap_span F.span (heap_of tree.now)) }
+    ensures { IsWalk result (counted_flaw (F.flaw form.now) F.span heads.now what n at (heap_of tree.now)) (at + heap_span F.span (heap_of tree.now)) }
 {
     if n >= 16 {
         return Err(over(what, at));
@@ -77,14 +77,14 @@ fn counted_heap<F: TermReader>(
 
 /// Goes over heaps, of which at most sixteen may stand together; `what` says what they are.
 pub fn walk_heaps<F: TermReader>(
-    heads: &[Head<'_>],
+    heads: &Heads<'_>,
     form: &F,
     what: What,
     at: usize,
     trees: &[HeapTree<'_, F::Term>],
 ) -> Result<usize, Flaw>
     requires { at + total (heap_span F.span) (map heap_of trees.now) < 2 ^ 64 }
-    ensures { IsWalk result (heaps_flaw (F.flaw form.now) F.span (map heading_of heads.now) what at (map heap_of trees.now)) (at + total (heap_span F.span) (map heap_of trees.now)) }
+    ensures { IsWalk result (heaps_flaw (F.flaw form.now) F.span heads.now what at (map heap_of trees.now)) (at + total (heap_span F.span) (map heap_of trees.now)) }
 {
     let mut next = at;
     for (n, tree) in trees.iter().enumerate() {

@@ -15,7 +15,7 @@ mod values;
 pub use command_values::{commands, program};
 pub use flaw::{Flaw, Item, ill, over};
 pub use form::{TermReader, VariableReader};
-pub use head::{Head, arity_in, place_of};
+pub use head::{Head, Heads};
 pub use heap_walk::{walk_heap, walk_heaps};
 pub use line_walk::walk_lines;
 pub use told::flaw_fault;

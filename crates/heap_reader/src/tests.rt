@@ -1,10 +1,10 @@
 // Programs and heaps of terms `$n`, as proof files have them.
-ghost use Rattle.std.specs.Prelude.{◌≡◌, ◌∷◌, [], IfOk};
+ghost use Rattle.std.specs.Prelude.{◌≡◌, ◌∷◌, [], map, IfOk};
 ghost use Rattle.heap_syntax.specs.Trees.{Predicate};
-ghost use Rattle.heap_reader.specs.Trees.{heap_of};
+ghost use Rattle.heap_reader.specs.Trees.{heap_of, heading_of};
 
 use crate::{
-    Flaw, Head, Item, TermReader, VariableReader, commands, heap_value, ill, over, program,
+    Flaw, Head, Heads, Item, TermReader, VariableReader, commands, heap_value, ill, over, program,
     walk_heap, walk_lines,
 };
 use command_syntax::{ChangeTree, CommandTree, LineTree, OperandTree};
@@ -362,6 +362,15 @@ fn use_of<'a>(alloc: Global, name: &'a str, args: &[u32]) -> Result<HeapTree<'a,
     })
 }
 
+/// The heads in this order.
+fn heads_of<'a>(alloc: Global, list: &[Head<'a>]) -> Result<Heads<'a>, OutOfMemory>
+    ensures { IfOk result (λ h. h ≡ map heading_of list.now) }
+{
+    let mut all = Vec::new(alloc);
+    all.extend_from_slice(list)?;
+    Heads::new(alloc, all)
+}
+
 /// The number of the predicate in a heap of one.
 fn number_in(heap: &Heap) -> Option<u16> {
     match heap.spatial() {
@@ -373,20 +382,24 @@ fn number_in(heap: &Heap) -> Option<u16> {
 /// The predicate's number, or the first flaw of the heap, whose first word is token 4.
 fn read_use(
     alloc: Global,
-    heads: &[Head<'_>],
+    list: &[Head<'_>],
     name: &str,
     args: &[u32],
 ) -> Result<Result<Option<u16>, Flaw>, &'static str> {
-    if args.len() > 100 || heads.len() > 100 {
+    if args.len() > 100 || list.len() > 100 {
         return Err("long");
     }
+    let heads = match heads_of(alloc, list) {
+        Ok(heads) => heads,
+        Err(OutOfMemory) => return Err("no memory"),
+    };
     let tree = match use_of(alloc, name, args) {
         Ok(tree) => tree,
         Err(OutOfMemory) => return Err("no memory"),
     };
-    match walk_heap(heads, &Universals, 4, &tree) {
+    match walk_heap(&heads, &Universals, 4, &tree) {
         Err(flaw) => Ok(Err(flaw)),
-        Ok(_) => match heap_value(alloc, heads, &Universals, &tree) {
+        Ok(_) => match heap_value(alloc, &heads, &Universals, &tree) {
             Ok(heap) => Ok(Ok(number_in(&heap))),
             Err(OutOfMemory) => Err("no memory"),
         },

@@ -1,12 +1,12 @@
 // Values of heaps that fit them.
 ghost use Rattle.std.specs.Prelude.{◌≡◌, ◌≤◌, length, map, IfOk};
 ghost use Rattle.heap_formula.specs.Words.{Each};
-ghost use Rattle.heap_reader.specs.Trees.{spatial_of, heap_of, heading_of};
+ghost use Rattle.heap_reader.specs.Trees.{spatial_of, heap_of};
 ghost use Rattle.heap_reader.specs.Small.{IsSmall, IsSmallPure, IsSmallSpatial, IsSmallHeap};
 ghost use Rattle.heap_reader.specs.Values.{pure_value, spatial_value, heap_value as value_of_heap};
 
 use crate::form::TermReader;
-use crate::head::{Head, place_of};
+use crate::head::Heads;
 use cyc_memory::OutOfMemory;
 use heap_formula::{Args, Heap, Pure, Spatial, Term};
 use heap_syntax::{HeapTree, PureTree, SpatialTree};
@@ -52,33 +52,33 @@ fn pure_atoms<F: TermReader>(
 }
 
 fn spatial_atom<F: TermReader>(
-    heads: &[Head<'_>],
+    heads: &Heads<'_>,
     form: &F,
     tree: &SpatialTree<'_, F::Term>,
 ) -> Spatial
     requires small { IsSmallSpatial F.value (spatial_of tree.now) }
     requires few { length heads.now ≤ 4096 }
-    ensures { result ≡ spatial_value F.value (map heading_of heads.now) (spatial_of tree.now) }
+    ensures { result ≡ spatial_value F.value heads.now (spatial_of tree.now) }
 {
     match tree {
         SpatialTree::Cell(address, fields) => {
             Spatial::Cell(form.value(*address), args(form, fields))
         }
         SpatialTree::Predicate(name, terms) => {
-            Spatial::Pred(place_of(heads, name) as u16, args(form, terms))
+            Spatial::Pred(heads.place_of(name) as u16, args(form, terms))
         }
     }
 }
 
 fn spatial_atoms<F: TermReader>(
     alloc: Global,
-    heads: &[Head<'_>],
+    heads: &Heads<'_>,
     form: &F,
     trees: &[SpatialTree<'_, F::Term>],
 ) -> Result<Vec<Spatial>, OutOfMemory>
     requires small { Each (IsSmallSpatial F.value) (map spatial_of trees.now) }
     requires few { length heads.now ≤ 4096 }
-    ensures value { IfOk result (λ v. v.items ≡ map (spatial_value F.value (map heading_of heads.now)) (map spatial_of trees.now)) }
+    ensures value { IfOk result (λ v. v.items ≡ map (spatial_value F.value heads.now) (map spatial_of trees.now)) }
     ensures size { IfOk result (λ v. length v.items ≡ length trees.now) }
 {
     let mut atoms = Vec::with_capacity(alloc, trees.len())?;
@@ -91,13 +91,13 @@ fn spatial_atoms<F: TermReader>(
 /// The heap that a tree says: each predicate is the first head with its name.
 pub fn heap_value<F: TermReader>(
     alloc: Global,
-    heads: &[Head<'_>],
+    heads: &Heads<'_>,
     form: &F,
     tree: &HeapTree<'_, F::Term>,
 ) -> Result<Heap, OutOfMemory>
     requires small { IsSmallHeap F.value (heap_of tree.now) }
     requires few { length heads.now ≤ 4096 }
-    ensures { IfOk result (λ h. h ≡ value_of_heap F.value (map heading_of heads.now) (heap_of tree.now)) }
+    ensures { IfOk result (λ h. h ≡ value_of_heap F.value heads.now (heap_of tree.now)) }
 {
     let pure = pure_atoms(alloc, form, &tree.pure)?;
     let spatial = spatial_atoms(alloc, heads, form, &tree.spatial)?;
@@ -107,13 +107,13 @@ pub fn heap_value<F: TermReader>(
 /// The heaps that trees say, in order.
 pub fn heap_values<F: TermReader>(
     alloc: Global,
-    heads: &[Head<'_>],
+    heads: &Heads<'_>,
     form: &F,
     trees: &[HeapTree<'_, F::Term>],
 ) -> Result<Vec<Heap>, OutOfMemory>
     requires small { Each (IsSmallHeap F.value) (map heap_of trees.now) }
     requires few { length heads.now ≤ 4096 }
-    ensures value { IfOk result (λ v. v.items ≡ map (value_of_heap F.value (map heading_of heads.now)) (map heap_of trees.now)) }
+    ensures value { IfOk result (λ v. v.items ≡ map (value_of_heap F.value heads.now) (map heap_of trees.now)) }
     ensures size { IfOk result (λ v. length v.items ≡ length trees.now) }
 {
     let mut heaps = Vec::with_capacity(alloc, trees.len())?;

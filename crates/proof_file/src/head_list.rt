@@ -1,17 +1,16 @@
 // The heads of a file's definitions.
 ghost use Rattle.std.specs.Prelude.{◌≡◌, map, IfOk};
 ghost use Rattle.proof_syntax.specs.Trees.{definition_of};
-ghost use Rattle.heap_reader.specs.Trees.{heading_of};
 ghost use Rattle.proof_file.specs.Flaws.{headings};
 
 use cyc_memory::OutOfMemory;
-use heap_reader::Head;
+use heap_reader::{Head, Heads};
 use proof_syntax::DefinitionTree;
 use std::alloc::Global;
 
 /// What uses of the predicates are compared with.
-pub fn heads<'a>(alloc: Global, defs: &[DefinitionTree<'a>]) -> Result<Vec<Head<'a>>, OutOfMemory>
-    ensures { IfOk result (λ v. map heading_of v.items ≡ headings (map definition_of defs.now)) }
+pub fn heads<'a>(alloc: Global, defs: &[DefinitionTree<'a>]) -> Result<Heads<'a>, OutOfMemory>
+    ensures { IfOk result (λ h. h ≡ headings (map definition_of defs.now)) }
 {
     let mut heads = Vec::with_capacity(alloc, defs.len())?;
     for def in defs {
@@ -20,5 +19,5 @@ pub fn heads<'a>(alloc: Global, defs: &[DefinitionTree<'a>]) -> Result<Vec<Head<
             arity: def.arity,
         })?;
     }
-    Ok(heads)
+    Heads::new(alloc, heads)
 }

@@ -1,9 +1,8 @@
 // Reading a proof file: its tokens, its tree, the first flaw of the tree, and its value.
-ghost use Rattle.std.specs.Prelude.{◌≡◌, ◌+◌, ◌-◌, ◌<◌, ◌≤◌, ◌^◌, None, length, map, IfOk};
+ghost use Rattle.std.specs.Prelude.{◌≡◌, ◌-◌, ◌<◌, ◌^◌, None, length, map, IfOk};
 ghost use Rattle.cyc_lex.specs.Word.{EndsOnce, word_of};
 ghost use Rattle.proof_syntax.specs.Grammar.{file};
 ghost use Rattle.proof_syntax.specs.Trees.{file_of};
-ghost use Rattle.heap_reader.specs.Trees.{heading_of};
 ghost use Rattle.proof_file.specs.Flaws.{headings, file_flaw as first_flaw};
 ghost use Rattle.proof_file.specs.Reading.{IsFileOf, ReadsFrom, Reads};
 
@@ -15,7 +14,7 @@ use crate::values::{definitions, nodes};
 use crate::walk::file_flaw;
 use cyc_lex::{LexFault, ReadFault, Tokens, tokens};
 use cyc_memory::OutOfMemory;
-use heap_reader::{Head, flaw_fault, program};
+use heap_reader::{Heads, flaw_fault, program};
 use pred_defs::Defs;
 use proof_syntax::{FileTree, read_tree};
 use std::alloc::Global;
@@ -23,10 +22,10 @@ use std::alloc::Global;
 /// The file that a tree without a flaw says.
 fn file_of_tree(
     alloc: Global,
-    heads: &[Head<'_>],
+    heads: &Heads<'_>,
     tree: &FileTree<'_>,
 ) -> Result<ProofFile, OutOfMemory>
-    requires known { map heading_of heads.now ≡ headings (file_of tree.now).definitions }
+    requires known { heads.now ≡ headings (file_of tree.now).definitions }
     requires fits { file.fits (file_of tree.now) }
     requires right { first_flaw (file_of tree.now) ≡ None }
     ensures { IfOk result (IsFileOf (file_of tree.now)) }

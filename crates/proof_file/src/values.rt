@@ -2,7 +2,6 @@
 ghost use Rattle.std.specs.Prelude.{◌≡◌, ◌<◌, ◌≤◌, length, map, IfOk};
 ghost use Rattle.heap_formula.specs.Words.{Each};
 ghost use Rattle.proof_syntax.specs.Trees.{definition_of, judgement_of, link_of, reason_of, node_of};
-ghost use Rattle.heap_reader.specs.Trees.{heading_of};
 ghost use Rattle.proof_file.specs.Small.{IsSmallJudgement, IsSmallPair, IsSmallReason, IsSmallNode, IsSmallDefinition};
 ghost use Rattle.proof_file.specs.Values.{definition_value, judgement_value, side_value, pair_value, link_value, reason_value, node_value};
 
@@ -12,7 +11,7 @@ use cyc_memory::OutOfMemory;
 use heap_formula::{
     Cases, Def, DefName, Disjuncts, Judgement, Link, Positions, Reason, Rule, Side, Subst,
 };
-use heap_reader::{Head, TermReader, heap_value, heap_values};
+use heap_reader::{Heads, TermReader, heap_value, heap_values};
 use proof_syntax::{
     DefinitionTree, JudgementTree, LinkTree, NodeTree, PairTree, ReasonTree, SideTree,
 };
@@ -20,12 +19,12 @@ use std::alloc::Global;
 
 fn definition(
     alloc: Global,
-    heads: &[Head<'_>],
+    heads: &Heads<'_>,
     tree: &DefinitionTree<'_>,
 ) -> Result<Def, OutOfMemory>
     requires small { IsSmallDefinition (definition_of tree.now) }
     requires few { length heads.now ≤ 4096 }
-    ensures { IfOk result (λ d. d ≡ definition_value (map heading_of heads.now) (definition_of tree.now)) }
+    ensures { IfOk result (λ d. d ≡ definition_value heads.now (definition_of tree.now)) }
 {
     let name = String::from_str(alloc, tree.name)?;
     let cases = heap_values(alloc, heads, &Scope::Case(tree.arity), &tree.cases)?;
@@ -39,12 +38,12 @@ fn definition(
 /// The definitions of a file.
 pub fn definitions(
     alloc: Global,
-    heads: &[Head<'_>],
+    heads: &Heads<'_>,
     trees: &[DefinitionTree<'_>],
 ) -> Result<Vec<Def>, OutOfMemory>
     requires small { Each IsSmallDefinition (map definition_of trees.now) }
     requires few { length heads.now ≤ 4096 }
-    ensures value { IfOk result (λ v. v.items ≡ map (definition_value (map heading_of heads.now)) (map definition_of trees.now)) }
+    ensures value { IfOk result (λ v. v.items ≡ map (definition_value heads.now) (map definition_of trees.now)) }
     ensures size { IfOk result (λ v. length v.items ≡ length trees.now) }
 {
     let mut made = Vec::with_capacity(alloc, trees.len())?;
@@ -56,12 +55,12 @@ pub fn definitions(
 
 fn judgement(
     alloc: Global,
-    heads: &[Head<'_>],
+    heads: &Heads<'_>,
     tree: &JudgementTree<'_>,
 ) -> Result<Judgement, OutOfMemory>
     requires small { IsSmallJudgement (judgement_of tree.now) }
     requires few { length heads.now ≤ 4096 }
-    ensures { IfOk result (λ j. j ≡ judgement_value (map heading_of heads.now) (judgement_of tree.now)) }
+    ensures { IfOk result (λ j. j ≡ judgement_value heads.now (judgement_of tree.now)) }
 {
     match tree {
         JudgementTree::Entailment(tree) => {
@@ -119,10 +118,10 @@ fn link(alloc: Global, tree: &LinkTree) -> Result<Link, OutOfMemory>
     })
 }
 
-fn reason(alloc: Global, heads: &[Head<'_>], tree: &ReasonTree<'_>) -> Result<Reason, OutOfMemory>
+fn reason(alloc: Global, heads: &Heads<'_>, tree: &ReasonTree<'_>) -> Result<Reason, OutOfMemory>
     requires small { IsSmallReason (reason_of tree.now) }
     requires few { length heads.now ≤ 4096 }
-    ensures { IfOk result (λ r. r ≡ reason_value (map heading_of heads.now) (reason_of tree.now)) }
+    ensures { IfOk result (λ r. r ≡ reason_value heads.now (reason_of tree.now)) }
 {
     let rule = match tree {
         ReasonTree::Link(tree) => return Ok(Reason::Back(link(alloc, tree)?)),
@@ -156,10 +155,10 @@ fn reason(alloc: Global, heads: &[Head<'_>], tree: &ReasonTree<'_>) -> Result<Re
     Ok(Reason::Step(rule))
 }
 
-fn node(alloc: Global, heads: &[Head<'_>], tree: &NodeTree<'_>) -> Result<FileNode, OutOfMemory>
+fn node(alloc: Global, heads: &Heads<'_>, tree: &NodeTree<'_>) -> Result<FileNode, OutOfMemory>
     requires small { IsSmallNode (node_of tree.now) }
     requires few { length heads.now ≤ 4096 }
-    ensures { IfOk result (λ n. n ≡ node_value (map heading_of heads.now) (node_of tree.now)) }
+    ensures { IfOk result (λ n. n ≡ node_value heads.now (node_of tree.now)) }
 {
     let judgement = judgement(alloc, heads, &tree.judgement)?;
     let reason = reason(alloc, heads, &tree.reason)?;
@@ -174,12 +173,12 @@ fn node(alloc: Global, heads: &[Head<'_>], tree: &NodeTree<'_>) -> Result<FileNo
 /// The nodes of a file.
 pub fn nodes(
     alloc: Global,
-    heads: &[Head<'_>],
+    heads: &Heads<'_>,
     trees: &[NodeTree<'_>],
 ) -> Result<Vec<FileNode>, OutOfMemory>
     requires small { Each IsSmallNode (map node_of trees.now) }
     requires few { length heads.now ≤ 4096 }
-    ensures { IfOk result (λ v. v.items ≡ map (node_value (map heading_of heads.now)) (map node_of trees.now)) }
+    ensures { IfOk result (λ v. v.items ≡ map (node_value heads.now) (map node_of trees.now)) }
 {
     let mut nodes = Vec::with_capacity(alloc, trees.len())?;
     for tree in trees {

@@ -1,45 +1,36 @@
 // A walk over a file's tree in the order of its tokens, up to the first flaw. Each function is given the number of the
 // part's first token and gives that of the token behind it and the one that follows every part of its kind.
-ghost use Rattle.std.specs.Prelude.{◌≡◌, ◌+◌, ◌<◌, ◌≤◌, ◌^◌, length, map, is_some, nat_lt, take};
+ghost use Rattle.std.specs.Prelude.{◌≡◌, ◌+◌, ◌<◌, ◌≤◌, ◌^◌, length, map, nat_lt};
 ghost use Rattle.cyc_lex.specs.declared.fault.What.TheVariants.{Variable, Cases};
 ghost use Rattle.proof_syntax.specs.Trees.{heap_of, definition_of, entailment_of, judgement_of, link_of, reason_of, node_of, file_of};
-ghost use Rattle.heap_reader.specs.Trees.{heading_of};
-ghost use Rattle.heap_reader.specs.Spans.{total, total_or, heap_span, line_span};
-ghost use Rattle.heap_reader.specs.Flaws.{or_later, over_if, listed_flaw, heaps_flaw, arity_in as arity_of_first, IsName, IsWalk};
-ghost use Rattle.proof_file.specs.Spans.{term_span, variable_span, definition_span, entailment_span, judgement_span, pair_span, link_span, reason_span, premises_rest, node_span};
+ghost use Rattle.heap_reader.specs.Spans.{total, total_or, heap_span};
+ghost use Rattle.heap_reader.specs.Flaws.{or_later, over_if, listed_flaw, heaps_flaw, IsName, IsWalk};
+ghost use Rattle.proof_file.specs.Spans.{term_span, definition_span, entailment_span, judgement_span, pair_span, link_span, reason_span, premises_rest, node_span};
 ghost use Rattle.proof_file.specs.Flaws.{headings, term_flaw, head_flaw, definition_flaw, entailment_flaw, state_flaw, judgement_flaw, pair_flaw, reason_flaw, node_flaw, first_node, file_flaw as first_flaw};
 ghost use Rattle.proof_file.specs.declared.scope.Scope.TheVariants.{Node, Case};
 
 use crate::scope::{ProgramVariables, Scope};
 use cyc_lex::{IllFault, What};
-use heap_reader::{Flaw, Head, TermReader, arity_in, ill, over, walk_heap, walk_heaps, walk_lines};
+use heap_reader::{Flaw, Heads, TermReader, ill, over, walk_heap, walk_heaps, walk_lines};
 use proof_syntax::{
     DefinitionTree, EntailmentTree, FileTree, HeapTree, JudgementTree, LinkTree, NodeTree,
     PairTree, ReasonTree, TermTree,
 };
 
-/// Whether one of the first predicates has the name.
-fn is_taken(heads: &[Head<'_>], n: usize, name: &str) -> bool
-    requires { n ≤ length heads.now }
-    ensures { result ≡ is_some (arity_of_first (take n (map heading_of heads.now)) name.now) }
-{
-    arity_in(&heads[..n], name).is_some()
-}
-
 fn definition_head(
-    heads: &[Head<'_>],
+    heads: &Heads<'_>,
     n: usize,
     at: usize,
     tree: &DefinitionTree<'_>,
 ) -> Result<(), Flaw>
     requires there { n ≤ length heads.now }
     requires fits { at + 3 < 2 ^ 64 }
-    ensures { IsName result (head_flaw (map heading_of heads.now) n at (definition_of tree.now)) }
+    ensures { IsName result (head_flaw heads.now n at (definition_of tree.now)) }
 {
     if n >= 4096 {
         return Err(over(What::Predicates, at));
     }
-    if is_taken(heads, n, tree.name) {
+    if heads.has_among(n, tree.name) {
         return Err(ill(IllFault::Duplicate, at + 1));
     }
     if tree.arity > 8 {
@@ -48,32 +39,32 @@ fn definition_head(
     Ok(())
 }
 
-fn cases(heads: &[Head<'_>], arity: u32, at: usize, trees: &[HeapTree<'_>]) -> Result<usize, Flaw>
+fn cases(heads: &Heads<'_>, arity: u32, at: usize, trees: &[HeapTree<'_>]) -> Result<usize, Flaw>
     requires { at + total (heap_span term_span) (map heap_of trees.now) < 2 ^ 64 }
-    ensures { IsWalk result (heaps_flaw (term_flaw (Case arity)) term_span (map heading_of heads.now) Cases at (map heap_of trees.now)) (at + total (heap_span term_span) (map heap_of trees.now)) }
+    ensures { IsWalk result (heaps_flaw (term_flaw (Case arity)) term_span heads.now Cases at (map heap_of trees.now)) (at + total (heap_span term_span) (map heap_of trees.now)) }
 {
     walk_heaps(heads, &Scope::Case(arity), What::Cases, at, trees)
 }
 
 fn definition(
-    heads: &[Head<'_>],
+    heads: &Heads<'_>,
     n: usize,
     at: usize,
     tree: &DefinitionTree<'_>,
 ) -> Result<usize, Flaw>
     requires there { n ≤ length heads.now }
     requires fits { at + definition_span (definition_of tree.now) < 2 ^ 64 }
-    ensures { IsWalk result (definition_flaw (map heading_of heads.now) n at (definition_of tree.now)) (at + definition_span (definition_of tree.now)) }
+    ensures { IsWalk result (definition_flaw heads.now n at (definition_of tree.now)) (at + definition_span (definition_of tree.now)) }
 {
     definition_head(heads, n, at, tree)?;
     let behind = cases(heads, tree.arity, at + 6, &tree.cases)?;
     Ok(behind + 1)
 }
 
-fn definitions(heads: &[Head<'_>], at: usize, trees: &[DefinitionTree<'_>]) -> Result<usize, Flaw>
+fn definitions(heads: &Heads<'_>, at: usize, trees: &[DefinitionTree<'_>]) -> Result<usize, Flaw>
     requires there { length trees.now ≤ length heads.now }
     requires fits { at + total definition_span (map definition_of trees.now) < 2 ^ 64 }
-    ensures { IsWalk result (listed_flaw (definition_flaw (map heading_of heads.now)) definition_span 0 at (map definition_of trees.now)) (at + total definition_span (map definition_of trees.now)) }
+    ensures { IsWalk result (listed_flaw (definition_flaw heads.now) definition_span 0 at (map definition_of trees.now)) (at + total definition_span (map definition_of trees.now)) }
 {
     let mut next = at;
     for (n, tree) in trees.iter().enumerate() {
@@ -82,9 +73,9 @@ fn definitions(heads: &[Head<'_>], at: usize, trees: &[DefinitionTree<'_>]) -> R
     Ok(next)
 }
 
-fn entailment(heads: &[Head<'_>], at: usize, tree: &EntailmentTree<'_>) -> Result<usize, Flaw>
+fn entailment(heads: &Heads<'_>, at: usize, tree: &EntailmentTree<'_>) -> Result<usize, Flaw>
     requires { at + entailment_span (entailment_of tree.now) < 2 ^ 64 }
-    ensures { IsWalk result (entailment_flaw (map heading_of heads.now) at (entailment_of tree.now)) (at + entailment_span (entailment_of tree.now)) }
+    ensures { IsWalk result (entailment_flaw heads.now at (entailment_of tree.now)) (at + entailment_span (entailment_of tree.now)) }
 {
     let right = walk_heap(heads, &Scope::Node, at, &tree.antecedent)?;
     walk_heaps(heads, &Scope::Node, What::Disjuncts, right, &tree.disjuncts)
@@ -92,14 +83,14 @@ fn entailment(heads: &[Head<'_>], at: usize, tree: &EntailmentTree<'_>) -> Resul
 
 /// The number of a line, one of so many, and the symbolic state there.
 fn state(
-    heads: &[Head<'_>],
+    heads: &Heads<'_>,
     count: usize,
     at: usize,
     line: u32,
     tree: &HeapTree<'_>,
 ) -> Result<usize, Flaw>
     requires { at + 3 + heap_span term_span (heap_of tree.now) < 2 ^ 64 }
-    ensures { IsWalk result (state_flaw (map heading_of heads.now) count at line (heap_of tree.now)) (at + 3 + heap_span term_span (heap_of tree.now)) }
+    ensures { IsWalk result (state_flaw heads.now count at line (heap_of tree.now)) (at + 3 + heap_span term_span (heap_of tree.now)) }
 {
     if line == 0 || line as usize > count {
         return Err(ill(IllFault::NoLine, at + 1));
@@ -108,13 +99,13 @@ fn state(
 }
 
 fn judgement(
-    heads: &[Head<'_>],
+    heads: &Heads<'_>,
     count: usize,
     at: usize,
     tree: &JudgementTree<'_>,
 ) -> Result<usize, Flaw>
     requires { at + judgement_span (judgement_of tree.now) < 2 ^ 64 }
-    ensures { IsWalk result (judgement_flaw (map heading_of heads.now) count at (judgement_of tree.now)) (at + judgement_span (judgement_of tree.now)) }
+    ensures { IsWalk result (judgement_flaw heads.now count at (judgement_of tree.now)) (at + judgement_span (judgement_of tree.now)) }
 {
     match tree {
         JudgementTree::Entailment(tree) => entailment(heads, at, tree),
@@ -180,9 +171,9 @@ fn split(at: usize, left: TermTree, right: TermTree) -> Result<usize, Flaw>
     Scope::Node.walk(behind - 1, right)
 }
 
-fn reason(heads: &[Head<'_>], at: usize, tree: &ReasonTree<'_>) -> Result<usize, Flaw>
+fn reason(heads: &Heads<'_>, at: usize, tree: &ReasonTree<'_>) -> Result<usize, Flaw>
     requires { at + reason_span (reason_of tree.now) < 2 ^ 64 }
-    ensures { IsWalk result (reason_flaw (map heading_of heads.now) at (reason_of tree.now)) (at + reason_span (reason_of tree.now)) }
+    ensures { IsWalk result (reason_flaw heads.now at (reason_of tree.now)) (at + reason_span (reason_of tree.now)) }
 {
     match tree {
         ReasonTree::Absurd | ReasonTree::Done | ReasonTree::Exec => Ok(at + 2),
@@ -216,14 +207,14 @@ fn premises(at: usize, numbers: &[u32]) -> usize
 
 /// A node of a file that has so many lines.
 fn node(
-    heads: &[Head<'_>],
+    heads: &Heads<'_>,
     count: usize,
     n: usize,
     at: usize,
     tree: &NodeTree<'_>,
 ) -> Result<usize, Flaw>
     requires { at + node_span (node_of tree.now) < 2 ^ 64 }
-    ensures { IsWalk result (node_flaw (map heading_of heads.now) count n at (node_of tree.now)) (at + node_span (node_of tree.now)) }
+    ensures { IsWalk result (node_flaw heads.now count n at (node_of tree.now)) (at + node_span (node_of tree.now)) }
 {
     if n >= 20000 {
         return Err(over(What::Nodes, at));
@@ -233,9 +224,9 @@ fn node(
     Ok(premises(behind, &tree.premises))
 }
 
-fn nodes(heads: &[Head<'_>], count: usize, at: usize, trees: &[NodeTree<'_>]) -> Result<usize, Flaw>
+fn nodes(heads: &Heads<'_>, count: usize, at: usize, trees: &[NodeTree<'_>]) -> Result<usize, Flaw>
     requires { at + total node_span (map node_of trees.now) < 2 ^ 64 }
-    ensures { IsWalk result (listed_flaw (node_flaw (map heading_of heads.now) count) node_span 0 at (map node_of trees.now)) (at + total node_span (map node_of trees.now)) }
+    ensures { IsWalk result (listed_flaw (node_flaw heads.now count) node_span 0 at (map node_of trees.now)) (at + total node_span (map node_of trees.now)) }
 {
     let mut next = at;
     for (n, tree) in trees.iter().enumerate() {
@@ -245,8 +236,8 @@ fn nodes(heads: &[Head<'_>], count: usize, at: usize, trees: &[NodeTree<'_>]) ->
 }
 
 /// Definitions, lines and nodes, from the fourth token on.
-fn statements(heads: &[Head<'_>], tree: &FileTree<'_>) -> Result<usize, Flaw>
-    requires known { map heading_of heads.now ≡ headings (file_of tree.now).definitions }
+fn statements(heads: &Heads<'_>, tree: &FileTree<'_>) -> Result<usize, Flaw>
+    requires known { heads.now ≡ headings (file_of tree.now).definitions }
     requires fits { first_node (file_of tree.now) + total node_span (map node_of tree.now.nodes.items) < 2 ^ 64 }
     ensures { IsWalk result (first_flaw (file_of tree.now)) (first_node (file_of tree.now) + total node_span (map node_of tree.now.nodes.items)) }
 {
@@ -256,8 +247,8 @@ fn statements(heads: &[Head<'_>], tree: &FileTree<'_>) -> Result<usize, Flaw>
 }
 
 /// The first flaw of a file, by its token; the heads are those of its definitions.
-pub fn file_flaw(heads: &[Head<'_>], tree: &FileTree<'_>) -> Option<Flaw>
-    requires known { map heading_of heads.now ≡ headings (file_of tree.now).definitions }
+pub fn file_flaw(heads: &Heads<'_>, tree: &FileTree<'_>) -> Option<Flaw>
+    requires known { heads.now ≡ headings (file_of tree.now).definitions }
     requires fits { first_node (file_of tree.now) + total node_span (map node_of tree.now.nodes.items) < 2 ^ 64 }
     ensures { result ≡ first_flaw (file_of tree.now) }
 {

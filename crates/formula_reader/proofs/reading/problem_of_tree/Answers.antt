@@ -6,7 +6,6 @@ use Rattle.std.specs.List.{list_all}
 use Rattle.pred_defs.specs.Book.{DefinitionBook}
 use Rattle.pred_defs.specs.Faults.{closed_fault}
 use Rattle.goto_lang.specs.Faults.{program_fault}
-use Rattle.heap_reader.specs.Trees.{heading_of}
 use Rattle.heap_reader.specs.Values.{line_value}
 use Rattle.name_numbers.specs.declared.tree.NumberedDefinition.{NumberedDefinition}
 use Rattle.name_numbers.specs.Numbered.{definition_of, problem_of}
@@ -27,7 +26,7 @@ definitions-requires-clause-few c =
     let p = problem_of c.args.tree.now in
     let small = small_of p c.requires.text c.requires.right in
     let few = small.few in
-    omega (arith, few, ap length c.requires.known, length-map c.args.heads.now heading_of, length-map p.definitions heading)
+    omega (arith, few, ap length c.requires.known, length-map p.definitions heading)
 
 pub program-requires : goal.program-requires
 program-requires c =
@@ -44,7 +43,7 @@ goal-requires-clause-few c =
     let p = problem_of c.args.tree.now in
     let small = small_of p c.requires.text c.requires.right in
     let few = small.few in
-    omega (arith, few, ap length c.requires.known, length-map c.args.heads.now heading_of, length-map p.definitions heading)
+    omega (arith, few, ap length c.requires.known, length-map p.definitions heading)
 
 pub from_vec-requires-clause-few : goal.from_vec-requires-clause-few
 from_vec-requires-clause-few c =

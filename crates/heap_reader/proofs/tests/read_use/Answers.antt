@@ -1,8 +1,8 @@
-use Rattle.std.proofs.Common.{◌≡◌, ℕ, ◌+◌, None, ap, arith, map}
+use Rattle.std.proofs.Common.{◌≡◌, ℕ, ◌+◌, None, ap, arith}
 use Rattle.std.specs.Prelude.{nat_lt}
 use Rattle.heap_formula.specs.declared.terms.Term.TheVariants.{Univ}
 use Rattle.cyc_lex.specs.declared.fault.What.TheVariants.{Variable}
-use Rattle.heap_reader.specs.Trees.{heading_of, heap_of}
+use Rattle.heap_reader.specs.Trees.{heap_of}
 use Rattle.heap_reader.specs.Spans.{heap_span}
 use Rattle.heap_reader.specs.Flaws.{Found, over_if}
 use Rattle.heap_reader.specs.Small.{IsSmall}
@@ -20,9 +20,9 @@ small_dollars k n e = let h = at_most 65534 n (not_over _ Variable (k + 1) e) in
 pub walk_heap-requires : goal.walk_heap-requires
 walk_heap-requires c =
     let short = use_short c.args.name.now c.args.args.now in
-    let same = ap (heap_span three) c.in-Ok.ensures in
+    let same = ap (heap_span three) c.in-Ok-use_of.ensures in
     omega (arith, short, same)
 
 pub heap_value-requires-clause-small : goal.heap_value-requires-clause-small
 heap_value-requires-clause-small c =
-    heap_small dollar_flaw three Univ small_dollars (map heading_of c.args.heads.now) 4 (heap_of c.in-Ok.tree) c.in-Ok-walk_heap.ensures.0
+    heap_small dollar_flaw three Univ small_dollars c.in-Ok.heads 4 (heap_of c.in-Ok-use_of.tree) c.in-Ok-walk_heap.ensures.0

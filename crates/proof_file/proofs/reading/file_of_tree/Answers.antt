@@ -4,10 +4,9 @@ use Rattle.heap_formula.specs.Words.{Each}
 use Rattle.heap_formula.specs.declared.commands.Command.{Command}
 use Rattle.heap_formula.specs.Definitions.{Definition as DefinitionValue}
 use Rattle.goto_lang.specs.Faults.{program_fault}
-use Rattle.heap_reader.specs.Trees.{heading_of}
+use Rattle.heap_reader.specs.Trees.{Heading}
 use Rattle.heap_reader.specs.Values.{line_value}
 use Rattle.heap_reader.proofs.Programs.{lines_are_program}
-use Rattle.heap_reader.specs.declared.head.Head.{Head}
 use Rattle.proof_syntax.specs.declared.tree.DefinitionTree.{DefinitionTree}
 use Rattle.proof_syntax.specs.declared.tree.NodeTree.{NodeTree}
 use Rattle.pred_defs.specs.Book.{DefinitionBook}
@@ -26,8 +25,8 @@ use Rattle.proof_file.proofs.TreesAgain.{tree_again}
 use Rattle.proof_file.proofs.ReadableNodes.{nodes_readable, commands_universal, file_at_lines, cases_few}
 use Rattle.proof_file.proofs.reading.file_of_tree.Goals as goal
 
-few_heads : (heads : List Head) (f : File) → map heading_of heads ≡ headings f.definitions → length f.definitions ≤ 4096 → length heads ≤ 4096
-few_heads heads f known few = omega (arith, few, length-map heads heading_of, ap length known, length-map f.definitions heading)
+few_heads : (heads : List Heading) (f : File) → heads ≡ headings f.definitions → length f.definitions ≤ 4096 → length heads ≤ 4096
+few_heads heads f known few = omega (arith, few, ap length known, length-map f.definitions heading)
 
 lines_size : (ls : List Line) → length (program_value ls) ≡ length ls
 lines_size [] = refl

@@ -1,7 +1,6 @@
 use Rattle.std.proofs.Common.{◌+◌, List, length, map, sym, ap, ◌∙◌, arith}
 use Rattle.std.proofs.lemmas.List.{length-map}
 use Rattle.cyc_lex.specs.Word.{word_of}
-use Rattle.heap_reader.specs.Trees.{heading_of}
 use Rattle.heap_reader.specs.Spans.{total}
 use Rattle.heap_reader.proofs.WithinSpans.{flaw_within}
 use Rattle.proof_syntax.specs.declared.tree.DefinitionTree.{DefinitionTree}
@@ -14,7 +13,7 @@ use Rattle.proof_file.proofs.reading.read_tokens.Goals as goal
 
 pub file_flaw-requires-clause-known : goal.file_flaw-requires-clause-known
 file_flaw-requires-clause-known c =
-    ap (map heading_of) c.deref-2.ensures.value ∙ c.in-Ok-heads.ensures ∙ ap (λ (ds : List DefinitionTree). headings (map definition_of ds)) c.deref.ensures.value
+    c.in-Ok-heads.ensures ∙ ap (λ (ds : List DefinitionTree). headings (map definition_of ds)) c.deref.ensures.value
 
 pub file_flaw-requires-clause-fits : goal.file_flaw-requires-clause-fits
 file_flaw-requires-clause-fits c =
@@ -31,4 +30,4 @@ flaw_fault-requires-clause-there c =
 
 pub file_of_tree-requires-clause-known : goal.file_of_tree-requires-clause-known
 file_of_tree-requires-clause-known c =
-    ap (map heading_of) c.deref-3.ensures.value ∙ c.in-Ok-heads.ensures ∙ ap (λ (ds : List DefinitionTree). headings (map definition_of ds)) c.deref.ensures.value
+    c.in-Ok-heads.ensures ∙ ap (λ (ds : List DefinitionTree). headings (map definition_of ds)) c.deref.ensures.value

@@ -1,11 +1,10 @@
 use Rattle.std.proofs.Common.{◌≡◌, drop, take, map}
 use Rattle.heap_formula.specs.Words.{Each}
 use Rattle.proof_syntax.specs.Trees.{definition_of}
-use Rattle.heap_reader.specs.Trees.{heading_of}
 use Rattle.proof_file.specs.Small.{IsSmallDefinition}
 use Rattle.proof_file.specs.Values.{definition_value}
 use Rattle.proof_file.proofs.values.definitions.Given as goal
 
 abbrev pub invariant-loop-tree : goal.invariant-loop-tree
 invariant-loop-tree l =
-    (l.made.items ≡ map (definition_value (map heading_of l.heads)) (map definition_of (take l.tree-index l.trees))) × Each IsSmallDefinition (map definition_of (drop l.tree-index l.trees))
+    (l.made.items ≡ map (definition_value l.heads) (map definition_of (take l.tree-index l.trees))) × Each IsSmallDefinition (map definition_of (drop l.tree-index l.trees))

@@ -1,6 +1,5 @@
 use Rattle.std.proofs.Common.{◌≡◌, ◌+◌, drop, map}
 use Rattle.proof_syntax.specs.Trees.{definition_of}
-use Rattle.heap_reader.specs.Trees.{heading_of}
 use Rattle.heap_reader.specs.Spans.{total}
 use Rattle.heap_reader.specs.Flaws.{listed_flaw}
 use Rattle.proof_file.specs.Spans.{definition_span}
@@ -9,4 +8,4 @@ use Rattle.proof_file.proofs.walk.definitions.Given as goal
 
 abbrev pub invariant-loop-n : goal.invariant-loop-n
 invariant-loop-n l =
-    (listed_flaw (definition_flaw (map heading_of l.heads)) definition_span l.n l.next (map definition_of (drop l.n l.trees)) ≡ listed_flaw (definition_flaw (map heading_of l.heads)) definition_span 0 l.fn.at (map definition_of l.trees)) × (l.next + total definition_span (map definition_of (drop l.n l.trees)) ≡ l.fn.at + total definition_span (map definition_of l.trees))
+    (listed_flaw (definition_flaw l.heads) definition_span l.n l.next (map definition_of (drop l.n l.trees)) ≡ listed_flaw (definition_flaw l.heads) definition_span 0 l.fn.at (map definition_of l.trees)) × (l.next + total definition_span (map definition_of (drop l.n l.trees)) ≡ l.fn.at + total definition_span (map definition_of l.trees))

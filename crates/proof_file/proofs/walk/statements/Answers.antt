@@ -1,6 +1,5 @@
 use Rattle.std.proofs.Common.{length, map, ap, arith}
 use Rattle.std.proofs.lemmas.List.{length-map}
-use Rattle.heap_reader.specs.Trees.{heading_of}
 use Rattle.proof_syntax.specs.Trees.{definition_of}
 use Rattle.proof_file.specs.Flaws.{heading}
 use Rattle.proof_file.proofs.walk.statements.Goals as goal
@@ -8,4 +7,4 @@ use Rattle.proof_file.proofs.walk.statements.Goals as goal
 pub definitions-requires-clause-there : goal.definitions-requires-clause-there
 definitions-requires-clause-there c =
     let items = c.args.tree.now.definitions.items in
-    omega (arith, ap length c.requires.known, length-map c.args.heads.now heading_of, length-map (map definition_of items) heading, length-map items definition_of, ap length c.deref.ensures.value)
+    omega (arith, ap length c.requires.known, length-map (map definition_of items) heading, length-map items definition_of, ap length c.deref.ensures.value)
