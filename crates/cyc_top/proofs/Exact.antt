@@ -25,8 +25,7 @@ use Rattle.cyc_top.specs.declared.endings.Status.{Status}
 use Rattle.cyc_top.specs.declared.endings.Status.TheVariants as status
 use Rattle.cyc_top.specs.Answers.{Answers, IsAnswer, IsChecked, IsHeadline, IsReadAnswer, IsSearchAnswer, IsSearched, IsTold, WroteProof, derivation_limit, fault_status, input_limit, proved_status, proved_text, verdict_status}
 use Rattle.cyc_top.proofs.OneReading.{AreAlike}
-use Rattle.cyc_top.proofs.Readings.{one_reading}
-use Rattle.cyc_top.proofs.ProblemReadings.{one_problem_reading}
+use Rattle.cyc_top.proofs.Readings.{one_file_reading, one_problem_reading}
 use Rattle.cyc_top.proofs.OneVerdict.{one_ending}
 use Rattle.cyc_top.proofs.OneSearch.{one_search, found_search, goal_holds, proof_accepted}
 
@@ -41,7 +40,7 @@ read_answer_ends (Err a) (Ok g) s t xs ys same first second = absurd same
 -- a checked input is answered with one status
 pub checked_ends : (input : List ℕ) (s t : Status) (xs ys : List ℕ) → IsChecked input s xs → IsChecked input t ys → s ≡ t
 checked_ends input s t xs ys first second =
-    read_answer_ends first.1 second.1 s t xs ys (one_reading input first.1 second.1 first.2 second.2) first.3 second.3
+    read_answer_ends first.1 second.1 s t xs ys (one_file_reading input first.1 second.1 first.2 second.2) first.3 second.3
 
 search_answer_ends : (depth : ℕ) (r q : Result Problem ReadFault) (s t : Status) (xs ys : List ℕ) → AreAlike problems.AreSame r q → IsSearchAnswer depth r s xs → IsSearchAnswer depth q t ys → s ≡ t
 search_answer_ends depth (Ok p) (Ok q) s t xs ys same first second =

@@ -1,6 +1,5 @@
 pub mod OneReading
 pub mod Readings
-pub mod ProblemReadings
 pub mod OneVerdict
 pub mod OneSearch
 pub mod Told
