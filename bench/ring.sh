@@ -1,9 +1,9 @@
 #!/usr/bin/env bash
-# bench/ring.sh [PROGRAM]: seconds of processor by stage, and megabytes of memory at the most, of `ring K`, which makes the proof of the
-# ring of K predicates, writes it, reads it again and checks it. Each figure is the mean of five runs. Reading is measured
-# on the same text with a fault in node 0, at which a check ends; checking is what `check` takes beyond that, and making
-# and writing what `ring` takes beyond `check`. Wants GNU time for the megabytes. Prints figures; it passes and fails
-# nothing.
+# bench/ring.sh [PROGRAM]: seconds of processor by stage, and megabytes of memory at the most, of `ring K`, which makes the
+# proof of the ring of K predicates, writes it, reads it again and checks it. Each figure is the mean of five runs. Reading
+# is measured on the same text with a fault in node 0, at which a check ends; checking is what `check` takes beyond that,
+# and making and writing what `ring` takes beyond `check`. Wants GNU time for the megabytes. Prints figures; it passes and
+# fails nothing.
 . "$(dirname "${BASH_SOURCE[0]}")/common.sh"
 
 mean() { # COMMAND..: seconds of processor
