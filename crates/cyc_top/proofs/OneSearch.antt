@@ -1,6 +1,5 @@
 -- The searches for one problem end in one way, and what they find is a proof.
 use Rattle.std.proofs.Common.{◌≡◌, ℕ, ◌≤◌, List, Ok, Some, inr, refl, sym, ap, subst, ◌∙◌, length}
-use Rattle.std.specs.Prelude.{slice_get}
 use Rattle.heap_formula.specs.declared.commands.Command.{Command}
 use Rattle.heap_formula.specs.declared.judgements.Judgement.{Judgement}
 use Rattle.heap_formula.specs.declared.proof_rules.Reason.{Reason}
@@ -16,8 +15,7 @@ use Rattle.proof_file.specs.Reading.{IsRead}
 use Rattle.proof_file.specs.Written.{text_of_file}
 use Rattle.proof_file.proofs.Readings.{text_is_read}
 use Rattle.proof_check.specs.declared.verdict.Verdict.TheVariants.{Accepted}
-use Rattle.proof_check.specs.Files.{node_of, nodes_of}
-use Rattle.search_moves.specs.Trying.{Theory}
+use Rattle.proof_check.specs.Files.{node_of}
 use Rattle.search_calculus.specs.Search.{search_system}
 use Rattle.proof_search.specs.declared.prover.Proved.{Proved}
 use Rattle.proof_search.specs.declared.prover.Proved.TheVariants.{Found, NotFound, TooManyDerivations, TooManyStates}

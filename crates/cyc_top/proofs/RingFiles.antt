@@ -1,5 +1,5 @@
 -- What a ring's file says is read of its text, a check accepts it, and it has 8 k + 1 nodes and one link.
-use Rattle.std.proofs.Common.{◌≡◌, ℕ, ◌+◌, ◌*◌, ◌≤◌, ◌<◌, List, [], length, Result, Ok, Err, refl, sym, ap, arith, ◌∙◌}
+use Rattle.std.proofs.Common.{◌≡◌, ℕ, ◌+◌, ◌*◌, ◌≤◌, List, [], length, Ok, Err, refl, sym, ap, ◌∙◌}
 use Rattle.cyc_lex.specs.declared.fault.ReadFault.{ReadFault}
 use Rattle.cyc_lex.specs.declared.fault.ReadFault.TheVariants as faults
 use Rattle.pred_defs.specs.Book.{DefinitionBook}

@@ -1,6 +1,5 @@
 // Answers to the words, over a source.
-ghost use Rattle.std.specs.Prelude.{◌≡◌, ◌≤◌, ℕ, map, string_bytes, IfOk, OnOk, IsErrOf, IsSome, Some, true, false, length, option_map, vec_items};
-ghost use Rattle.std.specs.Io.KnownBytes.{IsAtEnd};
+ghost use Rattle.std.specs.Prelude.{◌≡◌, ◌≤◌, map, string_bytes, IfOk, OnOk, IsErrOf, Some, true, false, length, option_map, vec_items};
 ghost use Rattle.cyc_io.specs.Causes.{Rose};
 ghost use Rattle.cyc_words.specs.Words.{meaning_of, reads_input};
 ghost use Rattle.cyc_top.specs.Answers.{Answers, IsInput, IsReadThrough};

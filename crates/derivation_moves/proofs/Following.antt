@@ -1,5 +1,5 @@
 -- What the moves tell of the search.
-use Rattle.std.proofs.Common.{◌≡◌, ℕ, zero, suc, ◌+◌, ◌-◌, ◌<◌, ◌≤◌, ◌⊎◌, inl, inr, Bool, true, false, ◌&&◌, ◌||◌, List, [], ◌∷◌, ◌++◌, map, reverse, Option, Some, None, slice_get, length, length-append, eqb-true, arith, refl, sym, ap, subst, ◌∙◌}
+use Rattle.std.proofs.Common.{◌≡◌, ℕ, ◌+◌, ◌-◌, ◌<◌, inl, inr, Bool, true, false, ◌&&◌, ◌||◌, List, [], ◌∷◌, ◌++◌, map, reverse, Option, Some, None, slice_get, length, length-append, eqb-true, arith, refl, sym, ap, subst, ◌∙◌}
 use Rattle.std.specs.Prelude.{nat_eq, nat_lt, nat_le, Result, Ok, Err, OnOk}
 use Rattle.std.proofs.lemmas.Bool.{cases_Bool}
 use Rattle.std.proofs.lemmas.List.{length-map, length-reverse}
@@ -20,10 +20,9 @@ use Rattle.derivation_search.specs.System.{System, after}
 use Rattle.derivation_search.specs.Engine.{FaresSo}
 use Rattle.derivation_search.specs.declared.Tried.{Tried}
 use Rattle.derivation_search.specs.declared.Tried.TheVariants.{Admitted, Refused, TooManyStates}
-use Rattle.tableaux.specs.Tableau.{Premise, Goal, Tableau, replay}
+use Rattle.tableaux.specs.Tableau.{Tableau, replay}
 use Rattle.tableaux.specs.Room.{is_nil, is_done, offered, offered_at, has_room, fits_at, fits_in}
 use Rattle.tableaux.specs.Search.{on_graph}
-use Rattle.tableaux.proofs.Graphs.{InOrder}
 use Rattle.tableaux.proofs.Steps.{Fits, next_tableau, next_is}
 use Rattle.search_calculus.specs.Calculus.{OpenGoal, MadeNode, traced, premises}
 use Rattle.search_calculus.specs.Graphs.{traces_of, made_graph, goal_graph}
@@ -40,7 +39,7 @@ use Rattle.derivation_moves.proofs.Gives.{goal_graph_size}
 use Rattle.derivation_moves.proofs.Shows.{HasNext, last_of, next_goal}
 use Rattle.derivation_moves.specs.Effects.{IsEffect}
 use Rattle.derivation_moves.specs.Fares.{GraphFares}
-use Rattle.derivation_moves.specs.Derivations.{theory_in, nodes_in, goals_in, reasons_in, graph_with, tableau_in, IsReplayed, IsInOrder, IsItsSearch}
+use Rattle.derivation_moves.specs.Derivations.{theory_in, nodes_in, goals_in, reasons_in, graph_with, tableau_in, IsInOrder, IsItsSearch}
 
 pub record HasEffect (s : Derivation) (r : Reason) (e : Effect) : Type 0 where
   pub goal : OpenGoal

@@ -1,16 +1,15 @@
 -- A reason at the next goal.
-use Rattle.std.proofs.Common.{◌≡◌, ℕ, zero, suc, ◌+◌, ◌<◌, ◌≤◌, List, [], ◌∷◌, ◌++◌, map, reverse, Some, length, length-append, arith, refl, sym, ap, subst, ◌∙◌}
+use Rattle.std.proofs.Common.{◌≡◌, ℕ, suc, ◌+◌, ◌<◌, ◌≤◌, List, [], ◌∷◌, ◌++◌, map, reverse, Some, length, length-append, arith, refl, sym, ap, subst, ◌∙◌}
 use Rattle.std.proofs.lemmas.List.{map-append, reverse-append, length-reverse, length-map}
 use Rattle.heap_formula.specs.declared.judgements.Premise.{Premise}
-use Rattle.heap_formula.specs.declared.judgements.Judgement.{Judgement}
 use Rattle.heap_formula.specs.declared.proof_rules.Reason.{Reason}
 use Rattle.proof_graph.specs.Nodes.{open_node, with_reason, changed_at}
 use Rattle.heap_formula.specs.Words.{Each}
 use Rattle.search_moves.specs.Limits.{IsSmall}
 use Rattle.search_moves.specs.Trying.{Theory}
-use Rattle.tableaux.specs.Tableau.{Goal, Made, Tableau, goals_of, replay}
+use Rattle.tableaux.specs.Tableau.{goals_of, replay}
 use Rattle.tableaux.proofs.Steps.{Fits, next_tableau, next_is}
-use Rattle.search_calculus.specs.Calculus.{OpenGoal, MadeNode, traced, pairs_of}
+use Rattle.search_calculus.specs.Calculus.{OpenGoal, MadeNode, traced}
 use Rattle.search_calculus.specs.Graphs.{traces_of, made_graph, goal_graph}
 use Rattle.search_calculus.specs.Problems.{IsSmallProblem}
 use Rattle.search_calculus.specs.Search.{calculus_of}
@@ -21,7 +20,7 @@ use Rattle.derivation_moves.specs.declared.goals.MadeNode.{MadeNode as NodeOfCod
 use Rattle.derivation_moves.specs.declared.effects.Effect.{Effect}
 use Rattle.derivation_moves.specs.declared.derivation.Derivation.{Derivation}
 use Rattle.derivation_moves.specs.Opened.{goal_of, node_of, opened}
-use Rattle.derivation_moves.specs.Derivations.{theory_in, nodes_in, goals_in, reasons_in, graph_with, tableau_in, IsReplayed, IsInOrder, IsMade, MayTake}
+use Rattle.derivation_moves.specs.Derivations.{theory_in, nodes_in, goals_in, reasons_in, graph_with, tableau_in, IsInOrder, IsMade, MayTake}
 
 -- the goals of premises, as the calculus has them
 pub opened_goals : (node depth k : ℕ) (ps : List Premise) → map goal_of (opened node depth k ps) ≡ goals_of node (depth + 1) k (map traced ps)

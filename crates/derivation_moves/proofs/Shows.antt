@@ -1,17 +1,16 @@
 -- The next goal becomes a node of the graph, or is no more one.
-use Rattle.std.proofs.Common.{◌≡◌, ℕ, zero, suc, ◌+◌, ◌-◌, ◌<◌, ◌≤◌, ◌⊎◌, inl, inr, List, [], ◌∷◌, ◌++◌, map, reverse, Some, None, slice_get, length, length-append, arith, refl, sym, ap, subst, ◌∙◌}
-use Rattle.std.proofs.lemmas.List.{map-append, reverse-append, length-reverse, length-map}
-use Rattle.std.proofs.lemmas.Option.{slice_get_within}
+use Rattle.std.proofs.Common.{◌≡◌, ℕ, zero, suc, ◌+◌, ◌-◌, ◌<◌, ◌⊎◌, inl, inr, List, [], ◌∷◌, ◌++◌, map, reverse, Some, None, slice_get, length, length-append, arith, refl, sym, ap, subst, ◌∙◌}
+use Rattle.std.proofs.lemmas.List.{reverse-append, length-map}
 use Rattle.proof_graph.specs.declared.nodes.GraphNode.{GraphNode}
 use Rattle.proof_graph.specs.Nodes.{open_node, with_premise, changed_at, nodes_below, HasPremise}
 use Rattle.search_calculus.specs.Calculus.{OpenGoal}
-use Rattle.search_calculus.specs.Graphs.{made_graph, goal_graph}
+use Rattle.search_calculus.specs.Graphs.{made_graph}
 use Rattle.search_calculus.proofs.ProofGraphs.{length-made_graph}
 use Rattle.search_calculus.proofs.NextGoals.{goal_shown, slot_free, goal_hidden}
 use Rattle.derivation_moves.specs.declared.goals.OpenGoal.{OpenGoal as GoalOfCode}
 use Rattle.derivation_moves.specs.declared.derivation.Derivation.{Derivation}
 use Rattle.derivation_moves.specs.Opened.{goal_of, node_of}
-use Rattle.derivation_moves.specs.Derivations.{theory_in, nodes_in, goals_in, reasons_in, graph_with, tableau_in, IsReplayed, IsInOrder, IsMade}
+use Rattle.derivation_moves.specs.Derivations.{theory_in, nodes_in, goals_in, reasons_in, graph_with, tableau_in, IsInOrder, IsMade}
 
 -- the last of a list is known
 pub record HasLast {X : Type 0} (xs : List X) (x : X) : Type 0 where

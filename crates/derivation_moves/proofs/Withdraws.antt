@@ -11,10 +11,10 @@ use Rattle.search_moves.specs.Limits.{IsSmall}
 use Rattle.search_moves.specs.Trying.{Theory}
 use Rattle.derivation_search.specs.Stack.{front}
 use Rattle.derivation_search.proofs.Members.{front-after}
-use Rattle.tableaux.specs.Tableau.{Premise, Goal, Made, Tableau, Calculus, goals_of, step, at_next, with_premises, replay, begin}
+use Rattle.tableaux.specs.Tableau.{Premise, Goal, Tableau, Calculus, goals_of, step, at_next, with_premises, replay, begin}
 use Rattle.tableaux.proofs.Steps.{next_tableau}
 use Rattle.std.proofs.lemmas.List.Sums.{fold-append}
-use Rattle.search_calculus.specs.Calculus.{OpenGoal, MadeNode, premises}
+use Rattle.search_calculus.specs.Calculus.{MadeNode, premises}
 use Rattle.search_calculus.specs.Graphs.{traces_of, made_graph, goal_graph, HasMany, HasSlots}
 use Rattle.search_calculus.specs.Problems.{IsSmallProblem}
 use Rattle.search_calculus.specs.Search.{calculus_of}
@@ -26,7 +26,7 @@ use Rattle.derivation_moves.specs.declared.goals.MadeNode.{MadeNode as NodeOfCod
 use Rattle.derivation_moves.specs.declared.derivation.Derivation.{Derivation}
 use Rattle.derivation_moves.specs.Opened.{goal_of, node_of}
 use Rattle.derivation_moves.specs.PremiseCounts.{IsPremiseCount}
-use Rattle.derivation_moves.specs.Derivations.{theory_in, nodes_in, goals_in, reasons_in, graph_with, tableau_in, IsReplayed, IsInOrder, IsMade}
+use Rattle.derivation_moves.specs.Derivations.{theory_in, nodes_in, goals_in, reasons_in, graph_with, tableau_in, IsInOrder, IsMade}
 
 -- ---- the tableau before a reason
 

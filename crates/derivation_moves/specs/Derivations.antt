@@ -1,5 +1,5 @@
 -- Partial derivations of a problem's goal.
-use Rattle.std.specs.Prelude.{ℕ, ◌≡◌, ◌+◌, ◌<◌, ◌≤◌, List, [], ◌∷◌, map, reverse, length, Some}
+use Rattle.std.specs.Prelude.{◌≡◌, ◌+◌, ◌<◌, ◌≤◌, List, [], ◌∷◌, map, reverse, length, Some}
 use Rattle.heap_formula.specs.declared.proof_rules.Reason.{Reason}
 use Rattle.heap_formula.specs.Words.{Each}
 use Rattle.proof_graph.specs.declared.nodes.GraphNode.{GraphNode}

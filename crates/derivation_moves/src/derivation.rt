@@ -1,5 +1,5 @@
 // A partial derivation: the nodes made, the open goals, and the proof graph of both.
-ghost use Rattle.std.specs.Prelude.{◌≡◌, ◌<◌, ◌≤◌, ◌+◌, ◌&&◌, ◌||◌, ◌==◌, [], ◌∷◌, ◌++◌, length, nat_lt, nat_le, true, IfOk, OnOk};
+ghost use Rattle.std.specs.Prelude.{◌≡◌, ◌<◌, ◌+◌, ◌&&◌, ◌||◌, ◌==◌, [], ◌∷◌, ◌++◌, length, nat_lt, nat_le, IfOk, OnOk};
 ghost use Rattle.derivation_moves.specs.PremiseCounts.{IsPremiseCount};
 ghost use Rattle.proof_graph.specs.Nodes.{open_node, with_premise, changed_at, HasPremise};
 

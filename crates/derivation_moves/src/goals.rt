@@ -1,5 +1,5 @@
 // Goals and nodes of a partial derivation.
-ghost use Rattle.std.specs.Prelude.{◌≡◌, ◌<◌, ◌++◌, ℕ, reverse, drop, length, OnOk};
+ghost use Rattle.std.specs.Prelude.{◌≡◌, ◌<◌, ◌++◌, reverse, drop, length, OnOk};
 ghost use Rattle.derivation_moves.specs.Opened.{opened};
 
 use cyc_memory::OutOfMemory;

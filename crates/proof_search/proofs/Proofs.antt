@@ -1,5 +1,5 @@
 -- What is found is a proof of the problem's goal.
-use Rattle.std.proofs.Common.{◌≡◌, ℕ, ◌<◌, ◌≤◌, List, [], ◌∷◌, map, Some, None, slice_get, length, arith, refl, sym, ap, subst, ◌∙◌}
+use Rattle.std.proofs.Common.{◌≡◌, ℕ, ◌<◌, ◌≤◌, List, [], ◌∷◌, map, Some, slice_get, length, arith, sym, ap, subst, ◌∙◌}
 use Rattle.std.proofs.lemmas.Option.{slice_get_within}
 use Rattle.std.proofs.lemmas.Bool.{and_parts, leb-true}
 use Rattle.std.specs.Prelude.{nat_le}
@@ -21,7 +21,7 @@ use Rattle.formula_reader.specs.declared.problem.Problem.{Problem}
 use Rattle.proof_file.specs.declared.file.ProofFile.{ProofFile}
 use Rattle.proof_file.specs.declared.node.FileNode.{FileNode}
 use Rattle.proof_check.specs.Files.{graph_of, AreRight, nodes_of, node_of, HavePositionSets}
-use Rattle.proof_check.specs.Verdicts.{IsCorrect, RootHolds}
+use Rattle.proof_check.specs.Verdicts.{IsCorrect}
 use Rattle.proof_check.proofs.Holds.{mapped_at, each_at}
 use Rattle.proof_check.proofs.KeptFacts.{root_holds}
 use Rattle.rule_table.specs.Nodes.{Node}
@@ -31,10 +31,9 @@ use Rattle.search_moves.specs.Limits.{IsSmall}
 use Rattle.search_moves.specs.Settings.{theory}
 use Rattle.search_moves.specs.Trying.{Theory}
 use Rattle.tableaux.specs.Tableau.{Tableau, replay}
-use Rattle.search_calculus.specs.Problems.{IsSmallProblem}
 use Rattle.search_calculus.specs.Search.{calculus_of, search_system}
 use Rattle.found_files.specs.Files.{nodes_made}
-use Rattle.found_files.specs.Found.{IsWithinLimits, AreProof, MakesProof}
+use Rattle.found_files.specs.Found.{IsWithinLimits, AreProof}
 use Rattle.found_files.proofs.Found.{makes_proof}
 use Rattle.derivation_moves.specs.declared.derivation.Derivation.{Derivation}
 use Rattle.derivation_moves.specs.Derivations.{theory_in, nodes_in, goals_in, reasons_in, tableau_in, about, IsInOrder, IsItsSearch}

@@ -1,4 +1,4 @@
-use Rattle.std.proofs.Common.{◌<◌, ◌≡◌, length, sym, subst, ap, ◌∙◌}
+use Rattle.std.proofs.Common.{◌<◌, length, sym, subst, ap, ◌∙◌}
 use Rattle.proof_graph.specs.Nodes.{with_reason}
 use Rattle.proof_graph.proofs.Changes.{length-changed_at}
 use Rattle.derivation_moves.proofs.moves.traces_with.Goals as goal

@@ -1,7 +1,7 @@
-use Rattle.std.proofs.Common.{◌≡◌, ◌<◌, ◌++◌, ◌∷◌, [], length, reverse, sym, ap, refl, subst, ◌∙◌}
+use Rattle.std.proofs.Common.{◌≡◌, ◌<◌, ◌++◌, length, reverse, sym, ap, refl, subst, ◌∙◌}
 use Rattle.proof_graph.specs.Nodes.{with_reason, changed_at}
 use Rattle.derivation_moves.specs.Opened.{opened}
-use Rattle.derivation_moves.proofs.Gives.{Given, given, node_there}
+use Rattle.derivation_moves.proofs.Gives.{given, node_there}
 use Rattle.derivation_moves.proofs.derivation.Derivation.give.Goals as goal
 
 pub set_reason-requires : goal.set_reason-requires

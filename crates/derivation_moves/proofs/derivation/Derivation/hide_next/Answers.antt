@@ -1,4 +1,4 @@
-use Rattle.std.proofs.Common.{◌≡◌, ◌<◌, ℕ, length, arith, refl, ◌∙◌}
+use Rattle.std.proofs.Common.{◌<◌, length, arith, ◌∙◌}
 use Rattle.derivation_moves.proofs.Shows.{some_next, hidden_graph}
 use Rattle.derivation_moves.proofs.derivation.Derivation.hide_next.Goals as goal
 

@@ -1,4 +1,4 @@
-use Rattle.std.proofs.Common.{◌≡◌, ◌++◌, ◌∷◌, [], ap, sym, subst, ◌∙◌}
+use Rattle.std.proofs.Common.{◌++◌, ◌∷◌, [], ap, sym, subst, ◌∙◌}
 use Rattle.heap_formula.specs.Words.{Each}
 use Rattle.proof_graph.specs.Nodes.{open_node}
 use Rattle.search_moves.specs.Limits.{IsSmall}

@@ -1,4 +1,4 @@
-use Rattle.std.proofs.Common.{◌≡◌, ◌-◌, ◌<◌, List, Some, slice_get, length, sym, refl, subst, ◌∙◌}
+use Rattle.std.proofs.Common.{◌≡◌, ◌-◌, ◌<◌, List, Some, slice_get, length, sym, subst}
 use Rattle.std.proofs.lemmas.Result.{on_ok_weaker}
 use Rattle.derivation_moves.specs.declared.goals.OpenGoal.{OpenGoal}
 use Rattle.derivation_moves.specs.declared.derivation.Derivation.{Derivation}

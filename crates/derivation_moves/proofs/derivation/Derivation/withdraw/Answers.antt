@@ -1,7 +1,7 @@
-use Rattle.std.proofs.Common.{◌≡◌, ◌<◌, ℕ, length, sym, subst, ap, refl, ◌∙◌}
+use Rattle.std.proofs.Common.{◌≡◌, ◌<◌, length, sym, subst, ap, refl, ◌∙◌}
 use Rattle.proof_graph.specs.Nodes.{without_reason, changed_at}
 use Rattle.derivation_moves.specs.PremiseCounts.{IsPremiseCount}
-use Rattle.derivation_moves.proofs.Withdraws.{Withdrawn, withdrawn, reasons_front, last_there}
+use Rattle.derivation_moves.proofs.Withdraws.{withdrawn, reasons_front, last_there}
 use Rattle.derivation_moves.proofs.derivation.Derivation.withdraw.Goals as goal
 
 pub premise_count-count-requires : goal.premise_count-count-requires

@@ -1,4 +1,4 @@
-use Rattle.std.proofs.Common.{◌≡◌, sym, subst, ap, ◌∙◌}
+use Rattle.std.proofs.Common.{sym, subst, ◌∙◌}
 use Rattle.trace_pairs.specs.Graph.{IsGraph}
 use Rattle.derivation_moves.proofs.Following.{traces_then, whole_graph, above_is}
 use Rattle.derivation_moves.proofs.moves.DerivationMoves.has_too_many_states.Goals as goal

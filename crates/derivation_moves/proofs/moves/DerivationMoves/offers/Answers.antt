@@ -1,4 +1,4 @@
-use Rattle.std.proofs.Common.{◌<◌, ◌≡◌, length, arith, ◌∙◌}
+use Rattle.std.proofs.Common.{◌<◌, length, arith, ◌∙◌}
 use Rattle.derivation_moves.proofs.Shows.{some_next}
 use Rattle.derivation_moves.proofs.Following.{goal_within, links_are, rules_are}
 use Rattle.derivation_moves.proofs.moves.DerivationMoves.offers.Goals as goal

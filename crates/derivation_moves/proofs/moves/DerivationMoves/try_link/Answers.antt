@@ -1,7 +1,7 @@
-use Rattle.std.proofs.Common.{◌≡◌, ◌-◌, ◌<◌, List, Some, slice_get, length, sym, subst, ◌∙◌}
+use Rattle.std.proofs.Common.{sym, subst, ◌∙◌}
 use Rattle.std.proofs.lemmas.Result.{IfOk-weaker}
 use Rattle.trace_pairs.specs.Graph.{IsGraph}
-use Rattle.derivation_moves.proofs.Following.{HasEffect, with_effect, traces_are, graph_is, graph_again, fares, goal_there, on_any}
+use Rattle.derivation_moves.proofs.Following.{with_effect, traces_are, graph_is, graph_again, fares, goal_there, on_any}
 use Rattle.derivation_moves.proofs.moves.DerivationMoves.try_link.Goals as goal
 
 pub traces_with-requires : goal.traces_with-requires
