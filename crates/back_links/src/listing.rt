@@ -30,8 +30,7 @@ fn disjuncts(judgement: &Judgement) -> &[Heap]
 fn with_number(alloc: Global, made: &[u32], m: u32) -> Result<Vec<u32>, OutOfMemory>
     ensures { IfOk result (λ v. v.items ≡ made.now ++ m ∷ []) }
 {
-    let mut longer = Vec::new(alloc);
-    longer.extend_from_slice(made)?;
+    let mut longer = Vec::from_slice(alloc, made)?;
     longer.push(m)?;
     Ok(longer)
 }
@@ -44,8 +43,7 @@ fn with_pair(
 ) -> Result<Vec<(u16, Term)>, OutOfMemory>
     ensures { IfOk result (λ v'. v'.items ≡ made.now ++ (n, v) ∷ []) }
 {
-    let mut longer = Vec::new(alloc);
-    longer.extend_from_slice(made)?;
+    let mut longer = Vec::from_slice(alloc, made)?;
     longer.push((n, v))?;
     Ok(longer)
 }
@@ -53,9 +51,7 @@ fn with_pair(
 fn copy_of(alloc: Global, places: &[u32]) -> Result<Positions, OutOfMemory>
     ensures { IfOk result (λ ps. ps ≡ places.now) }
 {
-    let mut copy = Vec::new(alloc);
-    copy.extend_from_slice(places)?;
-    Ok(Positions::from_vec(copy))
+    Ok(Positions::from_vec(Vec::from_slice(alloc, places)?))
 }
 
 fn made_link(
@@ -137,9 +133,7 @@ fn choose_covers(
     requires { length found.old.items ≤ search.now.most }
     ensures { OnOk result (found.new.items ≡ take search.now.most (found.old.items ++ by_entries search.now.bud.now search.now.companion.now search.now.target search.now.variables places.now pairs.now [] (number_choices (disjuncts_of search.now.bud.now) (disjuncts_of search.now.companion.now)))) }
 {
-    let mut copy = Vec::new(alloc);
-    copy.extend_from_slice(pairs)?;
-    let subst = Subst::from_vec(copy);
+    let subst = Subst::from_vec(Vec::from_slice(alloc, pairs)?);
     if !have_covers(&subst, disjuncts(search.companion), disjuncts(search.bud)) {
         return Ok(());
     }

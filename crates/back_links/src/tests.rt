@@ -6,7 +6,6 @@ use heap_formula::{
     Args, Disjuncts, Heap, Judgement, Link, OutOfMemory, Positions, Pure, RuleFault, Spatial,
     Subst, Term,
 };
-use rule_table::{copy_pure_atoms, copy_spatial_atoms};
 use std::alloc::Global;
 use std::test::Fail;
 
@@ -48,16 +47,6 @@ fn two(t: Term, u: Term) -> Spatial {
 
 fn cell(t: Term) -> Spatial {
     Spatial::Cell(t, Args::from_slice(&[NIL]))
-}
-
-fn heap(alloc: Global, pure: &[Pure], spatial: &[Spatial]) -> Result<Heap, OutOfMemory>
-    requires pure_fits { length pure.now ≤ 64 }
-    requires spatial_fits { length spatial.now ≤ 32 }
-{
-    Ok(Heap::from_lists(
-        copy_pure_atoms(alloc, pure)?,
-        copy_spatial_atoms(alloc, spatial)?,
-    ))
 }
 
 fn places(alloc: Global, numbers: &[u32]) -> Result<Positions, OutOfMemory> {
@@ -129,23 +118,23 @@ fn faults(
 
 /// `$2 != $3, $3 = $4 : P0($2) * $4 -> (nil) |- $3 = $2 : P0($2) | P0($2) * P0($2) | $2 = nil : P0($2) | nil = nil : P0($2)`
 fn mixed_bud(alloc: Global) -> Result<Judgement, OutOfMemory> {
-    let a = heap(
+    let a = Heap::from_slices(
         alloc,
         &[Pure::Neq(V2, V3), Pure::Eq(V3, V4)],
         &[one(V2), cell(V4)],
     )?;
     let mut all = Vec::new(alloc);
-    all.push(heap(alloc, &[Pure::Eq(V3, V2)], &[one(V2)])?)?;
-    all.push(heap(alloc, &[], &[one(V2), one(V2)])?)?;
-    all.push(heap(alloc, &[Pure::Eq(V2, NIL)], &[one(V2)])?)?;
-    all.push(heap(alloc, &[Pure::Eq(NIL, NIL)], &[one(V2)])?)?;
+    all.push(Heap::from_slices(alloc, &[Pure::Eq(V3, V2)], &[one(V2)])?)?;
+    all.push(Heap::from_slices(alloc, &[], &[one(V2), one(V2)])?)?;
+    all.push(Heap::from_slices(alloc, &[Pure::Eq(V2, NIL)], &[one(V2)])?)?;
+    all.push(Heap::from_slices(alloc, &[Pure::Eq(NIL, NIL)], &[one(V2)])?)?;
     Ok(Judgement::Entail(a, Disjuncts::from_slice(alloc, &all[..])?))
 }
 
 /// `$0 != $1 : P0($0) * $1 -> (nil) |- $0 = $1 : P0($0)`
 fn mixed_companion(alloc: Global) -> Result<Judgement, OutOfMemory> {
-    let a = heap(alloc, &[Pure::Neq(V0, V1)], &[one(V0), cell(V1)])?;
-    let b = heap(alloc, &[Pure::Eq(V0, V1)], &[one(V0)])?;
+    let a = Heap::from_slices(alloc, &[Pure::Neq(V0, V1)], &[one(V0), cell(V1)])?;
+    let b = Heap::from_slices(alloc, &[Pure::Eq(V0, V1)], &[one(V0)])?;
     Ok(Judgement::Entail(a, Disjuncts::single(alloc, b)?))
 }
 
@@ -155,7 +144,7 @@ fn to_empty(alloc: Global, pure: &[Pure], atoms: &[Spatial]) -> Result<Judgement
     requires atoms_fit { length atoms.now ≤ 32 }
 {
     Ok(Judgement::Entail(
-        heap(alloc, pure, atoms)?,
+        Heap::from_slices(alloc, pure, atoms)?,
         Disjuncts::single(alloc, Heap::new(alloc))?,
     ))
 }
@@ -163,7 +152,7 @@ fn to_empty(alloc: Global, pure: &[Pure], atoms: &[Spatial]) -> Result<Judgement
 fn from(alloc: Global, line: u32, atoms: &[Spatial]) -> Result<Judgement, OutOfMemory>
     requires { length atoms.now ≤ 32 }
 {
-    Ok(Judgement::Term(line, heap(alloc, &[], atoms)?))
+    Ok(Judgement::Term(line, Heap::from_slices(alloc, &[], atoms)?))
 }
 
 #[test]
@@ -311,7 +300,7 @@ fn links_of_a_cell(rt: HostRuntime) -> Result<(), Fail> {
 fn free_bud(alloc: Global) -> Result<Judgement, OutOfMemory> {
     let mut all = Vec::new(alloc);
     all.push(Heap::new(alloc))?;
-    all.push(heap(alloc, &[Pure::Eq(V1, V1)], &[])?)?;
+    all.push(Heap::from_slices(alloc, &[Pure::Eq(V1, V1)], &[])?)?;
     Ok(Judgement::Entail(Heap::new(alloc), Disjuncts::from_slice(alloc, &all[..])?))
 }
 
@@ -319,7 +308,7 @@ fn free_bud(alloc: Global) -> Result<Judgement, OutOfMemory> {
 fn links_by_value_then_by_disjunct(rt: HostRuntime) -> Result<(), Fail> {
     let alloc = rt.alloc();
     let bud = free_bud(alloc)?;
-    let right = heap(alloc, &[Pure::Eq(V0, V0)], &[])?;
+    let right = Heap::from_slices(alloc, &[Pure::Eq(V0, V0)], &[])?;
     let companion = Judgement::Entail(Heap::new(alloc), Disjuncts::single(alloc, right)?);
     let rows = [
         parts(&[], &[(0, NIL)], &[0]),
@@ -425,7 +414,7 @@ fn is_complete(alloc: Global, pure: &[Pure], count: usize) -> Result<bool, OutOf
     empty.push(Heap::new(alloc))?;
     empty.push(Heap::new(alloc))?;
     let bud = Judgement::Entail(
-        heap(alloc, pure, &[two(V2, V3), two(V3, V2)])?,
+        Heap::from_slices(alloc, pure, &[two(V2, V3), two(V3, V2)])?,
         Disjuncts::from_slice(alloc, &empty[..])?,
     );
     let found = all_links(alloc, &bud, &companion, 7, 0, 99)?;

@@ -68,12 +68,3 @@ pub(crate) fn progress_of(
     }
     Ok(next)
 }
-
-/// The positions once more.
-pub(crate) fn copy_of(alloc: Global, set: &[u8]) -> Result<Vec<u8>, OutOfMemory>
-    ensures { IfOk result (λ v. v.items ≡ set.now) }
-{
-    let mut copy = Vec::new(alloc);
-    copy.extend_from_slice(set)?;
-    Ok(copy)
-}

@@ -6,7 +6,6 @@ ghost use Rattle.buchi_core.specs.View.{entries_of};
 
 use crate::age_forest::Entry;
 use crate::event::Event;
-use crate::sets::copy_of;
 use crate::trim::child_has_it;
 use cyc_memory::OutOfMemory;
 use std::alloc::Global;
@@ -117,7 +116,7 @@ pub(crate) fn settle_all(
     for entry in entries {
         if is_kept_at(entries, lost, place) {
             let parent = renumbered_of(entries, lost, entry.parent);
-            let set = copy_of(alloc, &entry.set)?;
+            let set = Vec::from_slice(alloc, &entry.set)?;
             next.push(Entry { parent, set })?;
         }
         place += 1;

@@ -7,7 +7,6 @@ ghost use Rattle.buchi_core.specs.View.{entries_of, forest_of};
 use crate::age_forest::{AgeForest, Entry};
 use crate::event::Event;
 use crate::grow::{push_children, push_moved};
-use crate::sets::copy_of;
 use crate::settle::{event_at, losses_of, settle_all};
 use crate::trim::trim_all;
 use cyc_memory::OutOfMemory;
@@ -20,7 +19,7 @@ pub fn start(alloc: Global, positions: &[u8]) -> Result<AgeForest, OutOfMemory>
 {
     let mut entries = Vec::new(alloc);
     if !positions.is_empty() {
-        let set = copy_of(alloc, positions)?;
+        let set = Vec::from_slice(alloc, positions)?;
         entries.push(Entry { parent: None, set })?;
     }
     Ok(AgeForest { entries })
@@ -40,7 +39,7 @@ fn step_entries(
     let mut entries = Vec::new(alloc);
     push_moved(alloc, &mut entries, pairs, positions, forest)?;
     push_children(alloc, &mut entries, pairs, positions, forest)?;
-    let set = copy_of(alloc, positions)?;
+    let set = Vec::from_slice(alloc, positions)?;
     entries.push(Entry { parent: None, set })?;
     let trimmed = trim_all(alloc, &entries)?;
     let lost = losses_of(alloc, &trimmed)?;

@@ -26,18 +26,12 @@ pub struct Effect {
     pub pairs: PremisePairs,
 }
 
-fn copied(pairs: &Pairs) -> Result<Pairs, OutOfMemory>
-    ensures { IfOk result (λ copy. copy ≡ pairs.now) }
-{
-    Ok(pairs.clone()?)
-}
-
 fn pairs_of_premises(alloc: Global, premises: &[Premise]) -> Result<PremisePairs, OutOfMemory>
     ensures { IfOk result (λ pairs. pairs ≡ map (λ (p : PremiseValue). p.pairs) premises.now) }
 {
     let mut lists = Vec::new(alloc);
     for premise in premises {
-        lists.push(copied(&premise.pairs)?)?;
+        lists.push(premise.pairs.clone()?)?;
     }
     Ok(PremisePairs::from_vec(lists))
 }

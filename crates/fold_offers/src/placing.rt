@@ -12,23 +12,10 @@ use heap_formula::{Def, Heap, Rule, Spatial, Term};
 use rule_table::is_among;
 use std::alloc::Global;
 
-fn copied(alloc: Global, binding: &[(Term, Term)]) -> Result<Vec<(Term, Term)>, OutOfMemory>
-    ensures { IfOk result (λ v. v.items ≡ binding.now) }
-{
-    let mut made = Vec::new(alloc);
-    for pair in binding {
-        made.push(*pair)?;
-    }
-    Ok(made)
-}
-
 fn with_place(alloc: Global, places: &[u32], place: u32) -> Result<Vec<u32>, OutOfMemory>
     ensures { IfOk result (λ v. v.items ≡ places.now ++ place ∷ []) }
 {
-    let mut made = Vec::new(alloc);
-    for other in places {
-        made.push(*other)?;
-    }
+    let mut made = Vec::from_slice(alloc, places)?;
     made.push(place)?;
     Ok(made)
 }
@@ -42,7 +29,7 @@ fn extended(
 ) -> Result<Option<Vec<(Term, Term)>>, OutOfMemory>
     ensures { IfOk result (λ o. IsExtended (atom_bound binding.now atom.now other.now) o) }
 {
-    let mut bound = copied(alloc, binding)?;
+    let mut bound = Vec::from_slice(alloc, binding)?;
     if !bind_atom(&mut bound, atom, other)? {
         return Ok(None);
     }

@@ -4,11 +4,12 @@ use Rattle.heap_formula.specs.declared.terms.Term.{Term}
 use Rattle.heap_formula.specs.declared.terms.Term.TheVariants as terms
 use Rattle.heap_formula.specs.declared.commands.Command.{Command}
 use Rattle.heap_formula.specs.declared.judgements.Judgement.{Judgement}
-use Rattle.heap_formula.specs.declared.judgements.Judgement.TheVariants.{Entail, Term as Halting}
+use Rattle.heap_formula.specs.declared.judgements.Judgement.TheVariants.{Term as Halting}
 use Rattle.heap_formula.specs.Definitions.{Definition as DefinitionValue}
 use Rattle.goto_lang.specs.Lines.{commands_of}
 use Rattle.heap_reader.specs.Trees.{Heading}
-use Rattle.heap_reader.specs.Values.{heap_value, line_value}
+use Rattle.heap_reader.specs.Values as values
+use Rattle.heap_reader.specs.Values.{heap_value, entailment_value, line_value}
 use Rattle.name_numbers.specs.declared.tree.NumberedTerm.{NumberedTerm}
 use Rattle.name_numbers.specs.declared.tree.NumberedTerm.TheVariants.{Nil, Universal, Existential}
 use Rattle.name_numbers.specs.Numbered.{Line, Definition, Goal, Entailment, From}
@@ -22,11 +23,11 @@ abbrev pub variable_value : ℕ → ℕ
 variable_value v = v
 
 abbrev pub definition_value : List Heading → Definition → DefinitionValue
-definition_value hs d = record { name = d.name; arity = length d.parameters; cases = map (heap_value term_value hs) d.cases }
+definition_value hs d = values.definition_value term_value hs d.name (length d.parameters) d.cases
 
 abbrev pub program_value : List Line → List Command
 program_value ls = commands_of (map (line_value variable_value) ls)
 
 abbrev pub goal_value : List Heading → Goal → Judgement
-goal_value hs (Entailment h ds) = Entail (heap_value term_value hs h) (map (heap_value term_value hs) ds)
+goal_value hs (Entailment h ds) = entailment_value term_value hs h ds
 goal_value hs (From n h) = Halting n (heap_value term_value hs h)

@@ -4,12 +4,12 @@ ghost use Rattle.std.specs.Prelude.{◌≡◌, ◌≤◌, length, map, IfOk};
 ghost use Rattle.heap_formula.specs.Words.{Each};
 ghost use Rattle.name_numbers.specs.Numbered.{definition_of, goal_of};
 ghost use Rattle.formula_reader.specs.Small.{IsSmallDefinition, IsSmallGoal};
-ghost use Rattle.formula_reader.specs.Values.{definition_value, goal_value};
+ghost use Rattle.formula_reader.specs.Values.{definition_value as value_of_definition, goal_value};
 
 use crate::terms::Scope;
 use cyc_memory::OutOfMemory;
-use heap_formula::{Cases, Def, DefName, Disjuncts, Judgement};
-use heap_reader::{Heads, heap_value, heap_values};
+use heap_formula::{Def, Judgement};
+use heap_reader::{Heads, definition_value, entailment_value, heap_value};
 use name_numbers::{NumberedDefinition, NumberedGoal};
 use std::alloc::Global;
 
@@ -20,16 +20,11 @@ fn definition(
 ) -> Result<Def, OutOfMemory>
     requires small { IsSmallDefinition (definition_of tree.now) }
     requires few { length heads.now ≤ 4096 }
-    ensures { IfOk result (λ d. d ≡ definition_value heads.now (definition_of tree.now)) }
+    ensures { IfOk result (λ d. d ≡ value_of_definition heads.now (definition_of tree.now)) }
 {
     let arity = tree.parameters.len();
-    let name = String::from_str(alloc, tree.name)?;
-    let cases = heap_values(alloc, heads, &Scope::Case(arity), &tree.cases)?;
-    Ok(Def {
-        name: DefName::from_text(name),
-        arity: arity as u32,
-        cases: Cases::from_vec(cases),
-    })
+    let scope = Scope::Case(arity);
+    definition_value(alloc, heads, &scope, tree.name, arity as u32, &tree.cases)
 }
 
 /// The definitions of a problem.
@@ -40,7 +35,7 @@ pub fn definitions(
 ) -> Result<Vec<Def>, OutOfMemory>
     requires small { Each IsSmallDefinition (map definition_of trees.now) }
     requires few { length heads.now ≤ 4096 }
-    ensures value { IfOk result (λ v. v.items ≡ map (definition_value heads.now) (map definition_of trees.now)) }
+    ensures value { IfOk result (λ v. v.items ≡ map (value_of_definition heads.now) (map definition_of trees.now)) }
     ensures size { IfOk result (λ v. length v.items ≡ length trees.now) }
 {
     let mut made = Vec::with_capacity(alloc, trees.len())?;
@@ -62,9 +57,7 @@ pub fn goal(
 {
     match tree {
         NumberedGoal::Entailment(antecedent, disjuncts) => {
-            let antecedent = heap_value(alloc, heads, &Scope::Goal, antecedent)?;
-            let disjuncts = heap_values(alloc, heads, &Scope::Goal, disjuncts)?;
-            Ok(Judgement::Entail(antecedent, Disjuncts::from_vec(disjuncts)))
+            entailment_value(alloc, heads, &Scope::Goal, antecedent, disjuncts)
         }
         NumberedGoal::From(line, state) => {
             Ok(Judgement::Term(*line, heap_value(alloc, heads, &Scope::Goal, state)?))

@@ -9,6 +9,7 @@ mod existentials;
 mod heaps;
 mod judgements;
 pub mod laws;
+mod numbers;
 mod proof_rules;
 mod questions;
 mod short_lists;
@@ -24,6 +25,7 @@ pub use definitions::{Cases, Def, DefName};
 pub use existentials::{exists_in_heap, fresh_exist};
 pub use heaps::{Count, Disjuncts, Heap, HeapFault, MOST_DISJUNCTS, MOST_PURE, MOST_SPATIAL};
 pub use judgements::{Judgement, Pair, Pairs, Premise, is_same_judgement};
+pub use numbers::{Variables, bound_in_heap};
 pub use proof_rules::{Link, Reason, Rule, RuleError, RuleFault, Side};
 pub use questions::{
     GREATEST_VARIABLE, bound_of_heap, bound_of_judgement, fresh_univ, is_same_spatial, is_single,

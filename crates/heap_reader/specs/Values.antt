@@ -9,6 +9,9 @@ use Rattle.heap_formula.specs.declared.atoms.Spatial.{Spatial as SpatialAtom}
 use Rattle.heap_formula.specs.declared.atoms.Spatial.TheVariants as atoms
 use Rattle.heap_formula.specs.declared.commands.Command.{Command}
 use Rattle.heap_formula.specs.declared.commands.Command.TheVariants as commands
+use Rattle.heap_formula.specs.declared.judgements.Judgement.{Judgement}
+use Rattle.heap_formula.specs.declared.judgements.Judgement.TheVariants.{Entail}
+use Rattle.heap_formula.specs.Definitions.{Definition}
 use Rattle.heap_formula.specs.Symbolic.{SymbolicHeap}
 use Rattle.heap_syntax.specs.declared.tree.PureTree.{PureTree}
 use Rattle.heap_syntax.specs.Trees.{Spatial, Cell, Predicate, Heap}
@@ -37,6 +40,13 @@ spatial_value value hs (Predicate name ts) = atoms.Pred (place_of hs name) (map 
 
 abbrev pub heap_value : {T : Type 0} → (T → Term) → List Heading → Heap T → SymbolicHeap
 heap_value value hs h = record { pure = map (pure_value value) h.pure; spatial = map (spatial_value value hs) h.spatial }
+
+-- the definition of a predicate, from its name, the number of its parameters and its cases
+abbrev pub definition_value : {T : Type 0} → (T → Term) → List Heading → List ℕ → ℕ → List (Heap T) → Definition
+definition_value value hs name arity cases = record { name = name; arity = arity; cases = map (heap_value value hs) cases }
+
+abbrev pub entailment_value : {T : Type 0} → (T → Term) → List Heading → Heap T → List (Heap T) → Judgement
+entailment_value value hs antecedent disjuncts = Entail (heap_value value hs antecedent) (map (heap_value value hs) disjuncts)
 
 -- ---- lines, over the number of a variable
 

@@ -19,7 +19,7 @@ pub use head::{Head, Heads};
 pub use heap_walk::{walk_heap, walk_heaps};
 pub use line_walk::walk_lines;
 pub use told::flaw_fault;
-pub use values::{heap_value, heap_values};
+pub use values::{definition_value, entailment_value, heap_value, heap_values};
 
 #[cfg(test)]
 mod tests;

@@ -3,12 +3,12 @@ ghost use Rattle.std.specs.Prelude.{◌≡◌, ◌≤◌, length, map, IfOk};
 ghost use Rattle.heap_formula.specs.Words.{Each};
 ghost use Rattle.heap_reader.specs.Trees.{spatial_of, heap_of};
 ghost use Rattle.heap_reader.specs.Small.{IsSmall, IsSmallPure, IsSmallSpatial, IsSmallHeap};
-ghost use Rattle.heap_reader.specs.Values.{pure_value, spatial_value, heap_value as value_of_heap};
+ghost use Rattle.heap_reader.specs.Values.{pure_value, spatial_value, heap_value as value_of_heap, definition_value as value_of_definition, entailment_value as value_of_entailment};
 
 use crate::form::TermReader;
 use crate::head::Heads;
 use cyc_memory::OutOfMemory;
-use heap_formula::{Args, Heap, Pure, Spatial, Term};
+use heap_formula::{Args, Cases, Def, DefName, Disjuncts, Heap, Judgement, Pure, Spatial, Term};
 use heap_syntax::{HeapTree, PureTree, SpatialTree};
 use std::alloc::Global;
 
@@ -121,4 +121,44 @@ pub fn heap_values<F: TermReader>(
         heaps.push(heap_value(alloc, heads, form, tree)?)?;
     }
     Ok(heaps)
+}
+
+/// The definition of a predicate with so many parameters, whose cases the trees say.
+pub fn definition_value<F: TermReader>(
+    alloc: Global,
+    heads: &Heads<'_>,
+    form: &F,
+    name: &str,
+    arity: u32,
+    cases: &[HeapTree<'_, F::Term>],
+) -> Result<Def, OutOfMemory>
+    requires small { Each (IsSmallHeap F.value) (map heap_of cases.now) }
+    requires few { length heads.now ≤ 4096 }
+    ensures { IfOk result (λ d. d ≡ value_of_definition F.value heads.now name.now arity (map heap_of cases.now)) }
+{
+    let name = String::from_str(alloc, name)?;
+    let cases = heap_values(alloc, heads, form, cases)?;
+    Ok(Def {
+        name: DefName::from_text(name),
+        arity,
+        cases: Cases::from_vec(cases),
+    })
+}
+
+/// The entailment that the trees of its two sides say.
+pub fn entailment_value<F: TermReader>(
+    alloc: Global,
+    heads: &Heads<'_>,
+    form: &F,
+    antecedent: &HeapTree<'_, F::Term>,
+    disjuncts: &[HeapTree<'_, F::Term>],
+) -> Result<Judgement, OutOfMemory>
+    requires left { IsSmallHeap F.value (heap_of antecedent.now) }
+    requires right { Each (IsSmallHeap F.value) (map heap_of disjuncts.now) }
+    requires few { length heads.now ≤ 4096 }
+    ensures { IfOk result (λ j. j ≡ value_of_entailment F.value heads.now (heap_of antecedent.now) (map heap_of disjuncts.now)) }
+{
+    let antecedent = heap_value(alloc, heads, form, antecedent)?;
+    let disjuncts = heap_values(alloc, heads, form, disjuncts)?;
+    Ok(Judgement::Entail(antecedent, Disjuncts::from_vec(disjuncts)))
 }

@@ -9,17 +9,15 @@ ghost use Rattle.rule_table.specs.Table.{with_right, without_pure, pure_right_an
 
 use cyc_memory::OutOfMemory;
 use heap_formula::{Heap, Judgement, Premise, RuleError, RuleFault};
-use rule_table::{
-    copy_spatial_atoms, follows, is_universal_pure, one_premise, pure_atoms_without, with_disjunct,
-};
+use rule_table::{atoms_without, follows, is_universal_pure, one_premise, with_disjunct};
 use std::alloc::Global;
 
 fn shortened(alloc: Global, a: &Heap, b: &Heap, k: usize) -> Result<Vec<Premise>, OutOfMemory>
     requires { k < length b.now.pure }
     ensures { IfOk result (λ v. v.items ≡ one (with_right a.now (without_pure k b.now ∷ []))) }
 {
-    let pure = pure_atoms_without(alloc, b.pure(), k)?;
-    let spatial = copy_spatial_atoms(alloc, b.spatial())?;
+    let pure = atoms_without(alloc, b.pure(), k)?;
+    let spatial = Vec::from_slice(alloc, b.spatial())?;
     one_premise(
         alloc,
         with_disjunct(alloc, a, Heap::from_lists(pure, spatial))?,

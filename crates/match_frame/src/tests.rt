@@ -1,6 +1,4 @@
 // Each fault and each form of a premise, once.
-ghost use Rattle.std.specs.Prelude.{◌≤◌, length};
-
 use crate::{
     premises_choose, premises_done, premises_frame, premises_instantiate, premises_pure_right,
 };
@@ -8,7 +6,6 @@ use heap_formula::{
     Args, Disjuncts, Heap, Judgement, OutOfMemory, Pair, Premise, Pure, RuleError, RuleFault,
     Spatial, Term,
 };
-use rule_table::{copy_pure_atoms, copy_spatial_atoms};
 use std::alloc::Global;
 use std::test::Fail;
 
@@ -24,16 +21,6 @@ fn list(t: Term) -> Spatial {
 
 fn cell(t: Term, u: Term) -> Spatial {
     Spatial::Cell(t, Args::from_slice(&[u]))
-}
-
-fn heap(alloc: Global, pure: &[Pure], spatial: &[Spatial]) -> Result<Heap, OutOfMemory>
-    requires pure_fits { length pure.now ≤ 64 }
-    requires spatial_fits { length spatial.now ≤ 32 }
-{
-    Ok(Heap::from_lists(
-        copy_pure_atoms(alloc, pure)?,
-        copy_spatial_atoms(alloc, spatial)?,
-    ))
 }
 
 fn entail(alloc: Global, a: Heap, b: Heap) -> Result<Judgement, OutOfMemory> {
@@ -87,13 +74,13 @@ fn faults_of_each_rule(rt: HostRuntime) -> Result<(), Fail> {
     let alloc = rt.alloc();
     let runs = Judgement::Term(1, Heap::new(alloc));
     let two = Judgement::Entail(
-        heap(alloc, &[], &[cell(X, Y)])?,
+        Heap::from_slices(alloc, &[], &[cell(X, Y)])?,
         Disjuncts::from_slice(alloc, &[Heap::new(alloc), Heap::new(alloc)])?,
     );
     let right = entail(
         alloc,
-        heap(alloc, &[], &[list(X)])?,
-        heap(
+        Heap::from_slices(alloc, &[], &[list(X)])?,
+        Heap::from_slices(
             alloc,
             &[Pure::Eq(E, E), Pure::Eq(X, Y)],
             &[list(E), list(Y)],
@@ -129,44 +116,47 @@ fn premises_of_each_rule(rt: HostRuntime) -> Result<(), Fail> {
     let alloc = rt.alloc();
     let closed = entail(
         alloc,
-        heap(alloc, &[Pure::Eq(X, Y)], &[])?,
+        Heap::from_slices(alloc, &[Pure::Eq(X, Y)], &[])?,
         Heap::new(alloc),
     )?;
     assert_eq!(rt; premises_done(alloc, &closed)?.len(), 0);
     let several = Judgement::Entail(
-        heap(alloc, &[], &[cell(X, Y), list(Y)])?,
-        Disjuncts::from_slice(alloc, &[Heap::new(alloc), heap(alloc, &[], &[list(X)])?])?,
+        Heap::from_slices(alloc, &[], &[cell(X, Y), list(Y)])?,
+        Disjuncts::from_slice(
+            alloc,
+            &[Heap::new(alloc), Heap::from_slices(alloc, &[], &[list(X)])?],
+        )?,
     );
     let second = entail(
         alloc,
-        heap(alloc, &[], &[cell(X, Y), list(Y)])?,
-        heap(alloc, &[], &[list(X)])?,
+        Heap::from_slices(alloc, &[], &[cell(X, Y), list(Y)])?,
+        Heap::from_slices(alloc, &[], &[list(X)])?,
     )?;
-    let first_list = heap(alloc, &[Pure::Eq(X, Y)], &[list(X)])?;
+    let first_list = Heap::from_slices(alloc, &[Pure::Eq(X, Y)], &[list(X)])?;
     let equations = entail(
         alloc,
         first_list.clone()?,
-        heap(alloc, &[Pure::Neq(X, E), Pure::Eq(Y, X)], &[list(X)])?,
+        Heap::from_slices(alloc, &[Pure::Neq(X, E), Pure::Eq(Y, X)], &[list(X)])?,
     )?;
     let equation_gone = entail(
         alloc,
         first_list.clone()?,
-        heap(alloc, &[Pure::Neq(X, E)], &[list(X)])?,
+        Heap::from_slices(alloc, &[Pure::Neq(X, E)], &[list(X)])?,
     )?;
     let instance = entail(
         alloc,
         first_list,
-        heap(alloc, &[Pure::Neq(X, Y), Pure::Eq(Y, X)], &[list(X)])?,
+        Heap::from_slices(alloc, &[Pure::Neq(X, Y), Pure::Eq(Y, X)], &[list(X)])?,
     )?;
     let both = entail(
         alloc,
-        heap(alloc, &[], &[list(Y), cell(X, Y), list(X)])?,
-        heap(alloc, &[], &[cell(X, Y), list(Y)])?,
+        Heap::from_slices(alloc, &[], &[list(Y), cell(X, Y), list(X)])?,
+        Heap::from_slices(alloc, &[], &[cell(X, Y), list(Y)])?,
     )?;
     let framed = entail(
         alloc,
-        heap(alloc, &[], &[list(Y), list(X)])?,
-        heap(alloc, &[], &[list(Y)])?,
+        Heap::from_slices(alloc, &[], &[list(Y), list(X)])?,
+        Heap::from_slices(alloc, &[], &[list(Y)])?,
     )?;
     let found = [
         is_only(premises_choose(alloc, &several, 1), &second, &[kept(1, 1)]),

@@ -16,8 +16,7 @@ use heap_formula::{
     Heap, Judgement, Premise, Pure, RuleError, RuleFault, Side, Subst, Term, apply,
 };
 use rule_table::{
-    antecedent, copy_pure_atoms, copy_spatial_atoms, one_premise, pairs_of_same,
-    pure_atoms_without, same_term, with_antecedent,
+    antecedent, atoms_without, one_premise, pairs_of_same, same_term, with_antecedent,
 };
 use std::alloc::Global;
 
@@ -34,7 +33,7 @@ fn with_atom_at(alloc: Global, atoms: &[Pure], k: usize, x: Pure) -> Result<Vec<
     ensures value { IfOk result (λ v. v.items ≡ slice_set atoms.now k x) }
     ensures size { IfOk result (λ v. length v.items ≡ length atoms.now) }
 {
-    let mut all = copy_pure_atoms(alloc, atoms)?;
+    let mut all = Vec::from_slice(alloc, atoms)?;
     all[k] = x;
     Ok(all)
 }
@@ -44,9 +43,9 @@ fn settled(alloc: Global, a: &Heap, k: usize, x: Pure, drops: bool) -> Result<He
     requires { k < length a.now.pure }
     ensures { IfOk result (λ h. h ≡ record { pure = if drops then without k a.now.pure else slice_set a.now.pure k x; spatial = a.now.spatial }) }
 {
-    let spatial = copy_spatial_atoms(alloc, a.spatial())?;
+    let spatial = Vec::from_slice(alloc, a.spatial())?;
     if drops {
-        let pure = pure_atoms_without(alloc, a.pure(), k)?;
+        let pure = atoms_without(alloc, a.pure(), k)?;
         Ok(Heap::from_lists(pure, spatial))
     } else {
         let pure = with_atom_at(alloc, a.pure(), k, x)?;

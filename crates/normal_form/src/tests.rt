@@ -1,6 +1,4 @@
 // Each fault and each form of a premise, once.
-ghost use Rattle.std.specs.Prelude.{◌≤◌, length};
-
 use crate::{
     premises_absurd, premises_distinct, premises_drop, premises_rewrite, premises_split,
     premises_weaken,
@@ -9,7 +7,6 @@ use heap_formula::{
     Args, Disjuncts, Heap, Judgement, OutOfMemory, Pair, Premise, Pure, RuleError, RuleFault, Side,
     Spatial, Term,
 };
-use rule_table::{copy_pure_atoms, copy_spatial_atoms};
 use std::alloc::Global;
 use std::test::Fail;
 
@@ -23,16 +20,6 @@ fn list(t: Term) -> Spatial {
 
 fn cell(t: Term, u: Term) -> Spatial {
     Spatial::Cell(t, Args::from_slice(&[u]))
-}
-
-fn heap(alloc: Global, pure: &[Pure], spatial: &[Spatial]) -> Result<Heap, OutOfMemory>
-    requires pure_fits { length pure.now ≤ 64 }
-    requires spatial_fits { length spatial.now ≤ 32 }
-{
-    Ok(Heap::from_lists(
-        copy_pure_atoms(alloc, pure)?,
-        copy_spatial_atoms(alloc, spatial)?,
-    ))
 }
 
 fn entail(alloc: Global, a: Heap, b: Heap) -> Result<Judgement, OutOfMemory> {
@@ -85,14 +72,17 @@ fn faults_of_each_rule(rt: HostRuntime) -> Result<(), Fail> {
     let alloc = rt.alloc();
     let cells = entail(
         alloc,
-        heap(
+        Heap::from_slices(
             alloc,
             &[Pure::Neq(X, Y), Pure::Eq(Term::Nil, X)],
             &[cell(X, Y), cell(Y, X), list(X)],
         )?,
         Heap::new(alloc),
     )?;
-    let full = Judgement::Term(1, heap(alloc, &[Pure::Eq(X, X); 64], &[cell(X, Y)])?);
+    let full = Judgement::Term(
+        1,
+        Heap::from_slices(alloc, &[Pure::Eq(X, X); 64], &[cell(X, Y)])?,
+    );
     let no_equation = Some(RuleFault::NotEquation);
     let none = Some(RuleFault::NoSuchAtom);
     let many = Some(RuleFault::TooManyAtoms);
@@ -119,41 +109,44 @@ fn faults_of_each_rule(rt: HostRuntime) -> Result<(), Fail> {
 fn premises_of_the_pure_rules(rt: HostRuntime) -> Result<(), Fail> {
     let alloc = rt.alloc();
     for a in [
-        heap(alloc, &[Pure::Neq(X, X)], &[])?,
-        heap(alloc, &[], &[list(X), cell(Term::Nil, X)])?,
-        heap(alloc, &[], &[cell(X, Y), list(Y), cell(X, X)])?,
+        Heap::from_slices(alloc, &[Pure::Neq(X, X)], &[])?,
+        Heap::from_slices(alloc, &[], &[list(X), cell(Term::Nil, X)])?,
+        Heap::from_slices(alloc, &[], &[cell(X, Y), list(Y), cell(X, X)])?,
     ] {
         assert_eq!(rt; premises_absurd(alloc, &Judgement::Term(3, a), 1)?.len(), 0);
     }
     let lists = [list(X)];
     let whole = entail(
         alloc,
-        heap(alloc, &[Pure::Eq(X, X), Pure::Eq(X, Y)], &lists)?,
-        heap(alloc, &[], &lists)?,
+        Heap::from_slices(alloc, &[Pure::Eq(X, X), Pure::Eq(X, Y)], &lists)?,
+        Heap::from_slices(alloc, &[], &lists)?,
     )?;
     let trivial_gone = entail(
         alloc,
-        heap(alloc, &[Pure::Eq(X, Y)], &lists)?,
-        heap(alloc, &[], &lists)?,
+        Heap::from_slices(alloc, &[Pure::Eq(X, Y)], &lists)?,
+        Heap::from_slices(alloc, &[], &lists)?,
     )?;
     let by_left = entail(
         alloc,
-        heap(alloc, &[Pure::Eq(Y, Y)], &[list(Y)])?,
-        heap(alloc, &[], &[list(Y)])?,
+        Heap::from_slices(alloc, &[Pure::Eq(Y, Y)], &[list(Y)])?,
+        Heap::from_slices(alloc, &[], &[list(Y)])?,
     )?;
     let runs = Judgement::Term(
         1,
-        heap(alloc, &[Pure::Eq(X, Y), Pure::Neq(X, Term::Nil)], &lists)?,
+        Heap::from_slices(alloc, &[Pure::Eq(X, Y), Pure::Neq(X, Term::Nil)], &lists)?,
     );
     let equation_stays = Judgement::Term(
         1,
-        heap(
+        Heap::from_slices(
             alloc,
             &[Pure::Eq(X, Y), Pure::Neq(Y, Term::Nil)],
             &[list(Y)],
         )?,
     );
-    let equation_goes = Judgement::Term(1, heap(alloc, &[Pure::Neq(X, Term::Nil)], &lists)?);
+    let equation_goes = Judgement::Term(
+        1,
+        Heap::from_slices(alloc, &[Pure::Neq(X, Term::Nil)], &lists)?,
+    );
     let found = [
         is_only(
             premises_rewrite(alloc, &whole, 0, 0, Side::Right),
@@ -189,11 +182,14 @@ fn premises_of_the_pure_rules(rt: HostRuntime) -> Result<(), Fail> {
 fn premises_of_the_other_rules(rt: HostRuntime) -> Result<(), Fail> {
     let alloc = rt.alloc();
     let atoms = [cell(X, Y), list(X), cell(Y, Y)];
-    let runs = Judgement::Term(2, heap(alloc, &[], &atoms)?);
-    let equal = Judgement::Term(2, heap(alloc, &[Pure::Eq(X, Y)], &atoms)?);
-    let different = Judgement::Term(2, heap(alloc, &[Pure::Neq(X, Y)], &atoms)?);
-    let not_nil = Judgement::Term(2, heap(alloc, &[Pure::Neq(Y, Term::Nil)], &atoms)?);
-    let rest = Judgement::Term(2, heap(alloc, &[], &[list(X), cell(Y, Y)])?);
+    let runs = Judgement::Term(2, Heap::from_slices(alloc, &[], &atoms)?);
+    let equal = Judgement::Term(2, Heap::from_slices(alloc, &[Pure::Eq(X, Y)], &atoms)?);
+    let different = Judgement::Term(2, Heap::from_slices(alloc, &[Pure::Neq(X, Y)], &atoms)?);
+    let not_nil = Judgement::Term(
+        2,
+        Heap::from_slices(alloc, &[Pure::Neq(Y, Term::Nil)], &atoms)?,
+    );
+    let rest = Judgement::Term(2, Heap::from_slices(alloc, &[], &[list(X), cell(Y, Y)])?);
     let halves = premises_split(alloc, &runs, 0, X, Y)?;
     assert_eq!(rt; halves.len(), 2);
     let found = [

@@ -10,7 +10,7 @@ ghost use Rattle.rule_table.specs.Table.{with_pures, weaken_answer};
 
 use cyc_memory::OutOfMemory;
 use heap_formula::{Judgement, Premise, RuleError, RuleFault};
-use rule_table::{antecedent, one_premise, pure_atoms_without, with_pure_atoms};
+use rule_table::{antecedent, atoms_without, one_premise, with_pure_atoms};
 use std::alloc::Global;
 
 /// The judgement without pure atom `k` of the antecedent, as the one premise.
@@ -18,7 +18,7 @@ pub fn weakened(alloc: Global, judgement: &Judgement, k: usize) -> Result<Vec<Pr
     requires { k < length (antecedent_of judgement.now).pure }
     ensures { IfOk result (λ v. v.items ≡ one (with_pures judgement.now (without k (antecedent_of judgement.now).pure))) }
 {
-    let pure = pure_atoms_without(alloc, antecedent(judgement).pure(), k)?;
+    let pure = atoms_without(alloc, antecedent(judgement).pure(), k)?;
     one_premise(alloc, with_pure_atoms(alloc, judgement, pure)?)
 }
 

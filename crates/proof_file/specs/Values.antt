@@ -3,7 +3,7 @@ use Rattle.std.specs.Prelude.{ℕ, List, map}
 use Rattle.heap_formula.specs.declared.terms.Term.{Term}
 use Rattle.heap_formula.specs.declared.terms.Term.TheVariants as terms
 use Rattle.heap_formula.specs.declared.judgements.Judgement.{Judgement}
-use Rattle.heap_formula.specs.declared.judgements.Judgement.TheVariants.{Entail, Term as Halting}
+use Rattle.heap_formula.specs.declared.judgements.Judgement.TheVariants.{Term as Halting}
 use Rattle.heap_formula.specs.declared.proof_rules.Side.{Side}
 use Rattle.heap_formula.specs.declared.proof_rules.Side.TheVariants as sides
 use Rattle.heap_formula.specs.declared.proof_rules.Rule.TheVariants as rules
@@ -14,7 +14,8 @@ use Rattle.heap_formula.specs.declared.commands.Command.{Command}
 use Rattle.goto_lang.specs.Lines.{commands_of}
 use Rattle.heap_formula.specs.Definitions.{Definition as DefinitionValue}
 use Rattle.heap_reader.specs.Trees.{Heading}
-use Rattle.heap_reader.specs.Values.{heap_value, line_value}
+use Rattle.heap_reader.specs.Values as values
+use Rattle.heap_reader.specs.Values.{heap_value, entailment_value, line_value}
 use Rattle.proof_syntax.specs.declared.tree.TermTree.{TermTree}
 use Rattle.proof_syntax.specs.declared.tree.TermTree.TheVariants.{Nil, Univ, Exist}
 use Rattle.proof_syntax.specs.declared.tree.SideTree.{SideTree}
@@ -29,7 +30,7 @@ term_value (Univ n) = terms.Univ n
 term_value (Exist n) = terms.Exist n
 
 abbrev pub definition_value : List Heading → Definition → DefinitionValue
-definition_value hs d = record { name = d.name; arity = d.arity; cases = map (heap_value term_value hs) d.cases }
+definition_value hs d = values.definition_value term_value hs d.name d.arity d.cases
 
 -- a program variable is its number
 abbrev pub variable_value : ℕ → ℕ
@@ -40,7 +41,7 @@ abbrev pub program_value : List Line → List Command
 program_value ls = commands_of (map (line_value variable_value) ls)
 
 abbrev pub judgement_value : List Heading → JudgementTree → Judgement
-judgement_value hs (Entails e) = Entail (heap_value term_value hs e.antecedent) (map (heap_value term_value hs) e.disjuncts)
+judgement_value hs (Entails e) = entailment_value term_value hs e.antecedent e.disjuncts
 judgement_value hs (From n h) = Halting n (heap_value term_value hs h)
 
 abbrev pub side_value : SideTree → Side

@@ -179,14 +179,6 @@ fn side(value: Side) -> SideTree
     }
 }
 
-fn numbers(alloc: Global, values: &[u32]) -> Result<Vec<u32>, OutOfMemory>
-    ensures { IfOk result (λ v. v.items ≡ values.now) }
-{
-    let mut copy = Vec::with_capacity(alloc, values.len())?;
-    copy.extend_from_slice(values)?;
-    Ok(copy)
-}
-
 fn pairs(alloc: Global, values: &[(u16, Term)]) -> Result<Vec<PairTree>, OutOfMemory>
     ensures { IfOk result (λ v. v.items ≡ map pair_tree values.now) }
 {
@@ -204,8 +196,8 @@ fn link(alloc: Global, value: &Link) -> Result<LinkTree, OutOfMemory>
     ensures { IfOk result (λ l. link_of l ≡ link_tree value.now) }
 {
     let substitution = pairs(alloc, value.subst.pairs())?;
-    let map = numbers(alloc, value.map.as_slice())?;
-    let disjuncts = numbers(alloc, value.disjuncts.as_slice())?;
+    let map = Vec::from_slice(alloc, value.map.as_slice())?;
+    let disjuncts = Vec::from_slice(alloc, value.disjuncts.as_slice())?;
     Ok(LinkTree {
         target: value.target,
         substitution,
@@ -225,7 +217,7 @@ fn rule<'a>(alloc: Global, defs: &'a [Def], value: &Rule) -> Result<ReasonTree<'
         Rule::Weaken(k) => ReasonTree::Weaken(*k),
         Rule::Unfold(k) => ReasonTree::Unfold(*k),
         Rule::Cut(places, formula) => {
-            let places = numbers(alloc, places.as_slice())?;
+            let places = Vec::from_slice(alloc, places.as_slice())?;
             ReasonTree::Cut(places, heap(alloc, defs, formula)?)
         }
         Rule::Done => ReasonTree::Done,
@@ -253,7 +245,7 @@ fn node<'a>(alloc: Global, defs: &'a [Def], value: &FileNode) -> Result<NodeTree
 {
     let judgement = judgement(alloc, defs, &value.judgement)?;
     let reason = reason(alloc, defs, &value.reason)?;
-    let premises = numbers(alloc, value.premises.as_slice())?;
+    let premises = Vec::from_slice(alloc, value.premises.as_slice())?;
     Ok(NodeTree {
         judgement,
         reason,

@@ -3,15 +3,13 @@ ghost use Rattle.std.specs.Prelude.{◌≡◌, ◌<◌, ◌≤◌, length, map, 
 ghost use Rattle.heap_formula.specs.Words.{Each};
 ghost use Rattle.proof_syntax.specs.Trees.{definition_of, judgement_of, link_of, reason_of, node_of};
 ghost use Rattle.proof_file.specs.Small.{IsSmallJudgement, IsSmallPair, IsSmallReason, IsSmallNode, IsSmallDefinition};
-ghost use Rattle.proof_file.specs.Values.{definition_value, judgement_value, side_value, pair_value, link_value, reason_value, node_value};
+ghost use Rattle.proof_file.specs.Values.{definition_value as value_of_definition, judgement_value, side_value, pair_value, link_value, reason_value, node_value};
 
 use crate::node::FileNode;
 use crate::scope::Scope;
 use cyc_memory::OutOfMemory;
-use heap_formula::{
-    Cases, Def, DefName, Disjuncts, Judgement, Link, Positions, Reason, Rule, Side, Subst,
-};
-use heap_reader::{Heads, TermReader, heap_value, heap_values};
+use heap_formula::{Def, Judgement, Link, Positions, Reason, Rule, Side, Subst};
+use heap_reader::{Heads, TermReader, definition_value, entailment_value, heap_value};
 use proof_syntax::{
     DefinitionTree, JudgementTree, LinkTree, NodeTree, PairTree, ReasonTree, SideTree,
 };
@@ -24,15 +22,10 @@ fn definition(
 ) -> Result<Def, OutOfMemory>
     requires small { IsSmallDefinition (definition_of tree.now) }
     requires few { length heads.now ≤ 4096 }
-    ensures { IfOk result (λ d. d ≡ definition_value heads.now (definition_of tree.now)) }
+    ensures { IfOk result (λ d. d ≡ value_of_definition heads.now (definition_of tree.now)) }
 {
-    let name = String::from_str(alloc, tree.name)?;
-    let cases = heap_values(alloc, heads, &Scope::Case(tree.arity), &tree.cases)?;
-    Ok(Def {
-        name: DefName::from_text(name),
-        arity: tree.arity,
-        cases: Cases::from_vec(cases),
-    })
+    let scope = Scope::Case(tree.arity);
+    definition_value(alloc, heads, &scope, tree.name, tree.arity, &tree.cases)
 }
 
 /// The definitions of a file.
@@ -43,7 +36,7 @@ pub fn definitions(
 ) -> Result<Vec<Def>, OutOfMemory>
     requires small { Each IsSmallDefinition (map definition_of trees.now) }
     requires few { length heads.now ≤ 4096 }
-    ensures value { IfOk result (λ v. v.items ≡ map (definition_value heads.now) (map definition_of trees.now)) }
+    ensures value { IfOk result (λ v. v.items ≡ map (value_of_definition heads.now) (map definition_of trees.now)) }
     ensures size { IfOk result (λ v. length v.items ≡ length trees.now) }
 {
     let mut made = Vec::with_capacity(alloc, trees.len())?;
@@ -64,9 +57,13 @@ fn judgement(
 {
     match tree {
         JudgementTree::Entailment(tree) => {
-            let antecedent = heap_value(alloc, heads, &Scope::Node, &tree.antecedent)?;
-            let disjuncts = heap_values(alloc, heads, &Scope::Node, &tree.disjuncts)?;
-            Ok(Judgement::Entail(antecedent, Disjuncts::from_vec(disjuncts)))
+            entailment_value(
+                alloc,
+                heads,
+                &Scope::Node,
+                &tree.antecedent,
+                &tree.disjuncts,
+            )
         }
         JudgementTree::From(line, tree) => {
             let state = heap_value(alloc, heads, &Scope::Node, tree)?;
@@ -87,9 +84,7 @@ fn side(tree: SideTree) -> Side
 fn positions(alloc: Global, numbers: &[u32]) -> Result<Positions, OutOfMemory>
     ensures { IfOk result (λ p. p ≡ numbers.now) }
 {
-    let mut places = Vec::with_capacity(alloc, numbers.len())?;
-    places.extend_from_slice(numbers)?;
-    Ok(Positions::from_vec(places))
+    Ok(Positions::from_vec(Vec::from_slice(alloc, numbers)?))
 }
 
 fn substitution(alloc: Global, trees: &[PairTree]) -> Result<Subst, OutOfMemory>

@@ -4,29 +4,7 @@ ghost use Rattle.std.specs.Prelude.{◌≡◌, IfOk};
 
 use crate::nodes::{GraphNode, GraphPremise, GraphPremises};
 use cyc_memory::OutOfMemory;
-use heap_formula::{Judgement, Pairs, Reason};
 use std::alloc::Global;
-
-/// A copy of a judgement.
-pub(crate) fn copy_of_judgement(judgement: &Judgement) -> Result<Judgement, OutOfMemory>
-    ensures { IfOk result (λ copy. copy ≡ judgement.now) }
-{
-    Ok(judgement.clone()?)
-}
-
-/// A copy of a reason.
-pub(crate) fn copy_of_reason(reason: &Reason) -> Result<Reason, OutOfMemory>
-    ensures { IfOk result (λ copy. copy ≡ reason.now) }
-{
-    Ok(reason.clone()?)
-}
-
-/// A copy of pairs.
-pub(crate) fn copy_of_pairs(pairs: &Pairs) -> Result<Pairs, OutOfMemory>
-    ensures { IfOk result (λ copy. copy ≡ pairs.now) }
-{
-    Ok(pairs.clone()?)
-}
 
 /// A copy of premises.
 fn copy_of_premises(alloc: Global, premises: &[GraphPremise]) -> Result<GraphPremises, OutOfMemory>
@@ -34,7 +12,7 @@ fn copy_of_premises(alloc: Global, premises: &[GraphPremise]) -> Result<GraphPre
 {
     let mut copies = Vec::new(alloc);
     for premise in premises {
-        let pairs = copy_of_pairs(&premise.pairs)?;
+        let pairs = premise.pairs.clone()?;
         let slot = premise.slot;
         copies.push(GraphPremise { pairs, slot })?;
     }
@@ -45,11 +23,11 @@ fn copy_of_premises(alloc: Global, premises: &[GraphPremise]) -> Result<GraphPre
 pub(crate) fn copy_of_node(alloc: Global, node: &GraphNode) -> Result<GraphNode, OutOfMemory>
     ensures { IfOk result (λ copy. copy ≡ node.now) }
 {
-    let judgement = copy_of_judgement(&node.judgement)?;
+    let judgement = node.judgement.clone()?;
     let premises = copy_of_premises(alloc, node.premises.as_slice())?;
     let reason = match &node.reason {
         None => None,
-        Some(reason) => Some(copy_of_reason(reason)?),
+        Some(reason) => Some(reason.clone()?),
     };
     Ok(GraphNode {
         judgement,

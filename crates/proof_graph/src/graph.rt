@@ -5,12 +5,12 @@ ghost use Rattle.trace_pairs.specs.Graph.{IsGraph};
 ghost use Rattle.proof_graph.specs.Nodes.{open_node, with_reason, without_reason, with_premise, changed_at, nodes_below, HasPremise, HasJudgement, IsViewed};
 ghost use Rattle.proof_graph.specs.Traces.{trace_graph_of, HasJoints};
 
-use crate::copies::{copy_of_judgement, copy_of_node, copy_of_reason};
+use crate::copies::copy_of_node;
 use crate::nodes::{GraphNode, GraphPremises, NodeView, PremisePairs, first_slot, premises_of};
 use crate::traces::traces_of;
 use cyc_memory::OutOfMemory;
 use heap_formula::{Judgement, Reason};
-use std::alloc::Global;
+use std::alloc::{AllocError, Global};
 use std::marker::Model;
 use trace_pairs::TraceGraph;
 
@@ -31,12 +31,12 @@ pub struct Graph {
     alloc: Global,
 }
 
-impl From<OutOfMemory> for GraphFault {
+impl From<AllocError> for GraphFault {
     ghost use Rattle.proof_graph.specs.declared.graph.GraphFault.TheVariants.{OutOfMemory as memory_wanted};
 
     ghost from_gives = { λ _ e. e ≡ memory_wanted };
 
-    fn from(_error: OutOfMemory) -> GraphFault {
+    fn from(_error: AllocError) -> GraphFault {
         GraphFault::OutOfMemory
     }
 }
@@ -89,7 +89,7 @@ impl Graph {
         if number >= MOST_NODES {
             return Err(GraphFault::TooManyNodes);
         }
-        let judgement = copy_of_judgement(judgement)?;
+        let judgement = judgement.clone()?;
         let premises = GraphPremises::from_vec(Vec::new(self.alloc));
         let node = GraphNode {
             judgement,
@@ -115,7 +115,7 @@ impl Graph {
         ensures unchanged { OnErr result (self.new ≡ self.old) }
     {
         let premises = premises_of(self.alloc, first_slot(reason), pairs.as_slice())?;
-        let reason = copy_of_reason(reason)?;
+        let reason = reason.clone()?;
         let place = &mut self.nodes[node as usize];
         place.reason = Some(reason);
         place.premises = premises;
@@ -174,7 +174,7 @@ impl Graph {
         ensures { IfOk result (HasJudgement self.now i) }
     {
         let node = &self.nodes[i as usize];
-        copy_of_judgement(&node.judgement)
+        Ok(node.judgement.clone()?)
     }
 
     /// The trace graph: for each node the positions of its judgement, and an edge for each slot that is filled, in order,

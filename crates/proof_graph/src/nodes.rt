@@ -3,7 +3,6 @@
 ghost use Rattle.std.specs.Prelude.{◌≡◌, ◌<◌, length, map, IfOk};
 ghost use Rattle.proof_graph.specs.Nodes.{changed_at, with_slot, premise_below, first_slot as first_slot_of, premises_of as premises_with};
 
-use crate::copies::copy_of_pairs;
 use cyc_memory::OutOfMemory;
 use heap_formula::{Judgement, Pairs, Reason};
 use std::alloc::Global;
@@ -129,7 +128,7 @@ pub(crate) fn premises_of(
 {
     let mut premises = Vec::new(alloc);
     for pairs in lists {
-        let pairs = copy_of_pairs(pairs)?;
+        let pairs = pairs.clone()?;
         premises.push(GraphPremise { pairs, slot })?;
     }
     Ok(GraphPremises::from_vec(premises))

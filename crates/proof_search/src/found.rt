@@ -42,18 +42,6 @@ fn numbers(
     }
 }
 
-fn copied_judgement(judgement: &Judgement) -> Result<Judgement, OutOfMemory>
-    ensures { IfOk result (λ copy. copy ≡ judgement.now) }
-{
-    Ok(judgement.clone()?)
-}
-
-fn copied_reason(reason: &Reason) -> Result<Reason, OutOfMemory>
-    ensures { IfOk result (λ copy. copy ≡ reason.now) }
-{
-    Ok(reason.clone()?)
-}
-
 /// A node made, with the numbers of its premises.
 fn file_node(
     alloc: Global,
@@ -64,8 +52,8 @@ fn file_node(
     requires { number < length graph.now }
     ensures { IfOk result (λ f. f ≡ file_node_at (slice_get graph.now number) node.now) }
 {
-    let judgement = copied_judgement(&node.goal.premise.judgement)?;
-    let reason = copied_reason(&node.reason)?;
+    let judgement = node.goal.premise.judgement.clone()?;
+    let reason = node.reason.clone()?;
     let premises = numbers(alloc, &node.reason, graph.node(number).premises)?;
     Ok(FileNode {
         judgement,

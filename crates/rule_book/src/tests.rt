@@ -1,6 +1,4 @@
 // Each rule of the table once.
-ghost use Rattle.std.specs.Prelude.{◌≤◌, length};
-
 use crate::premises;
 use goto_lang::{Program, ProgramFault};
 use heap_formula::{
@@ -8,7 +6,7 @@ use heap_formula::{
     RuleFault, Side, Spatial, Term,
 };
 use pred_defs::Defs;
-use rule_table::{antecedent, copy_pure_atoms, copy_spatial_atoms};
+use rule_table::antecedent;
 use std::alloc::Global;
 use std::test::Fail;
 
@@ -26,21 +24,11 @@ fn cell(t: Term, u: Term) -> Spatial {
     Spatial::Cell(t, Args::from_slice(&[u]))
 }
 
-fn heap(alloc: Global, pure: &[Pure], spatial: &[Spatial]) -> Result<Heap, OutOfMemory>
-    requires pure_fits { length pure.now ≤ 64 }
-    requires spatial_fits { length spatial.now ≤ 32 }
-{
-    Ok(Heap::from_lists(
-        copy_pure_atoms(alloc, pure)?,
-        copy_spatial_atoms(alloc, spatial)?,
-    ))
-}
-
 // A list is empty, or a cell and the list to which it points.
 fn lists(alloc: Global) -> Result<Defs, Fail> {
     let mut defs = Defs::new(alloc, 16);
-    let empty = heap(alloc, &[Pure::Eq(X, Term::Nil)], &[])?;
-    let longer = heap(alloc, &[], &[cell(X, E), list(E)])?;
+    let empty = Heap::from_slices(alloc, &[Pure::Eq(X, Term::Nil)], &[])?;
+    let longer = Heap::from_slices(alloc, &[], &[cell(X, E), list(E)])?;
     defs.push("list", 1, &[empty, longer])?;
     Ok(defs)
 }
@@ -79,13 +67,13 @@ fn each_rule_is_in_the_book(rt: HostRuntime) -> Result<(), Fail> {
     let alloc = rt.alloc();
     let defs = lists(alloc)?;
     let program = test_and_stop(alloc)?;
-    let a = heap(alloc, &[Pure::Eq(X, Y)], &[cell(X, Y), list(Y)])?;
-    let b = heap(alloc, &[Pure::Eq(Y, X)], &[list(Y), list(E)])?;
+    let a = Heap::from_slices(alloc, &[Pure::Eq(X, Y)], &[cell(X, Y), list(Y)])?;
+    let b = Heap::from_slices(alloc, &[Pure::Eq(Y, X)], &[list(Y), list(E)])?;
     let j = Judgement::Entail(a, Disjuncts::single(alloc, b)?);
-    let runs = Judgement::Term(1, heap(alloc, &[], &[cell(X, Y), list(Y)])?);
+    let runs = Judgement::Term(1, Heap::from_slices(alloc, &[], &[cell(X, Y), list(Y)])?);
     let cut = Rule::Cut(
         Positions::from_vec(Vec::new(alloc)),
-        heap(alloc, &[], &[list(E)])?,
+        Heap::from_slices(alloc, &[], &[list(E)])?,
     );
     for (rule, wanted) in [
         (Rule::Absurd, Err(RuleError::Fault(RuleFault::NotAbsurd))),
@@ -126,8 +114,8 @@ fn a_program_variable_keeps_its_equation(rt: HostRuntime) -> Result<(), Fail> {
     let defs = lists(alloc)?;
     let program = test_and_stop(alloc)?;
     let none = Program::new(alloc, &[])?;
-    let runs = Judgement::Term(1, heap(alloc, &[Pure::Eq(X, Y)], &[])?);
-    let a = heap(alloc, &[Pure::Eq(X, Y)], &[])?;
+    let runs = Judgement::Term(1, Heap::from_slices(alloc, &[Pure::Eq(X, Y)], &[])?);
+    let a = Heap::from_slices(alloc, &[Pure::Eq(X, Y)], &[])?;
     let entails = Judgement::Entail(a, Disjuncts::single(alloc, Heap::new(alloc))?);
     let rule = Rule::Rewrite(0, Side::Left);
     assert_eq!(rt; pure_count(alloc, &defs, &program, &runs, &rule), Ok(1));

@@ -6,7 +6,7 @@ ghost use Rattle.rule_table.specs.Answer.{one, two};
 ghost use Rattle.rule_table.specs.Table.{with_pures, with_pure, with_right};
 
 use crate::pairing::pairs_of_same;
-use heap_formula::{Disjuncts, Heap, Judgement, OutOfMemory, Premise, Pure, Spatial};
+use heap_formula::{Disjuncts, Heap, Judgement, OutOfMemory, Premise, Pure};
 use std::alloc::Global;
 
 /// The antecedent, or the symbolic state.
@@ -30,49 +30,14 @@ pub fn with_antecedent(judgement: &Judgement, a: Heap) -> Result<Judgement, OutO
 }
 
 /// The atoms in order without the one at a place.
-pub fn pure_atoms_without(alloc: Global, atoms: &[Pure], k: usize) -> Result<Vec<Pure>, OutOfMemory>
+pub fn atoms_without<T: Copy>(alloc: Global, atoms: &[T], k: usize) -> Result<Vec<T>, OutOfMemory>
     requires { k < length atoms.now }
     ensures value { IfOk result (λ v. v.items ≡ without k atoms.now) }
     ensures shorter { IfOk result (λ v. length v.items + 1 ≡ length atoms.now) }
 {
-    let mut kept = Vec::new(alloc);
-    kept.extend_from_slice(&atoms[..k])?;
+    let mut kept = Vec::from_slice(alloc, &atoms[..k])?;
     kept.extend_from_slice(&atoms[k + 1..])?;
     Ok(kept)
-}
-
-/// The atoms in order without the one at a place.
-pub fn spatial_atoms_without(
-    alloc: Global,
-    atoms: &[Spatial],
-    k: usize,
-) -> Result<Vec<Spatial>, OutOfMemory>
-    requires { k < length atoms.now }
-    ensures value { IfOk result (λ v. v.items ≡ without k atoms.now) }
-    ensures shorter { IfOk result (λ v. length v.items + 1 ≡ length atoms.now) }
-{
-    let mut kept = Vec::new(alloc);
-    kept.extend_from_slice(&atoms[..k])?;
-    kept.extend_from_slice(&atoms[k + 1..])?;
-    Ok(kept)
-}
-
-/// A copy of the atoms.
-pub fn copy_pure_atoms(alloc: Global, atoms: &[Pure]) -> Result<Vec<Pure>, OutOfMemory>
-    ensures { IfOk result (λ v. v.items ≡ atoms.now) }
-{
-    let mut copy = Vec::new(alloc);
-    copy.extend_from_slice(atoms)?;
-    Ok(copy)
-}
-
-/// A copy of the atoms.
-pub fn copy_spatial_atoms(alloc: Global, atoms: &[Spatial]) -> Result<Vec<Spatial>, OutOfMemory>
-    ensures { IfOk result (λ v. v.items ≡ atoms.now) }
-{
-    let mut copy = Vec::new(alloc);
-    copy.extend_from_slice(atoms)?;
-    Ok(copy)
 }
 
 /// A list of one premise.
@@ -107,7 +72,7 @@ pub fn with_pure_atoms(
     requires { length pure.items ≤ 64 }
     ensures { IfOk result (λ p. p ≡ with_pures judgement.now pure.items) }
 {
-    let spatial = copy_spatial_atoms(alloc, antecedent(judgement).spatial())?;
+    let spatial = Vec::from_slice(alloc, antecedent(judgement).spatial())?;
     let pairs = pairs_of_same(alloc, antecedent(judgement).spatial())?;
     Ok(Premise {
         judgement: with_antecedent(judgement, Heap::from_lists(pure, spatial))?,
@@ -118,8 +83,7 @@ pub fn with_pure_atoms(
 fn pure_atoms_and(alloc: Global, atoms: &[Pure], atom: Pure) -> Result<Vec<Pure>, OutOfMemory>
     ensures { IfOk result (λ v. v.items ≡ atoms.now ++ atom ∷ []) }
 {
-    let mut all = Vec::new(alloc);
-    all.extend_from_slice(atoms)?;
+    let mut all = Vec::from_slice(alloc, atoms)?;
     all.push(atom)?;
     Ok(all)
 }

@@ -1,84 +1,21 @@
 // The limits that premises keep.
-ghost use Rattle.std.specs.Prelude.{◌≡◌, ◌≤◌, ◌<◌, true, ◌+◌, ◌&&◌, max, map, length, nat_le};
+ghost use Rattle.std.specs.Prelude.{◌≡◌, ◌≤◌, ◌<◌, true, ◌+◌, ◌&&◌, length, nat_le};
 ghost use Rattle.heap_formula.specs.Fresh.{fresh_number};
-ghost use Rattle.heap_formula.specs.Words.{max_of};
 ghost use Rattle.heap_formula.specs.declared.proof_rules.RuleFault.TheVariants.{NoFreshVariable};
-ghost use Rattle.rule_table.specs.Answer.{needs, every, is_short as short, has_numbers, each_heap, heaps_of, disjuncts, number_bound, terms_numbers, pure_numbers, spatial_numbers, heap_numbers};
+ghost use Rattle.rule_table.specs.Answer.{needs, every, is_short as short, has_numbers, each_heap, heaps_of, disjuncts};
 ghost use Rattle.rule_table.specs.Answered.{IsAnswer};
 ghost use Rattle.rule_table.specs.Table.{with_pure};
 ghost use Rattle.heap_formula.specs.Judgements.{antecedent};
 ghost use Rattle.heap_formula.specs.declared.atoms.Pure.{Pure};
 
 use heap_formula::{
-    Heap, Judgement, Premise, Pure, RuleError, RuleFault, Spatial, Term, bound_of_judgement,
+    Heap, Judgement, Premise, RuleError, RuleFault, Variables, bound_in_heap, bound_of_judgement,
 };
-
-fn of_term(term: Term) -> u32
-    ensures value { result ≡ number_bound term }
-    ensures fits { result ≤ 65536 }
-{
-    match term {
-        Term::Univ(n) | Term::Exist(n) => n as u32 + 1,
-        Term::Nil => 0,
-    }
-}
-
-fn of_terms(terms: &[Term]) -> u32
-    ensures value { result ≡ terms_numbers terms.now }
-    ensures fits { result ≤ 65536 }
-{
-    let mut most = 0;
-    for term in terms {
-        most = most.max(of_term(*term));
-    }
-    most
-}
-
-fn of_pure(atom: Pure) -> u32
-    ensures value { result ≡ pure_numbers atom }
-    ensures fits { result ≤ 65536 }
-{
-    match atom {
-        Pure::Eq(t, u) | Pure::Neq(t, u) => of_term(t).max(of_term(u)),
-    }
-}
-
-fn of_spatial(atom: &Spatial) -> u32
-    ensures value { result ≡ spatial_numbers atom.now }
-    ensures fits { result ≤ 65536 }
-{
-    match atom {
-        Spatial::Cell(t, args) => of_term(*t).max(of_terms(args.as_slice())),
-        Spatial::Pred(_, args) => of_terms(args.as_slice()),
-    }
-}
-
-fn of_pures(atoms: &[Pure]) -> u32
-    ensures value { result ≡ max_of (map pure_numbers atoms.now) }
-    ensures fits { result ≤ 65536 }
-{
-    let mut most = 0;
-    for atom in atoms {
-        most = most.max(of_pure(*atom));
-    }
-    most
-}
-
-fn of_spatials(atoms: &[Spatial]) -> u32
-    ensures value { result ≡ max_of (map spatial_numbers atoms.now) }
-    ensures fits { result ≤ 65536 }
-{
-    let mut most = 0;
-    for atom in atoms {
-        most = most.max(of_spatial(atom));
-    }
-    most
-}
 
 fn are_small(heap: &Heap) -> bool
     ensures { result ≡ has_numbers heap.now }
 {
-    of_pures(heap.pure()).max(of_spatials(heap.spatial())) <= 65535
+    bound_in_heap(Variables::All, heap) <= 65535
 }
 
 fn all_small(heaps: &[Heap]) -> bool

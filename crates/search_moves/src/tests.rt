@@ -12,7 +12,7 @@ use heap_formula::{
 };
 use pred_defs::Defs;
 use proof_graph::{Graph, GraphFault, PremisePairs};
-use rule_table::{copy_pure_atoms, same_term};
+use rule_table::same_term;
 use std::alloc::Global;
 use std::test::Fail;
 
@@ -396,7 +396,7 @@ fn atoms(alloc: Global, shapes: &[Shape]) -> Result<Vec<Spatial>, OutOfMemory> {
 
 // The empty heap, where there are too many atoms.
 fn heap(alloc: Global, made_of: HeapRow) -> Result<Heap, OutOfMemory> {
-    let pure = copy_pure_atoms(alloc, made_of.0)?;
+    let pure = Vec::from_slice(alloc, made_of.0)?;
     let spatial = atoms(alloc, made_of.1)?;
     if pure.len() > 64 || spatial.len() > 32 {
         return Ok(Heap::new(alloc));

@@ -15,10 +15,7 @@ use crate::cells::{FoundCell, cell_at, field_at, with_field};
 use crate::states::{allocated, assigned, at_line, only_at_line, with_atom};
 use cyc_memory::OutOfMemory;
 use heap_formula::{Command, Heap, Judgement, Premise, Pure, RuleError, RuleFault, Spatial, Term};
-use rule_table::{
-    copy_pure_atoms, copy_spatial_atoms, is_short, numbered, one_premise, pairs_of_kept,
-    two_premises,
-};
+use rule_table::{is_short, numbered, one_premise, pairs_of_kept, two_premises};
 use std::alloc::Global;
 
 /// What premises depend on besides the command and the state: the command's line, the number of a fresh variable, and
@@ -79,9 +76,9 @@ fn written(alloc: Global, a: &Heap, cell: &FoundCell, k: u8, u: Term) -> Result<
     requires place_in { cell.now.place < length a.now.spatial }
     ensures { IfOk result (λ h. h ≡ heap_with_field a.now (found_of cell.now) k u) }
 {
-    let mut spatial = copy_spatial_atoms(alloc, a.spatial())?;
+    let mut spatial = Vec::from_slice(alloc, a.spatial())?;
     spatial[cell.place] = Spatial::Cell(cell.address, with_field(&cell.fields, k, u));
-    Ok(Heap::from_lists(copy_pure_atoms(alloc, a.pure())?, spatial))
+    Ok(Heap::from_lists(Vec::from_slice(alloc, a.pure())?, spatial))
 }
 
 fn store(

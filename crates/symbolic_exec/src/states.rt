@@ -10,7 +10,7 @@ use cyc_memory::OutOfMemory;
 use heap_formula::{
     Args, Heap, Judgement, Premise, Pure, Spatial, Subst, Term, apply_to_heap, apply_to_term,
 };
-use rule_table::{copy_pure_atoms, copy_spatial_atoms, one_premise, pairs_of_same};
+use rule_table::{one_premise, pairs_of_same};
 use std::alloc::Global;
 
 /// The premise at a line with this state after `a`, whose atoms stay at their places.
@@ -41,18 +41,18 @@ pub fn with_atom(alloc: Global, a: &Heap, atom: Pure) -> Result<Heap, OutOfMemor
     requires { length a.now.pure < 64 }
     ensures { IfOk result (λ h. h ≡ heap_with_atom a.now atom) }
 {
-    let mut pure = copy_pure_atoms(alloc, a.pure())?;
+    let mut pure = Vec::from_slice(alloc, a.pure())?;
     pure.push(atom)?;
-    Ok(Heap::from_lists(pure, copy_spatial_atoms(alloc, a.spatial())?))
+    Ok(Heap::from_lists(pure, Vec::from_slice(alloc, a.spatial())?))
 }
 
 fn with_cell(alloc: Global, a: &Heap, x: u16, fields: Args) -> Result<Heap, OutOfMemory>
     requires { length a.now.spatial < 32 }
     ensures { IfOk result (λ h. h ≡ heap_with_cell a.now x fields) }
 {
-    let mut spatial = copy_spatial_atoms(alloc, a.spatial())?;
+    let mut spatial = Vec::from_slice(alloc, a.spatial())?;
     spatial.push(Spatial::Cell(Term::Univ(x), fields))?;
-    Ok(Heap::from_lists(copy_pure_atoms(alloc, a.pure())?, spatial))
+    Ok(Heap::from_lists(Vec::from_slice(alloc, a.pure())?, spatial))
 }
 
 // The number after the greatest stands for all that pass it.

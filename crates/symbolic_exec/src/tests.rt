@@ -279,7 +279,7 @@ fn atoms(alloc: Global, shapes: &[Shape]) -> Result<Vec<Spatial>, OutOfMemory> {
 }
 
 fn judgement(alloc: Global, row: Row) -> Result<Option<Judgement>, OutOfMemory> {
-    let pure = copy_pure_atoms(alloc, row.1)?;
+    let pure = Vec::from_slice(alloc, row.1)?;
     let spatial = atoms(alloc, row.2)?;
     if pure.len() > 64 || spatial.len() > 32 {
         return Ok(None);

@@ -20,8 +20,8 @@ use heap_formula::{
     Disjuncts, Heap, Judgement, Positions, Premise, RuleError, RuleFault, Spatial, bound_of_heap,
 };
 use rule_table::{
-    Change, antecedent, are_ascending, are_disjuncts_short, chosen_atoms, chosen_pairs,
-    copy_pure_atoms, fresh, numbered, two_premises, with_antecedent,
+    Change, antecedent, are_ascending, are_disjuncts_short, chosen_atoms, chosen_pairs, fresh,
+    numbered, two_premises, with_antecedent,
 };
 use std::alloc::Global;
 
@@ -35,7 +35,7 @@ fn left_premise(
 {
     let pairs = chosen_pairs(alloc, false, places, a.spatial())?;
     let spatial = chosen_atoms(alloc, false, places, a.spatial())?;
-    let pure = copy_pure_atoms(alloc, a.pure())?;
+    let pure = Vec::from_slice(alloc, a.pure())?;
     Ok(Premise {
         judgement: Judgement::Entail(
             Heap::from_lists(pure, spatial),

@@ -6,7 +6,7 @@ ghost use Rattle.unfold_rule.specs.Joining.{joined};
 
 use cyc_memory::OutOfMemory;
 use heap_formula::{Heap, Pure, Spatial};
-use rule_table::{Change, copy_pure_atoms, push_changed_pure, push_changed_spatial};
+use rule_table::{Change, push_changed_pure, push_changed_spatial};
 use std::alloc::Global;
 
 /// A heap of a copy of the pure atoms and of the spatial ones, followed by the formula's atoms with the change made.
@@ -22,7 +22,7 @@ pub fn joined_heap(
     requires spatial_fits { length first_spatial.items + length formula.now.spatial ≤ 32 }
     ensures { IfOk result (λ h. h ≡ joined first_pure.now first_spatial.items (in_heap (changed change.now) formula.now)) }
 {
-    let mut pure = copy_pure_atoms(alloc, first_pure)?;
+    let mut pure = Vec::from_slice(alloc, first_pure)?;
     push_changed_pure(&mut pure, change, formula.pure())?;
     let mut spatial = first_spatial;
     push_changed_spatial(&mut spatial, change, formula.spatial())?;

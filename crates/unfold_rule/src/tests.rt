@@ -7,7 +7,6 @@ use heap_formula::{
     RuleFault, Spatial, Term,
 };
 use pred_defs::Defs;
-use rule_table::{copy_pure_atoms, copy_spatial_atoms};
 use std::alloc::Global;
 use std::test::Fail;
 
@@ -23,16 +22,6 @@ fn list(t: Term) -> Spatial {
 
 fn cell(t: Term, u: Term) -> Spatial {
     Spatial::Cell(t, Args::from_slice(&[u]))
-}
-
-fn heap(alloc: Global, pure: &[Pure], spatial: &[Spatial]) -> Result<Heap, OutOfMemory>
-    requires pure_fits { length pure.now ≤ 64 }
-    requires spatial_fits { length spatial.now ≤ 32 }
-{
-    Ok(Heap::from_lists(
-        copy_pure_atoms(alloc, pure)?,
-        copy_spatial_atoms(alloc, spatial)?,
-    ))
 }
 
 fn entail(alloc: Global, a: Heap, b: Heap) -> Result<Judgement, OutOfMemory> {
@@ -77,15 +66,15 @@ fn lists(alloc: Global, most: u8) -> Result<Defs, Fail>
     requires { most ≤ 32 }
 {
     let mut defs = Defs::new(alloc, most);
-    let empty = heap(alloc, &[Pure::Eq(X, Term::Nil)], &[])?;
-    let longer = heap(alloc, &[], &[cell(X, E), list(E)])?;
+    let empty = Heap::from_slices(alloc, &[Pure::Eq(X, Term::Nil)], &[])?;
+    let longer = Heap::from_slices(alloc, &[], &[cell(X, E), list(E)])?;
     defs.push("list", 1, &[empty, longer])?;
     Ok(defs)
 }
 
 fn faults(alloc: Global, judgement: &Judgement) -> Result<Vec<Option<RuleFault>>, Fail> {
     let defs = lists(alloc, 16)?;
-    let formula = heap(alloc, &[], &[list(X), list(E)])?;
+    let formula = Heap::from_slices(alloc, &[], &[list(X), list(E)])?;
     let mut faults = Vec::new(alloc);
     faults.push(fault(premises_unfold(alloc, &defs, judgement, 2, 0)))?;
     faults.push(fault(premises_unfold(alloc, &defs, judgement, 2, 1)))?;
@@ -123,17 +112,23 @@ fn faults(alloc: Global, judgement: &Judgement) -> Result<Vec<Option<RuleFault>>
 #[test]
 fn faults_of_each_rule(rt: HostRuntime) -> Result<(), Fail> {
     let alloc = rt.alloc();
-    let runs = Judgement::Term(1, heap(alloc, &[], &[cell(X, Y), list(Term::Univ(65534))])?);
+    let runs = Judgement::Term(
+        1,
+        Heap::from_slices(alloc, &[], &[cell(X, Y), list(Term::Univ(65534))])?,
+    );
     let full = entail(
         alloc,
-        heap(alloc, &[], &[list(X); 16])?,
-        heap(alloc, &[], &[cell(X, Y), list(Term::Exist(65534))])?,
+        Heap::from_slices(alloc, &[], &[list(X); 16])?,
+        Heap::from_slices(alloc, &[], &[cell(X, Y), list(Term::Exist(65534))])?,
     )?;
     let two = Judgement::Entail(
-        heap(alloc, &[], &[list(X), list(Y)])?,
+        Heap::from_slices(alloc, &[], &[list(X), list(Y)])?,
         Disjuncts::from_slice(
             alloc,
-            &[Heap::new(alloc), heap(alloc, &[], &[list(X); 17])?],
+            &[
+                Heap::new(alloc),
+                Heap::from_slices(alloc, &[], &[list(X); 17])?,
+            ],
         )?,
     );
     let none = Some(RuleFault::NoSuchAtom);
@@ -175,16 +170,16 @@ fn to_far(alloc: Global, pure: &[Pure], spatial: &[Spatial]) -> Result<Judgement
     requires pure_fits { length pure.now ≤ 64 }
     requires spatial_fits { length spatial.now ≤ 32 }
 {
-    let far = heap(alloc, &[], &[list(Term::Univ(5))])?;
-    entail(alloc, heap(alloc, pure, spatial)?, far)
+    let far = Heap::from_slices(alloc, &[], &[list(Term::Univ(5))])?;
+    entail(alloc, Heap::from_slices(alloc, pure, spatial)?, far)
 }
 
 // An entailment from the list at `X`.
 fn from_list(alloc: Global, spatial: &[Spatial]) -> Result<Judgement, OutOfMemory>
     requires { length spatial.now ≤ 32 }
 {
-    let left = heap(alloc, &[], &[list(X)])?;
-    entail(alloc, left, heap(alloc, &[], spatial)?)
+    let left = Heap::from_slices(alloc, &[], &[list(X)])?;
+    entail(alloc, left, Heap::from_slices(alloc, &[], spatial)?)
 }
 
 fn whole(alloc: Global) -> Result<Judgement, OutOfMemory> {
@@ -252,17 +247,20 @@ fn premises_of_cut(rt: HostRuntime) -> Result<(), Fail> {
     let pure = Pure::Neq(X, Term::Nil);
     let far = list(Term::Univ(7));
     let opened = Term::Univ(8);
-    let runs = Judgement::Term(4, heap(alloc, &[pure], &[list(Y), cell(X, Y), list(X)])?);
-    let formula = heap(alloc, &[Pure::Neq(E, X)], &[far, list(E)])?;
+    let runs = Judgement::Term(
+        4,
+        Heap::from_slices(alloc, &[pure], &[list(Y), cell(X, Y), list(X)])?,
+    );
+    let formula = Heap::from_slices(alloc, &[Pure::Neq(E, X)], &[far, list(E)])?;
     let premises = premises_cut(alloc, &runs, 2, &positions(alloc, &[0, 1])?, &formula, 16)?;
     let left = entail(
         alloc,
-        heap(alloc, &[pure], &[list(Y), cell(X, Y)])?,
+        Heap::from_slices(alloc, &[pure], &[list(Y), cell(X, Y)])?,
         formula,
     )?;
     let right = Judgement::Term(
         4,
-        heap(
+        Heap::from_slices(
             alloc,
             &[pure, Pure::Neq(opened, X)],
             &[list(X), far, list(opened)],

@@ -17,7 +17,7 @@ use cyc_memory::OutOfMemory;
 use heap_formula::{Args, Heap, Judgement, Pair, Pairs, Premise, RuleError, RuleFault, Spatial};
 use pred_defs::Defs;
 use rule_table::{
-    Change, antecedent, are_disjuncts_short, fresh, numbered, pairs_of_kept, spatial_atoms_without,
+    Change, antecedent, are_disjuncts_short, atoms_without, fresh, numbered, pairs_of_kept,
     with_antecedent,
 };
 use std::alloc::Global;
@@ -76,7 +76,7 @@ fn unfolded_premise(
 {
     let a = antecedent(judgement);
     let _most = a.spatial().len();
-    let kept = spatial_atoms_without(alloc, a.spatial(), k)?;
+    let kept = atoms_without(alloc, a.spatial(), k)?;
     let pairs = unfolded_pairs(alloc, &kept, k, case.spatial())?;
     let heap = joined_heap(alloc, a.pure(), kept, change, case)?;
     Ok(Premise {

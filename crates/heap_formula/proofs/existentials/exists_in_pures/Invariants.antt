@@ -1,8 +1,0 @@
-use Rattle.std.proofs.Common.{◌≡◌, ◌≤◌, map, drop}
-use Rattle.std.specs.Prelude.{max}
-use Rattle.heap_formula.specs.Words.{max_of}
-use Rattle.heap_formula.specs.Fresh.{pure_exists}
-use Rattle.heap_formula.proofs.existentials.exists_in_pures.Given as goal
-
-abbrev pub invariant-loop-atom : goal.invariant-loop-atom
-invariant-loop-atom l = (l.most ≤ 65536) × (max l.most (max_of (map pure_exists (drop l.atom-index l.atoms))) ≡ max_of (map pure_exists l.atoms))
