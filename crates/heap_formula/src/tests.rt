@@ -1,7 +1,9 @@
 // The calls on a happy path, with ample memory.
 use crate::{
     Args, Atom, Disjuncts, Heap, HeapFault, Judgement, OutOfMemory, Pure, Spatial, Subst, Term,
-    apply, fresh_exist, fresh_univ, is_same_judgement, is_single, same_atom,
+    apply, apply_to_heap, apply_to_pure, apply_to_spatial, apply_to_term, bound_of_heap,
+    bound_of_judgement, exists_in_heap, fresh_exist, fresh_univ, is_same_judgement,
+    is_same_spatial, is_single, same_atom,
 };
 use std::alloc::Global;
 use std::test::Fail;
@@ -60,5 +62,64 @@ fn calls_answer(rt: HostRuntime) -> Result<(), Fail> {
     let left = Atom::Pure(Pure::Neq(Term::Nil, Term::Univ(1)));
     let right = Atom::Pure(Pure::Neq(Term::Univ(1), Term::Nil));
     assert!(rt; same_atom(&left, &right));
+    Ok(())
+}
+
+// A substitution's terms in a term, in an atom and in a heap; the first pair for a variable counts, and existentials stay.
+#[test]
+fn parts_take_terms(rt: HostRuntime) -> Result<(), Fail> {
+    let alloc = rt.alloc();
+    let mut pairs = Vec::new(alloc);
+    pairs.push((1, Term::Univ(7)))?;
+    pairs.push((3, Term::Nil))?;
+    pairs.push((3, Term::Univ(8)))?;
+    let subst = Subst::from_vec(pairs);
+    for (term, wanted) in [
+        (Term::Nil, Term::Nil),
+        (Term::Univ(0), Term::Univ(0)),
+        (Term::Univ(1), Term::Univ(7)),
+        (Term::Univ(3), Term::Nil),
+        (Term::Exist(1), Term::Exist(1)),
+    ] {
+        assert_eq!(rt; apply_to_term(term, &subst), wanted);
+    }
+    let pure = Pure::Neq(Term::Univ(1), Term::Univ(3));
+    assert_eq!(rt;
+        apply_to_pure(pure, &subst),
+        Pure::Neq(Term::Univ(7), Term::Nil)
+    );
+    let fields = Args::from_slice(&[Term::Univ(1), Term::Exist(3)]);
+    let cell = Spatial::Cell(Term::Univ(3), fields);
+    let moved = Args::from_slice(&[Term::Univ(7), Term::Exist(3)]);
+    let wanted = Spatial::Cell(Term::Nil, moved);
+    assert!(rt; is_same_spatial(&apply_to_spatial(&cell, &subst), &wanted));
+    assert!(rt; !is_same_spatial(&cell, &wanted));
+    let heap = apply_to_heap(alloc, &sample(alloc, Term::Univ(1))?, &subst)?;
+    let atoms = [
+        Spatial::Cell(Term::Univ(7), Args::from_slice(&[Term::Exist(0)])),
+        Spatial::Pred(0, Args::from_slice(&[Term::Nil])),
+    ];
+    assert!(rt; heap.pure() == [Pure::Eq(Term::Univ(0), Term::Nil)].as_slice());
+    assert!(rt; heap.spatial() == atoms.as_slice());
+    Ok(())
+}
+
+// The numbers after the greatest universal and the greatest existential variable of a heap and of a judgement.
+#[test]
+fn greatest_numbers_are_found(rt: HostRuntime) -> Result<(), Fail> {
+    let alloc = rt.alloc();
+    for (heap, universal, existential) in [
+        (Heap::new(alloc), 0, 0),
+        (sample(alloc, Term::Nil)?, 4, 1),
+        (sample(alloc, Term::Univ(9))?, 10, 1),
+        (sample(alloc, Term::Exist(65535))?, 4, 65536),
+    ] {
+        assert_eq!(rt; bound_of_heap(&heap), universal);
+        assert_eq!(rt; exists_in_heap(&heap), existential);
+        let right = Disjuncts::single(alloc, heap.clone()?)?;
+        let entailment = Judgement::Entail(Heap::new(alloc), right);
+        assert_eq!(rt; bound_of_judgement(&entailment), universal);
+        assert_eq!(rt; bound_of_judgement(&Judgement::Term(11, heap)), universal);
+    }
     Ok(())
 }
