@@ -67,30 +67,12 @@ pub fn push_goal(graph: &mut Graph, judgement: &Judgement) -> Result<u32, OutOfM
     }
 }
 
-fn copied_definitions(defs: &Defs) -> Result<Defs, OutOfMemory>
-    ensures { IfOk result (λ copy. copy ≡ defs.now) }
-{
-    Ok(defs.clone()?)
-}
-
-fn copied_program(program: &Program) -> Result<Program, OutOfMemory>
-    ensures { IfOk result (λ copy. copy ≡ program.now) }
-{
-    Ok(program.clone()?)
-}
-
-fn copied_judgement(judgement: &Judgement) -> Result<Judgement, OutOfMemory>
-    ensures { IfOk result (λ copy. copy ≡ judgement.now) }
-{
-    Ok(judgement.clone()?)
-}
-
 /// The goal that a derivation begins with.
 fn first_goal(alloc: Global, goal: &Judgement) -> Result<OpenGoal, OutOfMemory>
     ensures { IfOk result (λ g. g ≡ record { parent = 0; place = 0; depth = 1; premise = record { judgement = goal.now; pairs = [] } }) }
 {
     let premise = Premise {
-        judgement: copied_judgement(goal)?,
+        judgement: goal.clone()?,
         pairs: Pairs::new(alloc),
     };
     Ok(OpenGoal {
@@ -128,10 +110,13 @@ impl Derivation {
         let _ = push_goal(&mut graph, goal)?;
         let mut goals = Vec::new(alloc);
         goals.push(first_goal(alloc, goal)?)?;
+        let defs = defs.clone()?;
+        let program = program.clone()?;
+        let root = goal.clone()?;
         Ok(Derivation {
-            defs: copied_definitions(defs)?,
-            program: copied_program(program)?,
-            root: copied_judgement(goal)?,
+            defs,
+            program,
+            root,
             graph,
             made: Vec::new(alloc),
             goals,

@@ -1,8 +1,8 @@
 // The calls on a happy path, with ample memory.
 use crate::{
     Args, Atom, Disjuncts, Heap, HeapFault, Judgement, OutOfMemory, Pure, Spatial, Subst, Term,
-    apply, apply_to_heap, apply_to_pure, apply_to_spatial, apply_to_term, bound_of_heap,
-    bound_of_judgement, exists_in_heap, fresh_exist, fresh_univ, is_same_judgement,
+    Variables, apply, apply_to_heap, apply_to_pure, apply_to_spatial, apply_to_term, bound_in_heap,
+    bound_of_heap, bound_of_judgement, exists_in_heap, fresh_exist, fresh_univ, is_same_judgement,
     is_same_spatial, is_single, same_atom,
 };
 use std::alloc::Global;
@@ -108,12 +108,13 @@ fn parts_take_terms(rt: HostRuntime) -> Result<(), Fail> {
 #[test]
 fn greatest_numbers_are_found(rt: HostRuntime) -> Result<(), Fail> {
     let alloc = rt.alloc();
-    for (heap, universal, existential) in [
-        (Heap::new(alloc), 0, 0),
-        (sample(alloc, Term::Nil)?, 4, 1),
-        (sample(alloc, Term::Univ(9))?, 10, 1),
-        (sample(alloc, Term::Exist(65535))?, 4, 65536),
+    for (heap, universal, existential, either) in [
+        (Heap::new(alloc), 0, 0, 0),
+        (sample(alloc, Term::Nil)?, 4, 1, 4),
+        (sample(alloc, Term::Univ(9))?, 10, 1, 10),
+        (sample(alloc, Term::Exist(65535))?, 4, 65536, 65536),
     ] {
+        assert_eq!(rt; bound_in_heap(Variables::All, &heap), either);
         assert_eq!(rt; bound_of_heap(&heap), universal);
         assert_eq!(rt; exists_in_heap(&heap), existential);
         let right = Disjuncts::single(alloc, heap.clone()?)?;

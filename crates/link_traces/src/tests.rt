@@ -5,7 +5,6 @@ ghost use Rattle.std.specs.Prelude.{◌≡◌, ◌≤◌, length, IfOk};
 use crate::pairs_of_link;
 use cyc_memory::OutOfMemory;
 use heap_formula::{Args, Heap, Judgement, Link, Pair, Positions, Spatial, Subst, Term};
-use rule_table::copy_spatial_atoms;
 use std::alloc::Global;
 use std::test::Fail;
 
@@ -13,7 +12,7 @@ fn from(alloc: Global, atoms: &[Spatial]) -> Result<Judgement, OutOfMemory>
     requires { length atoms.now ≤ 32 }
     ensures { IfOk result (λ j. (antecedent_of j).spatial ≡ atoms.now) }
 {
-    let spatial = copy_spatial_atoms(alloc, atoms)?;
+    let spatial = Vec::from_slice(alloc, atoms)?;
     Ok(Judgement::Term(3, Heap::from_lists(Vec::new(alloc), spatial)))
 }
 

@@ -1,14 +1,12 @@
 // Each shared helper on a happy path, and at its limits.
 ghost use Rattle.rule_table.specs.Changes.{IsSmall};
-ghost use Rattle.std.specs.Prelude.{◌≤◌, length};
 
 use crate::{
-    Change, antecedent, are_ascending, are_disjuncts_short, are_short, changed_heap,
-    changed_spatial_atoms, chosen_atoms, chosen_pairs, copy_pure_atoms, copy_spatial_atoms,
-    equated, follows, fresh, has_pure, has_room, is_among, is_same_atom, is_short, is_universal,
-    is_universal_pure, is_universal_spatial, numbered, one_premise, pairs_of_kept, pairs_of_same,
-    pure_atoms_without, push_changed_pure, push_changed_spatial, same_pure, same_term,
-    spatial_atoms_without, two_premises, with_antecedent, with_disjunct, with_pure_atom,
+    Change, antecedent, are_ascending, are_disjuncts_short, are_short, atoms_without, changed_heap,
+    changed_spatial_atoms, chosen_atoms, chosen_pairs, equated, follows, fresh, has_pure, has_room,
+    is_among, is_same_atom, is_short, is_universal, is_universal_pure, is_universal_spatial,
+    numbered, one_premise, pairs_of_kept, pairs_of_same, push_changed_pure, push_changed_spatial,
+    same_pure, same_term, two_premises, with_antecedent, with_disjunct, with_pure_atom,
     with_pure_atoms,
 };
 use heap_formula::{
@@ -32,16 +30,6 @@ fn list(t: Term) -> Spatial {
 
 fn cell(t: Term, u: Term) -> Spatial {
     Spatial::Cell(t, Args::from_slice(&[u]))
-}
-
-fn heap(alloc: Global, pure: &[Pure], spatial: &[Spatial]) -> Result<Heap, OutOfMemory>
-    requires pure_fits { length pure.now ≤ 64 }
-    requires spatial_fits { length spatial.now ≤ 32 }
-{
-    Ok(Heap::from_lists(
-        copy_pure_atoms(alloc, pure)?,
-        copy_spatial_atoms(alloc, spatial)?,
-    ))
 }
 
 fn entail(alloc: Global, a: Heap, b: Heap) -> Result<Judgement, OutOfMemory> {
@@ -115,14 +103,12 @@ fn lists_of_atoms(rt: HostRuntime) -> Result<(), Fail> {
     let outside = [list(X), cell(Y, X)];
     let places = [0, 2];
     let found = [
-        copy_pure_atoms(alloc, &pure)?.as_slice() == pure.as_slice(),
-        copy_spatial_atoms(alloc, &atoms)?.as_slice() == atoms.as_slice(),
-        pure_atoms_without(alloc, &pure, 1)?.as_slice() == kept_pure.as_slice(),
-        spatial_atoms_without(alloc, &atoms, 1)?.as_slice() == kept_atoms.as_slice(),
+        atoms_without(alloc, &pure, 1)?.as_slice() == kept_pure.as_slice(),
+        atoms_without(alloc, &atoms, 1)?.as_slice() == kept_atoms.as_slice(),
         chosen_atoms(alloc, false, &places, &atoms)?.as_slice() == inside.as_slice(),
         chosen_atoms(alloc, true, &places, &atoms)?.as_slice() == outside.as_slice(),
     ];
-    assert_eq!(rt; found, [true; 6]);
+    assert_eq!(rt; found, [true; 4]);
     let of_same = [kept(1, 1), kept(2, 2)];
     let of_kept = [kept(2, 1)];
     let later = [kept(0, 0), kept(1, 1)];
@@ -139,7 +125,7 @@ fn lists_of_atoms(rt: HostRuntime) -> Result<(), Fail> {
 
 // The fault of a premise in which a universal variable has the number.
 fn fault_of_number(alloc: Global, number: u16) -> Result<Option<RuleFault>, OutOfMemory> {
-    let a = heap(alloc, &[Pure::Eq(X, X)], &[list(Term::Univ(number))])?;
+    let a = Heap::from_slices(alloc, &[Pure::Eq(X, X)], &[list(Term::Univ(number))])?;
     let premise = Premise {
         judgement: Judgement::Term(3, a),
         pairs: pairs_of_same(alloc, &[])?,
@@ -158,20 +144,20 @@ fn premises_and_limits(rt: HostRuntime) -> Result<(), Fail> {
     let equation = [Pure::Eq(X, Y)];
     let both = [Pure::Eq(X, Y), Pure::Neq(X, NIL)];
     let atoms = [cell(X, Y), list(Y)];
-    let a = heap(alloc, &equation, &atoms)?;
-    let b = heap(alloc, &[], &[list(X)])?;
+    let a = Heap::from_slices(alloc, &equation, &atoms)?;
+    let b = Heap::from_slices(alloc, &[], &[list(X)])?;
     let whole = entail(alloc, a.clone()?, b.clone()?)?;
-    let longer = entail(alloc, heap(alloc, &both, &atoms)?, b.clone()?)?;
+    let longer = entail(alloc, Heap::from_slices(alloc, &both, &atoms)?, b.clone()?)?;
     let right = entail(alloc, a.clone()?, Heap::new(alloc))?;
     let turned = entail(alloc, b.clone()?, b.clone()?)?;
     let runs = Judgement::Term(3, a.clone()?);
     let later = Judgement::Term(3, b.clone()?);
-    let full = Judgement::Term(3, heap(alloc, &[Pure::Eq(X, X); 64], &[])?);
+    let full = Judgement::Term(3, Heap::from_slices(alloc, &[Pure::Eq(X, X); 64], &[])?);
     if !has_room(&whole) {
         return Err("room".into());
     }
     let added = with_pure_atom(alloc, &whole, Pure::Neq(X, NIL))?;
-    let replaced = with_pure_atoms(alloc, &longer, copy_pure_atoms(alloc, &equation)?)?;
+    let replaced = with_pure_atoms(alloc, &longer, Vec::from_slice(alloc, &equation)?)?;
     let disjunct = with_disjunct(alloc, &a, Heap::new(alloc))?;
     let pairs = [kept(1, 1)];
     let found = [
@@ -219,15 +205,19 @@ fn makes(
 {
     let old_pure = [Pure::Eq(X, E), Pure::Neq(Y, NIL)];
     let old_spatial = [cell(Y, Term::Exist(1)), list(Term::Univ(2))];
-    let made = changed_heap(alloc, change, &heap(alloc, &old_pure, &old_spatial)?)?;
+    let made = changed_heap(
+        alloc,
+        change,
+        &Heap::from_slices(alloc, &old_pure, &old_spatial)?,
+    )?;
     let atoms = changed_spatial_atoms(alloc, change, &old_spatial)?;
-    let mut all_pure = copy_pure_atoms(alloc, &old_pure)?;
+    let mut all_pure = Vec::from_slice(alloc, &old_pure)?;
     push_changed_pure(&mut all_pure, change, &old_pure)?;
-    let mut wanted_pure = copy_pure_atoms(alloc, &old_pure)?;
+    let mut wanted_pure = Vec::from_slice(alloc, &old_pure)?;
     wanted_pure.extend_from_slice(pure)?;
-    let mut all_spatial = copy_spatial_atoms(alloc, &old_spatial)?;
+    let mut all_spatial = Vec::from_slice(alloc, &old_spatial)?;
     push_changed_spatial(&mut all_spatial, change, &old_spatial)?;
-    let mut wanted_spatial = copy_spatial_atoms(alloc, &old_spatial)?;
+    let mut wanted_spatial = Vec::from_slice(alloc, &old_spatial)?;
     wanted_spatial.extend_from_slice(spatial)?;
     Ok(
         made.pure() == pure

@@ -8,7 +8,6 @@ use heap_formula::{
     Args, Command, Disjuncts, Heap, Judgement, Pair, Premise, Pure, RuleError, RuleFault, Spatial,
     Term,
 };
-use rule_table::copy_pure_atoms;
 use std::alloc::Global;
 use std::test::Fail;
 

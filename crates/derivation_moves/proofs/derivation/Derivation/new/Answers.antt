@@ -10,10 +10,10 @@ use Rattle.derivation_moves.proofs.derivation.Derivation.new.Goals as goal
 pub returns-clause-order : goal.returns-clause-order
 returns-clause-order c =
     begun _
-    (subst (λ (d : _). IsSmallProblem (theory d c.in_ok-copied_program.field-0) c.in_ok-copied_judgement.field-0) (sym c.in_ok-copied_definitions.ensures)
-    (subst (λ (p : _). IsSmallProblem (theory c.args.defs.now p) c.in_ok-copied_judgement.field-0) (sym c.in_ok-copied_program.ensures)
-    (subst (λ (j : _). IsSmallProblem (theory c.args.defs.now c.args.program.now) j) (sym c.in_ok-copied_judgement.ensures) c.requires.problem)))
-    (subst (λ (d : _). Each IsSmall d.list) (sym c.in_ok-copied_definitions.ensures) c.requires.small)
+    (subst (λ (d : _). IsSmallProblem (theory d c.in_ok-program.program) c.in_ok-root.root) (sym c.in_ok-defs.ensures.cases)
+    (subst (λ (p : _). IsSmallProblem (theory c.args.defs.now p) c.in_ok-root.root) (sym c.in_ok-program.ensures.cases)
+    (subst (λ (j : _). IsSmallProblem (theory c.args.defs.now c.args.program.now) j) (sym c.in_ok-root.ensures.cases) c.requires.problem)))
+    (subst (λ (d : _). Each IsSmall d.list) (sym c.in_ok-defs.ensures.cases) c.requires.small)
     c.new.ensures.items
-    (c.in_ok-push.ensures.items ∙ (ap (λ (gs : _). gs ++ c.in_ok-first_goal.field-0 ∷ []) c.new-goals.ensures.items ∙ (ap (λ (g : _). g ∷ []) (c.in_ok-first_goal.ensures ∙ ap first_goal (sym c.in_ok-copied_judgement.ensures)))))
-    (c.in_ok-push_goal.ensures.pushed ∙ (ap (λ (ns : _). ns ++ open_node c.args.goal.now ∷ []) c.new-graph.ensures ∙ ap (λ (j : _). open_node j ∷ []) (sym c.in_ok-copied_judgement.ensures)))
+    (c.in_ok-push.ensures.items ∙ (ap (λ (gs : _). gs ++ c.in_ok-first_goal.field-0 ∷ []) c.new-goals.ensures.items ∙ (ap (λ (g : _). g ∷ []) (c.in_ok-first_goal.ensures ∙ ap first_goal (sym c.in_ok-root.ensures.cases)))))
+    (c.in_ok-push_goal.ensures.pushed ∙ (ap (λ (ns : _). ns ++ open_node c.args.goal.now ∷ []) c.new-graph.ensures ∙ ap (λ (j : _). open_node j ∷ []) (sym c.in_ok-root.ensures.cases)))

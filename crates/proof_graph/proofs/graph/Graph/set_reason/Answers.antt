@@ -10,5 +10,5 @@ returns-clause-replaced c =
     let made : c.in_ok-premises.premises ≡ premises_of (first_slot c.args.reason.now) c.args.pairs.now = c.in_ok-premises.ensures ∙ (λ k. premises_of (c.first_slot.ensures k) (c.as_slice.ensures k)) in
     set_changed (with_reason c.args.reason.now c.args.pairs.now) c.self.inside.nodes.items c.args.node c.index_mut-place.result.now _
     (slice_get_read c.self.inside.nodes.items (length c.self.inside.nodes.items) c.args.node c.index_mut-place.result.now refl (omega (arith, c.requires, ap length c.self.view_is)) c.index_mut-place.ensures.value)
-    (λ k. record { judgement = c.index_mut-place.result.now.judgement; reason = Some (c.in_ok-reason.ensures k); premises = made k })
+    (λ k. record { judgement = c.index_mut-place.result.now.judgement; reason = Some (c.in_ok-reason.ensures.cases k); premises = made k })
     ∙ ap (λ xs. changed_at (with_reason c.args.reason.now c.args.pairs.now) xs c.args.node) c.self.view_is
