@@ -3,7 +3,7 @@ use Rattle.std.proofs.Common.{◌≡◌, ℕ, zero, suc, ◌+◌, ◌<◌, Bool,
 use Rattle.std.specs.Prelude.{slice_get, nat_eq, nat_le}
 use Rattle.std.specs.List.{list_all}
 use Rattle.std.proofs.lemmas.List.{append-nil}
-use Rattle.std.proofs.lemmas.Bool.{cases_lt, leb-false}
+use Rattle.std.proofs.lemmas.Bool.{leb-false}
 use Rattle.std.proofs.lemmas.Bool.Decides.{Decides-eqb}
 use Rattle.std.proofs.lemmas.Option.{slice_get_within}
 use Rattle.heap_formula.specs.declared.terms.Term.{Term}
@@ -15,7 +15,6 @@ use Rattle.heap_formula.specs.declared.atoms.Spatial.TheVariants.{Cell, Pred}
 use Rattle.heap_formula.specs.declared.judgements.Judgement.{Judgement}
 use Rattle.heap_formula.specs.declared.judgements.Judgement.TheVariants.{Entail, Term as Runs}
 use Rattle.heap_formula.specs.declared.proof_rules.Link.{Link}
-use Rattle.heap_formula.specs.declared.proof_rules.RuleFault.{RuleFault}
 use Rattle.heap_formula.specs.declared.proof_rules.RuleFault.TheVariants.{LineDiffers, LinkProgramVariable, LinkPure, LinkSpatial, LinkDisjunct}
 use Rattle.heap_formula.specs.Symbolic.{SymbolicHeap}
 use Rattle.heap_formula.specs.Words.{OneOf}
@@ -25,27 +24,11 @@ use Rattle.rule_table.specs.Answer.{disjuncts}
 use Rattle.rule_table.specs.Tests.{same_term, equated, follows, has_number}
 use Rattle.rule_table.specs.LinkTable.{first_of, fault_unless, keeps_below, pure_fault, all_equated, matches, matches_some, spatial_fault, covers_some, disjunct_fault, parts_fault, link_fault}
 use Rattle.rule_table.proofs.LinkRule.{none_of_two, no_fault}
-use Rattle.rule_table.proofs.Reflects.{both, same_term_is}
+use Rattle.rule_table.proofs.Reflects.{both, and_true as both_true}
 use Rattle.back_links.specs.Listing.{value_choices, stands_in_spatial}
 use Rattle.back_links.specs.Prospects.{lookup, known, could_equal, could_equal_all, could_match, could_match_some, could_match_all, both_known, known_pure, could_follow, could_keep, kept_variables, could_link, has_value, have_values, are_alike, has_cover, have_covers}
 use Rattle.back_links.proofs.Selecting.{IsSelection, every_true, any_true, any_in_range}
-
-both_true : (a b : Bool) → a ≡ true → b ≡ true → a && b ≡ true
-both_true true b p q = q
-both_true false b p q = p
-
-pub cond_none : (b : Bool) (rest : Option RuleFault) (f : RuleFault) → cond b rest (Some f) ≡ None → (b ≡ true) × (rest ≡ None)
-cond_none true rest f e = (refl, e)
-cond_none false rest f e = cc
-
-pub kept_below : (s : Bindings) (p : ℕ) → keeps_below s p ≡ true → (v : ℕ) → v < p → image s v ≡ Univ v
-kept_below s zero e v lt = absurd (omega arith)
-kept_below s (suc p) e v lt =
-    let b = both (same_term (image s p) (Univ p)) (keeps_below s p) e in
-    elim (cases_lt v p) [
-      | inl below ↦ kept_below s p b.1 v below
-      | inr le ↦ let q : p ≡ v = omega arith in subst (λ m. image s m ≡ Univ m) q (same_term_is (image s p) (Univ p) b.0)
-    ]
+pub use Rattle.rule_table.proofs.LinkRule.{cond_none, kept_below}
 
 -- the pairs say of a variable what the whole substitution says
 abbrev pub Agrees : Bindings → Bindings → Type 0

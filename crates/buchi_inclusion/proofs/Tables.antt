@@ -1,5 +1,5 @@
 -- The table of the product: it has each move, all reachable states, and what a search over it visits.
-use Rattle.std.proofs.Common.{◌≡◌, ℕ, zero, suc, ◌<◌, ◌≤◌, ◌⊎◌, inl, inr, List, [], ◌∷◌, Bool, true, false, not, arith, Some, None, slice_get, length, map, sym, refl, ap, ◌∙◌, subst, Vec, Global, le_refl}
+use Rattle.std.proofs.Common.{◌≡◌, ℕ, zero, suc, ◌<◌, ◌≤◌, ◌⊎◌, inl, inr, List, [], ◌∷◌, Bool, true, false, not, arith, Some, slice_get, length, sym, refl, ap, ◌∙◌, subst, Vec, Global, le_refl}
 use Rattle.std.proofs.lemmas.Bool.{both_ways}
 use Rattle.std.proofs.lemmas.Option.{slice_get_within}
 use Rattle.trace_pairs.specs.Graph.{Node, Edge, IsEdge, IsGraph}
@@ -15,25 +15,8 @@ use Rattle.buchi_inclusion.specs.Table.{IsStep, IsTable}
 use Rattle.buchi_inclusion.specs.Decision.{IsAtLeast, class_row, class_rows, lists_of, IsClass, IsWay, AreWays, IsNoWay}
 use Rattle.buchi_inclusion.specs.Ranks.{rank_at, IsRising}
 use Rattle.buchi_inclusion.proofs.Runs.{edge_one}
-
-pub record MapAt {X Y : Type 0} (f : X → Y) (xs : List X) (i : ℕ) (y : Y) : Type 0 where
-  pub x : X
-  pub is_x : slice_get xs i ≡ Some x
-  pub value : f x ≡ y
-
-pub map_at : {X Y : Type 0} (f : X → Y) (xs : List X) (i : ℕ) (y : Y) → slice_get (map f xs) i ≡ Some y → MapAt f xs i y
-map_at f [] i y h = absurd (let e : None ≡ Some y = h in cc)
-map_at f (x ∷ xs) zero y h = let e : Some (f x) ≡ Some y = h in let e' : f x ≡ y = cc in record { x = x; is_x = refl; value = e' }
-map_at f (x ∷ xs) (suc i) y h = let r = map_at f xs i y h in record { x = r.x; is_x = r.is_x; value = r.value }
-
-pub at_map : {X Y : Type 0} (f : X → Y) (xs : List X) (i : ℕ) (x : X) → slice_get xs i ≡ Some x → slice_get (map f xs) i ≡ Some (f x)
-at_map f [] i x h = absurd (let e : None ≡ Some x = h in cc)
-at_map f (y ∷ xs) zero x h = let e : Some y ≡ Some x = h in let e' : y ≡ x = cc in ap (λ z. Some (f z)) e'
-at_map f (y ∷ xs) (suc i) x h = at_map f xs i x h
-
-map_length : {X Y : Type 0} (f : X → Y) (xs : List X) → length (map f xs) ≡ length xs
-map_length f [] = refl
-map_length f (x ∷ xs) = ap suc (map_length f xs)
+use Rattle.position_sets.proofs.Lists.{map_length}
+pub use Rattle.position_sets.proofs.Lists.{MapAt, map_at, at_map}
 
 module _ (least : Event) (rows : List (Vec Transition Global)) (table : List (Vec (ℕ × Bool) Global)) (class : IsClass least rows table) where
   pub class_length : length table ≡ length rows

@@ -16,10 +16,10 @@ pub record Listed {X : Type 0} (xs : List X) (x : X) : Type 0 where
   pub place : ℕ
   pub is_x : slice_get xs place ≡ Some x
 
-listed_left : {X : Type 0} (xs ys : List X) (x : X) → Listed xs x → Listed (xs ++ ys) x
+pub listed_left : {X : Type 0} (xs ys : List X) (x : X) → Listed xs x → Listed (xs ++ ys) x
 listed_left xs ys x l = record { place = l.place; is_x = get_append_left xs ys l.place x l.is_x }
 
-listed_right : {X : Type 0} (xs ys : List X) (x : X) → Listed ys x → Listed (xs ++ ys) x
+pub listed_right : {X : Type 0} (xs ys : List X) (x : X) → Listed ys x → Listed (xs ++ ys) x
 listed_right xs ys x l = record { place = length xs + l.place; is_x = get_append_right xs ys l.place (length xs + l.place) refl ∙ l.is_x }
 
 listed_map : {X Y : Type 0} (f : X → Y) (xs : List X) (x : X) → Listed xs x → Listed (map f xs) (f x)

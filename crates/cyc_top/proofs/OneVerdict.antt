@@ -1,5 +1,5 @@
 -- The verdicts on a file end a check in one way.
-use Rattle.std.proofs.Common.{◌≡◌, ℕ, Option, Some, None, refl, sym, ap, subst, ◌∙◌}
+use Rattle.std.proofs.Common.{◌≡◌, ℕ, refl, sym, ap, subst, ◌∙◌}
 use Rattle.heap_formula.specs.declared.proof_rules.RuleFault.{RuleFault}
 use Rattle.trace_pairs.specs.Lasso.{AllProgress}
 use Rattle.buchi_inclusion.specs.Answers.{HasAtMost}
@@ -11,6 +11,7 @@ use Rattle.proof_check.specs.declared.verdict.Verdict.TheVariants.{Accepted, Rul
 use Rattle.proof_check.specs.Files.{AreRight, graph_of, nodes_of}
 use Rattle.proof_check.specs.Verdicts.{file_graph, state_limit, HasRightNodes, IsLeastFault, IsVerdict}
 use Rattle.cyc_top.specs.Answers.{verdict_status}
+use Rattle.proof_check.proofs.OneAnswer.{none_some}
 
 pub same_back : (f g : ProofFile) → AreSame f g → AreSame g f
 same_back f g same =
@@ -31,10 +32,6 @@ same_right f g same right =
     (subst (λ lines. AreRight g.defs.most g.defs.list lines (nodes_of f.nodes)) same.program
     (subst (λ ds. AreRight g.defs.most ds f.program (nodes_of f.nodes)) same.definitions
     (subst (λ most. AreRight most f.defs.list f.program (nodes_of f.nodes)) same.most right)))
-
-none_some : (x : RuleFault) (fault : Option RuleFault) → fault ≡ None → fault ≡ Some x → ⊥
-none_some x None none some = cc
-none_some x (Some y) none some = cc
 
 -- where all nodes are right none is faulty
 pub right_faulty : (f g : ProofFile) (v : ℕ) (fault : RuleFault) → AreSame f g → HasRightNodes f → IsLeastFault g v fault → ⊥

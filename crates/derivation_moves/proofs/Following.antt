@@ -1,5 +1,5 @@
 -- What the moves tell of the search.
-use Rattle.std.proofs.Common.{◌≡◌, ℕ, ◌+◌, ◌-◌, ◌<◌, inl, inr, Bool, true, false, ◌&&◌, ◌||◌, List, [], ◌∷◌, ◌++◌, map, reverse, Option, Some, None, slice_get, length, length-append, eqb-true, arith, refl, sym, ap, subst, ◌∙◌}
+use Rattle.std.proofs.Common.{◌≡◌, ℕ, ◌+◌, ◌-◌, ◌<◌, inl, inr, Bool, true, ◌&&◌, ◌||◌, List, [], ◌∷◌, ◌++◌, map, reverse, Option, Some, None, slice_get, length, length-append, eqb-true, arith, refl, sym, ap, subst, ◌∙◌}
 use Rattle.std.specs.Prelude.{nat_eq, nat_lt, nat_le, Result, Ok, Err, OnOk}
 use Rattle.std.proofs.lemmas.Bool.{cases_Bool}
 use Rattle.std.proofs.lemmas.List.{length-map, length-reverse}
@@ -40,6 +40,7 @@ use Rattle.derivation_moves.proofs.Shows.{HasNext, last_of, next_goal}
 use Rattle.derivation_moves.specs.Effects.{IsEffect}
 use Rattle.derivation_moves.specs.Fares.{GraphFares}
 use Rattle.derivation_moves.specs.Derivations.{theory_in, nodes_in, goals_in, reasons_in, graph_with, tableau_in, IsInOrder, IsItsSearch}
+use Rattle.tableaux.proofs.Found.{nil_is}
 
 pub record HasEffect (s : Derivation) (r : Reason) (e : Effect) : Type 0 where
   pub goal : OpenGoal
@@ -122,10 +123,6 @@ module _ (s : Derivation) (r : Reason) (e : Effect) (order : IsInOrder s) (has :
       by TooManyStates h = ap (on_graph _) stepped ∙ h
 
 -- ---- a derivation without open goals
-
-nil_is : {X : Type 0} (xs : List X) → is_nil xs ≡ true → xs ≡ []
-nil_is [] h = refl
-nil_is (x ∷ xs) h = absurd (let e : false ≡ true = h in cc)
 
 module _ (s : Derivation) (order : IsInOrder s) (complete : (system : System Reason) → IsItsSearch s system → system.complete (reasons_in s) ≡ true) where
   pub closed : goals_in s ≡ []

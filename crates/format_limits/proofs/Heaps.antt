@@ -1,5 +1,5 @@
 -- A heap within the limits: how long its lists are, the numbers of its terms, and the shapes of its spatial atoms.
-use Rattle.std.proofs.Common.{◌≡◌, ℕ, zero, suc, ◌≤◌, Bool, true, false, ◌&&◌, List, [], ◌∷◌, map, length, Option, Some, None, refl, sym, subst, arith, leb-true, le-leb}
+use Rattle.std.proofs.Common.{◌≡◌, ℕ, zero, suc, ◌≤◌, Bool, true, false, List, [], ◌∷◌, map, length, Option, Some, None, refl, sym, subst, arith, leb-true, le-leb}
 use Rattle.std.proofs.lemmas.List.{length-map}
 use Rattle.std.specs.Prelude.{nat_le, slice_get, slice_set}
 use Rattle.heap_formula.specs.declared.terms.Term.{Term}
@@ -16,7 +16,7 @@ use Rattle.heap_formula.specs.Words.{Each, max_of}
 use Rattle.pred_defs.specs.Faults.{or_later, first_fault, use_fault, arity_fault}
 use Rattle.pred_defs.specs.declared.faults.DefFault.{DefFault}
 use Rattle.rule_table.specs.Answer.{number_bound, pure_numbers, spatial_numbers, heap_numbers, is_short, has_numbers}
-use Rattle.rule_table.proofs.Reflects.{both}
+use Rattle.rule_table.proofs.Reflects.{both, and_true as both_true}
 use Rattle.format_limits.specs.Limits.{HasFields, IsHeapWithin}
 
 -- ---- lists
@@ -146,10 +146,6 @@ short_pures most a e =
 pub short_spatials : (most : ℕ) (a : SymbolicHeap) → is_short most a ≡ true → length a.spatial ≤ most
 short_spatials most a e =
     leb-true (length a.spatial) most (both (nat_le (length a.pure) 64) (nat_le (length a.spatial) most) e).1
-
-both_true : (p q : Bool) → p ≡ true → q ≡ true → p && q ≡ true
-both_true true q d e = e
-both_true false q d e = d
 
 pub small : (ds : List Definition) (a : SymbolicHeap) → IsHeapWithin ds a → IsSmall ds a
 small ds a h =

@@ -19,10 +19,7 @@ use Rattle.found_files.specs.Found.{IsWithinLimits}
 use Rattle.found_files.proofs.Fair.{Occurs, Allows, answer_within}
 use Rattle.found_files.proofs.Made.{LeadsToPremise, IsBy, AllMade}
 use Rattle.found_files.proofs.Rows.{file_node_at}
-
-each_from : {X : Type 0} (P : X → Type 0) (xs : List X) → ((i : ℕ) (x : X) → slice_get xs i ≡ Some x → P x) → Each P xs
-each_from P [] each = tt
-each_from P (x ∷ xs) each = (each 0 x refl, each_from P xs (λ i y at. each (suc i) y at))
+use Rattle.heap_formula.proofs.Members.{each_from}
 
 targets_short : (nodes : List MadeNode) (v : ℕ) (ps : List Premise) (es : List Edge) → length nodes ≤ 20000 → length es ≡ length ps → ((k : ℕ) (p : Premise) (e : Edge) → slice_get ps k ≡ Some p → slice_get es k ≡ Some e → LeadsToPremise nodes v p e) →
     Each IsShortNumber (map (λ (e : Edge). e.target) es)

@@ -1,5 +1,5 @@
 -- A tree map's entries as a finite map, and what keeps it a heap.
-use Rattle.std.proofs.Common.{◌≡◌, ℕ, ◌<◌, Bool, true, false, cond, ◌&&◌, ◌⊎◌, inl, inr, T, List, [], ◌∷◌, ◌++◌, length, Option, Some, None, refl, sym, ap, subst, ◌∙◌, arith}
+use Rattle.std.proofs.Common.{◌≡◌, ℕ, ◌<◌, Bool, true, false, cond, ◌&&◌, ◌⊎◌, inl, inr, T, List, [], ◌∷◌, length, Option, Some, None, refl, sym, ap, subst, ◌∙◌, arith}
 use Rattle.std.specs.Prelude.{MatchOption, max}
 use Rattle.std.specs.Option.{option_copied}
 use Rattle.std.specs.Borrow.{Bor}
@@ -11,9 +11,9 @@ use Rattle.std.specs.Cmp.{nat_cmp_total, eq_by_cmp_equiv}
 use Rattle.std.specs.FinMap.{entries, get, find, empty, from_entries, insert, remove, get-empty, get-from_entries, get-from_sorted, entries-from_sorted, get-insert, get-remove, same_map, nat_cmp-IsAntisymmetric}
 use Rattle.std.specs.FinMap.Entries.{below_all, is_sorted}
 use Rattle.std.specs.Map.{lookup, keys_of}
-use Rattle.heap_formula.specs.Words.{max_of}
 use Rattle.heap_formula.specs.Cells.{Cells, cell_at, IsHeap}
 use Rattle.heap_formula.proofs.Insertions.{same_address}
+pub use Rattle.heap_formula.proofs.StepLaws.{max_of-append}
 
 pub find-lookup : {X : Type 0} (q : ℕ) (es : List (ℕ × X)) → find nat_cmp q es ≡ lookup (λ k. is_eq (nat_cmp q k)) es
 find-lookup q [] = refl
@@ -94,10 +94,6 @@ pub entries_are : {X : Type 0} (es : List (ℕ × X)) → IsStrictlySortedBy nat
 entries_are es h =
     let s = sorted_is es h in
     ap entries (same_map nat_cmp_total nat_cmp-IsAntisymmetric _ _ (λ q. get-from_entries nat_cmp_total es q ∙ sym (get-from_sorted nat_cmp es q s))) ∙ entries-from_sorted nat_cmp es s
-
-pub max_of-append : (xs ys : List ℕ) → max_of (xs ++ ys) ≡ max (max_of xs) (max_of ys)
-max_of-append [] ys = omega arith
-max_of-append (x ∷ xs) ys = let r = max_of-append xs ys in omega arith
 
 -- one entry more
 pub greatest_step : (most address fields rest left all one two : ℕ) → max most left ≡ all → left ≡ max address (max fields rest) → one ≡ max most address → two ≡ max one fields → max two rest ≡ all

@@ -36,12 +36,9 @@ use Rattle.problem_files.proofs.Lists.{many_fit, none_later, all_true}
 use Rattle.problem_files.proofs.Names.{HaveFreeNames, HaveOwnNames, few_parameters, heads_of}
 use Rattle.problem_files.proofs.Terms.{IsFlawless}
 use Rattle.problem_files.proofs.Heaps.{in_heap_both, heaps_fit, heaps_flawless}
+use Rattle.heap_formula.proofs.Members.{each_from as each_at}
 
 -- ---- the trees fit
-
-each_at : {X : Type 0} (P : X → Type 0) (xs : List X) → ((i : ℕ) (x : X) → slice_get xs i ≡ Some x → P x) → Each P xs
-each_at P [] h = tt
-each_at P (x ∷ xs) h = (h 0 x refl, each_at P xs (λ i y at. h (suc i) y at))
 
 case_heaps : (ds : List Definition) (arity : ℕ) (cs : List SymbolicHeap) → Each (IsCaseWithin ds arity) cs → Each (IsHeapWithin ds) cs
 case_heaps ds arity cs w = each_of (IsCaseWithin ds arity) (IsHeapWithin ds) (λ c x. x.heap) cs w

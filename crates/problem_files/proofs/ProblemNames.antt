@@ -1,5 +1,5 @@
 -- The predicates of a problem without a flaw have names of their own.
-use Rattle.std.proofs.Common.{◌≡◌, ℕ, zero, suc, ◌+◌, ◌<◌, Bool, true, false, List, [], ◌∷◌, length, map, take, Option, Some, None, refl, sym, ap, ◌∙◌, subst, arith}
+use Rattle.std.proofs.Common.{◌≡◌, ℕ, zero, suc, ◌+◌, ◌<◌, Bool, true, false, List, [], ◌∷◌, length, map, take, Some, None, refl, sym, ap, ◌∙◌, subst, arith}
 use Rattle.std.specs.Prelude.{nat_le, is_some, slice_get, if◌then◌else◌}
 use Rattle.std.specs.Str.{bytes_eq}
 use Rattle.std.proofs.lemmas.Slice.Eq.{bytes_eq-Decides}
@@ -7,37 +7,20 @@ use Rattle.heap_formula.specs.Definitions.{Definition as DefinitionValue}
 use Rattle.cyc_lex.specs.declared.fault.What.TheVariants.{Predicates}
 use Rattle.cyc_lex.specs.declared.fault.IllFault.TheVariants.{Duplicate}
 use Rattle.heap_reader.specs.Trees.{Heading}
-use Rattle.heap_reader.specs.Flaws.{Found, ill_if, over_if, or_later, listed_flaw, arity_in}
+use Rattle.heap_reader.specs.Flaws.{ill_if, over_if, or_later, arity_in}
 use Rattle.heap_reader.proofs.NoFlaw.{neither, not_ill}
 use Rattle.name_numbers.specs.Numbered.{Definition}
 use Rattle.formula_reader.specs.Spans.{parameters_span, definition_span}
 use Rattle.formula_reader.specs.Flaws.{headings, parameters_flaw, head_flaw, cases_flaw, definition_flaw, definitions_flaw}
 use Rattle.formula_reader.specs.Values.{definition_value}
 use Rattle.problem_files.proofs.Names.{HaveOwnNames}
+use Rattle.proof_file.proofs.ValuesAgain.{flaw_at as flawless_at, none_of as is_none}
 
 -- a member of a mapped list is the value of one
 of_member : {X Y : Type 0} (f : X → Y) (xs : List X) (n : ℕ) (y : Y) → slice_get (map f xs) n ≡ Some y → (x : X) × (slice_get xs n ≡ Some x) × (f x ≡ y)
 of_member f [] n y e = absurd cc
 of_member f (x ∷ xs) zero y e = let same : f x ≡ y = cc in (x, refl, same)
 of_member f (x ∷ xs) (suc n) y e = of_member f xs n y e
-
--- a member of a list without a flaw has none
-flawless_at : {X : Type 0} (flaw : ℕ → ℕ → X → Found) (span : X → ℕ) (n k : ℕ) (xs : List X) (p : ℕ) (x : X) → slice_get xs p ≡ Some x → listed_flaw flaw span n k xs ≡ None → (j : ℕ) × (flaw (n + p) j x ≡ None)
-flawless_at flaw span n k [] p x at none = absurd cc
-flawless_at flaw span n k (y ∷ ys) zero x at none =
-    let parts = neither (flaw n k y) (listed_flaw flaw span (suc n) (k + span y) ys) none in
-    let same : y ≡ x = cc in
-    let here : n ≡ n + 0 = omega arith in
-    (k, subst (λ z. flaw (n + 0) k z ≡ None) same (subst (λ (m : ℕ). flaw m k y ≡ None) here parts.0))
-flawless_at flaw span n k (y ∷ ys) (suc p) x at none =
-    let parts = neither (flaw n k y) (listed_flaw flaw span (suc n) (k + span y) ys) none in
-    let rest = flawless_at flaw span (suc n) (k + span y) ys p x at parts.1 in
-    let here : suc n + p ≡ n + suc p = omega arith in
-    (rest.0, subst (λ (m : ℕ). flaw m rest.0 x ≡ None) here rest.1)
-
-is_none : {X : Type 0} (o : Option X) → is_some o ≡ false → o ≡ None
-is_none None e = refl
-is_none (Some x) e = absurd cc
 
 -- no definition before has the name
 is_new : (hs : List Heading) (n k : ℕ) (d : Definition) → definition_flaw hs n k d ≡ None → arity_in (take n hs) d.name ≡ None

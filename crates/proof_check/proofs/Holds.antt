@@ -1,11 +1,8 @@
 -- A correct file's first judgement holds.
-use Rattle.std.proofs.Common.{◌≡◌, ℕ, zero, suc, ◌+◌, ◌<◌, ◌≤◌, Bool, true, false, ◌||◌, List, [], ◌∷◌, map, length, Option, Some, None, refl, sym, ap, ◌∙◌, subst, arith}
+use Rattle.std.proofs.Common.{◌≡◌, ℕ, zero, suc, ◌<◌, ◌≤◌, Bool, true, false, List, [], ◌∷◌, map, length, Option, Some, None, refl, sym, ap, ◌∙◌, subst, arith}
 use Rattle.std.specs.Prelude.{Ok, Err, slice_get, nat_eq, nat_lt}
 use Rattle.std.proofs.lemmas.List.{length-map}
 use Rattle.std.proofs.lemmas.Option.{slice_get_within}
-use Rattle.std.proofs.lemmas.Bool.Decides.{Decides-eqb}
-use Rattle.heap_formula.specs.declared.atoms.Spatial.{Spatial}
-use Rattle.heap_formula.specs.declared.atoms.Spatial.TheVariants.{Cell, Pred}
 use Rattle.heap_formula.specs.declared.commands.Command.{Command}
 use Rattle.heap_formula.specs.declared.judgements.Judgement.{Judgement}
 use Rattle.heap_formula.specs.declared.judgements.Pair.{Pair}
@@ -30,65 +27,21 @@ use Rattle.rule_table.proofs.AllFit.{rule_fits, link_fits}
 use Rattle.rule_table.proofs.RightNodes.{found_same, node_holds}
 use Rattle.trace_pairs.specs.Graph.{Node as GraphNode, Edge as GraphEdge, Pair as GraphPair, Falls, IsLocal, TargetsAreNodes, has, PairsFit as GraphFits, IsPositionSet, HasPositionSets, HasFewEdges, IsGraph}
 use Rattle.trace_pairs.specs.Lasso.{AllProgress}
-use Rattle.proof_graph.specs.Traces.{predicate_places, trace_pair}
+use Rattle.proof_graph.specs.Traces.{trace_pair}
 use Rattle.buchi_inclusion.proofs.Exact.{descends_by_lassos}
 use Rattle.proof_check.proofs.FewEdges.{few_edges}
 use Rattle.proof_check.specs.Files.{graph_edge, graph_node, graph_of, AreRight, AreReadable, HasFewCases, HavePositionSets}
+pub use Rattle.proof_graph.proofs.Joined.{Mapped, mapped_at}
+pub use Rattle.position_sets.proofs.Lists.{at_map as at_mapped, get_within as some_at}
+use Rattle.heap_formula.proofs.Members.{each_from}
+use Rattle.proof_graph.proofs.Places.{place_of}
 
--- ---- what a look-up in a mapped list gives
-
-pub record Mapped {X Y : Type 0} (f : X → Y) (xs : List X) (k : ℕ) (y : Y) : Type 0 where
-  pub from : X
-  pub at : slice_get xs k ≡ Some from
-  pub is : f from ≡ y
-
-pub mapped_at : {X Y : Type 0} (f : X → Y) (xs : List X) (k : ℕ) (y : Y) → slice_get (map f xs) k ≡ Some y → Mapped f xs k y
-mapped_at f [] k y e = cc
-mapped_at f (x ∷ xs) zero y e = let same : f x ≡ y = cc in record { from = x; at = refl; is = same }
-mapped_at f (x ∷ xs) (suc k) y e = let r = mapped_at f xs k y e in record { from = r.from; at = r.at; is = r.is }
-
-pub at_mapped : {X Y : Type 0} (f : X → Y) (xs : List X) (k : ℕ) (x : X) → slice_get xs k ≡ Some x → slice_get (map f xs) k ≡ Some (f x)
-at_mapped f [] k x e = cc
-at_mapped f (y ∷ xs) zero x e = let same : y ≡ x = cc in ap (λ z. Some (f z)) same
-at_mapped f (y ∷ xs) (suc k) x e = at_mapped f xs k x e
+-- ---- members
 
 pub each_at : {X : Type 0} (P : X → Type 0) (xs : List X) (k : ℕ) (x : X) → slice_get xs k ≡ Some x → Each P xs → P x
 each_at P [] k x e a = cc
 each_at P (y ∷ xs) zero x e a = let same : y ≡ x = cc in subst P same a.0
 each_at P (y ∷ xs) (suc k) x e a = each_at P xs k x e a.1
-
-each_from : {X : Type 0} (P : X → Type 0) (xs : List X) → ((k : ℕ) (x : X) → slice_get xs k ≡ Some x → P x) → Each P xs
-each_from P [] f = tt
-each_from P (x ∷ xs) f = (f 0 x refl, each_from P xs (λ k y e. f (suc k) y e))
-
-pub some_at : {X : Type 0} (xs : List X) (k : ℕ) → k < length xs → (x : X) × (slice_get xs k ≡ Some x)
-some_at [] k h = absurd (omega arith)
-some_at (x ∷ xs) zero h = (x, refl)
-some_at (x ∷ xs) (suc k) h = some_at xs k (omega arith)
-
--- ---- positions
-
-has_head : (m q : ℕ) (xs : List ℕ) → m ≡ q → has (m ∷ xs) q ≡ true
-has_head m q xs e = let t : nat_eq m q ≡ true = (Decides-eqb m q).1 e in ap (λ b. b || has xs q) t
-
-has_tail : (m q : ℕ) (xs : List ℕ) → has xs q ≡ true → has (m ∷ xs) q ≡ true
-has_tail m q xs e = ap (λ b. nat_eq m q || b) e ∙ or_true (nat_eq m q)
-  where
-    or_true : (b : Bool) → b || true ≡ true
-    or_true true = refl
-    or_true false = refl
-
-place_there : (n : ℕ) (xs : List Spatial) (k : ℕ) → IsPredAt xs k → has (predicate_places n xs) (n + k) ≡ true
-place_there n [] k p = let e = p.2 in cc
-place_there n (Cell t ts ∷ xs) zero p = let e = p.2 in cc
-place_there n (Cell t ts ∷ xs) (suc k) p = let e : suc n + k ≡ n + suc k = omega arith in subst (λ m. has (predicate_places (suc n) xs) m ≡ true) e (place_there (suc n) xs k p)
-place_there n (Pred q ts ∷ xs) zero p = let e : n ≡ n + 0 = omega arith in has_head n (n + 0) (predicate_places (suc n) xs) e
-place_there n (Pred q ts ∷ xs) (suc k) p =
-    let e : suc n + k ≡ n + suc k = omega arith in
-    has_tail n (n + suc k) (predicate_places (suc n) xs) (subst (λ m. has (predicate_places (suc n) xs) m ≡ true) e (place_there (suc n) xs k p))
-
-place_of : (xs : List Spatial) (k : ℕ) → IsPredAt xs k → has (predicate_places 0 xs) k ≡ true
-place_of xs k p = let e : 0 + k ≡ k = omega arith in subst (λ m. has (predicate_places 0 xs) m ≡ true) e (place_there 0 xs k p)
 
 -- ---- pairs
 

@@ -9,7 +9,7 @@ use Rattle.proof_check.specs.declared.verdict.Verdict.{Verdict}
 use Rattle.proof_check.specs.declared.verdict.Verdict.TheVariants.{Accepted, RuleRefused, PathRefused, TooManyStates}
 use Rattle.proof_check.specs.Verdicts.{file_graph, state_limit, IsCorrect, IsVerdict}
 
-none_some : (x : RuleFault) (fault : Option RuleFault) → fault ≡ None → fault ≡ Some x → ⊥
+pub none_some : (x : RuleFault) (fault : Option RuleFault) → fault ≡ None → fault ≡ Some x → ⊥
 none_some x None none some = cc
 none_some x (Some y) none some = cc
 

@@ -1,5 +1,5 @@
 -- Two judgements are one as data exactly where the table's test says so.
-use Rattle.std.proofs.Common.{◌≡◌, ◌↔◌, Bool, true, ◌&&◌, List, [], ◌∷◌, refl, subst, ap, ◌∙◌}
+use Rattle.std.proofs.Common.{◌≡◌, ◌↔◌, Bool, true, List, [], ◌∷◌, refl, subst}
 use Rattle.std.specs.Prelude.{nat_eq}
 use Rattle.std.proofs.lemmas.Bool.Decides.{Decides-eqb}
 use Rattle.heap_formula.specs.declared.atoms.Pure.{Pure}
@@ -9,17 +9,14 @@ use Rattle.heap_formula.specs.declared.judgements.Judgement.TheVariants.{Entail,
 use Rattle.heap_formula.specs.Symbolic.{SymbolicHeap}
 use Rattle.rule_table.specs.Tests.{same_term, same_pure, same_spatial}
 use Rattle.rule_table.specs.Nodes.{all_same, same_heap, same_judgement}
-use Rattle.rule_table.proofs.Reflects.{same_term_self, same_spatial_self, bool_same}
+use Rattle.rule_table.proofs.Reflects.{same_term_self, same_spatial_self, bool_same, and_true as both_true}
 use Rattle.rule_table.proofs.RightNodes.{same_judgement_is}
-
-both_true : (p q : Bool) → p ≡ true → q ≡ true → p && q ≡ true
-both_true p q e f = ap (λ b. b && q) e ∙ f
 
 same_pure_self : (x : Pure) → same_pure x x ≡ true
 same_pure_self (Eq t u) = both_true (same_term t t) (same_term u u) (same_term_self t) (same_term_self u)
 same_pure_self (Neq t u) = both_true (same_term t t) (same_term u u) (same_term_self t) (same_term_self u)
 
-all_same_self : {X : Type 0} (same : X → X → Bool) → ((x : X) → same x x ≡ true) → (xs : List X) → all_same same xs xs ≡ true
+pub all_same_self : {X : Type 0} (same : X → X → Bool) → ((x : X) → same x x ≡ true) → (xs : List X) → all_same same xs xs ≡ true
 all_same_self same f [] = refl
 all_same_self same f (x ∷ xs) = both_true (same x x) (all_same same xs xs) (f x) (all_same_self same f xs)
 

@@ -3,5 +3,5 @@ mod SpanLaws
 mod ReadableNodes
 mod WithinSpans
 mod TreesAgain
-mod ValuesAgain
+pub mod ValuesAgain
 pub mod Readings

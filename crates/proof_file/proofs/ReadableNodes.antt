@@ -1,5 +1,5 @@
 -- What the grammar lets through has universal variables alone where it must.
-use Rattle.std.proofs.Common.{◌≡◌, ℕ, zero, suc, ◌+◌, ◌<◌, Bool, true, false, ◌&&◌, List, [], ◌∷◌, map, length, None, refl, ap, ◌∙◌, arith}
+use Rattle.std.proofs.Common.{◌≡◌, ℕ, zero, suc, ◌+◌, ◌<◌, Bool, true, false, ◌&&◌, List, [], ◌∷◌, map, length, None, refl, arith}
 use Rattle.std.specs.List.{list_all}
 use Rattle.std.specs.Prelude.{◌||◌, nat_eq, nat_lt, nat_le}
 use Rattle.std.proofs.lemmas.Bool.{le-leb, lt-ltb, ltb-false}
@@ -32,9 +32,7 @@ use Rattle.proof_file.specs.Flaws.{headings, term_flaw, judgement_flaw, node_fla
 use Rattle.proof_file.specs.Values.{term_value, variable_value, definition_value, program_value, judgement_value, pair_value, reason_value, node_value}
 use Rattle.proof_file.specs.Readable.{is_universal_heap, is_universal_reason, is_readable, are_readable, is_universal_command, are_universal_commands, is_at_line, are_at_lines, has_few_cases, all_have_few_cases}
 use Rattle.proof_file.specs.Small.{IsSmallDefinition}
-
-both_true : (p q : Bool) → p ≡ true → q ≡ true → p && q ≡ true
-both_true p q e f = ap (λ b. b && q) e ∙ f
+use Rattle.rule_table.proofs.Reflects.{and_true as both_true}
 
 -- ---- members that fit
 
@@ -154,7 +152,7 @@ unfolding node
 readable_node hs n f =
     both_true (is_universal_heap (antecedent (judgement_value hs n.judgement))) (is_universal_reason (reason_value hs n.reason)) (universal_antecedent hs n.judgement f.1.0) (universal_reason hs n.reason f.1.1.0)
 
-nodes_fit : (ns : List Node) → nodes.fits ns → Each node.fits ns
+pub nodes_fit : (ns : List Node) → nodes.fits ns → Each node.fits ns
 unfolding nodes more_nodes
 nodes_fit [] f = tt
 nodes_fit (n ∷ ns) f = (f.1.0, many_fit node ns f.1.1)

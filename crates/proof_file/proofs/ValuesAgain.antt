@@ -29,9 +29,9 @@ use Rattle.cyc_lex.specs.declared.fault.What.TheVariants.{Predicates, Arguments,
 use Rattle.cyc_lex.specs.declared.fault.IllFault.TheVariants.{Duplicate}
 use Rattle.cyc_grammar.specs.Classes.{is_free_name}
 use Rattle.cyc_grammar.specs.Syntax.{Class}
-use Rattle.proof_syntax.specs.Trees.{Heap, Definition, Node}
+use Rattle.proof_syntax.specs.Trees.{Heap, Definition}
 use Rattle.heap_syntax.specs.Grammar as shared
-use Rattle.proof_syntax.specs.Grammar.{reserved, uterm, terms, spatial, heap, heaps, cases, definition, disjuncts, entailment, state, judgement, cut, split, parts, reason, node, nodes, more_nodes, definitions, body, file, bar, closing_brace, or_word, by_word}
+use Rattle.proof_syntax.specs.Grammar.{reserved, uterm, terms, spatial, heap, heaps, cases, definition, disjuncts, entailment, state, judgement, cut, split, parts, reason, node, nodes, definitions, body, file, bar, closing_brace, or_word, by_word}
 use Rattle.proof_file.specs.declared.node.FileNode.{FileNode}
 use Rattle.proof_file.specs.declared.file.ProofFile.{ProofFile}
 use Rattle.heap_reader.specs.Trees.{Heading}
@@ -47,7 +47,7 @@ use Rattle.proof_file.specs.Reading.{IsFileOf}
 use Rattle.proof_file.specs.Readable.{is_universal_command, are_universal_commands}
 use Rattle.proof_file.proofs.Fitting.{file_parts}
 use Rattle.rule_table.specs.Tests.{is_universal}
-use Rattle.proof_file.proofs.ReadableNodes.{behind_fit, many_fit, spatials_fit}
+use Rattle.proof_file.proofs.ReadableNodes.{behind_fit, many_fit, spatials_fit, nodes_fit}
 
 -- ---- lists
 
@@ -68,7 +68,7 @@ get_map f (y ∷ ys) zero x e = let same : y ≡ x = cc in ap (λ z. Some (f z))
 get_map f (y ∷ ys) (suc n) x e = get_map f ys n x e
 
 -- a member of a list without a flaw has none
-flaw_at : {X : Type 0} (flaw : ℕ → ℕ → X → Found) (span : X → ℕ) (n k : ℕ) (xs : List X) (p : ℕ) (x : X) → slice_get xs p ≡ Some x → listed_flaw flaw span n k xs ≡ None → (j : ℕ) × (flaw (n + p) j x ≡ None)
+pub flaw_at : {X : Type 0} (flaw : ℕ → ℕ → X → Found) (span : X → ℕ) (n k : ℕ) (xs : List X) (p : ℕ) (x : X) → slice_get xs p ≡ Some x → listed_flaw flaw span n k xs ≡ None → (j : ℕ) × (flaw (n + p) j x ≡ None)
 flaw_at flaw span n k [] p x e none = absurd cc
 flaw_at flaw span n k (y ∷ ys) zero x e none =
     let both = neither (flaw n k y) (listed_flaw flaw span (suc n) (k + span y) ys) none in
@@ -98,7 +98,7 @@ place_first (y ∷ ys) zero x e none = let same : y ≡ x = cc in own_place y ys
 place_first (y ∷ ys) (suc p) x e none =
     later_place y (take p ys) ys x.name p (bytes_eq y.name x.name) (place_first ys p x e) none
 
-none_of : {X : Type 0} (o : Option X) → is_some o ≡ false → o ≡ None
+pub none_of : {X : Type 0} (o : Option X) → is_some o ≡ false → o ≡ None
 none_of None e = refl
 none_of (Some x) e = absurd cc
 
@@ -274,11 +274,6 @@ commands_known n (c ∷ cs) e =
     λ i. first i ∷ rest i
 
 -- ---- files
-
-nodes_fit : (ns : List Node) → nodes.fits ns → Each node.fits ns
-unfolding nodes more_nodes
-nodes_fit [] f = tt
-nodes_fit (n ∷ ns) f = (f.1.0, many_fit node ns f.1.1)
 
 definitions_fit : (ds : List Definition) → definitions.fits ds → Each definition.fits ds
 unfolding definitions

@@ -61,7 +61,7 @@ get_within [] v h ne = absurd (ne (omega (arith, h)))
 get_within (x ∷ xs) zero h ne = (x, refl)
 get_within (x ∷ xs) (suc v) h ne = get_within xs v (omega (arith, h)) (λ e. ne (ap suc e))
 
-some_is : {X : Type 0} (x y : X) → Some x ≡ Some y → x ≡ y
+pub some_is : {X : Type 0} (x y : X) → Some x ≡ Some y → x ≡ y
 some_is x y e = cc
 
 -- what the code makes of a derivation without open goals

@@ -38,7 +38,7 @@ use Rattle.found_files.proofs.Found.{makes_proof}
 use Rattle.derivation_moves.specs.declared.derivation.Derivation.{Derivation}
 use Rattle.derivation_moves.specs.Derivations.{theory_in, nodes_in, goals_in, reasons_in, tableau_in, about, IsInOrder, IsItsSearch}
 use Rattle.proof_search.specs.Outcomes.{search_for, reasons_of, IsProofFor}
-use Rattle.proof_search.proofs.FileNodes.{reasons_made}
+use Rattle.proof_search.proofs.FileNodes.{reasons_made, some_is}
 
 abbrev pub theory_for : Problem → Theory
 theory_for problem = theory problem.defs problem.program
@@ -58,9 +58,6 @@ pub record HasFound (problem : Problem) (moves : Derivation) : Type 0 where
   pub made : replay (calculus_of (theory_for problem)) problem.goal (reasons_in moves) ≡ Some tableau
   pub nodes : tableau.nodes ≡ nodes_in moves
   pub proof : AreProof (theory_for problem) problem.goal (nodes_made (theory_for problem) (nodes_in moves))
-
-some_is : {X : Type 0} (x y : X) → Some x ≡ Some y → x ≡ y
-some_is x y e = cc
 
 pub has_found : (problem : Problem) (moves : Derivation) (most depth : ℕ) → IsInOrder moves → about moves ≡ (problem.defs, (problem.program, problem.goal)) → IsWithinLimits (theory_for problem) problem.goal → IsFound (reasons_in moves) ≡ search_of (search_for problem) most depth → HasFound problem moves
 has_found problem moves most depth order is_about limits found =

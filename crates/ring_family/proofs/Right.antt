@@ -24,16 +24,13 @@ use Rattle.ring_family.specs.Ring.{emp, is_nil, holds, cell_then, after, definit
 use Rattle.proof_check.specs.Files.{AreRight}
 use Rattle.ring_family.proofs.Answers.{entails, premise, pair, unfolds, rewrites, unfolds_nil, drops_pure, done', unfolds_cell, instantiates, frames}
 use Rattle.ring_family.proofs.Blocks.{EachFrom, each_from, blocks_cases, in_block, at_last}
+use Rattle.proof_check.proofs.SameJudgements.{all_same_self}
 
 -- ---- judgements that are one
 
 same_pure_self : (x : Pure) → same_pure x x ≡ true
 same_pure_self (Eq t u) = and_from (same_term t t) (same_term u u) (same_term_self t) (same_term_self u)
 same_pure_self (Neq t u) = and_from (same_term t t) (same_term u u) (same_term_self t) (same_term_self u)
-
-all_same_self : {X : Type 0} (same : X → X → Bool) → ((x : X) → same x x ≡ true) → (xs : List X) → all_same same xs xs ≡ true
-all_same_self same f [] = refl
-all_same_self same f (x ∷ xs) = and_from (same x x) (all_same same xs xs) (f x) (all_same_self same f xs)
 
 same_heap_self : (a : SymbolicHeap) → same_heap a a ≡ true
 same_heap_self a =

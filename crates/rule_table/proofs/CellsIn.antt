@@ -1,9 +1,8 @@
 -- The cells of a spatial list stand in each heap of which it holds, and no two at one address.
-use Rattle.std.proofs.Common.{◌≡◌, ◌≢◌, ℕ, zero, suc, ◌<◌, true, cond, ◌||◌, List, [], ◌∷◌, Option, Some, None, refl, sym, ap, ◌∙◌, subst, inl, inr, arith}
+use Rattle.std.proofs.Common.{◌≡◌, ◌≢◌, ℕ, zero, suc, ◌<◌, true, ◌||◌, List, [], ◌∷◌, Option, Some, None, refl, sym, ap, ◌∙◌, subst, inl, inr, arith}
 use Rattle.std.specs.Prelude.{slice_get}
 use Rattle.std.specs.Ordering.{nat_cmp, eq_by_cmp}
 use Rattle.std.specs.Cmp.{nat_cmp_total, eq_by_cmp_equiv}
-use Rattle.std.specs.FinMap.{get-insert, empty}
 use Rattle.heap_formula.specs.declared.terms.Term.{Term}
 use Rattle.heap_formula.specs.declared.terms.Term.TheVariants.{Nil}
 use Rattle.heap_formula.specs.declared.atoms.Pure.{Pure}
@@ -13,10 +12,11 @@ use Rattle.heap_formula.specs.declared.atoms.Spatial.TheVariants.{Cell, Pred}
 use Rattle.heap_formula.specs.Symbolic.{SymbolicHeap}
 use Rattle.heap_formula.specs.Words.{Each}
 use Rattle.heap_formula.specs.Values.{Stack, value, values}
-use Rattle.heap_formula.specs.Cells.{Cells, cell_at, one_cell, Joins, IsUnion}
+use Rattle.heap_formula.specs.Cells.{Cells, cell_at, Joins, IsUnion}
 use Rattle.heap_formula.specs.Meaning.{Family, PureHolds, IsCell, AtomHolds, SpatialHolds, Holds}
 use Rattle.rule_table.specs.Tests.{same_term, is_contradiction, some_contradiction, some_cell_at, two_cells, is_absurd}
 use Rattle.rule_table.proofs.Reflects.{either, same_term_is}
+pub use Rattle.heap_formula.proofs.Insertions.{one_cell_has}
 
 -- ---- what a union has
 
@@ -47,9 +47,6 @@ not_both_have {l = l} {r = r} {h = h} a vs ws u e f =
 
 pub itself : (a : ℕ) → eq_by_cmp nat_cmp a a ≡ true
 itself a = (eq_by_cmp_equiv nat_cmp_total).refl a
-
-pub one_cell_has : (a : ℕ) (vs : List ℕ) → cell_at (one_cell a vs) a ≡ Some vs
-one_cell_has a vs = get-insert nat_cmp_total empty a vs a ∙ ap (λ b. cond b (Some vs) (cell_at empty a)) (itself a)
 
 -- ---- the cells of a list
 

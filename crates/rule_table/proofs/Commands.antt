@@ -105,7 +105,7 @@ counted_map f [] (suc k) x e = cc
 counted_map f (y ∷ xs) (suc zero) x e = let same : y ≡ x = cc in λ i. Some (f (same i))
 counted_map f (y ∷ xs) (suc (suc k)) x e = counted_map f xs (suc k) x e
 
-counted_get : {X : Type 0} (P : X → Type 0) (xs : List X) (k : ℕ) (x : X) → counted_from_one xs k ≡ Some x → Each P xs → P x
+pub counted_get : {X : Type 0} (P : X → Type 0) (xs : List X) (k : ℕ) (x : X) → counted_from_one xs k ≡ Some x → Each P xs → P x
 counted_get P xs zero x e a = cc
 counted_get P xs (suc k) x e a = Each-get P xs k x e a
 

@@ -1,9 +1,7 @@
 -- Exec at `new` is sound: the new cell may stand at any free address.
-use Rattle.std.proofs.Common.{◌≡◌, ◌≢◌, ℕ, zero, suc, ◌+◌, ◌<◌, ◌≤◌, Bool, true, false, cond, List, [], ◌∷◌, ◌++◌, length, Option, Some, None, refl, sym, ap, ◌∙◌, subst, arith, map, append_assoc, length-append}
+use Rattle.std.proofs.Common.{◌≡◌, ◌≢◌, ℕ, zero, suc, ◌+◌, ◌<◌, ◌≤◌, Bool, true, false, cond, List, [], ◌∷◌, ◌++◌, length, Some, refl, sym, ap, ◌∙◌, subst, arith, map, append_assoc, length-append}
 use Rattle.std.specs.Prelude.{slice_index, nat_eq}
-use Rattle.std.specs.Ordering.{nat_cmp, eq_by_cmp}
-use Rattle.std.specs.Cmp.{nat_cmp_total}
-use Rattle.std.specs.FinMap.{insert, get-insert, nat_cmp-IsAntisymmetric}
+use Rattle.std.specs.FinMap.{insert}
 use Rattle.std.proofs.Math.ListN.{set, get_or-append}
 use Rattle.std.proofs.Math.Seq.{get_or-append_seam}
 use Rattle.std.proofs.lemmas.List.{get_or-set_same, get_or-set_other, length-set, length-map}
@@ -17,7 +15,7 @@ use Rattle.heap_formula.specs.declared.judgements.Judgement.TheVariants.{Term as
 use Rattle.heap_formula.specs.Symbolic.{SymbolicHeap}
 use Rattle.heap_formula.specs.Definitions.{Definition}
 use Rattle.heap_formula.specs.Values.{Stack, value, values}
-use Rattle.heap_formula.specs.Cells.{Cells, cell_at, no_cells, one_cell, Joins, IsUnion}
+use Rattle.heap_formula.specs.Cells.{cell_at, no_cells, one_cell, IsUnion}
 use Rattle.heap_formula.specs.Meaning.{SpatialHolds, Holds, at_stage, IsCell}
 use Rattle.heap_formula.specs.Programs.{Halts, counted_from_one, first_values, program_variables, start_at}
 use Rattle.heap_formula.specs.Judgements.{IsLocallySound}
@@ -29,38 +27,9 @@ use Rattle.rule_table.proofs.Substitutes.{holds_same, back_along}
 use Rattle.rule_table.proofs.Agreement.{IsBelow, heap_below, length-first_values, first_at}
 use Rattle.rule_table.proofs.Appends.{append_holds, then_stages, then_stages-first, pairs_follow_if}
 use Rattle.rule_table.proofs.Runs.{new_way}
-use Rattle.heap_formula.proofs.StepLaws.{is_eq-Equal}
+pub use Rattle.heap_formula.proofs.Insertions.{joins_put, none_right, none_left, same_address, put_union}
 
 -- ---- heaps
-
-pub joins_put : (b : Bool) (vs : List ℕ) (x y r : Option (List ℕ)) → (b ≡ true → y ≡ None) → Joins x y r → Joins (cond b (Some vs) x) y (cond b (Some vs) r)
-joins_put true vs x y r free j = subst (λ o. Joins (Some vs) o (Some vs)) (sym (free refl)) refl
-joins_put false vs x y r free j = j
-
-pub none_right : (x y r : Option (List ℕ)) → r ≡ None → Joins x y r → y ≡ None
-none_right None y r e j = sym j ∙ e
-none_right (Some x) None r e j = refl
-none_right (Some x) (Some y) r e j = absurd j
-
-pub same_address : (q a : ℕ) → eq_by_cmp nat_cmp q a ≡ true → q ≡ a
-same_address q a t = nat_cmp-IsAntisymmetric q a (is_eq-Equal (nat_cmp q a) t)
-
-pub none_left : (x y r : Option (List ℕ)) → r ≡ None → Joins x y r → x ≡ None
-none_left None y r e j = refl
-none_left (Some x) None r e j = sym j ∙ e
-none_left (Some x) (Some y) r e j = absurd j
-
--- a cell at an address that the whole heap does not have joins a part
-pub put_union : {part rest h : Cells} (a : ℕ) (vs : List ℕ) → cell_at h a ≡ None → IsUnion part rest h → IsUnion (insert part a vs) rest (insert h a vs)
-put_union {part = part} {rest = rest} {h = h} a vs free u = record {
-  joins = λ q.
-      let at_part = get-insert nat_cmp_total part a vs q in
-      let at_h = get-insert nat_cmp_total h a vs q in
-      let free_at : eq_by_cmp nat_cmp q a ≡ true → cell_at rest q ≡ None = λ t.
-      let e = same_address q a t in none_right (cell_at part q) (cell_at rest q) (cell_at h q) (ap (cell_at h) e ∙ free) (u.joins q) in
-      let j = joins_put (eq_by_cmp nat_cmp q a) vs (cell_at part q) (cell_at rest q) (cell_at h q) free_at (u.joins q) in
-      rw (at_part, at_h) j;
-}
 
 -- ---- stacks
 

@@ -1,6 +1,6 @@
 -- Rule by rule: no existential stands in a premise's antecedent.
 use Rattle.std.proofs.Common.{◌≡◌, ℕ, zero, suc, ◌+◌, ◌-◌, max, Bool, true, false, cond, List, [], ◌∷◌, map, length, Some, subst}
-use Rattle.std.specs.Prelude.{Ok, Err, slice_get, slice_set, nat_eq, nat_le, if◌then◌else◌}
+use Rattle.std.specs.Prelude.{Ok, Err, slice_get, slice_set, nat_eq, nat_le, if◌then◌else◌, slice_index_or}
 use Rattle.heap_formula.specs.declared.terms.Term.{Term}
 use Rattle.heap_formula.specs.declared.terms.Term.TheVariants.{Nil, Univ, Exist}
 use Rattle.heap_formula.specs.declared.atoms.Pure.{Pure}
@@ -21,17 +21,16 @@ use Rattle.heap_formula.specs.Symbolic.{SymbolicHeap}
 use Rattle.heap_formula.specs.Definitions.{Definition}
 use Rattle.heap_formula.specs.Words.{Each}
 use Rattle.heap_formula.specs.Meaning.{cases_of}
-use Rattle.heap_formula.specs.Fresh.{heap_bound, fresh_number}
+use Rattle.heap_formula.specs.Fresh.{heap_bound, fresh_number, heap_exists}
 use Rattle.heap_formula.specs.Programs.{counted_from_one, program_variables}
 use Rattle.heap_formula.specs.Judgements.{antecedent, with_antecedent}
 use Rattle.heap_formula.specs.Positions.{without, kept_pairs, chosen, chosen_step, others_of}
-use Rattle.heap_formula.specs.Substitution.{in_heap, in_spatial, apply_term, apply_judgement, case_body}
+use Rattle.heap_formula.specs.Substitution.{in_heap, in_spatial, apply_term, apply_judgement, case_body, in_pure, opened_term, case_term, apply_pure}
 use Rattle.rule_table.specs.RuleUnfold.{unfold_premise}
 use Rattle.rule_table.specs.RuleCut.{cut_left, cut_right}
 use Rattle.rule_table.proofs.Appends.{Each-append}
 use Rattle.rule_table.specs.Answer.{Answer, finds, limited, one, two}
 use Rattle.rule_table.specs.Tests.{same_term, same_spatial, is_universal_pure, is_universal_spatial, follows, is_absurd, address_of, has_number, ascend_from}
-use Rattle.heap_formula.specs.Fresh.{heap_exists}
 use Rattle.rule_table.specs.Table.{with_pures, with_pure, with_right, without_spatial, rewrite_side, rewrite_atom, named, unnamed, calls, are_empty, unfolded_right, right_term, drop_answer, done_answer, choose_answer, pure_right_answer, instantiate_answer, frame_answer, unfold_right_answer}
 use Rattle.rule_table.specs.ExecTable.{Found, cell_of, renamed, renamed_term, with_atom, variables_from, with_cell, with_field, at_line, command_answer, exec_answer}
 use Rattle.rule_table.specs.RuleBook.{variables_of, rule_answer}
@@ -39,11 +38,8 @@ use Rattle.rule_table.specs.Fits.{OnPremises}
 use Rattle.rule_table.specs.Soundness.{IsCommand, HasUniversalTerms, IsUniversalPremise}
 use Rattle.heap_formula.specs.Closedness.{InPure, InSpatial, InHeap, IsUniversal, IsUniversalHeap}
 use Rattle.rule_table.proofs.Rewrites.{AnyTerm, any_heap, Each-get, Each-without}
-use Rattle.heap_formula.specs.Substitution.{in_pure, opened_term, case_term, apply_pure}
-use Rattle.std.specs.Prelude.{slice_index_or}
-use Rattle.std.proofs.Math.ListN.{get_or}
 use Rattle.rule_table.proofs.Fits.{needs_on, finds_on, limited_on, entails_on, single_on, runs_on}
-use Rattle.rule_table.proofs.Commands.{found_is}
+use Rattle.rule_table.proofs.Commands.{found_is, counted_get as counted_each}
 
 module _ (Q : Term → Type 0) (f : Term → Term) (g : (t : Term) → Q t → IsUniversal (f t)) where
   terms_after : (ts : List Term) → Each Q ts → Each IsUniversal (map f ts)
@@ -162,10 +158,6 @@ empty_keeps P (x ∷ xs) ps ys = tt
 fields_universal : (n k : ℕ) → Each IsUniversal (variables_from n k)
 fields_universal n zero = tt
 fields_universal n (suc k) = (tt, fields_universal (suc n) k)
-
-counted_each : {X : Type 0} (P : X → Type 0) (xs : List X) (k : ℕ) (x : X) → counted_from_one xs k ≡ Some x → Each P xs → P x
-counted_each P xs zero x e a = cc
-counted_each P xs (suc k) x e a = Each-get P xs k x e a
 
 module _ (i : ℕ) (a : SymbolicHeap) (n : ℕ) (h : IsUniversalHeap a) where
   atom_universal : (b : SymbolicHeap) (x : Pure) → IsUniversalHeap b → InPure IsUniversal x → IsUniversalHeap (with_atom b x)

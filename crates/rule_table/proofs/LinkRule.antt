@@ -40,11 +40,11 @@ pub no_fault : (b : Bool) (f : RuleFault) → fault_unless b f ≡ None → b �
 no_fault true f e = refl
 no_fault false f e = cc
 
-cond_none : (b : Bool) (rest : Option RuleFault) (f : RuleFault) → cond b rest (Some f) ≡ None → (b ≡ true) × (rest ≡ None)
+pub cond_none : (b : Bool) (rest : Option RuleFault) (f : RuleFault) → cond b rest (Some f) ≡ None → (b ≡ true) × (rest ≡ None)
 cond_none true rest f e = (refl, e)
 cond_none false rest f e = cc
 
-kept_below : (s : Bindings) (p : ℕ) → keeps_below s p ≡ true → (v : ℕ) → v < p → image s v ≡ Univ v
+pub kept_below : (s : Bindings) (p : ℕ) → keeps_below s p ≡ true → (v : ℕ) → v < p → image s v ≡ Univ v
 kept_below s zero e v lt = absurd (omega arith)
 kept_below s (suc p) e v lt =
     let b = both (same_term (image s p) (Univ p)) (keeps_below s p) e in

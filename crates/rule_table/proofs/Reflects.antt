@@ -124,7 +124,7 @@ matches_is pures (Pred p ts) (Cell u us) e = cc
 
 -- ---- back: equal atoms pass the tests
 
-and_true : (p q : Bool) → p ≡ true → q ≡ true → p && q ≡ true
+pub and_true : (p q : Bool) → p ≡ true → q ≡ true → p && q ≡ true
 and_true true q e f = f
 and_true false q e f = cc
 

@@ -1,10 +1,8 @@
 -- The calculus of a small problem is in order: heaps stay short, premises are few, and trace pairs join predicate atoms.
-use Rattle.std.proofs.Common.{◌≡◌, ℕ, zero, suc, ◌+◌, ◌≤◌, true, List, [], ◌∷◌, map, length, Option, Some, None, slice_get, nat_eq, refl, sym, ap, subst, ◌∙◌, arith}
-use Rattle.std.proofs.lemmas.Bool.{or_left, or_right, eq-eqb}
+use Rattle.std.proofs.Common.{◌≡◌, ℕ, zero, suc, ◌≤◌, true, List, [], ◌∷◌, map, length, Option, Some, None, slice_get, refl, sym, ap, subst, ◌∙◌, arith}
 use Rattle.std.proofs.lemmas.List.{length-map}
 use Rattle.std.specs.Prelude.{Ok, Err}
 use Rattle.heap_formula.specs.declared.atoms.Spatial.{Spatial}
-use Rattle.heap_formula.specs.declared.atoms.Spatial.TheVariants.{Cell, Pred}
 use Rattle.heap_formula.specs.declared.judgements.Judgement.{Judgement}
 use Rattle.heap_formula.specs.declared.judgements.Pair.{Pair}
 use Rattle.heap_formula.specs.declared.judgements.Premise.{Premise}
@@ -16,7 +14,7 @@ use Rattle.heap_formula.specs.declared.proof_rules.RuleFault.{RuleFault}
 use Rattle.heap_formula.specs.Judgements.{antecedent}
 use Rattle.heap_formula.specs.Words.{Each}
 use Rattle.rule_table.specs.Answer.{Answer}
-use Rattle.rule_table.specs.Fits.{IsPredAt, PairsFit, PremiseFits, OnPremises}
+use Rattle.rule_table.specs.Fits.{PairsFit, PremiseFits, OnPremises}
 use Rattle.rule_table.specs.LinkTable.{link_fault, link_premise}
 use Rattle.rule_table.specs.RuleBook.{variables_of, rule_answer}
 use Rattle.rule_table.proofs.AllFit.{rule_fits, link_fits}
@@ -24,7 +22,7 @@ use Rattle.format_limits.proofs.Few.{few_premises}
 use Rattle.trace_pairs.specs.Graph.{Edge, Pair as TracePair, has}
 use Rattle.trace_pairs.specs.System.{AreIn}
 use Rattle.proof_graph.specs.Traces.{predicate_places, trace_pair, trace_pairs_of, trace_edge}
-use Rattle.proof_graph.proofs.Places.{places_set}
+use Rattle.proof_graph.proofs.Places.{places_set, place_of}
 use Rattle.derivation_search.specs.Firsts.{IsIn}
 use Rattle.search_moves.specs.Trying.{Theory}
 use Rattle.tableaux.specs.Tableau.{Premise as TracedPremise}
@@ -34,18 +32,6 @@ use Rattle.search_calculus.specs.Search.{rules_at, calculus_of}
 use Rattle.search_calculus.proofs.ShortHeaps.{IsShort, StaysShort, rule_stays_short}
 
 -- ---- pairs
-
-place_there : (n : ℕ) (xs : List Spatial) (k : ℕ) → IsPredAt xs k → has (predicate_places n xs) (n + k) ≡ true
-place_there n [] k p = let e = p.2 in cc
-place_there n (Cell t ts ∷ xs) zero p = let e = p.2 in cc
-place_there n (Cell t ts ∷ xs) (suc k) p = let e : suc n + k ≡ n + suc k = omega arith in subst (λ m. has (predicate_places (suc n) xs) m ≡ true) e (place_there (suc n) xs k p)
-place_there n (Pred q ts ∷ xs) zero p = let e : n ≡ n + 0 = omega arith in or_left (nat_eq n (n + 0)) (has (predicate_places (suc n) xs) (n + 0)) (eq-eqb n (n + 0) e)
-place_there n (Pred q ts ∷ xs) (suc k) p =
-    let e : suc n + k ≡ n + suc k = omega arith in
-    or_right (nat_eq n (n + suc k)) (has (predicate_places (suc n) xs) (n + suc k)) (subst (λ m. has (predicate_places (suc n) xs) m ≡ true) e (place_there (suc n) xs k p))
-
-place_of : (xs : List Spatial) (k : ℕ) → IsPredAt xs k → has (predicate_places 0 xs) k ≡ true
-place_of xs k p = let e : 0 + k ≡ k = omega arith in subst (λ m. has (predicate_places 0 xs) m ≡ true) e (place_there 0 xs k p)
 
 -- pairs of predicate atoms lead from positions to positions
 pairs_in : (olds news : List Spatial) (pairs : List Pair) → PairsFit olds news pairs → AreIn (trace_pairs_of pairs) (predicate_places 0 olds) (predicate_places 0 news)

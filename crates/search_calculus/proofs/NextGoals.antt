@@ -5,7 +5,6 @@ use Rattle.std.proofs.Math.Seq.{take-append_seam}
 use Rattle.std.proofs.lemmas.Option.{slice_get_within}
 use Rattle.heap_formula.specs.declared.judgements.Judgement.{Judgement}
 use Rattle.heap_formula.specs.declared.proof_rules.Reason.{Reason}
-use Rattle.heap_formula.specs.Words.{Each}
 use Rattle.trace_pairs.specs.Graph.{Node, Edge, TargetsAreNodes}
 use Rattle.buchi_core.proofs.Lists.{get_within, get_append_left}
 use Rattle.proof_graph.specs.declared.nodes.GraphNode.{GraphNode}
@@ -22,6 +21,7 @@ use Rattle.search_calculus.proofs.ProofGraphs.{length-made_graph, made_at, shown
 use Rattle.search_calculus.proofs.Slots.{length-filled, nodes_more, LeadBelow, AllLeadBelow, nodes_hidden}
 use Rattle.search_calculus.proofs.Reasons.{reason_room}
 use Rattle.search_calculus.proofs.MadeRows.{IsRow, made_in_order, made_is_graph, made_row}
+use Rattle.heap_formula.proofs.Members.{each_from}
 
 -- ---- the next goal's parent
 
@@ -88,10 +88,6 @@ slot_free t j d b g rest small h goals some' =
     )
 
 -- ---- and hidden
-
-each_from : {X : Type 0} (P : X → Type 0) (xs : List X) → ((k : ℕ) (x : X) → slice_get xs k ≡ Some x → P x) → Each P xs
-each_from P [] each = tt
-each_from P (x ∷ xs) each = (each 0 x refl, each_from P xs (λ k y at. each (suc k) y at))
 
 lead_below : (graph : List Node) → TargetsAreNodes graph → AllLeadBelow (length graph) graph
 lead_below graph targets =

@@ -4,15 +4,11 @@ use Rattle.trace_pairs.specs.Graph.{Node, Edge, Pair}
 use Rattle.buchi_core.proofs.Lists.{get_append_left, get_append_right}
 use Rattle.trace_decision.specs.Leaf.{add_edge, with_leaf}
 use Rattle.tableaux.specs.Tableau.{linked}
+pub use Rattle.trace_decision.proofs.Leaf.{length-add}
 
 -- a node with these edges more
 abbrev pub with_edges : Node → List Edge → Node
 with_edges n es = record { positions = n.positions; edges = n.edges ++ es }
-
-pub length-add : (p : ℕ) (e : Edge) (g : List Node) → length (add_edge p e g) ≡ length g
-length-add p e [] = refl
-length-add zero e (n ∷ nodes) = refl
-length-add (suc p) e (n ∷ nodes) = ap suc (length-add p e nodes)
 
 pub add_at : (p : ℕ) (e : Edge) (g : List Node) (n : Node) → slice_get g p ≡ Some n → slice_get (add_edge p e g) p ≡ Some (with_edges n (e ∷ []))
 add_at p e [] n h = absurd (let f : None ≡ Some n = h in cc)

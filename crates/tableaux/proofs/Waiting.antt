@@ -1,13 +1,8 @@
 -- The open goals of one node; and look-ups in lists with a member more.
-use Rattle.std.proofs.Common.{◌≡◌, ◌≢◌, ℕ, zero, suc, ◌+◌, ◌⊎◌, inl, inr, arith, false, List, [], ◌∷◌, ◌++◌, Some, None, slice_get, length, filter, take, nat_eq, sym, refl, ap, ◌∙◌, eqb-true, eq-eqb}
+use Rattle.std.proofs.Common.{◌≡◌, ◌≢◌, ℕ, zero, suc, ◌+◌, inl, inr, arith, false, List, [], ◌∷◌, ◌++◌, Some, None, slice_get, length, filter, take, nat_eq, sym, refl, ap, ◌∙◌, eqb-true, eq-eqb}
 use Rattle.std.proofs.lemmas.Bool.{cases_Bool}
 use Rattle.tableaux.specs.Tableau.{Premise, Goal, goals_of}
-
-pub get_end_cases : {X : Type 0} (xs : List X) (x y : X) (i : ℕ) → slice_get (xs ++ (x ∷ [])) i ≡ Some y → (slice_get xs i ≡ Some y) ⊎ ((i ≡ length xs) × (x ≡ y))
-get_end_cases [] x y zero h = inr (refl, (let e : Some x ≡ Some y = h in cc))
-get_end_cases [] x y (suc i) h = absurd (let e : None ≡ Some y = h in cc)
-get_end_cases (z ∷ xs) x y zero h = inl h
-get_end_cases (z ∷ xs) x y (suc i) h = elim (get_end_cases xs x y i h) [ inl a ↦ inl a | inr b ↦ inr (ap suc b.0, b.1) ]
+pub use Rattle.trace_pairs.proofs.Grow.{get_push_cases as get_end_cases}
 
 pub get_end : {X : Type 0} (xs : List X) (x : X) (i : ℕ) → i ≡ length xs → slice_get (xs ++ (x ∷ [])) i ≡ Some x
 get_end [] x zero e = refl

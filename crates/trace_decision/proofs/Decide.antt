@@ -1,17 +1,16 @@
 -- The tests on a product say what they are meant to.
-use Rattle.std.proofs.Common.{◌≡◌, ℕ, zero, suc, ◌+◌, le_refl, ◌<◌, ◌⊎◌, ◌↔◌, inl, inr, arith, Bool, true, false, not, ◌&&◌, List, [], ◌∷◌, ◌++◌, Option, Some, None, slice_get, length, sym, refl, ap, subst, ◌∙◌}
+use Rattle.std.proofs.Common.{◌≡◌, ℕ, zero, suc, ◌+◌, le_refl, ◌⊎◌, ◌↔◌, inl, inr, Bool, true, false, not, ◌&&◌, List, [], ◌∷◌, ◌++◌, Option, Some, None, slice_get, length, sym, refl, ap, subst, ◌∙◌}
 use Rattle.std.proofs.lemmas.Bool.{cases_Bool, and_parts, both_ways, leb-true, le-leb}
 use Rattle.std.proofs.lemmas.Option.{slice_get_within}
-use Rattle.trace_pairs.specs.Graph.{Node, Edge}
+use Rattle.trace_pairs.specs.Graph.{Node, Edge, IsGraph}
 use Rattle.buchi_core.specs.declared.event.Event.{Event}
 use Rattle.buchi_core.specs.declared.event.Event.TheVariants.{Dies, Green, Nothing}
 use Rattle.buchi_core.specs.Forest.{next_forest, event_of, start}
 use Rattle.buchi_inclusion.specs.Product.{State, Moves, Run, Each, IsFrom, IsNothing, IsStart, Reachable, IsClosed, BadCycle}
-use Rattle.trace_pairs.specs.Graph.{IsGraph}
 use Rattle.trace_pairs.specs.Lasso.{AllProgress}
 use Rattle.buchi_inclusion.specs.Answers.{LeastFirst}
-use Rattle.buchi_core.proofs.Lists.{any_at, at_any, get_append_cases, get_append_left, get_append_right}
-use Rattle.buchi_inclusion.proofs.Universe.{Listed, states_from, closed_universe}
+use Rattle.buchi_core.proofs.Lists.{any_at, at_any, get_append_cases}
+use Rattle.buchi_inclusion.proofs.Universe.{Listed, states_from, closed_universe, listed_left, listed_right}
 use Rattle.buchi_inclusion.proofs.Runs.{each_append}
 use Rattle.buchi_inclusion.proofs.Exact.{exact, run_append, least_first}
 use Rattle.trace_decision.specs.Equal.{same_state}
@@ -19,12 +18,7 @@ use Rattle.trace_decision.specs.Closure.{closure, some_below}
 use Rattle.trace_decision.specs.Decide.{Move, over_edge, over_edges, from_node, moves_of, is_nothing, is_from, always, leads_to, step, walks, is_start, is_reached, is_at, returns_to, leads_back, turns_bad, has_bad_cycle, progresses}
 use Rattle.trace_decision.proofs.Equal.{both, state_tells, state_reflects}
 use Rattle.trace_decision.proofs.Closure.{closure_sound, closure_joins, closure_id, closure_one, below_some, some_is_below}
-
-listed_left : {X : Type 0} (xs ys : List X) (x : X) → Listed xs x → Listed (xs ++ ys) x
-listed_left xs ys x l = record { place = l.place; is_x = get_append_left xs ys l.place x l.is_x }
-
-listed_right : {X : Type 0} (xs ys : List X) (x : X) → Listed ys x → Listed (xs ++ ys) x
-listed_right xs ys x l = record { place = length xs + l.place; is_x = get_append_right xs ys l.place (length xs + l.place) refl ∙ l.is_x }
+use Rattle.trace_pairs.proofs.Turning.{get_within as get_some}
 
 -- a cycle that begins with its least event is bad
 bad_from_least : (g : List Node) → LeastFirst g → BadCycle g
@@ -209,11 +203,6 @@ start_is g (Some root) (Some b) s x y h =
     let f : b ≡ record { node = 0; forest = start root.positions } = state_tells b (record { node = 0; forest = start root.positions }) h in
     let f' = sym e' ∙ f in
     record { root = root; is_root = x; node_is = ap (λ (z : State). z.node) f'; forest_is = ap (λ (z : State). z.forest) f' }
-
-get_some : {X : Type 0} (xs : List X) (i : ℕ) → i < length xs → (x : X) × (slice_get xs i ≡ Some x)
-get_some [] i h = absurd (omega arith)
-get_some (x ∷ xs) zero h = (x, refl)
-get_some (x ∷ xs) (suc i) h = get_some xs i (omega arith)
 
 pub reached_sound : (g : List Node) (states : List State) (i : ℕ) (s : State) → slice_get states i ≡ Some s → is_reached g states i ≡ true → Reachable g s
 reached_sound g states i s at h =

@@ -45,7 +45,7 @@ leaf_keeps g g' v a all l is =
     starts [] u e p h = omega arith
     starts (s ∷ steps) u e p h = a.none s.edge p.1 (subst (λ x. IsEdge g' x s.edge p.1) e p.2)
 
-length-add : (p : ℕ) (e : Edge) (g : List Node) → length (add_edge p e g) ≡ length g
+pub length-add : (p : ℕ) (e : Edge) (g : List Node) → length (add_edge p e g) ≡ length g
 length-add p e [] = refl
 length-add zero e (n ∷ nodes) = refl
 length-add (suc p) e (n ∷ nodes) = ap suc (length-add p e nodes)

@@ -17,7 +17,7 @@ use Rattle.rule_table.specs.Answer.{needs, limited, every, is_short, has_numbers
 use Rattle.rule_table.specs.Answered.{IsAnswer}
 use Rattle.rule_table.specs.Changes.{changed}
 use Rattle.rule_table.specs.declared.changes.Change.TheVariants.{Opened}
-use Rattle.rule_table.proofs.Reflects.{both, bool_same}
+use Rattle.rule_table.proofs.Reflects.{both, bool_same, and_true as and_both}
 use Rattle.rule_table.proofs.LimitedPremises.{le_same, and_assoc, heaps_short, any_numbers, any_first, limited_changed}
 use Rattle.unfold_rule.specs.Joining.{joined}
 use Rattle.unfold_rule.specs.Cutting.{cut_right_by, cut_fits}
@@ -31,10 +31,6 @@ chosen_count p (x ∷ xs) = step (p 0) x (chosen (λ k. p (suc k)) xs) (chosen (
     step : {X : Type 0} (b : Bool) (x : X) (ys zs xs : List X) → length ys + length zs ≡ length xs → length (chosen_step b x ys) + length (chosen_step (not b) x zs) ≡ length (x ∷ xs)
     step true x ys zs xs h = omega arith
     step false x ys zs xs h = omega arith
-
-and_both : (p q : Bool) → p ≡ true → q ≡ true → p && q ≡ true
-and_both true q a b = b
-and_both false q a b = cc
 
 module _ (most : ℕ) (j : Judgement) (p : ℕ → Bool) (formula : SymbolicHeap) where
   right_short : (f : Term → Term) → every (is_short most) (heaps_of (cut_right_by j p f formula).judgement) ≡ nat_le (length (antecedent j).pure + length formula.pure) 64 && (nat_le (length (chosen (others_of p) (antecedent j).spatial) + length formula.spatial) most && every (is_short most) (disjuncts j))
