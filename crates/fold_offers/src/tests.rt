@@ -1,10 +1,9 @@
 // The folds of small states into a list segment.
-ghost use Rattle.std.specs.Prelude.{◌≡◌, ◌≤◌, length, IfOk};
+ghost use Rattle.std.specs.Prelude.{◌≡◌, IfOk};
 
 use crate::{folds, is_cell, is_predicate};
 use cyc_memory::OutOfMemory;
 use heap_formula::{Args, Cases, Def, DefName, Heap, Pure, Rule, Spatial, Term};
-use rule_table::{copy_pure_atoms, copy_spatial_atoms};
 use std::alloc::Global;
 use std::test::Fail;
 
@@ -22,23 +21,13 @@ fn cell(t: Term, u: Term) -> Spatial {
     Spatial::Cell(t, Args::from_slice(&[u]))
 }
 
-fn heap(alloc: Global, pure: &[Pure], spatial: &[Spatial]) -> Result<Heap, OutOfMemory>
-    requires pure_fits { length pure.now ≤ 64 }
-    requires spatial_fits { length spatial.now ≤ 32 }
-{
-    Ok(Heap::from_lists(
-        copy_pure_atoms(alloc, pure)?,
-        copy_spatial_atoms(alloc, spatial)?,
-    ))
-}
-
 // A segment from `$0` to `$1` is empty, where these are one, or a cell at `$0` and the segment from its field to `$1`.
 fn definition(alloc: Global) -> Result<Def, OutOfMemory>
     ensures { IfOk result (λ d. d.arity ≡ 2) }
 {
     let mut cases = Vec::new(alloc);
-    cases.push(heap(alloc, &[Pure::Eq(X, Y)], &[])?)?;
-    cases.push(heap(alloc, &[Pure::Neq(X, Y)], &[cell(X, E), segment(E, Y)])?)?;
+    cases.push(Heap::from_slices(alloc, &[Pure::Eq(X, Y)], &[])?)?;
+    cases.push(Heap::from_slices(alloc, &[Pure::Neq(X, Y)], &[cell(X, E), segment(E, Y)])?)?;
     Ok(Def {
         name: DefName::from_text(String::from_str(alloc, "ls")?),
         arity: 2,
@@ -70,13 +59,13 @@ fn cells_fold_into_segments(rt: HostRuntime) -> Result<(), Fail> {
     let (a, b, c) = (Term::Univ(5), Term::Univ(6), Term::Univ(7));
     let apart = [Pure::Neq(c, a)];
     let defs = [definition(alloc)?];
-    let state = heap(alloc, &apart, &[segment(b, c), cell(a, b)])?;
-    let whole = heap(alloc, &[], &[segment(a, c)])?;
+    let state = Heap::from_slices(alloc, &apart, &[segment(b, c), cell(a, b)])?;
+    let whole = Heap::from_slices(alloc, &[], &[segment(a, c)])?;
     assert!(rt; is_only(&folds(alloc, &state, &defs)?, &[0, 1], &whole));
     for other in [
-        heap(alloc, &[], &[segment(b, c), cell(a, b)])?,
-        heap(alloc, &apart, &[segment(c, b), cell(a, b)])?,
-        heap(alloc, &apart, &[segment(b, c)])?,
+        Heap::from_slices(alloc, &[], &[segment(b, c), cell(a, b)])?,
+        Heap::from_slices(alloc, &apart, &[segment(c, b), cell(a, b)])?,
+        Heap::from_slices(alloc, &apart, &[segment(b, c)])?,
     ] {
         assert_eq!(rt; folds(alloc, &other, &defs)?.len(), 0);
     }
