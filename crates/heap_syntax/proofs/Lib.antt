@@ -2,3 +2,4 @@ pub mod Loops
 pub mod HeapLaws
 pub mod WordTexts
 pub mod HeapEnds
+mod NumberTerms
