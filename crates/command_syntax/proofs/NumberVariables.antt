@@ -1,0 +1,21 @@
+-- Numbers as program variables, of the tests.
+use Rattle.std.proofs.Common.{◌≡◌, ℕ, List, Result, Ok, refl, subst}
+use Rattle.cyc_lex.specs.Word.{Word}
+use Rattle.cyc_grammar.specs.Syntax.{Syntax, one}
+use Rattle.cyc_grammar.specs.Classes.{number}
+use Rattle.cyc_grammar.specs.Giving.{Gives}
+use Rattle.cyc_grammar.specs.declared.cursor.Refusal.{Refusal}
+use Rattle.cyc_grammar.proofs.Laws.{Lawful, one-law}
+use Rattle.cyc_grammar.proofs.ClassLaws.{number-law}
+use Rattle.command_syntax.specs.Grammar.{lines}
+use Rattle.command_syntax.proofs.CommandLaws.{VariableLaw, lines-law}
+
+numbers-all : VariableLaw (one number)
+numbers-all = record { law = one-law number number-law; closed = λ x d f. refl; not_nil = λ x f. refl; not_stop = λ x f. refl; not_goto = λ x f. refl; not_free = λ x f. refl; not_if = λ x f. refl; not_new = λ x f. refl }
+
+pub number-lines : Lawful (lines (one number))
+number-lines = lines-law (one number) numbers-all
+
+-- what is read has a text
+pub given-fits : {T X : Type 0} (s : Syntax T) → Lawful s → (view : X → T) (ws left : List Word) (r : Result X Refusal) (x : X) → r ≡ Ok x → Gives (λ y. (view y, left)) r (s.read ws) → s.fits (view x)
+given-fits {X = X} s law view ws left r x e h = (law.takes ws (view x, left) (subst (λ (q : Result X Refusal). Gives (λ y. (view y, left)) q (s.read ws)) e h)).2
