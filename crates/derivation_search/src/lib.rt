@@ -104,7 +104,7 @@ pub trait Moves {
 }
 
 /// Why the search of a depth stops.
-#[derive(Clone, Copy, Debug)]
+#[derive(Clone, Copy, PartialEq, Eq, Debug)]
 pub enum Stop {
     Found,
     TooManyDerivations,

@@ -108,19 +108,6 @@ fn searched(
     Ok((stop, word.made))
 }
 
-fn is_same(one: Option<Stop>, other: Option<Stop>) -> bool {
-    matches!(
-        (one, other),
-        (None, None)
-            | (Some(Stop::Found), Some(Stop::Found))
-            | (
-                Some(Stop::TooManyDerivations),
-                Some(Stop::TooManyDerivations)
-            )
-            | (Some(Stop::TooManyStates), Some(Stop::TooManyStates))
-    )
-}
-
 // Each row: whether the link is admitted, the longest word without too many states, the depth, the count at which the search
 // stops, how it ends, and the word that is left. Where the link is refused, depth 1 counts the empty word, the link, a and
 // b, and depth 2 the empty word, the link, a and aa, which is complete. Where it is admitted, no rule is followed at the
@@ -148,7 +135,7 @@ fn searches(rt: HostRuntime) -> Result<(), Fail> {
         assert!(rt; most > 0);
         let (told, word) = searched(alloc, admits, longest, bound, most)?;
         assert!(rt;
-            is_same(told, stop) && word.as_slice() == left,
+            told == stop && word.as_slice() == left,
             "{admits} {longest} {bound} {most}: {told:?} {word:?}"
         );
     }
