@@ -10,7 +10,7 @@ loop-entry-preserved c = record {
   so_far = elim c.if-is_kept_at.branch [
     | then-is_kept_at+in_ok-set+in_ok-push w ↦
         turn_kept c.args.entries.now c.loop-entry.next.items c.if-is_kept_at.next.items _ c.entry-item.result c.loop-entry.place c.loop-entry.entry-index _ c.loop-entry-test.true c.loop-entry.invariant.counted c.entry-item.is
-        (ap (λ v. v.items) w.next-is ∙ w.in_ok-push.ensures.items) w.renumbered_of-parent.ensures (w.in_ok-set.ensures ∙ w.deref.ensures.value) (sym c.is_kept_at.ensures ∙ w.if-is_kept_at.true) c.loop-entry.invariant.so_far
+        (ap (λ v. v.items) w.next-is ∙ w.in_ok-push.ensures.items) w.renumbered_of-parent.ensures (w.in_ok-set.ensures.items ∙ w.deref.ensures.value) (sym c.is_kept_at.ensures ∙ w.if-is_kept_at.true) c.loop-entry.invariant.so_far
     | else-is_kept_at w ↦
         turn_skipped c.args.entries.now c.loop-entry.next.items c.if-is_kept_at.next.items c.loop-entry.place c.loop-entry.entry-index _ c.loop-entry-test.true c.loop-entry.invariant.counted
         (ap (λ v. v.items) w.next-is) (sym c.is_kept_at.ensures ∙ w.if-is_kept_at.false) c.loop-entry.invariant.so_far
