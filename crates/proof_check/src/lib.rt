@@ -4,6 +4,8 @@
 mod checking;
 pub mod laws;
 mod node_tests;
+#[cfg(test)]
+mod tests;
 mod verdict;
 
 pub use checking::{MOST_STATES, check};
