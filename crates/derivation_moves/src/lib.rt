@@ -6,6 +6,8 @@ mod derivation;
 mod effects;
 mod goals;
 mod moves;
+#[cfg(test)]
+mod tests;
 
 pub use cyc_memory::OutOfMemory;
 pub use derivation::Derivation;
