@@ -1,5 +1,5 @@
 // Values of heaps that fit them.
-ghost use Rattle.std.specs.Prelude.{◌≡◌, ◌≤◌, length, map, IfOk};
+ghost use Rattle.std.specs.Prelude.{◌≡◌, ◌<◌, ◌≤◌, length, map, IfOk};
 ghost use Rattle.heap_formula.specs.Words.{Each};
 ghost use Rattle.heap_reader.specs.Trees.{spatial_of, heap_of};
 ghost use Rattle.heap_reader.specs.Small.{IsSmall, IsSmallPure, IsSmallSpatial, IsSmallHeap};
@@ -145,7 +145,7 @@ pub fn definition_value<F: TermReader>(
     })
 }
 
-/// The entailment that the trees of its two sides say.
+/// The entailment that the trees of its two sides say; it has 1 to 16 disjuncts.
 pub fn entailment_value<F: TermReader>(
     alloc: Global,
     heads: &Heads<'_>,
@@ -155,6 +155,8 @@ pub fn entailment_value<F: TermReader>(
 ) -> Result<Judgement, OutOfMemory>
     requires left { IsSmallHeap F.value (heap_of antecedent.now) }
     requires right { Each (IsSmallHeap F.value) (map heap_of disjuncts.now) }
+    requires some { 0 < length disjuncts.now }
+    requires most { length disjuncts.now ≤ 16 }
     requires few { length heads.now ≤ 4096 }
     ensures { IfOk result (λ j. j ≡ value_of_entailment F.value heads.now (heap_of antecedent.now) (map heap_of disjuncts.now)) }
 {
