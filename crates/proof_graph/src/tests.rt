@@ -113,3 +113,58 @@ fn the_limit(rt: HostRuntime) -> Result<(), Fail> {
     assert_eq!(rt; graph.push_node(&judgement), Err(GraphFault::TooManyNodes));
     Ok(())
 }
+
+/// The positions of a judgement, and one edge.
+#[test]
+fn parts_of_a_trace_graph(rt: HostRuntime) -> Result<(), Fail> {
+    let alloc = rt.alloc();
+    let entails = judgement_of(alloc)?;
+    let positions = predicate_positions(alloc, &entails)?;
+    assert_eq!(rt; positions.as_slice(), [0, 2].as_slice());
+    let runs = Judgement::Term(1, Heap::new(alloc));
+    assert!(rt; predicate_positions(alloc, &runs)?.is_empty());
+    let pairs = [
+        Pair {
+            old: 0,
+            new: 2,
+            progress: true,
+        },
+        Pair {
+            old: 2,
+            new: 1,
+            progress: false,
+        },
+    ];
+    let edge = trace_edge(alloc, 7, &pairs)?;
+    assert_eq!(rt; edge.target(), 7);
+    assert_eq!(rt; edge.pairs(), [(0, 2, true), (2, 1, false)].as_slice());
+    Ok(())
+}
+
+/// The lists of pairs and of premises as they were given, the emptiness of a graph, and the fault of want of memory.
+#[test]
+fn parts_of_a_graph(rt: HostRuntime) -> Result<(), Fail> {
+    let alloc = rt.alloc();
+    let mut graph = Graph::new(alloc);
+    assert!(rt; graph.is_empty());
+    assert_eq!(rt; graph.push_node(&judgement_of(alloc)?)?, 0);
+    assert!(rt; !graph.is_empty());
+    let lists = pairs_of(alloc)?;
+    match lists.as_slice() {
+        [first, second] => {
+            assert_eq!(rt; (first.as_slice().len(), second.as_slice().len()), (0, 1));
+        }
+        _ => return Err(Fail::from("not two lists")),
+    }
+    let premise = GraphPremise {
+        pairs: Pairs::new(alloc),
+        slot: Some(3),
+    };
+    let premises = GraphPremises::from_vec(vec![in alloc; premise]?);
+    match premises.as_slice() {
+        [only] => assert_eq!(rt; only.slot, Some(3)),
+        _ => return Err(Fail::from("not one premise")),
+    }
+    assert_eq!(rt; GraphFault::from(OutOfMemory), GraphFault::OutOfMemory);
+    Ok(())
+}
