@@ -1,14 +1,14 @@
 // Programs and heaps of terms `$n`, as proof files have them.
-ghost use Rattle.std.specs.Prelude.{◌≡◌, ◌∷◌, [], map, IfOk};
+ghost use Rattle.std.specs.Prelude.{◌≡◌, ◌≤◌, ◌∷◌, [], length, map, IfOk};
 ghost use Rattle.heap_syntax.specs.Trees.{Predicate};
 ghost use Rattle.heap_reader.specs.Trees.{heap_of, heading_of};
 
 use crate::{
-    Flaw, Head, Heads, Item, TermReader, VariableReader, commands, heap_value, ill, over, program,
-    walk_heap, walk_lines,
+    Flaw, Head, Heads, Item, TermReader, VariableReader, commands, flaw_fault, heap_value,
+    heap_values, ill, over, program, walk_heap, walk_heaps, walk_lines,
 };
 use command_syntax::{ChangeTree, CommandTree, LineTree, OperandTree};
-use cyc_lex::{IllFault, What};
+use cyc_lex::{IllFault, ReadFault, Tokens, What, tokens};
 use cyc_memory::OutOfMemory;
 use goto_lang::Program;
 use heap_formula::{Command, Heap, Spatial, Term};
@@ -449,5 +449,97 @@ fn uses_are_compared_with_the_first_head(rt: HostRuntime) -> Result<(), Fail> {
     for (name, args, expected) in USES {
         assert_eq!(rt; read_use(rt.alloc(), HEADS, name, args)?, *expected);
     }
+    Ok(())
+}
+
+/// The tokens of a short text.
+fn cut(alloc: Global, bytes: &[u8]) -> Result<Tokens<'_>, &'static str>
+    ensures { IfOk result (λ list. length list ≤ 10001) }
+{
+    if bytes.len() > 10000 {
+        return Err("long");
+    }
+    match tokens(alloc, bytes) {
+        Ok(list) => Ok(list),
+        Err(_) => Err("no tokens"),
+    }
+}
+
+/// A flaw as a fault; none where there is no such token.
+fn fault(list: &Tokens<'_>, flaw: Flaw) -> Option<ReadFault>
+    requires { length list.now ≤ 10001 }
+{
+    if flaw.token >= list.as_slice().len() {
+        return None;
+    }
+    Some(flaw_fault(list, flaw))
+}
+
+/// The line and column of flaws.
+#[test]
+fn flaws_stand_at_their_tokens(rt: HostRuntime) -> Result<(), Fail> {
+    let list = cut(rt.alloc(), b"free $64;\n  goto 9")?;
+    let limit = ReadFault::Limit {
+        what: What::ProgramVariables,
+        token: 2,
+        line: 1,
+        column: 7,
+    };
+    let jump = ReadFault::IllFormed {
+        fault: IllFault::Jump,
+        token: 5,
+        line: 2,
+        column: 8,
+    };
+    assert_eq!(rt; fault(&list, over(What::ProgramVariables, 2)), Some(limit));
+    assert_eq!(rt; fault(&list, ill(IllFault::Jump, 5)), Some(jump));
+    Ok(())
+}
+
+/// The numbers of the predicates in two heaps of one, or the first flaw of the two, whose first word is token 4; such a
+/// heap without arguments and the word behind it are six tokens.
+fn two_heaps(
+    alloc: Global,
+    list: &[Head<'_>],
+    first: &str,
+    second: &str,
+) -> Result<Result<(Option<u16>, Option<u16>), Flaw>, OutOfMemory>
+    requires { length list.now ≤ 4096 }
+{
+    let heads = heads_of(alloc, list)?;
+    let left = use_of(alloc, first, &[])?;
+    let right = use_of(alloc, second, &[])?;
+    let trees = [left, right];
+    match walk_heaps(&heads, &Universals, What::Disjuncts, 4, &trees) {
+        Err(flaw) => Ok(Err(flaw)),
+        Ok(_) => {
+            let heaps = heap_values(alloc, &heads, &Universals, &trees)?;
+            match heaps.as_slice() {
+                [left, right] => Ok(Ok((number_in(left), number_in(right)))),
+                _ => Ok(Ok((None, None))),
+            }
+        }
+    }
+}
+
+/// Heaps are walked and made in order, the second one behind the first.
+#[test]
+fn heaps_stand_one_behind_the_other(rt: HostRuntime) -> Result<(), Fail> {
+    let alloc = rt.alloc();
+    if HEADS.len() > 4096 {
+        return Err(Fail::from("many heads"));
+    }
+    assert_eq!(rt;
+        two_heaps(alloc, HEADS, "flag", "flag")?,
+        Ok((Some(1), Some(1)))
+    );
+    assert_eq!(rt;
+        two_heaps(alloc, HEADS, "ll", "flag")?,
+        Err(ill(IllFault::Unknown, 6))
+    );
+    assert_eq!(rt;
+        two_heaps(alloc, HEADS, "flag", "ls")?,
+        Err(ill(IllFault::Arity, 12))
+    );
     Ok(())
 }
