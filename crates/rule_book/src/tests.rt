@@ -1,5 +1,5 @@
 // Each rule of the table once.
-use crate::premises;
+use crate::{premises, variables_of};
 use goto_lang::{Program, ProgramFault};
 use heap_formula::{
     Args, Command, Disjuncts, Heap, Judgement, OutOfMemory, Positions, Pure, Rule, RuleError,
@@ -125,5 +125,20 @@ fn a_program_variable_keeps_its_equation(rt: HostRuntime) -> Result<(), Fail> {
         count(alloc, &defs, &none, &runs, &Rule::Exec),
         Err(RuleError::Fault(RuleFault::WrongJudgement))
     );
+    Ok(())
+}
+
+// An entailment has none of the variables of the program, and a claim of termination has both.
+#[test]
+fn a_claim_of_termination_has_the_variables(rt: HostRuntime) -> Result<(), Fail> {
+    let alloc = rt.alloc();
+    let program = test_and_stop(alloc)?;
+    let entails = Judgement::Entail(
+        Heap::new(alloc),
+        Disjuncts::single(alloc, Heap::new(alloc))?,
+    );
+    let runs = Judgement::Term(1, Heap::new(alloc));
+    assert_eq!(rt; variables_of(&program, &entails), 0);
+    assert_eq!(rt; variables_of(&program, &runs), 2);
     Ok(())
 }
