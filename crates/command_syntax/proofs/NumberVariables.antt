@@ -1,5 +1,5 @@
 -- Numbers as program variables, of the tests.
-use Rattle.std.proofs.Common.{◌≡◌, ℕ, List, Result, Ok, refl, subst}
+use Rattle.std.proofs.Common.{◌≡◌, List, Result, Ok, refl, subst}
 use Rattle.cyc_lex.specs.Word.{Word}
 use Rattle.cyc_grammar.specs.Syntax.{Syntax, one}
 use Rattle.cyc_grammar.specs.Classes.{number}
