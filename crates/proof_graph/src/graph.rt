@@ -31,6 +31,16 @@ pub struct Graph {
     alloc: Global,
 }
 
+impl From<OutOfMemory> for GraphFault {
+    ghost use Rattle.proof_graph.specs.declared.graph.GraphFault.TheVariants.{OutOfMemory as memory_wanted};
+
+    ghost from_gives = { λ _ e. e ≡ memory_wanted };
+
+    fn from(_error: OutOfMemory) -> GraphFault {
+        GraphFault::OutOfMemory
+    }
+}
+
 impl From<AllocError> for GraphFault {
     ghost use Rattle.proof_graph.specs.declared.graph.GraphFault.TheVariants.{OutOfMemory as memory_wanted};
 
