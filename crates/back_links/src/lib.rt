@@ -7,8 +7,6 @@ mod faults;
 mod listing;
 mod matching;
 mod prospects;
-#[cfg(test)]
-mod tests;
 mod variables;
 
 pub use faults::link_fault;

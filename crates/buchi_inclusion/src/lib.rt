@@ -45,6 +45,3 @@ pub fn included(alloc: Global, graph: &TraceGraph, limit: u32) -> Result<Inclusi
     };
     Ok(Inclusion::Counter(lasso))
 }
-
-#[cfg(test)]
-mod tests;

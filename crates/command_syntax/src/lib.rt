@@ -12,6 +12,3 @@ pub use form::{VariableForm, WrittenVariable};
 pub use line_writing::write_lines;
 pub use read_lines::lines;
 pub use tree::{ChangeTree, CommandTree, LineTree, OperandTree};
-
-#[cfg(test)]
-mod tests;

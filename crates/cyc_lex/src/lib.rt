@@ -13,6 +13,3 @@ pub use cyc_memory::OutOfMemory;
 pub use fault::{IllFault, LexFault, ReadFault, What};
 pub use token::{Kind, Token, Tokens};
 pub use writer::WordWriter;
-
-#[cfg(test)]
-mod tests;

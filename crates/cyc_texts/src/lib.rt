@@ -11,6 +11,3 @@ pub use cyc_memory::OutOfMemory;
 pub use places::{ill_formed_line, lexical_line, limit_line, syntax_line};
 pub use searches::{not_found_line, ring_line};
 pub use verdicts::{accepted_line, node_refused_line, path_refused_line};
-
-#[cfg(test)]
-mod tests;

@@ -73,6 +73,3 @@ pub fn run<S: Source, K: Sink>(alloc: Global, words: &[String], src: &mut S, out
         Err(_) => Status::WriteFault,
     }
 }
-
-#[cfg(test)]
-mod tests;

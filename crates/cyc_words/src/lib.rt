@@ -13,8 +13,6 @@ use meaning::task_of_line;
 use std::alloc::Global;
 pub use tasks::{Task, USAGE};
 
-#[cfg(test)]
-mod tests;
 
 // The line that clap reads: the program's name and the words.
 fn line_of<'a>(alloc: Global, words: &'a [String]) -> Result<Vec<&'a str>, OutOfMemory>

@@ -6,8 +6,6 @@ mod derivation;
 mod effects;
 mod goals;
 mod moves;
-#[cfg(test)]
-mod tests;
 
 pub use cyc_memory::OutOfMemory;
 pub use derivation::Derivation;

@@ -12,8 +12,6 @@ use cyc_memory::OutOfMemory;
 use std::alloc::Global;
 use std::collections::VecDeque;
 
-#[cfg(test)]
-mod tests;
 
 /// How a candidate fares: every lasso progresses with it, or some does not; or there are more product states than the
 /// limit.

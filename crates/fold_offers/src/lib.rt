@@ -6,8 +6,6 @@ mod binding;
 mod cases;
 mod kinds;
 mod placing;
-#[cfg(test)]
-mod tests;
 
 pub use kinds::{is_cell, is_predicate};
 pub use placing::folds;

@@ -11,6 +11,3 @@ mod walk;
 
 pub use problem::Problem;
 pub use reading::{read_problem, spelled_problems_are_read};
-
-#[cfg(test)]
-mod tests;

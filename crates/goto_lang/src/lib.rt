@@ -10,8 +10,6 @@ mod programs;
 mod runs;
 mod stacks;
 mod steps;
-#[cfg(test)]
-mod tests;
 
 pub use cells::Cells;
 pub use configs::Config;

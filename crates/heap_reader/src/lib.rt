@@ -20,6 +20,3 @@ pub use heap_walk::{walk_heap, walk_heaps};
 pub use line_walk::walk_lines;
 pub use told::flaw_fault;
 pub use values::{definition_value, entailment_value, heap_value, heap_values};
-
-#[cfg(test)]
-mod tests;

@@ -2,4 +2,3 @@ pub mod Loops
 pub mod HeapLaws
 pub mod WordTexts
 pub mod HeapEnds
-mod NumberTerms

@@ -17,6 +17,3 @@ pub use read_atoms::{arguments, fields, sign, spatial};
 pub use read_heaps::{heap, heaps};
 pub use tree::{HeapTree, PureTree, SpatialTree};
 pub use word::{free_name, reserved_words};
-
-#[cfg(test)]
-mod tests;

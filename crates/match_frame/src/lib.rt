@@ -14,6 +14,3 @@ pub use done::premises_done;
 pub use frame::premises_frame;
 pub use instantiate::premises_instantiate;
 pub use pure_right::premises_pure_right;
-
-#[cfg(test)]
-mod tests;

@@ -13,6 +13,3 @@ mod tree;
 
 pub use problems::number_problem;
 pub use tree::{NumberedDefinition, NumberedGoal, NumberedHeap, NumberedProblem, NumberedTerm};
-
-#[cfg(test)]
-mod tests;

@@ -17,6 +17,3 @@ pub use drop_atom::premises_drop;
 pub use rewrite::premises_rewrite;
 pub use split::premises_split;
 pub use weaken::premises_weaken;
-
-#[cfg(test)]
-mod tests;

@@ -5,8 +5,6 @@ mod bodies;
 mod families;
 mod faults;
 mod library;
-#[cfg(test)]
-mod tests;
 
 pub use bodies::{Fresh, case_body};
 pub use families::{ClosedFamily, least_is_below};

@@ -6,6 +6,3 @@ mod laws;
 
 pub use files::file_for;
 pub use laws::problem_is_within;
-
-#[cfg(test)]
-mod tests;

@@ -8,6 +8,3 @@ mod tree;
 
 pub use read_problem::read_problem_tree;
 pub use tree::{DefinitionTree, GoalTree, HeapTree, LineTree, NameTree, ProblemTree};
-
-#[cfg(test)]
-mod tests;

@@ -4,8 +4,6 @@
 mod checking;
 pub mod laws;
 mod node_tests;
-#[cfg(test)]
-mod tests;
 mod verdict;
 
 pub use checking::{MOST_STATES, check};

@@ -16,8 +16,3 @@ pub use file::ProofFile;
 pub use node::{FileNode, FileNodes};
 pub use reading::read_file;
 pub use writing::{write_file, written_files_are_read_again};
-
-#[cfg(test)]
-mod flaw_tests;
-#[cfg(test)]
-mod tests;

@@ -11,6 +11,3 @@ pub use cyc_memory::OutOfMemory;
 pub use graph::{Graph, GraphFault, MOST_NODES};
 pub use nodes::{GraphNode, GraphPremise, GraphPremises, NodeView, PremisePairs};
 pub use traces::{predicate_positions, trace_edge};
-
-#[cfg(test)]
-mod tests;

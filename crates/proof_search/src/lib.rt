@@ -9,6 +9,3 @@ pub use cyc_memory::OutOfMemory;
 pub use offering::offers;
 pub use prover::{Proved, prove};
 pub use search_moves::Offers;
-
-#[cfg(test)]
-mod tests;

@@ -18,6 +18,3 @@ pub use tree::{
     NodeTree, PairTree, PureTree, ReasonTree, SideTree, SpatialTree, TermTree,
 };
 pub use write_files::write_tree;
-
-#[cfg(test)]
-mod tests;

@@ -10,6 +10,3 @@ mod ring;
 
 pub use cyc_memory::OutOfMemory;
 pub use ring::ring_file;
-
-#[cfg(test)]
-mod tests;

@@ -91,6 +91,3 @@ pub fn premises(
     let _lines = program.lines();
     answer(alloc, defs, program, judgement, rule)
 }
-
-#[cfg(test)]
-mod tests;

@@ -17,6 +17,3 @@ mod ways;
 
 pub use offered::Offers;
 pub use offering::offers;
-
-#[cfg(test)]
-mod tests;

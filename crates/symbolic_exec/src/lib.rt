@@ -9,6 +9,3 @@ mod states;
 
 pub use cyc_memory::OutOfMemory;
 pub use exec::premises_exec;
-
-#[cfg(test)]
-mod tests;

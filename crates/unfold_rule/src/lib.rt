@@ -11,6 +11,3 @@ pub use cut::premises_cut;
 pub use cyc_memory::OutOfMemory;
 pub use unfold::premises_unfold;
 pub use unfold_right::premises_unfold_right;
-
-#[cfg(test)]
-mod tests;

@@ -1,0 +1,99 @@
+//! Runs against sources and sinks in memory, of which a call fails.
+use cyc_io::{MemSink, MemSource, PlainSink, PlainSource, StdSink, StdSource};
+use cyc_top::run;
+use std::alloc::Global;
+use std::test::Fail;
+
+static FILE: &[u8] = b"cyclist proof 1;\nnode true : emp |- true : emp by Done;\nend;\n";
+
+static ACCEPTED: &str = "accepted entailment nodes 1 links 0\n";
+
+static USAGE: &str = "usage: cyclist check | prove [--depth N] | ring K\n";
+
+fn words_of(alloc: Global, line: &str) -> Result<Vec<String>, Fail> {
+    let mut words = Vec::new(alloc);
+    for word in line.split_whitespace() {
+        words.push(String::from_str(alloc, word)?)?;
+    }
+    Ok(words)
+}
+
+// The line has 36 bytes, and a call takes ten.
+#[test]
+fn a_sink_that_fails_at_a_call(rt: HostRuntime) -> Result<(), Fail> {
+    let alloc = rt.alloc();
+    let words = words_of(alloc, "check")?;
+    for (call, written, code, faults) in [
+        (1, 0, 8, 1),
+        (2, 10, 8, 1),
+        (3, 20, 8, 1),
+        (4, 30, 8, 1),
+        (5, 36, 0, 0),
+    ] {
+        let mut src = PlainSource::new(Vec::from_slice(alloc, FILE)?, 100);
+        let mut out = MemSink::new(alloc, 1000, 10, vec![in alloc; call]?)?;
+        let status = run(alloc, words.as_slice(), &mut src, &mut out);
+        assert_eq!(rt; status.code(), code, "at call {call}");
+        assert_eq!(rt; out.written().len(), written, "at call {call}");
+        assert!(rt; ACCEPTED.as_bytes().starts_with(out.written()));
+        assert_eq!(rt; out.faults(), faults, "at call {call}");
+    }
+    Ok(())
+}
+
+// Seven calls read the 61 bytes in tens, and an eighth meets the end.
+#[test]
+fn a_source_that_fails_at_a_call(rt: HostRuntime) -> Result<(), Fail> {
+    let alloc = rt.alloc();
+    let words = words_of(alloc, "check")?;
+    for (call, written, code, faults) in [(1, 0, 7, 1), (4, 0, 7, 1), (8, 0, 7, 1), (9, 36, 0, 0)] {
+        let mut src = MemSource::new(Vec::from_slice(alloc, FILE)?, 10, vec![in alloc; call]?);
+        let mut out = PlainSink::new(alloc, 1000, 1)?;
+        let status = run(alloc, words.as_slice(), &mut src, &mut out);
+        assert_eq!(rt; status.code(), code, "at call {call}");
+        assert_eq!(rt; out.written().len(), written, "at call {call}");
+        assert_eq!(rt; src.faults(), faults, "at call {call}");
+    }
+    Ok(())
+}
+
+#[test]
+fn words_and_inputs(rt: HostRuntime) -> Result<(), Fail> {
+    let alloc = rt.alloc();
+    let long: Vec<u8> = vec![in alloc; 32u8; 16_777_217]?;
+    let empty: &[u8] = b"";
+    for (line, input, code, text) in [
+        ("check", FILE, 0, ACCEPTED),
+        ("", FILE, 2, USAGE),
+        ("check check", FILE, 2, USAGE),
+        ("Check", FILE, 2, USAGE),
+        ("--help", FILE, 2, USAGE),
+        ("prove --depth 41", FILE, 2, USAGE),
+        ("ring 0", FILE, 2, USAGE),
+        ("ring 2001", FILE, 2, USAGE),
+        ("ring 1", FILE, 0, "ring 1 accepted nodes 9 links 1\n"),
+        (
+            "check",
+            empty,
+            3,
+            "unreadable syntax token 0 line 1 column 1\n",
+        ),
+        (
+            "prove",
+            empty,
+            3,
+            "unreadable syntax token 0 line 1 column 1\n",
+        ),
+        ("check", long.as_slice(), 5, "limit input\n"),
+        ("prove", long.as_slice(), 5, "limit input\n"),
+    ] {
+        let words = words_of(alloc, line)?;
+        let mut src = StdSource::new(input);
+        let mut written: Vec<u8> = Vec::new(alloc);
+        let mut out = StdSink::new(&mut written);
+        let status = run(alloc, words.as_slice(), &mut src, &mut out);
+        assert_eq!(rt; status.code(), code, "at {line}");
+        assert!(rt; written.as_slice() == text.as_bytes(), "at {line}");
+    }
+    Ok(())
+}

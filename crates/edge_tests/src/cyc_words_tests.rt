@@ -1,0 +1,57 @@
+//! Command lines and what they mean.
+use cyc_words::{Task, task_of};
+use std::alloc::Global;
+use std::test::Fail;
+
+fn words_of(alloc: Global, line: &[&str]) -> Result<Vec<String>, Fail> {
+    let mut words = Vec::new(alloc);
+    for word in line {
+        words.push(String::from_str(alloc, word)?)?;
+    }
+    Ok(words)
+}
+
+#[test]
+fn command_lines(rt: HostRuntime) -> Result<(), Fail> {
+    let alloc = rt.alloc();
+    let check = Some(Task::Check);
+    let table: [(&[&str], Option<Task>); 32] = [
+        (&["check"], check),
+        (&["check", "--"], check),
+        (&["check", "x"], None),
+        (&["Check"], None),
+        (&["chec"], None),
+        (&[], None),
+        (&["help"], None),
+        (&["--help"], None),
+        (&["-h"], None),
+        (&["prove"], Some(Task::Prove(16))),
+        (&["prove", "--depth", "5"], Some(Task::Prove(5))),
+        (&["prove", "--depth=5"], Some(Task::Prove(5))),
+        (&["prove", "--depth", "40"], Some(Task::Prove(40))),
+        (&["prove", "--depth", "+4"], Some(Task::Prove(4))),
+        (&["prove", "--depth", "04"], Some(Task::Prove(4))),
+        (&["prove", "--depth", "41"], None),
+        (&["prove", "--depth", "0"], None),
+        (&["prove", "--depth"], None),
+        (&["prove", "--depth", " 4"], None),
+        (&["prove", "--depth=4x"], None),
+        (&["prove", "--depth=1", "--depth=2"], None),
+        (&["prove", "x"], None),
+        (&["prove", "-h"], None),
+        (&["prove", "--help"], None),
+        (&["ring", "1"], Some(Task::Ring(1))),
+        (&["ring", "007"], Some(Task::Ring(7))),
+        (&["ring", "--", "7"], Some(Task::Ring(7))),
+        (&["ring", "2000"], Some(Task::Ring(2000))),
+        (&["ring", "2001"], None),
+        (&["ring", "0"], None),
+        (&["ring"], None),
+        (&["ring", "1", "2"], None),
+    ];
+    for (line, task) in table {
+        let words = words_of(alloc, line)?;
+        assert_eq!(rt; task_of(alloc, words.as_slice())?, task, "at {line:?}");
+    }
+    Ok(())
+}

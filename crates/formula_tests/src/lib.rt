@@ -1,0 +1,9 @@
+//! Tests of formulas, definitions and programs; there is nothing else here.
+#![tactic(auto)]
+
+#[cfg(test)]
+mod goto_lang_tests;
+#[cfg(test)]
+mod heap_formula_tests;
+#[cfg(test)]
+mod pred_defs_tests;

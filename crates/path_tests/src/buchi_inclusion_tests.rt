@@ -1,0 +1,169 @@
+//! Small graphs, worked by hand, and a proof system over one.
+
+ghost use Rattle.std.specs.Prelude.{◌≡◌, ◌<◌, false, length, nat_eq, refl, IfOk};
+ghost use Rattle.trace_pairs.specs.Graph.{IsGraph};
+ghost use Rattle.trace_pairs.specs.System.{AreRight};
+
+use buchi_inclusion::{Checked, Inclusion, check_system, descends, included};
+use cyc_memory::OutOfMemory;
+use std::alloc::Global;
+use std::test::Fail;
+use trace_pairs::{Edge, Node, ProofSystem, TraceGraph, is_graph, is_lasso, lasso_progresses};
+
+type Edges<'a> = &'a [(u32, &'a [(u8, u8, bool)])];
+
+/// The graph of nodes with positions 0 and 1 and these edges.
+fn graph_of(alloc: Global, nodes: &[Edges<'_>]) -> Result<TraceGraph, OutOfMemory> {
+    let mut graph = TraceGraph::new(alloc);
+    for edges in nodes {
+        let mut list = Vec::new(alloc);
+        for (target, pairs) in *edges {
+            list.push(Edge::new(*target, pairs.to_vec(alloc)?))?;
+        }
+        graph.push(Node::new(vec![in alloc; 0, 1]?, list))?;
+    }
+    Ok(graph)
+}
+
+/// What `included` answers. A counter has to be a lasso that doesn't progress.
+fn answer_of(alloc: Global, nodes: &[Edges<'_>], limit: u32) -> Result<&'static str, OutOfMemory> {
+    let graph = graph_of(alloc, nodes)?;
+    if !is_graph(&graph) {
+        return Ok("no graph");
+    }
+    match included(alloc, &graph, limit)? {
+        Inclusion::Included => Ok("included"),
+        Inclusion::TooManyStates => Ok("too many states"),
+        Inclusion::Counter(lasso) => {
+            if is_lasso(&graph, &lasso) && !lasso_progresses(alloc, &graph, &lasso)? {
+                return Ok("counter");
+            }
+            Ok("no counter")
+        }
+    }
+}
+
+#[test]
+fn answers(rt: HostRuntime) -> Result<(), Fail> {
+    let alloc = rt.alloc();
+    let progress: [Edges<'_>; 1] = [&[(0, &[(0, 0, true)])]];
+    assert_eq!(rt; answer_of(alloc, &progress, 0)?, "too many states");
+    assert_eq!(rt; answer_of(alloc, &progress, 1)?, "too many states");
+    assert_eq!(rt; answer_of(alloc, &progress, 2)?, "included");
+    let no_progress: [Edges<'_>; 2] = [&[(1, &[(0, 1, false)])], &[(0, &[(1, 0, false)])]];
+    assert_eq!(rt; answer_of(alloc, &no_progress, 0)?, "too many states");
+    assert_eq!(rt; answer_of(alloc, &no_progress, 100)?, "counter");
+    let each_alone: [Edges<'_>; 1] = [&[(0, &[(0, 0, true)]), (0, &[(1, 1, true)])]];
+    assert_eq!(rt; answer_of(alloc, &each_alone, 100)?, "counter");
+    let in_turn: [Edges<'_>; 1] = [&[
+        (0, &[(0, 0, true), (1, 1, false)]),
+        (0, &[(0, 0, false), (1, 1, true)]),
+    ]];
+    assert_eq!(rt; answer_of(alloc, &in_turn, 100)?, "included");
+    Ok(())
+}
+
+/// A graph in order as a proof: one node is said to be faulty, and every node holds.
+#[derive(Drop)]
+struct Plain {
+    graph: TraceGraph,
+    faulty: u32,
+    ghost in_order: { AreRight graph (λ v. false) },
+    ghost some_node: { 0 < length graph },
+    ghost few: { length graph < 4294967296 },
+}
+
+/// The proof of a graph.
+fn plain_of(graph: TraceGraph, faulty: u32) -> Plain
+    requires graph { IsGraph graph }
+    requires few { length graph < 4294967296 }
+{
+    Plain { graph, faulty }
+}
+
+/// Copies of the edges.
+fn copies_of(alloc: Global, edges: &[Edge]) -> Result<Vec<Edge>, OutOfMemory>
+    ensures { IfOk result (λ v. v.items ≡ edges.now) }
+{
+    let mut copies = Vec::new(alloc);
+    for edge in edges {
+        let mut pairs = Vec::new(alloc);
+        pairs.extend_from_slice(edge.pairs())?;
+        copies.push(Edge::new(edge.target(), pairs))?;
+    }
+    Ok(copies)
+}
+
+impl ProofSystem for Plain {
+    ghost graph_of = { λ p. p.graph };
+
+    ghost is_faulty = { λ p v. nat_eq v p.faulty };
+
+    ghost holds = { λ p v stages. Unit {0} };
+
+    fn nodes(&self) -> u32 {
+        self.graph.len() as u32
+    }
+
+    fn positions(&self, alloc: Global, node: u32) -> Result<Vec<u8>, OutOfMemory> {
+        let Some(node) = self.graph.node(node as usize) else {
+            unreachable!()
+        };
+        let mut positions = Vec::new(alloc);
+        positions.extend_from_slice(node.positions())?;
+        Ok(positions)
+    }
+
+    fn faulty(&self, _alloc: Global, node: u32) -> Result<bool, OutOfMemory> {
+        Ok(node == self.faulty)
+    }
+
+    fn edges(&self, alloc: Global, node: u32) -> Result<Vec<Edge>, OutOfMemory> {
+        let Some(node) = self.graph.node(node as usize) else {
+            unreachable!()
+        };
+        copies_of(alloc, node.edges())
+    }
+
+    ghost some_node = { λ p. p.some_node };
+
+    ghost right = { λ p v n h f. p.in_order v n h refl };
+
+    ghost local = { λ p v σ l f h. tt };
+}
+
+/// What `check_system` answers of a graph of two nodes.
+fn check_of(
+    alloc: Global,
+    nodes: &[Edges<'_>],
+    faulty: u32,
+    limit: u32,
+) -> Result<&'static str, OutOfMemory> {
+    let graph = graph_of(alloc, nodes)?;
+    if !is_graph(&graph) || graph.len() != 2 {
+        return Ok("no graph");
+    }
+    let proof = plain_of(graph, faulty);
+    match check_system(alloc, &proof, limit)? {
+        Checked::Accepted => {
+            descends(&proof);
+            Ok("accepted")
+        }
+        Checked::Faulty(0) => Ok("faulty 0"),
+        Checked::Faulty(_) => Ok("faulty 1"),
+        Checked::PathRefused(_) => Ok("path refused"),
+        Checked::TooManyStates => Ok("too many states"),
+    }
+}
+
+#[test]
+fn proof_systems(rt: HostRuntime) -> Result<(), Fail> {
+    let alloc = rt.alloc();
+    let progress: [Edges<'_>; 2] = [&[(1, &[(0, 0, true)])], &[(0, &[(0, 0, false)])]];
+    assert_eq!(rt; check_of(alloc, &progress, 2, 100)?, "accepted");
+    assert_eq!(rt; check_of(alloc, &progress, 1, 100)?, "faulty 1");
+    assert_eq!(rt; check_of(alloc, &progress, 2, 1)?, "too many states");
+    let no_progress: [Edges<'_>; 2] = [&[(1, &[(0, 1, false)])], &[(0, &[(1, 0, false)])]];
+    assert_eq!(rt; check_of(alloc, &no_progress, 2, 100)?, "path refused");
+    Ok(())
+}

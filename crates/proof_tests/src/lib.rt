@@ -1,0 +1,13 @@
+//! Tests of links, proof graphs and verdicts; there is nothing else here.
+#![tactic(auto)]
+
+#[cfg(test)]
+mod back_links_tests;
+#[cfg(test)]
+mod link_traces_tests;
+#[cfg(test)]
+mod proof_check_tests;
+#[cfg(test)]
+mod proof_graph_tests;
+#[cfg(test)]
+mod ring_family_tests;

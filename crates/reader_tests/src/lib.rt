@@ -1,0 +1,13 @@
+//! Tests of what the texts of both formats say, and of their faults; there is nothing else here.
+#![tactic(auto)]
+
+#[cfg(test)]
+mod formula_reader_tests;
+#[cfg(test)]
+mod heap_reader_tests;
+#[cfg(test)]
+mod name_numbers_tests;
+#[cfg(test)]
+mod proof_file_flaw_tests;
+#[cfg(test)]
+mod proof_file_tests;
