@@ -13,7 +13,6 @@ use meaning::task_of_line;
 use std::alloc::Global;
 pub use tasks::{Task, USAGE};
 
-
 // The line that clap reads: the program's name and the words.
 fn line_of<'a>(alloc: Global, words: &'a [String]) -> Result<Vec<&'a str>, OutOfMemory>
     ensures { IfOk result (λ line. map (λ s. s.now) line.items ≡ codes "cyclist" ∷ map string_bytes words.now) }

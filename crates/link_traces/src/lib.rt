@@ -1,7 +1,6 @@
 //! The trace pairs of links from buds to companions (Brotherston, Gorogiannis and Petersen 2012).
 #![tactic(auto)]
 
-
 ghost use Rattle.std.specs.Prelude.{◌≡◌, ◌<◌, ◌≤◌, length, IfOk};
 ghost use Rattle.heap_formula.specs.Positions.{pairs_from};
 ghost use Rattle.heap_formula.specs.Words.{Each};

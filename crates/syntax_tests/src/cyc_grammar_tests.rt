@@ -1,4 +1,6 @@
 // Tokens taken one after the other, and faults.
+ghost use Rattle.std.specs.Prelude.{length, ◌≤◌};
+
 use crate::texts::{cut, dead, start};
 use cyc_grammar::{Refusal, read_fault};
 use cyc_lex::{ReadFault, Tokens};
