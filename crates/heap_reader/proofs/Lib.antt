@@ -4,6 +4,5 @@ pub mod Fitting
 pub mod Programs
 pub mod WithinSpans
 pub mod SpanLaws
-mod ShortTexts
 pub mod Readings
 mod Indexes

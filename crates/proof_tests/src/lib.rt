@@ -1,4 +1,4 @@
-//! Tests of links, proof graphs and verdicts; there is nothing else here.
+//! Tests of proof files, links, proof graphs and verdicts; there is nothing else here.
 #![tactic(auto)]
 
 #[cfg(test)]
@@ -7,6 +7,10 @@ mod back_links_tests;
 mod link_traces_tests;
 #[cfg(test)]
 mod proof_check_tests;
+#[cfg(test)]
+mod proof_file_flaw_tests;
+#[cfg(test)]
+mod proof_file_tests;
 #[cfg(test)]
 mod proof_graph_tests;
 #[cfg(test)]

@@ -1,4 +1,4 @@
-//! Tests of what the texts of both formats say, and of their faults; there is nothing else here.
+//! Tests of what heaps, lines and problems say, and of their faults; there is nothing else here.
 #![tactic(auto)]
 
 #[cfg(test)]
@@ -7,7 +7,3 @@ mod formula_reader_tests;
 mod heap_reader_tests;
 #[cfg(test)]
 mod name_numbers_tests;
-#[cfg(test)]
-mod proof_file_flaw_tests;
-#[cfg(test)]
-mod proof_file_tests;

@@ -95,55 +95,83 @@ fn lists_of_atoms(rt: HostRuntime) -> Result<(), Fail> {
     Ok(())
 }
 
-// Premises of an entailment and of a `from` judgement, and the limits that they keep.
+/// `$0 = $1 : $0 -> ($1) * P0($1)`
+fn cell_and_list(alloc: Global) -> Result<Heap, OutOfMemory> {
+    Heap::from_slices(alloc, &[Pure::Eq(X, Y)], &[cell(X, Y), list(Y)])
+}
+
+/// `true : P0($0)`
+fn only_list(alloc: Global) -> Result<Heap, OutOfMemory> {
+    Heap::from_slices(alloc, &[], &[list(X)])
+}
+
+/// The first entails the second.
+fn sample(alloc: Global) -> Result<Judgement, OutOfMemory> {
+    entail(alloc, cell_and_list(alloc)?, only_list(alloc)?)
+}
+
 #[test]
-fn premises_and_limits(rt: HostRuntime) -> Result<(), Fail> {
+fn other_antecedents(rt: HostRuntime) -> Result<(), Fail> {
     let alloc = rt.alloc();
-    let equation = [Pure::Eq(X, Y)];
-    let both = [Pure::Eq(X, Y), Pure::Neq(X, NIL)];
-    let atoms = [cell(X, Y), list(Y)];
-    let a = Heap::from_slices(alloc, &equation, &atoms)?;
-    let b = Heap::from_slices(alloc, &[], &[list(X)])?;
-    let whole = entail(alloc, a.clone()?, b.clone()?)?;
-    let longer = entail(alloc, Heap::from_slices(alloc, &both, &atoms)?, b.clone()?)?;
-    let right = entail(alloc, a.clone()?, Heap::new(alloc))?;
-    let turned = entail(alloc, b.clone()?, b.clone()?)?;
-    let runs = Judgement::Term(3, a.clone()?);
-    let later = Judgement::Term(3, b.clone()?);
-    let full = Judgement::Term(3, Heap::from_slices(alloc, &[Pure::Eq(X, X); 64], &[])?);
-    if !has_room(&whole) {
-        return Err("room".into());
-    }
-    let added = with_pure_atom(alloc, &whole, Pure::Neq(X, NIL))?;
-    let replaced = with_pure_atoms(alloc, &longer, Vec::from_slice(alloc, &equation)?)?;
-    let disjunct = with_disjunct(alloc, &a, Heap::new(alloc))?;
-    let pairs = [kept(1, 1)];
-    let found = [
-        *antecedent(&whole) == a,
-        *antecedent(&later) == b,
-        is_same_judgement(&with_antecedent(&whole, b.clone()?)?, &turned),
-        is_same_judgement(&with_antecedent(&runs, b.clone()?)?, &later),
-        is_short(2, &a),
-        !is_short(1, &a),
-        are_short(2, &[b.clone()?, a.clone()?]),
-        !are_short(1, &[b.clone()?, a.clone()?]),
-        are_disjuncts_short(1, &whole),
-        !are_disjuncts_short(0, &whole),
-        are_disjuncts_short(0, &runs),
-        !has_room(&full),
-    ];
-    assert_eq!(rt; found, [true; 12]);
+    let whole = sample(alloc)?;
+    let runs = Judgement::Term(3, cell_and_list(alloc)?);
+    let later = Judgement::Term(3, only_list(alloc)?);
+    let turned = entail(alloc, only_list(alloc)?, only_list(alloc)?)?;
+    assert!(rt; *antecedent(&whole) == cell_and_list(alloc)?);
+    assert!(rt; *antecedent(&later) == only_list(alloc)?);
+    assert!(rt; is_same_judgement(&with_antecedent(&whole, only_list(alloc)?)?, &turned));
+    assert!(rt; is_same_judgement(&with_antecedent(&runs, only_list(alloc)?)?, &later));
     assert_eq!(rt;
         [fresh(&whole, 0), fresh(&whole, 9), fresh(&later, 0)],
         [2, 9, 1]
     );
+    Ok(())
+}
+
+#[test]
+fn limits(rt: HostRuntime) -> Result<(), Fail> {
+    let alloc = rt.alloc();
+    let heaps = [only_list(alloc)?, cell_and_list(alloc)?];
+    assert!(rt; is_short(2, &heaps[1]) && !is_short(1, &heaps[1]));
+    assert!(rt; are_short(2, &heaps) && !are_short(1, &heaps));
+    let whole = sample(alloc)?;
+    assert!(rt; are_disjuncts_short(1, &whole) && !are_disjuncts_short(0, &whole));
+    let full = Judgement::Term(3, Heap::from_slices(alloc, &[Pure::Eq(X, X); 64], &[])?);
+    assert!(rt; are_disjuncts_short(0, &full));
+    assert!(rt; has_room(&whole) && !has_room(&full));
+    Ok(())
+}
+
+#[test]
+fn two_numbered_premises(rt: HostRuntime) -> Result<(), Fail> {
+    let alloc = rt.alloc();
+    let whole = sample(alloc)?;
+    if !has_room(&whole) {
+        return Err("room".into());
+    }
+    let added = with_pure_atom(alloc, &whole, Pure::Neq(X, NIL))?;
+    let disjunct = with_disjunct(alloc, &cell_and_list(alloc)?, Heap::new(alloc))?;
     let premises = numbered(two_premises(alloc, added, disjunct)?)?;
+    let both = [Pure::Eq(X, Y), Pure::Neq(X, NIL)];
+    let longer = Heap::from_slices(alloc, &both, &[cell(X, Y), list(Y)])?;
+    let first = entail(alloc, longer, only_list(alloc)?)?;
+    let second = entail(alloc, cell_and_list(alloc)?, Heap::new(alloc))?;
     assert_eq!(rt; premises.len(), 2);
-    assert!(rt; is_premise(&premises[0], &longer, &pairs));
-    assert!(rt; is_premise(&premises[1], &right, &pairs));
-    let only = one_premise(alloc, replaced)?;
-    assert_eq!(rt; only.len(), 1);
-    assert!(rt; is_premise(&only[0], &whole, &pairs));
+    assert!(rt; is_premise(&premises[0], &first, &[kept(1, 1)]));
+    assert!(rt; is_premise(&premises[1], &second, &[kept(1, 1)]));
+    Ok(())
+}
+
+#[test]
+fn one_premise_with_other_atoms(rt: HostRuntime) -> Result<(), Fail> {
+    let alloc = rt.alloc();
+    let whole = sample(alloc)?;
+    let atoms = vec![in alloc; Pure::Neq(X, NIL)]?;
+    let premises = one_premise(alloc, with_pure_atoms(alloc, &whole, atoms)?)?;
+    let other = Heap::from_slices(alloc, &[Pure::Neq(X, NIL)], &[cell(X, Y), list(Y)])?;
+    let wanted = entail(alloc, other, only_list(alloc)?)?;
+    assert_eq!(rt; premises.len(), 1);
+    assert!(rt; is_premise(&premises[0], &wanted, &[kept(1, 1)]));
     Ok(())
 }
 

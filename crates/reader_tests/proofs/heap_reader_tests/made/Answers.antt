@@ -1,5 +1,5 @@
 use Rattle.std.proofs.Common.{arith}
-use Rattle.heap_reader.proofs.ShortTexts.{lines_short, dollars_are_program}
+use Rattle.reader_tests.proofs.ShortTexts.{lines_short, dollars_are_program}
 use Rattle.reader_tests.proofs.heap_reader_tests.made.Goals as goal
 
 pub walk_lines-requires : goal.walk_lines-requires

@@ -8,7 +8,7 @@ use Rattle.heap_reader.specs.Flaws.{Found, over_if}
 use Rattle.heap_reader.specs.Small.{IsSmall}
 use Rattle.heap_reader.proofs.NoFlaw.{not_over, at_most}
 use Rattle.heap_reader.proofs.Fitting.{heaps_small}
-use Rattle.heap_reader.proofs.ShortTexts.{three, use_short}
+use Rattle.reader_tests.proofs.ShortTexts.{three, use_short}
 use Rattle.reader_tests.proofs.heap_reader_tests.two_heaps.Goals as goal
 
 abbrev dollar_flaw : ℕ → ℕ → Found
