@@ -1,9 +1,12 @@
 // Each shared helper on a happy path, and at its limits.
 ghost use Rattle.rule_table.specs.Changes.{IsSmall};
 
-use crate::given::{E, NIL, X, Y, cell, entail, kept, list};
+use crate::given::{
+    After, E, EMPTY, HeapRow, NIL, Said, Shape, X, Y, are_premises, cell, heap, judgement, kept,
+    list,
+};
 use heap_formula::{
-    Args, Heap, Judgement, OutOfMemory, Pair, Premise, Pure, Spatial, Term, is_same_judgement,
+    Args, Heap, OutOfMemory, Pair, Premise, Pure, Spatial, Term, is_same_judgement,
 };
 use rule_table::{
     Change, antecedent, are_ascending, are_disjuncts_short, are_short, atoms_without, changed_heap,
@@ -15,10 +18,6 @@ use rule_table::{
 };
 use std::alloc::Global;
 use std::test::Fail;
-
-fn is_premise(premise: &Premise, judgement: &Judgement, pairs: &[Pair]) -> bool {
-    is_same_judgement(&premise.judgement, judgement) && premise.pairs.as_slice() == pairs
-}
 
 #[test]
 fn questions_about_atoms_and_places(rt: HostRuntime) -> Result<(), Fail> {
@@ -63,115 +62,172 @@ fn questions_about_atoms_and_places(rt: HostRuntime) -> Result<(), Fail> {
     Ok(())
 }
 
-// Lists of atoms with atoms left out, and which place each predicate atom had before.
+fn four_atoms() -> [Spatial; 4] {
+    [cell(X, Y), list(X), list(Y), cell(Y, X)]
+}
+
 #[test]
-fn lists_of_atoms(rt: HostRuntime) -> Result<(), Fail> {
+fn lists_without_an_atom(rt: HostRuntime) -> Result<(), Fail> {
     let alloc = rt.alloc();
     let pure = [Pure::Eq(X, Y), Pure::Neq(X, NIL), Pure::Neq(Y, NIL)];
-    let atoms = [cell(X, Y), list(X), list(Y), cell(Y, X)];
     let kept_pure = [Pure::Eq(X, Y), Pure::Neq(Y, NIL)];
     let kept_atoms = [cell(X, Y), list(Y), cell(Y, X)];
-    let inside = [cell(X, Y), list(Y)];
-    let outside = [list(X), cell(Y, X)];
-    let places = [0, 2];
-    let found = [
-        atoms_without(alloc, &pure, 1)?.as_slice() == kept_pure.as_slice(),
-        atoms_without(alloc, &atoms, 1)?.as_slice() == kept_atoms.as_slice(),
-        chosen_atoms(alloc, false, &places, &atoms)?.as_slice() == inside.as_slice(),
-        chosen_atoms(alloc, true, &places, &atoms)?.as_slice() == outside.as_slice(),
-    ];
-    assert_eq!(rt; found, [true; 4]);
-    let of_same = [kept(1, 1), kept(2, 2)];
-    let of_kept = [kept(2, 1)];
-    let later = [kept(0, 0), kept(1, 1)];
-    let pairs = [
-        pairs_of_same(alloc, &atoms)?.as_slice() == of_same.as_slice(),
-        pairs_of_kept(alloc, &kept_atoms, 1)?.as_slice() == of_kept.as_slice(),
-        pairs_of_kept(alloc, &[list(X), list(Y)], 2)?.as_slice() == later.as_slice(),
-        chosen_pairs(alloc, false, &places, &atoms)?.as_slice() == [kept(2, 1)].as_slice(),
-        chosen_pairs(alloc, true, &places, &atoms)?.as_slice() == [kept(1, 0)].as_slice(),
-    ];
-    assert_eq!(rt; pairs, [true; 5]);
+    assert!(rt; atoms_without(alloc, &pure, 1)?.as_slice() == kept_pure.as_slice());
+    assert!(rt; atoms_without(alloc, &four_atoms(), 1)?.as_slice() == kept_atoms.as_slice());
     Ok(())
 }
 
-/// `$0 = $1 : $0 -> ($1) * P0($1)`
-fn cell_and_list(alloc: Global) -> Result<Heap, OutOfMemory> {
-    Heap::from_slices(alloc, &[Pure::Eq(X, Y)], &[cell(X, Y), list(Y)])
+// Whether the places 0 and 2 choose these atoms and pairs.
+fn choose(
+    alloc: Global,
+    outside: bool,
+    atoms: &[Spatial],
+    pairs: &[Pair],
+) -> Result<bool, OutOfMemory> {
+    let chosen = chosen_atoms(alloc, outside, &[0, 2], &four_atoms())?;
+    let moved = chosen_pairs(alloc, outside, &[0, 2], &four_atoms())?;
+    Ok(chosen.as_slice() == atoms && moved.as_slice() == pairs)
 }
 
-/// `true : P0($0)`
-fn only_list(alloc: Global) -> Result<Heap, OutOfMemory> {
-    Heap::from_slices(alloc, &[], &[list(X)])
+#[test]
+fn chosen_lists(rt: HostRuntime) -> Result<(), Fail> {
+    let alloc = rt.alloc();
+    assert!(rt; choose(alloc, false, &[cell(X, Y), list(Y)], &[kept(2, 1)])?);
+    assert!(rt; choose(alloc, true, &[list(X), cell(Y, X)], &[kept(1, 0)])?);
+    Ok(())
 }
 
-/// The first entails the second.
-fn sample(alloc: Global) -> Result<Judgement, OutOfMemory> {
-    entail(alloc, cell_and_list(alloc)?, only_list(alloc)?)
+// Which place each predicate atom had before.
+#[test]
+fn pairs_of_lists(rt: HostRuntime) -> Result<(), Fail> {
+    let alloc = rt.alloc();
+    let kept_atoms = [cell(X, Y), list(Y), cell(Y, X)];
+    let of_same = [kept(1, 1), kept(2, 2)];
+    let of_kept = [kept(2, 1)];
+    let later = [kept(0, 0), kept(1, 1)];
+    assert!(rt; pairs_of_same(alloc, &four_atoms())?.as_slice() == of_same.as_slice());
+    assert!(rt; pairs_of_kept(alloc, &kept_atoms, 1)?.as_slice() == of_kept.as_slice());
+    assert!(rt; pairs_of_kept(alloc, &[list(X), list(Y)], 2)?.as_slice() == later.as_slice());
+    Ok(())
+}
+
+const X_TO_Y_AND_LIST: &[Shape] = &[Shape::At(X, &[Y]), Shape::List(Y)];
+
+const CELL_AND_LIST: HeapRow = HeapRow(&[Pure::Eq(X, Y)], X_TO_Y_AND_LIST);
+
+const ONLY_LIST: HeapRow = HeapRow(&[], &[Shape::List(X)]);
+
+const WHOLE: Said = Said::Entails(CELL_AND_LIST, &[ONLY_LIST]);
+
+const RUNS: Said = Said::From(3, CELL_AND_LIST);
+
+const LATER: Said = Said::From(3, ONLY_LIST);
+
+fn has_antecedent(alloc: Global, said: Said, row: HeapRow) -> Result<bool, Fail> {
+    let wanted = heap(alloc, row)?;
+    Ok(*antecedent(&judgement(alloc, said)?) == wanted)
+}
+
+// Whether the list alone, as antecedent, makes the first judgement the second.
+fn turns_into(alloc: Global, before: Said, after: Said) -> Result<bool, Fail> {
+    let other = heap(alloc, ONLY_LIST)?;
+    let turned = with_antecedent(&judgement(alloc, before)?, other)?;
+    Ok(is_same_judgement(&turned, &judgement(alloc, after)?))
 }
 
 #[test]
 fn other_antecedents(rt: HostRuntime) -> Result<(), Fail> {
     let alloc = rt.alloc();
-    let whole = sample(alloc)?;
-    let runs = Judgement::Term(3, cell_and_list(alloc)?);
-    let later = Judgement::Term(3, only_list(alloc)?);
-    let turned = entail(alloc, only_list(alloc)?, only_list(alloc)?)?;
-    assert!(rt; *antecedent(&whole) == cell_and_list(alloc)?);
-    assert!(rt; *antecedent(&later) == only_list(alloc)?);
-    assert!(rt; is_same_judgement(&with_antecedent(&whole, only_list(alloc)?)?, &turned));
-    assert!(rt; is_same_judgement(&with_antecedent(&runs, only_list(alloc)?)?, &later));
-    assert_eq!(rt;
-        [fresh(&whole, 0), fresh(&whole, 9), fresh(&later, 0)],
-        [2, 9, 1]
-    );
+    assert!(rt; has_antecedent(alloc, WHOLE, CELL_AND_LIST)?);
+    assert!(rt; has_antecedent(alloc, LATER, ONLY_LIST)?);
+    assert!(rt; turns_into(alloc, WHOLE, Said::Entails(ONLY_LIST, &[ONLY_LIST]))?);
+    assert!(rt; turns_into(alloc, RUNS, LATER)?);
+    Ok(())
+}
+
+fn fresh_in(alloc: Global, said: Said, least: u16) -> Result<u32, Fail> {
+    Ok(fresh(&judgement(alloc, said)?, least))
+}
+
+#[test]
+fn fresh_numbers(rt: HostRuntime) -> Result<(), Fail> {
+    let alloc = rt.alloc();
+    assert_eq!(rt; fresh_in(alloc, WHOLE, 0)?, 2);
+    assert_eq!(rt; fresh_in(alloc, WHOLE, 9)?, 9);
+    assert_eq!(rt; fresh_in(alloc, LATER, 0)?, 1);
     Ok(())
 }
 
 #[test]
-fn limits(rt: HostRuntime) -> Result<(), Fail> {
+fn limits_of_heaps(rt: HostRuntime) -> Result<(), Fail> {
     let alloc = rt.alloc();
-    let heaps = [only_list(alloc)?, cell_and_list(alloc)?];
+    let heaps = [heap(alloc, ONLY_LIST)?, heap(alloc, CELL_AND_LIST)?];
     assert!(rt; is_short(2, &heaps[1]) && !is_short(1, &heaps[1]));
     assert!(rt; are_short(2, &heaps) && !are_short(1, &heaps));
-    let whole = sample(alloc)?;
+    Ok(())
+}
+
+#[test]
+fn limits_of_judgements(rt: HostRuntime) -> Result<(), Fail> {
+    let alloc = rt.alloc();
+    let whole = judgement(alloc, WHOLE)?;
+    let full = judgement(alloc, Said::From(3, HeapRow(&[Pure::Eq(X, X); 64], &[])))?;
     assert!(rt; are_disjuncts_short(1, &whole) && !are_disjuncts_short(0, &whole));
-    let full = Judgement::Term(3, Heap::from_slices(alloc, &[Pure::Eq(X, X); 64], &[])?);
     assert!(rt; are_disjuncts_short(0, &full));
     assert!(rt; has_room(&whole) && !has_room(&full));
     Ok(())
 }
 
-#[test]
-fn two_numbered_premises(rt: HostRuntime) -> Result<(), Fail> {
-    let alloc = rt.alloc();
-    let whole = sample(alloc)?;
+fn one_atom_more(alloc: Global) -> Result<Premise, Fail> {
+    let whole = judgement(alloc, WHOLE)?;
     if !has_room(&whole) {
         return Err("room".into());
     }
-    let added = with_pure_atom(alloc, &whole, Pure::Neq(X, NIL))?;
-    let disjunct = with_disjunct(alloc, &cell_and_list(alloc)?, Heap::new(alloc))?;
-    let premises = numbered(two_premises(alloc, added, disjunct)?)?;
-    let both = [Pure::Eq(X, Y), Pure::Neq(X, NIL)];
-    let longer = Heap::from_slices(alloc, &both, &[cell(X, Y), list(Y)])?;
-    let first = entail(alloc, longer, only_list(alloc)?)?;
-    let second = entail(alloc, cell_and_list(alloc)?, Heap::new(alloc))?;
-    assert_eq!(rt; premises.len(), 2);
-    assert!(rt; is_premise(&premises[0], &first, &[kept(1, 1)]));
-    assert!(rt; is_premise(&premises[1], &second, &[kept(1, 1)]));
+    Ok(with_pure_atom(alloc, &whole, Pure::Neq(X, NIL))?)
+}
+
+fn other_disjunct(alloc: Global) -> Result<Premise, Fail> {
+    let left = heap(alloc, CELL_AND_LIST)?;
+    Ok(with_disjunct(alloc, &left, Heap::new(alloc))?)
+}
+
+const TWO: &[After] = &[
+    After(
+        Said::Entails(
+            HeapRow(&[Pure::Eq(X, Y), Pure::Neq(X, NIL)], X_TO_Y_AND_LIST),
+            &[ONLY_LIST],
+        ),
+        &[(1, 1, false)],
+    ),
+    After(Said::Entails(CELL_AND_LIST, &[EMPTY]), &[(1, 1, false)]),
+];
+
+#[test]
+fn two_numbered_premises(rt: HostRuntime) -> Result<(), Fail> {
+    let alloc = rt.alloc();
+    let first = one_atom_more(alloc)?;
+    let second = other_disjunct(alloc)?;
+    let premises = numbered(two_premises(alloc, first, second)?)?;
+    assert!(rt; are_premises(alloc, &premises, TWO)?);
     Ok(())
+}
+
+const ONE: &[After] = &[After(
+    Said::Entails(HeapRow(&[Pure::Neq(X, NIL)], X_TO_Y_AND_LIST), &[ONLY_LIST]),
+    &[(1, 1, false)],
+)];
+
+fn other_atoms(alloc: Global) -> Result<Premise, Fail> {
+    let whole = judgement(alloc, WHOLE)?;
+    let atoms = vec![in alloc; Pure::Neq(X, NIL)]?;
+    Ok(with_pure_atoms(alloc, &whole, atoms)?)
 }
 
 #[test]
 fn one_premise_with_other_atoms(rt: HostRuntime) -> Result<(), Fail> {
     let alloc = rt.alloc();
-    let whole = sample(alloc)?;
-    let atoms = vec![in alloc; Pure::Neq(X, NIL)]?;
-    let premises = one_premise(alloc, with_pure_atoms(alloc, &whole, atoms)?)?;
-    let other = Heap::from_slices(alloc, &[Pure::Neq(X, NIL)], &[cell(X, Y), list(Y)])?;
-    let wanted = entail(alloc, other, only_list(alloc)?)?;
-    assert_eq!(rt; premises.len(), 1);
-    assert!(rt; is_premise(&premises[0], &wanted, &[kept(1, 1)]));
+    let premises = one_premise(alloc, other_atoms(alloc)?)?;
+    assert!(rt; are_premises(alloc, &premises, ONE)?);
     Ok(())
 }
 

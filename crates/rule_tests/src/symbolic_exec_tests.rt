@@ -1,13 +1,11 @@
 // Each command, and each fault.
 ghost use Rattle.std.specs.Prelude.{◌≤◌};
 
-use crate::given::{NIL, X, Y, fault};
-use cyc_memory::OutOfMemory;
-use goto_lang::{Program, ProgramFault};
-use heap_formula::{
-    Args, Command, Disjuncts, Heap, Judgement, Pair, Premise, Pure, RuleError, RuleFault, Spatial,
-    Term,
+use crate::given::{
+    After, CLOSES, EMPTY, HeapRow, Moved, NIL, Said, Shape, Wanted, X, Y, is_wanted, judgement,
 };
+use goto_lang::{Program, ProgramFault};
+use heap_formula::{Command, Pure, RuleFault, Term};
 use std::alloc::Global;
 use std::test::Fail;
 use symbolic_exec::premises_exec;
@@ -20,28 +18,9 @@ const V4: Term = Term::Univ(4);
 
 const LAST: Term = Term::Univ(65534);
 
-/// A spatial atom: a cell with its fields, or a list.
+/// A judgement, and what the rule is to answer.
 #[derive(Clone, Copy)]
-enum Shape {
-    At(Term, &'static [Term]),
-    List(Term),
-}
-
-/// A line, and the pure and the spatial atoms of a symbolic state there.
-#[derive(Clone, Copy)]
-struct Row(u32, &'static [Pure], &'static [Shape]);
-
-/// A state, the states after the command at its line, and the places of lists before and after.
-struct Step {
-    before: Row,
-    after: &'static [Row],
-    places: &'static [(u8, u8)],
-}
-
-struct Refusal {
-    before: Row,
-    fault: RuleFault,
-}
+struct Row(Said, Wanted);
 
 const X_IS_2: &[Pure] = &[Pure::Eq(X, V2)];
 
@@ -51,109 +30,137 @@ const Y_CELL_LIST: &[Shape] = &[Shape::At(Y, &[X, V2]), Shape::List(X)];
 
 const OLD_CELL_LIST: &[Shape] = &[Shape::At(Y, &[V3, V2]), Shape::List(V3)];
 
-static STEPS: &[Step] = &[
+const STATE: HeapRow = HeapRow(X_IS_2, Y_CELL_LIST);
+
+const LATER_STATE: HeapRow = HeapRow(&[OLD_IS_2, Pure::Eq(X, V3)], OLD_CELL_LIST);
+
+const SECOND_STAYS: &[Moved] = &[(1, 1, false)];
+
+static ASSIGNMENTS: &[Row] = &[
     // x := x
-    Step {
-        before: Row(1, X_IS_2, Y_CELL_LIST),
-        after: &[Row(2, &[OLD_IS_2, Pure::Eq(X, V3)], OLD_CELL_LIST)],
-        places: &[(1, 1)],
-    },
+    Row(
+        Said::From(1, STATE),
+        Wanted::Gives(&[After(Said::From(2, LATER_STATE), SECOND_STAYS)]),
+    ),
     // x := y.1
-    Step {
-        before: Row(2, X_IS_2, Y_CELL_LIST),
-        after: &[Row(3, &[OLD_IS_2, Pure::Eq(X, V3)], OLD_CELL_LIST)],
-        places: &[(1, 1)],
-    },
+    Row(
+        Said::From(2, STATE),
+        Wanted::Gives(&[After(Said::From(3, LATER_STATE), SECOND_STAYS)]),
+    ),
     // x := x.1
-    Step {
-        before: Row(
+    Row(
+        Said::From(
             3,
-            &[Pure::Neq(X, NIL)],
-            &[Shape::At(X, &[Y]), Shape::List(Y)],
+            HeapRow(&[Pure::Neq(X, NIL)], &[Shape::At(X, &[Y]), Shape::List(Y)]),
         ),
-        after: &[Row(
-            4,
-            &[Pure::Neq(V2, NIL), Pure::Eq(X, Y)],
-            &[Shape::At(V2, &[Y]), Shape::List(Y)],
-        )],
-        places: &[(1, 1)],
-    },
+        Wanted::Gives(&[After(
+            Said::From(
+                4,
+                HeapRow(
+                    &[Pure::Neq(V2, NIL), Pure::Eq(X, Y)],
+                    &[Shape::At(V2, &[Y]), Shape::List(Y)],
+                ),
+            ),
+            SECOND_STAYS,
+        )]),
+    ),
     // y.2 := nil, at a cell whose address is equal to y
-    Step {
-        before: Row(
+    Row(
+        Said::From(
             4,
-            &[Pure::Eq(X, Y)],
-            &[Shape::List(Y), Shape::At(X, &[Y, Y]), Shape::At(Y, &[V2])],
+            HeapRow(
+                &[Pure::Eq(X, Y)],
+                &[Shape::List(Y), Shape::At(X, &[Y, Y]), Shape::At(Y, &[V2])],
+            ),
         ),
-        after: &[Row(
-            5,
-            &[Pure::Eq(X, Y)],
-            &[Shape::List(Y), Shape::At(X, &[Y, NIL]), Shape::At(Y, &[V2])],
-        )],
-        places: &[(0, 0)],
-    },
-    // x := new 2
-    Step {
-        before: Row(5, X_IS_2, Y_CELL_LIST),
-        after: &[Row(
-            6,
-            &[OLD_IS_2],
-            &[
-                Shape::At(Y, &[V3, V2]),
-                Shape::List(V3),
-                Shape::At(X, &[V4, Term::Univ(5)]),
-            ],
-        )],
-        places: &[(1, 1)],
-    },
-    // the same where nothing stands in the state
-    Step {
-        before: Row(5, &[], &[]),
-        after: &[Row(6, &[], &[Shape::At(X, &[V3, V4])])],
-        places: &[],
-    },
-    // free y
-    Step {
-        before: Row(6, X_IS_2, Y_CELL_LIST),
-        after: &[Row(7, X_IS_2, &[Shape::List(X)])],
-        places: &[(1, 0)],
-    },
-    // if x = y goto 2
-    Step {
-        before: Row(7, &[], Y_CELL_LIST),
-        after: &[
-            Row(2, &[Pure::Eq(X, Y)], Y_CELL_LIST),
-            Row(8, &[Pure::Neq(X, Y)], Y_CELL_LIST),
-        ],
-        places: &[(1, 1)],
-    },
-    // if x != y goto 3
-    Step {
-        before: Row(8, &[], Y_CELL_LIST),
-        after: &[
-            Row(3, &[Pure::Neq(X, Y)], Y_CELL_LIST),
-            Row(9, &[Pure::Eq(X, Y)], Y_CELL_LIST),
-        ],
-        places: &[(1, 1)],
-    },
-    // goto 11
-    Step {
-        before: Row(9, X_IS_2, Y_CELL_LIST),
-        after: &[Row(11, X_IS_2, Y_CELL_LIST)],
-        places: &[(1, 1)],
-    },
+        Wanted::Gives(&[After(
+            Said::From(
+                5,
+                HeapRow(
+                    &[Pure::Eq(X, Y)],
+                    &[Shape::List(Y), Shape::At(X, &[Y, NIL]), Shape::At(Y, &[V2])],
+                ),
+            ),
+            &[(0, 0, false)],
+        )]),
+    ),
     // x := nil: the variable after the last one stands nowhere
-    Step {
-        before: Row(10, &[Pure::Eq(LAST, Y)], &[]),
-        after: &[Row(11, &[Pure::Eq(LAST, Y), Pure::Eq(X, NIL)], &[])],
-        places: &[],
-    },
+    Row(
+        Said::From(10, HeapRow(&[Pure::Eq(LAST, Y)], &[])),
+        Wanted::Gives(&[After(
+            Said::From(11, HeapRow(&[Pure::Eq(LAST, Y), Pure::Eq(X, NIL)], &[])),
+            &[],
+        )]),
+    ),
+];
+
+static OTHER_COMMANDS: &[Row] = &[
+    // x := new 2
+    Row(
+        Said::From(5, STATE),
+        Wanted::Gives(&[After(
+            Said::From(
+                6,
+                HeapRow(
+                    &[OLD_IS_2],
+                    &[
+                        Shape::At(Y, &[V3, V2]),
+                        Shape::List(V3),
+                        Shape::At(X, &[V4, Term::Univ(5)]),
+                    ],
+                ),
+            ),
+            SECOND_STAYS,
+        )]),
+    ),
+    // the same where nothing stands in the state
+    Row(
+        Said::From(5, EMPTY),
+        Wanted::Gives(&[After(Said::From(6, HeapRow(&[], &[Shape::At(X, &[V3, V4])])), &[])]),
+    ),
+    // free y
+    Row(
+        Said::From(6, STATE),
+        Wanted::Gives(&[After(
+            Said::From(7, HeapRow(X_IS_2, &[Shape::List(X)])),
+            &[(1, 0, false)],
+        )]),
+    ),
+    // if x = y goto 2
+    Row(
+        Said::From(7, HeapRow(&[], Y_CELL_LIST)),
+        Wanted::Gives(&[
+            After(
+                Said::From(2, HeapRow(&[Pure::Eq(X, Y)], Y_CELL_LIST)),
+                SECOND_STAYS,
+            ),
+            After(
+                Said::From(8, HeapRow(&[Pure::Neq(X, Y)], Y_CELL_LIST)),
+                SECOND_STAYS,
+            ),
+        ]),
+    ),
+    // if x != y goto 3
+    Row(
+        Said::From(8, HeapRow(&[], Y_CELL_LIST)),
+        Wanted::Gives(&[
+            After(
+                Said::From(3, HeapRow(&[Pure::Neq(X, Y)], Y_CELL_LIST)),
+                SECOND_STAYS,
+            ),
+            After(
+                Said::From(9, HeapRow(&[Pure::Eq(X, Y)], Y_CELL_LIST)),
+                SECOND_STAYS,
+            ),
+        ]),
+    ),
+    // goto 11
+    Row(
+        Said::From(9, STATE),
+        Wanted::Gives(&[After(Said::From(11, STATE), SECOND_STAYS)]),
+    ),
     // stop
-    Step {
-        before: Row(11, X_IS_2, Y_CELL_LIST),
-        after: &[],
-        places: &[],
-    },
+    Row(Said::From(11, STATE), CLOSES),
 ];
 
 const SEVENTEEN: &[Shape] = &[Shape::List(X); 17];
@@ -162,70 +169,56 @@ const SIXTEEN: &[Shape] = &[Shape::List(X); 16];
 
 const FULL: &[Pure] = &[Pure::Eq(Y, Y); 64];
 
-static REFUSALS: &[Refusal] = &[
-    Refusal {
-        before: Row(0, &[], &[]),
-        fault: RuleFault::WrongJudgement,
-    },
-    Refusal {
-        before: Row(12, &[], &[]),
-        fault: RuleFault::WrongJudgement,
-    },
+const WRONG: Wanted = Wanted::Fails(RuleFault::WrongJudgement);
+
+const NO_CELL: Wanted = Wanted::Fails(RuleFault::NoCell);
+
+const MANY: Wanted = Wanted::Fails(RuleFault::TooManyAtoms);
+
+const NO_NUMBER: Wanted = Wanted::Fails(RuleFault::NoFreshVariable);
+
+static FAULTS: &[Row] = &[
+    Row(Said::Entails(EMPTY, &[EMPTY]), WRONG),
+    Row(Said::From(0, EMPTY), WRONG),
+    Row(Said::From(12, EMPTY), WRONG),
     // no cell: none at all; a field past the end; a longer cell after one that is too short; two equations
-    Refusal {
-        before: Row(6, FULL, &[Shape::List(Y)]),
-        fault: RuleFault::NoCell,
-    },
-    Refusal {
-        before: Row(4, FULL, &[Shape::At(Y, &[X])]),
-        fault: RuleFault::NoCell,
-    },
-    Refusal {
-        before: Row(
+    Row(Said::From(6, HeapRow(FULL, &[Shape::List(Y)])), NO_CELL),
+    Row(Said::From(4, HeapRow(FULL, &[Shape::At(Y, &[X])])), NO_CELL),
+    Row(
+        Said::From(
             4,
-            &[Pure::Eq(Y, V2)],
-            &[Shape::At(V2, &[X]), Shape::At(Y, &[X, X])],
+            HeapRow(
+                &[Pure::Eq(Y, V2)],
+                &[Shape::At(V2, &[X]), Shape::At(Y, &[X, X])],
+            ),
         ),
-        fault: RuleFault::NoCell,
-    },
-    Refusal {
-        before: Row(
+        NO_CELL,
+    ),
+    Row(
+        Said::From(
             2,
-            &[Pure::Eq(Y, V2), Pure::Eq(V3, V2)],
-            &[Shape::At(V3, &[X])],
+            HeapRow(&[Pure::Eq(Y, V2), Pure::Eq(V3, V2)], &[Shape::At(V3, &[X])]),
         ),
-        fault: RuleFault::NoCell,
-    },
+        NO_CELL,
+    ),
     // no room
-    Refusal {
-        before: Row(1, FULL, &[]),
-        fault: RuleFault::TooManyAtoms,
-    },
-    Refusal {
-        before: Row(7, FULL, &[]),
-        fault: RuleFault::TooManyAtoms,
-    },
-    Refusal {
-        before: Row(5, &[Pure::Eq(LAST, X)], SIXTEEN),
-        fault: RuleFault::TooManyAtoms,
-    },
-    Refusal {
-        before: Row(9, &[], SEVENTEEN),
-        fault: RuleFault::TooManyAtoms,
-    },
+    Row(Said::From(1, HeapRow(FULL, &[])), MANY),
+    Row(Said::From(7, HeapRow(FULL, &[])), MANY),
+    Row(Said::From(5, HeapRow(&[Pure::Eq(LAST, X)], SIXTEEN)), MANY),
+    Row(Said::From(9, HeapRow(&[], SEVENTEEN)), MANY),
     // no number
-    Refusal {
-        before: Row(1, &[Pure::Eq(LAST, Y)], &[]),
-        fault: RuleFault::NoFreshVariable,
-    },
-    Refusal {
-        before: Row(5, &[Pure::Eq(LAST, Y)], &[]),
-        fault: RuleFault::NoFreshVariable,
-    },
-    Refusal {
-        before: Row(10, &[Pure::Eq(LAST, X)], &[]),
-        fault: RuleFault::NoFreshVariable,
-    },
+    Row(Said::From(1, HeapRow(&[Pure::Eq(LAST, Y)], &[])), NO_NUMBER),
+    Row(Said::From(5, HeapRow(&[Pure::Eq(LAST, Y)], &[])), NO_NUMBER),
+    Row(
+        Said::From(10, HeapRow(&[Pure::Eq(LAST, X)], &[])),
+        NO_NUMBER,
+    ),
+];
+
+// With room for 32 atoms.
+static WIDER: &[Row] = &[
+    Row(Said::From(5, HeapRow(&[], SIXTEEN)), Wanted::Counts(1)),
+    Row(Said::From(9, HeapRow(&[], SEVENTEEN)), Wanted::Counts(1)),
 ];
 
 // A program with the variables x and y.
@@ -248,143 +241,36 @@ fn program(alloc: Global) -> Result<Program, ProgramFault> {
     )
 }
 
-fn atom(shape: Shape) -> Spatial {
-    match shape {
-        Shape::At(t, fields) => Spatial::Cell(t, terms(fields)),
-        Shape::List(t) => Spatial::Pred(0, Args::from_slice(&[t])),
-    }
-}
-
-// The first eight.
-fn terms(fields: &[Term]) -> Args {
-    if fields.len() <= 8 {
-        Args::from_slice(fields)
-    } else {
-        Args::from_slice(&fields[..8])
-    }
-}
-
-fn atoms(alloc: Global, shapes: &[Shape]) -> Result<Vec<Spatial>, OutOfMemory> {
-    let mut all = Vec::new(alloc);
-    for shape in shapes {
-        all.push(atom(*shape))?;
-    }
-    Ok(all)
-}
-
-fn judgement(alloc: Global, row: Row) -> Result<Option<Judgement>, OutOfMemory> {
-    let pure = Vec::from_slice(alloc, row.1)?;
-    let spatial = atoms(alloc, row.2)?;
-    if pure.len() > 64 || spatial.len() > 32 {
-        return Ok(None);
-    }
-    Ok(Some(Judgement::Term(row.0, Heap::from_lists(pure, spatial))))
-}
-
-fn answer(
-    alloc: Global,
-    program: &Program,
-    before: Row,
-    most: u8,
-) -> Result<Vec<Premise>, RuleError>
+// The number of the first row that is wrong.
+fn first_wrong(alloc: Global, rows: &[Row], most: u8) -> Result<Option<usize>, Fail>
     requires { most ≤ 32 }
 {
-    match judgement(alloc, before)? {
-        Some(judgement) => premises_exec(alloc, program, &judgement, most),
-        None => Err(RuleError::OutOfMemory),
-    }
-}
-
-fn are_pairs(pairs: &[Pair], places: &[(u8, u8)]) -> bool {
-    if pairs.len() != places.len() {
-        return false;
-    }
-    for (i, (old, new)) in places.iter().enumerate() {
-        let wanted = Pair {
-            old: *old,
-            new: *new,
-            progress: false,
-        };
-        if pairs[i] != wanted {
-            return false;
+    let program = program(alloc)?;
+    for (i, row) in rows.iter().enumerate() {
+        let judgement = judgement(alloc, row.0)?;
+        let answer = premises_exec(alloc, &program, &judgement, most);
+        if !is_wanted(alloc, answer, row.1)? {
+            return Ok(Some(i));
         }
     }
-    true
-}
-
-fn is_premise(
-    alloc: Global,
-    premise: &Premise,
-    after: Row,
-    places: &[(u8, u8)],
-) -> Result<bool, OutOfMemory> {
-    match judgement(alloc, after)? {
-        Some(wanted) => {
-            Ok(premise.judgement == wanted && are_pairs(premise.pairs.as_slice(), places))
-        }
-        None => Ok(false),
-    }
-}
-
-fn are_premises(alloc: Global, premises: &[Premise], step: &Step) -> Result<bool, OutOfMemory> {
-    if premises.len() != step.after.len() {
-        return Ok(false);
-    }
-    for (i, after) in step.after.iter().enumerate() {
-        if !is_premise(alloc, &premises[i], *after, step.places)? {
-            return Ok(false);
-        }
-    }
-    Ok(true)
-}
-
-fn count(answer: Result<Vec<Premise>, RuleError>) -> Result<usize, RuleError> {
-    Ok(answer?.len())
+    Ok(None)
 }
 
 #[test]
 fn each_command_leads_on(rt: HostRuntime) -> Result<(), Fail> {
-    let alloc = rt.alloc();
-    let program = program(alloc)?;
-    for step in STEPS {
-        let premises = answer(alloc, &program, step.before, 16)?;
-        assert!(rt; are_premises(alloc, &premises, step)?);
-    }
+    assert_eq!(rt; first_wrong(rt.alloc(), ASSIGNMENTS, 16)?, None);
+    assert_eq!(rt; first_wrong(rt.alloc(), OTHER_COMMANDS, 16)?, None);
     Ok(())
 }
 
 #[test]
 fn each_fault_is_told(rt: HostRuntime) -> Result<(), Fail> {
-    let alloc = rt.alloc();
-    let program = program(alloc)?;
-    for refusal in REFUSALS {
-        assert_eq!(rt;
-            count(answer(alloc, &program, refusal.before, 16)),
-            Err(RuleError::Fault(refusal.fault))
-        );
-    }
+    assert_eq!(rt; first_wrong(rt.alloc(), FAULTS, 16)?, None);
     Ok(())
 }
 
 #[test]
 fn the_other_versions_limit(rt: HostRuntime) -> Result<(), Fail> {
-    let alloc = rt.alloc();
-    let program = program(alloc)?;
-    assert_eq!(rt;
-        count(answer(alloc, &program, Row(5, &[], SIXTEEN), 32)),
-        Ok(1)
-    );
-    assert_eq!(rt;
-        count(answer(alloc, &program, Row(9, &[], SEVENTEEN), 32)),
-        Ok(1)
-    );
-    let entailment = Judgement::Entail(
-        Heap::new(alloc),
-        Disjuncts::single(alloc, Heap::new(alloc))?,
-    );
-    assert_eq!(rt;
-        count(premises_exec(alloc, &program, &entailment, 16)),
-        Err(RuleError::Fault(RuleFault::WrongJudgement))
-    );
+    assert_eq!(rt; first_wrong(rt.alloc(), WIDER, 32)?, None);
     Ok(())
 }

@@ -1,220 +1,248 @@
 // Each fault and each form of a premise, once.
-ghost use Rattle.std.specs.Prelude.{◌≤◌, length};
+ghost use Rattle.std.specs.Prelude.{◌≤◌};
 
-use crate::given::{E, X, Y, cell, entail, fault, is_only, kept, list, lists};
-use heap_formula::{
-    Disjuncts, Heap, Judgement, OutOfMemory, Pair, Positions, Premise, Pure, RuleFault, Spatial,
-    Term,
+use crate::given::{
+    After, E, EMPTY, HeapRow, NIL, Said, Shape, Wanted, X, Y, heap, is_wanted, judgement, lists,
 };
+use heap_formula::{Heap, Judgement, Positions, Premise, Pure, RuleError, RuleFault, Term};
+use pred_defs::Defs;
 use std::alloc::Global;
 use std::test::Fail;
 use unfold_rule::{premises_cut, premises_unfold, premises_unfold_right};
 
-fn positions(alloc: Global, places: &[u32]) -> Result<Positions, Fail> {
-    let mut list = Vec::new(alloc);
-    list.extend_from_slice(places)?;
-    Ok(Positions::from_vec(list))
+/// A rule with its arguments. The first number of `Unfold` and of `Cut` is how many variables the program has, and the
+/// last one of `Cut` is how many atoms a heap may have.
+#[derive(Clone, Copy)]
+enum Call {
+    Unfold(u16, u32),
+    UnfoldRight(u32, u32),
+    Cut(u16, &'static [u32], HeapRow, u8),
 }
 
-fn faults(alloc: Global, judgement: &Judgement) -> Result<Vec<Option<RuleFault>>, Fail> {
+/// A judgement, a rule, and what it is to answer.
+#[derive(Clone, Copy)]
+struct Row(Said, Call, Wanted);
+
+const NONE: Wanted = Wanted::Fails(RuleFault::NoSuchAtom);
+
+const WRONG: Wanted = Wanted::Fails(RuleFault::WrongJudgement);
+
+const SEVERAL: Wanted = Wanted::Fails(RuleFault::NotSingle);
+
+const MANY: Wanted = Wanted::Fails(RuleFault::TooManyAtoms);
+
+const NO_NUMBER: Wanted = Wanted::Fails(RuleFault::NoFreshVariable);
+
+const RUNS: Said = Said::From(
+    1,
+    HeapRow(&[], &[Shape::At(X, &[Y]), Shape::List(Term::Univ(65534))]),
+);
+
+const FULL: Said = Said::Entails(
+    HeapRow(&[], &[Shape::List(X); 16]),
+    &[HeapRow(&[], &[Shape::At(X, &[Y]), Shape::List(Term::Exist(65534))])],
+);
+
+const TWO: Said = Said::Entails(
+    HeapRow(&[], &[Shape::List(X), Shape::List(Y)]),
+    &[EMPTY, HeapRow(&[], &[Shape::List(X); 17])],
+);
+
+const FORMULA: HeapRow = HeapRow(&[], &[Shape::List(X), Shape::List(E)]);
+
+const CUT_TURNED: Call = Call::Cut(2, &[1, 0], FORMULA, 16);
+
+const CUT_TWO: Call = Call::Cut(2, &[0, 1], FORMULA, 16);
+
+const CUT_FAR: Call = Call::Cut(2, &[0, 17], FORMULA, 32);
+
+static FAULTS: &[Row] = &[
+    Row(RUNS, Call::Unfold(2, 0), NONE),
+    Row(RUNS, Call::Unfold(2, 1), NO_NUMBER),
+    Row(RUNS, Call::Unfold(2, 17), NONE),
+    Row(RUNS, Call::UnfoldRight(0, 0), WRONG),
+    Row(RUNS, Call::UnfoldRight(1, 1), WRONG),
+    Row(RUNS, Call::UnfoldRight(1, 2), WRONG),
+    Row(RUNS, CUT_TURNED, NONE),
+    Row(RUNS, CUT_TWO, NO_NUMBER),
+    Row(RUNS, CUT_FAR, NONE),
+    Row(FULL, Call::Unfold(2, 0), MANY),
+    Row(FULL, Call::Unfold(2, 1), MANY),
+    Row(FULL, Call::Unfold(2, 17), NONE),
+    Row(FULL, Call::UnfoldRight(0, 0), NONE),
+    Row(FULL, Call::UnfoldRight(1, 1), NO_NUMBER),
+    Row(
+        FULL,
+        Call::UnfoldRight(1, 2),
+        Wanted::Fails(RuleFault::NoSuchCase),
+    ),
+    Row(FULL, CUT_TURNED, NONE),
+    Row(FULL, CUT_TWO, Wanted::Passes),
+    Row(FULL, CUT_FAR, NONE),
+    Row(TWO, Call::Unfold(2, 0), MANY),
+    Row(TWO, Call::Unfold(2, 1), MANY),
+    Row(TWO, Call::Unfold(2, 17), NONE),
+    Row(TWO, Call::UnfoldRight(0, 0), SEVERAL),
+    Row(TWO, Call::UnfoldRight(1, 1), SEVERAL),
+    Row(TWO, Call::UnfoldRight(1, 2), SEVERAL),
+    Row(TWO, CUT_TURNED, NONE),
+    Row(TWO, CUT_TWO, MANY),
+    Row(TWO, CUT_FAR, NONE),
+];
+
+const LIST_AT_X: HeapRow = HeapRow(&[], &[Shape::List(X)]);
+
+// Sixteen atoms are there, and the second case has two in place of one.
+const SIXTEEN: Said = Said::Entails(LIST_AT_X, &[HeapRow(&[], &[Shape::List(X); 16])]);
+
+const FAR: &[HeapRow] = &[HeapRow(&[], &[Shape::List(Term::Univ(5))])];
+
+const V6: Term = Term::Univ(6);
+
+const V7: Term = Term::Univ(7);
+
+const V8: Term = Term::Univ(8);
+
+const OLD: Term = Term::Exist(2);
+
+const LOCAL: Term = Term::Exist(3);
+
+static PREMISES: &[Row] = &[
+    Row(
+        Said::Entails(
+            HeapRow(&[], &[Shape::At(Y, &[X]), Shape::List(X), Shape::List(Y)]),
+            FAR,
+        ),
+        Call::Unfold(0, 1),
+        Wanted::Gives(&[
+            After(
+                Said::Entails(
+                    HeapRow(&[Pure::Eq(X, NIL)], &[Shape::At(Y, &[X]), Shape::List(Y)]),
+                    FAR,
+                ),
+                &[(2, 1, false)],
+            ),
+            After(
+                Said::Entails(
+                    HeapRow(
+                        &[],
+                        &[
+                            Shape::At(Y, &[X]),
+                            Shape::List(Y),
+                            Shape::At(X, &[V6]),
+                            Shape::List(V6),
+                        ],
+                    ),
+                    FAR,
+                ),
+                &[(2, 1, false), (1, 3, true)],
+            ),
+        ]),
+    ),
+    Row(
+        Said::Entails(
+            LIST_AT_X,
+            &[HeapRow(&[], &[Shape::List(X), Shape::List(OLD)])],
+        ),
+        Call::UnfoldRight(0, 1),
+        Wanted::Gives(&[After(
+            Said::Entails(
+                LIST_AT_X,
+                &[HeapRow(
+                    &[],
+                    &[Shape::List(OLD), Shape::At(X, &[LOCAL]), Shape::List(LOCAL)],
+                )],
+            ),
+            &[(0, 0, false)],
+        )]),
+    ),
+    Row(SIXTEEN, Call::UnfoldRight(0, 1), MANY),
+    Row(SIXTEEN, Call::UnfoldRight(0, 0), Wanted::Passes),
+    Row(
+        Said::From(
+            4,
+            HeapRow(
+                &[Pure::Neq(X, NIL)],
+                &[Shape::List(Y), Shape::At(X, &[Y]), Shape::List(X)],
+            ),
+        ),
+        Call::Cut(
+            2,
+            &[0, 1],
+            HeapRow(&[Pure::Neq(E, X)], &[Shape::List(V7), Shape::List(E)]),
+            16,
+        ),
+        Wanted::Gives(&[
+            After(
+                Said::Entails(
+                    HeapRow(&[Pure::Neq(X, NIL)], &[Shape::List(Y), Shape::At(X, &[Y])]),
+                    &[HeapRow(&[Pure::Neq(E, X)], &[Shape::List(V7), Shape::List(E)])],
+                ),
+                &[(0, 0, false)],
+            ),
+            After(
+                Said::From(
+                    4,
+                    HeapRow(
+                        &[Pure::Neq(X, NIL), Pure::Neq(V8, X)],
+                        &[Shape::List(X), Shape::List(V7), Shape::List(V8)],
+                    ),
+                ),
+                &[(2, 0, false)],
+            ),
+        ]),
+    ),
+];
+
+fn cut(
+    alloc: Global,
+    judgement: &Judgement,
+    variables: u16,
+    places: &[u32],
+    formula: &Heap,
+    most: u8,
+) -> Result<Vec<Premise>, RuleError>
+    requires { most ≤ 32 }
+{
+    let places = Positions::from_vec(Vec::from_slice(alloc, places)?);
+    premises_cut(alloc, judgement, variables, &places, formula, most)
+}
+
+fn is_right(alloc: Global, defs: &Defs, row: Row) -> Result<bool, Fail> {
+    let judgement = judgement(alloc, row.0)?;
+    let answer = match row.1 {
+        Call::Unfold(variables, k) => premises_unfold(alloc, defs, &judgement, variables, k),
+        Call::UnfoldRight(k, c) => premises_unfold_right(alloc, defs, &judgement, k, c),
+        Call::Cut(variables, places, formula, most) => {
+            if most > 32 {
+                return Err("too many atoms".into());
+            }
+            let formula = heap(alloc, formula)?;
+            cut(alloc, &judgement, variables, places, &formula, most)
+        }
+    };
+    is_wanted(alloc, answer, row.2)
+}
+
+// The number of the first row that is wrong.
+fn first_wrong(alloc: Global, rows: &[Row]) -> Result<Option<usize>, Fail> {
     let defs = lists(alloc, 16)?;
-    let formula = Heap::from_slices(alloc, &[], &[list(X), list(E)])?;
-    let mut faults = Vec::new(alloc);
-    faults.push(fault(premises_unfold(alloc, &defs, judgement, 2, 0)))?;
-    faults.push(fault(premises_unfold(alloc, &defs, judgement, 2, 1)))?;
-    faults.push(fault(premises_unfold(alloc, &defs, judgement, 2, 17)))?;
-    faults.push(fault(premises_unfold_right(alloc, &defs, judgement, 0, 0)))?;
-    faults.push(fault(premises_unfold_right(alloc, &defs, judgement, 1, 1)))?;
-    faults.push(fault(premises_unfold_right(alloc, &defs, judgement, 1, 2)))?;
-    faults.push(fault(premises_cut(
-        alloc,
-        judgement,
-        2,
-        &positions(alloc, &[1, 0])?,
-        &formula,
-        16,
-    )))?;
-    faults.push(fault(premises_cut(
-        alloc,
-        judgement,
-        2,
-        &positions(alloc, &[0, 1])?,
-        &formula,
-        16,
-    )))?;
-    faults.push(fault(premises_cut(
-        alloc,
-        judgement,
-        2,
-        &positions(alloc, &[0, 17])?,
-        &formula,
-        32,
-    )))?;
-    Ok(faults)
+    for (i, row) in rows.iter().enumerate() {
+        if !is_right(alloc, &defs, *row)? {
+            return Ok(Some(i));
+        }
+    }
+    Ok(None)
 }
 
 #[test]
 fn faults_of_each_rule(rt: HostRuntime) -> Result<(), Fail> {
-    let alloc = rt.alloc();
-    let runs = Judgement::Term(
-        1,
-        Heap::from_slices(alloc, &[], &[cell(X, Y), list(Term::Univ(65534))])?,
-    );
-    let full = entail(
-        alloc,
-        Heap::from_slices(alloc, &[], &[list(X); 16])?,
-        Heap::from_slices(alloc, &[], &[cell(X, Y), list(Term::Exist(65534))])?,
-    )?;
-    let two = Judgement::Entail(
-        Heap::from_slices(alloc, &[], &[list(X), list(Y)])?,
-        Disjuncts::from_slice(
-            alloc,
-            &[
-                Heap::new(alloc),
-                Heap::from_slices(alloc, &[], &[list(X); 17])?,
-            ],
-        )?,
-    );
-    let none = Some(RuleFault::NoSuchAtom);
-    let wrong = Some(RuleFault::WrongJudgement);
-    let several = Some(RuleFault::NotSingle);
-    let many = Some(RuleFault::TooManyAtoms);
-    let number = Some(RuleFault::NoFreshVariable);
-    let of_full = [
-        many,
-        many,
-        none,
-        none,
-        number,
-        Some(RuleFault::NoSuchCase),
-        none,
-        None,
-        none,
-    ];
-    for (judgement, wanted) in [
-        (
-            runs,
-            [none, number, none, wrong, wrong, wrong, none, number, none],
-        ),
-        (full, of_full),
-        (
-            two,
-            [
-                many, many, none, several, several, several, none, many, none,
-            ],
-        ),
-    ] {
-        assert_eq!(rt; faults(alloc, &judgement)?.as_slice(), wanted.as_slice());
-    }
-    Ok(())
-}
-
-// An entailment to a list far above.
-fn to_far(alloc: Global, pure: &[Pure], spatial: &[Spatial]) -> Result<Judgement, OutOfMemory>
-    requires pure_fits { length pure.now ≤ 64 }
-    requires spatial_fits { length spatial.now ≤ 32 }
-{
-    let far = Heap::from_slices(alloc, &[], &[list(Term::Univ(5))])?;
-    entail(alloc, Heap::from_slices(alloc, pure, spatial)?, far)
-}
-
-// An entailment from the list at `X`.
-fn from_list(alloc: Global, spatial: &[Spatial]) -> Result<Judgement, OutOfMemory>
-    requires { length spatial.now ≤ 32 }
-{
-    let left = Heap::from_slices(alloc, &[], &[list(X)])?;
-    entail(alloc, left, Heap::from_slices(alloc, &[], spatial)?)
-}
-
-fn whole(alloc: Global) -> Result<Judgement, OutOfMemory> {
-    to_far(alloc, &[], &[cell(Y, X), list(X), list(Y)])
-}
-
-fn emptied(alloc: Global) -> Result<Judgement, OutOfMemory> {
-    to_far(alloc, &[Pure::Eq(X, Term::Nil)], &[cell(Y, X), list(Y)])
-}
-
-fn lengthened(alloc: Global) -> Result<Judgement, OutOfMemory> {
-    let new = Term::Univ(6);
-    to_far(alloc, &[], &[cell(Y, X), list(Y), cell(X, new), list(new)])
-}
-
-fn is_premise(premise: &Premise, judgement: &Judgement, pairs: &[Pair]) -> bool {
-    premise.judgement == *judgement && premise.pairs.as_slice() == pairs
-}
-
-#[test]
-fn premises_of_unfold(rt: HostRuntime) -> Result<(), Fail> {
-    let alloc = rt.alloc();
-    let defs = lists(alloc, 16)?;
-    let cases = premises_unfold(alloc, &defs, &whole(alloc)?, 0, 1)?;
-    let child = Pair {
-        old: 1,
-        new: 3,
-        progress: true,
-    };
-    assert_eq!(rt; cases.len(), 2);
-    assert!(rt; is_premise(&cases[0], &emptied(alloc)?, &[kept(2, 1)]));
-    assert!(rt; is_premise(&cases[1], &lengthened(alloc)?, &[kept(2, 1), child]));
+    assert_eq!(rt; first_wrong(rt.alloc(), FAULTS)?, None);
     Ok(())
 }
 
 #[test]
-fn premise_of_unfold_right(rt: HostRuntime) -> Result<(), Fail> {
-    let alloc = rt.alloc();
-    let defs = lists(alloc, 16)?;
-    let old = Term::Exist(2);
-    let local = Term::Exist(3);
-    let right = from_list(alloc, &[list(X), list(old)])?;
-    let unfolded = from_list(alloc, &[list(old), cell(X, local), list(local)])?;
-    let answer = premises_unfold_right(alloc, &defs, &right, 0, 1);
-    assert!(rt; is_only(answer, &unfolded, &[kept(0, 0)]));
-    Ok(())
-}
-
-// Sixteen atoms are there, and the second case has two in place of one.
-#[test]
-fn unfold_right_in_a_full_heap(rt: HostRuntime) -> Result<(), Fail> {
-    let alloc = rt.alloc();
-    let defs = lists(alloc, 16)?;
-    let right = from_list(alloc, &[list(X); 16])?;
-    let many = premises_unfold_right(alloc, &defs, &right, 0, 1);
-    assert_eq!(rt; fault(many), Some(RuleFault::TooManyAtoms));
-    let fewer = premises_unfold_right(alloc, &defs, &right, 0, 0);
-    assert_eq!(rt; fault(fewer), None);
-    Ok(())
-}
-
-#[test]
-fn premises_of_cut(rt: HostRuntime) -> Result<(), Fail> {
-    let alloc = rt.alloc();
-    let pure = Pure::Neq(X, Term::Nil);
-    let far = list(Term::Univ(7));
-    let opened = Term::Univ(8);
-    let runs = Judgement::Term(
-        4,
-        Heap::from_slices(alloc, &[pure], &[list(Y), cell(X, Y), list(X)])?,
-    );
-    let formula = Heap::from_slices(alloc, &[Pure::Neq(E, X)], &[far, list(E)])?;
-    let premises = premises_cut(alloc, &runs, 2, &positions(alloc, &[0, 1])?, &formula, 16)?;
-    let left = entail(
-        alloc,
-        Heap::from_slices(alloc, &[pure], &[list(Y), cell(X, Y)])?,
-        formula,
-    )?;
-    let right = Judgement::Term(
-        4,
-        Heap::from_slices(
-            alloc,
-            &[pure, Pure::Neq(opened, X)],
-            &[list(X), far, list(opened)],
-        )?,
-    );
-    assert_eq!(rt; premises.len(), 2);
-    let found = [
-        is_premise(&premises[0], &left, &[kept(0, 0)]),
-        is_premise(&premises[1], &right, &[kept(2, 0)]),
-    ];
-    assert_eq!(rt; found, [true; 2]);
+fn premises_of_each_rule(rt: HostRuntime) -> Result<(), Fail> {
+    assert_eq!(rt; first_wrong(rt.alloc(), PREMISES)?, None);
     Ok(())
 }
