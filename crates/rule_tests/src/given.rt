@@ -9,12 +9,16 @@ use pred_defs::Defs;
 use std::alloc::Global;
 use std::test::Fail;
 
+/// The term that is no address.
 pub const NIL: Term = Term::Nil;
 
+/// The first universal variable.
 pub const X: Term = Term::Univ(0);
 
+/// The second one.
 pub const Y: Term = Term::Univ(1);
 
+/// The first existential variable.
 pub const E: Term = Term::Exist(0);
 
 /// A spatial atom: a cell with its fields, or a list.

@@ -89,7 +89,21 @@ const TRIVIAL_GONE: Wanted = Wanted::Gives(&[After(
 
 const RUNS: Said = Said::From(1, HeapRow(&[Pure::Eq(X, Y), Pure::Neq(X, NIL)], LIST_AT_X));
 
-static PURE_RULES: &[Row] = &[
+const ATOMS: &[Shape] = &[Shape::At(X, &[Y]), Shape::List(X), Shape::At(Y, &[Y])];
+
+const STATE: Said = Said::From(2, HeapRow(&[], ATOMS));
+
+const EQUAL: After = After(
+    Said::From(2, HeapRow(&[Pure::Eq(X, Y)], ATOMS)),
+    &[(1, 1, false)],
+);
+
+const DIFFERENT: After = After(
+    Said::From(2, HeapRow(&[Pure::Neq(X, Y)], ATOMS)),
+    &[(1, 1, false)],
+);
+
+static PREMISES: &[Row] = &[
     Row(
         Said::From(3, HeapRow(&[Pure::Neq(X, X)], &[])),
         1,
@@ -150,23 +164,6 @@ static PURE_RULES: &[Row] = &[
             &[(0, 0, false)],
         )]),
     ),
-];
-
-const ATOMS: &[Shape] = &[Shape::At(X, &[Y]), Shape::List(X), Shape::At(Y, &[Y])];
-
-const STATE: Said = Said::From(2, HeapRow(&[], ATOMS));
-
-const EQUAL: After = After(
-    Said::From(2, HeapRow(&[Pure::Eq(X, Y)], ATOMS)),
-    &[(1, 1, false)],
-);
-
-const DIFFERENT: After = After(
-    Said::From(2, HeapRow(&[Pure::Neq(X, Y)], ATOMS)),
-    &[(1, 1, false)],
-);
-
-static OTHER_RULES: &[Row] = &[
     Row(
         STATE,
         0,
@@ -228,13 +225,7 @@ fn faults_of_each_rule(rt: HostRuntime) -> Result<(), Fail> {
 }
 
 #[test]
-fn premises_of_the_pure_rules(rt: HostRuntime) -> Result<(), Fail> {
-    assert_eq!(rt; first_wrong(rt.alloc(), PURE_RULES)?, None);
-    Ok(())
-}
-
-#[test]
-fn premises_of_the_other_rules(rt: HostRuntime) -> Result<(), Fail> {
-    assert_eq!(rt; first_wrong(rt.alloc(), OTHER_RULES)?, None);
+fn premises_of_each_rule(rt: HostRuntime) -> Result<(), Fail> {
+    assert_eq!(rt; first_wrong(rt.alloc(), PREMISES)?, None);
     Ok(())
 }

@@ -1,12 +1,11 @@
 // Each rule of the table once.
 use crate::given::{
-    E, EMPTY, HeapRow, Said, Shape, Wanted, X, Y, heap, is_wanted, judgement, lists,
+    After, E, EMPTY, HeapRow, Said, Shape, Wanted, X, Y, heap, is_wanted, judgement, lists,
 };
 use goto_lang::{Program, ProgramFault};
 use heap_formula::{Command, Positions, Pure, Rule, RuleError, RuleFault, Side, Term};
 use pred_defs::Defs;
 use rule_book::{premises, variables_of};
-use rule_table::antecedent;
 use std::alloc::Global;
 use std::test::Fail;
 
@@ -69,6 +68,31 @@ static BOOK: &[Row] = &[
     Row(RUNS, Named::Done, WRONG),
 ];
 
+const EQUATION: HeapRow = HeapRow(&[Pure::Eq(X, Y)], &[]);
+
+// It stays in a claim of termination, and goes in an entailment.
+static EQUATION_OF_VARIABLES: &[Row] = &[
+    Row(
+        Said::From(1, EQUATION),
+        Named::Rewrite(0, Side::Left),
+        Wanted::Gives(&[After(Said::From(1, EQUATION), &[])]),
+    ),
+    Row(
+        Said::Entails(EQUATION, &[EMPTY]),
+        Named::Rewrite(0, Side::Left),
+        Wanted::Gives(&[After(Said::Entails(EMPTY, &[EMPTY]), &[])]),
+    ),
+];
+
+static EQUATION_WITHOUT_PROGRAM: &[Row] = &[
+    Row(
+        Said::From(1, EQUATION),
+        Named::Rewrite(0, Side::Left),
+        Wanted::Gives(&[After(Said::From(1, EMPTY), &[])]),
+    ),
+    Row(Said::From(1, EQUATION), Named::Exec, WRONG),
+];
+
 // A program with the variables x and y.
 fn test_and_stop(alloc: Global) -> Result<Program, ProgramFault> {
     Program::new(alloc, &[(1, Command::IfEq(X, Y, 2)), (2, Command::Stop)])
@@ -107,11 +131,10 @@ fn is_right(alloc: Global, defs: &Defs, program: &Program, row: Row) -> Result<b
 }
 
 // The number of the first row that is wrong.
-fn first_wrong(alloc: Global, rows: &[Row]) -> Result<Option<usize>, Fail> {
+fn first_wrong(alloc: Global, program: &Program, rows: &[Row]) -> Result<Option<usize>, Fail> {
     let defs = lists(alloc, 16)?;
-    let program = test_and_stop(alloc)?;
     for (i, row) in rows.iter().enumerate() {
-        if !is_right(alloc, &defs, &program, *row)? {
+        if !is_right(alloc, &defs, program, *row)? {
             return Ok(Some(i));
         }
     }
@@ -120,50 +143,20 @@ fn first_wrong(alloc: Global, rows: &[Row]) -> Result<Option<usize>, Fail> {
 
 #[test]
 fn each_rule_is_in_the_book(rt: HostRuntime) -> Result<(), Fail> {
-    assert_eq!(rt; first_wrong(rt.alloc(), BOOK)?, None);
+    let alloc = rt.alloc();
+    assert_eq!(rt; first_wrong(alloc, &test_and_stop(alloc)?, BOOK)?, None);
     Ok(())
-}
-
-const EQUATION: HeapRow = HeapRow(&[Pure::Eq(X, Y)], &[]);
-
-// How many pure atoms stand on the left of the only premise, after the equation was used.
-fn pure_count(alloc: Global, program: &Program, said: Said) -> Result<usize, Fail> {
-    let defs = lists(alloc, 16)?;
-    let judgement = judgement(alloc, said)?;
-    let rule = Rule::Rewrite(0, Side::Left);
-    let premises = premises(alloc, &defs, program, &judgement, &rule)?;
-    if premises.len() != 1 {
-        return Err("not one premise".into());
-    }
-    Ok(antecedent(&premises[0].judgement).pure().len())
 }
 
 #[test]
 fn a_program_variable_keeps_its_equation(rt: HostRuntime) -> Result<(), Fail> {
     let alloc = rt.alloc();
-    let program = test_and_stop(alloc)?;
     let none = Program::new(alloc, &[])?;
-    let runs = Said::From(1, EQUATION);
-    let entails = Said::Entails(EQUATION, &[EMPTY]);
-    assert_eq!(rt; pure_count(alloc, &program, runs)?, 1);
-    assert_eq!(rt; pure_count(alloc, &none, runs)?, 0);
-    assert_eq!(rt; pure_count(alloc, &program, entails)?, 0);
-    Ok(())
-}
-
-#[test]
-fn an_empty_program_has_no_line(rt: HostRuntime) -> Result<(), Fail> {
-    let alloc = rt.alloc();
-    let defs = lists(alloc, 16)?;
-    let none = Program::new(alloc, &[])?;
-    assert!(rt;
-        is_right(
-            alloc,
-            &defs,
-            &none,
-            Row(Said::From(1, EQUATION), Named::Exec, WRONG)
-        )?
+    assert_eq!(rt;
+        first_wrong(alloc, &test_and_stop(alloc)?, EQUATION_OF_VARIABLES)?,
+        None
     );
+    assert_eq!(rt; first_wrong(alloc, &none, EQUATION_WITHOUT_PROGRAM)?, None);
     Ok(())
 }
 
