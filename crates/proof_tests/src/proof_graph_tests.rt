@@ -60,25 +60,58 @@ fn edges_of(alloc: Global, graph: &Graph, node: usize) -> Result<Vec<(u32, usize
     Ok(edges)
 }
 
-#[test]
-fn a_graph(rt: HostRuntime) -> Result<(), Fail> {
-    let alloc = rt.alloc();
+/// Gives a node a reason, if there is such a node.
+fn give(graph: &mut Graph, node: u32, reason: &Reason, pairs: &PremisePairs) -> Result<(), Fail> {
+    if (node as usize) < graph.len() {
+        graph.set_reason(node, reason, pairs)?;
+    }
+    Ok(())
+}
+
+/// Two nodes of one judgement; the first has two premises, and no node for either.
+fn two_nodes(alloc: Global) -> Result<Graph, Fail> {
     let judgement = judgement_of(alloc)?;
     let mut graph = Graph::new(alloc);
-    assert_eq!(rt; graph.push_node(&judgement)?, 0);
-    assert_eq!(rt; graph.push_node(&judgement)?, 1);
-    assert!(rt; graph.len() == 2);
-    assert_eq!(rt; edges_of(alloc, &graph, 0)?.as_slice(), [].as_slice());
+    graph.push_node(&judgement)?;
+    graph.push_node(&judgement)?;
     let reason = Reason::Step(Rule::Unfold(0));
-    graph.set_reason(0, &reason, &pairs_of(alloc)?)?;
-    assert_eq!(rt; edges_of(alloc, &graph, 0)?.as_slice(), [].as_slice());
+    give(&mut graph, 0, &reason, &pairs_of(alloc)?)?;
+    Ok(graph)
+}
+
+/// The same with both nodes as premises of the first.
+fn two_nodes_and_edges(alloc: Global) -> Result<Graph, Fail> {
+    let mut graph = two_nodes(alloc)?;
     fill(&mut graph, 0, 1, 1)?;
-    assert_eq!(rt; edges_of(alloc, &graph, 0)?.as_slice(), [(1, 1)].as_slice());
     fill(&mut graph, 0, 0, 0)?;
-    assert_eq!(rt;
-        edges_of(alloc, &graph, 0)?.as_slice(),
-        [(0, 0), (1, 1)].as_slice()
-    );
+    Ok(graph)
+}
+
+/// Whether these are the edges of a node.
+fn has_edges(
+    alloc: Global,
+    graph: &Graph,
+    node: usize,
+    edges: &[(u32, usize)],
+) -> Result<bool, Fail> {
+    Ok(edges_of(alloc, graph, node)?.as_slice() == edges)
+}
+
+#[test]
+fn filled_slots_are_edges(rt: HostRuntime) -> Result<(), Fail> {
+    let alloc = rt.alloc();
+    let mut graph = two_nodes(alloc)?;
+    assert!(rt; graph.len() == 2);
+    assert!(rt; has_edges(alloc, &graph, 0, &[])?);
+    fill(&mut graph, 0, 1, 1)?;
+    assert!(rt; has_edges(alloc, &graph, 0, &[(1, 1)])?);
+    fill(&mut graph, 0, 0, 0)?;
+    assert!(rt; has_edges(alloc, &graph, 0, &[(0, 0), (1, 1)])?);
+    Ok(())
+}
+
+/// A link to the first node, with one premise without pairs.
+fn link(alloc: Global, graph: &mut Graph, node: u32) -> Result<(), Fail> {
     let link = Link {
         target: 0,
         subst: Subst::from_vec(Vec::new(alloc)),
@@ -86,22 +119,46 @@ fn a_graph(rt: HostRuntime) -> Result<(), Fail> {
         disjuncts: Positions::from_vec(Vec::new(alloc)),
     };
     let one = PremisePairs::from_vec(vec![in alloc; Pairs::new(alloc)]?);
-    assert!(rt; graph.len() == 2);
-    graph.set_reason(1, &Reason::Back(link), &one)?;
-    assert_eq!(rt; edges_of(alloc, &graph, 1)?.as_slice(), [(0, 0)].as_slice());
+    give(graph, node, &Reason::Back(link), &one)
+}
+
+#[test]
+fn a_link_is_an_edge(rt: HostRuntime) -> Result<(), Fail> {
+    let alloc = rt.alloc();
+    let mut graph = two_nodes(alloc)?;
+    assert!(rt; has_edges(alloc, &graph, 1, &[])?);
+    link(alloc, &mut graph, 1)?;
+    assert!(rt; has_edges(alloc, &graph, 1, &[(0, 0)])?);
     assert!(rt; graph.len() == 2);
     graph.clear_reason(1);
     assert!(rt; graph.len() == 2);
     assert!(rt; graph.node(1).reason.is_none() && graph.node(1).premises.is_empty());
-    assert_eq!(rt; edges_of(alloc, &graph, 1)?.as_slice(), [].as_slice());
+    assert!(rt; has_edges(alloc, &graph, 1, &[])?);
+    Ok(())
+}
+
+#[test]
+fn a_graph_is_cut_back(rt: HostRuntime) -> Result<(), Fail> {
+    let alloc = rt.alloc();
+    let mut graph = two_nodes_and_edges(alloc)?;
+    assert!(rt; graph.len() == 2);
     graph.truncate(1);
     assert!(rt; graph.len() == 1);
-    assert_eq!(rt; edges_of(alloc, &graph, 0)?.as_slice(), [(0, 0)].as_slice());
+    assert!(rt; has_edges(alloc, &graph, 0, &[(0, 0)])?);
     let copies = graph.copy_out()?;
     assert!(rt; copies.len() == 1 && copies[0].reason.is_some());
+    assert!(rt; graph.len() == 1);
     assert!(rt; is_same_judgement(&graph.judgement(0)?, &copies[0].judgement));
-    graph.set_reason(0, &reason, &pairs_of(alloc)?)?;
-    assert_eq!(rt; edges_of(alloc, &graph, 0)?.as_slice(), [].as_slice());
+    Ok(())
+}
+
+#[test]
+fn another_reason_has_other_edges(rt: HostRuntime) -> Result<(), Fail> {
+    let alloc = rt.alloc();
+    let mut graph = two_nodes_and_edges(alloc)?;
+    let reason = Reason::Step(Rule::Unfold(0));
+    give(&mut graph, 0, &reason, &pairs_of(alloc)?)?;
+    assert!(rt; has_edges(alloc, &graph, 0, &[])?);
     Ok(())
 }
 
