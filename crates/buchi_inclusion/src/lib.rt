@@ -22,7 +22,7 @@ use trace_pairs::{Lasso, TraceGraph};
 
 /// What is known of a graph: every lasso progresses; a lasso that doesn't; or that there are more product states than
 /// the limit. A product state is a node with an age forest; those count that a path from node 0 leads to.
-#[derive(Debug, Drop)]
+#[derive(Drop)]
 pub enum Inclusion {
     Included,
     Counter(Lasso),

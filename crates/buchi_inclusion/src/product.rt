@@ -13,7 +13,7 @@ use std::alloc::Global;
 use trace_pairs::TraceGraph;
 
 /// A state of the product: a node with a forest.
-#[derive(Debug, Drop, PartialEq, Eq, Hash)]
+#[derive(Drop, PartialEq, Eq, Hash)]
 pub struct Product {
     pub node: u32,
     pub forest: AgeForest,
@@ -44,7 +44,7 @@ pub fn state_at(states: &IndexSet<Product>, place: usize) -> Option<&Product>
 }
 
 /// Where an edge of a state's node leads, and the event.
-#[derive(Clone, Copy, Debug)]
+#[derive(Clone, Copy)]
 pub struct Transition {
     pub target: usize,
     pub event: Event,

@@ -11,7 +11,7 @@ use trace_pairs::{Lasso, Node, ProofSystem, TraceGraph};
 
 /// What is known of a proof: it is accepted; its least faulty node; a lasso that doesn't progress; or that there are more
 /// product states than the limit.
-#[derive(Debug, Drop)]
+#[derive(Drop)]
 pub enum Checked {
     Accepted,
     Faulty(u32),

@@ -1,14 +1,14 @@
 //! Trees of programs: what a text of the grammar says, with lists of any length and numbers of at most nine digits.
 
 /// What a command computes with: `nil` or a program variable.
-#[derive(Clone, Copy, Debug)]
+#[derive(Clone, Copy)]
 pub enum OperandTree<V> {
     Nil,
     Variable(V),
 }
 
 /// What a command does that begins with a variable.
-#[derive(Clone, Copy, Debug)]
+#[derive(Clone, Copy)]
 pub enum ChangeTree<V> {
     /// Sets it to a new cell of so many fields.
     New(u32),
@@ -21,7 +21,7 @@ pub enum ChangeTree<V> {
 }
 
 /// A command of a program over the heap (Brotherston, Bornat and Calcagno 2008).
-#[derive(Clone, Copy, Debug)]
+#[derive(Clone, Copy)]
 pub enum CommandTree<V> {
     Stop,
     Goto(u32),
@@ -34,7 +34,7 @@ pub enum CommandTree<V> {
 }
 
 /// A line of a program, with the number that is written before it.
-#[derive(Clone, Copy, Debug)]
+#[derive(Clone, Copy)]
 pub struct LineTree<V> {
     pub number: u32,
     pub command: CommandTree<V>,

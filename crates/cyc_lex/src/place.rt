@@ -17,7 +17,7 @@ pub struct Place {
 }
 
 /// What goes on as long as its characters come.
-#[derive(Clone, Copy, Debug)]
+#[derive(Clone, Copy)]
 pub enum Run {
     Comment,
     Name,
@@ -25,7 +25,7 @@ pub enum Run {
 }
 
 /// What a text begins with.
-#[derive(Clone, Copy, Debug)]
+#[derive(Clone, Copy)]
 pub enum Piece {
     Gap,
     Token(Kind),
@@ -42,7 +42,7 @@ pub enum Bad {
 }
 
 /// Why a text has no tokens.
-#[derive(Clone, Copy, Debug)]
+#[derive(Clone, Copy)]
 pub enum Stop {
     At(Bad, Place),
     OutOfMemory,

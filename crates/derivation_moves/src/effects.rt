@@ -20,7 +20,7 @@ use std::alloc::Global;
 
 /// What a reason makes of a goal: the premises that it leaves to be proved, and the trace pairs of its edges. A link leaves
 /// nothing, and has one edge.
-#[derive(Debug, Drop)]
+#[derive(Drop)]
 pub struct Effect {
     pub premises: Vec<Premise>,
     pub pairs: PremisePairs,

@@ -7,7 +7,7 @@ use heap_formula::{Premise, Reason};
 
 /// A premise for which a node is to be made: the one at a place of the node `parent`. The first goal has depth 1, and a
 /// premise is one deeper than what it is a premise of.
-#[derive(Debug, Drop)]
+#[derive(Drop)]
 pub struct OpenGoal {
     pub parent: u32,
     pub place: u32,
@@ -16,7 +16,7 @@ pub struct OpenGoal {
 }
 
 /// A node: the goal that it was made for, and why it holds.
-#[derive(Debug, Drop)]
+#[derive(Drop)]
 pub struct MadeNode {
     pub goal: OpenGoal,
     pub reason: Reason,

@@ -14,7 +14,7 @@ use pred_defs::Defs;
 /// and without a flaw. Each predicate that is used is defined, with this number of arguments; no existential variable
 /// stands in the goal's antecedent; heaps have at most sixteen spatial atoms; the goal's line, if it has one, is one of the
 /// program's.
-#[derive(Debug, Drop)]
+#[derive(Drop)]
 pub struct Problem {
     pub defs: Defs,
     pub program: Program,

@@ -11,7 +11,7 @@ use heap_reader::{Flaw, TermReader, VariableReader, ill, over};
 use name_numbers::NumberedTerm;
 
 /// Where a term stands: in the goal, or in a case of a predicate with so many parameters.
-#[derive(Clone, Copy, Debug)]
+#[derive(Clone, Copy)]
 pub enum Scope {
     Goal,
     Case(usize),
@@ -78,7 +78,7 @@ impl TermReader for Scope {
 }
 
 /// Program variables by their numbers.
-#[derive(Clone, Copy, Debug)]
+#[derive(Clone, Copy)]
 pub struct Variables;
 
 impl VariableReader for Variables {

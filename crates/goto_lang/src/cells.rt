@@ -15,7 +15,7 @@ use std::collections::BTreeMap;
 use std::marker::Model;
 
 /// The fields of a cell.
-#[derive(Debug, Drop)]
+#[derive(Drop)]
 struct Fields {
     values: Vec<u64>,
 }

@@ -19,7 +19,7 @@ pub const MOST_VARIABLES: u16 = 64;
 
 /// A program: the commands of its lines in order. Each jump leads to one of the lines, and the last line is `stop` or
 /// `goto`, so a run never leaves them. No lines are a program too.
-#[derive(Debug, Drop)]
+#[derive(Drop)]
 pub struct Program {
     lines: Vec<Command>,
 }

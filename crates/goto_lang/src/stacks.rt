@@ -6,7 +6,7 @@ use std::alloc::AllocError;
 use std::marker::Model;
 
 /// The values of the variables in order; a variable past the end has the value 0.
-#[derive(Debug, Drop)]
+#[derive(Drop)]
 pub struct Stack {
     values: Vec<u64>,
 }

@@ -11,7 +11,7 @@ use cyc_lex::WordWriter;
 use cyc_memory::OutOfMemory;
 
 /// One fixed word, a symbol or a keyword.
-#[derive(Clone, Copy, Debug)]
+#[derive(Clone, Copy)]
 pub enum Mark<'m> {
     Symbol(&'m str),
     Keyword(&'m str),

@@ -9,14 +9,14 @@ pub struct PureTree<T> {
 }
 
 /// A spatial atom: a cell `address -> (fields)`, which has at least one field, or a predicate `name(arguments)`.
-#[derive(Debug, Drop)]
+#[derive(Drop)]
 pub enum SpatialTree<'a, T> {
     Cell(T, Vec<T>),
     Predicate(&'a str, Vec<T>),
 }
 
 /// A symbolic heap, `pure : spatial` (Reynolds 2002; Berdine, Calcagno and O'Hearn 2004).
-#[derive(Debug, Drop)]
+#[derive(Drop)]
 pub struct HeapTree<'a, T> {
     pub pure: Vec<PureTree<T>>,
     pub spatial: Vec<SpatialTree<'a, T>>,

@@ -14,7 +14,7 @@ pub enum NumberedTerm {
 pub type NumberedHeap<'a> = heap_syntax::HeapTree<'a, NumberedTerm>;
 
 /// The definition of a predicate, with its parameters' names and its cases.
-#[derive(Debug, Drop)]
+#[derive(Drop)]
 pub struct NumberedDefinition<'a> {
     pub name: &'a str,
     pub parameters: Vec<&'a str>,
@@ -22,7 +22,7 @@ pub struct NumberedDefinition<'a> {
 }
 
 /// What is to be proved.
-#[derive(Debug, Drop)]
+#[derive(Drop)]
 pub enum NumberedGoal<'a> {
     /// The antecedent, and at least one disjunct.
     Entailment(NumberedHeap<'a>, Vec<NumberedHeap<'a>>),
@@ -31,7 +31,7 @@ pub enum NumberedGoal<'a> {
 }
 
 /// A problem file.
-#[derive(Debug, Drop)]
+#[derive(Drop)]
 pub struct NumberedProblem<'a> {
     pub definitions: Vec<NumberedDefinition<'a>>,
     pub lines: Vec<command_syntax::LineTree<usize>>,

@@ -15,7 +15,7 @@ pub const MOST_PREDICATES: usize = 4096;
 
 /// Inductive definitions in the order of their numbers, and how many spatial atoms a case may have. No two have one
 /// name; what else `push` refuses is in none of them.
-#[derive(Debug, Drop)]
+#[derive(Drop)]
 pub struct Defs {
     alloc: Global,
     most: u8,

@@ -14,7 +14,7 @@ use heap_syntax::{AtomForm, SpatialTree, TermForm, arguments, fields, free_name,
 use std::alloc::Global;
 
 /// Names as terms, with primes where `primed` says so.
-#[derive(Clone, Copy, Debug)]
+#[derive(Clone, Copy)]
 pub struct NameForm {
     pub primed: bool,
 }
@@ -102,7 +102,7 @@ impl<'a> AtomForm<'a> for NameForm {
 }
 
 /// Names as program variables.
-#[derive(Clone, Copy, Debug)]
+#[derive(Clone, Copy)]
 pub struct NameVariables;
 
 impl<'a> VariableForm<'a> for NameVariables {

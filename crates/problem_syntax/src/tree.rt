@@ -1,7 +1,7 @@
 //! Trees of problem files: what a text of the grammar says, with lists of any length and numbers of at most nine digits.
 
 /// A term: `nil`, a name, or a name with a prime behind it.
-#[derive(Clone, Copy, Debug)]
+#[derive(Clone, Copy)]
 pub enum NameTree<'a> {
     Nil,
     Plain(&'a str),
@@ -15,7 +15,7 @@ pub type HeapTree<'a> = heap_syntax::HeapTree<'a, NameTree<'a>>;
 pub type LineTree<'a> = command_syntax::LineTree<&'a str>;
 
 /// The definition of a predicate, which has at least one case; no name in the cases is primed.
-#[derive(Debug, Drop)]
+#[derive(Drop)]
 pub struct DefinitionTree<'a> {
     pub name: &'a str,
     pub parameters: Vec<&'a str>,
@@ -23,7 +23,7 @@ pub struct DefinitionTree<'a> {
 }
 
 /// What is to be proved.
-#[derive(Debug, Drop)]
+#[derive(Drop)]
 pub enum GoalTree<'a> {
     /// The antecedent, and at least one disjunct.
     Entailment(HeapTree<'a>, Vec<HeapTree<'a>>),
@@ -32,7 +32,7 @@ pub enum GoalTree<'a> {
 }
 
 /// A problem file.
-#[derive(Debug, Drop)]
+#[derive(Drop)]
 pub struct ProblemTree<'a> {
     pub definitions: Vec<DefinitionTree<'a>>,
     pub lines: Vec<LineTree<'a>>,

@@ -20,7 +20,7 @@ use trace_pairs::{Edge, Node, TraceGraph};
 pub const MOST_STATES: u32 = 200000;
 
 /// The trace graph of a file whose nodes are right, or the least faulty node.
-#[derive(Debug, Drop)]
+#[derive(Drop)]
 pub enum Tested {
     AllRight(TraceGraph),
     OneFaulty(u32, RuleFault),

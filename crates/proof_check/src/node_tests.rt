@@ -26,7 +26,7 @@ use std::alloc::Global;
 use trace_pairs::Edge;
 
 /// A node that is right with its edges, or its first fault.
-#[derive(Debug, Drop)]
+#[derive(Drop)]
 pub enum NodeAnswer {
     Right(Vec<Edge>),
     Faulty(RuleFault),

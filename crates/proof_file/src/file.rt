@@ -14,7 +14,7 @@ use pred_defs::Defs;
 /// root. There is a node, no existential variable stands in a command, in an antecedent or a symbolic state, in the terms
 /// of a Split or an Instantiate, or in the values of a link's substitution, and each judgement that starts from a line
 /// names one of the program's. The file has a text: its tree fits the grammar, and has no flaw.
-#[derive(Debug, Drop)]
+#[derive(Drop)]
 pub struct ProofFile {
     pub version: u8,
     pub defs: Defs,

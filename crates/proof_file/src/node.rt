@@ -5,7 +5,7 @@ use heap_formula::{Judgement, Positions, Reason};
 use std::marker::Model;
 
 /// A node of a proof: its judgement, why it holds, and the numbers of its premises' nodes, from 0.
-#[derive(Debug, Drop)]
+#[derive(Drop)]
 pub struct FileNode {
     pub judgement: Judgement,
     pub reason: Reason,
@@ -13,7 +13,7 @@ pub struct FileNode {
 }
 
 /// The nodes of a proof in the order of their numbers.
-#[derive(Debug, Drop)]
+#[derive(Drop)]
 pub struct FileNodes {
     items: Vec<FileNode>,
 }

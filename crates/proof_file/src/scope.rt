@@ -71,7 +71,7 @@ impl TermReader for Scope {
 }
 
 /// Universal variables as program variables, of which there are at most 64.
-#[derive(Clone, Copy, Debug)]
+#[derive(Clone, Copy)]
 pub struct ProgramVariables;
 
 impl VariableReader for ProgramVariables {

@@ -25,7 +25,7 @@ pub enum GraphFault {
 }
 
 /// The nodes of a proof under construction, numbered from 0 in the order in which they were pushed. At most 20,000.
-#[derive(Debug, Drop)]
+#[derive(Drop)]
 pub struct Graph {
     nodes: Vec<GraphNode>,
     alloc: Global,

@@ -9,7 +9,7 @@ use std::alloc::Global;
 use std::marker::Model;
 
 /// The trace pairs of the premises of a reason, in the order of the premises.
-#[derive(Debug, Drop)]
+#[derive(Drop)]
 pub struct PremisePairs {
     lists: Vec<Pairs>,
 }
@@ -41,14 +41,14 @@ impl PremisePairs {
 
 /// A premise of a node: the trace pairs from the node to it, and its slot, which holds the number of the node that
 /// proves it, or is empty.
-#[derive(Debug, Drop)]
+#[derive(Drop)]
 pub struct GraphPremise {
     pub pairs: Pairs,
     pub slot: Option<u32>,
 }
 
 /// The premises of a node, in the order of its reason.
-#[derive(Debug, Drop)]
+#[derive(Drop)]
 pub struct GraphPremises {
     premises: Vec<GraphPremise>,
 }
@@ -135,7 +135,7 @@ pub(crate) fn premises_of(
 }
 
 /// A node: its judgement, its reason if it has one, and the premises of that reason. A node without a reason has none.
-#[derive(Debug, Drop)]
+#[derive(Drop)]
 pub struct GraphNode {
     pub judgement: Judgement,
     pub reason: Option<Reason>,
@@ -143,7 +143,7 @@ pub struct GraphNode {
 }
 
 /// The parts of a node, borrowed from its graph.
-#[derive(Clone, Copy, Debug)]
+#[derive(Clone, Copy)]
 pub struct NodeView<'a> {
     pub judgement: &'a Judgement,
     pub reason: Option<&'a Reason>,

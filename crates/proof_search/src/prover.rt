@@ -14,7 +14,7 @@ use std::alloc::Global;
 
 /// What comes of a search: a proof; nothing, within the depth; or that a limit was met, on partial derivations of one depth
 /// or on product states.
-#[derive(Debug, Drop)]
+#[derive(Drop)]
 pub enum Proved {
     Found(ProofFile),
     NotFound,

@@ -42,7 +42,7 @@ pub fn universal_term(cursor: &mut Cursor<'_, '_>) -> Result<TermTree, Refusal>
 }
 
 /// The terms of an antecedent, where `universal` says so, or else all terms.
-#[derive(Clone, Copy, Debug)]
+#[derive(Clone, Copy)]
 pub struct ProofForm {
     pub universal: bool,
 }
@@ -112,7 +112,7 @@ impl<'a> WrittenForm<'a> for ProofForm {
 }
 
 /// Universal variables as program variables, by their numbers.
-#[derive(Clone, Copy, Debug)]
+#[derive(Clone, Copy)]
 pub struct DollarVariables;
 
 impl<'a> VariableForm<'a> for DollarVariables {

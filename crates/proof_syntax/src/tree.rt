@@ -21,7 +21,7 @@ pub type HeapTree<'a> = heap_syntax::HeapTree<'a, TermTree>;
 pub type LineTree = command_syntax::LineTree<u32>;
 
 /// The definition of a predicate, which has at least one case.
-#[derive(Debug, Drop)]
+#[derive(Drop)]
 pub struct DefinitionTree<'a> {
     pub name: &'a str,
     pub arity: u32,
@@ -29,14 +29,14 @@ pub struct DefinitionTree<'a> {
 }
 
 /// An entailment; the antecedent has universal variables alone, and there is at least one disjunct.
-#[derive(Debug, Drop)]
+#[derive(Drop)]
 pub struct EntailmentTree<'a> {
     pub antecedent: HeapTree<'a>,
     pub disjuncts: Vec<HeapTree<'a>>,
 }
 
 /// What a node says.
-#[derive(Debug, Drop)]
+#[derive(Drop)]
 pub enum JudgementTree<'a> {
     Entailment(EntailmentTree<'a>),
     /// The number of a line, and the symbolic state there, which has universal variables alone.
@@ -58,7 +58,7 @@ pub struct PairTree {
 }
 
 /// A link from a bud to its companion (Brotherston, Gorogiannis and Petersen 2012).
-#[derive(Debug, Drop)]
+#[derive(Drop)]
 pub struct LinkTree {
     pub target: u32,
     pub substitution: Vec<PairTree>,
@@ -67,7 +67,7 @@ pub struct LinkTree {
 }
 
 /// Why a node's judgement holds: a rule with its numbers, terms and formula, or a link.
-#[derive(Debug, Drop)]
+#[derive(Drop)]
 pub enum ReasonTree<'a> {
     Absurd,
     Rewrite(u32, SideTree),
@@ -88,7 +88,7 @@ pub enum ReasonTree<'a> {
 }
 
 /// A node of a proof; the numbers of its premises count nodes from 0.
-#[derive(Debug, Drop)]
+#[derive(Drop)]
 pub struct NodeTree<'a> {
     pub judgement: JudgementTree<'a>,
     pub reason: ReasonTree<'a>,
@@ -96,7 +96,7 @@ pub struct NodeTree<'a> {
 }
 
 /// A proof file, which has at least one node.
-#[derive(Debug, Drop)]
+#[derive(Drop)]
 pub struct FileTree<'a> {
     pub definitions: Vec<DefinitionTree<'a>>,
     pub lines: Vec<LineTree>,

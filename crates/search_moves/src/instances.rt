@@ -11,7 +11,7 @@ use rule_table::{is_universal, same_term};
 use std::alloc::Global;
 
 /// An existential variable's number, and a term for it.
-#[derive(Clone, Copy, Debug)]
+#[derive(Clone, Copy)]
 pub struct Instance {
     pub variable: u16,
     pub term: Term,

@@ -9,7 +9,7 @@ use heap_formula::{Judgement, Reason, Rule};
 use proof_graph::{Graph, GraphPremise, NodeView};
 
 /// What the rule of a node says of the way up to Exec: it is Exec; the way goes on above it; it ends there.
-#[derive(Clone, Copy, Debug)]
+#[derive(Clone, Copy)]
 pub enum Way {
     AtExec,
     Above,

@@ -8,7 +8,7 @@ use heap_formula::{Args, Heap, Pure, Spatial, Term};
 use rule_table::equated;
 
 /// A cell of a symbolic state: its place among the spatial atoms, its address and its fields.
-#[derive(Clone, Copy, Debug)]
+#[derive(Clone, Copy)]
 pub struct FoundCell {
     pub place: usize,
     pub address: Term,

@@ -20,7 +20,7 @@ use std::alloc::Global;
 
 /// What premises depend on besides the command and the state: the command's line, the number of a fresh variable, and
 /// the greatest number of spatial atoms of a heap.
-#[derive(Clone, Copy, Debug)]
+#[derive(Clone, Copy)]
 pub struct Setting {
     pub line: u32,
     pub fresh: u32,
