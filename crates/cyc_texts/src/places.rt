@@ -45,7 +45,7 @@ fn unreadable_line(
     end_at_place(text, line, column)
 }
 
-/// The line for the first bad place of an input that has no tokens. Want of memory has no line.
+/// The line for the first bad place of an input that has no tokens. Out of memory has no line.
 pub fn lexical_line(alloc: Global, fault: LexFault) -> Result<Vec<u8>, OutOfMemory>
     ensures { IfOk result (λ bytes. bytes.items ≡ lexical_text fault) }
 {

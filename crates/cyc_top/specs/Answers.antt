@@ -86,7 +86,7 @@ fault_text faults.OutOfMemory = []
 
 -- ---- answers
 
--- a check that read its input so is answered so; want of memory is no fault of the input
+-- a check that read its input so is answered so; out of memory is no fault of the input
 abbrev pub IsReadAnswer : Result ProofFile ReadFault → Status → List ℕ → Type 0
 IsReadAnswer (Ok file) ending text =
     (verdict : Verdict) × IsVerdict file verdict × (ending ≡ verdict_status verdict) × (text ≡ verdict_text file.nodes verdict)

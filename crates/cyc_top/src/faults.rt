@@ -9,7 +9,7 @@ use cyc_memory::OutOfMemory;
 use cyc_texts::{ill_formed_line, lexical_line, limit_line, syntax_line};
 use std::alloc::Global;
 
-/// The answer to an input that has this fault. Want of memory has no answer.
+/// The answer to an input that has this fault. Out of memory has no answer.
 pub fn answer_to_fault(alloc: Global, fault: ReadFault) -> Result<Answer, OutOfMemory>
     ensures known { IfOk result (λ a. fault ≢ ReadFault.OutOfMemory) }
     ensures status { IfOk result (λ a. a.status ≡ fault_status fault) }

@@ -26,7 +26,7 @@ problems = record { syntax = problem; flaw = λ tree. problem_flaw (numbered tre
 abbrev pub IsRead : List ℕ → Result Problem ReadFault → Type 0
 IsRead = reading.IsRead problems
 
--- the same, want of memory being free
+-- the same, out of memory being free
 abbrev pub Reads : List ℕ → Result Problem ReadFault → Type 0
 Reads = reading.Reads problems
 
@@ -44,6 +44,6 @@ pub record AreSame (p q : Problem) : Type 0 where
   pub program : p.program ≡ q.program
   pub goal : p.goal ≡ q.goal
 
--- the problem is read, but for want of memory
+-- the problem is read, unless memory runs out
 abbrev pub IsReadAgain : Problem → Result Problem ReadFault → Type 0
 IsReadAgain = reading.IsReadAgain AreSame

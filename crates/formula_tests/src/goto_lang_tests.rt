@@ -144,7 +144,7 @@ fn state(
     })
 }
 
-/// One step under headroom 1. Here and below want of memory also stands for a state that is none of the program's.
+/// One step under headroom 1. Here and below out of memory also stands for a state that is none of the program's.
 fn step_from(
     alloc: Global,
     lines: &[(u32, Command)],

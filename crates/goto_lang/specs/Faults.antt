@@ -59,7 +59,7 @@ lines_fault n i (l ∷ ls) = option_or (line_fault n i l) (lines_fault n (i + 1)
 abbrev pub program_fault : List (ℕ × Command) → Option ProgramFault
 program_fault ls = lines_fault (length ls) 1 ls
 
--- the answer for lines whose first fault is this one; want of memory is free
+-- the answer for lines whose first fault is this one; out of memory is free
 abbrev pub IsAnswer : {X : Type 0} → Result X ProgramFault → Option ProgramFault → Type 0
 IsAnswer (Ok _) fault = fault ≡ None
 IsAnswer (Err OutOfMemory) fault = Unit {0}

@@ -28,7 +28,7 @@ IsLexFault bytes (lexical.BadUtf8 offset line column) = Answers (Err (lexical.Ba
 IsLexFault bytes (lexical.LongNumber offset line column) = Answers (Err (lexical.LongNumber offset line column)) (tokens_of bytes)
 IsLexFault bytes (lexical.LongName offset line column) = Answers (Err (lexical.LongName offset line column)) (tokens_of bytes)
 
--- the value is read, but for want of memory
+-- the value is read, unless memory runs out
 abbrev pub IsReadAgain : {V : Type 0} → (V → V → Type 0) → V → Result V ReadFault → Type 0
 IsReadAgain same v (Ok w) = same v w
 IsReadAgain same v (Err fault) = fault ≡ faults.OutOfMemory
@@ -67,7 +67,7 @@ module _ {T V : Type 0} (format : Format T V) where
       (ts : List Placed) × (tokens_of bytes ≡ Ok ts) × IsReadFrom ts (Err (faults.Limit what token line column))
   IsRead bytes (Err faults.OutOfMemory) = ⊥
 
-  -- the same, want of memory being free
+  -- the same, out of memory being free
   abbrev pub Reads : List ℕ → Result V ReadFault → Type 0
   Reads bytes (Err faults.OutOfMemory) = Unit {0}
   Reads bytes (Ok v) = IsRead bytes (Ok v)

@@ -78,7 +78,7 @@ closed_fault ds = first_fault (definition_fault ds) ds
 
 -- ---- answers
 
--- the program's refusal is this one; want of memory is free
+-- the program's refusal is this one; out of memory is free
 abbrev pub IsRefusal : Result (Unit {0}) DefFault → Option DefFault → Type 0
 IsRefusal (Ok _) fault = fault ≡ None
 IsRefusal (Err OutOfMemory) fault = Unit {0}

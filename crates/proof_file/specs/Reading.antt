@@ -24,7 +24,7 @@ proof_files = record { syntax = file; flaw = file_flaw; Says = IsFileOf }
 abbrev pub IsRead : List ℕ → Result ProofFile ReadFault → Type 0
 IsRead = reading.IsRead proof_files
 
--- the same, want of memory being free
+-- the same, out of memory being free
 abbrev pub Reads : List ℕ → Result ProofFile ReadFault → Type 0
 Reads = reading.Reads proof_files
 
@@ -39,6 +39,6 @@ pub record AreSame (f g : ProofFile) : Type 0 where
   pub program : f.program ≡ g.program
   pub nodes : f.nodes ≡ g.nodes
 
--- the file is read, but for want of memory
+-- the file is read, unless memory runs out
 abbrev pub IsReadAgain : ProofFile → Result ProofFile ReadFault → Type 0
 IsReadAgain = reading.IsReadAgain AreSame

@@ -21,7 +21,7 @@ pub fn write_file(alloc: Global, file: &ProofFile) -> Result<Vec<u8>, OutOfMemor
     write_tree(alloc, &tree)
 }
 
-/// Whatever is read of a file's text is that file, but for want of memory. The function does nothing.
+/// Whatever is read of a file's text is that file, unless memory runs out. The function does nothing.
 pub fn written_files_are_read_again()
     ensures { (f : ProofFile) (bytes : List ℕ) (answer : Result ProofFile ReadFault) → bytes ≡ text_of_file f.defs.list f.program f.nodes → Reads bytes answer → IsReadAgain f answer }
 {}

@@ -1,4 +1,4 @@
--- The program's answer is the table's; want of memory is free.
+-- The program's answer is the table's; out of memory is free.
 use Rattle.std.specs.Prelude.{◌≡◌, Result, Ok, Err, Vec}
 use Rattle.heap_formula.specs.declared.judgements.Premise.{Premise}
 use Rattle.heap_formula.specs.declared.proof_rules.RuleError.{RuleError}
