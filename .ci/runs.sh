@@ -34,8 +34,21 @@ run 3 'unreadable byte offset 1 line 1 column 2' check < <(printf 'a!')
 run 3 'unreadable syntax token 1 line 3 column 9' prove < "$top/examples/first.proof"
 run 4 'ill-formed unknown token 7 line 2 column 13' prove < <(printf 'cyclist problem 1;\ngoal true : zz(x) |- true : emp;\nend;')
 run 5 'limit variable token 8 line 1 column 31' check <<< 'cyclist proof 1; node true : $65535 -> (nil) |- true : emp by Absurd; end;'
-run 5 'limit input' check < <(head -c 16777217 /dev/zero | tr '\0' ' ')
-run 3 'unreadable syntax token 0 line 1 column 16777217' check < <(head -c 16777216 /dev/zero | tr '\0' ' ')
+
+# the greatest inputs, of one character each
+all_of() { # CHARACTER COUNT
+  head -c "$2" /dev/zero | tr '\0' "$1"
+}
+run 5 'limit input' check < <(all_of ' ' 16777217)
+run 5 'limit input' prove < <(all_of 'a' 16777217)
+run 3 'unreadable syntax token 0 line 1 column 16777217' check < <(all_of ' ' 16777216)
+run 3 'unreadable syntax token 0 line 1 column 16777217' check < <(all_of '#' 16777216)
+run 3 'unreadable syntax token 0 line 1 column 1' check < <(all_of '(' 16777216)
+run 3 'unreadable name offset 0 line 1 column 1' check < <(all_of 'a' 16777216)
+run 3 'unreadable number offset 0 line 1 column 1' prove < <(all_of '7' 16777216)
+run 3 'unreadable utf8 offset 16777215 line 1 column 16777216' check < <(all_of ' ' 16777215; printf '\303')
+
+# a source that cannot be read, and a sink that cannot be written
 run 7 '' check < "$top"
 "$program" check < "$top/examples/first.proof" > /dev/full 2> /dev/null
 [ $? = 8 ] || { echo "cyclist check: writing to a full device does not end with status 8"; failed=1; }
