@@ -3,10 +3,10 @@
 ghost use Rattle.std.specs.Prelude.{◌≡◌, ◌+◌, ◌<◌, ◌^◌, ◌||◌, ◌==◌, IsTrue};
 ghost use Rattle.std.specs.Char.{len_utf8};
 ghost use Rattle.cyc_lex.specs.Lexing.{pass};
-ghost use Rattle.cyc_lex.specs.Characters.{is_space, starts_name, goes_on, is_double, is_single};
+ghost use Rattle.cyc_lex.specs.Characters.{is_space, starts_name, goes_on, is_double, is_single, is_plain};
 
 use crate::token::Kind;
-use std::alloc::AllocFailed;
+use std::alloc::{AllocError, AllocFailed};
 
 /// Bytes before it, and its line and column, counted from 1.
 #[derive(Clone, Copy, Debug, PartialEq, Eq)]
@@ -46,6 +46,17 @@ pub enum Bad {
 pub enum Stop {
     At(Bad, Place),
     OutOfMemory,
+}
+
+impl From<AllocError> for Stop {
+    ghost use Rattle.std.specs.Prelude.{◌≡◌};
+    ghost use Rattle.cyc_lex.specs.declared.place.Stop.TheVariants.{OutOfMemory};
+
+    ghost from_gives = { λ _ e. e ≡ OutOfMemory };
+
+    fn from(_e: AllocError) -> Stop {
+        Stop::OutOfMemory
+    }
 }
 
 impl<T: Drop> From<AllocFailed<T>> for Stop {
@@ -140,5 +151,15 @@ pub fn is_single(c: char) -> bool
             | '$'
             | '?'
             | '\''
+    )
+}
+
+/// Whether a character is a symbol with which none of two characters begins.
+pub fn is_plain(c: char) -> bool
+    ensures { result ≡ is_plain c }
+{
+    matches!(
+        c,
+        '(' | '[' | '{' | ')' | ']' | '}' | ',' | ';' | '*' | '=' | '.' | '$' | '?' | '\''
     )
 }

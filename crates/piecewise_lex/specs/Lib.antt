@@ -1,0 +1,4 @@
+pub mod Feeding
+pub mod Fronts
+pub mod Owned
+pub mod Takings
