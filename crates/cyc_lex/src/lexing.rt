@@ -17,7 +17,7 @@ use std::alloc::Global;
 
 /// The first character of a text, and the text behind it.
 #[inline(always)]
-fn first(text: &str) -> Option<(char, &str)>
+pub fn first(text: &str) -> Option<(char, &str)>
     ensures chars { MatchOption result (chars text.now ≡ []) (λ x. chars text.now ≡ x.0 ∷ chars x.1.now) }
     ensures bytes { MatchOption result (text.now ≡ []) (λ x. text.now ≡ encode_utf8 x.0 ++ x.1.now) }
     ensures size { MatchOption result (text.now ≡ []) (λ x. len_utf8 x.0 + length x.1.now ≡ length text.now) }
@@ -180,6 +180,7 @@ pub fn lex(alloc: Global, whole: bool, text: &str) -> Result<Vec<Token<'_>>, Sto
 }
 
 /// A name has at most 64 bytes, and a number 9 digits.
+#[inline(always)]
 pub fn check_len(kind: Kind, place: Place, text: &str) -> Result<(), Stop>
     ensures { result ≡ len_fault kind place text.now }
 {

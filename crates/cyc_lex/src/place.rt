@@ -6,7 +6,8 @@ ghost use Rattle.cyc_lex.specs.Lexing.{pass};
 ghost use Rattle.cyc_lex.specs.Characters.{is_space, starts_name, goes_on, is_double, is_single, is_plain};
 
 use crate::token::Kind;
-use std::alloc::{AllocError, AllocFailed};
+use cyc_memory::OutOfMemory;
+use std::alloc::AllocFailed;
 
 /// Bytes before it, and its line and column, counted from 1.
 #[derive(Clone, Copy, Debug, PartialEq, Eq)]
@@ -48,13 +49,13 @@ pub enum Stop {
     OutOfMemory,
 }
 
-impl From<AllocError> for Stop {
+impl From<OutOfMemory> for Stop {
     ghost use Rattle.std.specs.Prelude.{◌≡◌};
-    ghost use Rattle.cyc_lex.specs.declared.place.Stop.TheVariants.{OutOfMemory};
+    ghost use Rattle.cyc_lex.specs.declared.place.Stop.TheVariants as stops;
 
-    ghost from_gives = { λ _ e. e ≡ OutOfMemory };
+    ghost from_gives = { λ _ e. e ≡ stops.OutOfMemory };
 
-    fn from(_e: AllocError) -> Stop {
+    fn from(_e: OutOfMemory) -> Stop {
         Stop::OutOfMemory
     }
 }
@@ -77,7 +78,8 @@ impl Place {
         column: 1,
     };
 
-    /// The place behind the character.
+    /// The place after the character.
+    #[inline(always)]
     pub fn pass(self, c: char) -> Place
         requires offset { self.offset + len_utf8 c < 2 ^ 32 }
         requires line { self.line + 1 < 2 ^ 32 }
@@ -155,6 +157,7 @@ pub fn is_single(c: char) -> bool
 }
 
 /// Whether a character is a symbol with which none of two characters begins.
+#[inline(always)]
 pub fn is_plain(c: char) -> bool
     ensures { result ≡ is_plain c }
 {

@@ -1,5 +1,5 @@
 -- A token has at most 64 bytes.
-use Rattle.std.proofs.Common.{◌≡◌, ℕ, zero, suc, ◌≤◌, Bool, true, false, List, [], ◌∷◌, length, take, refl, sym, subst, ◌∙◌, arith, inl, inr}
+use Rattle.std.proofs.Common.{◌≡◌, ℕ, zero, suc, ◌<◌, ◌≤◌, Ok, ◌∙◌, ap, Bool, true, false, List, [], ◌∷◌, length, take, refl, sym, subst, arith, inl, inr}
 use Rattle.std.specs.Prelude.{map, nat_le, nat_lt, All}
 use Rattle.std.specs.Str.{encode_utf8_all, all_scalars, is_utf8, chars}
 use Rattle.std.specs.List.{AllByRecursion, list_all}
@@ -13,13 +13,12 @@ use Rattle.cyc_lex.specs.declared.place.Place.{Place}
 use Rattle.cyc_lex.specs.Placed.{Placed, placed}
 use Rattle.cyc_lex.specs.Characters.{symbols}
 use Rattle.cyc_lex.specs.Word.{is_identifier, is_name_text, is_number_text, is_symbol_text, is_lexeme}
-use Rattle.cyc_lex.specs.Lexing.{pass, piece_at, token_at, lex}
-use Rattle.piecewise_lex.specs.Feeding.{is_held, tokens_taken}
+use Rattle.cyc_lex.specs.declared.place.Piece.TheVariants as pieces
+use Rattle.cyc_lex.specs.Lexing.{pass, piece_at, piece_of, piece_chars, len_fault, token_at, lex}
 use Rattle.piecewise_lex.specs.Owned.{IsShort}
 use Rattle.cyc_lex.proofs.BoolParts.{and-parts}
 use Rattle.cyc_lex.proofs.Symbols.{one-of}
 use Rattle.cyc_lex.proofs.TokenLaws.{found, taken-found, piece-lexeme, scalars-after}
-use Rattle.piecewise_lex.proofs.Carrying.{tokens-held, tokens-free}
 
 abbrev Small : List ℕ → Type 0
 Small s = nat_le (length s) 64 ≡ true
@@ -51,33 +50,9 @@ Fits t = length t.text ≤ 64
 small-fits : (n : ℕ) → nat_le n 64 ≡ true → n ≤ 64
 small-fits n h = grind (arith, nat_tests)
 
-short : (p : Place) (k : ℕ) (cs : List ℕ) (ts : List Placed) → all_scalars cs ≡ true → tokens_taken p k cs ≡ found ts → AllByRecursion Fits ts
-unfolding tokens_taken
-short p zero [] ts good e = let same : [] ≡ ts = cc in subst (AllByRecursion Fits) same tt
-short p (suc k) [] ts good e = let same : [] ≡ ts = cc in subst (AllByRecursion Fits) same tt
-short p (suc k) (c ∷ cs) ts good e = short (pass p c) k cs ts (scalars-after c cs good) e
-short p zero (c ∷ cs) ts good e = by_test (is_held c cs) refl (λ us. short (pass p c) (piece_at c cs).1 cs us (scalars-after c cs good))
-  where
-    by_test : (b : Bool) → is_held c cs ≡ b → ((us : List Placed) → tokens_taken (pass p c) (piece_at c cs).1 cs ≡ found us → AllByRecursion Fits us) → AllByRecursion Fits ts
-    by_test true held again = let same : [] ≡ ts = ends (sym (tokens-held c cs p held) ∙ e) in subst (AllByRecursion Fits) same tt
-      where
-        ends : found [] ≡ found ts → [] ≡ ts
-        ends h = cc
-    by_test false free again =
-        let m = piece_at c cs in
-        let bytes = encode_utf8_all (c ∷ take m.1 cs) in
-        elim (taken-found m.0 p bytes (tokens_taken (pass p c) m.1 cs) ts (sym (tokens-free c cs p free) ∙ e)) [
-          | inl f ↦ again ts f
-          | inr f ↦ subst (AllByRecursion Fits) (sym f.all) (small-fits (length bytes) (small-lexeme f.kind bytes (piece-lexeme p c cs good f.kind f.is f.short)), again f.others f.rest)
-        ]
-
 unplaced : (ts : List Token) → AllByRecursion Fits (map placed ts) → AllByRecursion IsShort ts
 unplaced [] h = tt
 unplaced (t ∷ ts) h = (h.0, unplaced ts h.1)
-
--- each token that is taken is short
-pub short-tokens : (p : Place) (k : ℕ) (cs : List ℕ) (ts : List Token) → all_scalars cs ≡ true → tokens_taken p k cs ≡ found (map placed ts) → All IsShort ts
-short-tokens p k cs ts good e = All-from_recursion IsShort ts (unplaced ts (short p k cs (map placed ts) good e))
 
 short-lex : (whole : Bool) (p : Place) (k : ℕ) (cs : List ℕ) (ts : List Placed) → all_scalars cs ≡ true → lex whole p k cs ≡ found ts → AllByRecursion Fits ts
 unfolding lex
@@ -95,3 +70,11 @@ short-lex whole p zero (c ∷ cs) ts good e =
 -- each token of a text is short
 pub short-all : (whole : Bool) (p : Place) (k : ℕ) (cs : List ℕ) (ts : List Token) → all_scalars cs ≡ true → lex whole p k cs ≡ found (map placed ts) → All IsShort ts
 short-all whole p k cs ts good e = All-from_recursion IsShort ts (unplaced ts (short-lex whole p k cs (map placed ts) good e))
+
+-- a piece that is a token is short
+pub short-piece : (p : Place) (cs : List ℕ) → all_scalars cs ≡ true → 0 < length cs → (k : Kind) → piece_of cs ≡ pieces.Token k → (front : List ℕ) → front ≡ encode_utf8_all (piece_chars cs) → len_fault k p front ≡ Ok tt → length front ≤ 64
+short-piece p [] good some k is front same fits = absurd (omega (arith, some))
+short-piece p (c ∷ cs) good some k is front same fits =
+    let bytes = encode_utf8_all (piece_chars (c ∷ cs)) in
+    let size = small-fits (length bytes) (small-lexeme k bytes (piece-lexeme p c cs good k is (ap (len_fault k p) (sym same) ∙ fits))) in
+    omega (arith, size, ap length same)

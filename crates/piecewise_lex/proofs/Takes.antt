@@ -1,5 +1,5 @@
 -- What is taken of a text is what is taken of bytes.
-use Rattle.std.proofs.Common.{◌≡◌, ℕ, ◌+◌, ◌≤◌, ◌<◌, Bool, true, false, List, [], ◌∷◌, ◌++◌, length, take, drop, Some, None, Result, Ok, Err, refl, sym, ap, subst, ◌∙◌, arith, inl, inr, length-append}
+use Rattle.std.proofs.Common.{◌≡◌, ℕ, ◌+◌, ◌≤◌, ◌<◌, Bool, true, false, List, [], ◌∷◌, ◌++◌, length, take, drop, Option, Some, None, Result, Ok, Err, refl, sym, ap, subst, ◌∙◌, arith, inl, inr, length-append}
 use Rattle.std.specs.Prelude.{map, is_none}
 use Rattle.std.specs.Str.{chars, encode_utf8_all, IsUtf8}
 use Rattle.std.specs.Str.Lossy.{utf8_valid_len, utf8_error_len}
@@ -9,12 +9,16 @@ use Rattle.cyc_lex.specs.declared.place.Place.{Place}
 use Rattle.cyc_lex.specs.declared.place.Stop.{Stop}
 use Rattle.cyc_lex.specs.declared.place.Stop.TheVariants as stops
 use Rattle.piecewise_lex.specs.declared.fronts.Front.{Front}
-use Rattle.piecewise_lex.specs.declared.lexer.Taken.{Taken}
+use Rattle.piecewise_lex.specs.declared.batch.Batch.{Batch}
 use Rattle.cyc_lex.specs.Lexing.{lex, Stops, ended}
 use Rattle.piecewise_lex.specs.Fronts.{IsFront}
 use Rattle.piecewise_lex.specs.Feeding.{Parts, IsFed, Feeds, KeepsLaw, taken_chars, held_chars, tokens_taken, valid_chars, after_valid, is_cut, tokens_from, taken_in, comment_behind}
 use Rattle.cyc_lex.specs.Lexing.{comment_len}
-use Rattle.piecewise_lex.specs.Takings.{IsSettled, IsOfText, TakesText, IsTaking, Takings, IsToldOf, TakesAll, TakesRest}
+use Rattle.piecewise_lex.specs.Batches.{IsOfText, TakesText, IsTaking, Takings, IsToldOf, TakesAll, TakesRest}
+use Rattle.piecewise_lex.specs.Runs.{IsKnown, IsKnownRun, IsAllRun}
+use Rattle.piecewise_lex.specs.declared.run.Known.{Known}
+use Rattle.piecewise_lex.specs.Taking.{reading}
+use Rattle.piecewise_lex.proofs.RunLaws.{run-waits, run-chars}
 use Rattle.std.specs.Global.{Vec}
 use Rattle.std.specs.Prelude.{◌==◌}
 use Rattle.std.proofs.lemmas.Bool.{eq-eqb, ne_eqb}
@@ -27,21 +31,23 @@ use Rattle.piecewise_lex.proofs.Fed.{IsTaken, fed, keeps, keeps-fault}
 use Rattle.cyc_lex.proofs.Lexed.{Found}
 use Rattle.piecewise_lex.proofs.Carrying.{then_tokens}
 use Rattle.piecewise_lex.proofs.Utf8Cuts.{error-nil}
-use Rattle.piecewise_lex.proofs.Extending.{all_chars, bytes-parts, taken-tokens, waiting-cut, taken-bad, bad-tokens, place_behind}
+use Rattle.piecewise_lex.proofs.Extending.{all_chars, valid-parts, bytes-parts, taken-tokens, waiting-cut, taken-bad, bad-tokens, place_behind}
 
-pub of-front : (p : Place) (going : Bool) (cs tail : List ℕ) (f : Front) (t : Taken) → IsFront p going cs f → IsSettled f tail t → IsOfText p going cs tail t
-of-front p going cs tail f t h s = record {
-  tokens = h.tokens ∙ ap (λ ts. Ok ts) (sym s.tokens);
-  place = s.place ∙ h.place;
-  comment = s.comment ∙ h.comment;
-  waiting = s.waiting ∙ ap (λ (w : List ℕ). w ++ tail) h.waits;
+pub text-of-front : (p : Place) (going : Bool) (text tail : List ℕ) (f : Front) (t : Batch) → IsFront (reading p going text) f → map owned t.tokens.items ≡ map owned f.tokens.items → t.place ≡ f.place → t.comment ≡ f.comment → t.waiting.items ≡ f.waits.now ++ tail → IsKnown t.comment t.waiting.items t.known
+    → IsOfText p going (chars text) tail t
+text-of-front p going text tail f t h tokens place comment waiting known = record {
+  tokens = h.tokens ∙ ap (λ ts. Ok ts) (sym tokens);
+  place = place ∙ h.place;
+  comment = comment ∙ h.comment;
+  waiting = waiting ∙ ap (λ (w : List ℕ). w ++ tail) h.waits;
+  known = known;
 }
 
 stops-then : (e : Stop) (a b : Found) → Stops e a → Stops e (then_tokens a b)
 stops-then stops.OutOfMemory a b h = tt
 stops-then (stops.At bad place) a b h = ap (λ r. then_tokens r b) h
 
-of-text : (p : Place) (going : Bool) (bytes : List ℕ) (t : Taken) → is_cut bytes ≡ true → IsOfText p going (valid_chars bytes) (after_valid bytes) t → IsTaking p going bytes t
+of-text : (p : Place) (going : Bool) (bytes : List ℕ) (t : Batch) → is_cut bytes ≡ true → IsOfText p going (valid_chars bytes) (after_valid bytes) t → IsTaking p going bytes t
 unfolding comment_behind all_chars
 of-text p going bytes t cut h = record {
   cut = cut;
@@ -49,13 +55,14 @@ of-text p going bytes t cut h = record {
   place = h.place;
   comment = h.comment;
   waiting = h.waiting ∙ sym (waiting-cut going bytes cut);
+  known = h.known;
 }
 
 stops-cut : (p : Place) (going : Bool) (bytes : List ℕ) (e : Stop) → is_cut bytes ≡ true → Stops e (tokens_taken p (comment_len going (valid_chars bytes)) (valid_chars bytes)) → Stops e (tokens_from p going (taken_in going bytes))
 unfolding all_chars
 stops-cut p going bytes e cut h = subst (Stops e) (sym (taken-tokens going bytes p cut)) (stops-then e (tokens_taken p (comment_len going (valid_chars bytes)) (valid_chars bytes)) (ended true (place_behind going bytes p)) h)
 
-pub takes-bytes : (p : Place) (going : Bool) (bytes text tail : List ℕ) (r : Result Taken Stop) → chars text ≡ valid_chars bytes → tail ≡ after_valid bytes → is_cut bytes ≡ true → TakesText p going text tail r → Takings p going bytes r
+pub takes-bytes : (p : Place) (going : Bool) (bytes text tail : List ℕ) (r : Result Batch Stop) → chars text ≡ valid_chars bytes → tail ≡ after_valid bytes → is_cut bytes ≡ true → TakesText p going text tail r → Takings p going bytes r
 takes-bytes p going bytes text tail (Ok t) same behind cut h = of-text p going bytes t cut (subst (λ (w : List ℕ). IsOfText p going (valid_chars bytes) w t) behind (subst (λ (cs : List ℕ). IsOfText p going cs tail t) same h))
 takes-bytes p going bytes text tail (Err e) same behind cut h = stops-cut p going bytes e cut (subst (λ (cs : List ℕ). Stops e (tokens_taken p (comment_len going cs) cs)) same h)
 
@@ -64,33 +71,32 @@ stops-bad p going bytes text e same bad h =
     let here : tokens_from p going (taken_in going bytes) ≡ lex false p (comment_len going (chars text)) (chars text) = ap (tokens_from p going) (taken-bad going bytes bad) ∙ bad-tokens p going bytes bad ∙ sym (ap (λ (cs : List ℕ). lex false p (comment_len going cs) cs) same) in
     subst (Stops e) (sym here) h
 
--- ---- a text as bytes
-
-pub chars-front : (bytes text : List ℕ) (n : ℕ) → n ≡ utf8_valid_len bytes → text ≡ take n bytes → chars text ≡ valid_chars bytes
-unfolding valid_chars
-chars-front bytes text n is same = ap chars same ∙ ap (λ k. chars (take k bytes)) is
-
-pub chars-whole : (bytes text : List ℕ) → text ≡ bytes → IsUtf8 bytes → chars text ≡ valid_chars bytes
-chars-whole bytes text same utf8 = chars-front bytes text (length bytes) (sym (utf8_valid_len-IsUtf8 bytes utf8)) (same ∙ sym (take_all (length bytes) bytes (omega arith)))
-
-drop-len : (xs : List ℕ) → drop (length xs) xs ≡ []
-drop-len [] = refl
-drop-len (x ∷ xs) = drop-len xs
-
-pub tail-whole : (bytes : List ℕ) → IsUtf8 bytes → [] ≡ after_valid bytes
-tail-whole bytes utf8 = sym (ap (λ n. drop n bytes) (utf8_valid_len-IsUtf8 bytes utf8) ∙ drop-len bytes)
-
-pub cut-whole : (bytes : List ℕ) → IsUtf8 bytes → is_cut bytes ≡ true
-cut-whole bytes utf8 = ap (λ (w : List ℕ). is_none (utf8_error_len w)) (sym (tail-whole bytes utf8)) ∙ ap is_none error-nil
+-- a run, which waits whole
+pub run-taking : (p : Place) (going : Bool) (bytes : List ℕ) (known : Known) (t : Batch) → going ≡ false → IsAllRun bytes known → map owned t.tokens.items ≡ [] → t.place ≡ p → t.comment ≡ false → t.waiting.items ≡ bytes → t.known ≡ Some known → IsTaking p going bytes t
+unfolding comment_behind all_chars
+run-taking p going bytes known t solid h none place comment waiting is =
+    let cs = valid_chars bytes in
+    let w = run-waits known.run p cs (run-chars bytes known h) in
+    subst (λ (b : Bool). IsTaking p b bytes t) (sym solid) (record {
+      cut = h.cut;
+      tokens = w.tokens ∙ ap (λ ts. Ok ts) (sym none);
+      place = place ∙ sym w.place;
+      comment = comment ∙ sym w.comment;
+      waiting = waiting ∙ sym (waiting-cut false bytes h.cut ∙ ap (λ (held : List ℕ). encode_utf8_all held ++ after_valid bytes) w.held ∙ valid-parts bytes);
+      known = known-is;
+    })
+  where
+    known-is : IsKnown t.comment t.waiting.items t.known
+    known-is = subst (λ (o : Option Known). IsKnown t.comment t.waiting.items o) (sym is) (subst (λ (b : List ℕ). IsKnownRun t.comment b known) (sym waiting) (subst (λ (b : Bool). IsKnownRun b bytes known) (sym comment) h.front))
 
 -- ---- one call of a lexer
 
-taken-is : (p : Place) (going : Bool) (bytes : List ℕ) (t : Taken) → IsTaking p going bytes t → IsTaken p going bytes (map owned t.tokens.items) t.place
+taken-is : (p : Place) (going : Bool) (bytes : List ℕ) (t : Batch) → IsTaking p going bytes t → IsTaken p going bytes (map owned t.tokens.items) t.place
 unfolding all_chars
 taken-is p going bytes t h = record { cut = h.cut; tokens = h.tokens; place = h.place }
 
 -- the line and the column stay small
-pub small-place : (p : Place) (going : Bool) (bytes : List ℕ) (t : Taken) → IsTaking p going bytes t → p.line ≤ p.offset + 1 → p.column ≤ p.offset + 1 → (t.place.line ≤ t.place.offset + 1) × (t.place.column ≤ t.place.offset + 1)
+pub small-place : (p : Place) (going : Bool) (bytes : List ℕ) (t : Batch) → IsTaking p going bytes t → p.line ≤ p.offset + 1 → p.column ≤ p.offset + 1 → (t.place.line ≤ t.place.offset + 1) × (t.place.column ≤ t.place.offset + 1)
 small-place p going bytes t h line column =
     let far = pass_all-offset p (taken_chars (comment_len going (valid_chars bytes)) (valid_chars bytes)) in
     let n = length (encode_utf8_all (taken_chars (comment_len going (valid_chars bytes)) (valid_chars bytes))) in
@@ -98,7 +104,7 @@ small-place p going bytes t h line column =
     (omega (arith, behind.offset, behind.line, line), omega (arith, behind.offset, behind.column, column))
 
 -- what is answered and what is kept, where tokens are handed out
-pub fed-parts : (old new : Parts) (piece : List ℕ) (t : Taken) → old.met ≡ None → new ≡ record { waiting = t.waiting.items; place = t.place; comment = t.comment; met = old.met } → IsTaking old.place old.comment (old.waiting ++ piece) t
+pub fed-parts : (old new : Parts) (piece : List ℕ) (t : Batch) → old.met ≡ None → new ≡ record { waiting = t.waiting.items; place = t.place; comment = t.comment; met = old.met } → IsTaking old.place old.comment (old.waiting ++ piece) t
     → IsFed old (old.waiting ++ piece) new (map owned t.tokens.items) × KeepsLaw old piece new (Ok (map owned t.tokens.items))
 fed-parts old new piece t unmet is h =
     let bytes = old.waiting ++ piece in
@@ -149,7 +155,7 @@ pub whole-not : (bytes : List ℕ) (n : ℕ) → n ≡ utf8_valid_len bytes → 
 whole-not bytes n is short = sym (ne_eqb _ _ (λ e. omega (arith, e, is, short)))
 
 -- no byte is lost
-pub count-parts : (p : Place) (going : Bool) (bytes : List ℕ) (t : Taken) → IsTaking p going bytes t → t.place.offset + length t.waiting.items ≡ p.offset + length bytes
+pub count-parts : (p : Place) (going : Bool) (bytes : List ℕ) (t : Batch) → IsTaking p going bytes t → t.place.offset + length t.waiting.items ≡ p.offset + length bytes
 unfolding all_chars
 count-parts p going bytes t h =
     let cs = valid_chars bytes in

@@ -1,4 +1,8 @@
+pub mod Written
 pub mod Feeding
-pub mod Fronts
 pub mod Owned
-pub mod Takings
+pub mod Valid
+pub mod Taking
+pub mod Fronts
+pub mod Runs
+pub mod Batches

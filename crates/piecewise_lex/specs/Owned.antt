@@ -1,8 +1,8 @@
 -- Tokens with texts of their own.
 use Rattle.std.specs.Prelude.{◌≤◌, length}
-use Rattle.piecewise_lex.specs.declared.owned.OwnedToken.{OwnedToken}
 use Rattle.cyc_lex.specs.declared.token.Token.{Token}
 use Rattle.cyc_lex.specs.Placed.{Placed}
+use Rattle.piecewise_lex.specs.declared.owned.OwnedToken.{OwnedToken}
 
 abbrev pub owned : OwnedToken → Placed
 owned t = record { kind = t.kind; text = t.text; line = t.line; column = t.column }

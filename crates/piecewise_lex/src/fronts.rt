@@ -1,84 +1,56 @@
-//! Taking the front of a text, of which more may come.
+//! All the tokens of a text but those that wait, and those of one statement.
 
-ghost use Rattle.std.specs.Prelude.{◌≡◌, ◌==◌, ◌||◌, ◌&&◌, length, take, drop, slice_index, false};
-ghost use Rattle.std.specs.Str.{chars, IsUtf8};
-ghost use Rattle.cyc_lex.specs.Lexing.{pass_all, HasRoom, lex, Stops};
-ghost use Rattle.cyc_lex.specs.Lexing.{comment_len};
-ghost use Rattle.piecewise_lex.specs.Fronts.{Fronts, stays};
+ghost use Rattle.std.specs.Prelude.{length, false};
 
-use cyc_lex::{Bad, Piece, Place, Stop, Token, check_len, next, next_char, skip_comment};
+ghost use Rattle.std.specs.Str.{chars};
+ghost use Rattle.cyc_lex.specs.Lexing.{HasRoom, Stops, lex, comment_len};
+ghost use Rattle.piecewise_lex.specs.Taking.{reading};
+ghost use Rattle.piecewise_lex.specs.Fronts.{Fronts};
+
+use crate::owned::{OwnedToken, own};
+use crate::taking::take_token;
+use cyc_lex::{Bad, Piece, Place, Stop, check_len, next, skip_comment};
 use std::alloc::Global;
 
-/// What was taken of a text: its tokens, the place behind them, whether a comment goes on there, and the text that waits.
+/// What was taken of a text: copies of its tokens, the place after them, whether a comment goes on there, and the text that
+/// waits.
 #[derive(Debug, Drop)]
 pub struct Front<'a> {
-    pub tokens: Vec<Token<'a>>,
+    pub tokens: Vec<OwnedToken>,
     pub place: Place,
     pub comment: bool,
     pub waits: &'a str,
 }
 
-/// Whether the piece at the front of a text waits, being all that is left of it.
-fn stays(piece: Piece, front: &str, after: &str) -> bool
-    ensures { result ≡ stays piece front.now after.now }
-{
-    if !after.is_empty() {
-        return false;
-    }
-    match piece {
-        Piece::Gap => false,
-        Piece::Token(_) => true,
-        Piece::Stray => {
-            let c = next_char(front);
-            c == '!' || c == '-'
-        }
-    }
-}
-
-/// Takes the tokens of a text but for one that waits at its end, where a comment goes on at its start or none does.
+/// Takes the tokens of a text that stands at a place, where a comment goes on or none does, but for what waits at its end.
 pub fn take_front(alloc: Global, place: Place, comment: bool, text: &str) -> Result<Front<'_>, Stop>
     requires { HasRoom place (length text.now) }
-    ensures { Fronts place comment (chars text.now) result }
+    ensures { Fronts (reading place comment text.now) result }
 {
     let mut tokens = Vec::new(alloc);
-    let (mut rest, mut place) = skip_comment(place, comment, text);
-    let mut in_comment = comment;
-    'pieces: while !rest.is_empty() {
-        let (piece, front, after, behind) = next(place, rest);
-        if stays(piece, front, after) {
-            return Ok(Front {
-                tokens,
-                place,
-                comment: false,
-                waits: rest,
-            });
-        }
-        in_comment = next_char(front) == '#';
-        match piece {
-            Piece::Gap => {}
-            Piece::Stray => return Err(Stop::At(Bad::Byte, place)),
-            Piece::Token(kind) => {
-                check_len(kind, place, front)?;
-                tokens.push(Token {
-                    kind,
-                    text: front,
-                    line: place.line,
-                    column: place.column,
-                })?;
+    let mut place = place;
+    let mut comment = comment;
+    let mut rest = text;
+    'tokens: loop {
+        let taken = take_token(place, comment, rest)?;
+        place = taken.place;
+        comment = taken.comment;
+        rest = taken.rest;
+        match taken.token {
+            None => {
+                return Ok(Front {
+                    tokens,
+                    place,
+                    comment,
+                    waits: rest,
+                });
             }
+            Some(token) => tokens.push(own(alloc, &token)?)?,
         }
-        rest = after;
-        place = behind;
     }
-    Ok(Front {
-        tokens,
-        place,
-        comment: in_comment,
-        waits: rest,
-    })
 }
 
-/// The first bad place of a text behind which a byte stands that begins no character.
+/// The first bad place of a text after which a byte stands that begins no character.
 pub fn first_bad(place: Place, comment: bool, text: &str) -> Stop
     requires { HasRoom place (length text.now) }
     ensures { Stops result (lex false place (comment_len comment (chars text.now)) (chars text.now)) }
@@ -89,12 +61,10 @@ pub fn first_bad(place: Place, comment: bool, text: &str) -> Stop
         match piece {
             Piece::Gap => {}
             Piece::Stray => return Stop::At(Bad::Byte, place),
-            Piece::Token(kind) => {
-                match check_len(kind, place, front) {
-                    Ok(()) => {}
-                    Err(stop) => return stop,
-                }
-            }
+            Piece::Token(kind) => match check_len(kind, place, front) {
+                Ok(()) => {}
+                Err(stop) => return stop,
+            },
         }
         rest = after;
         place = behind;

@@ -1,9 +1,18 @@
 //! The tokens of a text that comes in pieces.
 #![tactic(auto)]
 
+mod batch;
+mod bytes;
 mod fronts;
 mod lexer;
 mod owned;
+mod run;
+mod taking;
+mod text;
+mod valid;
 
 pub use lexer::Lexer;
-pub use owned::{OwnedToken, Text};
+pub use owned::OwnedToken;
+pub use taking::{Taken, take_token};
+pub use text::Text;
+pub use valid::{Valid, valid_front};

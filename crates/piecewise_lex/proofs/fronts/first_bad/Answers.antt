@@ -2,7 +2,7 @@ use Rattle.std.proofs.Common.{◌<◌, ◌∙◌, length, sym, ap, subst, false,
 use Rattle.std.specs.Str.{chars}
 use Rattle.cyc_lex.specs.Lexing.{lex, token_at, with_token, Stops}
 use Rattle.cyc_lex.specs.declared.place.Bad.TheVariants as bads
-use Rattle.piecewise_lex.proofs.FrontLaws.{stops-with}
+use Rattle.piecewise_lex.proofs.TakingLaws.{stops-with}
 use Rattle.cyc_lex.specs.declared.place.Piece.TheVariants as pieces
 use Rattle.cyc_lex.proofs.Pieces.{skip}
 use Rattle.cyc_lex.proofs.Lexed.{IsNext, by_next, taken-long, taken-token, nil-chars}

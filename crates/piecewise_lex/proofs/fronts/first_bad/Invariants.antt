@@ -2,7 +2,7 @@ use Rattle.std.proofs.Common.{length, false}
 use Rattle.std.specs.Str.{chars, IsUtf8}
 use Rattle.cyc_lex.specs.Lexing.{lex, HasRoom}
 use Rattle.cyc_lex.specs.Lexing.{comment_len}
-use Rattle.piecewise_lex.proofs.FrontLaws.{FailsWith}
+use Rattle.piecewise_lex.proofs.TakingLaws.{FailsWith}
 use Rattle.piecewise_lex.proofs.fronts.first_bad.Given as goal
 
 abbrev pub invariant-pieces : goal.invariant-pieces

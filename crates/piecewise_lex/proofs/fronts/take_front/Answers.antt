@@ -1,85 +1,37 @@
-use Rattle.std.proofs.Common.{◌<◌, ◌∙◌, length, refl, sym, ap, arith, false-eqb, eqb-true}
-use Rattle.std.specs.Str.{chars}
+use Rattle.std.proofs.Common.{◌≡◌, ◌++◌, ◌∷◌, [], List, subst, sym, ap, ◌∙◌, refl}
+use Rattle.std.specs.Prelude.{map}
+use Rattle.std.proofs.lemmas.List.{map_push}
 use Rattle.std.proofs.lemmas.Result.{err_from_is_err_and}
-use Rattle.cyc_lex.specs.declared.place.Piece.TheVariants as pieces
-use Rattle.piecewise_lex.specs.Fronts.{stays}
-use Rattle.cyc_lex.proofs.Lexed.{IsNext}
-use Rattle.piecewise_lex.proofs.FrontLaws.{on-start, on-gap, on-token, on-stray, on-long, done-held, done-all}
+use Rattle.cyc_lex.specs.Placed.{Placed, placed}
+use Rattle.piecewise_lex.specs.Owned.{owned}
+use Rattle.piecewise_lex.specs.Taking.{reading, HasTaken}
+use Rattle.piecewise_lex.proofs.TakingLaws.{taken-none, taken-stops}
+use Rattle.piecewise_lex.proofs.FrontLaws.{one-more, short-one, fewer-left, at-end}
 use Rattle.piecewise_lex.proofs.fronts.take_front.Goals as goal
 
-pub pieces-init : goal.pieces-init
-pieces-init c = rw c.new-tokens.ensures.items (on-start c.args.place c.args.comment (chars c.args.text.now) c.skip_comment.result.1 c.skip_comment.result.0.now c.skip_comment.ensures.rest c.skip_comment.ensures.place c.skip_comment.ensures.room c.skip_comment.ensures.utf8)
+pub tokens-init : goal.tokens-init
+tokens-init c = rw c.new-tokens.ensures.items (record { taken = taken-none (reading c.args.place c.args.comment c.args.text.now); room = c.requires; utf8 = c.utf8.text })
 
-pub returns : goal.returns
-returns c = done-all c.args.place c.args.comment (chars c.args.text.now) _ c.pieces.rest.now c.pieces.invariant (eqb-true _ _ (sym c.pieces-test.ensures)) refl
-
-pub returns-then-stays : goal.returns-then-stays
-returns-then-stays c =
-    let some : 0 < length c.pieces.rest.now = omega (arith, false-eqb _ 0 c.pieces-test.ensures) in
-    let n : IsNext c.pieces.place c.pieces.rest.now c.next-piece.result.0 c.next-piece.result.1.now c.next-piece.result.2.now c.next-piece.result.3 = record {
-      some = some;
-      kind = c.next-piece.ensures.kind;
-      front = c.next-piece.ensures.front;
-      rest = c.next-piece.ensures.rest;
-      place = c.next-piece.ensures.place;
-      room = c.next-piece.ensures.room;
-      utf8 = c.next-piece.ensures.utf8;
-    } in
-    done-held c.args.place c.args.comment (chars c.args.text.now) _ c.pieces.in_comment c.pieces.rest.now c.next-piece.result.0 c.next-piece.result.1.now c.next-piece.result.2.now c.next-piece.result.3 c.pieces.invariant n (sym c.if-stays.ensures) refl refl
-
-pub returns-in-Stray : goal.returns-in-Stray
-returns-in-Stray c =
-    let some : 0 < length c.pieces.rest.now = omega (arith, false-eqb _ 0 c.pieces-test.ensures) in
-    let n : IsNext c.pieces.place c.pieces.rest.now pieces.Stray c.next-piece.result.1.now c.next-piece.result.2.now c.next-piece.result.3 = record {
-      some = some;
-      kind = sym c.in-Stray.is ∙ c.next-piece.ensures.kind;
-      front = c.next-piece.ensures.front;
-      rest = c.next-piece.ensures.rest;
-      place = c.next-piece.ensures.place;
-      room = c.next-piece.ensures.room;
-      utf8 = c.next-piece.ensures.utf8;
-    } in
-    on-stray c.args.place c.args.comment (chars c.args.text.now) c.pieces.tokens.items c.pieces.place c.pieces.in_comment c.pieces.rest.now c.next-piece.result.1.now c.next-piece.result.2.now c.next-piece.result.3 c.pieces.invariant n (ap (λ k. stays k c.next-piece.result.1.now c.next-piece.result.2.now) (sym c.in-Stray.is) ∙ sym c.if-stays.ensures)
-
-pub returns-in_err-check_len-in-Token : goal.returns-in_err-check_len-in-Token
-returns-in_err-check_len-in-Token c =
-    let some : 0 < length c.pieces.rest.now = omega (arith, false-eqb _ 0 c.pieces-test.ensures) in
-    let n : IsNext c.pieces.place c.pieces.rest.now (pieces.Token c.in-Token.kind) c.next-piece.result.1.now c.next-piece.result.2.now c.next-piece.result.3 = record {
-      some = some;
-      kind = sym c.in-Token.is ∙ c.next-piece.ensures.kind;
-      front = c.next-piece.ensures.front;
-      rest = c.next-piece.ensures.rest;
-      place = c.next-piece.ensures.place;
-      room = c.next-piece.ensures.room;
-      utf8 = c.next-piece.ensures.utf8;
-    } in
+pub returns-in_err-taken : goal.returns-in_err-taken
+returns-in_err-taken c =
     let p = err_from_is_err_and c.from_residual.result c.from_residual.ensures.1 in
-    rw (p.1, p.2) (on-long c.args.place c.args.comment (chars c.args.text.now) c.pieces.tokens.items c.pieces.place c.pieces.in_comment c.pieces.rest.now c.in-Token.kind c.next-piece.result.1.now c.next-piece.result.2.now c.next-piece.result.3 c.in_err-check_len-in-Token.field-0.0 c.pieces.invariant n (ap (λ k. stays k c.next-piece.result.1.now c.next-piece.result.2.now) (sym c.in-Token.is) ∙ sym c.if-stays.ensures) (sym c.in_err-check_len-in-Token.ensures))
+    rw (p.1, p.2) (taken-stops (reading c.args.place c.args.comment c.args.text.now) (reading c.tokens.place c.tokens.comment c.tokens.rest.now) (map owned c.tokens.tokens.items) c.in_err-taken.field-0.0 c.tokens.invariant.taken c.in_err-taken.ensures)
 
-pub pieces-preserved-in-Gap : goal.pieces-preserved-in-Gap
-pieces-preserved-in-Gap c =
-    let some : 0 < length c.pieces.rest.now = omega (arith, false-eqb _ 0 c.pieces-test.ensures) in
-    let n : IsNext c.pieces.place c.pieces.rest.now pieces.Gap c.next-piece.result.1.now c.next-piece.result.2.now c.next-piece.result.3 = record {
-      some = some;
-      kind = sym c.in-Gap.is ∙ c.next-piece.ensures.kind;
-      front = c.next-piece.ensures.front;
-      rest = c.next-piece.ensures.rest;
-      place = c.next-piece.ensures.place;
-      room = c.next-piece.ensures.room;
-      utf8 = c.next-piece.ensures.utf8;
-    } in
-    rw c.next_char-in_comment.ensures.value (on-gap c.args.place c.args.comment (chars c.args.text.now) c.pieces.tokens.items c.pieces.place c.pieces.in_comment c.pieces.rest.now c.next-piece.result.1.now c.next-piece.result.2.now c.next-piece.result.3 c.pieces.invariant n (ap (λ k. stays k c.next-piece.result.1.now c.next-piece.result.2.now) (sym c.in-Gap.is) ∙ sym c.if-stays.ensures))
+pub returns-in-None : goal.returns-in-None
+returns-in-None c =
+    let t = c.in_ok-taken.taken in
+    let e = at-end (reading c.args.place c.args.comment c.args.text.now) (reading c.tokens.place c.tokens.comment c.tokens.rest.now) c.tokens.rest.now t (map owned c.tokens.tokens.items) c.tokens.invariant.taken c.in_ok-taken.ensures.taken c.in_ok-taken.ensures.nearer c.in_ok-taken.ensures.utf8 c.in-None.is in
+    record { tokens = e.tokens; place = e.place; comment = e.comment; waits = e.waits }
 
-pub pieces-preserved : goal.pieces-preserved
-pieces-preserved c =
-    let some : 0 < length c.pieces.rest.now = omega (arith, false-eqb _ 0 c.pieces-test.ensures) in
-    let n : IsNext c.pieces.place c.pieces.rest.now (pieces.Token c.in-Token.kind) c.next-piece.result.1.now c.next-piece.result.2.now c.next-piece.result.3 = record {
-      some = some;
-      kind = sym c.in-Token.is ∙ c.next-piece.ensures.kind;
-      front = c.next-piece.ensures.front;
-      rest = c.next-piece.ensures.rest;
-      place = c.next-piece.ensures.place;
-      room = c.next-piece.ensures.room;
-      utf8 = c.next-piece.ensures.utf8;
-    } in
-    rw (c.next_char-in_comment.ensures.value, c.in_ok-push-in-Token.ensures.items) (on-token c.args.place c.args.comment (chars c.args.text.now) c.pieces.tokens.items c.pieces.place c.pieces.in_comment c.pieces.rest.now c.in-Token.kind c.next-piece.result.1.now c.next-piece.result.2.now c.next-piece.result.3 _ c.pieces.invariant n (ap (λ k. stays k c.next-piece.result.1.now c.next-piece.result.2.now) (sym c.in-Token.is) ∙ sym c.if-stays.ensures) (sym c.in_ok-check_len-in-Token.ensures) refl)
+pub tokens-preserved : goal.tokens-preserved
+tokens-preserved c =
+    let t = c.in_ok-taken.taken in
+    let token = c.in-Some.token in
+    let here = reading c.args.place c.args.comment c.args.text.now in
+    let more = one-more here (reading c.tokens.place c.tokens.comment c.tokens.rest.now) c.tokens.rest.now t (map owned c.tokens.tokens.items) c.tokens.invariant.taken c.in_ok-taken.ensures.taken c.in_ok-taken.ensures.nearer token c.in-Some.is in
+    let items : map owned c.tokens.tokens.items ++ placed token ∷ [] ≡ map owned c.push.new.self.items = ap (λ (x : Placed). map owned c.tokens.tokens.items ++ x ∷ []) (sym c.in_ok-own-in-Some.ensures) ∙ sym (map_push owned c.tokens.tokens.items c.in_ok-own-in-Some.field-0) ∙ ap (map owned) (sym c.in_ok-push-in-Some.ensures.items) in
+    record {
+      taken = subst (λ (xs : List Placed). HasTaken here xs (reading t.place t.comment t.rest.now)) items more;
+      room = c.in_ok-taken.ensures.room;
+      utf8 = c.in_ok-taken.ensures.utf8;
+    }

@@ -10,41 +10,36 @@ use Rattle.std.specs.Global.{Vec}
 use Rattle.cyc_lex.specs.Answer.{fault_of}
 use Rattle.cyc_lex.specs.declared.fault.LexFault.{LexFault}
 use Rattle.cyc_lex.specs.declared.fault.LexFault.TheVariants as faults
-use Rattle.piecewise_lex.specs.declared.fronts.Front.{Front}
-use Rattle.piecewise_lex.specs.declared.lexer.Taken.{Taken}
-use Rattle.cyc_lex.specs.Placed.{Placed, placed}
+use Rattle.piecewise_lex.specs.declared.batch.Batch.{Batch}
+use Rattle.cyc_lex.specs.Placed.{Placed}
 use Rattle.piecewise_lex.specs.Owned.{owned}
+use Rattle.piecewise_lex.specs.Runs.{IsKnown}
 use Rattle.cyc_lex.specs.Lexing.{pass_all, lex, Stops}
 use Rattle.piecewise_lex.specs.Feeding.{taken_chars, held_chars, ends_in_comment, tokens_taken, valid_chars, is_cut, tokens_from, waiting_in, taken_in, comment_behind, Parts, told, defined}
 use Rattle.cyc_lex.specs.Lexing.{comment_len}
 
--- the same, with copies of the texts
-pub record IsSettled (f : Front) (tail : List ℕ) (t : Taken) : Type 0 where
-  pub tokens : map owned t.tokens.items ≡ map placed f.tokens.items
-  pub place : t.place ≡ f.place
-  pub comment : t.comment ≡ f.comment
-  pub waiting : t.waiting.items ≡ f.waits.now ++ tail
-
--- what is taken of the characters that stand at p; the tail waits behind those that wait
-pub record IsOfText (p : Place) (going : Bool) (cs tail : List ℕ) (t : Taken) : Type 0 where
+-- what is taken of the characters that stand at p; the tail waits after those that wait
+pub record IsOfText (p : Place) (going : Bool) (cs tail : List ℕ) (t : Batch) : Type 0 where
   pub tokens : tokens_taken p (comment_len going cs) cs ≡ Ok (map owned t.tokens.items)
   pub place : t.place ≡ pass_all p (taken_chars (comment_len going cs) cs)
   pub comment : t.comment ≡ ends_in_comment going (comment_len going cs) cs
   pub waiting : t.waiting.items ≡ encode_utf8_all (held_chars (comment_len going cs) cs) ++ tail
+  pub known : IsKnown t.comment t.waiting.items t.known
 
-abbrev pub TakesText : Place → Bool → List ℕ → List ℕ → Result Taken Stop → Type 0
+abbrev pub TakesText : Place → Bool → List ℕ → List ℕ → Result Batch Stop → Type 0
 TakesText p going text tail (Ok t) = IsOfText p going (chars text) tail t
 TakesText p going text tail (Err e) = Stops e (tokens_taken p (comment_len going (chars text)) (chars text))
 
 -- what is taken of the bytes that stand at p
-pub record IsTaking (p : Place) (going : Bool) (bytes : List ℕ) (t : Taken) : Type 0 where
+pub record IsTaking (p : Place) (going : Bool) (bytes : List ℕ) (t : Batch) : Type 0 where
   pub cut : is_cut bytes ≡ true
   pub tokens : tokens_taken p (comment_len going (valid_chars bytes)) (valid_chars bytes) ≡ Ok (map owned t.tokens.items)
   pub place : t.place ≡ pass_all p (taken_chars (comment_len going (valid_chars bytes)) (valid_chars bytes))
   pub comment : t.comment ≡ comment_behind going bytes
   pub waiting : t.waiting.items ≡ waiting_in going bytes
+  pub known : IsKnown t.comment t.waiting.items t.known
 
-abbrev pub Takings : Place → Bool → List ℕ → Result Taken Stop → Type 0
+abbrev pub Takings : Place → Bool → List ℕ → Result Batch Stop → Type 0
 Takings p going bytes (Ok t) = IsTaking p going bytes t
 Takings p going bytes (Err e) = Stops e (tokens_from p going (taken_in going bytes))
 
@@ -58,7 +53,7 @@ abbrev pub IsToldOf : LexFault → Result (List Placed) (Bad × Place) → Type 
 IsToldOf faults.OutOfMemory r = Unit {0}
 IsToldOf f r = told r ≡ Err f
 
-abbrev pub TakesPiece : Place → Bool → List ℕ → Result Taken LexFault → Type 0
+abbrev pub TakesPiece : Place → Bool → List ℕ → Result Batch LexFault → Type 0
 TakesPiece p going bytes (Ok t) = IsTaking p going bytes t
 TakesPiece p going bytes (Err f) = IsToldOf f (tokens_from p going (taken_in going bytes))
 
