@@ -7,7 +7,7 @@ ghost use Rattle.cyc_lex.specs.Lexing.{HasRoom, Stops, lex, comment_len};
 ghost use Rattle.piecewise_lex.specs.Taking.{reading};
 ghost use Rattle.piecewise_lex.specs.Fronts.{Fronts};
 
-use crate::owned::{OwnedToken, own};
+use crate::owned::{OwnedToken, push_own};
 use crate::taking::take_token;
 use cyc_lex::{Bad, Piece, Place, Stop, check_len, next, skip_comment};
 use std::alloc::Global;
@@ -45,7 +45,7 @@ pub fn take_front(alloc: Global, place: Place, comment: bool, text: &str) -> Res
                     waits: rest,
                 });
             }
-            Some(token) => tokens.push(own(alloc, &token)?)?,
+            Some(token) => push_own(alloc, &mut tokens, &token)?,
         }
     }
 }

@@ -1,6 +1,6 @@
 //! Tokens with texts of their own.
 
-ghost use Rattle.std.specs.Prelude.{◌≡◌, ◌≤◌, length, map, All, IfOk};
+ghost use Rattle.std.specs.Prelude.{◌≡◌, ◌≤◌, ◌++◌, ◌∷◌, [], length, map, All, IfOk, OnOk};
 ghost use Rattle.cyc_lex.specs.Placed.{placed};
 ghost use Rattle.piecewise_lex.specs.Owned.{owned, IsShort};
 
@@ -18,8 +18,7 @@ pub struct OwnedToken {
 }
 
 /// A copy of a token.
-#[inline(always)]
-pub fn own(alloc: Global, token: &Token<'_>) -> Result<OwnedToken, OutOfMemory>
+fn own(alloc: Global, token: &Token<'_>) -> Result<OwnedToken, OutOfMemory>
     requires { length token.now.text.now ≤ 64 }
     ensures { IfOk result (λ t. owned t ≡ placed token.now) }
 {
@@ -31,6 +30,28 @@ pub fn own(alloc: Global, token: &Token<'_>) -> Result<OwnedToken, OutOfMemory>
     })
 }
 
+/// Puts a copy of a token after others. Most tokens are symbols of one byte, which cost least.
+#[inline(always)]
+pub fn push_own(
+    alloc: Global,
+    tokens: &mut Vec<OwnedToken>,
+    token: &Token<'_>,
+) -> Result<(), OutOfMemory>
+    requires { length token.now.text.now ≤ 64 }
+    ensures { OnOk result (map owned tokens.new.items ≡ map owned tokens.old.items ++ placed token.now ∷ []) }
+{
+    match token.text.as_bytes() {
+        [byte] => tokens.push(OwnedToken {
+            kind: token.kind,
+            text: Text::single(*byte),
+            line: token.line,
+            column: token.column,
+        })?,
+        _ => tokens.push(own(alloc, token)?)?,
+    }
+    Ok(())
+}
+
 /// Copies of tokens.
 pub fn own_all(alloc: Global, tokens: &[Token<'_>]) -> Result<Vec<OwnedToken>, OutOfMemory>
     requires { All IsShort tokens.now }
@@ -38,7 +59,7 @@ pub fn own_all(alloc: Global, tokens: &[Token<'_>]) -> Result<Vec<OwnedToken>, O
 {
     let mut all = Vec::with_capacity(alloc, tokens.len())?;
     for token in tokens {
-        all.push(own(alloc, token)?)?;
+        push_own(alloc, &mut all, token)?;
     }
     Ok(all)
 }

@@ -1,19 +1,19 @@
 //! The text of a token that stands on its own.
 
-ghost use Rattle.std.specs.Prelude.{◌≡◌, ◌≤◌, length, IfOk};
+ghost use Rattle.std.specs.Prelude.{◌≡◌, ◌≤◌, ◌∷◌, [], length, IfOk};
 
 use cyc_lex::OutOfMemory;
 use std::alloc::Global;
 use std::marker::Model;
 
-/// Where the bytes of a token's text lie: up to 22 in place, more in memory of their own.
+/// Where the bytes of a token's text lie: up to 16 in place, more in memory of their own.
 #[derive(Debug, Drop)]
 pub enum Form {
-    Short { bytes: [u8; 22], len: u8 },
+    Short { bytes: [u8; 16], len: u8 },
     Long { bytes: Box<[u8; 64]>, len: u8 },
 }
 
-/// The text of a token, which has at most 64 bytes. It takes memory of its own only from the 23rd byte on.
+/// The text of a token, which has at most 64 bytes. It takes memory of its own only from the 17th byte on.
 #[derive(Debug, Drop)]
 pub struct Text {
     form: Form,
@@ -38,8 +38,8 @@ impl Text {
         ensures { IfOk result (λ t. t ≡ text.now) }
     {
         let len = text.len();
-        if len <= 22 {
-            let mut bytes = [0u8; 22];
+        if len <= 16 {
+            let mut bytes = [0u8; 16];
             bytes[..len].copy_from_slice(text.as_bytes());
             return Ok(Text {
                 form: Form::Short {
@@ -56,6 +56,19 @@ impl Text {
                 len: len as u8,
             },
         })
+    }
+
+    /// The text of one byte.
+    #[inline(always)]
+    pub(crate) fn single(byte: u8) -> Text
+        ensures { result ≡ byte ∷ [] }
+    {
+        Text {
+            form: Form::Short {
+                bytes: [byte, 0, 0, 0, 0, 0, 0, 0, 0, 0, 0, 0, 0, 0, 0, 0],
+                len: 1,
+            },
+        }
     }
 
     /// The bytes of the text.

@@ -29,7 +29,7 @@ tokens-preserved c =
     let token = c.in-Some.token in
     let here = reading c.args.place c.args.comment c.args.text.now in
     let more = one-more here (reading c.tokens.place c.tokens.comment c.tokens.rest.now) c.tokens.rest.now t (map owned c.tokens.tokens.items) c.tokens.invariant.taken c.in_ok-taken.ensures.taken c.in_ok-taken.ensures.nearer token c.in-Some.is in
-    let items : map owned c.tokens.tokens.items ++ placed token ∷ [] ≡ map owned c.push.new.self.items = ap (λ (x : Placed). map owned c.tokens.tokens.items ++ x ∷ []) (sym c.in_ok-own-in-Some.ensures) ∙ sym (map_push owned c.tokens.tokens.items c.in_ok-own-in-Some.field-0) ∙ ap (map owned) (sym c.in_ok-push-in-Some.ensures.items) in
+    let items : map owned c.tokens.tokens.items ++ placed token ∷ [] ≡ map owned c.push_own.new.tokens.items = sym c.in_ok-push_own-in-Some.ensures in
     record {
       taken = subst (λ (xs : List Placed). HasTaken here xs (reading t.place t.comment t.rest.now)) items more;
       room = c.in_ok-taken.ensures.room;
