@@ -1,5 +1,5 @@
 -- A plain symbol is a token of its own, whatever comes after it.
-use Rattle.std.proofs.Common.{◌≡◌, ℕ, ◌<◌, Bool, true, List, [], ◌∷◌, sym, subst, refl, eqb-true, lit<, inl, inr}
+use Rattle.std.proofs.Common.{◌≡◌, ℕ, true, List, [], ◌∷◌, sym, subst, refl, eqb-true, lit<, inl, inr}
 use Rattle.std.specs.Prelude.{◌==◌}
 use Rattle.std.specs.List.{list_any}
 use Rattle.unicode_ident.proofs.IdentLemmas.{is_xid_start-ascii}

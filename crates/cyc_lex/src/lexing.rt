@@ -15,7 +15,7 @@ use crate::place::{
 use crate::token::{Kind, Token};
 use std::alloc::Global;
 
-/// The first character of a text, and the text behind it.
+/// The first character of a text, and the text after it.
 #[inline(always)]
 pub fn first(text: &str) -> Option<(char, &str)>
     ensures chars { MatchOption result (chars text.now ≡ []) (λ x. chars text.now ≡ x.0 ∷ chars x.1.now) }
@@ -91,7 +91,7 @@ pub fn next_char(text: &str) -> char
     }
 }
 
-/// Takes the first piece off a text: what it is, its text, the text behind it, and the place of that.
+/// Takes the first piece off a text, the longest: what it is, its text, the text after it, and the place of that.
 #[inline(always)]
 pub fn next(place: Place, text: &str) -> (Piece, &str, &str, Place)
     requires room { HasRoom place (length text.now) }
@@ -110,7 +110,7 @@ pub fn next(place: Place, text: &str) -> (Piece, &str, &str, Place)
     (piece, front, rest, behind)
 }
 
-/// The text behind the comment in which it begins, where it begins in one, and the place of that.
+/// A text without the comment that goes on at its start, where one does, and the place of what is left.
 pub fn skip_comment(place: Place, comment: bool, text: &str) -> (&str, Place)
     requires { HasRoom place (length text.now) }
     ensures rest { chars result.0.now ≡ drop (comment_len comment (chars text.now)) (chars text.now) }
@@ -127,8 +127,8 @@ pub fn skip_comment(place: Place, comment: bool, text: &str) -> (&str, Place)
     (rest, behind)
 }
 
-/// The tokens of a text that stands at a place, where a comment goes on or none does; the text is all that is to come, or
-/// is followed by a bad byte.
+/// The tokens of a text that stands at a place, where a comment goes on or none does. The text is all that is to come, or is
+/// followed by a bad byte.
 pub fn lex_from(
     alloc: Global,
     place: Place,
@@ -171,7 +171,7 @@ pub fn lex_from(
     Ok(out)
 }
 
-/// The tokens of a text, which is all of what was given or is followed by a bad byte.
+/// The tokens of a text, which is the whole text or is followed by a bad byte.
 pub fn lex(alloc: Global, whole: bool, text: &str) -> Result<Vec<Token<'_>>, Stop>
     requires { length text.now < 2 ^ 32 - 1 }
     ensures { Lexes (λ v. map placed v.items) result (lex whole start 0 (chars text.now)) }
@@ -179,7 +179,7 @@ pub fn lex(alloc: Global, whole: bool, text: &str) -> Result<Vec<Token<'_>>, Sto
     lex_from(alloc, Place::START, false, whole, text)
 }
 
-/// A name has at most 64 bytes, and a number 9 digits.
+/// Refuses a name of more than 64 bytes and a number of more than 9 digits.
 #[inline(always)]
 pub fn check_len(kind: Kind, place: Place, text: &str) -> Result<(), Stop>
     ensures { result ≡ len_fault kind place text.now }

@@ -9,7 +9,7 @@ use crate::token::Kind;
 use cyc_memory::OutOfMemory;
 use std::alloc::AllocFailed;
 
-/// Bytes before it, and its line and column, counted from 1.
+/// A place in a text: how many bytes stand before it, and its line and column, counted from 1, the column in characters.
 #[derive(Clone, Copy, Debug, PartialEq, Eq)]
 pub struct Place {
     pub offset: u32,
@@ -17,7 +17,7 @@ pub struct Place {
     pub column: u32,
 }
 
-/// What goes on as long as its characters come.
+/// What is as long as characters go on it: a comment up to its line feed, a name, a number.
 #[derive(Clone, Copy, Debug)]
 pub enum Run {
     Comment,
@@ -25,7 +25,7 @@ pub enum Run {
     Number,
 }
 
-/// What a text begins with.
+/// What a text begins with: a space or a comment, a token, or a character that begins none.
 #[derive(Clone, Copy, Debug)]
 pub enum Piece {
     Gap,
@@ -72,6 +72,7 @@ impl<T: Drop> From<AllocFailed<T>> for Stop {
 }
 
 impl Place {
+    /// The place of a text's first byte.
     pub const START: Place = Place {
         offset: 0,
         line: 1,
@@ -101,18 +102,21 @@ impl Place {
     }
 }
 
+/// Whether a character separates tokens: a space, a tab, a carriage return or a line feed.
 pub fn is_space(c: char) -> bool
     ensures { result ≡ is_space c }
 {
     c == ' ' || c == '\t' || c == '\r' || c == '\n'
 }
 
+/// Whether a character starts a name: `_`, or what may start an identifier by Unicode UAX 31.
 pub fn starts_name(c: char) -> bool
     ensures { result ≡ starts_name c }
 {
     c == '_' || unicode_ident::is_xid_start(c)
 }
 
+/// Whether a character goes on a run.
 pub fn goes_on(run: Run, c: char) -> bool
     ensures { result ≡ goes_on run c }
 {

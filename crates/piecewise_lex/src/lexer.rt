@@ -1,6 +1,6 @@
 //! A lexer that is fed a text in pieces.
 
-ghost use Rattle.std.specs.Prelude.{◌≡◌, ◌++◌, ◌+◌, ◌<◌, ◌-◌, ◌^◌, length, OnOk, List, ℕ};
+ghost use Rattle.std.specs.Prelude.{◌≡◌, ◌++◌, ◌+◌, ◌<◌, ◌≤◌, ◌-◌, ◌^◌, length, OnOk, List, ℕ};
 ghost use Rattle.cyc_lex.specs.Lexing.{tokens_of};
 ghost use Rattle.piecewise_lex.specs.Feeding.{fresh, defined, told, Feeds, KeepsLaw};
 ghost use Rattle.piecewise_lex.specs.Batches.{Finishes, seen};
@@ -61,7 +61,8 @@ impl Lexer {
         ensures answer { Feeds self.old (self.old.waiting ++ piece.now) self.new (seen result) }
         // Whatever comes: what was defined for the piece and the rest are these tokens, and then what is defined for the rest.
         ensures law { KeepsLaw self.old piece.now self.new (seen result) }
-        // So that a caller knows how much it may still feed.
+        // So that a caller knows how much it may still feed, after a fault too.
+        ensures within { self.new.place.offset + length self.new.waiting ≤ self.old.place.offset + (length self.old.waiting + length piece.now) }
         ensures count { OnOk result (self.new.place.offset + length self.new.waiting ≡ self.old.place.offset + (length self.old.waiting + length piece.now)) }
     {
         match self.met {

@@ -1,4 +1,4 @@
-use Rattle.std.proofs.Common.{◌≡◌, ◌+◌, length-append, ◌++◌, None, Some, List, [], ℕ, ◌∙◌, sym, ap, subst, refl}
+use Rattle.std.proofs.Common.{◌≡◌, ◌+◌, arith, length-append, ◌++◌, None, Some, List, [], ℕ, ◌∙◌, sym, ap, subst, refl}
 use Rattle.piecewise_lex.specs.Feeding.{Parts, tokens_from, taken_in}
 use Rattle.piecewise_lex.specs.Batches.{IsTaking, IsToldOf}
 use Rattle.piecewise_lex.proofs.Takes.{small-place, count-parts, fed-parts, fault-parts}
@@ -42,3 +42,11 @@ returns-in-Ok-clause-count c =
     let here : IsTaking c.self.inside.place c.self.inside.comment (c.self.inside.waiting.items ++ c.args.piece.now) t = rw (← c.replace-waiting.ensures.value) c.in-Ok.ensures in
     let there = subst (λ (s : Parts). IsTaking s.place s.comment (s.waiting ++ c.args.piece.now) t) c.self.view_is here in
     count-parts c.args.self.now.place c.args.self.now.comment (c.args.self.now.waiting ++ c.args.piece.now) t there ∙ ap (λ n. c.args.self.now.place.offset + n) (length-append c.args.self.now.waiting c.args.piece.now)
+
+pub returns-in-Ok-clause-within : goal.returns-in-Ok-clause-within
+returns-in-Ok-clause-within c =
+    let t = c.in-Ok.batch in
+    let here : IsTaking c.self.inside.place c.self.inside.comment (c.self.inside.waiting.items ++ c.args.piece.now) t = rw (← c.replace-waiting.ensures.value) c.in-Ok.ensures in
+    let there = subst (λ (s : Parts). IsTaking s.place s.comment (s.waiting ++ c.args.piece.now) t) c.self.view_is here in
+    let all = count-parts c.args.self.now.place c.args.self.now.comment (c.args.self.now.waiting ++ c.args.piece.now) t there ∙ ap (λ n. c.args.self.now.place.offset + n) (length-append c.args.self.now.waiting c.args.piece.now) in
+    omega (arith, all)
