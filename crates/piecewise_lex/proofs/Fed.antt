@@ -1,5 +1,5 @@
 -- From what is taken of bytes to the law of a lexer.
-use Rattle.std.proofs.Common.{◌≡◌, ◌⊎◌, ℕ, Bool, true, false, List, [], ◌∷◌, ◌++◌, Option, Some, None, Result, Ok, Err, refl, sym, ap, ◌∙◌, inl, inr, ⊎_elim, append_assoc}
+use Rattle.std.proofs.Common.{◌≡◌, ◌⊎◌, ℕ, Bool, true, false, List, [], ◌∷◌, ◌++◌, Option, Some, None, Result, Ok, Err, refl, sym, ap, subst, ◌∙◌, inl, inr, ⊎_elim, append_assoc}
 use Rattle.std.proofs.lemmas.Bool.{cases_Bool}
 use Rattle.std.specs.Str.{chars}
 use Rattle.std.proofs.lemmas.Str.{chars-encodes}
@@ -12,6 +12,8 @@ use Rattle.cyc_lex.specs.Lexing.{pass_all, token_at, with_tokens, ended, tokens_
 use Rattle.piecewise_lex.specs.Feeding.{is_cut, tokens_from, waiting_in, taken_in, comment_behind, Parts, fresh, told, defined, defined_by, behind, IsFed, IsFaulty, Feeds, KeepsLaw, valid_chars}
 use Rattle.cyc_lex.specs.Lexing.{comment_len}
 use Rattle.cyc_lex.specs.declared.fault.LexFault.TheVariants as faults
+use Rattle.piecewise_lex.specs.Batches.{Finishes}
+use Rattle.piecewise_lex.specs.Law.{Call, AreCalls, bytes_of, then_answer, answer_of, Tells}
 use Rattle.cyc_lex.proofs.Lexed.{Found, with_tokens-ok, with_tokens-err}
 use Rattle.piecewise_lex.proofs.Carrying.{then_tokens}
 use Rattle.piecewise_lex.proofs.Extending.{handed, kept, place_behind, taken-cut, taken-bad, taken-tokens, more-bytes, stays-tokens, good-parts}
@@ -127,32 +129,34 @@ from-fresh bytes = refl
 
 -- ---- many calls
 
--- each piece was answered Ok with these tokens, by the law
-abbrev pub IsRun : Parts → List (List ℕ × List Placed) → Parts → Type 0
-IsRun old [] new = new ≡ old
-IsRun old ((piece, ts) ∷ calls) new = (mid : Parts) × KeepsLaw old piece mid (Ok ts) × IsRun mid calls new
+tells-after : (ts : List Placed) (a r : Result (List Placed) LexFault) → Tells a r → Tells (behind ts a) (behind ts r)
+tells-after ts (Ok us) r h = ap (behind ts) h
+tells-after ts (Err faults.OutOfMemory) r h = tt
+tells-after ts (Err (faults.BadByte o l c)) r h = ap (behind ts) h
+tells-after ts (Err (faults.BadUtf8 o l c)) r h = ap (behind ts) h
+tells-after ts (Err (faults.LongNumber o l c)) r h = ap (behind ts) h
+tells-after ts (Err (faults.LongName o l c)) r h = ap (behind ts) h
 
-abbrev pub pieces_of : List (List ℕ × List Placed) → List ℕ
-pieces_of [] = []
-pieces_of ((piece, ts) ∷ calls) = piece ++ pieces_of calls
+tells-end : (s : Parts) (last : Result (List Placed) LexFault) → Finishes s last → Tells last (defined s [])
+tells-end s (Ok ts) h = h
+tells-end s (Err faults.OutOfMemory) h = tt
+tells-end s (Err (faults.BadByte o l c)) h = h
+tells-end s (Err (faults.BadUtf8 o l c)) h = h
+tells-end s (Err (faults.LongNumber o l c)) h = h
+tells-end s (Err (faults.LongName o l c)) h = h
 
-abbrev pub tokens_handed : List (List ℕ × List Placed) → List Placed
-tokens_handed [] = []
-tokens_handed ((piece, ts) ∷ calls) = ts ++ tokens_handed calls
+-- what one call answers, and then the others
+tells-call : (old mid : Parts) (piece more : List ℕ) (answer others : Result (List Placed) LexFault) → KeepsLaw old piece mid answer → Tells others (defined mid more) → Tells (then_answer answer others) (defined old (piece ++ more))
+tells-call old mid piece more (Ok ts) others law h = subst (Tells (behind ts others)) (sym (law more)) (tells-after ts others (defined mid more) h)
+tells-call old mid piece more (Err faults.OutOfMemory) others law h = tt
+tells-call old mid piece more (Err (faults.BadByte o l c)) others law h = (law more).0
+tells-call old mid piece more (Err (faults.BadUtf8 o l c)) others law h = (law more).0
+tells-call old mid piece more (Err (faults.LongNumber o l c)) others law h = (law more).0
+tells-call old mid piece more (Err (faults.LongName o l c)) others law h = (law more).0
 
-behind-append : (xs ys : List Placed) (r : Result (List Placed) LexFault) → behind (xs ++ ys) r ≡ behind xs (behind ys r)
-behind-append xs ys (Ok us) = ap (λ t. Ok t) (append_assoc xs ys us)
-behind-append xs ys (Err f) = refl
+pub tells-all : (old new : Parts) (calls : List Call) (last : Result (List Placed) LexFault) → AreCalls old calls new → Finishes new last → Tells (answer_of calls last) (defined old (bytes_of calls))
+tells-all old new [] last h ends = subst (λ (s : Parts). Tells last (defined s [])) h (tells-end new last ends)
+tells-all old new (call ∷ calls) last h ends = tells-call old h.0 call.piece (bytes_of calls) call.answer (answer_of calls last) h.1 (tells-all h.0 new calls last h.2 ends)
 
-behind-nil : (r : Result (List Placed) LexFault) → behind [] r ≡ r
-behind-nil (Ok us) = refl
-behind-nil (Err f) = refl
-
--- so the tokens of all calls, and then what is defined, are those of the bytes in one piece
-pub run-law : (old new : Parts) (calls : List (List ℕ × List Placed)) (rest : List ℕ) → IsRun old calls new → defined old (pieces_of calls ++ rest) ≡ behind (tokens_handed calls) (defined new rest)
-run-law old new [] rest h = ap (λ (s : Parts). defined s rest) (sym h) ∙ sym (behind-nil (defined new rest))
-run-law old new ((piece, ts) ∷ calls) rest h =
-    ap (defined old) (append_assoc piece (pieces_of calls) rest)
-    ∙ h.1 (pieces_of calls ++ rest)
-    ∙ ap (behind ts) (run-law h.0 new calls rest h.2)
-    ∙ sym (behind-append ts (tokens_handed calls) (defined new rest))
+pub tells-tokens : (new : Parts) (calls : List Call) (last : Result (List Placed) LexFault) → AreCalls fresh calls new → Finishes new last → Tells (answer_of calls last) (told (tokens_of (bytes_of calls)))
+tells-tokens new calls last h ends = subst (Tells (answer_of calls last)) (from-fresh (bytes_of calls)) (tells-all fresh new calls last h ends)

@@ -1,16 +1,14 @@
 -- From token to token through a text.
-use Rattle.std.proofs.Common.{◌≡◌, ℕ, ◌<◌, List, [], ◌∷◌, ◌++◌, length, Some, None, Option, Ok, sym, ap, subst, ◌∙◌}
-use Rattle.std.specs.Prelude.{map}
+use Rattle.std.proofs.Common.{◌≡◌, ℕ, ◌<◌, Bool, true, false, ◌||◌, refl, List, [], ◌∷◌, ◌++◌, length, Some, None, Option, Ok, sym, ap, subst, ◌∙◌}
+use Rattle.std.specs.List.{list_any}
 use Rattle.std.specs.Str.{chars, encode_utf8_all, IsUtf8}
-use Rattle.std.proofs.lemmas.List.{append-nil, map_push}
+use Rattle.std.proofs.lemmas.List.{append-nil}
 use Rattle.std.proofs.lemmas.Str.{encodes-chars}
 use Rattle.cyc_lex.specs.declared.token.Token.{Token}
 use Rattle.cyc_lex.specs.Placed.{Placed, placed}
-use Rattle.cyc_lex.proofs.Lexed.{Found}
 use Rattle.piecewise_lex.specs.declared.taking.Taken.{Taken}
-use Rattle.piecewise_lex.specs.declared.owned.OwnedToken.{OwnedToken}
-use Rattle.piecewise_lex.specs.Owned.{owned, IsShort}
-use Rattle.piecewise_lex.specs.Taking.{Reading, reading, tokens_in, held_in, place_in, comment_in, HasTaken, Waits, listed, IsNearer, IsTaken}
+use Rattle.piecewise_lex.specs.Owned.{IsShort}
+use Rattle.piecewise_lex.specs.Taking.{Reading, reading, tokens_in, held_in, place_in, comment_in, HasTaken, Waits, listed, IsNearer}
 use Rattle.piecewise_lex.proofs.TakingLaws.{taken-more, taken-all}
 
 abbrev after : Taken → Reading
@@ -51,3 +49,12 @@ at-end a p text t xs h step nearer utf8 is =
       comment = sym w.comment ∙ taken.comment;
       waits = sym (encodes-chars t.rest.now utf8) ∙ ap encode_utf8_all (sym w.held ∙ taken.held);
     }
+
+-- one more token that is no ';'
+pub none-more : (p : Placed → Bool) (xs : List Placed) (x : Placed) → list_any p xs ≡ false → p x ≡ false → list_any p (xs ++ x ∷ []) ≡ false
+none-more p [] x h k = rw k refl
+none-more p (y ∷ ys) x h k = let t = or-false (p y) (list_any p ys) h in rw t.0 (none-more p ys x t.1 k)
+  where
+    or-false : (a b : Bool) → (a || b) ≡ false → (a ≡ false) × (b ≡ false)
+    or-false true b h = absurd cc
+    or-false false b h = (refl, h)

@@ -8,3 +8,4 @@ pub mod FrontLaws
 pub mod ValidLaws
 pub mod RunLaws
 pub mod Takes
+pub mod TakingBytes

@@ -1,28 +1,26 @@
 -- A run waits, whatever comes, until a character does not go on it.
-use Rattle.std.proofs.Common.{◌≡◌, ℕ, zero, suc, ◌+◌, ◌≤◌, Bool, true, false, ◌&&◌, List, [], ◌∷◌, ◌++◌, length, take, drop, Option, Some, None, Ok, refl, sym, ap, subst, ◌∙◌, arith, append_assoc, length-append}
-use Rattle.std.specs.Prelude.{nat_le, is_none, is_some, ◌==◌}
-use Rattle.std.specs.Char.{is_ascii_digit}
+use Rattle.std.proofs.Common.{◌≡◌, ℕ, suc, ◌+◌, ◌≤◌, Bool, true, false, ◌&&◌, List, [], ◌∷◌, ◌++◌, length, take, drop, Option, Some, None, refl, sym, ap, subst, ◌∙◌, arith, append_assoc, length-append}
+use Rattle.std.specs.Prelude.{nat_le, is_none, is_some}
 use Rattle.std.specs.List.{list_all, prefix_len}
-use Rattle.std.specs.Str.{chars, IsUtf8, encode_utf8_all, all_scalars}
+use Rattle.std.specs.Str.{chars, IsUtf8}
 use Rattle.std.specs.Str.Lossy.{utf8_valid_len, utf8_error_len}
-use Rattle.std.proofs.lemmas.List.{take_all, take_at, drop_at, take-append-drop}
-use Rattle.std.proofs.lemmas.Str.{chars-append, encodes-chars, IsUtf8-append, utf8_valid_len_le}
+use Rattle.std.proofs.lemmas.List.{take_at, take-append-drop}
+use Rattle.std.proofs.lemmas.Str.{chars-append, IsUtf8-append, utf8_valid_len_le}
 use Rattle.std.proofs.lemmas.Bool.Decides.{nat_tests}
 use Rattle.cyc_lex.specs.declared.token.Kind.{Kind}
 use Rattle.cyc_lex.specs.declared.token.Kind.TheVariants.{Name, Number}
 use Rattle.cyc_lex.specs.declared.place.Run.{Run}
 use Rattle.cyc_lex.specs.declared.place.Run.TheVariants as runs
-use Rattle.cyc_lex.specs.declared.place.Piece.{Piece}
 use Rattle.cyc_lex.specs.declared.place.Piece.TheVariants as pieces
 use Rattle.cyc_lex.specs.declared.place.Place.{Place}
-use Rattle.cyc_lex.specs.Characters.{is_space, starts_name, goes_on}
-use Rattle.cyc_lex.specs.Lexing.{piece_at, pass_all, comment_len}
+use Rattle.cyc_lex.specs.Characters.{goes_on}
+use Rattle.cyc_lex.specs.Lexing.{piece_at, pass_all}
 use Rattle.cyc_lex.proofs.BoolParts.{and-parts}
 use Rattle.cyc_lex.proofs.Pieces.{comment_len-false}
 use Rattle.piecewise_lex.specs.declared.run.Known.{Known}
 use Rattle.piecewise_lex.specs.Feeding.{is_held, taken_chars, held_chars, ends_in_comment, tokens_taken, valid_chars, after_valid, is_cut}
 use Rattle.piecewise_lex.specs.Runs.{Begins, IsRun, IsKnownRun, IsKnown, IsAllRun}
-use Rattle.piecewise_lex.specs.Taking.{Reading, tokens_in, held_in, place_in, comment_in, Waits}
+use Rattle.piecewise_lex.specs.Taking.{Waits}
 use Rattle.piecewise_lex.proofs.Carrying.{taken-held, held-held, comment-held, tokens-held}
 use Rattle.piecewise_lex.proofs.ValidLaws.{length-taken}
 use Rattle.piecewise_lex.proofs.Utf8Cuts.{valid-append, valid-front, take-behind}

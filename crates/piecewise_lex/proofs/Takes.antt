@@ -1,9 +1,8 @@
 -- What is taken of a text is what is taken of bytes.
-use Rattle.std.proofs.Common.{◌≡◌, ℕ, ◌+◌, ◌≤◌, ◌<◌, Bool, true, false, List, [], ◌∷◌, ◌++◌, length, take, drop, Option, Some, None, Result, Ok, Err, refl, sym, ap, subst, ◌∙◌, arith, inl, inr, length-append}
-use Rattle.std.specs.Prelude.{map, is_none}
+use Rattle.std.proofs.Common.{◌≡◌, ℕ, ◌+◌, ◌≤◌, ◌<◌, Bool, true, false, List, [], ◌++◌, length, Option, Some, None, Result, Ok, Err, sym, ap, subst, ◌∙◌, arith, inl, inr, length-append}
+use Rattle.std.specs.Prelude.{map}
 use Rattle.std.specs.Str.{chars, encode_utf8_all, IsUtf8}
-use Rattle.std.specs.Str.Lossy.{utf8_valid_len, utf8_error_len}
-use Rattle.std.proofs.lemmas.List.{take_all}
+use Rattle.std.specs.Str.Lossy.{utf8_valid_len}
 use Rattle.std.proofs.lemmas.Str.{utf8_valid_len-IsUtf8}
 use Rattle.cyc_lex.specs.declared.place.Place.{Place}
 use Rattle.cyc_lex.specs.declared.place.Stop.{Stop}
@@ -30,7 +29,6 @@ use Rattle.cyc_lex.proofs.Pieces.{IsBehind, pass_all-offset}
 use Rattle.piecewise_lex.proofs.Fed.{IsTaken, fed, keeps, keeps-fault}
 use Rattle.cyc_lex.proofs.Lexed.{Found}
 use Rattle.piecewise_lex.proofs.Carrying.{then_tokens}
-use Rattle.piecewise_lex.proofs.Utf8Cuts.{error-nil}
 use Rattle.piecewise_lex.proofs.Extending.{all_chars, valid-parts, bytes-parts, taken-tokens, waiting-cut, taken-bad, bad-tokens, place_behind}
 
 pub text-of-front : (p : Place) (going : Bool) (text tail : List ℕ) (f : Front) (t : Batch) → IsFront (reading p going text) f → map owned t.tokens.items ≡ map owned f.tokens.items → t.place ≡ f.place → t.comment ≡ f.comment → t.waiting.items ≡ f.waits.now ++ tail → IsKnown t.comment t.waiting.items t.known

@@ -1,11 +1,11 @@
 -- What the loop over the pieces of a text keeps, up to its next token.
-use Rattle.std.proofs.Common.{◌≡◌, ℕ, zero, suc, ◌+◌, ◌-◌, ◌≤◌, ◌<◌, Bool, true, false, ◌&&◌, List, [], ◌∷◌, ◌++◌, length, take, drop, Ok, Err, refl, sym, ap, subst, ◌∙◌, arith, length-append}
-use Rattle.std.specs.Prelude.{nat_le, ◌==◌, slice_index, map}
-use Rattle.std.specs.Str.{chars, encode_utf8_all, all_scalars, IsUtf8, IsCharBoundary}
+use Rattle.std.proofs.Common.{◌≡◌, ℕ, zero, suc, ◌≤◌, ◌<◌, Bool, true, false, ◌&&◌, List, [], ◌∷◌, ◌++◌, length, take, drop, Ok, Err, refl, sym, ap, subst, ◌∙◌, arith, length-append}
+use Rattle.std.specs.Prelude.{nat_le, ◌==◌, slice_index}
+use Rattle.std.specs.Str.{chars, encode_utf8_all, all_scalars, IsUtf8}
 use Rattle.std.proofs.lemmas.Bool.{ne_eqb}
 use Rattle.std.proofs.lemmas.Bool.Decides.{nat_tests}
-use Rattle.std.proofs.lemmas.List.{drop_at, take-append-drop, map_push, append-nil}
-use Rattle.std.proofs.lemmas.Str.{chars-encodes, encodes-append, encodes-chars, scalars-chars, IsCharBoundary-at_seam, length-encode, len_utf8_bounds, chars-nil}
+use Rattle.std.proofs.lemmas.List.{take-append-drop, append-nil}
+use Rattle.std.proofs.lemmas.Str.{chars-encodes, encodes-chars, scalars-chars, length-encode, len_utf8_bounds, chars-nil}
 use lib.Utf8.{scalar}
 use Rattle.std.specs.Char.{encode_utf8}
 use Rattle.cyc_lex.proofs.BoolParts.{and-parts}
@@ -22,12 +22,11 @@ use Rattle.cyc_lex.specs.Placed.{Placed, placed}
 use Rattle.cyc_lex.specs.Lexing.{pass, pass_all, piece_at, piece_of, piece_chars, piece_rest, HasRoom, token_at, with_token, with_tokens, taken, len_fault, Stops}
 use Rattle.piecewise_lex.specs.Feeding.{may_grow, is_held, taken_chars, held_chars, ends_in_comment, tokens_taken}
 use Rattle.cyc_lex.specs.Lexing.{comment_len}
-use Rattle.piecewise_lex.specs.declared.taking.Taken.{Taken}
 use Rattle.piecewise_lex.specs.Owned.{IsShort}
-use Rattle.piecewise_lex.specs.Taking.{Reading, reading, tokens_in, held_in, place_in, comment_in, HasTaken, Waits, stays, IsTaken}
+use Rattle.piecewise_lex.specs.Taking.{Reading, reading, tokens_in, HasTaken, Waits, stays}
 use Rattle.piecewise_lex.proofs.ShortTokens.{short-piece}
-use Rattle.cyc_lex.proofs.Pieces.{comment_len-true, comment_len-false}
-use Rattle.cyc_lex.proofs.Pieces.{pass_all-append, pass_all-offset, IsBehind, scalars-parts}
+use Rattle.cyc_lex.proofs.Pieces.{comment_len-false}
+use Rattle.cyc_lex.proofs.Pieces.{pass_all-append, scalars-parts}
 use Rattle.cyc_lex.proofs.Lexed.{Found, IsNext, with_tokens-err, with_tokens-append, with_tokens-ok, some-chars, taken-token, taken-long, nil-bytes}
 use Rattle.piecewise_lex.proofs.Carrying.{taken-held, taken-free, held-held, held-free, comment-held, comment-free, tokens-held, tokens-free, taken-skip, held-skip, comment-skip, tokens-skip}
 

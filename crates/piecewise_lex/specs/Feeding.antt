@@ -2,9 +2,7 @@
 use Rattle.std.specs.Prelude.{◌≡◌, ℕ, zero, suc, ◌-◌, Bool, true, false, ◌==◌, ◌&&◌, ◌||◌, nat_le, List, [], ◌∷◌, ◌++◌, length, take, drop, Option, Some, None, is_none, Result, Ok, Err, ◌⊎◌, if◌then◌else◌}
 use Rattle.std.specs.Str.{chars, encode_utf8_all}
 use Rattle.std.specs.Str.Lossy.{utf8_valid_len, utf8_error_len}
-use Rattle.std.specs.List.{prefix_len}
 use Rattle.cyc_lex.specs.declared.place.Place.{Place}
-use Rattle.cyc_lex.specs.declared.place.Run.TheVariants as runs
 use Rattle.cyc_lex.specs.declared.place.Piece.{Piece}
 use Rattle.cyc_lex.specs.declared.place.Piece.TheVariants as pieces
 use Rattle.cyc_lex.specs.declared.place.Bad.{Bad}
@@ -12,7 +10,6 @@ use Rattle.cyc_lex.specs.declared.fault.LexFault.{LexFault}
 use Rattle.cyc_lex.specs.declared.fault.LexFault.TheVariants as faults
 use Rattle.cyc_lex.specs.declared.token.Kind.TheVariants.{End}
 use Rattle.cyc_lex.specs.Placed.{Placed}
-use Rattle.cyc_lex.specs.Characters.{goes_on}
 use Rattle.cyc_lex.specs.Lexing.{start, pass, pass_all, piece_at, taken, lex, token_at, comment_len}
 use Rattle.cyc_lex.specs.Answer.{fault_of}
 

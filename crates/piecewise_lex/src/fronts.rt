@@ -1,7 +1,6 @@
-//! All the tokens of a text but those that wait, and those of one statement.
+//! All the tokens of a text but those that wait.
 
 ghost use Rattle.std.specs.Prelude.{length, false};
-
 ghost use Rattle.std.specs.Str.{chars};
 ghost use Rattle.cyc_lex.specs.Lexing.{HasRoom, Stops, lex, comment_len};
 ghost use Rattle.piecewise_lex.specs.Taking.{reading};

@@ -1,9 +1,12 @@
 //! A lexer that is fed a text in pieces.
 
-ghost use Rattle.std.specs.Prelude.{◌≡◌, ◌++◌, ◌+◌, ◌<◌, ◌≤◌, ◌-◌, ◌^◌, length, OnOk, List, ℕ};
+ghost use Rattle.std.specs.Prelude.{◌≡◌, ◌++◌, ◌+◌, ◌<◌, ◌≤◌, ◌-◌, ◌^◌, length, OnOk, List, Result, ℕ};
+ghost use Rattle.cyc_lex.specs.declared.fault.LexFault.{LexFault};
+ghost use Rattle.cyc_lex.specs.Placed.{Placed};
 ghost use Rattle.cyc_lex.specs.Lexing.{tokens_of};
-ghost use Rattle.piecewise_lex.specs.Feeding.{fresh, defined, told, Feeds, KeepsLaw};
+ghost use Rattle.piecewise_lex.specs.Feeding.{Parts, fresh, defined, told, Feeds, KeepsLaw};
 ghost use Rattle.piecewise_lex.specs.Batches.{Finishes, seen};
+ghost use Rattle.piecewise_lex.specs.Law.{AreCalls, Call, Tells, answer_of, bytes_of};
 
 use crate::batch::{Batch, take_piece, take_rest};
 use crate::owned::OwnedToken;
@@ -106,3 +109,9 @@ impl Lexer {
         }
     }
 }
+
+/// What the clauses of `new`, `feed` and `finish` come to for a whole text, fed in any pieces: the tokens that all calls hand
+/// out are the tokens of the joined bytes, or the fault is the same.
+pub fn feed_law()
+    ensures { (calls : List Call) → (new : Parts) → (last : Result (List Placed) LexFault) → AreCalls fresh calls new → Finishes new last → Tells (answer_of calls last) (told (tokens_of (bytes_of calls))) }
+{}

@@ -7,12 +7,14 @@ mod fronts;
 mod lexer;
 mod owned;
 mod run;
+mod statements;
 mod taking;
 mod text;
 mod valid;
 
-pub use lexer::Lexer;
+pub use lexer::{Lexer, feed_law};
 pub use owned::OwnedToken;
+pub use statements::{Statement, take_statement};
 pub use taking::{Taken, take_token};
 pub use text::Text;
 pub use valid::{Valid, valid_front};

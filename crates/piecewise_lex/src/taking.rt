@@ -5,9 +5,7 @@ ghost use Rattle.std.specs.Str.{chars, IsUtf8};
 ghost use Rattle.cyc_lex.specs.Lexing.{HasRoom, lex, Stops, comment_len};
 ghost use Rattle.piecewise_lex.specs.Taking.{Takes, stays};
 
-use cyc_lex::{
-    Bad, Kind, Piece, Place, Stop, Token, check_len, next, next_char, skip_comment,
-};
+use cyc_lex::{Bad, Kind, Piece, Place, Stop, Token, check_len, next, next_char, skip_comment};
 use std::alloc::Global;
 
 /// What was taken off the front of a text: a token, or none where all that is left waits for more; the place after it,

@@ -1,4 +1,4 @@
-use Rattle.std.proofs.Common.{◌≡◌, ◌++◌, true, false, Some, Option, List, ℕ, sym, ap, subst, refl}
+use Rattle.std.proofs.Common.{◌++◌, false, Some, Option, List, ℕ, ap, subst, refl}
 use Rattle.std.specs.Prelude.{map, is_some, IsTrue, IfSome}
 use Rattle.piecewise_lex.specs.declared.run.Known.{Known}
 use Rattle.piecewise_lex.specs.Owned.{owned}

@@ -1,12 +1,11 @@
-use Rattle.std.proofs.Common.{◌≡◌, ◌++◌, ◌∷◌, [], List, subst, sym, ap, ◌∙◌, refl}
+use Rattle.std.proofs.Common.{◌≡◌, ◌++◌, ◌∷◌, [], List, subst, sym}
 use Rattle.std.specs.Prelude.{map}
-use Rattle.std.proofs.lemmas.List.{map_push}
 use Rattle.std.proofs.lemmas.Result.{err_from_is_err_and}
 use Rattle.cyc_lex.specs.Placed.{Placed, placed}
 use Rattle.piecewise_lex.specs.Owned.{owned}
 use Rattle.piecewise_lex.specs.Taking.{reading, HasTaken}
 use Rattle.piecewise_lex.proofs.TakingLaws.{taken-none, taken-stops}
-use Rattle.piecewise_lex.proofs.FrontLaws.{one-more, short-one, fewer-left, at-end}
+use Rattle.piecewise_lex.proofs.FrontLaws.{one-more, at-end}
 use Rattle.piecewise_lex.proofs.fronts.take_front.Goals as goal
 
 pub tokens-init : goal.tokens-init

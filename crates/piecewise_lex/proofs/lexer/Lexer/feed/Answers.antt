@@ -1,4 +1,4 @@
-use Rattle.std.proofs.Common.{◌≡◌, ◌+◌, arith, length-append, ◌++◌, None, Some, List, [], ℕ, ◌∙◌, sym, ap, subst, refl}
+use Rattle.std.proofs.Common.{◌≡◌, ◌+◌, arith, length-append, ◌++◌, None, Some, ◌∙◌, sym, ap, subst, refl}
 use Rattle.piecewise_lex.specs.Feeding.{Parts, tokens_from, taken_in}
 use Rattle.piecewise_lex.specs.Batches.{IsTaking, IsToldOf}
 use Rattle.piecewise_lex.proofs.Takes.{small-place, count-parts, fed-parts, fault-parts}
