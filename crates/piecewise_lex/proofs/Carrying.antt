@@ -1,4 +1,4 @@
--- What is taken of characters stays as it is, whatever comes behind those that wait.
+-- What is taken of characters stays as it is, whatever comes after those that wait.
 use Rattle.std.proofs.Common.{◌≡◌, ℕ, zero, suc, ◌+◌, ◌≤◌, ◌<◌, Bool, true, false, cond, ◌&&◌, ◌||◌, List, [], ◌∷◌, ◌++◌, length, take, drop, Ok, Err, refl, sym, ap, subst, ◌∙◌, arith, inl, inr, ◌⊎◌, eqb-true, append_assoc}
 use Rattle.std.proofs.lemmas.List.{take_at}
 use Rattle.std.specs.Prelude.{nat_le, not, ◌==◌, slice_index}
@@ -92,7 +92,7 @@ piece-same c cs y free plain agrees = by_choice free agrees
     Same : Piece × ℕ → Type 0
     Same m = (nat_le (length cs) m.1 && may_grow m.0 c) ≡ false → Agrees (drop m.1 cs) y → piece_at c (take m.1 cs ++ y) ≡ m
 
-    -- behind no character of the piece: nothing, what begins alike, or anything
+    -- after no character of the piece: nothing, what begins alike, or anything
     singles : (cs : List ℕ) → Agrees cs y → (cs ≡ [] → (d : ℕ) → is_double c d ≡ false) → is_double c (slice_index cs 0) ≡ false → is_double c (slice_index y 0) ≡ false
     singles [] a none alike = none refl (slice_index y 0)
     singles (d ∷ ds) (inl e) none alike = rw e (double-zero c)
@@ -205,7 +205,7 @@ taken-then (pieces.Token End) p bytes a r = with_token-then (token_at End p byte
 abbrev comment : List ℕ → ℕ
 comment = prefix_len (goes_on runs.Comment)
 
--- the first k of the characters, and the first j of those that are taken with z behind them, belong to what was taken
+-- the first k of the characters, and the first j of those that are taken with z after them, belong to what was taken
 abbrev pub IsSkip : Bool → ℕ → ℕ → List ℕ → List ℕ → Type 0
 IsSkip true k j cs z = (k ≡ comment cs) × (j ≡ comment (taken_chars k cs ++ z))
 IsSkip false k j cs z = (k ≤ length cs) × (j ≡ k)
@@ -306,7 +306,7 @@ take-len (suc n) (c ∷ cs) h = let less : n ≤ length cs = omega (arith, h) in
 comment-piece : (c : ℕ) → (c == 35) ≡ true → (cs : List ℕ) → piece_at c cs ≡ (pieces.Gap, comment cs)
 comment-piece c h cs = rw (eqb-true c 35 h) refl
 
--- the law behind the piece that begins with c
+-- the law after the piece that begins with c
 Behind : Bool → Place → ℕ → List ℕ → List ℕ → Type 0
 Behind whole p c cs z = (b : Bool) (i : ℕ) → IsSkip b (piece_at c cs).1 i cs z → Carries whole (pass p c) b (piece_at c cs).1 i cs z
 

@@ -8,7 +8,7 @@ use Rattle.std.proofs.lemmas.List.{take_at, take_all, take-append-drop, append-n
 use Rattle.std.proofs.lemmas.Str.{chars-encodes, chars-append, encodes-append, encodes-chars, scalars-chars, utf8_valid_len-IsUtf8}
 use Rattle.cyc_lex.specs.declared.place.Place.{Place}
 use Rattle.cyc_lex.specs.Lexing.{pass_all, piece_at, ended, lex}
-use Rattle.piecewise_lex.specs.Feeding.{is_held, taken_chars, held_chars, ends_in_comment, tokens_taken, valid_chars, after_valid, is_cut, tokens_from, waiting_in, taken_in, comment_behind}
+use Rattle.piecewise_lex.specs.Feeding.{is_held, taken_chars, held_chars, ends_in_comment, tokens_taken, valid_chars, after_valid, is_cut, tokens_from, waiting_in, taken_in, comment_after}
 use Rattle.cyc_lex.specs.Lexing.{comment_len}
 use Rattle.cyc_lex.proofs.Pieces.{scalars-parts}
 use Rattle.cyc_lex.proofs.Lexed.{Found}
@@ -133,7 +133,7 @@ module _ (comment : Bool) (bytes : List ℕ) where
       by true = (comment_len-true all_chars, comment_len-true (taken_chars (comment_len true all_chars) all_chars ++ z))
       by false = (omega (arith, comment_len-false all_chars), comment_len-false (taken_chars (comment_len false all_chars) all_chars ++ z) ∙ sym (comment_len-false all_chars))
 
-  -- the tokens that are taken, and the place behind them
+  -- the tokens that are taken, and the place after them
   abbrev pub handed : Place → Found
   handed p = tokens_taken p skipped all_chars
 
@@ -171,8 +171,8 @@ module _ (comment : Bool) (bytes : List ℕ) where
       ∙ ap (then_tokens (handed p)) (lex-nil (place_behind p) (comment_len goes []))
 
   -- more bytes leave them as they are
-  pub more-bytes : (p : Place) (rest : List ℕ) → is_cut bytes ≡ true → tokens_from p comment (bytes ++ rest) ≡ then_tokens (handed p) (tokens_from (place_behind p) (comment_behind comment bytes) (waiting_in comment bytes ++ rest))
-  unfolding tokens_from comment_behind all_chars
+  pub more-bytes : (p : Place) (rest : List ℕ) → is_cut bytes ≡ true → tokens_from p comment (bytes ++ rest) ≡ then_tokens (handed p) (tokens_from (place_behind p) (comment_after comment bytes) (waiting_in comment bytes ++ rest))
+  unfolding tokens_from comment_after all_chars
   more-bytes p rest h =
       let w = encode_utf8_all left ++ after_valid bytes in
       let x = w ++ rest in
@@ -185,7 +185,7 @@ module _ (comment : Bool) (bytes : List ℕ) where
       ∙ ap (λ (cs : List ℕ). lex (is_whole (encode_utf8_all kept ++ x)) p (comment_len comment cs) cs) (chars-behind kept x good-parts.0)
       ∙ ap (λ b. lex b p (comment_len comment (kept ++ z)) (kept ++ z)) (whole-behind kept x good-parts.0)
       ∙ carried (is_whole x) p z near
-      ∙ ap (λ (t : List ℕ). then_tokens (handed p) (tokens_from (place_behind p) (comment_behind comment bytes) (t ++ rest))) (sym (waiting-cut h))
+      ∙ ap (λ (t : List ℕ). then_tokens (handed p) (tokens_from (place_behind p) (comment_after comment bytes) (t ++ rest))) (sym (waiting-cut h))
 
 -- ---- bytes that go wrong
 

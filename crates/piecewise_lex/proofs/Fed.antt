@@ -9,7 +9,7 @@ use Rattle.cyc_lex.specs.declared.place.Bad.{Bad}
 use Rattle.cyc_lex.specs.declared.fault.LexFault.{LexFault}
 use Rattle.cyc_lex.specs.Placed.{Placed}
 use Rattle.cyc_lex.specs.Lexing.{pass_all, token_at, with_tokens, ended, tokens_of}
-use Rattle.piecewise_lex.specs.Feeding.{is_cut, tokens_from, waiting_in, taken_in, comment_behind, Parts, fresh, told, defined, defined_by, behind, IsFed, IsFaulty, Feeds, KeepsLaw, valid_chars}
+use Rattle.piecewise_lex.specs.Feeding.{is_cut, tokens_from, waiting_in, taken_in, comment_after, Parts, fresh, told, defined, defined_by, followed_by, IsFed, IsFaulty, Feeds, KeepsLaw, valid_chars}
 use Rattle.cyc_lex.specs.Lexing.{comment_len}
 use Rattle.cyc_lex.specs.declared.fault.LexFault.TheVariants as faults
 use Rattle.piecewise_lex.specs.Batches.{Finishes}
@@ -24,7 +24,7 @@ pub record IsTaken (p : Place) (going : Bool) (bytes : List ℕ) (ts : List Plac
   pub tokens : handed going bytes p ≡ Ok ts
   pub place : q ≡ place_behind going bytes p
 
--- these are the tokens of the bytes that are taken, with the end token behind them
+-- these are the tokens of the bytes that are taken, with the end token after them
 pub of-taken : (p : Place) (going : Bool) (bytes : List ℕ) (ts : List Placed) (q : Place) → IsTaken p going bytes ts q → tokens_from p going (taken_in going bytes) ≡ Ok (ts ++ token_at End q [] ∷ [])
 of-taken p going bytes ts q h =
     taken-tokens going bytes p h.cut
@@ -37,11 +37,11 @@ pub place-taken : (p : Place) (going : Bool) (bytes : List ℕ) (ts : List Place
 place-taken p going bytes ts q h = h.place ∙ ap (pass_all p) (sym (ap chars (taken-cut going bytes h.cut) ∙ chars-encodes (kept going bytes) (good-parts going bytes).0))
 
 -- whatever comes
-pub more-taken : (p : Place) (going : Bool) (bytes : List ℕ) (ts : List Placed) (q : Place) (rest : List ℕ) → IsTaken p going bytes ts q → tokens_from p going (bytes ++ rest) ≡ with_tokens ts (tokens_from q (comment_behind going bytes) (waiting_in going bytes ++ rest))
+pub more-taken : (p : Place) (going : Bool) (bytes : List ℕ) (ts : List Placed) (q : Place) (rest : List ℕ) → IsTaken p going bytes ts q → tokens_from p going (bytes ++ rest) ≡ with_tokens ts (tokens_from q (comment_after going bytes) (waiting_in going bytes ++ rest))
 more-taken p going bytes ts q rest h =
     more-bytes going bytes p rest h.cut
-    ∙ ap (λ r. then_tokens r (tokens_from (place_behind going bytes p) (comment_behind going bytes) (waiting_in going bytes ++ rest))) h.tokens
-    ∙ ap (λ (x : Place). with_tokens ts (tokens_from x (comment_behind going bytes) (waiting_in going bytes ++ rest))) (sym h.place)
+    ∙ ap (λ r. then_tokens r (tokens_from (place_behind going bytes p) (comment_after going bytes) (waiting_in going bytes ++ rest))) h.tokens
+    ∙ ap (λ (x : Place). with_tokens ts (tokens_from x (comment_after going bytes) (waiting_in going bytes ++ rest))) (sym h.place)
 
 failed : (a : Found) (b : Found) (e : Bad × Place) (us : List Placed) → then_tokens a (Ok us) ≡ Err e → then_tokens a b ≡ Err e
 failed (Ok ts) b e us h = absurd (by (with_tokens-ok ts us) h)
@@ -62,7 +62,7 @@ fault-stays p going bytes rest e h = ⊎_elim
     stays-tokens bytes rest bad p going ∙ ap (tokens_from p going) (sym (taken-bad going bytes bad)) ∙ h)
     (cases_Bool (is_cut bytes))
 
-told-tokens : (ts : List Placed) (r : Found) → told (with_tokens ts r) ≡ behind ts (told r)
+told-tokens : (ts : List Placed) (r : Found) → told (with_tokens ts r) ≡ followed_by ts (told r)
 told-tokens ts (Ok us) = ap told (with_tokens-ok ts us)
 told-tokens ts (Err e) = ap told (with_tokens-err ts e)
 
@@ -71,8 +71,8 @@ told-tokens ts (Err e) = ap told (with_tokens-err ts e)
 abbrev parts_of : List ℕ → Place → Bool → Option LexFault → Parts
 parts_of w p going met = record { waiting = w; place = p; comment = going; met = met }
 
--- the parts behind a call that was answered Ok
-pub fed : (old new : Parts) (piece : List ℕ) (ts : List Placed) → old.met ≡ None → new.met ≡ None → new.waiting ≡ waiting_in old.comment (old.waiting ++ piece) → new.comment ≡ comment_behind old.comment (old.waiting ++ piece) → IsTaken old.place old.comment (old.waiting ++ piece) ts new.place
+-- the parts after a call that was answered Ok
+pub fed : (old new : Parts) (piece : List ℕ) (ts : List Placed) → old.met ≡ None → new.met ≡ None → new.waiting ≡ waiting_in old.comment (old.waiting ++ piece) → new.comment ≡ comment_after old.comment (old.waiting ++ piece) → IsTaken old.place old.comment (old.waiting ++ piece) ts new.place
     → IsFed old (old.waiting ++ piece) new ts
 fed old new piece ts unmet met waiting comment h =
     let bytes = old.waiting ++ piece in
@@ -85,19 +85,19 @@ fed old new piece ts unmet met waiting comment h =
       met = met;
     }
 
-pub keeps : (old new : Parts) (piece : List ℕ) (ts : List Placed) → old.met ≡ None → new.met ≡ None → new.waiting ≡ waiting_in old.comment (old.waiting ++ piece) → new.comment ≡ comment_behind old.comment (old.waiting ++ piece) → IsTaken old.place old.comment (old.waiting ++ piece) ts new.place
+pub keeps : (old new : Parts) (piece : List ℕ) (ts : List Placed) → old.met ≡ None → new.met ≡ None → new.waiting ≡ waiting_in old.comment (old.waiting ++ piece) → new.comment ≡ comment_after old.comment (old.waiting ++ piece) → IsTaken old.place old.comment (old.waiting ++ piece) ts new.place
     → KeepsLaw old piece new (Ok ts)
 keeps old new piece ts unmet met waiting comment h rest =
     let bytes = old.waiting ++ piece in
     let left : defined old (piece ++ rest) ≡ told (tokens_from old.place old.comment (bytes ++ rest)) =
     ap (λ m. defined_by m (told (tokens_from old.place old.comment (old.waiting ++ (piece ++ rest))))) unmet
     ∙ ap (λ (b : List ℕ). told (tokens_from old.place old.comment b)) (sym (append_assoc old.waiting piece rest)) in
-    let right : defined new rest ≡ told (tokens_from new.place (comment_behind old.comment bytes) (waiting_in old.comment bytes ++ rest)) =
+    let right : defined new rest ≡ told (tokens_from new.place (comment_after old.comment bytes) (waiting_in old.comment bytes ++ rest)) =
     λ i. defined_by (met i) (told (tokens_from new.place (comment i) (waiting i ++ rest))) in
     left
     ∙ ap told (more-taken old.place old.comment bytes ts new.place rest h)
-    ∙ told-tokens ts (tokens_from new.place (comment_behind old.comment bytes) (waiting_in old.comment bytes ++ rest))
-    ∙ ap (behind ts) (sym right)
+    ∙ told-tokens ts (tokens_from new.place (comment_after old.comment bytes) (waiting_in old.comment bytes ++ rest))
+    ∙ ap (followed_by ts) (sym right)
 
 -- a fault is that of all that may come
 pub stays-faulty : (old new : Parts) (piece rest : List ℕ) (f : LexFault) → IsFaulty old (old.waiting ++ piece) new f → (defined old (piece ++ rest) ≡ Err f) × (defined new rest ≡ Err f)
@@ -129,13 +129,13 @@ from-fresh bytes = refl
 
 -- ---- many calls
 
-tells-after : (ts : List Placed) (a r : Result (List Placed) LexFault) → Tells a r → Tells (behind ts a) (behind ts r)
-tells-after ts (Ok us) r h = ap (behind ts) h
+tells-after : (ts : List Placed) (a r : Result (List Placed) LexFault) → Tells a r → Tells (followed_by ts a) (followed_by ts r)
+tells-after ts (Ok us) r h = ap (followed_by ts) h
 tells-after ts (Err faults.OutOfMemory) r h = tt
-tells-after ts (Err (faults.BadByte o l c)) r h = ap (behind ts) h
-tells-after ts (Err (faults.BadUtf8 o l c)) r h = ap (behind ts) h
-tells-after ts (Err (faults.LongNumber o l c)) r h = ap (behind ts) h
-tells-after ts (Err (faults.LongName o l c)) r h = ap (behind ts) h
+tells-after ts (Err (faults.BadByte o l c)) r h = ap (followed_by ts) h
+tells-after ts (Err (faults.BadUtf8 o l c)) r h = ap (followed_by ts) h
+tells-after ts (Err (faults.LongNumber o l c)) r h = ap (followed_by ts) h
+tells-after ts (Err (faults.LongName o l c)) r h = ap (followed_by ts) h
 
 tells-end : (s : Parts) (last : Result (List Placed) LexFault) → Finishes s last → Tells last (defined s [])
 tells-end s (Ok ts) h = h
@@ -147,7 +147,7 @@ tells-end s (Err (faults.LongName o l c)) h = h
 
 -- what one call answers, and then the others
 tells-call : (old mid : Parts) (piece more : List ℕ) (answer others : Result (List Placed) LexFault) → KeepsLaw old piece mid answer → Tells others (defined mid more) → Tells (then_answer answer others) (defined old (piece ++ more))
-tells-call old mid piece more (Ok ts) others law h = subst (Tells (behind ts others)) (sym (law more)) (tells-after ts others (defined mid more) h)
+tells-call old mid piece more (Ok ts) others law h = subst (Tells (followed_by ts others)) (sym (law more)) (tells-after ts others (defined mid more) h)
 tells-call old mid piece more (Err faults.OutOfMemory) others law h = tt
 tells-call old mid piece more (Err (faults.BadByte o l c)) others law h = (law more).0
 tells-call old mid piece more (Err (faults.BadUtf8 o l c)) others law h = (law more).0

@@ -11,7 +11,7 @@ use Rattle.piecewise_lex.specs.declared.fronts.Front.{Front}
 use Rattle.piecewise_lex.specs.declared.batch.Batch.{Batch}
 use Rattle.cyc_lex.specs.Lexing.{lex, Stops, ended}
 use Rattle.piecewise_lex.specs.Fronts.{IsFront}
-use Rattle.piecewise_lex.specs.Feeding.{Parts, IsFed, Feeds, KeepsLaw, taken_chars, held_chars, tokens_taken, valid_chars, after_valid, is_cut, tokens_from, taken_in, comment_behind}
+use Rattle.piecewise_lex.specs.Feeding.{Parts, IsFed, Feeds, KeepsLaw, taken_chars, held_chars, tokens_taken, valid_chars, after_valid, is_cut, tokens_from, taken_in, comment_after}
 use Rattle.cyc_lex.specs.Lexing.{comment_len}
 use Rattle.piecewise_lex.specs.Batches.{IsOfText, TakesText, IsTaking, Takings, IsToldOf, TakesAll, TakesRest}
 use Rattle.piecewise_lex.specs.Runs.{IsKnown, IsKnownRun, IsAllRun}
@@ -46,7 +46,7 @@ stops-then stops.OutOfMemory a b h = tt
 stops-then (stops.At bad place) a b h = ap (λ r. then_tokens r b) h
 
 of-text : (p : Place) (going : Bool) (bytes : List ℕ) (t : Batch) → is_cut bytes ≡ true → IsOfText p going (valid_chars bytes) (after_valid bytes) t → IsTaking p going bytes t
-unfolding comment_behind all_chars
+unfolding comment_after all_chars
 of-text p going bytes t cut h = record {
   cut = cut;
   tokens = h.tokens;
@@ -71,7 +71,7 @@ stops-bad p going bytes text e same bad h =
 
 -- a run, which waits whole
 pub run-taking : (p : Place) (going : Bool) (bytes : List ℕ) (known : Known) (t : Batch) → going ≡ false → IsAllRun bytes known → map owned t.tokens.items ≡ [] → t.place ≡ p → t.comment ≡ false → t.waiting.items ≡ bytes → t.known ≡ Some known → IsTaking p going bytes t
-unfolding comment_behind all_chars
+unfolding comment_after all_chars
 run-taking p going bytes known t solid h none place comment waiting is =
     let cs = valid_chars bytes in
     let w = run-waits known.run p cs (run-chars bytes known h) in

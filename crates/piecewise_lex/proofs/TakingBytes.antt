@@ -6,14 +6,14 @@ use Rattle.cyc_lex.specs.declared.place.Place.{Place}
 use Rattle.cyc_lex.specs.Placed.{Placed}
 use Rattle.cyc_lex.specs.Lexing.{pass_all, with_tokens, comment_len}
 use Rattle.cyc_lex.proofs.Lexed.{Found, with_tokens-append, with_tokens-ok, with_tokens-err}
-use Rattle.piecewise_lex.specs.Feeding.{taken_chars, held_chars, ends_in_comment, tokens_taken, valid_chars, tokens_from, waiting_in, comment_behind}
+use Rattle.piecewise_lex.specs.Feeding.{taken_chars, held_chars, ends_in_comment, tokens_taken, valid_chars, tokens_from, waiting_in, comment_after}
 use Rattle.piecewise_lex.specs.Taking.{reading, tokens_in, held_in, place_in, comment_in, HasTaken}
 use Rattle.piecewise_lex.proofs.Carrying.{then_tokens}
 use Rattle.piecewise_lex.proofs.ValidLaws.{chars-whole, tail-whole, cut-whole}
 use Rattle.piecewise_lex.proofs.Extending.{all_chars, more-bytes, waiting-cut}
 
 text-law : (p : Place) (c : Bool) (text more : List ℕ) → IsUtf8 text → tokens_from p c (text ++ more) ≡ then_tokens (tokens_in (reading p c text)) (tokens_from (place_in (reading p c text)) (comment_in (reading p c text)) (encode_utf8_all (held_in (reading p c text)) ++ more))
-unfolding all_chars comment_behind
+unfolding all_chars comment_after
 text-law p c text more utf8 =
     let cut = cut-whole text utf8 in
     let all = λ (cs : List ℕ). then_tokens (tokens_taken p (comment_len c cs) cs) (tokens_from (pass_all p (taken_chars (comment_len c cs) cs)) (ends_in_comment c (comment_len c cs) cs) (encode_utf8_all (held_chars (comment_len c cs) cs) ++ more)) in

@@ -21,7 +21,7 @@ may_grow pieces.Gap c = false
 may_grow pieces.Stray c = (c == 33) || (c == 45)
 may_grow (pieces.Token kind) c = true
 
--- whether what begins with c, before the characters cs, touches their end and waits there
+-- whether what begins with c, with the characters cs after it, touches their end and waits there
 unfoldable pub is_held : ℕ → List ℕ → Bool
 is_held c cs = nat_le (length cs) (piece_at c cs).1 && may_grow (piece_at c cs).0 c
 
@@ -75,13 +75,14 @@ waiting_in comment bytes = let cs = valid_chars bytes in if is_cut bytes then en
 unfoldable pub taken_in : Bool → List ℕ → List ℕ
 taken_in comment bytes = take (length bytes - length (waiting_in comment bytes)) bytes
 
--- whether a comment goes on behind the bytes that are taken
-unfoldable pub comment_behind : Bool → List ℕ → Bool
-comment_behind comment bytes = let cs = valid_chars bytes in ends_in_comment comment (comment_len comment cs) cs
+-- whether a comment goes on after the bytes that are taken
+unfoldable pub comment_after : Bool → List ℕ → Bool
+comment_after comment bytes = let cs = valid_chars bytes in ends_in_comment comment (comment_len comment cs) cs
 
 -- ---- a lexer
 
--- the bytes that wait; the place behind what was taken; whether a comment goes on; the fault or want of memory that was met
+-- the bytes that wait; the place after what was taken; whether a comment goes on there; the fault that was met, if any, or that
+-- memory ran out
 pub record Parts : Type 0 where
   pub waiting : List ℕ
   pub place : Place
@@ -104,25 +105,25 @@ defined_by (Some f) r = Err f
 abbrev pub defined : Parts → List ℕ → Result (List Placed) LexFault
 defined s rest = defined_by s.met (told (tokens_from s.place s.comment (s.waiting ++ rest)))
 
--- tokens that were handed out, and what is defined behind them
-abbrev pub behind : List Placed → Result (List Placed) LexFault → Result (List Placed) LexFault
-behind ts (Ok us) = Ok (ts ++ us)
-behind ts (Err f) = Err f
+-- tokens that were handed out, and what is defined after them
+abbrev pub followed_by : List Placed → Result (List Placed) LexFault → Result (List Placed) LexFault
+followed_by ts (Ok us) = Ok (ts ++ us)
+followed_by ts (Err f) = Err f
 
--- what was defined for the piece and the rest are the tokens handed out, and then what is defined for the rest; want of
--- memory ends it
+-- what was defined for the piece and the rest is the tokens handed out, and then what is defined for the rest; a fault is that of
+-- both, whatever comes; where memory ran out, nothing is handed out from then on
 abbrev pub KeepsLaw : Parts → List ℕ → Parts → Result (List Placed) LexFault → Type 0
-KeepsLaw old piece new (Ok ts) = (rest : List ℕ) → defined old (piece ++ rest) ≡ behind ts (defined new rest)
+KeepsLaw old piece new (Ok ts) = (rest : List ℕ) → defined old (piece ++ rest) ≡ followed_by ts (defined new rest)
 KeepsLaw old piece new (Err faults.OutOfMemory) = new.met ≡ Some faults.OutOfMemory
 KeepsLaw old piece new (Err f) = (rest : List ℕ) → (defined old (piece ++ rest) ≡ Err f) × (defined new rest ≡ Err f)
 
--- the tokens that are handed out are those of the bytes that are taken, the end token aside; and the parts behind them
+-- the tokens that are handed out are those of the bytes that are taken, the end token aside; and the parts after them
 pub record IsFed (old : Parts) (bytes : List ℕ) (new : Parts) (ts : List Placed) : Type 0 where
   pub unmet : old.met ≡ None
   pub tokens : tokens_from old.place old.comment (taken_in old.comment bytes) ≡ Ok (ts ++ token_at End new.place [] ∷ [])
   pub waiting : new.waiting ≡ waiting_in old.comment bytes
   pub place : new.place ≡ pass_all old.place (chars (taken_in old.comment bytes))
-  pub comment : new.comment ≡ comment_behind old.comment bytes
+  pub comment : new.comment ≡ comment_after old.comment bytes
   pub met : new.met ≡ None
 
 -- the fault was met before, or it is the first of the bytes that are taken

@@ -3,7 +3,7 @@ use Rattle.std.specs.Prelude.{◌≡◌, ℕ, List, [], ◌∷◌, ◌++◌, Res
 use Rattle.cyc_lex.specs.declared.fault.LexFault.{LexFault}
 use Rattle.cyc_lex.specs.declared.fault.LexFault.TheVariants as faults
 use Rattle.cyc_lex.specs.Placed.{Placed}
-use Rattle.piecewise_lex.specs.Feeding.{Parts, KeepsLaw, behind}
+use Rattle.piecewise_lex.specs.Feeding.{Parts, KeepsLaw, followed_by}
 
 -- a call of feed: the piece, and the tokens or the fault that it was answered with
 pub record Call : Type 0 where
@@ -22,7 +22,7 @@ bytes_of (call ∷ calls) = call.piece ++ bytes_of calls
 
 -- one answer, and then what comes after it
 abbrev pub then_answer : Result (List Placed) LexFault → Result (List Placed) LexFault → Result (List Placed) LexFault
-then_answer (Ok ts) r = behind ts r
+then_answer (Ok ts) r = followed_by ts r
 then_answer (Err f) r = Err f
 
 -- the tokens of all answers and of the last, or the first fault

@@ -10,5 +10,5 @@ written (forms.Long bytes len) = take len bytes.value
 
 -- there is room for them
 abbrev pub IsWritten : Form → Type 0
-IsWritten (forms.Short bytes len) = len ≤ 16
+IsWritten (forms.Short bytes len) = len ≤ 22
 IsWritten (forms.Long bytes len) = len ≤ 64

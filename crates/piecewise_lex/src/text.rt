@@ -6,14 +6,14 @@ use cyc_lex::OutOfMemory;
 use std::alloc::Global;
 use std::marker::Model;
 
-/// Where the bytes of a token's text lie: up to 16 in place, more in memory of their own.
+/// Where the bytes of a token's text lie: up to 22 in place, more in memory of their own.
 #[derive(Debug, Drop)]
 pub enum Form {
-    Short { bytes: [u8; 16], len: u8 },
+    Short { bytes: [u8; 22], len: u8 },
     Long { bytes: Box<[u8; 64]>, len: u8 },
 }
 
-/// The text of a token, which has at most 64 bytes. It takes memory of its own only from the 17th byte on.
+/// The text of a token, which has at most 64 bytes. It takes memory of its own only from the 23rd byte on.
 #[derive(Debug, Drop)]
 pub struct Text {
     form: Form,
@@ -38,8 +38,8 @@ impl Text {
         ensures { IfOk result (λ t. t ≡ text.now) }
     {
         let len = text.len();
-        if len <= 16 {
-            let mut bytes = [0u8; 16];
+        if len <= 22 {
+            let mut bytes = [0u8; 22];
             bytes[..len].copy_from_slice(text.as_bytes());
             return Ok(Text {
                 form: Form::Short {
@@ -65,7 +65,9 @@ impl Text {
     {
         Text {
             form: Form::Short {
-                bytes: [byte, 0, 0, 0, 0, 0, 0, 0, 0, 0, 0, 0, 0, 0, 0, 0],
+                bytes: [
+                    byte, 0, 0, 0, 0, 0, 0, 0, 0, 0, 0, 0, 0, 0, 0, 0, 0, 0, 0, 0, 0, 0,
+                ],
                 len: 1,
             },
         }
