@@ -228,17 +228,26 @@ fn takes_statement_after_statement(rt: HostRuntime) -> Result<(), Fail> {
         Ok(first) => first,
         Err(_) => return Err(Fail::from("refused")),
     };
-    assert_eq!(rt; (first.tokens.len(), first.ended, first.rest), (2, true, " b c # ;\n; d"));
+    assert_eq!(rt;
+        (first.tokens.len(), first.ended, first.rest),
+        (2, true, " b c # ;\n; d")
+    );
     let second = match take_statement(alloc, first.place, first.comment, first.rest) {
         Ok(second) => second,
         Err(_) => return Err(Fail::from("refused")),
     };
-    assert_eq!(rt; (second.tokens.len(), second.ended, second.rest), (3, true, " d"));
+    assert_eq!(rt;
+        (second.tokens.len(), second.ended, second.rest),
+        (3, true, " d")
+    );
     assert_eq!(rt; (second.place.line, second.place.column), (2, 2));
     let third = match take_statement(alloc, second.place, second.comment, second.rest) {
         Ok(third) => third,
         Err(_) => return Err(Fail::from("refused")),
     };
-    assert_eq!(rt; (third.tokens.len(), third.ended, third.rest), (0, false, "d"));
+    assert_eq!(rt;
+        (third.tokens.len(), third.ended, third.rest),
+        (0, false, "d")
+    );
     Ok(())
 }
