@@ -8,3 +8,4 @@ pub mod Lexemes
 pub mod TokenLaws
 pub mod WritingLaws
 pub mod Letters
+pub mod Plain

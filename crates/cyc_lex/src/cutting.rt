@@ -13,7 +13,8 @@ use crate::place::{Bad, Place, Stop};
 use crate::token::{Token, Tokens};
 use std::alloc::Global;
 
-fn fault(bad: Bad, place: Place) -> LexFault
+/// The fault of what is bad at a place.
+pub fn fault_at(bad: Bad, place: Place) -> LexFault
     ensures { result ≡ fault_of bad place }
 {
     let Place {
@@ -70,6 +71,6 @@ pub fn tokens(alloc: Global, bytes: &[u8]) -> Result<Tokens<'_>, LexFault>
     match cut(alloc, bytes) {
         Ok(items) => Ok(Tokens::new(items)),
         Err(Stop::OutOfMemory) => Err(LexFault::OutOfMemory),
-        Err(Stop::At(bad, place)) => Err(fault(bad, place)),
+        Err(Stop::At(bad, place)) => Err(fault_at(bad, place)),
     }
 }

@@ -3,12 +3,13 @@
 ghost use Rattle.std.specs.Prelude.{◌≡◌, ◌+◌, ◌<◌, ◌^◌, ◌||◌, ◌==◌, IsTrue};
 ghost use Rattle.std.specs.Char.{len_utf8};
 ghost use Rattle.cyc_lex.specs.Lexing.{pass};
-ghost use Rattle.cyc_lex.specs.Characters.{is_space, starts_name, goes_on, is_double, is_single};
+ghost use Rattle.cyc_lex.specs.Characters.{is_space, starts_name, goes_on, is_double, is_single, is_plain};
 
 use crate::token::Kind;
+use cyc_memory::OutOfMemory;
 use std::alloc::AllocFailed;
 
-/// Bytes before it, and its line and column, counted from 1.
+/// A place in a text: how many bytes stand before it, and its line and column, counted from 1, the column in characters.
 #[derive(Clone, Copy, Debug, PartialEq, Eq)]
 pub struct Place {
     pub offset: u32,
@@ -16,7 +17,7 @@ pub struct Place {
     pub column: u32,
 }
 
-/// What goes on as long as its characters come.
+/// What is as long as characters go on it: a comment up to its line feed, a name, a number.
 #[derive(Clone, Copy)]
 pub enum Run {
     Comment,
@@ -24,7 +25,7 @@ pub enum Run {
     Number,
 }
 
-/// What a text begins with.
+/// What a text begins with: a space or a comment, a token, or a character that begins none.
 #[derive(Clone, Copy)]
 pub enum Piece {
     Gap,
@@ -48,6 +49,17 @@ pub enum Stop {
     OutOfMemory,
 }
 
+impl From<OutOfMemory> for Stop {
+    ghost use Rattle.std.specs.Prelude.{◌≡◌};
+    ghost use Rattle.cyc_lex.specs.declared.place.Stop.TheVariants as stops;
+
+    ghost from_gives = { λ _ e. e ≡ stops.OutOfMemory };
+
+    fn from(_e: OutOfMemory) -> Stop {
+        Stop::OutOfMemory
+    }
+}
+
 impl<T: Drop> From<AllocFailed<T>> for Stop {
     ghost use Rattle.std.specs.Prelude.{◌≡◌};
     ghost use Rattle.cyc_lex.specs.declared.place.Stop.TheVariants.{OutOfMemory};
@@ -60,13 +72,15 @@ impl<T: Drop> From<AllocFailed<T>> for Stop {
 }
 
 impl Place {
+    /// The place of a text's first byte.
     pub const START: Place = Place {
         offset: 0,
         line: 1,
         column: 1,
     };
 
-    /// The place behind the character.
+    /// The place after the character.
+    #[inline(always)]
     pub fn pass(self, c: char) -> Place
         requires offset { self.offset + len_utf8 c < 2 ^ 32 }
         requires line { self.line + 1 < 2 ^ 32 }
@@ -88,18 +102,21 @@ impl Place {
     }
 }
 
+/// Whether a character separates tokens: a space, a tab, a carriage return or a line feed.
 pub fn is_space(c: char) -> bool
     ensures { result ≡ is_space c }
 {
     c == ' ' || c == '\t' || c == '\r' || c == '\n'
 }
 
+/// Whether a character starts a name: `_`, or what may start an identifier by Unicode UAX 31.
 pub fn starts_name(c: char) -> bool
     ensures { result ≡ starts_name c }
 {
     c == '_' || unicode_ident::is_xid_start(c)
 }
 
+/// Whether a character goes on a run.
 pub fn goes_on(run: Run, c: char) -> bool
     ensures { result ≡ goes_on run c }
 {
@@ -140,5 +157,16 @@ pub fn is_single(c: char) -> bool
             | '$'
             | '?'
             | '\''
+    )
+}
+
+/// Whether a character is a symbol with which none of two characters begins.
+#[inline(always)]
+pub fn is_plain(c: char) -> bool
+    ensures { result ≡ is_plain c }
+{
+    matches!(
+        c,
+        '(' | '[' | '{' | ')' | ']' | '}' | ',' | ';' | '*' | '=' | '.' | '$' | '?' | '\''
     )
 }

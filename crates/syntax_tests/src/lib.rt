@@ -10,6 +10,8 @@ mod cyc_lex_tests;
 #[cfg(test)]
 mod heap_syntax_tests;
 #[cfg(test)]
+mod piecewise_lex_tests;
+#[cfg(test)]
 mod problem_syntax_tests;
 #[cfg(test)]
 mod proof_syntax_tests;

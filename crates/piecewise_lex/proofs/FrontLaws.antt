@@ -1,0 +1,60 @@
+-- From token to token through a text.
+use Rattle.std.proofs.Common.{◌≡◌, ℕ, ◌<◌, Bool, true, false, ◌||◌, refl, List, [], ◌∷◌, ◌++◌, length, Some, None, Option, Ok, sym, ap, subst, ◌∙◌}
+use Rattle.std.specs.List.{list_any}
+use Rattle.std.specs.Str.{chars, encode_utf8_all, IsUtf8}
+use Rattle.std.proofs.lemmas.List.{append-nil}
+use Rattle.std.proofs.lemmas.Str.{encodes-chars}
+use Rattle.cyc_lex.specs.declared.token.Token.{Token}
+use Rattle.cyc_lex.specs.Placed.{Placed, placed}
+use Rattle.piecewise_lex.specs.declared.taking.Taken.{Taken}
+use Rattle.piecewise_lex.specs.Owned.{IsShort}
+use Rattle.piecewise_lex.specs.Taking.{Reading, reading, tokens_in, held_in, place_in, comment_in, HasTaken, Waits, listed, IsNearer}
+use Rattle.piecewise_lex.proofs.TakingLaws.{taken-more, taken-all}
+
+abbrev after : Taken → Reading
+after t = reading t.place t.comment t.rest.now
+
+module _ (a b : Reading) (text : List ℕ) (t : Taken) (xs : List Placed) (h : HasTaken a xs b) (step : HasTaken b (listed t.token) (after t)) (nearer : IsNearer text t t.token) where
+  -- one more token
+  pub one-more : (token : Token) → t.token ≡ Some token → HasTaken a (xs ++ placed token ∷ []) (after t)
+  one-more token is = subst (λ (o : Option Token). HasTaken a (xs ++ listed o) (after t)) is (taken-more a b (after t) xs (listed t.token) h step)
+
+  pub short-one : (token : Token) → t.token ≡ Some token → IsShort token
+  short-one token is = (subst (IsNearer text t) is nearer).0
+
+  pub fewer-left : (token : Token) → t.token ≡ Some token → length (chars t.rest.now) < length (chars text)
+  fewer-left token is = (subst (IsNearer text t) is nearer).1
+
+  -- no more
+  pub none-left : t.token ≡ None → HasTaken a xs (after t)
+  none-left is = subst (λ (ys : List Placed). HasTaken a ys (after t)) (append-nil xs) (subst (λ (o : Option Token). HasTaken a (xs ++ listed o) (after t)) is (taken-more a b (after t) xs (listed t.token) h step))
+
+  pub all-wait : t.token ≡ None → Waits (after t)
+  all-wait is = subst (IsNearer text t) is nearer
+
+pub record IsEnd (a : Reading) (xs : List Placed) (t : Taken) : Type 0 where
+  pub tokens : tokens_in a ≡ Ok xs
+  pub place : t.place ≡ place_in a
+  pub comment : t.comment ≡ comment_in a
+  pub waits : t.rest.now ≡ encode_utf8_all (held_in a)
+
+-- where no token is left, all that does not wait was taken
+pub at-end : (a : Reading) (p : Reading) (text : List ℕ) (t : Taken) (xs : List Placed) → HasTaken a xs p → HasTaken p (listed t.token) (after t) → IsNearer text t t.token → IsUtf8 t.rest.now → t.token ≡ None → IsEnd a xs t
+at-end a p text t xs h step nearer utf8 is =
+    let taken = none-left a p text t xs h step nearer is in
+    let w = all-wait a p text t xs h step nearer is in
+    record {
+      tokens = taken-all a (after t) xs taken w;
+      place = sym w.place ∙ taken.place;
+      comment = sym w.comment ∙ taken.comment;
+      waits = sym (encodes-chars t.rest.now utf8) ∙ ap encode_utf8_all (sym w.held ∙ taken.held);
+    }
+
+-- one more token that is no ';'
+pub none-more : (p : Placed → Bool) (xs : List Placed) (x : Placed) → list_any p xs ≡ false → p x ≡ false → list_any p (xs ++ x ∷ []) ≡ false
+none-more p [] x h k = rw k refl
+none-more p (y ∷ ys) x h k = let t = or-false (p y) (list_any p ys) h in rw t.0 (none-more p ys x t.1 k)
+  where
+    or-false : (a b : Bool) → (a || b) ≡ false → (a ≡ false) × (b ≡ false)
+    or-false true b h = absurd cc
+    or-false false b h = (refl, h)

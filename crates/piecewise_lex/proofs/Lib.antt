@@ -1,0 +1,11 @@
+pub mod Carrying
+pub mod Utf8Cuts
+pub mod Extending
+pub mod TakingLaws
+pub mod Fed
+pub mod ShortTokens
+pub mod FrontLaws
+pub mod ValidLaws
+pub mod RunLaws
+pub mod Takes
+pub mod TakingBytes

@@ -1,0 +1,41 @@
+-- The tokens of one statement.
+use Rattle.std.specs.Prelude.{◌≡◌, Bool, true, false, ◌&&◌, List, [], ◌∷◌, ◌++◌, map, codes, Result, Ok, Err, length}
+use Rattle.std.specs.List.{list_any}
+use Rattle.std.specs.Str.{IsUtf8, bytes_eq}
+use Rattle.cyc_lex.specs.declared.place.Stop.{Stop}
+use Rattle.cyc_lex.specs.Placed.{Placed, placed}
+use Rattle.cyc_lex.specs.Word.{is_symbol}
+use Rattle.cyc_lex.specs.Lexing.{HasRoom, Stops}
+use Rattle.piecewise_lex.specs.declared.statements.Statement.{Statement}
+use Rattle.piecewise_lex.specs.Taking.{Reading, reading, tokens_in, HasTaken, Waits}
+
+abbrev pub is_semicolon : Placed → Bool
+is_semicolon t = is_symbol t.kind && bytes_eq t.text (codes ";")
+
+-- the last of the tokens, and no other, is a ';'
+pub record EndsThere (ts : List Placed) : Type 0 where
+  pub body : List Placed
+  pub last : Placed
+  pub all : ts ≡ body ++ last ∷ []
+  pub none : list_any is_semicolon body ≡ false
+  pub semicolon : is_semicolon last ≡ true
+
+-- no token is a ';', and all that is left waits
+pub record GoesOn (ts : List Placed) (left : Reading) : Type 0 where
+  pub none : list_any is_semicolon ts ≡ false
+  pub waits : Waits left
+
+abbrev pub Ends : Bool → List Placed → Reading → Type 0
+Ends true ts left = EndsThere ts
+Ends false ts left = GoesOn ts left
+
+pub record IsStatement (r : Reading) (s : Statement) : Type 0 where
+  pub taken : HasTaken r (map placed s.tokens.items) (reading s.place s.comment s.rest.now)
+  pub room : HasRoom s.place (length s.rest.now)
+  pub utf8 : IsUtf8 s.rest.now
+  pub ends : Ends s.ended (map placed s.tokens.items) (reading s.place s.comment s.rest.now)
+
+-- the fault is the first of the tokens that do not wait
+abbrev pub Statements : Reading → Result Statement Stop → Type 0
+Statements r (Ok s) = IsStatement r s
+Statements r (Err e) = Stops e (tokens_in r)

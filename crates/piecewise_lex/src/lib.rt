@@ -1,0 +1,20 @@
+//! The tokens of a text that comes in pieces.
+#![tactic(auto)]
+
+mod batch;
+mod bytes;
+mod fronts;
+mod lexer;
+mod owned;
+mod run;
+mod statements;
+mod taking;
+mod text;
+mod valid;
+
+pub use lexer::{Lexer, feed_law};
+pub use owned::OwnedToken;
+pub use statements::{Statement, take_statement};
+pub use taking::{Taken, take_token};
+pub use text::Text;
+pub use valid::{Valid, valid_front};

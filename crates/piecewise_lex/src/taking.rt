@@ -1,0 +1,85 @@
+//! Taking tokens off the front of a text, of which more may come.
+
+ghost use Rattle.std.specs.Prelude.{◌≡◌, ◌==◌, ◌||◌, ◌&&◌, length, slice_index, false};
+ghost use Rattle.std.specs.Str.{chars, IsUtf8};
+ghost use Rattle.cyc_lex.specs.Lexing.{HasRoom, lex, Stops, comment_len};
+ghost use Rattle.piecewise_lex.specs.Taking.{Takes, stays};
+
+use cyc_lex::{Bad, Kind, Piece, Place, Stop, Token, check_len, next, next_char, skip_comment};
+use std::alloc::Global;
+
+/// What was taken off the front of a text: a token, or none where all that is left waits for more; the place after it,
+/// whether a comment goes on there, and the text that is left.
+#[derive(Clone, Copy, Debug)]
+pub struct Taken<'a> {
+    pub token: Option<Token<'a>>,
+    pub place: Place,
+    pub comment: bool,
+    pub rest: &'a str,
+}
+
+/// Whether the piece at the front of a text waits for more, being all that is left of it.
+#[inline(always)]
+fn stays(piece: Piece, front: &str, after: &str) -> bool
+    ensures { result ≡ stays piece front.now after.now }
+{
+    if !after.is_empty() {
+        return false;
+    }
+    match piece {
+        Piece::Gap => false,
+        Piece::Token(_) => true,
+        Piece::Stray => {
+            let c = next_char(front);
+            c == '!' || c == '-'
+        }
+    }
+}
+
+/// Takes the next token of a text that stands at a place, where a comment goes on or none does. A token that reaches the end
+/// of the text is not taken: it waits, as a `!` or a `-` does there.
+#[inline(always)]
+pub fn take_token(place: Place, comment: bool, text: &str) -> Result<Taken<'_>, Stop>
+    requires { HasRoom place (length text.now) }
+    ensures { Takes place comment text.now result }
+{
+    let (mut rest, mut place) = skip_comment(place, comment, text);
+    let mut in_comment = comment;
+    'pieces: while !rest.is_empty() {
+        let (piece, front, after, behind) = next(place, rest);
+        if stays(piece, front, after) {
+            return Ok(Taken {
+                token: None,
+                place,
+                comment: false,
+                rest,
+            });
+        }
+        match piece {
+            Piece::Gap => in_comment = next_char(front) == '#',
+            Piece::Stray => return Err(Stop::At(Bad::Byte, place)),
+            Piece::Token(kind) => {
+                check_len(kind, place, front)?;
+                return Ok(Taken {
+                    token: Some(Token {
+                        kind,
+                        text: front,
+                        line: place.line,
+                        column: place.column,
+                    }),
+                    place: behind,
+                    comment: false,
+                    rest: after,
+                });
+            }
+        }
+        rest = after;
+        place = behind;
+    }
+    Ok(Taken {
+        token: None,
+        place,
+        comment: in_comment,
+        rest,
+    })
+}
