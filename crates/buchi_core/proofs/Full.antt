@@ -1,15 +1,14 @@
 -- An entry is full where it has positions and leaves none to a further child.
-use Rattle.std.proofs.Common.{◌≡◌, ℕ, ◌<◌, ◌^◌, List, [], ◌∷◌, Bool, true, false, not, ltb, ◌&&◌, Some, slice_get, get_or, nat_eq, option_map, inl, inr, length, sym, refl, ap, ◌∙◌, subst}
-use Rattle.std.specs.List.{list_any}
-use Rattle.std.proofs.lemmas.Bool.{cases_Bool, and_from, and_left, both_ways, not_from_true, not_from_false, eq-eqb, eqb-true, ne_eqb, ltb-true, or_left, or_right}
+use Rattle.std.proofs.Common.{◌≡◌, ℕ, ◌<◌, ◌^◌, List, [], ◌∷◌, Bool, true, false, not, ltb, ◌&&◌, Some, slice_get, get_or, nat_eq, option_map, inl, inr, length, sym, refl, ap, ◌∙◌}
+use Rattle.std.proofs.lemmas.Bool.{cases_Bool, and_from, and_left, both_ways, eq-eqb, eqb-true, ltb-true, or_left, or_right}
 use Rattle.std.proofs.lemmas.Option.{slice_get-map, slice_get_read}
-use Rattle.buchi_core.specs.Forest.{Entry as AgeEntry, has, every, entry_has, same_parent, child_has, stays, set_at, set_of, is_set, is_filled, is_full, is_kept, losses}
+use Rattle.buchi_core.specs.Forest.{has, every, entry_has, child_has, set_of, is_set, is_filled, is_full, is_kept, losses}
 use Rattle.buchi_core.specs.declared.entry.Entry.{Entry}
 use Rattle.buchi_core.specs.declared.young.Young.{Young}
 use Rattle.buchi_core.specs.View.{is_one, members, entry_of, entries_of}
 use Rattle.buchi_core.specs.Young.{AreLeft, made}
 use Rattle.buchi_core.proofs.Lists.{every_has}
-use Rattle.buchi_core.proofs.Bits.{has_members, member_is, filled_mask, no_ones, one_zero}
+use Rattle.buchi_core.proofs.Bits.{member_is, filled_mask, no_ones, one_zero}
 
 every_from : (t : ℕ → Bool) (xs : List ℕ) → ((q : ℕ) → has xs q ≡ true → t q ≡ true) → every t xs ≡ true
 every_from t [] h = refl

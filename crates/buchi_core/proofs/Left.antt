@@ -1,11 +1,11 @@
 -- What further children may have, as entries are made.
-use Rattle.std.proofs.Common.{◌≡◌, ℕ, zero, suc, ◌+◌, ◌-◌, ◌^◌, ◌<◌, ◌≤◌, inl, inr, List, [], ◌∷◌, ◌++◌, Bool, true, false, not, ◌&&◌, ◌||◌, Option, None, Some, map, filter, length, slice_get, get_or, set, replicate, nat_eq, bit_and, arith, sym, refl, ap, ◌∙◌, subst, eqb-true, length-append}
+use Rattle.std.proofs.Common.{◌≡◌, ℕ, zero, suc, ◌-◌, ◌^◌, ◌<◌, ◌≤◌, inl, inr, List, [], ◌∷◌, ◌++◌, Bool, true, false, not, ◌&&◌, ◌||◌, Option, None, Some, length, slice_get, get_or, set, replicate, nat_eq, bit_and, arith, sym, refl, ap, ◌∙◌, length-append}
 use Rattle.std.specs.List.{list_any}
-use Rattle.std.proofs.lemmas.Bool.{cases_Bool, cases_eq, cases_lt, cases_order, both_ways, and_left, and_right, eq-eqb, ne_eqb, false_from_ne_true}
+use Rattle.std.proofs.lemmas.Bool.{cases_eq, cases_lt, cases_order, and_left, and_right, eq-eqb, ne_eqb}
 use Rattle.std.proofs.lemmas.List.{get_or-set_same, get_or-set_other, length-map, length-set}
 use Rattle.std.proofs.lemmas.List.Folds.{list_any-append}
 use Rattle.arrayvec.specs.ArrayVec.{ArrayVec}
-use Rattle.buchi_core.specs.Forest.{Entry as AgeEntry, has, same_parent, parent_has, entry_has, stays, trimmed, scan_from}
+use Rattle.buchi_core.specs.Forest.{Entry as AgeEntry, has, same_parent, entry_has, stays, trimmed, scan_from}
 use Rattle.buchi_core.specs.declared.entry.Entry.{Entry}
 use Rattle.buchi_core.specs.declared.young.Young.{Young}
 use Rattle.buchi_core.specs.View.{is_one, members, entry_of, entries_of}

@@ -1,5 +1,5 @@
 -- Two forests are equal by their derived `==` exactly where their plain data are.
-use Rattle.std.proofs.Common.{◌≡◌, ℕ, zero, suc, ◌<◌, ◌≤◌, List, [], ◌∷◌, Bool, true, false, ◌&&◌, Option, Some, None, map, take, length, slice_get, arith, refl, sym, ap, ◌∙◌, subst, eqb-true, eqb, nat_eq}
+use Rattle.std.proofs.Common.{◌≡◌, ℕ, zero, suc, List, [], ◌∷◌, Bool, true, false, ◌&&◌, Option, Some, None, take, length, arith, refl, sym, ap, ◌∙◌, subst, eqb-true, eqb, nat_eq}
 use Rattle.std.proofs.lemmas.Bool.{and_parts, and_from, eq-eqb, both_ways}
 use Rattle.std.proofs.lemmas.List.{length-map, length-take}
 use Rattle.std.specs.Option.{option_eq}

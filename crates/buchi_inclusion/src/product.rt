@@ -46,7 +46,7 @@ pub fn state_at(states: &IndexSet<Product>, place: usize) -> Option<&Product>
 /// Where an edge of a state's node leads, and the event.
 #[derive(Clone, Copy, Debug)]
 pub struct Transition {
-    pub target: usize,
+    pub target: u32,
     pub event: Event,
 }
 
@@ -99,7 +99,10 @@ fn explore_row(
         if count_of(states) > limit as usize {
             return Ok(None);
         }
-        row.push(Transition { target, event })?;
+        row.push(Transition {
+            target: target as u32,
+            event,
+        })?;
     }
     let _count = row.len();
     unreachable!()

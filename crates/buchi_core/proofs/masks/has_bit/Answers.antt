@@ -1,5 +1,5 @@
 -- The mask's bit, for a position below 32; above there is none.
-use Rattle.std.proofs.Common.{arith, sym, ◌∙◌}
+use Rattle.std.proofs.Common.{sym, ◌∙◌}
 use Rattle.std.proofs.lemmas.Bool.{le-ltb}
 use Rattle.buchi_core.proofs.Bits.{has_members, has_members_not, one_shift}
 use Rattle.buchi_core.proofs.masks.has_bit.Goals as goal

@@ -1,5 +1,5 @@
 -- The entry is appended where it stays, and skipped else.
-use Rattle.std.proofs.Common.{arith, refl, sym, ap, ◌∙◌, length, length-append, List}
+use Rattle.std.proofs.Common.{arith, refl, sym, ap, ◌∙◌, length}
 use Rattle.arrayvec.specs.ArrayVec.{ArrayVec}
 use Rattle.buchi_core.specs.declared.entry.Entry.{Entry}
 use Rattle.buchi_core.proofs.Loops.{turn_kept, turn_skipped}

@@ -1,5 +1,5 @@
 -- Entry after entry is copied, and the others stay blank.
-use Rattle.std.proofs.Common.{◌<◌, length, arith, refl, ap, ◌∙◌}
+use Rattle.std.proofs.Common.{◌<◌, length, arith, refl, ◌∙◌}
 use Rattle.std.proofs.lemmas.List.{length-set}
 use Rattle.buchi_core.proofs.Packed.{blanks, taken_more, blank_more}
 use Rattle.buchi_core.proofs.stepping.forest_from.Goals as goal

@@ -1,5 +1,5 @@
 -- One mask loses the positions.
-use Rattle.std.proofs.Common.{ℕ, ◌≡◌, ◌-◌, ◌<◌, ◌&&◌, not, Option, refl, sym, subst, arith, set, get_or, bit_and}
+use Rattle.std.proofs.Common.{ℕ, ◌≡◌, ◌-◌, ◌&&◌, not, Option, refl, sym, subst, arith, set, get_or, bit_and}
 use Rattle.buchi_core.specs.Forest.{same_parent}
 use Rattle.buchi_core.specs.declared.young.Young.{Young}
 use Rattle.buchi_core.specs.View.{is_one}

@@ -1,5 +1,5 @@
 -- The entry that is pushed is trimmed, and the masks go on.
-use Rattle.std.proofs.Common.{arith, refl, ap, ◌∙◌, bit_and, length, set}
+use Rattle.std.proofs.Common.{refl, ap, ◌∙◌, bit_and, length, set}
 use Rattle.buchi_core.specs.declared.entry.Entry.{Entry}
 use Rattle.arrayvec.specs.ArrayVec.{ArrayVec}
 use Rattle.buchi_core.proofs.Left.{push_made, push_left}

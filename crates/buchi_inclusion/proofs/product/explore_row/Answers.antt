@@ -1,9 +1,7 @@
 -- Edge after edge, the target is found among the states or appended to them.
 use Rattle.std.proofs.Common.{◌≡◌, length, arith, sym, subst}
-use Rattle.buchi_inclusion.specs.Table.{state_of, states_of, AreItems, Extends, IsStep, IsState, IsLast}
-use Rattle.buchi_core.specs.declared.event.Event.{Event}
-use Rattle.buchi_inclusion.specs.declared.product.Product.{Product}
-use Rattle.buchi_inclusion.proofs.Exploring.{found_extends, found_states, extends_within, items_more, more_than, some_of}
+use Rattle.buchi_inclusion.specs.Table.{state_of, states_of, AreItems, Extends, IsStep}
+use Rattle.buchi_inclusion.proofs.Exploring.{found_extends, found_states, extends_within, items_more, more_than}
 use Rattle.buchi_inclusion.proofs.product.explore_row.Goals as goal
 
 pub unreachable-requires : goal.unreachable-requires
