@@ -50,8 +50,8 @@ get_left : {X : Type 0} (xs ys : List X) (i : ℕ) → i < length xs → slice_g
 get_left xs ys i l = let r = get_within xs i l in get_append_left xs ys i r.0 r.1 ∙ sym r.1
 
 -- ---- no entries
-pub unborn_left : (y : Young) → y.entries.items ≡ [] → y.left ≡ replicate {A = ℕ} 65 0 → y.top ≡ 4294967295 → length y.left ≡ 65 → AreLeft y
-unborn_left y none left top long = record { long = long; right = right; childless = λ p q l. ap (λ (es : List Entry). list_any (λ e. same_parent e.parent (Some p) && has e.set q) (entries_of es)) none }
+pub no_entries_left : (y : Young) → y.entries.items ≡ [] → y.left ≡ replicate {A = ℕ} 65 0 → y.top ≡ 4294967295 → length y.left ≡ 65 → AreLeft y
+no_entries_left y none left top long = record { long = long; right = right; childless = λ p q l. ap (λ (es : List Entry). list_any (λ e. same_parent e.parent (Some p) && has e.set q) (entries_of es)) none }
   where
     right : (o : Option ℕ) (q : ℕ) → q < 32 → is_one (left_of y o) q ≡ stays (made y) o q
     right None q l = ap (λ m. is_one m q) top ∙ (one_all q l ∙ sym (ap (λ (es : List Entry). stays (entries_of es) None q) none))

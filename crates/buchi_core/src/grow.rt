@@ -8,7 +8,7 @@ ghost use Rattle.buchi_core.specs.Young.{AreLeft, made};
 
 use crate::entry::Entry;
 use crate::masks::{child_set, moved_set};
-use crate::young::{Young, push_entry, unborn};
+use crate::young::{Young, no_entries, push_entry};
 
 /// Appends each entry with the successors of its set.
 fn push_moved(young: &mut Young, pairs: &[(u8, u8, bool)], positions: u32, forest: &[Entry])
@@ -48,7 +48,7 @@ pub(crate) fn grown(forest: &[Entry], pairs: &[(u8, u8, bool)], positions: u32) 
     ensures left { AreLeft result }
     ensures grown { made result ≡ before_drop pairs.now (members positions) (entries_of forest.now) }
 {
-    let mut young = unborn();
+    let mut young = no_entries();
     push_moved(&mut young, pairs, positions, forest);
     push_children(&mut young, pairs, positions, forest);
     push_entry(&mut young, None, positions);

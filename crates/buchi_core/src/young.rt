@@ -19,7 +19,7 @@ pub(crate) struct Young {
 }
 
 /// No entries.
-pub(crate) fn unborn() -> Young
+pub(crate) fn no_entries() -> Young
     ensures none { result.entries.items ≡ [] }
     ensures left { AreLeft result }
 {

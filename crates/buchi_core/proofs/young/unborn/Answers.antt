@@ -1,7 +1,0 @@
--- No entry has anything, and a top entry may have all.
-use Rattle.std.proofs.Common.{refl}
-use Rattle.buchi_core.proofs.Left.{unborn_left}
-use Rattle.buchi_core.proofs.young.unborn.Goals as goal
-
-pub returns-clause-left : goal.returns-clause-left
-returns-clause-left c = unborn_left _ c.new.ensures refl refl refl
