@@ -1,5 +1,6 @@
 #!/usr/bin/env bash
-# bench/inclusion.sh [PROGRAM]: seconds, and product states a second, of `check` on two families of proofs.
+# bench/inclusion.sh [PROGRAM..]: seconds, product states a second, and megabytes of memory at the most, of `check` on two
+# families of proofs; with several programs, as one before a change and one after it, each in turn on each file.
 # Rings: K predicates, each unfolded once on the way round, 8K + 1 product states.
 # Turns: n atoms, of which the first is unfolded again and again, behind it two ways on, one of which turns the order of the
 # atoms round; the more atoms, the more forests. Its numbers of states were counted by another program.
@@ -31,10 +32,17 @@ turns() { # ATOMS NODES: so many atoms, and nodes before the two ways part
     }'
 }
 
+programs=("$@")
+[ $# -gt 0 ] || programs=("$program")
+
 measure() { # NAME STATES
-  local spent
-  spent=$(seconds "$program" check)
-  printf '%-12s %8d states %8.2f s %10.0f states/s  %s\n' "$1" "$2" "$spent" "$(echo "$2 / $spent" | bc -l)" "$(cut -c1-60 "$work/answer")"
+  local each spent kilobytes
+  for each in "${programs[@]}"; do
+    /usr/bin/time -q -f '%e %M' -o "$work/time" "$each" check < "$work/file" > "$work/answer"
+    read -r spent kilobytes < "$work/time"
+    printf '%-12s %8d states %8.2f s %10.0f states/s %6.0f MB  %s\n' "$1" "$2" "$spent" \
+      "$(echo "$2 / ($spent + 0.001)" | bc -l)" "$(echo "$kilobytes / 1024" | bc -l)" "$(cut -c1-60 "$work/answer")"
+  done
 }
 
 for count in 250 500 1000 2000; do

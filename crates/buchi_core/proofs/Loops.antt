@@ -3,8 +3,8 @@ use Rattle.std.proofs.Common.{◌≡◌, ℕ, suc, ◌+◌, ◌-◌, ◌<◌, Li
 use Rattle.std.proofs.lemmas.Bool.{cond-true, cond-false}
 use Rattle.std.proofs.lemmas.Option.{slice_get-map, slice_get_read}
 use Rattle.buchi_core.specs.Forest.{Entry as AgeEntry, is_kept, is_green, event_from, places, settled, renumbered, set_of, parent_of}
-use Rattle.buchi_core.specs.declared.age_forest.Entry.{Entry}
-use Rattle.buchi_core.specs.View.{entry_of, entries_of}
+use Rattle.buchi_core.specs.declared.entry.Entry.{Entry}
+use Rattle.buchi_core.specs.View.{members, entry_of, entries_of}
 
 pub event_more : (entries : List AgeEntry) (i n : ℕ) → i < n → is_kept entries i ≡ true → is_green entries i ≡ false → event_from entries (i + 1) (n - (i + 1)) ≡ event_from entries i (n - i)
 event_more entries i n l k g =
@@ -26,7 +26,7 @@ place_skipped f keep xs i n l k =
     ap (λ (z : List _). xs ++ z) (sym (ap (λ x. map f (places keep i x)) e ∙ (ap (map f) (cond-false (keep i) _ _ k) ∙ ap (λ x. map f (places keep x (n - (i + 1)))) s)))
 
 pub settled_item : (entries : List Entry) (i : ℕ) (e : Entry) → slice_get entries i ≡ Some e →
-    settled (entries_of entries) i ≡ record { parent = renumbered (is_kept (entries_of entries)) e.parent; set = e.set.items }
+    settled (entries_of entries) i ≡ record { parent = renumbered (is_kept (entries_of entries)) e.parent; set = members e.set }
 settled_item entries i e h =
     let g : slice_get (entries_of entries) i ≡ Some (entry_of e) = slice_get-map entry_of entries i ∙ ap (option_map entry_of) h in
     ap (λ o. record { parent = renumbered (is_kept (entries_of entries)) (parent_of o); set = set_of o }) g
@@ -37,13 +37,13 @@ map_push (x ∷ xs) e = ap (λ (z : List AgeEntry). entry_of x ∷ z) (map_push 
 
 -- a turn of the drop's loop at an entry that stays, and at one that doesn't
 pub turn_kept : (entries old next : List Entry) (e item : Entry) (i j : ℕ) (whole : List AgeEntry) → j < length entries → i ≡ j → item ≡ get_or entries j item → next ≡ old ++ (e ∷ []) →
-    e.parent ≡ renumbered (is_kept (entries_of entries)) item.parent → e.set.items ≡ item.set.items → is_kept (entries_of entries) i ≡ true →
+    e.parent ≡ renumbered (is_kept (entries_of entries)) item.parent → e.set ≡ item.set → is_kept (entries_of entries) i ≡ true →
     entries_of old ++ map (settled (entries_of entries)) (places (is_kept (entries_of entries)) i (length entries - i)) ≡ whole →
     entries_of next ++ map (settled (entries_of entries)) (places (is_kept (entries_of entries)) (i + 1) (length entries - (i + 1))) ≡ whole
 turn_kept entries old next e item i j whole l same at push parent set kept so_far =
     let l' : i < length entries = omega arith in
     let g : slice_get entries i ≡ Some item = slice_get_read entries (length entries) i item refl l' (at ∙ ap (λ x. get_or entries x item) (sym same)) in
-    let s : settled (entries_of entries) i ≡ entry_of e = settled_item entries i item g ∙ (λ d. record { parent = sym parent d; set = sym set d }) in
+    let s : settled (entries_of entries) i ≡ entry_of e = settled_item entries i item g ∙ (λ d. record { parent = sym parent d; set = members (sym set d) }) in
     let items : entries_of next ≡ entries_of old ++ (settled (entries_of entries) i ∷ []) = ap entries_of push ∙ (map_push old e ∙ ap (λ (x : AgeEntry). entries_of old ++ (x ∷ [])) (sym s)) in
     ap (λ (z : List AgeEntry). z ++ map (settled (entries_of entries)) (places (is_kept (entries_of entries)) (i + 1) (length entries - (i + 1)))) items ∙
     (place_more (settled (entries_of entries)) (is_kept (entries_of entries)) (entries_of old) i (length entries) l' kept ∙ so_far)

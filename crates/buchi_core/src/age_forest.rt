@@ -1,19 +1,18 @@
 //! Age forests as data.
 
-ghost use Rattle.std.specs.Prelude.{◌≤◌, vec_len};
+ghost use Rattle.std.specs.Prelude.{◌≡◌, ◌≤◌, length};
+ghost use Rattle.buchi_core.specs.Blank.{AreBlankFrom};
 
-/// An entry of a forest: the place of an older entry, its parent, if it has one; and a set of positions, never empty.
-#[derive(Drop, PartialEq, Eq, Hash)]
-pub struct Entry {
-    pub(crate) parent: Option<u8>,
-    pub(crate) set: Vec<u8>,
-}
+use crate::entry::Entry;
 
 /// A forest: its entries, oldest first. Entries without a parent are siblings. It tells which positions traces have come
 /// from and where they have progressed, as Safra's trees do (Safra 1988); an entry is known by its age alone, as in
 /// Piterman's compact trees (Piterman 2007).
-#[derive(Drop, PartialEq, Eq, Hash)]
+#[derive(Clone, Copy, Debug, Drop, PartialEq, Eq, Hash)]
 pub struct AgeForest {
-    pub(crate) entries: Vec<Entry>,
-    ghost few: { vec_len entries ≤ 32 },
+    pub(crate) entries: [Entry; 32],
+    pub(crate) len: u8,
+    ghost long: { length entries ≡ 32 },
+    ghost few: { len ≤ 32 },
+    ghost blank: { AreBlankFrom len entries },
 }

@@ -1,53 +1,56 @@
 //! The first part of a step: the entries with their successors, and the new ones.
 
-ghost use Rattle.std.specs.Prelude.{◌≡◌, ◌+◌, ◌≤◌, ◌++◌, vec_len, length, map, OnOk};
-ghost use Rattle.buchi_core.specs.Forest.{moved, children};
-ghost use Rattle.buchi_core.specs.View.{entries_of};
+ghost use Rattle.std.specs.Prelude.{◌≡◌, ◌+◌, ◌≤◌, length, map};
+ghost use Rattle.arrayvec.specs.ArrayVec.{array_vec_len};
+ghost use Rattle.buchi_core.specs.Forest.{moved, children, scan_from, trimmed, before_drop};
+ghost use Rattle.buchi_core.specs.View.{entries_of, members};
+ghost use Rattle.buchi_core.specs.Young.{AreLeft, made};
 
-use crate::age_forest::Entry;
-use crate::sets::{progress_of, successors_of};
-use cyc_memory::OutOfMemory;
-use std::alloc::Global;
+use crate::entry::Entry;
+use crate::masks::{child_set, moved_set};
+use crate::young::{Young, no_entries, push_entry};
 
 /// Appends each entry with the successors of its set.
-pub(crate) fn push_moved(
-    alloc: Global,
-    entries: &mut Vec<Entry>,
-    pairs: &[(u8, u8, bool)],
-    positions: &[u8],
-    forest: &[Entry],
-) -> Result<(), OutOfMemory>
-    ensures long { OnOk result (vec_len entries.new ≡ vec_len entries.old + length forest.now) }
-    ensures moved { OnOk result (entries_of entries.new.items ≡ entries_of entries.old.items ++ map (moved pairs.now positions.now) (entries_of forest.now)) }
+fn push_moved(young: &mut Young, pairs: &[(u8, u8, bool)], positions: u32, forest: &[Entry])
+    requires few { length forest.now ≤ 32 }
+    requires room { array_vec_len young.old.entries ≤ 32 }
+    requires left { AreLeft young.old }
+    ensures long { array_vec_len young.new.entries ≡ array_vec_len young.old.entries + length forest.now }
+    ensures left { AreLeft young.new }
+    ensures moved { made young.new ≡ scan_from trimmed (made young.old) (map (moved pairs.now (members positions)) (entries_of forest.now)) }
 {
     for entry in forest {
-        let set = successors_of(alloc, pairs, positions, &entry.set)?;
-        let parent = entry.parent;
-        entries.push(Entry { parent, set })?;
+        let set = moved_set(pairs, positions, entry.set);
+        push_entry(young, entry.parent, set);
     }
-    Ok(())
 }
 
 /// Appends a youngest child of each entry.
-pub(crate) fn push_children(
-    alloc: Global,
-    entries: &mut Vec<Entry>,
-    pairs: &[(u8, u8, bool)],
-    positions: &[u8],
-    forest: &[Entry],
-) -> Result<(), OutOfMemory>
-    requires { length forest.now ≤ 100 }
-    ensures long { OnOk result (vec_len entries.new ≡ vec_len entries.old + length forest.now) }
-    ensures children { OnOk result (entries_of entries.new.items ≡ entries_of entries.old.items ++ children pairs.now positions.now 0 (entries_of forest.now)) }
+fn push_children(young: &mut Young, pairs: &[(u8, u8, bool)], positions: u32, forest: &[Entry])
+    requires few { length forest.now ≤ 32 }
+    requires room { array_vec_len young.old.entries ≤ 32 }
+    requires left { AreLeft young.old }
+    ensures long { array_vec_len young.new.entries ≡ array_vec_len young.old.entries + length forest.now }
+    ensures left { AreLeft young.new }
+    ensures children { made young.new ≡ scan_from trimmed (made young.old) (children pairs.now (members positions) 0 (entries_of forest.now)) }
 {
     let mut number: u8 = 0;
     for entry in forest {
-        let set = progress_of(alloc, pairs, positions, &entry.set)?;
-        entries.push(Entry {
-            parent: Some(number),
-            set,
-        })?;
+        let set = child_set(pairs, positions, entry.set);
+        push_entry(young, Some(number), set);
         number += 1;
     }
-    Ok(())
+}
+
+/// The entries of a step before any is dropped or lost.
+pub(crate) fn grown(forest: &[Entry], pairs: &[(u8, u8, bool)], positions: u32) -> Young
+    requires few { length forest.now ≤ 32 }
+    ensures left { AreLeft result }
+    ensures grown { made result ≡ before_drop pairs.now (members positions) (entries_of forest.now) }
+{
+    let mut young = no_entries();
+    push_moved(&mut young, pairs, positions, forest);
+    push_children(&mut young, pairs, positions, forest);
+    push_entry(&mut young, None, positions);
+    young
 }

@@ -3,15 +3,16 @@
 #![tactic(auto)]
 
 mod age_forest;
+mod entry;
 mod event;
 mod grow;
-mod sets;
+mod masks;
 mod settle;
 mod stepping;
-mod trim;
+mod young;
 
-pub use age_forest::{AgeForest, Entry};
-pub use cyc_memory::OutOfMemory;
+pub use age_forest::AgeForest;
+pub use entry::Entry;
 pub use event::{Event, earlier};
 pub use position_sets::is_position_set;
 pub use stepping::{start, step};

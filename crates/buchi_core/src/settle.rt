@@ -1,64 +1,59 @@
 //! The last part of a step: entries that turn green, entries that go, and the event.
 
-ghost use Rattle.std.specs.Prelude.{◌≡◌, ◌≤◌, length, IfOk};
-ghost use Rattle.buchi_core.specs.Forest.{every, child_has, is_full, lost_below, losses, is_kept, rank, renumbered, settle, event_from};
+ghost use Rattle.std.specs.Prelude.{◌≡◌, ◌≤◌, length, slice_get};
+ghost use Rattle.arrayvec.specs.ArrayVec.{array_vec_len};
+ghost use Rattle.buchi_core.specs.Forest.{is_set, is_full, lost_below, losses, is_kept, rank, renumbered, settle, event_from};
 ghost use Rattle.buchi_core.specs.View.{entries_of};
+ghost use Rattle.buchi_core.specs.Young.{AreLeft, made};
 
-use crate::age_forest::Entry;
+use crate::entry::Entry;
 use crate::event::Event;
-use crate::trim::child_has_it;
-use cyc_memory::OutOfMemory;
-use std::alloc::Global;
-
-/// Whether each position of the set is in a child of entry `place`.
-fn children_have(entries: &[Entry], place: u8, set: &[u8]) -> bool
-    ensures { result ≡ every (child_has (entries_of entries.now) place) set.now }
-{
-    for position in set {
-        if !child_has_it(entries, Some(place), *position) {
-            return false;
-        }
-    }
-    true
-}
+use crate::young::{Young, left_at};
+use arrayvec::ArrayVec;
 
 /// Whether entry `place` isn't empty and is the union of its children.
-fn is_full_at(entries: &[Entry], place: u8) -> bool
-    ensures { result ≡ is_full (entries_of entries.now) place }
+fn is_full_at(young: &Young, place: u8) -> bool
+    requires left { AreLeft young.now }
+    ensures { result ≡ is_full (made young.now) place }
 {
-    match entries.get(place as usize) {
+    match young.entries.get(place as usize) {
         None => false,
-        Some(entry) => !entry.set.is_empty() && children_have(entries, place, &entry.set),
+        Some(entry) => entry.set != 0 && left_at(young, Some(place)) == 0,
+    }
+}
+
+/// Whether the flag at a place is set.
+fn is_set_at(flags: &[bool], place: u8) -> bool
+    ensures { result ≡ is_set (slice_get flags.now place) }
+{
+    match flags.get(place as usize) {
+        None => false,
+        Some(flag) => *flag,
     }
 }
 
 /// Whether an entry with this parent has a full ancestor.
-fn is_lost_below(entries: &[Entry], done: &[bool], parent: Option<u8>) -> bool
-    ensures { result ≡ lost_below (entries_of entries.now) done.now parent }
+fn is_lost_below(young: &Young, done: &[bool], parent: Option<u8>) -> bool
+    requires left { AreLeft young.now }
+    ensures { result ≡ lost_below (made young.now) done.now parent }
 {
     match parent {
         None => false,
-        Some(p) => {
-            let full = is_full_at(entries, p);
-            let lost = match done.get(p as usize) {
-                None => false,
-                Some(b) => *b,
-            };
-            full || lost
-        }
+        Some(p) => is_full_at(young, p) || is_set_at(done, p),
     }
 }
 
 /// Which entries have a full ancestor.
-pub(crate) fn losses_of(alloc: Global, entries: &[Entry]) -> Result<Vec<bool>, OutOfMemory>
-    ensures { IfOk result (λ v. v.items ≡ losses (entries_of entries.now)) }
+pub(crate) fn losses_of(young: &Young) -> ArrayVec<bool, 65>
+    requires left { AreLeft young.now }
+    ensures { result.items ≡ losses (made young.now) }
 {
-    let mut done = Vec::new(alloc);
-    for entry in entries {
-        let lost = is_lost_below(entries, &done, entry.parent);
-        done.push(lost)?;
+    let mut done = ArrayVec::new();
+    for entry in young.entries.as_slice() {
+        let lost = is_lost_below(young, &done, entry.parent);
+        done.push(lost);
     }
-    Ok(done)
+    done
 }
 
 /// Whether entry `place` stays.
@@ -66,13 +61,9 @@ fn is_kept_at(entries: &[Entry], lost: &[bool], place: u8) -> bool
     requires lost { lost.now ≡ losses (entries_of entries.now) }
     ensures { result ≡ is_kept (entries_of entries.now) place }
 {
-    let gone = match lost.get(place as usize) {
-        None => false,
-        Some(b) => *b,
-    };
     match entries.get(place as usize) {
         None => false,
-        Some(entry) => !entry.set.is_empty() && !gone,
+        Some(entry) => entry.set != 0 && !is_set_at(lost, place),
     }
 }
 
@@ -102,38 +93,37 @@ fn renumbered_of(entries: &[Entry], lost: &[bool], parent: Option<u8>) -> Option
 }
 
 /// Drops the entries that are empty or have a full ancestor.
-pub(crate) fn settle_all(
-    alloc: Global,
-    entries: &[Entry],
-    lost: &[bool],
-) -> Result<Vec<Entry>, OutOfMemory>
-    requires short { length entries.now ≤ 200 }
+pub(crate) fn settle_all(entries: &[Entry], lost: &[bool]) -> ArrayVec<Entry, 65>
+    requires short { length entries.now ≤ 65 }
     requires lost { lost.now ≡ losses (entries_of entries.now) }
-    ensures { IfOk result (λ v. entries_of v.items ≡ settle (entries_of entries.now)) }
+    ensures { entries_of result.items ≡ settle (entries_of entries.now) }
 {
-    let mut next = Vec::new(alloc);
+    let mut next = ArrayVec::new();
     let mut place: u8 = 0;
     for entry in entries {
         if is_kept_at(entries, lost, place) {
             let parent = renumbered_of(entries, lost, entry.parent);
-            let set = Vec::from_slice(alloc, &entry.set)?;
-            next.push(Entry { parent, set })?;
+            next.push(Entry {
+                parent,
+                set: entry.set,
+            });
         }
         place += 1;
     }
-    Ok(next)
+    next
 }
 
 /// The event of the least of the first `count` places to which something happens.
-pub(crate) fn event_at(entries: &[Entry], lost: &[bool], count: u8) -> Event
-    requires lost { lost.now ≡ losses (entries_of entries.now) }
-    ensures { result ≡ event_from (entries_of entries.now) 0 count }
+pub(crate) fn event_at(young: &Young, lost: &[bool], count: u8) -> Event
+    requires left { AreLeft young.now }
+    requires lost { lost.now ≡ losses (made young.now) }
+    ensures { result ≡ event_from (made young.now) 0 count }
 {
     for place in 0..count {
-        if !is_kept_at(entries, lost, place) {
+        if !is_kept_at(young.entries.as_slice(), lost, place) {
             return Event::Dies(place);
         }
-        if is_full_at(entries, place) {
+        if is_full_at(young, place) {
             return Event::Green(place);
         }
     }

@@ -1,21 +1,19 @@
 -- All lassos progress exactly where no reachable cycle of the product is bad, and then a local relation holds at node 0; where a bad
 -- cycle is to be looked for; and the number of states.
-use Rattle.std.proofs.Common.{◌≡◌, ℕ, ◌<◌, ◌≤◌, ◌↔◌, inl, inr, List, [], ◌∷◌, ◌++◌, arith, le_refl, le_antisymm, Some, slice_get, length, sym, refl, subst}
+use Rattle.std.proofs.Common.{◌≡◌, ℕ, ◌<◌, ◌≤◌, ◌↔◌, inl, inr, List, [], ◌∷◌, ◌++◌, arith, Some, slice_get, length, sym, refl, subst}
 use Rattle.std.proofs.lemmas.Option.{slice_get_within}
 use Rattle.trace_pairs.specs.Graph.{Node, IsLocal}
 use Rattle.buchi_core.specs.declared.event.Event.{Event}
-use Rattle.buchi_core.specs.declared.event.Event.TheVariants.{Dies, Green, Nothing}
-use Rattle.buchi_core.specs.Forest.{start}
-use Rattle.buchi_inclusion.specs.Product.{State, Moves, Run, Each, Occurs, IsFrom, IsNothing, IsBad, BadCycle, IsClosed, Reachable}
+use Rattle.buchi_core.specs.declared.event.Event.TheVariants.{Dies}
+use Rattle.buchi_inclusion.specs.Product.{State, Moves, Run, Each, Occurs, IsFrom, BadCycle, Reachable}
 use Rattle.trace_pairs.specs.Graph.{IsGraph}
 use Rattle.trace_pairs.specs.Lasso.{AllProgress}
 use Rattle.buchi_inclusion.specs.Answers.{AreReached, AreAllReached, HasAtMost, HasMoreThan, LeastFirst}
 use Rattle.buchi_core.proofs.Lists.{get_within, get_one}
-use Rattle.buchi_inclusion.proofs.Descent.{descends, reach_more}
+use Rattle.buchi_inclusion.proofs.Descent.{descends}
 use Rattle.buchi_inclusion.proofs.Runs.{each_append}
 use Rattle.buchi_inclusion.proofs.Progressing.{good_from_lassos}
-use Rattle.buchi_core.proofs.Green.{IsFromGreen}
-use Rattle.buchi_inclusion.proofs.Lassos.{LeastGreen, progresses}
+use Rattle.buchi_inclusion.proofs.Lassos.{progresses}
 use Rattle.buchi_inclusion.proofs.Universe.{closed_universe, states_from}
 use Rattle.buchi_core.proofs.Entries.{injective_le}
 

@@ -141,6 +141,22 @@ module _ (g : List Node) (states : List State) (rows : List (Vec Transition Glob
     all' = λ s r. run_listed 0 r.from s r.events (begin_at s r) r.run;
   }
 
+  -- along a run over allowed moves ranks rise
+  run_rises : (least : Event) (ranks : List ℕ) → IsRising least rows ranks → (i : ℕ) (s u : State) (events : List Event) → slice_get states i ≡ Some s → Run g s u events → Each (IsAtLeast least) events →
+      (j : ℕ) × (slice_get states j ≡ Some u) × (rank_at ranks i ≤ rank_at ranks j)
+  run_rises least ranks rising i s u [] h r ok = (i, h ∙ ap Some r, le_refl (rank_at ranks i))
+  run_rises least ranks rising i s u (event ∷ events) h r ok =
+      let m = move_at i s r.0 event h r.1 in
+      let up = rising i m.row m.is_row m.k m.m m.is_m (subst (IsAtLeast least) (sym m.event_is) ok.0) in
+      let rest = run_rises least ranks rising m.m.target r.0 u events m.is_u r.2 ok.1 in
+      (rest.0, rest.1, omega (arith, up, rest.2))
+
+  pub rising_no_way : (least : Event) (ranks : List ℕ) → IsRising least rows ranks → (from to : ℕ) → rank_at ranks to < rank_at ranks from → IsNoWay g states least from to
+  rising_no_way least ranks rising from to less s u events is_s is_u run ok =
+      let r = run_rises least ranks rising from s u events is_s run ok in
+      let same : r.0 ≡ to = t.apart r.0 to u r.1 is_u in
+      omega (arith, less, r.2, ap (rank_at ranks) same)
+
   module _ (least : Event) (table : List (Vec (ℕ × Bool) Global)) (class : IsClass least rows table) where
     -- what is led to over allowed moves from a visited state is visited
     pub run_visited : (start : ℕ) (visits : List Visit) → AreVisits table start visits → (i : ℕ) (s u : State) (events : List Event) → slice_get states i ≡ Some s → IsVisited visits i → Run g s u events → Each (IsAtLeast least) events →
@@ -159,23 +175,6 @@ module _ (g : List Node) (states : List State) (rows : List (Vec Transition Glob
         let q = v.queue in
         let r = run_visited start visits v start s u events is_s (record { place = 0; visit = q.first; is_visit = q.is_first; is_state = q.starts }) run ok in
         none (subst (IsVisited visits) (t.apart r.0 to u r.1 is_u) r.2)
-
-    -- along a run over allowed moves ranks rise
-    run_rises : (ranks : List ℕ) → IsRising table ranks → (i : ℕ) (s u : State) (events : List Event) → slice_get states i ≡ Some s → Run g s u events → Each (IsAtLeast least) events →
-        (j : ℕ) × (slice_get states j ≡ Some u) × (rank_at ranks i ≤ rank_at ranks j)
-    run_rises ranks rising i s u [] h r ok = (i, h ∙ ap Some r, le_refl (rank_at ranks i))
-    run_rises ranks rising i s u (event ∷ events) h r ok =
-        let m = move_at i s r.0 event h r.1 in
-        let a = item_allowed least rows table class i m.k m.row m.m m.is_row m.is_m (subst (IsAtLeast least) (sym m.event_is) ok.0) in
-        let up = rising i a.row a.is_row m.k m.m.target a.is_edge in
-        let rest = run_rises ranks rising m.m.target r.0 u events m.is_u r.2 ok.1 in
-        (rest.0, rest.1, omega (arith, up, rest.2))
-
-    pub rising_no_way : (ranks : List ℕ) → IsRising table ranks → (from to : ℕ) → rank_at ranks to < rank_at ranks from → IsNoWay g states least from to
-    rising_no_way ranks rising from to less s u events is_s is_u run ok =
-        let r = run_rises ranks rising from s u events is_s run ok in
-        let same : r.0 ≡ to = t.apart r.0 to u r.1 is_u in
-        omega (arith, less, r.2, ap (rank_at ranks) same)
 
     pub way : (visits : List Visit) (q : ℕ) (visit : Visit) → IsGraph g → IsLed table visits q visit → IsWay g states least visits q visit
     way visits q visit graph l =

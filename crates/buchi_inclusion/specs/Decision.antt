@@ -111,9 +111,8 @@ IsAbsentFrom least rows = (q : ℕ) (row : Vec Transition Global) → slice_get 
 pub record IsClassOf (c : Class) : Type 0 where
   pub graph : IsGraph c.graph.now
   pub table : IsTable c.graph.now (states_of c.table.now.states) c.table.now.rows.items
-  pub targets : IsClass c.least c.table.now.rows.items c.targets.now
   pub least : IsLeast c.least
-  pub rising : c.rising ≡ true → IsRising c.targets.now c.ranks.now
+  pub rising : c.rising ≡ true → IsRising c.least c.table.now.rows.items c.ranks.now
 
 -- edge `edge` of the state at a place has the least event, and the steps lead back from its target
 pub record IsWayBack (c : Class) (place edge : ℕ) (back : List Step) : Type 0 where

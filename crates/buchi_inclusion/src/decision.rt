@@ -27,7 +27,7 @@ fn class_row(
 {
     let mut targets = Vec::new(alloc);
     for item in row {
-        targets.push((item.target, !earlier(item.event, least)))?;
+        targets.push((item.target as usize, !earlier(item.event, least)))?;
     }
     Ok(targets)
 }
@@ -61,10 +61,8 @@ struct Class<'a> {
     graph: &'a TraceGraph,
     table: &'a Table,
     least: Event,
-    /// For each state a row of its moves: the targets, and whether the moves are of the class.
-    targets: &'a [Vec<(usize, bool)>],
     /// The states' ranks, which don't fall along the moves of the class if `rising` says so.
-    ranks: &'a [usize],
+    ranks: &'a [u32],
     rising: bool,
 }
 
@@ -101,6 +99,27 @@ fn steps_to(
     Ok(steps)
 }
 
+/// Steps from the state at a place to that at another, over moves of the class, whose table is given.
+fn way_over(
+    alloc: Global,
+    class: &Class<'_>,
+    targets: &[Vec<(usize, bool)>],
+    start: usize,
+    to: usize,
+) -> Result<Option<Vec<Step>>, OutOfMemory>
+    requires class { IsClassOf class.now }
+    requires targets { IsClass class.now.least class.now.table.now.rows.items targets.now }
+    requires start { start < length (states_of class.now.table.now.states) }
+    ensures { IfOk result (λ o. MatchOption o (IsNoWay class.now.graph.now (states_of class.now.table.now.states) class.now.least start to) (λ v. IsWalk class.now.graph.now (states_of class.now.table.now.states) class.now.least start to v.items)) }
+{
+    let visits = visits_from(alloc, targets, start)?;
+    let Some(at) = place_of(&visits, to) else {
+        return Ok(None);
+    };
+    let steps = steps_to(alloc, class, &visits, at)?;
+    Ok(Some(steps))
+}
+
 /// Steps from the state at a place to that at another, over moves of the class.
 fn way_to(
     alloc: Global,
@@ -112,12 +131,8 @@ fn way_to(
     requires start { start < length (states_of class.now.table.now.states) }
     ensures { IfOk result (λ o. MatchOption o (IsNoWay class.now.graph.now (states_of class.now.table.now.states) class.now.least start to) (λ v. IsWalk class.now.graph.now (states_of class.now.table.now.states) class.now.least start to v.items)) }
 {
-    let visits = visits_from(alloc, class.targets, start)?;
-    let Some(at) = place_of(&visits, to) else {
-        return Ok(None);
-    };
-    let steps = steps_to(alloc, class, &visits, at)?;
-    Ok(Some(steps))
+    let targets = class_table(alloc, &class.table.rows, class.least)?;
+    way_over(alloc, class, &targets, start, to)
 }
 
 /// The steps from the first state to the one at a place.
@@ -132,13 +147,10 @@ fn stem_to(
     requires place { place < length (states_of table.now.states) }
     ensures { IfOk result (λ v. IsWalk graph.now (states_of table.now.states) (Dies 0) 0 place v.items) }
 {
-    let least = Event::Dies(0);
-    let targets = class_table(alloc, &table.rows, least)?;
     let class = Class {
         graph,
         table,
-        least,
-        targets: &targets,
+        least: Event::Dies(0),
         ranks: &[],
         rising: false,
     };
@@ -190,10 +202,11 @@ fn try_item(
     if earlier(class.least, item.event) {
         return Ok(None);
     }
-    if class.rising && rank_of(class.ranks, place) < rank_of(class.ranks, item.target) {
+    let target = item.target as usize;
+    if class.rising && rank_of(class.ranks, place) < rank_of(class.ranks, target) {
         return Ok(None);
     }
-    let found = way_to(alloc, class, item.target, place)?;
+    let found = way_to(alloc, class, target, place)?;
     let Some(back) = found else {
         return Ok(None);
     };
@@ -257,14 +270,12 @@ fn search_class(
     requires least { IsLeast least }
     ensures { IfOk result (λ o. MatchOption o (IsGoodClass graph.now (states_of table.now.states) table.now.rows.items least) (λ l. IsCounter graph.now l)) }
 {
-    let targets = class_table(alloc, &table.rows, least)?;
-    let ranks = ranks_of(alloc, &targets)?;
-    let rising = are_rising(&targets, &ranks);
+    let ranks = ranks_of(alloc, &table.rows, least)?;
+    let rising = are_rising(&table.rows, least, &ranks);
     let class = Class {
         graph,
         table,
         least,
-        targets: &targets,
         ranks: &ranks,
         rising,
     };

@@ -13,7 +13,7 @@ use std::alloc::Global;
 use trace_pairs::TraceGraph;
 
 /// A state of the product: a node with a forest.
-#[derive(Drop, PartialEq, Eq, Hash)]
+#[derive(Clone, Copy, Drop, PartialEq, Eq, Hash)]
 pub struct Product {
     pub node: u32,
     pub forest: AgeForest,
@@ -46,33 +46,28 @@ pub fn state_at(states: &IndexSet<Product>, place: usize) -> Option<&Product>
 /// Where an edge of a state's node leads, and the event.
 #[derive(Clone, Copy)]
 pub struct Transition {
-    pub target: usize,
+    pub target: u32,
     pub event: Event,
 }
 
 /// The state that edge `edge` leads to, with its event; none where the node has no such edge.
-fn step_from(
-    alloc: Global,
-    graph: &TraceGraph,
-    state: &Product,
-    edge: usize,
-) -> Result<Option<(Product, Event)>, OutOfMemory>
+fn step_from(graph: &TraceGraph, state: &Product, edge: usize) -> Option<(Product, Event)>
     requires graph { IsGraph graph.now }
     requires state { IsState graph.now (state_of state.now) }
-    ensures { IfOk result (λ o. MatchOption o (IsLast graph.now (state_of state.now) edge) (λ r. IsStep graph.now (state_of state.now) edge (state_of r.0) r.1 × IsState graph.now (state_of r.0))) }
+    ensures { MatchOption result (IsLast graph.now (state_of state.now) edge) (λ r. IsStep graph.now (state_of state.now) edge (state_of r.0) r.1 × IsState graph.now (state_of r.0)) }
 {
     let Some(node) = graph.node(state.node as usize) else {
         unreachable!()
     };
     let Some(edge) = node.edge(edge) else {
-        return Ok(None);
+        return None;
     };
     let node = edge.target();
     let Some(target) = graph.node(node as usize) else {
         unreachable!()
     };
-    let (forest, event) = step(alloc, &state.forest, edge.pairs(), target.positions())?;
-    Ok(Some((Product { node, forest }, event)))
+    let (forest, event) = step(&state.forest, edge.pairs(), target.positions());
+    Some((Product { node, forest }, event))
 }
 
 /// The moves from the state at a place, whose targets are added to the states. None if there are more states than the
@@ -97,14 +92,17 @@ fn explore_row(
         let Some(state) = state_at(states, place) else {
             unreachable!()
         };
-        let Some((state, event)) = step_from(alloc, graph, state, edge)? else {
+        let Some((state, event)) = step_from(graph, state, edge) else {
             return Ok(Some(row));
         };
         let (target, _) = intern(states, state)?;
         if count_of(states) > limit as usize {
             return Ok(None);
         }
-        row.push(Transition { target, event })?;
+        row.push(Transition {
+            target: target as u32,
+            event,
+        })?;
     }
     let _count = row.len();
     unreachable!()
@@ -118,15 +116,15 @@ pub struct Table {
 }
 
 /// The state that begins: node 0 with its first forest.
-fn first_state(alloc: Global, graph: &TraceGraph) -> Result<Product, OutOfMemory>
+fn first_state(graph: &TraceGraph) -> Product
     requires graph { IsGraph graph.now }
-    ensures { IfOk result (λ p. IsStart graph.now (state_of p) × IsState graph.now (state_of p)) }
+    ensures { IsStart graph.now (state_of result) × IsState graph.now (state_of result) }
 {
     let Some(root) = graph.node(0) else {
         unreachable!()
     };
-    let forest = start(alloc, root.positions())?;
-    Ok(Product { node: 0, forest })
+    let forest = start(root.positions());
+    Product { node: 0, forest }
 }
 
 /// Explores the product. None if there are more states than the limit.
@@ -135,8 +133,7 @@ pub fn explore(alloc: Global, graph: &TraceGraph, limit: u32) -> Result<Option<T
     ensures { IfOk result (λ o. MatchOption o (HasMoreThan graph.now limit) (λ t. IsTable graph.now (states_of t.states) t.rows.items × (length (states_of t.states) ≤ limit))) }
 {
     let mut states = IndexSet::new(alloc);
-    let first = first_state(alloc, graph)?;
-    intern(&mut states, first)?;
+    intern(&mut states, first_state(graph))?;
     if count_of(&states) > limit as usize {
         return Ok(None);
     }

@@ -1,59 +1,135 @@
-//! Ranks of states that rise along allowed edges: a state isn't led to from one of a greater rank.
+//! Ranks of states that rise along the moves whose events aren't earlier than a least one: a state isn't led to from one
+//! of a greater rank.
 //!
-//! The ranks are those of the strongly connected components, sources first (two searches in depth). No clause says
-//! so: `are_rising` tests what the decision needs of them.
+//! The ranks are those of the strongly connected components, sources first, found by one search in depth (Tarjan 1972).
+//! No clause says so: `are_rising` tests what the decision needs of them.
 
-ghost use Rattle.std.specs.Prelude.{◌≡◌, true, Some};
+ghost use Rattle.std.specs.Prelude.{◌≡◌, true};
 ghost use Rattle.buchi_inclusion.specs.Ranks.{rank_at, IsRowRising, IsRising};
 
+use crate::product::Transition;
+use buchi_core::{Event, earlier};
 use cyc_memory::OutOfMemory;
 use std::alloc::Global;
 
-/// Marks the state, if it is one that isn't marked yet.
-fn mark(seen: &mut Vec<bool>, state: usize) -> bool {
-    match seen.get_mut(state) {
-        None => false,
-        Some(flag) => {
-            if *flag {
-                return false;
-            }
-            *flag = true;
-            true
+/// The number at a place, 0 if there is none.
+fn number_at(numbers: &[u32], place: usize) -> u32 {
+    match numbers.get(place) {
+        None => 0,
+        Some(number) => *number,
+    }
+}
+
+/// Puts the number at a place, if there is one.
+fn put(numbers: &mut Vec<u32>, place: usize, number: u32) {
+    if let Some(old) = numbers.get_mut(place) {
+        *old = number;
+    }
+}
+
+/// Lowers the number at a place to another one that is less.
+fn lower(numbers: &mut Vec<u32>, place: usize, number: u32) {
+    if let Some(old) = numbers.get_mut(place)
+        && number < *old
+    {
+        *old = number;
+    }
+}
+
+/// A search in depth: numbers of the states in the order in which they are found, from 1; the least number that each is
+/// known to lead to within its component; the states whose component isn't complete; the states on the way, each with its
+/// next edge; and the ranks so far, 0 where there is none, with the last one that was given.
+#[derive(Drop)]
+struct Search {
+    found: u32,
+    numbers: Vec<u32>,
+    least: Vec<u32>,
+    open: Vec<u32>,
+    way: Vec<(u32, u32)>,
+    ranks: Vec<u32>,
+    rank: u32,
+}
+
+/// Enters a state that is new.
+fn enter(search: &mut Search, state: u32) -> Result<(), OutOfMemory> {
+    search.found = search.found.saturating_add(1);
+    put(&mut search.numbers, state as usize, search.found);
+    put(&mut search.least, state as usize, search.found);
+    search.open.push(state)?;
+    search.way.push((state, 0))?;
+    Ok(())
+}
+
+/// Follows an allowed edge of a state.
+fn follow(search: &mut Search, state: u32, target: u32) -> Result<(), OutOfMemory> {
+    let number = number_at(&search.numbers, target as usize);
+    if number == 0 {
+        return enter(search, target);
+    }
+    if number_at(&search.ranks, target as usize) == 0 {
+        lower(&mut search.least, state as usize, number);
+    }
+    Ok(())
+}
+
+/// Gives a rank to the component of a state, which is complete.
+fn close(search: &mut Search, root: u32) {
+    search.rank = search.rank.saturating_sub(1);
+    for _ in 0..usize::MAX {
+        let Some(state) = search.open.pop() else {
+            return;
+        };
+        put(&mut search.ranks, state as usize, search.rank);
+        if state == root {
+            return;
         }
     }
 }
 
-/// The target of a state's edge, and whether the edge is allowed.
-fn edge_of(table: &[Vec<(usize, bool)>], state: usize, edge: usize) -> Option<(usize, bool)> {
-    match table.get(state) {
-        None => None,
-        Some(row) => row.get(edge).copied(),
+/// Leaves a state all of whose edges are followed.
+fn leave(search: &mut Search, state: u32) {
+    let least = number_at(&search.least, state as usize);
+    if least == number_at(&search.numbers, state as usize) {
+        close(search, state);
+        return;
+    }
+    if let Some((before, _)) = search.way.last().copied() {
+        lower(&mut search.least, before as usize, least);
     }
 }
 
-/// Appends the states that the root leads to and that aren't seen yet, each after those that it leads to.
+/// The target of a state's edge, and whether the edge is allowed.
+fn edge_of(rows: &[Vec<Transition>], least: Event, state: u32, edge: u32) -> Option<(u32, bool)> {
+    match rows.get(state as usize) {
+        None => None,
+        Some(row) => match row.get(edge as usize) {
+            None => None,
+            Some(item) => Some((item.target, !earlier(item.event, least))),
+        },
+    }
+}
+
+/// Searches from a state, if it is new.
 fn descend(
-    alloc: Global,
-    table: &[Vec<(usize, bool)>],
-    root: usize,
-    seen: &mut Vec<bool>,
-    order: &mut Vec<usize>,
+    search: &mut Search,
+    rows: &[Vec<Transition>],
+    least: Event,
+    root: u32,
 ) -> Result<(), OutOfMemory> {
-    if !mark(seen, root) {
+    if number_at(&search.numbers, root as usize) != 0 {
         return Ok(());
     }
-    let mut stack = Vec::new(alloc);
-    stack.push((root, 0usize))?;
+    enter(search, root)?;
     for _ in 0..usize::MAX {
-        let Some((state, edge)) = stack.pop() else {
+        let Some((state, edge)) = search.way.pop() else {
             return Ok(());
         };
-        match edge_of(table, state, edge) {
-            None => order.push(state)?,
+        match edge_of(rows, least, state, edge) {
+            None => leave(search, state),
             Some((target, allowed)) => {
-                stack.push((state, edge.saturating_add(1)))?;
-                if allowed && mark(seen, target) {
-                    stack.push((target, 0))?;
+                search.way.push((state, edge.saturating_add(1)))?;
+                if allowed {
+                    follow(search, state, target)?;
                 }
             }
         }
@@ -61,132 +137,32 @@ fn descend(
     Ok(())
 }
 
-/// The states, each after those that it leads to where no cycle has both.
-fn order_of(alloc: Global, table: &[Vec<(usize, bool)>]) -> Result<Vec<usize>, OutOfMemory> {
-    let mut seen = vec![in alloc; false; table.len()]?;
-    let mut order = Vec::new(alloc);
-    for root in 0..table.len() {
-        descend(alloc, table, root, &mut seen, &mut order)?;
-    }
-    Ok(order)
-}
-
-/// Adds a source to a target's row.
-fn add_source(
-    sources: &mut Vec<Vec<usize>>,
-    target: usize,
-    source: usize,
-) -> Result<(), OutOfMemory> {
-    match sources.get_mut(target) {
-        None => Ok(()),
-        Some(row) => {
-            row.push(source)?;
-            Ok(())
-        }
-    }
-}
-
-/// So many empty rows.
-fn empty_rows(alloc: Global, count: usize) -> Result<Vec<Vec<usize>>, OutOfMemory> {
-    let mut rows = Vec::new(alloc);
-    for _ in 0..count {
-        rows.push(Vec::new(alloc))?;
-    }
-    Ok(rows)
-}
-
-/// Adds the source to the rows of the targets of its allowed edges.
-fn add_row(
-    sources: &mut Vec<Vec<usize>>,
-    source: usize,
-    row: &[(usize, bool)],
-) -> Result<(), OutOfMemory> {
-    for edge in row {
-        let (target, allowed) = *edge;
-        if allowed {
-            add_source(sources, target, source)?;
-        }
-    }
-    Ok(())
-}
-
-/// For each state the sources of the allowed edges to it.
-fn sources_of(alloc: Global, table: &[Vec<(usize, bool)>]) -> Result<Vec<Vec<usize>>, OutOfMemory> {
-    let mut sources = empty_rows(alloc, table.len())?;
-    for (source, row) in table.iter().enumerate() {
-        add_row(&mut sources, source, row)?;
-    }
-    Ok(sources)
-}
-
-/// Gives the rank to the state, if it is one that has none yet.
-fn give(ranks: &mut Vec<usize>, state: usize, rank: usize) -> bool {
-    match ranks.get_mut(state) {
-        None => false,
-        Some(old) => {
-            if *old != 0 {
-                return false;
-            }
-            *old = rank;
-            true
-        }
-    }
-}
-
-/// Gives the rank to the sources that have none yet, and pushes them.
-fn climb_row(
-    row: &[usize],
-    rank: usize,
-    ranks: &mut Vec<usize>,
-    stack: &mut Vec<usize>,
-) -> Result<(), OutOfMemory> {
-    for source in row {
-        if give(ranks, *source, rank) {
-            stack.push(*source)?;
-        }
-    }
-    Ok(())
-}
-
-/// Gives the rank to the state and to all that lead to it and have none yet.
-fn climb(
-    alloc: Global,
-    sources: &[Vec<usize>],
-    root: usize,
-    rank: usize,
-    ranks: &mut Vec<usize>,
-) -> Result<(), OutOfMemory> {
-    if !give(ranks, root, rank) {
-        return Ok(());
-    }
-    let mut stack = Vec::new(alloc);
-    stack.push(root)?;
-    for _ in 0..usize::MAX {
-        let Some(state) = stack.pop() else {
-            return Ok(());
-        };
-        if let Some(row) = sources.get(state) {
-            climb_row(row, rank, ranks, &mut stack)?;
-        }
-    }
-    Ok(())
-}
-
 /// A rank for each state.
-pub fn ranks_of(alloc: Global, table: &[Vec<(usize, bool)>]) -> Result<Vec<usize>, OutOfMemory> {
-    let order = order_of(alloc, table)?;
-    let sources = sources_of(alloc, table)?;
-    let mut ranks = vec![in alloc; 0usize; table.len()]?;
-    let mut rank = 0usize;
-    for state in order.iter().rev() {
-        rank = rank.saturating_add(1);
-        climb(alloc, &sources, *state, rank, &mut ranks)?;
+pub fn ranks_of(
+    alloc: Global,
+    rows: &[Vec<Transition>],
+    least: Event,
+) -> Result<Vec<u32>, OutOfMemory> {
+    let count = rows.len();
+    let mut search = Search {
+        found: 0,
+        numbers: vec![in alloc; 0u32; count]?,
+        least: vec![in alloc; 0u32; count]?,
+        open: Vec::new(alloc),
+        way: Vec::new(alloc),
+        ranks: vec![in alloc; 0u32; count]?,
+        rank: u32::MAX,
+    };
+    for root in 0..count {
+        if let Ok(root) = u32::try_from(root) {
+            descend(&mut search, rows, least, root)?;
+        }
     }
-    Ok(ranks)
+    Ok(search.ranks)
 }
 
 /// A state's rank.
-pub fn rank_of(ranks: &[usize], state: usize) -> usize
+pub fn rank_of(ranks: &[u32], state: usize) -> u32
     ensures { result ≡ rank_at ranks.now state }
 {
     match ranks.get(state) {
@@ -195,26 +171,25 @@ pub fn rank_of(ranks: &[usize], state: usize) -> usize
     }
 }
 
-/// Whether no allowed edge of the row leads below the rank.
-fn is_row_rising(row: &[(usize, bool)], ranks: &[usize], rank: usize) -> bool
-    ensures { result ≡ true → IsRowRising row.now ranks.now rank }
+/// Whether no allowed move of the row leads below the rank.
+fn is_row_rising(row: &[Transition], least: Event, ranks: &[u32], rank: u32) -> bool
+    ensures { result ≡ true → IsRowRising least row.now ranks.now rank }
 {
-    for edge in row {
-        let (target, allowed) = *edge;
-        if allowed && rank_of(ranks, target) < rank {
+    for item in row {
+        if !earlier(item.event, least) && rank_of(ranks, item.target as usize) < rank {
             return false;
         }
     }
     true
 }
 
-/// Whether no allowed edge leads to a lower rank.
-pub fn are_rising(table: &[Vec<(usize, bool)>], ranks: &[usize]) -> bool
-    ensures { result ≡ true → IsRising table.now ranks.now }
+/// Whether no allowed move leads to a lower rank.
+pub fn are_rising(rows: &[Vec<Transition>], least: Event, ranks: &[u32]) -> bool
+    ensures { result ≡ true → IsRising least rows.now ranks.now }
 {
-    for (state, row) in table.iter().enumerate() {
+    for (state, row) in rows.iter().enumerate() {
         let rank = rank_of(ranks, state);
-        if !is_row_rising(row, ranks, rank) {
+        if !is_row_rising(row, least, ranks, rank) {
             return false;
         }
     }

@@ -1,11 +1,13 @@
-use Rattle.std.proofs.Common.{◌≡◌, ◌+◌, drop, ◌++◌, map, vec_len}
-use Rattle.buchi_core.specs.Forest.{moved}
-use Rattle.buchi_core.specs.View.{entries_of}
+use Rattle.std.proofs.Common.{◌≡◌, ◌+◌, drop, length, map}
+use Rattle.buchi_core.specs.Forest.{moved, scan_from, trimmed}
+use Rattle.buchi_core.specs.View.{entries_of, members}
+use Rattle.buchi_core.specs.Young.{AreLeft, made}
 use Rattle.buchi_core.proofs.grow.push_moved.Given as goal
 
 abbrev pub invariant-loop-entry : goal.invariant-loop-entry
 invariant-loop-entry l = record {
-  long : vec_len l.entries ≡ vec_len l.fn.entries + l.entry-index;
-  so_far : entries_of l.entries.items ++ map (moved l.pairs l.positions) (entries_of (drop l.entry-index l.forest))
-      ≡ entries_of l.fn.entries.items ++ map (moved l.pairs l.positions) (entries_of l.forest);
+  long : length l.young.entries.items ≡ length l.fn.young.entries.items + l.entry-index;
+  left : AreLeft l.young;
+  so_far : scan_from trimmed (made l.young) (map (moved l.pairs (members l.positions)) (entries_of (drop l.entry-index l.forest)))
+      ≡ scan_from trimmed (made l.fn.young) (map (moved l.pairs (members l.positions)) (entries_of l.forest));
 }

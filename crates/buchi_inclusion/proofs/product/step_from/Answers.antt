@@ -11,5 +11,5 @@ unreachable-requires-in_default-node c =
 
 pub returns : goal.returns
 returns c =
-    step_is c.args.graph.now (state_of c.args.state.now) c.in-Some.node.now c.in-Some-node.target.now c.args.edge c.in-Some-edge.edge.now c.target-node.result c.pairs.result.now c.positions.result.now (forest_of c.in_ok-forest.forest) c.in_ok-forest.event
-    c.requires.graph c.requires.state c.in-Some.ensures c.in-Some-edge.ensures c.target-node.ensures c.in-Some-node.ensures c.pairs.ensures c.positions.ensures c.in_ok-forest.ensures.forest c.in_ok-forest.ensures.event c.in_ok-forest.ensures.few
+    step_is c.args.graph.now (state_of c.args.state.now) c.in-Some.node.now c.in-Some-node.target.now c.args.edge c.in-Some-edge.edge.now c.target-node.result c.pairs.result.now c.positions.result.now (forest_of c.step-event.result.0) c.step-event.result.1
+    c.requires.graph c.requires.state c.in-Some.ensures c.in-Some-edge.ensures c.target-node.ensures c.in-Some-node.ensures c.pairs.ensures c.positions.ensures c.step-event.ensures.forest c.step-event.ensures.event c.step-event.ensures.few

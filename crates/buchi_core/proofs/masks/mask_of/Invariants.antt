@@ -1,0 +1,7 @@
+use Rattle.std.proofs.Common.{ℕ, ◌≡◌, ◌<◌, ◌||◌, drop}
+use Rattle.buchi_core.specs.Forest.{has}
+use Rattle.buchi_core.specs.View.{is_one}
+use Rattle.buchi_core.proofs.masks.mask_of.Given as goal
+
+abbrev pub invariant-loop-position : goal.invariant-loop-position
+invariant-loop-position l = (q : ℕ) → q < 32 → (is_one l.mask q || has (drop l.position-index l.positions) q) ≡ has l.positions q

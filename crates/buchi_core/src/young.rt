@@ -1,0 +1,77 @@
+//! The entries of a step before any is dropped or lost: each is trimmed as it comes, the older ones first.
+
+ghost use Rattle.std.specs.Prelude.{ℕ, ◌≡◌, ◌<◌, ◌+◌, [], ◌∷◌, ◌++◌, ◌&&◌, not, length, Option};
+ghost use Rattle.arrayvec.specs.ArrayVec.{array_vec_len};
+ghost use Rattle.buchi_core.specs.Forest.{same_parent, trimmed};
+ghost use Rattle.buchi_core.specs.View.{is_one, members};
+ghost use Rattle.buchi_core.specs.Young.{AreLeft, left_of, made};
+
+use crate::entry::Entry;
+use arrayvec::ArrayVec;
+
+/// Entries, oldest first, and for each the mask of what it has and none of its children so far; `top` is the mask of what
+/// no entry without a parent has.
+#[derive(Drop)]
+pub(crate) struct Young {
+    pub(crate) entries: ArrayVec<Entry, 65>,
+    pub(crate) left: [u32; 65],
+    pub(crate) top: u32,
+}
+
+/// No entries.
+pub(crate) fn no_entries() -> Young
+    ensures none { result.entries.items ≡ [] }
+    ensures left { AreLeft result }
+{
+    Young {
+        entries: ArrayVec::new(),
+        left: [0; 65],
+        top: u32::MAX,
+    }
+}
+
+/// What a further child of the parent may have.
+pub(crate) fn left_at(young: &Young, parent: Option<u8>) -> u32
+    ensures { result ≡ left_of young.now parent }
+{
+    match parent {
+        None => young.top,
+        Some(p) => match young.left.get(p as usize) {
+            None => 0,
+            Some(mask) => *mask,
+        },
+    }
+}
+
+/// Gives these positions to a child of the parent.
+fn give(young: &mut Young, parent: Option<u8>, set: u32)
+    requires long { length young.old.left ≡ 65 }
+    ensures entries { young.new.entries ≡ young.old.entries }
+    ensures long { length young.new.left ≡ 65 }
+    ensures left { (o : Option ℕ) (q : ℕ) → q < 32 → is_one (left_of young.new o) q ≡ (is_one (left_of young.old o) q && not (same_parent parent o && is_one set q)) }
+{
+    match parent {
+        None => young.top &= !set,
+        Some(p) => {
+            let place = p as usize;
+            if place < 65 {
+                young.left[place] &= !set;
+            }
+        }
+    }
+}
+
+/// Appends an entry, without what its parent lacks and what an older sibling has.
+pub(crate) fn push_entry(young: &mut Young, parent: Option<u8>, set: u32)
+    requires room { array_vec_len young.old.entries < 65 }
+    requires left { AreLeft young.old }
+    ensures entries { made young.new ≡ made young.old ++ (trimmed (made young.old) (record { parent = parent; set = members set }) ∷ []) }
+    ensures long { array_vec_len young.new.entries ≡ array_vec_len young.old.entries + 1 }
+    ensures left { AreLeft young.new }
+{
+    let kept = set & left_at(young, parent);
+    give(young, parent, kept);
+    let place = young.entries.len();
+    young.left[place] = kept;
+    young.entries.push(Entry { parent, set: kept });
+}
