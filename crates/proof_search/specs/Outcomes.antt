@@ -1,7 +1,8 @@
 -- What the answers of the prover say.
-use Rattle.std.specs.Prelude.{◌≡◌, List, map, Some, slice_get}
+use Rattle.std.specs.Prelude.{◌≡◌, ℕ, List, map, Some, slice_get}
 use Rattle.heap_formula.specs.declared.proof_rules.Reason.{Reason}
 use Rattle.derivation_search.specs.System.{System, Outcome, IsFound, IsNotFound, HasTooManyDerivations, HasTooManyStates}
+use Rattle.derivation_search.specs.Firsts.{FirstFound}
 use Rattle.buchi_inclusion.specs.Answers.{HasAtMost}
 use Rattle.formula_reader.specs.declared.problem.Problem.{Problem}
 use Rattle.proof_file.specs.declared.file.ProofFile.{ProofFile}
@@ -50,3 +51,10 @@ IsProved problem (Found f) = IsProofFor problem f
 IsProved problem NotFound = Unit {0}
 IsProved problem TooManyDerivations = Unit {0}
 IsProved problem TooManyStates = Unit {0}
+
+-- what is found within this depth is the first complete derivation of the least depth that has one
+abbrev pub IsFirst : Problem → ℕ → Proved → Type 0
+IsFirst problem depth (Found f) = FirstFound (search_for problem) 1 depth (reasons_of f)
+IsFirst problem depth NotFound = Unit {0}
+IsFirst problem depth TooManyDerivations = Unit {0}
+IsFirst problem depth TooManyStates = Unit {0}

@@ -1,7 +1,7 @@
 // The search, depth by depth.
 ghost use Rattle.std.specs.Prelude.{◌≡◌, ◌<◌, ◌≤◌, IfOk};
 ghost use Rattle.derivation_search.specs.System.{search_of};
-ghost use Rattle.proof_search.specs.Outcomes.{search_for, outcome_of, IsProved};
+ghost use Rattle.proof_search.specs.Outcomes.{search_for, outcome_of, IsFirst, IsProved};
 
 use crate::found::file_of;
 use cyc_memory::OutOfMemory;
@@ -28,6 +28,7 @@ pub fn prove(alloc: Global, problem: &Problem, depth: u32, most: u32) -> Result<
     requires depth { depth ≤ 40 }
     requires most { 0 < most }
     ensures outcome { IfOk result (λ proved. outcome_of proved ≡ search_of (search_for problem.now) most depth) }
+    ensures first { IfOk result (IsFirst problem.now depth) }
     ensures proved { IfOk result (IsProved problem.now) }
 {
     problem_is_within(problem);

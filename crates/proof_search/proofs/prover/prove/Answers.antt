@@ -1,4 +1,5 @@
-use Rattle.std.proofs.Common.{◌+◌, ◌-◌, arith, ap, Some, ◌∙◌}
+use Rattle.std.proofs.Common.{◌+◌, ◌-◌, arith, ap, sym, Some, ◌∙◌}
+use Rattle.derivation_search.proofs.Firsts.{first_found}
 use Rattle.derivation_search.proofs.Deepening.{answers_at, goes_deeper}
 use Rattle.derivation_search.specs.System.{IsFound}
 use Rattle.derivation_search.specs.declared.Stop.TheVariants as stop
@@ -37,6 +38,10 @@ pub returns-in-Some-Found-clause-outcome : goal.returns-in-Some-Found-clause-out
 returns-in-Some-Found-clause-outcome c =
     ap IsFound (same_reasons c.args.problem.now c.in_ok-file_of-in-Some-Found.field-0 c.search_depth.new.moves c.in_ok-file_of-in-Some-Found.ensures.nodes) ∙ (answers_at (search_for c.args.problem.now) c.args.most c.loop-bound.bound _ (c.args.depth - c.loop-bound.bound) stop.Found (reasons_in c.search_depth.new.moves) _ (omega arith)
     (c.in_ok-search_depth.ensures.searched (search_for c.args.problem.now) (follows c.args.problem.now c.in_ok-moves.moves c.in_ok-moves.ensures.defs c.in_ok-moves.ensures.program c.in_ok-moves.ensures.root)) (c.in-Some-Found.is ∙ ap Some c.in-Some-Found.field-0-is) ∙ c.loop-bound.invariant)
+
+pub returns-in-Some-Found-clause-first : goal.returns-in-Some-Found-clause-first
+returns-in-Some-Found-clause-first c =
+    first_found (search_for c.args.problem.now) c.args.most 1 c.args.depth _ (sym (returns-in-Some-Found-clause-outcome c))
 
 pub returns-in-Some-Found-clause-proved : goal.returns-in-Some-Found-clause-proved
 returns-in-Some-Found-clause-proved c =
