@@ -8,7 +8,8 @@ use Rattle.proof_syntax.specs.Trees.{File}
 use Rattle.proof_syntax.specs.Grammar.{body, file}
 use Rattle.proof_syntax.proofs.GrammarLaws.{file-law}
 use Rattle.proof_syntax.proofs.GrammarEnds.{body-inner}
-use Rattle.heap_reader.proofs.Readings.{again}
+use Rattle.heap_reader.specs.Reading.{Spells}
+use Rattle.heap_reader.proofs.Readings.{again, ok_tokens, one_value}
 use Rattle.proof_file.specs.declared.file.ProofFile.{ProofFile}
 use Rattle.proof_file.specs.Written.{tree_of, text_of_file}
 use Rattle.proof_file.specs.Reading.{AreSame, IsFileOf, IsRead, IsReadAgain, Reads, proof_files}
@@ -23,6 +24,12 @@ one_file t f g first second = record {
   program = first.program ∙ sym second.program;
   nodes = first.nodes ∙ sym second.nodes;
 }
+
+-- bytes spell one file
+pub one_spelled : (bytes : List ℕ) (f g : ProofFile) → IsRead bytes (Ok f) → IsRead bytes (Ok g) → AreSame f g
+one_spelled bytes f g first second =
+    one_value proof_files file-law AreSame one_file first.0 f g first.2
+    (subst (λ ts. Spells proof_files ts g) (ok_tokens first.0 second.0 bytes first.1 second.1) second.2)
 
 -- ---- what is written
 

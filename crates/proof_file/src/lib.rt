@@ -15,4 +15,4 @@ mod writing;
 pub use file::ProofFile;
 pub use node::{FileNode, FileNodes};
 pub use reading::read_file;
-pub use writing::{write_file, written_files_are_read_again};
+pub use writing::{bytes_spell_one_file, write_file, written_files_are_read_again};

@@ -3,7 +3,7 @@ ghost use Rattle.std.specs.Prelude.{◌≡◌, ℕ, List, Result, Ok, IfOk};
 ghost use Rattle.cyc_lex.specs.declared.fault.ReadFault.{ReadFault};
 ghost use Rattle.proof_file.specs.declared.file.ProofFile.{ProofFile};
 ghost use Rattle.proof_file.specs.Written.{text_of_file};
-ghost use Rattle.proof_file.specs.Reading.{IsRead, Reads, IsReadAgain};
+ghost use Rattle.proof_file.specs.Reading.{AreSame, IsRead, Reads, IsReadAgain};
 
 use crate::file::ProofFile;
 use crate::trees::file_tree;
@@ -24,4 +24,9 @@ pub fn write_file(alloc: Global, file: &ProofFile) -> Result<Vec<u8>, OutOfMemor
 /// Whatever is read of a file's text is that file, unless memory runs out. The function does nothing.
 pub fn written_files_are_read_again()
     ensures { (f : ProofFile) (bytes : List ℕ) (answer : Result ProofFile ReadFault) → bytes ≡ text_of_file f.defs.list f.program f.nodes → Reads bytes answer → IsReadAgain f answer }
+{}
+
+/// Bytes spell at most one file. The function does nothing.
+pub fn bytes_spell_one_file()
+    ensures { (bytes : List ℕ) (f g : ProofFile) → IsRead bytes (Ok f) → IsRead bytes (Ok g) → AreSame f g }
 {}
