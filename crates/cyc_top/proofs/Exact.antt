@@ -1,5 +1,5 @@
 -- Each task has one way to end for each input.
-use Rattle.std.proofs.Common.{◌≡◌, ℕ, ◌≤◌, List, true, false, ap, sym, ◌∙◌, arith, subst, inl, inr, length, Option, Some, None}
+use Rattle.std.proofs.Common.{◌≡◌, ℕ, ◌≤◌, List, true, false, refl, ap, sym, ◌∙◌, arith, subst, inl, inr, length, Option, Some, None}
 use Rattle.std.specs.Prelude.{Result, Ok, Err}
 use Rattle.std.specs.Io.KnownBytes.{Appends}
 use Rattle.heap_formula.specs.declared.proof_rules.Reason.{Reason}
@@ -13,7 +13,9 @@ use Rattle.proof_file.specs.declared.file.ProofFile.{ProofFile}
 use Rattle.proof_file.specs.Reading.{AreSame, IsRead}
 use Rattle.proof_check.specs.declared.verdict.Verdict.{Verdict}
 use Rattle.proof_check.specs.declared.verdict.Verdict.TheVariants.{Accepted, RuleRefused, PathRefused, TooManyStates}
-use Rattle.proof_check.specs.Verdicts.{IsVerdict, RootHolds}
+use Rattle.proof_check.specs.Verdicts.{file_graph, state_limit, IsCorrect, IsVerdict, RootHolds}
+use Rattle.buchi_inclusion.specs.Answers.{HasAtMost}
+use Rattle.buchi_inclusion.proofs.Exact.{not_both}
 use Rattle.proof_search.specs.declared.prover.Proved.{Proved}
 use Rattle.proof_search.specs.declared.prover.Proved.TheVariants.{Found, NotFound, TooManyDerivations}
 use Rattle.proof_search.specs.declared.prover.Proved.TheVariants as answers
@@ -26,7 +28,7 @@ use Rattle.cyc_top.specs.declared.endings.Status.TheVariants as status
 use Rattle.cyc_top.specs.Answers.{Answers, IsAnswer, IsChecked, IsHeadline, IsReadAnswer, IsSearchAnswer, IsSearched, IsTold, WroteProof, derivation_limit, fault_status, input_limit, proved_status, proved_text, verdict_status}
 use Rattle.cyc_top.proofs.OneReading.{AreAlike}
 use Rattle.cyc_top.proofs.Readings.{one_file_reading, one_problem_reading}
-use Rattle.cyc_top.proofs.OneVerdict.{one_ending}
+use Rattle.cyc_top.proofs.OneVerdict.{one_ending, right_faulty, same_back, same_few, same_progress}
 use Rattle.cyc_top.proofs.OneSearch.{one_search, found_search, goal_holds, proof_accepted}
 
 -- ---- an input that was read in one way is answered with one status
@@ -165,6 +167,29 @@ task_finds depth input q d s text short is found (inr searched) =
 pub found_succeeds : (depth : ℕ) (task : Option Task) (told : Option (List ℕ)) (input : List ℕ) (q : Problem) (d : List Reason) (s : Status) (text : List ℕ) → task ≡ Some (Prove depth) → told ≡ Some input → length input ≤ input_limit → problems.IsRead input (Ok q) → search_of (search_for q) derivation_limit depth ≡ IsFound d → Answers task told s text → s ≡ status.Success
 found_succeeds depth task told input q d s text is e short read found answer =
     task_finds depth input q d s text short read found (subst (λ t. IsAnswer t input s text) is (answer_for task told input s text e answer))
+
+-- ---- checks
+
+-- the verdict on a correct file with few states ends a check with success
+accepted_ends : (f g : ProofFile) (v : Verdict) → AreSame f g → IsVerdict f v → IsCorrect g → HasAtMost (file_graph g) state_limit → verdict_status v ≡ status.Success
+accepted_ends f g Accepted same is correct few = refl
+accepted_ends f g (RuleRefused n fault) same is correct few = absurd (right_faulty g f n fault (same_back f g same) correct.nodes is)
+accepted_ends f g (PathRefused l) same is correct few = absurd (is.2 (same_progress g f (same_back f g same) correct.paths l is.1))
+accepted_ends f g TooManyStates same is correct few = absurd (not_both (file_graph f) state_limit (same_few g f (same_back f g same) few) is.1)
+
+check_accepts : (r : Result ProofFile ReadFault) (g : ProofFile) (s : Status) (text : List ℕ) → AreAlike AreSame r (Ok g) → IsCorrect g → HasAtMost (file_graph g) state_limit → IsReadAnswer r s text → s ≡ status.Success
+check_accepts (Ok f) g s text same correct few answer = answer.2 ∙ accepted_ends f g answer.0 same answer.1 correct few
+check_accepts (Err fault) g s text same correct few answer = absurd same
+
+task_accepts : (input : List ℕ) (g : ProofFile) (s : Status) (text : List ℕ) → length input ≤ input_limit → IsRead input (Ok g) → IsCorrect g → HasAtMost (file_graph g) state_limit → IsAnswer (Some Check) input s text → s ≡ status.Success
+task_accepts input g s text short is correct few (inl long) = absurd (omega (arith, long.0))
+task_accepts input g s text short is correct few (inr checked) =
+    check_accepts checked.1 g s text (one_file_reading input checked.1 (Ok g) checked.2 is) correct few checked.3
+
+-- a check of a correct file with few states is answered with success
+pub correct_succeeds : (task : Option Task) (told : Option (List ℕ)) (input : List ℕ) (g : ProofFile) (s : Status) (text : List ℕ) → task ≡ Some Check → told ≡ Some input → length input ≤ input_limit → IsRead input (Ok g) → IsCorrect g → HasAtMost (file_graph g) state_limit → Answers task told s text → s ≡ status.Success
+correct_succeeds task told input g s text is e short read correct few answer =
+    task_accepts input g s text short read correct few (subst (λ t. IsAnswer t input s text) is (answer_for task told input s text e answer))
 
 -- ---- rings
 

@@ -1,5 +1,5 @@
 // Answers to the words, over a source.
-ghost use Rattle.std.specs.Prelude.{◌≡◌, ◌≤◌, map, string_bytes, IfOk, OnOk, IsErrOf, Some, true, false, length, option_map, vec_items};
+ghost use Rattle.std.specs.Prelude.{◌≡◌, ◌≤◌, ◌⊎◌, map, string_bytes, IfOk, OnOk, IsErrOf, Some, true, false, length, option_map, vec_items};
 ghost use Rattle.cyc_io.specs.Causes.{Rose};
 ghost use Rattle.cyc_words.specs.Words.{meaning_of, reads_input};
 ghost use Rattle.cyc_top.specs.Answers.{Answers, IsInput, IsReadThrough};
@@ -40,7 +40,7 @@ fn read_input<S: Source>(alloc: Global, src: &mut S) -> Result<Option<Vec<u8>>, 
     ensures input { IfOk result (λ o. IsInput (S.left src.old) (option_map vec_items o)) }
     ensures through { OnOk result (IsReadThrough (S.left src.old) (S.left src.new)) }
     ensures read_fault { IsErrOf result NoAnswer.ReadFault → Rose (S.faults src.old) (S.faults src.new) }
-    ensures calm { OnOk result (S.faults src.new ≡ S.faults src.old) }
+    ensures calm { IsErrOf result NoAnswer.ReadFault ⊎ (S.faults src.new ≡ S.faults src.old) }
     ensures counted { S.faults src.old ≤ S.faults src.new }
 {
     match read_all(alloc, src, INPUT_LIMIT) {
@@ -56,7 +56,7 @@ fn answer_to_check<S: Source>(alloc: Global, src: &mut S) -> Result<Answer, NoAn
     ensures answered { IfOk result (λ a. Answers (Some Task.Check) (S.left src.old) a.status a.text.items) }
     ensures through { OnOk result (IsReadThrough (S.left src.old) (S.left src.new)) }
     ensures read_fault { IsErrOf result NoAnswer.ReadFault → Rose (S.faults src.old) (S.faults src.new) }
-    ensures calm { OnOk result (S.faults src.new ≡ S.faults src.old) }
+    ensures calm { IsErrOf result NoAnswer.ReadFault ⊎ (S.faults src.new ≡ S.faults src.old) }
     ensures counted { S.faults src.old ≤ S.faults src.new }
 {
     let answer = match read_input(alloc, src)? {
@@ -72,7 +72,7 @@ fn answer_to_prove<S: Source>(alloc: Global, src: &mut S, depth: u32) -> Result<
     ensures answered { IfOk result (λ a. Answers (Some (Task.Prove depth)) (S.left src.old) a.status a.text.items) }
     ensures through { OnOk result (IsReadThrough (S.left src.old) (S.left src.new)) }
     ensures read_fault { IsErrOf result NoAnswer.ReadFault → Rose (S.faults src.old) (S.faults src.new) }
-    ensures calm { OnOk result (S.faults src.new ≡ S.faults src.old) }
+    ensures calm { IsErrOf result NoAnswer.ReadFault ⊎ (S.faults src.new ≡ S.faults src.old) }
     ensures counted { S.faults src.old ≤ S.faults src.new }
 {
     let answer = match read_input(alloc, src)? {
@@ -94,7 +94,7 @@ pub fn answer_to<S: Source>(
     ensures read_fault { IsErrOf result NoAnswer.ReadFault → Rose (S.faults src.old) (S.faults src.new) }
     // Only a task that needs its input reads.
     ensures asked { IsErrOf result NoAnswer.ReadFault → reads_input (meaning_of (map string_bytes words.now)) ≡ true }
-    ensures calm { OnOk result (S.faults src.new ≡ S.faults src.old) }
+    ensures calm { IsErrOf result NoAnswer.ReadFault ⊎ (S.faults src.new ≡ S.faults src.old) }
     ensures counted { S.faults src.old ≤ S.faults src.new }
     ensures unread { reads_input (meaning_of (map string_bytes words.now)) ≡ false → src.new ≡ src.old }
 {

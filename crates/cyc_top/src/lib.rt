@@ -6,10 +6,14 @@ ghost use Rattle.heap_formula.specs.declared.proof_rules.Reason.{Reason};
 ghost use Rattle.derivation_search.specs.System.{IsFound, search_of};
 ghost use Rattle.formula_reader.specs.declared.problem.Problem.{Problem};
 ghost use Rattle.formula_reader.specs.Reading as problems;
+ghost use Rattle.buchi_inclusion.specs.Answers.{HasAtMost};
+ghost use Rattle.proof_file.specs.declared.file.ProofFile.{ProofFile};
+ghost use Rattle.proof_file.specs.Reading as files;
+ghost use Rattle.proof_check.specs.Verdicts.{file_graph, state_limit, IsCorrect};
 ghost use Rattle.proof_search.specs.Outcomes.{search_for};
 ghost use Rattle.cyc_io.specs.Causes.{Rose};
 ghost use Rattle.cyc_words.specs.Words.{meaning_of, reads_input};
-ghost use Rattle.cyc_words.specs.declared.tasks.Task.TheVariants.{Prove, Ring};
+ghost use Rattle.cyc_words.specs.declared.tasks.Task.TheVariants.{Check, Prove, Ring};
 ghost use Rattle.cyc_top.specs.Endings.{is_answer};
 ghost use Rattle.cyc_top.specs.Answers.{IsAnswer, IsHeadline, IsReadThrough, WroteAnswer, WrotePart, WroteProof, derivation_limit, input_limit};
 
@@ -39,6 +43,12 @@ pub fn run<S: Source, K: Sink>(alloc: Global, words: &[String], src: &mut S, out
         → (result ≡ status) ⊎ (result ≡ Status.OutOfMemory) }
     // What was checked with success is true.
     ensures headline { result ≡ Status.Success → IsHeadline (meaning_of (map string_bytes words.now)) (S.left src.old) }
+    // A correct file with few states is accepted.
+    ensures accepts { (input : List ℕ) (file : ProofFile) → meaning_of (map string_bytes words.now) ≡ Some Check
+        → S.left src.old ≡ Some input → length input ≤ input_limit → files.IsRead input (Ok file)
+        → IsCorrect file → HasAtMost (file_graph file) state_limit
+        → ¬ Rose (S.faults src.old) (S.faults src.new) → ¬ Rose (K.faults out.old) (K.faults out.new)
+        → (result ≡ Status.Success) ⊎ (result ≡ Status.OutOfMemory) }
     // A search that finds within its limits ends with success.
     ensures complete { (depth : ℕ) (input : List ℕ) (problem : Problem) (d : List Reason) → meaning_of (map string_bytes words.now) ≡ Some (Prove depth)
         → S.left src.old ≡ Some input → length input ≤ input_limit → problems.IsRead input (Ok problem)
@@ -55,7 +65,8 @@ pub fn run<S: Source, K: Sink>(alloc: Global, words: &[String], src: &mut S, out
     ensures read_fault { result ≡ Status.ReadFault → Rose (S.faults src.old) (S.faults src.new) × (out.new ≡ out.old) }
     ensures write_fault { result ≡ Status.WriteFault → Rose (K.faults out.old) (K.faults out.new)
         × WrotePart (meaning_of (map string_bytes words.now)) (S.left src.old) (K.written out.old) (K.written out.new) }
-    ensures memory { result ≡ Status.OutOfMemory → out.new ≡ out.old }
+    // Neither a failed read nor a failed write ends so.
+    ensures memory { result ≡ Status.OutOfMemory → (out.new ≡ out.old) × (S.faults src.new ≡ S.faults src.old) }
     // After a failed read or write no answer is given.
     ensures calm { is_answer result ≡ true
         → (S.faults src.new ≡ S.faults src.old) × (K.faults out.new ≡ K.faults out.old) }

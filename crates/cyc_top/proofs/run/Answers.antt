@@ -1,6 +1,6 @@
 use Rattle.std.proofs.Common.{ap, inl, subst, Err}
 use Rattle.std.specs.Io.KnownBytes.{Appends}
-use Rattle.cyc_top.proofs.Exact.{answered_true, found_succeeds, ring_reads_not, ring_succeeds, told_status, wrote_proof}
+use Rattle.cyc_top.proofs.Exact.{answered_true, correct_succeeds, found_succeeds, ring_reads_not, ring_succeeds, told_status, wrote_proof}
 use Rattle.cyc_top.proofs.run.Goals as goal
 
 pub returns-in-Ok-write_all-clause-exact : goal.returns-in-Ok-write_all-clause-exact
@@ -10,6 +10,11 @@ returns-in-Ok-write_all-clause-exact g c =
 
 pub returns-in-Ok-write_all-clause-headline : goal.returns-in-Ok-write_all-clause-headline
 returns-in-Ok-write_all-clause-headline g c = answered_true _ _ _ _ c.in-Ok.ensures.answered
+
+pub returns-in-Ok-write_all-clause-accepts : goal.returns-in-Ok-write_all-clause-accepts
+returns-in-Ok-write_all-clause-accepts g c =
+    λ input file is told short read correct few calm quiet.
+    inl (correct_succeeds _ _ input file _ _ is told short read correct few c.in-Ok.ensures.answered)
 
 pub returns-in-Ok-write_all-clause-complete : goal.returns-in-Ok-write_all-clause-complete
 returns-in-Ok-write_all-clause-complete g c =
