@@ -49,7 +49,8 @@ pub fn take_front(alloc: Global, place: Place, comment: bool, text: &str) -> Res
     }
 }
 
-/// The first bad place of a text after which a byte stands that begins no character.
+/// The first bad place of a text that stands at a place, where a comment goes on or none does, and after which a byte comes
+/// that begins no character.
 pub fn first_bad(place: Place, comment: bool, text: &str) -> Stop
     requires { HasRoom place (length text.now) }
     ensures { Stops result (lex false place (comment_len comment (chars text.now)) (chars text.now)) }

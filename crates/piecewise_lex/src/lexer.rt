@@ -16,7 +16,9 @@ use std::alloc::Global;
 use std::marker::Model;
 use std::mem;
 
-/// A lexer that is fed a text in pieces, and hands out its tokens as they are known.
+/// A lexer that is fed a text in pieces, of fewer than 4,294,967,295 bytes in all, and hands out its tokens as they are known.
+/// A contract sees the bytes that wait, the place after those that were taken, whether a comment goes on there, and the fault
+/// that was met; what is known of the bytes that wait saves time and changes nothing.
 #[derive(Debug, Drop)]
 pub struct Lexer {
     alloc: Global,
@@ -56,8 +58,8 @@ impl Lexer {
         }
     }
 
-    /// Takes the next piece of the text, and hands out the tokens that no more bytes can change. A fault is told again
-    /// by every later call, and so is out of memory.
+    /// Takes the next piece of the text, and hands out the tokens that no more bytes can change. After a fault, and after
+    /// out of memory, every later call answers the same.
     pub fn feed(&mut self, piece: &[u8]) -> Result<Vec<OwnedToken>, LexFault>
         requires { self.old.place.offset + (length self.old.waiting + length piece.now) < 2 ^ 32 - 1 }
         // The tokens, or the first fault, are those of the bytes that waited and the piece, without those that wait then.
