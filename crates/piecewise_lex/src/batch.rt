@@ -16,7 +16,7 @@ use std::alloc::Global;
 
 /// What was taken of bytes: their tokens, the place after them, whether a comment goes on there, and the bytes that wait. So
 /// many of these as are known to be one name or number need not be looked at again.
-#[derive(Debug, Drop)]
+#[derive(Drop)]
 pub struct Batch {
     pub tokens: Vec<OwnedToken>,
     pub place: Place,

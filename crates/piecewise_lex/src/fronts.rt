@@ -13,7 +13,7 @@ use std::alloc::Global;
 
 /// What was taken of a text: copies of its tokens, the place after them, whether a comment goes on there, and the text that
 /// waits.
-#[derive(Debug, Drop)]
+#[derive(Drop)]
 pub struct Front<'a> {
     pub tokens: Vec<OwnedToken>,
     pub place: Place,

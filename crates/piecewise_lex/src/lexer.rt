@@ -19,7 +19,7 @@ use std::mem;
 /// A lexer that is fed a text in pieces, of fewer than 4,294,967,295 bytes in all, and hands out its tokens as they are known.
 /// A contract sees the bytes that wait, the place after those that were taken, whether a comment goes on there, and the fault
 /// that was met; what is known of the bytes that wait saves time and changes nothing.
-#[derive(Debug, Drop)]
+#[derive(Drop)]
 pub struct Lexer {
     alloc: Global,
     waiting: Vec<u8>,

@@ -9,7 +9,7 @@ use cyc_lex::{Kind, OutOfMemory, Token};
 use std::alloc::Global;
 
 /// A token with its own text: what a `Token` has, without the bytes that it was cut from.
-#[derive(Debug, Drop)]
+#[derive(Drop)]
 pub struct OwnedToken {
     pub kind: Kind,
     pub text: Text,

@@ -12,7 +12,7 @@ use cyc_lex::{OutOfMemory, Run, first, goes_on, is_space, starts_name};
 use std::alloc::Global;
 
 /// So many bytes, at the front of those that wait, are the characters of one name or number so far.
-#[derive(Clone, Copy, Debug)]
+#[derive(Clone, Copy)]
 pub struct Known {
     pub run: Run,
     pub len: usize,

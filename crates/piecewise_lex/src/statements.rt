@@ -14,7 +14,7 @@ use std::alloc::Global;
 
 /// The tokens of a text up to its first `;`, and that one too, or all that do not wait where there is none; the place after
 /// them, whether a comment goes on there, and the text that is left.
-#[derive(Debug, Drop)]
+#[derive(Drop)]
 pub struct Statement<'a> {
     pub tokens: Vec<Token<'a>>,
     pub ended: bool,

@@ -10,7 +10,7 @@ use std::alloc::Global;
 
 /// What was taken off the front of a text: a token, or none where all that is left waits for more; the place after it,
 /// whether a comment goes on there, and the text that is left.
-#[derive(Clone, Copy, Debug)]
+#[derive(Clone, Copy)]
 pub struct Taken<'a> {
     pub token: Option<Token<'a>>,
     pub place: Place,

@@ -7,14 +7,14 @@ use std::alloc::Global;
 use std::marker::Model;
 
 /// Where the bytes of a token's text lie: up to 22 in place, more in memory of their own.
-#[derive(Debug, Drop)]
+#[derive(Drop)]
 pub enum Form {
     Short { bytes: [u8; 22], len: u8 },
     Long { bytes: Box<[u8; 64]>, len: u8 },
 }
 
 /// The text of a token, which has at most 64 bytes. It takes memory of its own only from the 23rd byte on.
-#[derive(Debug, Drop)]
+#[derive(Drop)]
 pub struct Text {
     form: Form,
 }
