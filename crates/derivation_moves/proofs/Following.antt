@@ -24,7 +24,7 @@ use Rattle.tableaux.specs.Tableau.{Tableau, replay}
 use Rattle.tableaux.specs.Room.{is_nil, is_done, offered, offered_at, has_room, fits_at, fits_in}
 use Rattle.tableaux.specs.Search.{on_graph}
 use Rattle.tableaux.proofs.Steps.{Fits, next_tableau, next_is}
-use Rattle.search_calculus.specs.Calculus.{OpenGoal, MadeNode, traced, premises}
+use Rattle.search_calculus.specs.Calculus.{OpenGoal, MadeNode, traced}
 use Rattle.search_calculus.specs.Graphs.{traces_of, made_graph, goal_graph}
 use Rattle.search_calculus.specs.Search.{links_at, rules_at, calculus_of, search_system}
 use Rattle.search_calculus.proofs.MadeRows.{made_in_order, made_is_graph, made_traces}

@@ -1,28 +1,21 @@
 -- What a reason makes of a goal.
-use Rattle.std.specs.Prelude.{◌≡◌, List, [], ◌∷◌, map, Option, Some, None, Ok, Err}
-use Rattle.heap_formula.specs.declared.commands.Command.{Command}
-use Rattle.heap_formula.specs.declared.judgements.Judgement.{Judgement}
+use Rattle.std.specs.Prelude.{◌≡◌, List, [], map, Option, Some, None}
 use Rattle.heap_formula.specs.declared.judgements.Premise.{Premise}
-use Rattle.heap_formula.specs.declared.proof_rules.Link.{Link}
 use Rattle.heap_formula.specs.declared.proof_rules.Reason.{Reason}
-use Rattle.heap_formula.specs.declared.proof_rules.RuleFault.{RuleFault}
-use Rattle.rule_table.specs.Answer.{Answer}
-use Rattle.rule_table.specs.LinkTable.{link_fault, link_premise}
-use Rattle.rule_table.specs.RuleBook.{variables_of}
+use Rattle.heap_formula.specs.declared.proof_rules.Reason.TheVariants.{Step, Back}
 use Rattle.search_moves.specs.Trying.{Theory}
 use Rattle.search_calculus.specs.Calculus.{OpenGoal, MadeNode, traced, premises, pairs_of}
 use Rattle.derivation_moves.specs.declared.effects.Effect.{Effect}
 
--- the premises and the pairs of a rule's answer; none at a fault
-abbrev pub IsRuleEffect : Answer → Option Effect → Type 0
-IsRuleEffect answer None = (f : RuleFault) × (answer ≡ Err f)
-IsRuleEffect answer (Some e) = (answer ≡ Ok e.premises.items) × (e.pairs ≡ map (λ (p : Premise). p.pairs) e.premises.items)
+-- what premises leave to be proved: those of a link are made already
+abbrev pub open_premises : Reason → List Premise → List Premise
+open_premises (Step rule) ps = ps
+open_premises (Back link) ps = []
 
--- no premise and the pairs of a link; none at a fault
-abbrev pub IsLinkEffect : List Command → Judgement → Judgement → Link → Option Effect → Type 0
-IsLinkEffect lines bud companion link None = (f : RuleFault) × (link_fault bud companion link (variables_of lines bud) ≡ Some f)
-IsLinkEffect lines bud companion link (Some e) =
-    (link_fault bud companion link (variables_of lines bud) ≡ None) × (e.premises.items ≡ []) × (e.pairs ≡ (link_premise companion link).pairs ∷ [])
+-- the effect of a reason with these premises
+pub record IsEffectBy (reason : Reason) (ps : List Premise) (e : Effect) : Type 0 where
+  pub premises : e.premises.items ≡ open_premises reason ps
+  pub pairs : e.pairs ≡ map (λ (p : Premise). p.pairs) ps
 
 -- a reason's premises, and the pairs of its edges
 abbrev pub IsEffect : Theory → List MadeNode → OpenGoal → Reason → Option Effect → Type 0

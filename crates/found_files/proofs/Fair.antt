@@ -18,9 +18,9 @@ use Rattle.format_limits.proofs.Heaps.{Each-map, small}
 use Rattle.format_limits.proofs.Judgements.{first_heap}
 use Rattle.format_limits.proofs.Few.{are_few}
 use Rattle.format_limits.proofs.Premises.{premises_within}
-use Rattle.offer_limits.proofs.Members.{each_get}
-use Rattle.offer_limits.proofs.RulesWithin.{rules_within}
-use Rattle.offer_limits.proofs.LinksWithin.{links_within}
+use Rattle.found_files.proofs.Members.{each_get}
+use Rattle.found_files.proofs.RulesWithin.{rules_within}
+use Rattle.found_files.proofs.LinksWithin.{links_within}
 use Rattle.buchi_core.proofs.Lists.{get_one, get_within}
 use Rattle.proof_graph.specs.declared.nodes.GraphNode.{GraphNode}
 use Rattle.proof_graph.specs.Nodes.{open_node}

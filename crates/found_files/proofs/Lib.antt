@@ -1,3 +1,10 @@
+pub mod Members
+pub mod HeapTerms
+pub mod Instances
+pub mod EntailmentLines
+pub mod Folding
+pub mod RulesWithin
+pub mod LinksWithin
 pub mod Fair
 pub mod Made
 pub mod Rows

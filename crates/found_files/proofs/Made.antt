@@ -11,7 +11,7 @@ use Rattle.heap_formula.specs.declared.proof_rules.Rule.{Rule}
 use Rattle.heap_formula.specs.declared.proof_rules.RuleFault.{RuleFault}
 use Rattle.rule_table.specs.LinkTable.{link_fault, link_premise}
 use Rattle.rule_table.specs.RuleBook.{variables_of, rule_answer}
-use Rattle.offer_limits.proofs.Members.{take_get}
+use Rattle.found_files.proofs.Members.{take_get}
 use Rattle.trace_pairs.specs.Graph.{Node, Edge}
 use Rattle.buchi_core.proofs.Lists.{get_one}
 use Rattle.buchi_inclusion.proofs.Tables.{at_map}

@@ -1,6 +1,8 @@
 //! What a search finds is a correct proof that a file may hold. The functions here do nothing; their clauses are laws.
 #![tactic(auto)]
 
+mod offers;
+
 ghost use Rattle.std.specs.Prelude.{◌≡◌, ℕ, List};
 ghost use Rattle.heap_formula.specs.declared.judgements.Judgement.{Judgement};
 ghost use Rattle.heap_formula.specs.declared.proof_rules.Reason.{Reason};
@@ -8,6 +10,8 @@ ghost use Rattle.derivation_search.specs.System.{search_of, IsFound};
 ghost use Rattle.search_moves.specs.Trying.{Theory};
 ghost use Rattle.search_calculus.specs.Search.{search_system};
 ghost use Rattle.found_files.specs.Found.{IsWithinLimits, MakesProof};
+
+pub use offers::{links_stay_within, rules_stay_within};
 
 /// The reasons that are found make nodes of which every one is right and every lasso progresses, with at most 200,000
 /// product states; node 0 has the goal.

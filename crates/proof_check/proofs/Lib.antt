@@ -1,7 +1,7 @@
-pub mod FewEdges
-pub mod Holds
 pub mod SameJudgements
 mod PremiseLoops
+pub mod Correct
 pub mod KeptFacts
 mod TestLoops
+mod Tables
 pub mod OneAnswer

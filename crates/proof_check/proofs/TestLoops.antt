@@ -5,9 +5,9 @@ use Rattle.std.proofs.lemmas.Bool.{ltb-true, ltb-false}
 use Rattle.proof_file.specs.declared.node.FileNode.{FileNode}
 use Rattle.rule_table.specs.Nodes.{Node}
 use Rattle.proof_check.specs.Files.{node_of, nodes_of}
-use Rattle.proof_check.proofs.Holds.{at_mapped}
+use Rattle.position_sets.proofs.Lists.{at_map as at_mapped}
 
-at_index : {X : Type 0} (xs : List X) (k : ℕ) (d x : X) → k < length xs → get_or xs k d ≡ x → slice_get xs k ≡ Some x
+pub at_index : {X : Type 0} (xs : List X) (k : ℕ) (d x : X) → k < length xs → get_or xs k d ≡ x → slice_get xs k ≡ Some x
 at_index [] k d x h e = absurd (omega arith)
 at_index (y ∷ xs) zero d x h e = ap Some e
 at_index (y ∷ xs) (suc k) d x h e = at_index xs k d x (omega arith) e

@@ -3,8 +3,7 @@ use Rattle.std.specs.Prelude.{◌≡◌, ℕ, ◌<◌, List, Some, None, slice_g
 use Rattle.heap_formula.specs.Judgements.{JudgementHolds}
 use Rattle.heap_formula.specs.declared.proof_rules.RuleFault.{RuleFault}
 use Rattle.rule_table.specs.Nodes.{Node, node_fault}
-use Rattle.trace_pairs.specs.Graph.{Node as GraphNode, IsPositionSet}
-use Rattle.proof_graph.specs.Traces.{positions_of}
+use Rattle.trace_pairs.specs.Graph.{Node as GraphNode}
 use Rattle.trace_pairs.specs.Lasso.{IsLasso, Progresses, AllProgress}
 use Rattle.buchi_inclusion.specs.Answers.{HasAtMost, HasMoreThan}
 use Rattle.proof_file.specs.declared.file.ProofFile.{ProofFile}
@@ -22,12 +21,17 @@ file_graph f = graph_of f.defs.most f.defs.list f.program (nodes_of f.nodes)
 abbrev pub HasRightNodes : ProofFile → Type 0
 HasRightNodes f = AreRight f.defs.most f.defs.list f.program (nodes_of f.nodes)
 
+-- no node before v has a fault
+abbrev pub IsRightBefore : ProofFile → ℕ → Type 0
+IsRightBefore f v =
+    (u : ℕ) (node : Node) → u < v → slice_get (nodes_of f.nodes) u ≡ Some node → node_fault f.defs.most f.defs.list f.program (nodes_of f.nodes) u node ≡ None
+
 -- node v has this first fault, and no node before it has one
 pub record IsLeastFault (f : ProofFile) (v : ℕ) (fault : RuleFault) : Type 0 where
   pub node : Node
   pub at : slice_get (nodes_of f.nodes) v ≡ Some node
   pub first : node_fault f.defs.most f.defs.list f.program (nodes_of f.nodes) v node ≡ Some fault
-  pub before : (u : ℕ) (earlier : Node) → u < v → slice_get (nodes_of f.nodes) u ≡ Some earlier → node_fault f.defs.most f.defs.list f.program (nodes_of f.nodes) u earlier ≡ None
+  pub before : IsRightBefore f v
 
 -- every node is right and every lasso progresses
 pub record IsCorrect (f : ProofFile) : Type 0 where
@@ -44,12 +48,3 @@ IsVerdict f Accepted = IsCorrect f × HasAtMost (file_graph f) state_limit × Ro
 IsVerdict f (RuleRefused v fault) = IsLeastFault f v fault
 IsVerdict f (PathRefused l) = HasRightNodes f × IsLasso (file_graph f) l × (Progresses (file_graph f) l → ⊥) × HasAtMost (file_graph f) state_limit
 IsVerdict f TooManyStates = HasRightNodes f × HasMoreThan (file_graph f) state_limit
-
--- the nodes before v have no fault
-abbrev pub AreRightBelow : ProofFile → ℕ → Type 0
-AreRightBelow f v =
-    (u : ℕ) (node : Node) → u < v → slice_get (nodes_of f.nodes) u ≡ Some node → node_fault f.defs.most f.defs.list f.program (nodes_of f.nodes) u node ≡ None
-
--- their positions are sets
-abbrev pub HavePositionSetsBelow : ProofFile → ℕ → Type 0
-HavePositionSetsBelow f v = (u : ℕ) (node : Node) → u < v → slice_get (nodes_of f.nodes) u ≡ Some node → IsPositionSet (positions_of node.judgement)

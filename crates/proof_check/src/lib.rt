@@ -4,6 +4,7 @@
 mod checking;
 pub mod laws;
 mod node_tests;
+mod tested;
 mod verdict;
 
 pub use checking::{MOST_STATES, check};

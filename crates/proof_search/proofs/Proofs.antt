@@ -13,16 +13,14 @@ use Rattle.heap_formula.specs.Judgements.{antecedent}
 use Rattle.heap_formula.specs.Words.{Each}
 use Rattle.goto_lang.specs.Lines.{IsProgram}
 use Rattle.symbolic_exec.proofs.ProgramLines.{program_commands}
-use Rattle.trace_pairs.specs.Graph.{IsPositionSet}
-use Rattle.proof_graph.specs.Traces.{positions_of}
-use Rattle.proof_graph.proofs.Places.{places_set}
 use Rattle.derivation_search.specs.System.{search_of, IsFound}
 use Rattle.formula_reader.specs.declared.problem.Problem.{Problem}
 use Rattle.proof_file.specs.declared.file.ProofFile.{ProofFile}
 use Rattle.proof_file.specs.declared.node.FileNode.{FileNode}
-use Rattle.proof_check.specs.Files.{graph_of, AreRight, nodes_of, node_of, HavePositionSets}
+use Rattle.proof_check.specs.Files.{graph_of, AreRight, nodes_of, node_of, HasSmallHeaps}
 use Rattle.proof_check.specs.Verdicts.{IsCorrect}
-use Rattle.proof_check.proofs.Holds.{mapped_at, each_at}
+use Rattle.proof_graph.proofs.Joined.{mapped_at}
+use Rattle.node_reasons.proofs.RightGraphs.{each_at}
 use Rattle.proof_check.proofs.KeptFacts.{root_holds}
 use Rattle.rule_table.specs.Nodes.{Node}
 use Rattle.format_limits.specs.Limits.{IsDefinitionWithin, IsJudgementWithin}
@@ -87,12 +85,11 @@ few_atoms ds count (Entail a bs) h =
 few_atoms ds count (Runs i a) h =
     let few = leb-true (length a.spatial) 16 (and_parts (nat_le (length a.pure) 64) (nat_le (length a.spatial) 16) h.heaps.0.short).1 in omega (arith, few)
 
-position_sets : (t : Theory) (nodes : List FileNode) → Each (IsNodeWithin t.definitions (length t.lines)) nodes → HavePositionSets (nodes_of nodes)
-position_sets t nodes within v node at =
+small_heaps : (t : Theory) (nodes : List FileNode) → Each (IsNodeWithin t.definitions (length t.lines)) nodes → HasSmallHeaps (nodes_of nodes)
+small_heaps t nodes within v node at =
     let m = mapped_at node_of nodes v node at in
     let w = each_at (IsNodeWithin t.definitions (length t.lines)) nodes v m.from m.at within in
-    let few = few_atoms t.definitions (length t.lines) m.from.judgement w.judgement in
-    subst (λ (n : Node). IsPositionSet (positions_of n.judgement)) m.is (places_set (antecedent m.from.judgement).spatial few)
+    subst (λ (n : Node). length (antecedent n.judgement).spatial ≤ 32) m.is (few_atoms t.definitions (length t.lines) m.from.judgement w.judgement)
 
 module _ (problem : Problem) (f : ProofFile) (moves : Derivation) (h : HasFound problem moves) (is_program : IsProgram problem.program) (same_defs : f.defs ≡ problem.defs) (same_program : f.program ≡ problem.program)
     (same_nodes : f.nodes ≡ nodes_made (theory_for problem) (nodes_in moves)) (same_reasons : reasons_of f ≡ reasons_in moves) where
@@ -107,8 +104,8 @@ module _ (problem : Problem) (f : ProofFile) (moves : Derivation) (h : HasFound 
     paths = subst AllProgress graph_same h.proof.paths;
   }
 
-  sets : HavePositionSets (nodes_of f.nodes)
-  sets = subst (λ ns. HavePositionSets (nodes_of ns)) (sym same_nodes) (position_sets (theory_for problem) (nodes_made (theory_for problem) (nodes_in moves)) h.proof.within)
+  small : HasSmallHeaps (nodes_of f.nodes)
+  small = subst (λ ns. HasSmallHeaps (nodes_of ns)) (sym same_nodes) (small_heaps (theory_for problem) (nodes_made (theory_for problem) (nodes_in moves)) h.proof.within)
 
   pub is_proof : IsProofFor problem f
   is_proof = record {
@@ -122,7 +119,7 @@ module _ (problem : Problem) (f : ProofFile) (moves : Derivation) (h : HasFound 
     goal = h.proof.proves;
     correct = correct;
     states = subst (λ g. HasAtMost g 200000) graph_same h.proof.states;
-    holds = root_holds f (program_commands f.program (subst IsProgram (sym same_program) is_program)) correct.nodes sets correct.paths;
+    holds = root_holds f (program_commands f.program (subst IsProgram (sym same_program) is_program)) correct.nodes small correct.paths;
   }
 
 -- the search that new moves follow

@@ -4,7 +4,7 @@
 #[cfg(test)]
 mod back_links_tests;
 #[cfg(test)]
-mod link_traces_tests;
+mod node_reasons_tests;
 #[cfg(test)]
 mod proof_check_tests;
 #[cfg(test)]

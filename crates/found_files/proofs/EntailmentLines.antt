@@ -1,0 +1,116 @@
+-- The rules that an entailment within the limits is offered bring in nothing beyond them.
+use Rattle.std.proofs.Common.{ℕ, Bool, List, [], ◌∷◌, ◌++◌, map, Option, Some, None}
+use Rattle.std.specs.List.{filter}
+use Rattle.heap_formula.specs.declared.atoms.Pure.{Pure}
+use Rattle.heap_formula.specs.declared.atoms.Spatial.{Spatial}
+use Rattle.heap_formula.specs.declared.atoms.Spatial.TheVariants.{Cell, Pred}
+use Rattle.heap_formula.specs.declared.judgements.Judgement.{Judgement}
+use Rattle.heap_formula.specs.declared.proof_rules.Side.{Side}
+use Rattle.heap_formula.specs.declared.proof_rules.Rule.TheVariants.{Absurd, Distinct, Unfold, Done, UnfoldRight}
+use Rattle.heap_formula.specs.Closedness.{InHeap, IsUniversalHeap}
+use Rattle.heap_formula.specs.Definitions.{Definition}
+use Rattle.heap_formula.specs.Meaning.{cases_of}
+use Rattle.heap_formula.specs.Substitution.{in_heap}
+use Rattle.heap_formula.specs.Symbolic.{SymbolicHeap}
+use Rattle.heap_formula.specs.Words.{Each}
+use Rattle.rule_table.specs.Table.{right_term}
+use Rattle.rule_table.specs.Tests.{address_of, is_universal_pure}
+use Rattle.fold_offers.specs.Kinds.{is_cell, is_predicate}
+use Rattle.search_moves.specs.Trying.{Theory, goes}
+use Rattle.search_moves.specs.Entailments.{side_of, rewrite_at, rewrites, choice_at, choices, unfold_at, unfolds, pure_right_at, pure_rights, frame_at, frames_from, frames_if, cell_frames, predicate_frames, apart, is_or_mirrors, distinct_at, distincts_with, distincts_for, distincts_if, distincts, equation_instances, field_instances, argument_instances, instance_rule, may_unfold, right_unfold_at, right_unfolds_of, right_unfolds, entailment_before, last_line, single_lines, entailment_after}
+use Rattle.format_limits.specs.Limits.{IsHeapWithin, IsRuleWithin}
+use Rattle.found_files.proofs.Members.{each_append, each_if, each_filter, each_first_that, each_first_line, each_of_any, each_anywhere, each_first_place}
+use Rattle.found_files.proofs.HeapTerms.{HasNumber, HasTerms, heap_has, spatials_within}
+use Rattle.found_files.proofs.Instances.{instance_rules, equations_within, fields_within, arguments_within}
+
+-- ---- rules without terms and formulas
+
+module _ (ds : List Definition) where
+  pub rewrite_within : (k : ℕ) (o : Option Side) → Each (IsRuleWithin ds) (rewrite_at k o)
+  rewrite_within k None = tt
+  rewrite_within k (Some side) = (tt, tt)
+
+  rewrites_within : (xs : List Pure) → Each (IsRuleWithin ds) (rewrites xs)
+  rewrites_within xs = each_first_place (IsRuleWithin ds) (λ k x. rewrite_at k (side_of x)) xs (λ k x. rewrite_within k (side_of x))
+
+  choices_within : (bs : List SymbolicHeap) → Each (IsRuleWithin ds) (choices bs)
+  choices_within bs = each_anywhere (IsRuleWithin ds) choice_at bs (λ k b. (tt, tt))
+
+  unfolds_within : (xs : List Spatial) → Each (IsRuleWithin ds) (unfolds xs)
+  unfolds_within xs = each_anywhere (IsRuleWithin ds) unfold_at xs (λ k x. each_if (IsRuleWithin ds) (is_predicate x) (Unfold k ∷ []) (tt, tt))
+
+  pure_rights_within : (xs : List Pure) → Each (IsRuleWithin ds) (pure_rights xs)
+  pure_rights_within xs = each_anywhere (IsRuleWithin ds) pure_right_at xs (λ k x. (tt, tt))
+
+  frames_within : (ys : List Spatial) (i : ℕ) (wanted : Bool) → Each (IsRuleWithin ds) (frames_if ys i wanted)
+  frames_within ys i wanted = each_if (IsRuleWithin ds) wanted (frames_from ys i) (each_anywhere (IsRuleWithin ds) (frame_at i) ys (λ k y. (tt, tt)))
+
+  cell_frames_within : (xs ys : List Spatial) → Each (IsRuleWithin ds) (cell_frames xs ys)
+  cell_frames_within xs ys = each_anywhere (IsRuleWithin ds) (λ i x. frames_if ys i (is_cell x)) xs (λ i x. frames_within ys i (is_cell x))
+
+  predicate_frames_within : (xs ys : List Spatial) → Each (IsRuleWithin ds) (predicate_frames xs ys)
+  predicate_frames_within xs ys = each_anywhere (IsRuleWithin ds) (λ i x. frames_if ys i (is_predicate x)) xs (λ i x. frames_within ys i (is_predicate x))
+
+  distincts_for_within : (ys : List Spatial) (x : Pure) → Each (IsRuleWithin ds) (distincts_for ys x)
+  distincts_for_within ys x =
+      each_anywhere (IsRuleWithin ds) (distincts_with x ys) ys (λ i y. each_anywhere (IsRuleWithin ds) (distinct_at x i y) ys (λ k z. each_if (IsRuleWithin ds) (is_or_mirrors x (apart i k (address_of y) (address_of z))) (Distinct i k ∷ []) (tt, tt)))
+
+  distincts_within : (ys : List Spatial) (xs : List Pure) → Each (IsRuleWithin ds) (distincts ys xs)
+  distincts_within ys xs =
+      each_of_any (IsRuleWithin ds) (λ x. distincts_if ys (is_universal_pure x) x) xs (λ x. each_if (IsRuleWithin ds) (is_universal_pure x) (distincts_for ys x) (distincts_for_within ys x))
+
+  right_unfolds_of_within : (t : Theory) (j : Judgement) (a : SymbolicHeap) (k : ℕ) (y : Spatial) → Each (IsRuleWithin ds) (right_unfolds_of t j a k y)
+  right_unfolds_of_within t j a k (Cell u us) = tt
+  right_unfolds_of_within t j a k (Pred q ts) =
+      each_anywhere (IsRuleWithin ds) (right_unfold_at t j a k ts) (cases_of t.definitions q) (λ c case. each_if (IsRuleWithin ds) (may_unfold t j a (in_heap (right_term ts 0) case)) (UnfoldRight k c ∷ []) (tt, tt))
+
+  right_unfolds_within : (t : Theory) (j : Judgement) (a : SymbolicHeap) (ys : List Spatial) → Each (IsRuleWithin ds) (right_unfolds t j a ys)
+  right_unfolds_within t j a ys = each_anywhere (IsRuleWithin ds) (right_unfolds_of t j a) ys (right_unfolds_of_within t j a)
+
+  -- ---- the lines
+
+  pub before_within : (t : Theory) (j : Judgement) (a : SymbolicHeap) → Each (IsRuleWithin ds) (entailment_before t j a)
+  before_within t j a =
+      each_first_line (IsRuleWithin ds) (filter (goes t j) (Absurd ∷ []) ∷ rewrites a.pure ∷ []) (each_filter (IsRuleWithin ds) (goes t j) (Absurd ∷ []) (tt, tt), (rewrites_within a.pure, tt))
+
+  module _ (t : Theory) (j : Judgement) (a : SymbolicHeap) (b : SymbolicHeap) (left : Each HasTerms a.spatial) (right : InHeap HasNumber b) where
+    last_within : Each (IsRuleWithin ds) (last_line t j a b)
+    last_within =
+        let instances = map instance_rule (argument_instances a.spatial b.spatial) in
+        let unfolded = right_unfolds t j a b.spatial in
+        each_filter (IsRuleWithin ds) (goes t j) ((instances ++ unfolded) ++ unfolds a.spatial)
+        (each_append (IsRuleWithin ds) (instances ++ unfolded) (unfolds a.spatial)
+        (each_append (IsRuleWithin ds) instances unfolded (instance_rules ds (argument_instances a.spatial b.spatial) (arguments_within a.spatial b.spatial left right.1)) (right_unfolds_within t j a b.spatial))
+        (unfolds_within a.spatial))
+
+    lines_within : Each (Each (IsRuleWithin ds)) (single_lines t j a b)
+    lines_within =
+        let first = each_first_that (IsRuleWithin ds) (goes t j) in (
+          each_filter (IsRuleWithin ds) (goes t j) (Done ∷ []) (tt, tt),
+          (
+            first (pure_rights b.pure) (pure_rights_within b.pure),
+            (
+              first (distincts a.spatial b.pure) (distincts_within a.spatial b.pure),
+              (
+                first (cell_frames a.spatial b.spatial) (cell_frames_within a.spatial b.spatial),
+                (
+                  first (map instance_rule (equation_instances b.pure)) (instance_rules ds (equation_instances b.pure) (equations_within b.pure right.0)),
+                  (
+                    first (map instance_rule (field_instances a.spatial b.spatial)) (instance_rules ds (field_instances a.spatial b.spatial) (fields_within a.spatial b.spatial left right.1)),
+                    (
+                      first (predicate_frames a.spatial b.spatial) (predicate_frames_within a.spatial b.spatial),
+                      (last_within, tt),
+                    ),
+                  ),
+                ),
+              ),
+            ),
+          ),
+        )
+
+  pub after_within : (t : Theory) (j : Judgement) (a : SymbolicHeap) (bs : List SymbolicHeap) → IsHeapWithin ds a → Each (IsHeapWithin ds) bs → IsUniversalHeap a → Each (IsRuleWithin ds) (entailment_after t j a bs)
+  after_within t j a [] w ws u = tt
+  after_within t j a (b ∷ []) w ws u =
+      each_first_line (IsRuleWithin ds) (single_lines t j a b) (lines_within t j a b (spatials_within a.spatial u.1 (heap_has ds a w).1) (heap_has ds b ws.0))
+  after_within t j a (b ∷ c ∷ bs) w ws u =
+      each_filter (IsRuleWithin ds) (goes t j) (choices (b ∷ c ∷ bs) ++ unfolds a.spatial) (each_append (IsRuleWithin ds) (choices (b ∷ c ∷ bs)) (unfolds a.spatial) (choices_within (b ∷ c ∷ bs)) (unfolds_within a.spatial))

@@ -1,0 +1,101 @@
+-- The terms of a heap within the limits.
+use Rattle.std.proofs.Common.{ℕ, ◌≤◌, List, [], ◌∷◌, map, arith, leb-true}
+use Rattle.heap_formula.specs.declared.terms.Term.{Term}
+use Rattle.heap_formula.specs.declared.terms.Term.TheVariants.{Nil, Univ, Exist}
+use Rattle.heap_formula.specs.declared.atoms.Pure.{Pure}
+use Rattle.heap_formula.specs.declared.atoms.Pure.TheVariants.{Eq, Neq}
+use Rattle.heap_formula.specs.declared.atoms.Spatial.{Spatial}
+use Rattle.heap_formula.specs.declared.atoms.Spatial.TheVariants.{Cell, Pred}
+use Rattle.heap_formula.specs.declared.judgements.Judgement.{Judgement}
+use Rattle.heap_formula.specs.declared.judgements.Judgement.TheVariants.{Entail, Term as Runs}
+use Rattle.heap_formula.specs.Closedness.{InPure, InSpatial, InHeap, IsUniversal, IsUniversalSpatial}
+use Rattle.heap_formula.specs.Definitions.{Definition}
+use Rattle.heap_formula.specs.Fresh.{univ_bound, pure_bound, spatial_bound, heap_bound, judgement_bound}
+use Rattle.heap_formula.specs.Symbolic.{SymbolicHeap}
+use Rattle.heap_formula.specs.Words.{Each, max_of}
+use Rattle.rule_table.specs.Answer.{number_bound, pure_numbers, spatial_numbers, heap_numbers, heaps_of}
+use Rattle.format_limits.specs.Limits.{IsHeapWithin, IsTermWithin}
+use Rattle.found_files.proofs.Members.{each_both}
+
+-- a variable up to number 65,534, or nil
+abbrev pub HasNumber : Term → Type 0
+HasNumber t = number_bound t ≤ 65535
+
+each_below : {X : Type 0} (f : X → ℕ) (n : ℕ) (xs : List X) → max_of (map f xs) ≤ n → Each (λ x. f x ≤ n) xs
+each_below f n [] h = tt
+each_below f n (x ∷ xs) h = (omega arith, each_below f n xs (omega arith))
+
+pub below_each : {X : Type 0} (f : X → ℕ) (n : ℕ) (xs : List X) → Each (λ x. f x ≤ n) xs → max_of (map f xs) ≤ n
+below_each f n [] a = omega arith
+below_each f n (x ∷ xs) a = let h = a.0 in let r = below_each f n xs a.1 in omega arith
+
+pure_has : (x : Pure) → pure_numbers x ≤ 65535 → InPure HasNumber x
+pure_has (Eq t u) h = (omega arith, omega arith)
+pure_has (Neq t u) h = (omega arith, omega arith)
+
+spatial_has : (x : Spatial) → spatial_numbers x ≤ 65535 → InSpatial HasNumber x
+spatial_has (Cell t ts) h = (omega arith, each_below number_bound 65535 ts (omega arith))
+spatial_has (Pred p ts) h = each_below number_bound 65535 ts h
+
+pures_have : (xs : List Pure) → Each (λ x. pure_numbers x ≤ 65535) xs → Each (InPure HasNumber) xs
+pures_have [] a = tt
+pures_have (x ∷ xs) a = (pure_has x a.0, pures_have xs a.1)
+
+spatials_have : (xs : List Spatial) → Each (λ x. spatial_numbers x ≤ 65535) xs → Each (InSpatial HasNumber) xs
+spatials_have [] a = tt
+spatials_have (x ∷ xs) a = (spatial_has x a.0, spatials_have xs a.1)
+
+heap_below : (ds : List Definition) (a : SymbolicHeap) → IsHeapWithin ds a → heap_numbers a ≤ 65535
+heap_below ds a w = leb-true (heap_numbers a) 65535 w.numbers
+
+pub heap_has : (ds : List Definition) (a : SymbolicHeap) → IsHeapWithin ds a → InHeap HasNumber a
+heap_has ds a w =
+    let h = heap_below ds a w in
+    (pures_have a.pure (each_below pure_numbers 65535 a.pure (omega arith)), spatials_have a.spatial (each_below spatial_numbers 65535 a.spatial (omega arith)))
+
+-- ---- the antecedent's atoms
+
+abbrev pub HasTerms : Spatial → Type 0
+HasTerms = InSpatial IsTermWithin
+
+spatial_within : (x : Spatial) → IsUniversalSpatial x → InSpatial HasNumber x → HasTerms x
+spatial_within (Cell t ts) u n = ((u.0, n.0), each_both IsUniversal HasNumber ts u.1 n.1)
+spatial_within (Pred p ts) u n = each_both IsUniversal HasNumber ts u n
+
+pub spatials_within : (xs : List Spatial) → Each IsUniversalSpatial xs → Each (InSpatial HasNumber) xs → Each HasTerms xs
+spatials_within [] u n = tt
+spatials_within (x ∷ xs) u n = (spatial_within x u.0 n.0, spatials_within xs u.1 n.1)
+
+-- ---- universal numbers are numbers
+
+univ_le : (t : Term) → univ_bound t ≤ number_bound t
+univ_le Nil = omega arith
+univ_le (Univ n) = omega arith
+univ_le (Exist n) = omega arith
+
+max_le : {X : Type 0} (f g : X → ℕ) → ((x : X) → f x ≤ g x) → (xs : List X) → max_of (map f xs) ≤ max_of (map g xs)
+max_le f g h [] = omega arith
+max_le f g h (x ∷ xs) = let a = h x in let b = max_le f g h xs in omega arith
+
+pure_le : (x : Pure) → pure_bound x ≤ pure_numbers x
+pure_le (Eq t u) = let a = univ_le t in let b = univ_le u in omega arith
+pure_le (Neq t u) = let a = univ_le t in let b = univ_le u in omega arith
+
+spatial_le : (x : Spatial) → spatial_bound x ≤ spatial_numbers x
+spatial_le (Cell t ts) = let a = univ_le t in let b = max_le univ_bound number_bound univ_le ts in omega arith
+spatial_le (Pred p ts) = max_le univ_bound number_bound univ_le ts
+
+heap_le : (a : SymbolicHeap) → heap_bound a ≤ heap_numbers a
+heap_le a =
+    let p = max_le pure_bound pure_numbers pure_le a.pure in
+    let s = max_le spatial_bound spatial_numbers spatial_le a.spatial in
+    omega arith
+
+heaps_le : (ds : List Definition) (bs : List SymbolicHeap) → Each (IsHeapWithin ds) bs → max_of (map heap_bound bs) ≤ 65535
+heaps_le ds [] a = omega arith
+heaps_le ds (b ∷ bs) a = let h = heap_below ds b a.0 in let l = heap_le b in let r = heaps_le ds bs a.1 in omega arith
+
+-- the universal numbers of a judgement's heaps
+pub judgement_below : (ds : List Definition) (j : Judgement) → Each (IsHeapWithin ds) (heaps_of j) → judgement_bound j ≤ 65535
+judgement_below ds (Entail a bs) w = let h = heap_below ds a w.0 in let l = heap_le a in let r = heaps_le ds bs w.1 in omega arith
+judgement_below ds (Runs i a) w = let h = heap_below ds a w.0 in let l = heap_le a in omega arith

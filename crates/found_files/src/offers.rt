@@ -1,0 +1,23 @@
+// What a goal is offered stays within the limits of a proof file. The functions do nothing; their clauses are laws.
+
+ghost use Rattle.std.specs.Prelude.{◌≡◌, ℕ, ◌<◌, List, length, Some, slice_get};
+ghost use Rattle.heap_formula.specs.Words.{Each};
+ghost use Rattle.heap_formula.specs.declared.judgements.Judgement.{Judgement};
+ghost use Rattle.heap_formula.specs.declared.proof_rules.Link.{Link};
+ghost use Rattle.heap_formula.specs.declared.proof_rules.Reason.TheVariants.{Back};
+ghost use Rattle.goto_lang.specs.Lines.{IsProgram};
+ghost use Rattle.proof_graph.specs.declared.nodes.GraphNode.{GraphNode};
+ghost use Rattle.search_moves.specs.Trying.{Theory};
+ghost use Rattle.search_moves.specs.Offering.{links_offered, rules_offered};
+ghost use Rattle.format_limits.specs.Limits.{IsDefinitionWithin, IsJudgementWithin, IsRuleWithin, IsReasonWithin};
+
+/// The rules that a goal within the limits is offered bring in nothing beyond them.
+pub fn rules_stay_within()
+    ensures { (t : Theory) (nodes : List GraphNode) (goal : ℕ) (j : Judgement) → t.most ≡ 16 → Each (IsDefinitionWithin t.definitions) t.definitions → IsProgram t.lines → IsJudgementWithin t.definitions (length t.lines) j → Each (IsRuleWithin t.definitions) (rules_offered t nodes goal j) }
+{}
+
+/// So do the links; and each leads to one of the nodes before the goal.
+pub fn links_stay_within()
+    ensures within { (t : Theory) (nodes : List GraphNode) (goal : ℕ) (j : Judgement) → IsJudgementWithin t.definitions (length t.lines) j → ((v : ℕ) (node : GraphNode) → slice_get nodes v ≡ Some node → IsJudgementWithin t.definitions (length t.lines) node.judgement) → Each (λ (link : Link). IsReasonWithin t.definitions (Back link)) (links_offered t nodes goal j) }
+    ensures back { (t : Theory) (nodes : List GraphNode) (goal : ℕ) (j : Judgement) → Each (λ (link : Link). link.target < goal) (links_offered t nodes goal j) }
+{}

@@ -1,0 +1,4 @@
+mod SmallEntries
+pub mod FewEdges
+pub mod Reasons
+pub mod RightGraphs

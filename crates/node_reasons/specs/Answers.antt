@@ -1,0 +1,51 @@
+-- What a reason leaves to be shown, or its first fault.
+use Rattle.std.specs.Prelude.{ℕ, List, [], ◌∷◌, Option, Some, None, Ok, Err, slice_get, slice_index, length, nat_eq}
+use Rattle.std.specs.Option.{option_map}
+use Rattle.heap_formula.specs.declared.commands.Command.{Command}
+use Rattle.heap_formula.specs.declared.judgements.Judgement.{Judgement}
+use Rattle.heap_formula.specs.declared.judgements.Premise.{Premise}
+use Rattle.heap_formula.specs.declared.proof_rules.Link.{Link}
+use Rattle.heap_formula.specs.declared.proof_rules.Reason.{Reason}
+use Rattle.heap_formula.specs.declared.proof_rules.Reason.TheVariants.{Step, Back}
+use Rattle.heap_formula.specs.declared.proof_rules.RuleFault.{RuleFault}
+use Rattle.heap_formula.specs.declared.proof_rules.RuleFault.TheVariants.{PremiseCount, NoSuchNode}
+use Rattle.heap_formula.specs.Definitions.{Definition}
+use Rattle.rule_table.specs.Answer.{Answer}
+use Rattle.rule_table.specs.LinkTable.{fault_unless, link_fault, link_premise}
+use Rattle.rule_table.specs.Nodes.{Node, answer_fault}
+use Rattle.rule_table.specs.RuleBook.{variables_of, rule_answer}
+
+-- the entry of a map for a place, 0 past the end
+abbrev pub entry_of : List ℕ → ℕ → ℕ
+entry_of entries k = slice_index entries k
+
+-- the premise where there is no fault
+abbrev pub unless_fault : Option RuleFault → Premise → Answer
+unless_fault None premise = Ok (premise ∷ [])
+unless_fault (Some f) premise = Err f
+
+-- the companion, if the link names one
+abbrev pub link_answer : List Command → Judgement → Link → Option Judgement → Answer
+link_answer lines bud link None = Err NoSuchNode
+link_answer lines bud link (Some companion) =
+    unless_fault (link_fault bud companion link (variables_of lines bud)) (link_premise companion link)
+
+-- the premises of a rule, or the companion of a link
+abbrev pub reason_answer : ℕ → List Definition → List Command → Judgement → Reason → Option Judgement → Answer
+reason_answer most ds lines j (Step rule) companion = rule_answer most ds lines j rule
+reason_answer most ds lines j (Back link) companion = link_answer lines j link companion
+
+-- the judgement of the node that a link names, if there is such a node
+abbrev pub companion_in : {N : Type 0} → (N → Judgement) → List N → Reason → Option Judgement
+companion_in judgement_of nodes (Step rule) = None
+companion_in judgement_of nodes (Back link) = option_map judgement_of (slice_get nodes link.target)
+
+-- a rule's edges lead to the nodes with the numbers, and a link's edge to its target
+abbrev pub targets_of : List ℕ → Reason → List ℕ
+targets_of us (Step rule) = us
+targets_of us (Back link) = link.target ∷ []
+
+-- the fault of the numbers
+abbrev pub numbers_fault : List Node → ℕ → List ℕ → Reason → List Premise → Option RuleFault
+numbers_fault nodes v us (Step rule) ps = answer_fault nodes v us (Ok ps)
+numbers_fault nodes v us (Back link) ps = fault_unless (nat_eq (length us) 0) PremiseCount

@@ -1,0 +1,41 @@
+-- The nodes of a proof as a trace graph.
+use Rattle.std.specs.Prelude.{◌≡◌, ◌≤◌, ℕ, length, List, map, Some, None, slice_get}
+use Rattle.heap_formula.specs.declared.commands.Command.{Command}
+use Rattle.heap_formula.specs.Definitions.{Definition}
+use Rattle.heap_formula.specs.Judgements.{HoldsAt, antecedent}
+use Rattle.heap_formula.specs.Meaning.{Stages}
+use Rattle.rule_table.specs.Nodes.{Node, Edge, edges_of, node_fault, IsReadable}
+use Rattle.trace_pairs.specs.Graph.{Node as GraphNode, Edge as GraphEdge}
+use Rattle.proof_graph.specs.Traces.{positions_of, trace_edge}
+
+abbrev pub graph_edge : Edge → GraphEdge
+graph_edge e = trace_edge e.target e.pairs
+
+-- a node with the places of its predicate atoms, and an edge to each premise or to the companion
+abbrev pub graph_node : ℕ → List Definition → List Command → List Node → Node → GraphNode
+graph_node most ds lines nodes node =
+    record { positions = positions_of node.judgement; edges = map graph_edge (edges_of most ds lines nodes node) }
+
+-- the trace graph of a file
+abbrev pub graph_of : ℕ → List Definition → List Command → List Node → List GraphNode
+graph_of most ds lines nodes = map (graph_node most ds lines nodes) nodes
+
+-- no node has a fault
+abbrev pub AreRight : ℕ → List Definition → List Command → List Node → Type 0
+AreRight most ds lines nodes = (v : ℕ) (node : Node) → slice_get nodes v ≡ Some node → node_fault most ds lines nodes v node ≡ None
+
+-- no existential stands in an antecedent, nor in a link's substitution
+abbrev pub AreReadable : List Node → Type 0
+AreReadable nodes = (v : ℕ) (node : Node) → slice_get nodes v ≡ Some node → IsReadable node.judgement node.reason
+
+-- a predicate has at most sixteen cases
+abbrev pub HasFewCases : Definition → Type 0
+HasFewCases d = length d.cases ≤ 16
+
+-- the antecedents have at most 32 spatial atoms
+abbrev pub HasSmallHeaps : List Node → Type 0
+HasSmallHeaps nodes = (v : ℕ) (node : Node) → slice_get nodes v ≡ Some node → length (antecedent node.judgement).spatial ≤ 32
+
+-- the judgement of node v holds at the stages
+abbrev pub HoldsAtNode : List Definition → List Command → List Node → ℕ → Stages → Type 0
+HoldsAtNode ds lines nodes v stages = (node : Node) → slice_get nodes v ≡ Some node → HoldsAt ds lines stages node.judgement
