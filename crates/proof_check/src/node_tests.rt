@@ -20,7 +20,7 @@ use std::alloc::Global;
 use std::marker::Model;
 
 /// An edge of a node: the node that proves a premise, or the companion, and the trace pairs to it.
-#[derive(Debug, Drop)]
+#[derive(Drop)]
 pub struct NodeEdge {
     pub target: u32,
     pub pairs: Pairs,

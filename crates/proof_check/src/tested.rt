@@ -15,7 +15,7 @@ use std::alloc::Global;
 use trace_pairs::{Edge, ProofSystem};
 
 /// A proof file, the edges of its nodes before the first faulty one, and that node's fault.
-#[derive(Debug, Drop)]
+#[derive(Drop)]
 pub struct TestedFile<'a> {
     file: &'a ProofFile,
     edges: Vec<Vec<NodeEdge>>,
