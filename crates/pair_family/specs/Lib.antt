@@ -1,0 +1,9 @@
+pub mod BasePairs
+pub mod Classes
+pub mod Combination
+pub mod Family
+pub mod Closedness
+pub mod Tables
+pub mod Folding
+pub mod Statements
+pub mod States
