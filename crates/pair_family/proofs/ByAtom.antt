@@ -5,12 +5,12 @@ use Rattle.heap_formula.specs.declared.terms.Term.{Term}
 use Rattle.heap_formula.specs.declared.terms.Term.TheVariants.{Nil}
 use Rattle.heap_formula.specs.declared.atoms.Spatial.{Spatial}
 use Rattle.heap_formula.specs.Symbolic.{SymbolicHeap}
-use Rattle.heap_formula.specs.Closedness.{InSpatial}
+use Rattle.heap_formula.specs.Words.{Each}
 use Rattle.pair_family.specs.BasePairs.{BasePair, parameter}
 use Rattle.pair_family.specs.Classes.{class_of}
 use Rattle.pair_family.specs.Combination.{Two, Choice, next, each_two, against_nil, cell_differences, any, upto, pairs_below, is_between, is_in_class, is_least, Facts, all_differ, both, AreConsistent, said, pure_facts, atom_facts, list_facts, combination}
 use Rattle.pair_family.specs.States.{Families, IsChosenBy, GivesBy}
-use Rattle.pair_family.specs.Folding.{Frame, Frames, next_frames, last_frame, IsKept, AreFrames, said_in, with_atom, FoldsTo}
+use Rattle.pair_family.specs.Folding.{spoken, Frame, Frames, next_frames, last_frame, IsKept, AreFrames, said_in, with_atom, FoldsTo}
 use Rattle.pair_family.proofs.Lists.{In, upto_in, pairs_in, at_each, each_at, each_left, in_append, map_in}
 use Rattle.pair_family.proofs.Two.{two_in}
 use Rattle.pair_family.proofs.Classes.{classes_have, classes_least}
@@ -47,7 +47,7 @@ first_consistent x y c =
     each_at (λ q. f2 q.0 ≢ f2 q.1) (all_differ (both x y)) q c (both_first x y q i) (classes_least f2 x.equal (each_left (λ q. f2 q.0 ≡ f2 q.1) x.equal y.equal (classes_have (x.equal ++ y.equal))) q.0 q.1 e))
 
 -- an atom's facts speak of its terms and nil
-module _ (Q : Term → Type 0) (nil : Q Nil) (b : BasePair) (x : Spatial) (inside : InSpatial Q x) where
+module _ (Q : Term → Type 0) (nil : Q Nil) (b : BasePair) (x : Spatial) (inside : Each Q (spoken x)) where
   all_differ_in : (q : Two) → In q (all_differ (atom_facts b x)) → Q q.0 × Q q.1
   all_differ_in q m =
       let cs = (atom_facts b x).cells in
@@ -60,7 +60,7 @@ module _ (Q : Term → Type 0) (nil : Q Nil) (b : BasePair) (x : Spatial) (insid
       ]
 
 -- one atom
-module _ (frame after : Frame) (x : Facts) (c : BasePair) (a : Spatial) (consistent : AreConsistent x) (nil : IsKept frame Nil) (inside : InSpatial (IsKept frame) a) where
+module _ (frame after : Frame) (x : Facts) (c : BasePair) (a : Spatial) (consistent : AreConsistent x) (nil : IsKept frame Nil) (inside : Each (IsKept frame) (spoken a)) where
   abbrev stepped : Facts
   stepped = with_atom frame (said_in frame x) c a
 

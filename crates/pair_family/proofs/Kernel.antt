@@ -3,23 +3,10 @@ use Rattle.std.proofs.Common.{◌≡◌, ◌≢◌, ◌↔◌, ℕ, suc, ◌<◌
 use Rattle.std.specs.Prelude.{nat_eq}
 use Rattle.std.proofs.lemmas.Bool.{eqb-true, eq-eqb}
 use Rattle.heap_formula.specs.declared.terms.Term.{Term}
-use Rattle.heap_formula.specs.Words.{Each}
-use Rattle.pair_family.specs.BasePairs.{BasePair}
+use Rattle.pair_family.specs.Within.{IsWithin}
 use Rattle.pair_family.specs.Combination.{Two, any, upto, pairs_below, is_between, is_in_class, is_least, AreApart, kept}
 use Rattle.pair_family.proofs.Lists.{at_each, each_go, filter_in, upto_in, pairs_in}
 use Rattle.pair_family.proofs.Fold.{bool_iff, filter_same, any_same}
-
-abbrev pub AreWithin : ℕ → List (ℕ × ℕ) → Type 0
-AreWithin n qs = Each (λ q. (q.0 < n) × (q.1 < n)) qs
-
-abbrev pub AreBelow : ℕ → List ℕ → Type 0
-AreBelow n is = Each (λ i. i < n) is
-
--- a base pair's numbers are below n
-pub record IsWithin (n : ℕ) (b : BasePair) : Type 0 where
-  pub same : AreWithin n b.same
-  pub differ : AreWithin n b.differ
-  pub cells : AreBelow n b.cells
 
 module _ (f g : Term → ℕ) (same : (t u : Term) → (f t ≡ f u) ↔ (g t ≡ g u)) where
   test_same : (t u : Term) → nat_eq (f t) (f u) ≡ nat_eq (g t) (g u)

@@ -9,7 +9,7 @@ use Rattle.heap_formula.specs.Meaning.{cases_of}
 use Rattle.pair_family.specs.BasePairs.{BasePair}
 use Rattle.pair_family.specs.Combination.{Choice, next}
 use Rattle.pair_family.specs.Family.{PairFamily, IsChosen, CaseGives, arity_of, family_at, InFamily}
-use Rattle.pair_family.specs.Tables.{IsMember, IsDistinct, Table, pairs_of, IsTable, HasMoreThan, HasAtMost}
+use Rattle.pair_family.specs.Tables.{in_table, IsMember, IsDistinct, Table, IsTable, HasMoreThan, HasAtMost}
 use Rattle.pair_family.proofs.Lists.{one_go, each_go}
 
 abbrev pub WithinPairs : PairFamily → PairFamily → Type 0
@@ -65,9 +65,6 @@ pub family_least : (ds : List Definition) (F : PairFamily) → IsClosedFamily ds
 family_least ds F closed zero p b o = absurd o
 family_least ds F closed (suc n) p b o =
     closed p b (one_go (CaseGives (family_at ds n) (arity_of ds p) b) (CaseGives F (arity_of ds p) b) (gives_within (family_at ds n) F (family_least ds F closed n) (arity_of ds p) b) (cases_of ds p) o)
-
-abbrev pub in_table : Table → PairFamily
-in_table table p b = IsMember b (pairs_of table p)
 
 -- a table of members to which no round adds is the family
 pub closed_table : (ds : List Definition) (table : Table) → WithinPairs (in_table table) (InFamily ds) → IsClosedFamily ds (in_table table) → IsTable ds table

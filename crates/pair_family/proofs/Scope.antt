@@ -12,6 +12,7 @@ use Rattle.heap_formula.specs.Words.{Each, max_of}
 use Rattle.heap_formula.specs.Closedness.{InPure, InSpatial, InHeap}
 use Rattle.pair_family.specs.BasePairs.{BasePair, element}
 use Rattle.pair_family.specs.Combination.{Two, Choice, next, pure_equations, pure_differences, atom_equations, atom_differences, atom_addresses, spatial_equations, spatial_differences, addresses, each_two, cell_differences, against_nil, combination, all_differ}
+use Rattle.pair_family.specs.Folding.{spoken}
 use Rattle.pair_family.proofs.Lists.{In, in_append, map_in}
 use Rattle.pair_family.proofs.Two.{two_in}
 
@@ -30,33 +31,37 @@ module _ (Q : Term → Type 0) (nil : Q Nil) where
       let r = map_in (λ q. (element ts q.0, element ts q.1)) q qs m in
       subst (λ z. Q z.0 × Q z.1) r.2 (element_in ts a r.0.0, element_in ts a r.0.1)
 
-  pub atom_equations_in : (x : Spatial) → InSpatial Q x → (b : BasePair) (q : Two) → In q (atom_equations b x) → BothIn q
+  pub atom_equations_in : (x : Spatial) → Each Q (spoken x) → (b : BasePair) (q : Two) → In q (atom_equations b x) → BothIn q
   atom_equations_in (Cell t ts) a b q m = absurd m
   atom_equations_in (Pred p ts) a b q m = arguments_in ts a b.same q m
 
-  pub atom_differences_in : (x : Spatial) → InSpatial Q x → (b : BasePair) (q : Two) → In q (atom_differences b x) → BothIn q
+  pub atom_differences_in : (x : Spatial) → Each Q (spoken x) → (b : BasePair) (q : Two) → In q (atom_differences b x) → BothIn q
   atom_differences_in (Cell t ts) a b q m = absurd m
   atom_differences_in (Pred p ts) a b q m = arguments_in ts a b.differ q m
 
-  pub atom_addresses_in : (x : Spatial) → InSpatial Q x → (b : BasePair) (t : Term) → In t (atom_addresses b x) → Q t
+  pub atom_addresses_in : (x : Spatial) → Each Q (spoken x) → (b : BasePair) (t : Term) → In t (atom_addresses b x) → Q t
   atom_addresses_in (Cell t ts) a b u (inl r) = subst Q r a.0
   atom_addresses_in (Cell t ts) a b u (inr m) = absurd m
   atom_addresses_in (Pred p ts) a b u m = let r = map_in (element ts) u b.cells m in subst Q r.2 (element_in ts a r.0)
 
+  spoken_in : (x : Spatial) → InSpatial Q x → Each Q (spoken x)
+  spoken_in (Cell t ts) a = (a.0, tt)
+  spoken_in (Pred p ts) a = a
+
   spatial_equations_in : (xs : List Spatial) → Each (InSpatial Q) xs → (bs : Choice) (q : Two) → In q (spatial_equations bs xs) → BothIn q
   spatial_equations_in [] a bs q m = absurd m
   spatial_equations_in (x ∷ xs) a bs q m =
-      elim (in_append q (atom_equations (bs 0) x) (spatial_equations (next bs) xs) m) [ inl i ↦ atom_equations_in x a.0 (bs 0) q i | inr i ↦ spatial_equations_in xs a.1 (next bs) q i ]
+      elim (in_append q (atom_equations (bs 0) x) (spatial_equations (next bs) xs) m) [ inl i ↦ atom_equations_in x (spoken_in x a.0) (bs 0) q i | inr i ↦ spatial_equations_in xs a.1 (next bs) q i ]
 
   spatial_differences_in : (xs : List Spatial) → Each (InSpatial Q) xs → (bs : Choice) (q : Two) → In q (spatial_differences bs xs) → BothIn q
   spatial_differences_in [] a bs q m = absurd m
   spatial_differences_in (x ∷ xs) a bs q m =
-      elim (in_append q (atom_differences (bs 0) x) (spatial_differences (next bs) xs) m) [ inl i ↦ atom_differences_in x a.0 (bs 0) q i | inr i ↦ spatial_differences_in xs a.1 (next bs) q i ]
+      elim (in_append q (atom_differences (bs 0) x) (spatial_differences (next bs) xs) m) [ inl i ↦ atom_differences_in x (spoken_in x a.0) (bs 0) q i | inr i ↦ spatial_differences_in xs a.1 (next bs) q i ]
 
   pub addresses_in : (xs : List Spatial) → Each (InSpatial Q) xs → (bs : Choice) (t : Term) → In t (addresses bs xs) → Q t
   addresses_in [] a bs t m = absurd m
   addresses_in (x ∷ xs) a bs t m =
-      elim (in_append t (atom_addresses (bs 0) x) (addresses (next bs) xs) m) [ inl i ↦ atom_addresses_in x a.0 (bs 0) t i | inr i ↦ addresses_in xs a.1 (next bs) t i ]
+      elim (in_append t (atom_addresses (bs 0) x) (addresses (next bs) xs) m) [ inl i ↦ atom_addresses_in x (spoken_in x a.0) (bs 0) t i | inr i ↦ addresses_in xs a.1 (next bs) t i ]
 
   pure_equations_in : (ps : List Pure) → Each (InPure Q) ps → (q : Two) → In q (pure_equations ps) → BothIn q
   pure_equations_in [] a q m = absurd m

@@ -3,7 +3,8 @@ use Rattle.std.specs.Prelude.{◌≡◌, ℕ, suc, ◌≤◌, List, [], ◌∷�
 use Rattle.heap_formula.specs.declared.terms.Term.{Term}
 use Rattle.heap_formula.specs.declared.terms.Term.TheVariants.{Nil}
 use Rattle.heap_formula.specs.declared.atoms.Spatial.{Spatial}
-use Rattle.heap_formula.specs.Closedness.{InSpatial}
+use Rattle.heap_formula.specs.declared.atoms.Spatial.TheVariants.{Cell, Pred}
+use Rattle.heap_formula.specs.Words.{Each}
 use Rattle.pair_family.specs.BasePairs.{BasePair}
 use Rattle.pair_family.specs.Combination.{Two, Choice, next, Facts, both, atom_facts, AreConsistent, said}
 
@@ -39,11 +40,16 @@ last_frame frames (x ∷ xs) = last_frame (next_frames frames) xs
 abbrev pub IsKept : Frame → Term → Type 0
 IsKept frame t = IsOneOf frame.count frame.at t
 
+-- the terms of which an atom's base pair speaks, nil aside: a cell's address, a predicate's arguments
+abbrev pub spoken : Spatial → List Term
+spoken (Cell t ts) = t ∷ []
+spoken (Pred p ts) = ts
+
 -- each atom's terms are kept before it, and what is kept after it
 abbrev pub AreFrames : Frames → List Spatial → Type 0
 AreFrames frames [] = Unit {0}
 AreFrames frames (x ∷ xs) =
-    IsKept (frames 0) Nil × InSpatial (IsKept (frames 0)) x × ((i : ℕ) → i ≤ (frames 1).count → IsKept (frames 0) ((frames 1).at i)) × AreFrames (next_frames frames) xs
+    IsKept (frames 0) Nil × Each (IsKept (frames 0)) (spoken x) × ((i : ℕ) → i ≤ (frames 1).count → IsKept (frames 0) ((frames 1).at i)) × AreFrames (next_frames frames) xs
 
 abbrev pub said_in : Frame → Facts → BasePair
 said_in frame x = said frame.count frame.at x

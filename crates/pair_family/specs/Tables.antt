@@ -3,7 +3,7 @@ use Rattle.std.specs.Prelude.{◌≡◌, ◌↔◌, ℕ, ◌≤◌, ◌<◌, Lis
 use Rattle.heap_formula.specs.Definitions.{Definition}
 use Rattle.heap_formula.specs.Words.{Each, OneOf}
 use Rattle.pair_family.specs.BasePairs.{BasePair}
-use Rattle.pair_family.specs.Family.{InFamily}
+use Rattle.pair_family.specs.Family.{PairFamily, InFamily}
 
 -- x is a member
 abbrev pub IsMember : {X : Type 0} → X → List X → Type 0
@@ -20,6 +20,9 @@ Table = List (List BasePair)
 
 abbrev pub pairs_of : Table → ℕ → List BasePair
 pairs_of table p = slice_index_or table p []
+
+abbrev pub in_table : Table → PairFamily
+in_table table p b = IsMember b (pairs_of table p)
 
 -- the table has exactly the family's members
 abbrev pub IsTable : List Definition → Table → Type 0

@@ -7,11 +7,11 @@ use Rattle.heap_formula.specs.declared.atoms.Spatial.TheVariants.{Pred}
 use Rattle.heap_formula.specs.Words.{Each}
 use Rattle.pair_family.specs.BasePairs.{BasePair, element}
 use Rattle.pair_family.specs.Classes.{term_number, class_of}
-use Rattle.pair_family.specs.Combination.{Two, each_two, against_nil, cell_differences, at_arguments, Facts, all_differ, AreConsistent, said}
+use Rattle.pair_family.specs.Combination.{each_two, against_nil, cell_differences, at_arguments, Facts, all_differ, AreConsistent, said}
 use Rattle.pair_family.specs.Folding.{two_at, Frame, with_atom}
 use Rattle.pair_states.specs.Labels.{said_by, labels_at, label_pairs, cell_pairs, all_pairs, AreApartLabels, pairs_at, numbers_at, combined_labels, combined_pairs, combined}
-use Rattle.pair_family.proofs.ListFrames.{term_at}
-use Rattle.pair_family.proofs.Kernel.{AreWithin, AreBelow, IsWithin}
+use Rattle.pair_family.specs.Frames.{term_at}
+use Rattle.pair_family.specs.Within.{AreWithin, AreBelow, IsWithin}
 use Rattle.pair_family.proofs.Lists.{each_append, each_map, map_each}
 use Rattle.pair_states.proofs.Labelled.{label_of, labels_are, said_by_is}
 
@@ -39,12 +39,12 @@ two_map f (x ∷ xs) =
     let rest = two_map f xs in
     (λ i. here i ++ rest i) ∙ ap (λ z. z ++ map (λ q. (f q.0, f q.1)) (each_two xs)) (sym there) ∙ sym (map_both (λ q. (f q.0, f q.1)) (map (λ u. (x, u)) xs) (each_two xs))
 
--- places of an atom's nil and arguments among the kept terms
-pub record ArePlaces (kept : List Term) (ts : List Term) (n : ℕ) (places : List ℕ) : Type 0 where
-  pub within : (i : ℕ) → i < n → slice_index places i < length kept
-  pub is : (i : ℕ) → i < n → term_at kept (slice_index places i) ≡ element ts i
+-- places of an atom's nil and arguments among the kept terms; past the arguments stands nil
+pub record ArePlaces (kept : List Term) (ts : List Term) (places : List ℕ) : Type 0 where
+  pub within : (i : ℕ) → slice_index places i < length kept
+  pub is : (i : ℕ) → term_at kept (slice_index places i) ≡ element ts i
 
-module _ (rest : List Term) (p : ℕ) (ts : List Term) (n : ℕ) (places : List ℕ) (b c : BasePair) (at_places : ArePlaces (Nil ∷ rest) ts n places) (b_within : IsWithin (length (Nil ∷ rest)) b) (c_within : IsWithin n c) where
+module _ (rest : List Term) (p : ℕ) (ts : List Term) (places : List ℕ) (b c : BasePair) (at_places : ArePlaces (Nil ∷ rest) ts places) (b_within : IsWithin (length (Nil ∷ rest)) b) where
   abbrev kept : List Term
   kept = Nil ∷ rest
 
@@ -60,21 +60,31 @@ module _ (rest : List Term) (p : ℕ) (ts : List Term) (n : ℕ) (places : List 
   abbrev f : Term → ℕ
   f = class_of facts.equal
 
-  pairs_within : (qs : List (ℕ × ℕ)) → AreWithin n qs → AreWithin (length kept) (pairs_at places qs)
-  pairs_within qs w = each_map (λ q. (q.0 < length kept) × (q.1 < length kept)) (λ q. (slice_index places q.0, slice_index places q.1)) qs (each_go (λ q. (q.0 < n) × (q.1 < n)) (λ q. (slice_index places q.0 < length kept) × (slice_index places q.1 < length kept)) (λ q l. (at_places.within q.0 l.0, at_places.within q.1 l.1)) qs w)
+  pairs_within : (qs : List (ℕ × ℕ)) → AreWithin (length kept) (pairs_at places qs)
+  pairs_within [] = tt
+  pairs_within (q ∷ qs) = ((at_places.within q.0, at_places.within q.1), pairs_within qs)
 
-  pairs_are : (own qs : List (ℕ × ℕ)) → AreWithin n qs → two_at at (own ++ pairs_at places qs) ≡ two_at at own ++ at_arguments ts qs
-  pairs_are own qs w =
-      let pointwise = map_apply (λ q. (at (slice_index places q.0), at (slice_index places q.1))) (λ q. (element ts q.0, element ts q.1)) qs (each_go (λ q. (q.0 < n) × (q.1 < n)) (λ q. ◌≡◌ {A = Two} (at (slice_index places q.0), at (slice_index places q.1)) (element ts q.0, element ts q.1)) (λ q l. let x = at_places.is q.0 l.0 in let y = at_places.is q.1 l.1 in λ i. (x i, y i)) qs w) in
-      map_both (λ q. (at q.0, at q.1)) own (pairs_at places qs) ∙ ap (λ z. two_at at own ++ z) (map_twice (λ q. (at q.0, at q.1)) (λ q. (slice_index places q.0, slice_index places q.1)) qs ∙ pointwise)
+  pairs_there : (qs : List (ℕ × ℕ)) → two_at at (pairs_at places qs) ≡ at_arguments ts qs
+  pairs_there [] = refl
+  pairs_there (q ∷ qs) = let x = at_places.is q.0 in let y = at_places.is q.1 in let rest = pairs_there qs in λ i. (x i, y i) ∷ rest i
 
-  cells_are : (own is : List ℕ) → AreBelow n is → map at (own ++ numbers_at places is) ≡ map at own ++ map (element ts) is
-  cells_are own is w =
-      map_both at own (numbers_at places is) ∙ ap (λ z. map at own ++ z) (map_twice at (slice_index places) is ∙ map_apply (λ i. at (slice_index places i)) (element ts) is (each_go (λ i. i < n) (λ i. at (slice_index places i) ≡ element ts i) (λ i l. at_places.is i l) is w))
+  pairs_are : (own qs : List (ℕ × ℕ)) → two_at at (own ++ pairs_at places qs) ≡ two_at at own ++ at_arguments ts qs
+  pairs_are own qs = map_both (λ q. (at q.0, at q.1)) own (pairs_at places qs) ∙ ap (λ z. two_at at own ++ z) (pairs_there qs)
+
+  numbers_within : (is : List ℕ) → AreBelow (length kept) (numbers_at places is)
+  numbers_within [] = tt
+  numbers_within (i ∷ is) = (at_places.within i, numbers_within is)
+
+  numbers_there : (is : List ℕ) → map at (numbers_at places is) ≡ map (element ts) is
+  numbers_there [] = refl
+  numbers_there (i ∷ is) = let x = at_places.is i in let rest = numbers_there is in λ z. x z ∷ rest z
+
+  cells_are : (own is : List ℕ) → map at (own ++ numbers_at places is) ≡ map at own ++ map (element ts) is
+  cells_are own is = map_both at own (numbers_at places is) ∙ ap (λ z. map at own ++ z) (numbers_there is)
 
   labels_hold : combined_labels (map term_number kept) b places c ≡ map f kept
   labels_hold =
-      labels_are term_number kept (b.same ++ pairs_at places c.same) (each_append (λ q. (q.0 < length kept) × (q.1 < length kept)) b.same (pairs_at places c.same) b_within.same (pairs_within c.same c_within.same)) ∙ ap (λ es. map (class_of es) kept) (pairs_are b.same c.same c_within.same)
+      labels_are term_number kept (b.same ++ pairs_at places c.same) (each_append (λ q. (q.0 < length kept) × (q.1 < length kept)) b.same (pairs_at places c.same) b_within.same (pairs_within c.same)) ∙ ap (λ es. map (class_of es) kept) (pairs_are b.same c.same)
 
   label_pairs_are : (qs : List (ℕ × ℕ)) → AreWithin (length kept) qs → label_pairs (map f kept) qs ≡ map (λ q. (f q.0, f q.1)) (two_at at qs)
   label_pairs_are qs w =
@@ -96,14 +106,14 @@ module _ (rest : List Term) (p : ℕ) (ts : List Term) (n : ℕ) (places : List 
 
   addresses_are : labels_at (map f kept) (b.cells ++ numbers_at places c.cells) ≡ map f facts.cells
   addresses_are =
-      let below = each_append (λ i. i < length kept) b.cells (numbers_at places c.cells) b_within.cells (each_map (λ i. i < length kept) (slice_index places) c.cells (each_go (λ i. i < n) (λ i. slice_index places i < length kept) (λ i l. at_places.within i l) c.cells c_within.cells)) in
-      labels_at_are (b.cells ++ numbers_at places c.cells) below ∙ ap (map f) (cells_are b.cells c.cells c_within.cells)
+      let below = each_append (λ i. i < length kept) b.cells (numbers_at places c.cells) b_within.cells (numbers_within c.cells) in
+      labels_at_are (b.cells ++ numbers_at places c.cells) below ∙ ap (map f) (cells_are b.cells c.cells)
 
   -- the code's differences are those of the facts, by their classes
   pub combined_pairs_are : combined_pairs (map term_number kept) b places c ≡ map (λ q. (f q.0, f q.1)) (all_differ facts)
   combined_pairs_are =
       let ds = b.differ ++ pairs_at places c.differ in
-      let d = label_pairs_are ds (each_append (λ q. (q.0 < length kept) × (q.1 < length kept)) b.differ (pairs_at places c.differ) b_within.differ (pairs_within c.differ c_within.differ)) ∙ ap (map (λ q. (f q.0, f q.1))) (pairs_are b.differ c.differ c_within.differ) in
+      let d = label_pairs_are ds (each_append (λ q. (q.0 < length kept) × (q.1 < length kept)) b.differ (pairs_at places c.differ) b_within.differ (pairs_within c.differ)) ∙ ap (map (λ q. (f q.0, f q.1))) (pairs_are b.differ c.differ) in
       let s = ap (cell_pairs (f Nil)) addresses_are ∙ cell_pairs_are facts.cells in
       ap (λ ls. all_pairs ls ds (b.cells ++ numbers_at places c.cells)) labels_hold ∙ (λ i. d i ++ s i) ∙ sym (map_both (λ q. (f q.0, f q.1)) facts.differ (cell_differences facts.cells))
 

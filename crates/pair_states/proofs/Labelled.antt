@@ -7,8 +7,8 @@ use Rattle.pair_family.specs.Classes.{merged, class_from}
 use Rattle.pair_family.specs.Combination.{Two, any, upto, pairs_below, is_between, is_in_class, is_least, kept}
 use Rattle.pair_family.specs.Folding.{two_at}
 use Rattle.pair_states.specs.Labels.{has_same, is_between_labels, has_difference, is_cell_label, said_by, relabelled, joined_labels}
-use Rattle.pair_family.proofs.ListFrames.{term_at}
-use Rattle.pair_family.proofs.Kernel.{AreWithin}
+use Rattle.pair_family.specs.Frames.{term_at}
+use Rattle.pair_family.specs.Within.{AreWithin}
 use Rattle.pair_family.proofs.Lists.{upto_in, pairs_in}
 use Rattle.pair_family.proofs.Fold.{filter_same, any_same}
 

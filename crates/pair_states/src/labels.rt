@@ -7,14 +7,14 @@ ghost use Rattle.pair_states.specs.Labels.{row, has_same, neighbours, is_between
 use std::alloc::{AllocError, Global};
 
 /// The new label in place of the old one.
-fn relabel_one(label: u32, old: u32, new: u32) -> u32
+fn relabel_one(label: u64, old: u64, new: u64) -> u64
     ensures { result ≡ relabelled old new label }
 {
     if label == old { new } else { label }
 }
 
 /// Labels where the class of one label is that of another.
-pub fn relabel(alloc: Global, labels: &[u32], old: u32, new: u32) -> Result<Vec<u32>, AllocError>
+pub fn relabel(alloc: Global, labels: &[u64], old: u64, new: u64) -> Result<Vec<u64>, AllocError>
     ensures { IfOk result (λ v. v.items ≡ map (relabelled old new) labels.now) }
 {
     let mut out = Vec::new(alloc);
@@ -27,9 +27,9 @@ pub fn relabel(alloc: Global, labels: &[u32], old: u32, new: u32) -> Result<Vec<
 /// The labels that some difference joins with a label.
 pub fn neighbours_of(
     alloc: Global,
-    differences: &[(u32, u32)],
-    label: u32,
-) -> Result<Vec<u32>, AllocError>
+    differences: &[(u64, u64)],
+    label: u64,
+) -> Result<Vec<u64>, AllocError>
     ensures { IfOk result (λ v. v.items ≡ neighbours label differences.now) }
 {
     let mut near = Vec::new(alloc);
@@ -41,7 +41,7 @@ pub fn neighbours_of(
     Ok(near)
 }
 
-fn push_label_if(labels: &mut Vec<u32>, holds: bool, label: u32) -> Result<(), AllocError>
+fn push_label_if(labels: &mut Vec<u64>, holds: bool, label: u64) -> Result<(), AllocError>
     ensures { IfOk result (λ _. labels.new.items ≡ labels.old.items ++ (if holds then label ∷ [] else [])) }
 {
     if holds {
@@ -65,7 +65,7 @@ fn push_if(
 
 /// The pairs (i, j) of one class, for this j.
 #[tactic(auto, using(crate::proofs::Rows::same_row))]
-fn push_same(pairs: &mut Vec<(usize, usize)>, labels: &[u32], j: usize) -> Result<(), AllocError>
+fn push_same(pairs: &mut Vec<(usize, usize)>, labels: &[u64], j: usize) -> Result<(), AllocError>
     requires { j < length labels.now }
     ensures { IfOk result (λ _. pairs.new.items ≡ pairs.old.items ++ filter (has_same labels.now) (row j j)) }
 {
@@ -77,7 +77,7 @@ fn push_same(pairs: &mut Vec<(usize, usize)>, labels: &[u32], j: usize) -> Resul
 
 /// The pairs of one class.
 #[tactic(auto, using(crate::proofs::Rows::next_row))]
-pub fn same_pairs(alloc: Global, labels: &[u32]) -> Result<Vec<(usize, usize)>, AllocError>
+pub fn same_pairs(alloc: Global, labels: &[u64]) -> Result<Vec<(usize, usize)>, AllocError>
     ensures { IfOk result (λ v. v.items ≡ filter (has_same labels.now) (pairs_below (length labels.now))) }
 {
     let mut pairs = Vec::new(alloc);
@@ -92,8 +92,8 @@ pub fn same_pairs(alloc: Global, labels: &[u32]) -> Result<Vec<(usize, usize)>, 
 fn push_differing(
     alloc: Global,
     pairs: &mut Vec<(usize, usize)>,
-    labels: &[u32],
-    differences: &[(u32, u32)],
+    labels: &[u64],
+    differences: &[(u64, u64)],
     j: usize,
 ) -> Result<(), AllocError>
     requires { j < length labels.now }
@@ -110,8 +110,8 @@ fn push_differing(
 #[tactic(auto, using(crate::proofs::Rows::next_row))]
 pub fn differing_pairs(
     alloc: Global,
-    labels: &[u32],
-    differences: &[(u32, u32)],
+    labels: &[u64],
+    differences: &[(u64, u64)],
 ) -> Result<Vec<(usize, usize)>, AllocError>
     ensures { IfOk result (λ v. v.items ≡ filter (has_difference labels.now differences.now) (pairs_below (length labels.now))) }
 {
@@ -123,7 +123,7 @@ pub fn differing_pairs(
 }
 
 /// Whether a label stands in the list.
-fn has_label(labels: &[u32], label: u32) -> bool
+fn has_label(labels: &[u64], label: u64) -> bool
     ensures { result ≡ any (λ c. nat_eq c label) labels.now }
 {
     for other in labels {
@@ -136,7 +136,7 @@ fn has_label(labels: &[u32], label: u32) -> bool
 
 /// Whether no lesser number has the label of this one.
 #[tactic(auto, using(crate::proofs::Rows::any_next))]
-fn is_first(labels: &[u32], i: usize) -> bool
+fn is_first(labels: &[u64], i: usize) -> bool
     requires { i < length labels.now }
     ensures { result ≡ is_first_label labels.now i }
 {
@@ -147,7 +147,7 @@ fn is_first(labels: &[u32], i: usize) -> bool
     !found
 }
 
-fn is_cell(labels: &[u32], cells: &[u32], i: usize) -> bool
+fn is_cell(labels: &[u64], cells: &[u64], i: usize) -> bool
     requires { i < length labels.now }
     ensures { result ≡ is_cell_label labels.now cells.now i }
 {
@@ -165,7 +165,7 @@ fn push_number_if(numbers: &mut Vec<usize>, holds: bool, number: usize) -> Resul
 
 /// The least numbers of the classes that are cells.
 #[tactic(auto, using(crate::proofs::Rows::cell_next))]
-pub fn cell_numbers(alloc: Global, labels: &[u32], cells: &[u32]) -> Result<Vec<usize>, AllocError>
+pub fn cell_numbers(alloc: Global, labels: &[u64], cells: &[u64]) -> Result<Vec<usize>, AllocError>
     ensures { IfOk result (λ v. v.items ≡ filter (is_cell_label labels.now cells.now) (upto (length labels.now))) }
 {
     let mut numbers = Vec::new(alloc);
@@ -176,7 +176,7 @@ pub fn cell_numbers(alloc: Global, labels: &[u32], cells: &[u32]) -> Result<Vec<
 }
 
 /// The label of a number; 0 past the end.
-fn label_at(labels: &[u32], i: usize) -> u32
+fn label_at(labels: &[u64], i: usize) -> u64
     ensures { result ≡ slice_index labels.now i }
 {
     match labels.get(i) {
@@ -187,7 +187,7 @@ fn label_at(labels: &[u32], i: usize) -> u32
 
 /// Labels where the class of one label is that of another; nothing is to be done where they are one.
 #[tactic(auto, using(crate::proofs::Rows::joined_alone))]
-fn join(alloc: Global, labels: Vec<u32>, old: u32, new: u32) -> Result<Vec<u32>, AllocError>
+fn join(alloc: Global, labels: Vec<u64>, old: u64, new: u64) -> Result<Vec<u64>, AllocError>
     ensures { IfOk result (λ v. v.items ≡ map (relabelled old new) labels.items) }
 {
     if old == new {
@@ -199,9 +199,9 @@ fn join(alloc: Global, labels: Vec<u32>, old: u32, new: u32) -> Result<Vec<u32>,
 /// The labels after equations between numbers.
 pub fn join_all(
     alloc: Global,
-    start: &[u32],
+    start: &[u64],
     equations: &[(usize, usize)],
-) -> Result<Vec<u32>, AllocError>
+) -> Result<Vec<u64>, AllocError>
     ensures { IfOk result (λ v. v.items ≡ joined_labels start.now equations.now) }
 {
     let mut labels = relabel(alloc, start, 0, 0)?;
@@ -215,7 +215,7 @@ pub fn join_all(
 }
 
 /// Whether no difference joins a label with itself.
-pub fn are_apart(differences: &[(u32, u32)]) -> bool
+pub fn are_apart(differences: &[(u64, u64)]) -> bool
     ensures { IsTrue result ↔ Each (λ q. q.0 ≢ q.1) differences.now }
 {
     for difference in differences {
@@ -228,7 +228,7 @@ pub fn are_apart(differences: &[(u32, u32)]) -> bool
 }
 
 /// The labels of some numbers.
-pub fn labels_of(alloc: Global, labels: &[u32], numbers: &[usize]) -> Result<Vec<u32>, AllocError>
+pub fn labels_of(alloc: Global, labels: &[u64], numbers: &[usize]) -> Result<Vec<u64>, AllocError>
     ensures { IfOk result (λ v. v.items ≡ labels_at labels.now numbers.now) }
 {
     let mut out = Vec::new(alloc);
@@ -240,8 +240,8 @@ pub fn labels_of(alloc: Global, labels: &[u32], numbers: &[usize]) -> Result<Vec
 
 /// The labels of some pairs of numbers.
 fn push_label_pairs(
-    out: &mut Vec<(u32, u32)>,
-    labels: &[u32],
+    out: &mut Vec<(u64, u64)>,
+    labels: &[u64],
     pairs: &[(usize, usize)],
 ) -> Result<(), AllocError>
     ensures { IfOk result (λ _. out.new.items ≡ out.old.items ++ label_pairs labels.now pairs.now) }
@@ -254,7 +254,7 @@ fn push_label_pairs(
 }
 
 /// Each cell with nil.
-fn push_against(out: &mut Vec<(u32, u32)>, cells: &[u32], nil: u32) -> Result<(), AllocError>
+fn push_against(out: &mut Vec<(u64, u64)>, cells: &[u64], nil: u64) -> Result<(), AllocError>
     ensures { IfOk result (λ _. out.new.items ≡ out.old.items ++ map (λ c. (c, nil)) cells.now) }
 {
     for cell in cells {
@@ -264,7 +264,7 @@ fn push_against(out: &mut Vec<(u32, u32)>, cells: &[u32], nil: u32) -> Result<()
 }
 
 /// One cell with each of some others.
-fn push_with(out: &mut Vec<(u32, u32)>, cell: u32, others: &[u32]) -> Result<(), AllocError>
+fn push_with(out: &mut Vec<(u64, u64)>, cell: u64, others: &[u64]) -> Result<(), AllocError>
     ensures { IfOk result (λ _. out.new.items ≡ out.old.items ++ map (λ u. (cell, u)) others.now) }
 {
     for other in others {
@@ -274,7 +274,7 @@ fn push_with(out: &mut Vec<(u32, u32)>, cell: u32, others: &[u32]) -> Result<(),
 }
 
 /// Each two cells.
-fn push_each_two(out: &mut Vec<(u32, u32)>, cells: &[u32]) -> Result<(), AllocError>
+fn push_each_two(out: &mut Vec<(u64, u64)>, cells: &[u64]) -> Result<(), AllocError>
     ensures { IfOk result (λ _. out.new.items ≡ out.old.items ++ each_two cells.now) }
 {
     for i in 0..cells.len() {
@@ -286,10 +286,10 @@ fn push_each_two(out: &mut Vec<(u32, u32)>, cells: &[u32]) -> Result<(), AllocEr
 /// All differences of labels: the stated ones, and those of the cells.
 pub fn differences_of(
     alloc: Global,
-    labels: &[u32],
+    labels: &[u64],
     differences: &[(usize, usize)],
-    cells: &[u32],
-) -> Result<Vec<(u32, u32)>, AllocError>
+    cells: &[u64],
+) -> Result<Vec<(u64, u64)>, AllocError>
     ensures { IfOk result (λ v. v.items ≡ label_pairs labels.now differences.now ++ cell_pairs (slice_index labels.now 0) cells.now) }
 {
     let mut out = Vec::new(alloc);

@@ -3,7 +3,7 @@ ghost use Rattle.std.specs.Prelude.{◌≡◌, [], IfOk};
 ghost use Rattle.heap_formula.specs.Words.{OneOf};
 ghost use Rattle.pair_states.specs.Labels.{Gives, Grows, IsAdded};
 
-use crate::combine::combine;
+use crate::combining::combine;
 use crate::known::Known;
 use indexmap::IndexSet;
 use std::alloc::{AllocError, Global};
@@ -30,7 +30,7 @@ fn grow(set: &mut IndexSet<Known>, known: Known) -> Result<(), AllocError>
 fn grow_by(
     alloc: Global,
     set: &mut IndexSet<Known>,
-    start: &[u32],
+    start: &[u64],
     state: &Known,
     places: &[usize],
     pair: &Known,
@@ -51,7 +51,7 @@ fn grow_by(
 fn grow_by_each(
     alloc: Global,
     set: &mut IndexSet<Known>,
-    start: &[u32],
+    start: &[u64],
     state: &Known,
     places: &[usize],
     pairs: &[Known],
@@ -69,7 +69,7 @@ fn grow_by_each(
 fn grow_by_all(
     alloc: Global,
     set: &mut IndexSet<Known>,
-    start: &[u32],
+    start: &[u64],
     states: &[Known],
     places: &[usize],
     pairs: &[Known],
@@ -86,7 +86,7 @@ fn grow_by_all(
 /// What the states give with one more atom, each once.
 pub fn states_after(
     alloc: Global,
-    start: &[u32],
+    start: &[u64],
     states: &[Known],
     places: &[usize],
     pairs: &[Known],

@@ -14,9 +14,9 @@ use std::alloc::{AllocError, Global};
 /// What is said of labels.
 fn say(
     alloc: Global,
-    labels: &[u32],
-    differences: &[(u32, u32)],
-    cells: &[u32],
+    labels: &[u64],
+    differences: &[(u64, u64)],
+    cells: &[u64],
 ) -> Result<Known, AllocError>
     ensures { IfOk result (λ k. k ≡ said_by labels.now differences.now cells.now) }
 {
@@ -29,7 +29,7 @@ fn say(
 /// What differences and cells say of some numbers, unless a difference is within a class.
 pub fn tell(
     alloc: Global,
-    labels: &[u32],
+    labels: &[u64],
     differences: &[(usize, usize)],
     cells: &[usize],
     kept: &[usize],
@@ -49,7 +49,7 @@ pub fn tell(
 /// What is known of some numbers after a base pair of the numbers at some places, unless a difference is within a class.
 pub fn combine(
     alloc: Global,
-    start: &[u32],
+    start: &[u64],
     state: &Known,
     places: &[usize],
     pair: &Known,

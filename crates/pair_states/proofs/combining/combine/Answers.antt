@@ -1,6 +1,6 @@
 use Rattle.std.proofs.Common.{rules, ◌≡◌, ◌++◌, List, ℕ, IfOk, MatchOption, ap, ◌∙◌, subst}
 use Rattle.pair_states.specs.Labels.{joined_labels, all_pairs, told_by, AreApartLabels, pairs_at, numbers_at}
-use Rattle.pair_states.proofs.combine.combine.Goals as goal
+use Rattle.pair_states.proofs.combining.combine.Goals as goal
 
 pub returns : goal.returns
 returns c =
