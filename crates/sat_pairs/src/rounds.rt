@@ -146,8 +146,31 @@ fn sweep(
     Ok(now)
 }
 
-/// The base pairs of all predicates: the least family that has what each case gives. Definitions are gone through in
-/// their order until none gives a new one, so at no time are there more than `most` and one.
+/// The same from the last definition to the first.
+fn sweep_back(
+    alloc: Global,
+    defs: &Defs,
+    table: &mut Table,
+    count: usize,
+    most: u32,
+) -> Result<usize, PairFault>
+    requires part { IsPartOf defs.now.list most table.old }
+    requires count { count ≡ total table.old }
+    ensures part { IfOk result (λ n. IsPartOf defs.now.list most table.new × (n ≡ total table.new)) }
+    ensures grown { IfOk result (λ _. IsGrown table.old table.new) }
+    ensures many { (result ≡ Err PairFault.TooManyPairs) → HasMoreThan defs.now.list most }
+{
+    let mut now = count;
+    let n = defs.as_slice().len();
+    for i in 0..n {
+        now = put_definition(alloc, defs, table, now, most, (n - 1 - i) as u16)?;
+    }
+    Ok(now)
+}
+
+/// The base pairs of all predicates: the least family that has what each case gives. The definitions are gone through
+/// forwards and backwards in turn, so that chains of uses in either direction take few rounds, until a round forwards
+/// gives nothing new; so at no time are there more than `most` and one.
 pub fn base_pairs(alloc: Global, defs: &Defs, most: u32) -> Result<Table, PairFault>
     ensures table { IfOk result (λ t. IsTable defs.now.list t × HasAtMost defs.now.list most) }
     ensures many { (result ≡ Err PairFault.TooManyPairs) → HasMoreThan defs.now.list most }
@@ -159,6 +182,6 @@ pub fn base_pairs(alloc: Global, defs: &Defs, most: u32) -> Result<Table, PairFa
         if now == count {
             return Ok(table);
         }
-        count = now;
+        count = sweep_back(alloc, defs, &mut table, now, most)?;
     }
 }
