@@ -1,0 +1,11 @@
+pub mod BasePairs
+pub mod Within
+pub mod Classes
+pub mod Combination
+pub mod Family
+pub mod Closedness
+pub mod Tables
+pub mod Folding
+pub mod Frames
+pub mod Statements
+pub mod States

@@ -1,0 +1,5 @@
+pub mod Rows
+pub mod Labelled
+pub mod Combined
+pub mod Growing
+pub mod Interned

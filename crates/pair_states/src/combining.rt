@@ -1,0 +1,65 @@
+// A base pair is taken in.
+ghost use Rattle.std.specs.Prelude.{◌≡◌, ◌≢◌, ◌≤◌, ◌<◌, ◌++◌, ◌∷◌, [], ◌↔◌, IsTrue, if◌then◌else◌, List, ℕ, length, map, filter, slice_index, nat_eq, IfOk, MatchOption};
+ghost use Rattle.heap_formula.specs.Words.{Each, OneOf};
+ghost use Rattle.pair_family.specs.Combination.{upto, pairs_below, any, each_two};
+ghost use Rattle.pair_states.specs.Labels.{said_by, all_pairs, told_by, cell_pairs, label_pairs, AreApartLabels, combined_pairs, combined};
+
+use crate::known::Known;
+use crate::labels::{
+    are_apart, cell_numbers, differences_of, differing_pairs, join_all, labels_of, numbers_then,
+    pairs_then, same_pairs,
+};
+use std::alloc::{AllocError, Global};
+
+/// What is said of labels.
+fn say(
+    alloc: Global,
+    labels: &[u64],
+    differences: &[(u64, u64)],
+    cells: &[u64],
+) -> Result<Known, AllocError>
+    ensures { IfOk result (λ k. k ≡ said_by labels.now differences.now cells.now) }
+{
+    let same = same_pairs(alloc, labels)?;
+    let differ = differing_pairs(alloc, labels, differences)?;
+    let cells = cell_numbers(alloc, labels, cells)?;
+    Ok(Known::new(same, differ, cells))
+}
+
+/// What differences and cells say of some numbers, unless a difference is within a class.
+pub fn tell(
+    alloc: Global,
+    labels: &[u64],
+    differences: &[(usize, usize)],
+    cells: &[usize],
+    kept: &[usize],
+) -> Result<Option<Known>, AllocError>
+    ensures { IfOk result (λ o. MatchOption o (¬ AreApartLabels (all_pairs labels.now differences.now cells.now)) (λ k. AreApartLabels (all_pairs labels.now differences.now cells.now) × (k ≡ told_by labels.now differences.now cells.now kept.now))) }
+{
+    let addresses = labels_of(alloc, labels, cells)?;
+    let all = differences_of(alloc, labels, differences, &addresses)?;
+    if !are_apart(&all) {
+        return Ok(None);
+    }
+    let kept_labels = labels_of(alloc, labels, kept)?;
+    let known = say(alloc, &kept_labels, &all, &addresses)?;
+    Ok(Some(known))
+}
+
+/// What is known of some numbers after a base pair of the numbers at some places, unless a difference is within a class.
+pub fn combine(
+    alloc: Global,
+    start: &[u64],
+    state: &Known,
+    places: &[usize],
+    pair: &Known,
+    kept: &[usize],
+) -> Result<Option<Known>, AllocError>
+    ensures { IfOk result (λ o. MatchOption o (¬ AreApartLabels (combined_pairs start.now state.now places.now pair.now)) (λ k. AreApartLabels (combined_pairs start.now state.now places.now pair.now) × (k ≡ combined start.now state.now places.now pair.now kept.now))) }
+{
+    let equations = pairs_then(alloc, state.same(), places, pair.same())?;
+    let labels = join_all(alloc, start, &equations)?;
+    let differences = pairs_then(alloc, state.differ(), places, pair.differ())?;
+    let cells = numbers_then(alloc, state.cells(), places, pair.cells())?;
+    tell(alloc, &labels, &differences, &cells, kept)
+}

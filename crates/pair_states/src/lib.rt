@@ -1,0 +1,11 @@
+//! What is known of the terms of a symbolic heap, its base pairs taken in one atom at a time.
+#![tactic(auto)]
+
+mod combining;
+mod known;
+mod labels;
+mod states;
+
+pub use combining::combine;
+pub use known::Known;
+pub use states::{add, states_after};

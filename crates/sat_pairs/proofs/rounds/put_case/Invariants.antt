@@ -1,0 +1,17 @@
+use Rattle.std.proofs.Common.{◌≡◌, ◌⊎◌, length}
+use Rattle.pair_family.specs.BasePairs.{BasePair}
+use Rattle.pair_family.specs.Tables.{IsMember, pairs_of}
+use Rattle.sat_pairs.specs.Growth.{total, IsPartOf, IsGrown}
+use Rattle.sat_pairs.proofs.rounds.put_case.Given as goal
+
+abbrev pub invariant-loop-known : goal.invariant-loop-known
+invariant-loop-known l = record {
+  part : IsPartOf l.defs.list l.most l.table;
+  count : l.now ≡ total l.table;
+  grown : IsGrown l.fn.table l.table;
+  rest : (b : BasePair) → IsMember b l.given.keys → IsMember b l.initial.given.keys;
+  done : (b : BasePair) → IsMember b l.initial.given.keys → IsMember b l.given.keys ⊎ IsMember b (pairs_of l.table l.pred);
+}
+
+abbrev pub decreases-loop-known : goal.decreases-loop-known
+decreases-loop-known l = length l.given.keys

@@ -1,0 +1,52 @@
+-- Tables that grow.
+use Rattle.std.specs.Prelude.{◌≡◌, ℕ, zero, suc, ◌+◌, ◌≤◌, List, [], ◌∷◌, ◌++◌, length, Bool, true, false}
+use Rattle.heap_formula.specs.declared.atoms.Spatial.{Spatial}
+use Rattle.heap_formula.specs.declared.atoms.Spatial.TheVariants.{Cell, Pred}
+use Rattle.heap_formula.specs.Symbolic.{SymbolicHeap}
+use Rattle.heap_formula.specs.Words.{OneOf}
+use Rattle.heap_formula.specs.Definitions.{Definition}
+use Rattle.pair_family.specs.BasePairs.{BasePair}
+use Rattle.pair_family.specs.Family.{CaseGives, InFamily}
+use Rattle.pair_family.specs.Tables.{IsMember, IsDistinct, Table, in_table, pairs_of}
+
+-- how many base pairs a table has
+abbrev pub total : Table → ℕ
+total [] = 0
+total (bs ∷ table) = length bs + total table
+
+-- the base pairs of an atom; a cell's are given
+abbrev pub pairs_for : Table → List BasePair → Spatial → List BasePair
+pairs_for table cell (Cell t ts) = cell
+pairs_for table cell (Pred p ts) = pairs_of table p
+
+-- one more base pair of predicate p
+abbrev pub with_pair : Table → ℕ → BasePair → Table
+with_pair [] p b = []
+with_pair (bs ∷ table) zero b = (bs ++ b ∷ []) ∷ table
+with_pair (bs ∷ table) (suc p) b = bs ∷ with_pair table p b
+
+-- the table after a base pair was added, with whether it is new
+abbrev pub IsAddedTo : Table → Table → ℕ → BasePair → Bool → Type 0
+IsAddedTo old new p b true = (¬ IsMember b (pairs_of old p)) × (new ≡ with_pair old p b)
+IsAddedTo old new p b false = IsMember b (pairs_of old p) × (new ≡ old)
+
+-- a table of members of the family, none twice, and no more than `most`
+pub record IsPartOf (ds : List Definition) (most : ℕ) (table : Table) : Type 0 where
+  pub members : (p : ℕ) (b : BasePair) → IsMember b (pairs_of table p) → InFamily ds p b
+  pub distinct : (p : ℕ) → IsDistinct (pairs_of table p)
+  pub few : total table ≤ most
+  pub long : length table ≡ length ds
+
+-- the new table has what the old one has, and is the old one if it has no more
+pub record IsGrown (old new : Table) : Type 0 where
+  pub within : (p : ℕ) (b : BasePair) → IsMember b (pairs_of old p) → IsMember b (pairs_of new p)
+  pub more : total old ≤ total new
+  pub same : total new ≡ total old → new ≡ old
+
+-- the new table has what a case of predicate p gives with the old one
+abbrev pub HasGiven : Table → Table → ℕ → ℕ → SymbolicHeap → Type 0
+HasGiven old new p k a = (b : BasePair) → CaseGives (in_table old) k b a → IsMember b (pairs_of new p)
+
+-- and what some cases give
+abbrev pub HasAllGiven : Table → Table → ℕ → ℕ → List SymbolicHeap → Type 0
+HasAllGiven old new p k cases = (b : BasePair) → OneOf (CaseGives (in_table old) k b) cases → IsMember b (pairs_of new p)
