@@ -8,7 +8,7 @@ use std::marker::Model;
 
 /// A base pair: which of nil and the parameters of a predicate are equal, which differ, and which are cells; or the same
 /// of the terms that are kept, by number.
-#[derive(Debug, Drop)]
+#[derive(Drop)]
 pub struct Known {
     same: Vec<(usize, usize)>,
     differ: Vec<(usize, usize)>,
