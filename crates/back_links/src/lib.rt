@@ -10,5 +10,5 @@ mod prospects;
 mod variables;
 
 pub use faults::link_fault;
-pub use listing::all_links;
+pub use listing::{all_links, no_link_is_left_out};
 pub use variables::{some_spatial_has, stands_in_pure};

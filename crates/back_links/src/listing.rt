@@ -1,9 +1,10 @@
 // All links from a bud to a companion, by depth-first search.
-ghost use Rattle.std.specs.Prelude.{◌≡◌, ◌≤◌, ◌∷◌, [], ◌++◌, drop, length, take, IfOk, OnOk, None};
+ghost use Rattle.std.specs.Prelude.{ℕ, ◌≡◌, ◌≤◌, ◌∷◌, [], ◌++◌, drop, length, take, IfOk, OnOk, None};
 ghost use Rattle.heap_formula.specs.Judgements.{antecedent as antecedent_of};
 ghost use Rattle.rule_table.specs.Answer.{disjuncts as disjuncts_of};
 ghost use Rattle.back_links.specs.Listing.{links, link_of, number_choices, value_choices, values_of, universals as universals_of, IsMade};
 ghost use Rattle.heap_formula.specs.Words.{OneOf};
+ghost use Rattle.heap_formula.specs.declared.judgements.Judgement.{Judgement as JudgementParts};
 ghost use Rattle.heap_formula.specs.declared.proof_rules.Link.{Link as LinkParts};
 ghost use Rattle.rule_table.specs.LinkTable.{link_fault as fault_of};
 ghost use Rattle.back_links.specs.Branches.{if_right, by_entries, by_pairs, by_places};
@@ -239,7 +240,12 @@ pub fn all_links(
     most: u32,
 ) -> Result<Vec<Link>, OutOfMemory>
     ensures links { IfOk result (λ v. v.items ≡ take most (links bud.now companion.now target p)) }
-    ensures complete { (link : LinkParts) → link.target ≡ target → IsMade (values_of bud.now) (universals_of companion.now) link.subst → fault_of bud.now companion.now link p ≡ None → OneOf (λ l. l ≡ link) (links bud.now companion.now target p) }
 {
     first_links(alloc, bud, companion, target, p, most)
 }
+
+/// No link is left out of the list that `all_links` begins: each link without a fault, whose substitution sends the
+/// companion's universal variables in ascending order to `nil` or to those of the bud, is in it. The function does nothing.
+pub fn no_link_is_left_out()
+    ensures { (bud companion : JudgementParts) (target p : ℕ) (link : LinkParts) → link.target ≡ target → IsMade (values_of bud) (universals_of companion) link.subst → fault_of bud companion link p ≡ None → OneOf (λ l. l ≡ link) (links bud companion target p) }
+{}

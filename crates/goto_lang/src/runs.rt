@@ -1,10 +1,9 @@
 // Runs in which `new` takes the least free address.
-ghost use Rattle.std.specs.Prelude.{◌≡◌, ◌<◌, ◌↔◌, ℕ, replicate, IfOk};
+ghost use Rattle.std.specs.Prelude.{◌≡◌, ◌<◌, ◌↔◌, IfOk};
 ghost use Rattle.heap_formula.specs.Programs.{Config as State};
 ghost use Rattle.goto_lang.specs.declared.configs.Config.{Config};
 ghost use Rattle.goto_lang.specs.States.{state_of, IsStateOf};
-ghost use Rattle.goto_lang.specs.Steps.{IsSuccessor};
-ghost use Rattle.goto_lang.specs.Endings.{zero_fields, LowestStep, LowestRun, IsEnding, IsLowest};
+ghost use Rattle.goto_lang.specs.Endings.{zero_fields, LowestRun, IsEnding, IsLowest};
 
 use crate::configs::Config;
 use crate::programs::Program;
@@ -70,7 +69,6 @@ pub fn run_lowest(
 ) -> Result<Ran, OutOfMemory>
     requires { IsStateOf program.now (state_of config.now) }
     ensures answer { IfOk result (λ r. (q : Ran) → (r ≡ q) ↔ IsEnding program.now steps (state_of config.now) q) }
-    ensures machine { (w : ℕ) → 0 < w → (c d : State) → LowestStep program.now c d → IsSuccessor program.now w c d }
 {
     let mut current = config.clone()?;
     for done in 0..steps {

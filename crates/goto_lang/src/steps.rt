@@ -1,13 +1,12 @@
 // One step of a program.
-ghost use Rattle.std.specs.Prelude.{◌≡◌, ◌+◌, ◌-◌, ◌^◌, ◌<◌, ◌≤◌, ◌↔◌, ℕ, List, length, IsTrue, IfOk, OnOk, Some, None, if◌then◌else◌, slice_get, slice_set};
+ghost use Rattle.std.specs.Prelude.{◌≡◌, ◌+◌, ◌-◌, ◌^◌, ◌<◌, ◌≤◌, ◌↔◌, ℕ, length, IsTrue, IfOk, Some, None, if◌then◌else◌, slice_set};
 ghost use Rattle.std.specs.FinMap.{insert, remove};
 ghost use Rattle.heap_formula.specs.declared.commands.Command.TheVariants.{New as NewCell};
 ghost use Rattle.heap_formula.specs.Words.{Each};
-ghost use Rattle.heap_formula.specs.Cells.{cell_at};
-ghost use Rattle.heap_formula.specs.Programs.{Config as State, counted_from_one, field_at, command_bound, command_at, greatest, next_line, jump, MayPick};
+ghost use Rattle.heap_formula.specs.Programs.{counted_from_one, field_at, command_bound, greatest, next_line, jump, MayPick};
 ghost use Rattle.goto_lang.specs.declared.configs.Config.{Config};
 ghost use Rattle.goto_lang.specs.States.{state_of, IsStateOf};
-ghost use Rattle.goto_lang.specs.Steps.{MayTake, IsStep, IsSuccessor};
+ghost use Rattle.goto_lang.specs.Steps.{MayTake, IsStep};
 ghost use Rattle.goto_lang.specs.Effects.{Makes, IsLoad, IsStore, IsFree, IsJump};
 
 use crate::cells::Cells;
@@ -242,7 +241,6 @@ pub fn step(
     requires state { IsStateOf program.now (state_of config.now) }
     requires headroom { greatest (state_of config.now) + w < 2 ^ 64 }
     ensures answer { IfOk result (λ r. (q : Stepped) → (r ≡ q) ↔ IsStep program.now w pick fill.now (state_of config.now) q) }
-    ensures successors { (d : Config) → IsSuccessor program.now w (state_of config.now) (state_of d) ↔ ((a : ℕ) × (vs : List ℕ) × (a < 2 ^ 64) × Each (λ v. v < 2 ^ 64) vs × IsStep program.now w a vs (state_of config.now) (Stepped.To d)) }
     ensures stays { IfOk result (λ r. (d : Config) → r ≡ Stepped.To d → IsStateOf program.now (state_of d)) }
 {
     let command = program.command(config.line);

@@ -2,14 +2,8 @@ use Rattle.std.proofs.Common.{◌≤◌, sym, subst, ℕ}
 use Rattle.std.proofs.lemmas.Result.{IfOk-weaker}
 use Rattle.heap_formula.specs.Programs.{command_bound}
 use Rattle.goto_lang.specs.States.{state_of}
-use Rattle.goto_lang.proofs.Moves.{bound_at, exactly, makes_step, makes_stay, successors, new_takes}
+use Rattle.goto_lang.proofs.Moves.{bound_at, exactly, makes_step, makes_stay, new_takes}
 use Rattle.goto_lang.proofs.steps.step.Goals as goal
-
-pub returns-then-not-may_take-clause-successors : goal.returns-then-not-may_take-clause-successors
-returns-then-not-may_take-clause-successors c = λ d. successors c.args.program.now c.args.w (state_of c.args.config.now) d c.requires.headroom
-
-pub returns-clause-successors : goal.returns-clause-successors
-returns-clause-successors c = λ d. successors c.args.program.now c.args.w (state_of c.args.config.now) d c.requires.headroom
 
 pub perform-requires-clause-variables : goal.perform-requires-clause-variables
 perform-requires-clause-variables c =
