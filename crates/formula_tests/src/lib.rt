@@ -7,3 +7,5 @@ mod goto_lang_tests;
 mod heap_formula_tests;
 #[cfg(test)]
 mod pred_defs_tests;
+#[cfg(test)]
+mod sat_pairs_tests;
