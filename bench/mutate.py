@@ -1,0 +1,121 @@
+"""Tries a program on examples that were changed at random (bench/mutate.sh calls it)."""
+import collections
+import glob
+import random
+import re
+import subprocess
+import sys
+import tempfile
+
+PLACE = rb"line \d+ column \d+"
+FAULT = rb"[A-Z][A-Za-z]+( \d+)?"
+WHAT = rb"(predicates|arguments|cases|pure|spatial|locals|disjuncts|lines|program-variables|fields|nodes|variable)"
+ILL = rb"(duplicate|parameter|unknown|arity|numbering|jump|falls-off|no-line)"
+STEPS = rb"( \d+\.\d+)*"
+LINES = {
+    0: rb"accepted (entailment|termination) nodes \d+ links \d+\n",
+    1: rb"refused (node \d+ " + FAULT + rb"|path stem" + STEPS + rb" cycle( \d+\.\d+)+)\n",
+    2: rb"usage: cyclist check \|.*\n",
+    3: rb"unreadable ((byte|utf8|number|name) offset \d+|syntax token \d+) " + PLACE + rb"\n",
+    4: rb"ill-formed " + ILL + rb" token \d+ " + PLACE + rb"\n",
+    5: rb"limit (" + WHAT + rb" token \d+ " + PLACE + rb"|states|derivations|input)\n",
+    6: rb"not found depth \d+\n",
+}
+TOKEN = re.compile(rb"[A-Za-z_]\w*|\d+|\|-|->|:=|!=|#[^\n]*|\s+|.", re.S)
+NUMBERS = [b"0", b"1", b"2", b"3", b"7", b"8", b"9", b"15", b"16", b"63", b"64", b"65534", b"65535", b"999999999", b"007"]
+
+
+def change_byte(chance, text, _texts):
+    at, byte = chance.randrange(len(text) + 1), bytes([chance.randrange(256)])
+    return chance.choice([text[:at] + byte + text[at:], text[:at] + text[at + 1 :], text[:at] + byte + text[at + 1 :], text[:at]])
+
+
+def change_token(chance, text, texts):
+    tokens, others = TOKEN.findall(text), TOKEN.findall(chance.choice(texts))
+    at, other = chance.randrange(len(tokens)), chance.choice(others)
+    replaced = chance.choice([[], [other], [tokens[at], b" ", tokens[at]], [tokens[at], b" ", other], [chance.choice(tokens)]])
+    return b"".join([*tokens[:at], *replaced, *tokens[at + 1 :]])
+
+
+def change_number(chance, text, _texts):
+    tokens = TOKEN.findall(text)
+    places = [i for i, it in enumerate(tokens) if it.isdigit()]
+    if not places:
+        return text
+    at = chance.choice(places)
+    near = b"%d" % max(0, int(tokens[at]) + chance.choice([-1, 1]))
+    tokens[at] = chance.choice([near, chance.choice(NUMBERS), tokens[chance.choice(places)]])
+    return b"".join(tokens)
+
+
+def run(words, text):
+    """Returns the status and what the program writes, or None where it is not done within 5 seconds."""
+    try:
+        done = subprocess.run(words, input=text, capture_output=True, timeout=5)
+    except subprocess.TimeoutExpired:
+        return None
+    return done.returncode, done.stdout, done.stderr
+
+
+def run_in_pieces(chance, words, text):
+    with subprocess.Popen(words, stdin=subprocess.PIPE, stdout=subprocess.PIPE, stderr=subprocess.PIPE) as process:
+        try:
+            at = 0
+            while at < len(text):
+                size = chance.choice([1, 2, 3, 7, 64])
+                process.stdin.write(text[at : at + size])
+                process.stdin.flush()
+                at += size
+            process.stdin.close()
+        except BrokenPipeError:
+            pass
+        wrote, said = process.stdout.read(), process.stderr.read()
+    return process.returncode, wrote, said
+
+
+def complaint(chance, program, words, text):
+    """Returns the status, and what is wrong with the answer, if anything is."""
+    ran = run([program, *words], text)
+    if ran is None:
+        return None, "no answer within 5 seconds"
+    status, wrote, said = ran
+    if status not in LINES or said:
+        return status, f"status {status}, and on standard error {said!r}"
+    if words[0] == "prove" and status == 0:
+        checked = run([program, "check"], wrote)
+        if checked is None or checked[0] != 0:
+            return status, f"what was found is not accepted: {checked}"
+    elif not re.fullmatch(LINES[status], wrote):
+        return status, f"status {status} with {wrote!r}"
+    if chance.random() < 0.1 and run_in_pieces(chance, [program, *words], text) != ran:
+        return status, "another answer where the input comes in pieces"
+    return status, None
+
+
+def main(count, seed, program, folder):
+    chance = random.Random(seed)
+    names = sorted([*glob.glob(f"{folder}/*.proof"), *glob.glob(f"{folder}/*.problem")])
+    texts = []
+    for name in names:
+        with open(name, "rb") as it:
+            texts.append(it.read())
+    ended = collections.Counter()
+    for number in range(count):
+        at = chance.randrange(len(names))
+        text = texts[at]
+        for _ in range(chance.choice([1, 1, 1, 2, 3])):
+            text = chance.choice([change_byte, change_token, change_number, change_number])(chance, text, texts)
+        words = ["check"] if names[at].endswith(".proof") else ["prove", "--depth", "5"]
+        status, wrong = complaint(chance, program, words, text)
+        if wrong:
+            with tempfile.NamedTemporaryFile(prefix="mutated-", delete=False) as it:
+                it.write(text)
+            print(f"case {number} of seed {seed}, {' '.join(words)} < {it.name}: {wrong}")
+            return 1
+        ended[words[0], status] += 1
+    for (word, status), cases in sorted(ended.items()):
+        print(f"{word} status {status}: {cases}")
+    return 0
+
+
+sys.exit(main(int(sys.argv[1]), int(sys.argv[2]), *sys.argv[3:]))
