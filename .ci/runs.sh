@@ -1,8 +1,7 @@
 #!/usr/bin/env bash
 # .ci/runs.sh PROGRAM: runs the built program with the words of each command, and compares its status and what it writes.
 set -u
-program=$1
-top=$(cd "$(dirname "${BASH_SOURCE[0]}")/.." && pwd)
+. "$(dirname "${BASH_SOURCE[0]}")/../bench/common.sh"
 usage='usage: cyclist check | prove [--depth N] | ring K'
 failed=0
 
@@ -47,6 +46,11 @@ run 3 'unreadable syntax token 0 line 1 column 1' check < <(all_of '(' 16777216)
 run 3 'unreadable name offset 0 line 1 column 1' check < <(all_of 'a' 16777216)
 run 3 'unreadable number offset 0 line 1 column 1' prove < <(all_of '7' 16777216)
 run 3 'unreadable utf8 offset 16777215 line 1 column 16777216' check < <(all_of ' ' 16777215; printf '\303')
+
+# the deepest search, and products of 198,667 states and of more than 200,000
+run 6 'not found depth 40' prove --depth 40 < "$top/examples/acyclic-segments.problem"
+run 0 'accepted entailment nodes 9 links 2' check < <(turns 12 4)
+run 5 'limit states' check < <(turns 12 5)
 
 # a source that cannot be read, and a sink that cannot be written
 run 7 '' check < "$top"

@@ -1,5 +1,5 @@
-# What the benchmarks share: the program to measure, a folder for its input and answer, the seconds of a run, and a family
-# of proofs.
+# What the benchmarks share: the program to measure, a folder for its input and answer, the seconds of a run, and two
+# families of proofs.
 set -u
 top=$(cd "$(dirname "${BASH_SOURCE[0]}")/.." && pwd)
 program=${1:-$top/crates/cyclist/out/cyclist}
@@ -35,6 +35,33 @@ ring() { # K: the proof that the ring of K predicates entails the plain list
         node(rest, "true : " v " -> (" u ") * q(" u ")", "Frame 0 0 to " b + 8)
       }
       node("true : p0($" K ")", "true : q($" K ")", "Link 0 { $0 := $" K " } [0] [0]")
+      print "end;"
+    }'
+}
+
+# A right proof with many product states: n atoms, of which the first is unfolded again and again, after it two ways on, one of
+# which turns the order of the atoms round. Each way is a permutation of the atoms, so each trace comes back to its place.
+turns() { # ATOMS NODES: so many atoms, and nodes before the two ways part
+  awk -v n="$1" -v k="$2" '
+    function pures(count, more,   i, s) {
+      s = more
+      for (i = 0; i < count; i++) s = (i ? "nil = nil, " : "nil = nil" (more == "" ? "" : ", ")) s
+      return s == "" ? "true" : s
+    }
+    function node(count, more, reason) { printf "node %s : %s |- true : emp by %s;\n", pures(count, more), atoms, reason }
+    BEGIN {
+      for (i = 0; i < n; i++) {
+        atoms = atoms (i ? " * " : "") "e()"
+        same = same (i ? " " : "") i
+        round = round (i ? " " : "") (n - 1 - i)
+      }
+      print "cyclist proof 1;\npred e(0) { true : e() };"
+      for (i = 0; i < k; i++) node(k - i, "", "Weaken 0 to " i + 1)
+      node(0, "", "Split $0 $1 to " k + 1 " " k + 3)
+      node(0, "$0 = $1", "Unfold 0 to " k + 2)
+      node(0, "$0 = $1", "Link 0 { } [" same "] [0]")
+      node(0, "$0 != $1", "Unfold 0 to " k + 4)
+      node(0, "$0 != $1", "Link 0 { } [" round "] [0]")
       print "end;"
     }'
 }
