@@ -1,11 +1,16 @@
 -- What a source told, and answers over it.
 use Rattle.std.proofs.Common.{◌≡◌, ℕ, ◌+◌, ◌*◌, ◌<◌, List, [], length, length-append, refl, sym, ap, subst, arith, inr, Option, Some, None}
+use Rattle.std.specs.Prelude.{◌≤◌, Result, Ok, Err, IfOk}
 use Rattle.cyc_io.specs.Bytes.{Came}
+use Rattle.formula_reader.specs.declared.problem.Problem.{Problem}
+use Rattle.formula_reader.specs.Reading as problems
+use Rattle.proof_search.specs.declared.prover.Proved.{Proved}
+use Rattle.cyc_top.specs.declared.answers.Answer.{Answer}
 use Rattle.cyc_texts.specs.Texts.{input_limit_text, ring_text}
 use Rattle.cyc_words.specs.Words.{usage_text}
 use Rattle.cyc_words.specs.declared.tasks.Task.{Task}
 use Rattle.cyc_words.specs.declared.tasks.Task.TheVariants.{Check, Prove, Ring}
-use Rattle.cyc_top.specs.Answers.{Answers, IsAnswer, IsChecked, IsInput, IsSearched, IsTold, IsTooLong, input_limit}
+use Rattle.cyc_top.specs.Answers.{Answers, IsAnswer, IsChecked, IsInput, IsSearch, IsSearched, IsTold, IsTooLong, input_limit, proved_status, proved_text}
 use Rattle.cyc_top.specs.declared.endings.Status.{Status}
 use Rattle.cyc_top.specs.declared.endings.Status.TheVariants.{Success, Usage, Limit}
 
@@ -48,3 +53,8 @@ pub long_answers : (task : Option Task) (told read : Option (List ℕ)) (ending 
 long_answers task told read ending text says is e ends said =
     let long : IsInput told None = subst (IsInput told) e is in
     (long.0, long.1, says long.0 (long.2, ends, said))
+
+-- the answer of a search, from how it ends and what is written
+pub searched_by : {E : Type 0} (depth : ℕ) (input : List ℕ) (p : Problem) (proved : Proved) (r : Result Answer E) → length input ≤ input_limit → problems.IsRead input (Ok p) → IsSearch depth p proved → IfOk r (λ a. a.status ≡ proved_status proved) → IfOk r (λ a. a.text.items ≡ proved_text depth proved) → IfOk r (λ a. IsSearched depth input a.status a.text.items)
+searched_by depth input p proved (Ok a) short read is ends says = (short, Ok p, read, (proved, is, ends, says))
+searched_by depth input p proved (Err e) short read is ends says = tt

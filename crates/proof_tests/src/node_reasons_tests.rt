@@ -38,6 +38,11 @@ fn named(p: u16, t: Term) -> Spatial {
     Spatial::Pred(p, Args::from_slice(&[t]))
 }
 
+/// `$1 -> (nil)`
+fn cell() -> Spatial {
+    Spatial::Cell(V1, Args::from_slice(&[Term::Nil]))
+}
+
 fn kept(old: u8, new: u8) -> Pair {
     Pair {
         old,
@@ -51,12 +56,17 @@ fn kept(old: u8, new: u8) -> Pair {
 #[test]
 fn a_link_leaves_its_companion(rt: HostRuntime) -> Result<(), Fail> {
     let alloc = rt.alloc();
-    let cell = Spatial::Cell(V1, Args::from_slice(&[Term::Nil]));
     let bud = from(
         alloc,
-        &[cell, named(2, V1), named(1, V1), named(2, V0), named(0, V0)],
+        &[
+            cell(),
+            named(2, V1),
+            named(1, V1),
+            named(2, V0),
+            named(0, V0),
+        ],
     )?;
-    let companion = from(alloc, &[named(0, V0), cell, named(1, V1)])?;
+    let companion = from(alloc, &[named(0, V0), cell(), named(1, V1)])?;
     let link = link(alloc, &[4, 0, 2])?;
     let defs = Defs::new(alloc, 16);
     let program = Program::new(alloc, &[])?;
