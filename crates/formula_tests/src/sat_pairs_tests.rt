@@ -158,7 +158,10 @@ fn cells_stand_apart(rt: HostRuntime) -> Result<(), Fail> {
     let a = rt.alloc();
     assert_eq!(rt; holds_somewhere(a, one_cell(a)), Some(true));
     assert_eq!(rt; holds_somewhere(a, two_cells(a, Term::Univ(1))), Some(true));
-    assert_eq!(rt; holds_somewhere(a, two_cells(a, Term::Univ(0))), Some(false));
+    assert_eq!(rt;
+        holds_somewhere(a, two_cells(a, Term::Univ(0))),
+        Some(false)
+    );
     assert_eq!(rt; holds_somewhere(a, two_cells(a, Term::Nil)), Some(false));
     Ok(())
 }
