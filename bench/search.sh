@@ -1,15 +1,24 @@
 #!/usr/bin/env bash
-# bench/search.sh [PROGRAM]: seconds of `prove` on each problem of examples/, with its answer: the nodes and links of the
-# proof that it wrote, or its line. Prints figures; it passes and fails nothing.
+# bench/search.sh [PROGRAM [SEEKER]]: seconds of `prove` on each problem of examples/, and of the free search on each of them and
+# of examples/seek/, with the answers: the nodes and links of the proof that was written, or its line. Prints figures; it
+# passes and fails nothing.
 . "$(dirname "${BASH_SOURCE[0]}")/common.sh"
+seeker=${2:-$top/crates/cyclist_seek/out/cyclist_seek}
+[ -x "$seeker" ] || { echo "no program at $seeker; build it with $top/seek" >&2; exit 1; }
 
-for problem in "$top"/examples/*.problem; do
-  cp "$problem" "$work/file"
-  spent=$(seconds "$program" prove)
+measure() { # PROBLEM COMMAND..
+  local spent answer
+  cp "$1" "$work/file"
+  spent=$(seconds "${@:2}")
   if head -n 1 "$work/answer" | grep -q '^cyclist proof'; then
     answer="$(grep -c '^node' "$work/answer") nodes, $(grep -c ' by Link ' "$work/answer") links"
   else
     answer=$(cat "$work/answer")
   fi
-  printf '%-28s %8.2f s  %s\n' "$(basename "$problem" .problem)" "$spent" "$answer"
-done
+  printf '%-28s %8.2f s  %s\n' "$(basename "$1" .problem)" "$spent" "$answer"
+}
+
+echo prove
+for problem in "$top"/examples/*.problem; do measure "$problem" "$program" prove; done
+echo seek
+for problem in "$top"/examples/*.problem "$top"/examples/seek/*.problem; do measure "$problem" "$seeker"; done

@@ -1,8 +1,10 @@
 #!/usr/bin/env bash
-# examples/check.sh PROGRAM: each example is answered as its line in answers.txt says; and the proof beside a problem, its
-# comments aside, is what `prove` writes of that problem, or there is none and no proof is found.
+# examples/check.sh PROGRAM SEEKER: each example is answered as its line in answers.txt says; the proof beside a problem, its
+# comments aside, is what `prove` writes of that problem, or there is none and no proof is found; the free search finds a proof
+# of each of them too, and the proofs in seek/ are what it writes.
 set -u
 program=$1
+seeker=$2
 here=$(cd "$(dirname "$0")" && pwd)
 failed=0
 
@@ -15,7 +17,9 @@ while IFS='|' read -r file status text; do
   case $file in '#'*|'') continue ;; esac
   got=$("$program" check < "$here/$file")
   code=$?
-  if [ "$code" != "$status" ] || [ "$got" != "$text" ]; then
+  # (a text with a star is a pattern: which path without progress is named, where there are several, is left open)
+  # shellcheck disable=SC2053
+  if [ "$code" != "$status" ] || [[ $got != $text ]]; then
     fail "examples/$file: status $code, '$got'; wanted status $status, '$text'"
   fi
 done < "$here/answers.txt"
@@ -30,5 +34,27 @@ for problem in "$here"/*.problem; do
   else
     [ "$code" = 6 ] && [ "$got" = 'not found depth 16' ] || fail "examples/$name: prove ends with $code, and '$(echo "$got" | head -n 1)'"
   fi
+done
+
+# Whether the free search finds a proof of the problem, as `check` sees it.
+finds() { # PROBLEM
+  got=$("$seeker" < "$1") && "$program" check <<< "$got" > /dev/null
+}
+
+for problem in "$here"/*.problem; do
+  name=$(basename "$problem")
+  if [ -f "${problem%.problem}.proof" ]; then
+    finds "$problem" || fail "examples/$name: seek finds no proof"
+  else
+    got=$("$seeker" < "$problem")
+    code=$?
+    [ "$code" = 6 ] && [ "$got" = 'not found' ] || fail "examples/$name: seek ends with $code, and '$(echo "$got" | head -n 1)'"
+  fi
+done
+
+for problem in "$here"/seek/*.problem; do
+  name=seek/$(basename "$problem")
+  finds "$problem" || fail "examples/$name: seek finds no proof"
+  [ "$got" = "$(grep -v '^#' "${problem%.problem}.proof")" ] || fail "examples/$name: seek does not write the proof beside it"
 done
 exit "$failed"

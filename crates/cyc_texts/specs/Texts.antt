@@ -90,6 +90,18 @@ states_limit_text = codes "limit states\n"
 abbrev pub derivations_limit_text : List ℕ
 derivations_limit_text = codes "limit derivations\n"
 
+-- there are too many base pairs
+abbrev pub pairs_limit_text : List ℕ
+pairs_limit_text = codes "limit pairs\n"
+
+-- some stack and heap satisfy the antecedent
+abbrev pub satisfiable_text : List ℕ
+satisfiable_text = codes "satisfiable\n"
+
+-- none do
+abbrev pub unsatisfiable_text : List ℕ
+unsatisfiable_text = codes "unsatisfiable\n"
+
 -- no proof was found within this depth
 abbrev pub not_found_text : ℕ → List ℕ
 not_found_text depth = codes "not found depth " ++ decimal depth ++ codes "\n"

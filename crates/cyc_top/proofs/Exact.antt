@@ -1,12 +1,11 @@
 -- Each task has one way to end for each input.
-use Rattle.std.proofs.Common.{◌≡◌, ℕ, ◌≤◌, List, true, false, refl, ap, sym, ◌∙◌, arith, subst, inl, inr, length, Option, Some, None}
+use Rattle.std.proofs.Common.{◌≡◌, ◌⊎◌, ℕ, ◌≤◌, List, true, false, refl, ap, sym, ◌∙◌, arith, subst, inl, inr, length, Option, Some, None}
 use Rattle.std.specs.Prelude.{Result, Ok, Err}
 use Rattle.std.specs.Io.KnownBytes.{Appends}
 use Rattle.heap_formula.specs.declared.proof_rules.Reason.{Reason}
 use Rattle.heap_formula.specs.Judgements.{JudgementHolds}
 use Rattle.derivation_search.specs.System.{IsFound, search_of}
 use Rattle.cyc_lex.specs.declared.fault.ReadFault.{ReadFault}
-use Rattle.cyc_lex.specs.declared.fault.ReadFault.TheVariants as faults
 use Rattle.formula_reader.specs.declared.problem.Problem.{Problem}
 use Rattle.formula_reader.specs.Reading as problems
 use Rattle.proof_file.specs.declared.file.ProofFile.{ProofFile}
@@ -22,14 +21,17 @@ use Rattle.proof_search.specs.declared.prover.Proved.TheVariants as answers
 use Rattle.proof_search.specs.Outcomes.{search_for, IsProved}
 use Rattle.cyc_words.specs.Words.{reads_input}
 use Rattle.cyc_words.specs.declared.tasks.Task.{Task}
-use Rattle.cyc_words.specs.declared.tasks.Task.TheVariants.{Check, Prove, Ring}
-use Rattle.cyc_top.specs.declared.endings.Status.{Status}
-use Rattle.cyc_top.specs.declared.endings.Status.TheVariants as status
-use Rattle.cyc_top.specs.Answers.{Answers, IsAnswer, IsChecked, IsHeadline, IsReadAnswer, IsSearchAnswer, IsSearched, IsTold, WroteProof, derivation_limit, fault_status, input_limit, proved_status, proved_text, verdict_status}
+use Rattle.cyc_words.specs.declared.tasks.Task.TheVariants.{Check, Prove, Ring, Upgrade, Sat}
+use Rattle.cyc_runs.specs.declared.endings.Status.{Status}
+use Rattle.cyc_runs.specs.declared.endings.Status.TheVariants as status
+use Rattle.cyc_runs.specs.Endings.{is_answer}
+use Rattle.cyc_runs.specs.Runs.{IsTold, input_limit}
+use Rattle.cyc_top.specs.Answers.{Answers, IsAnswer, IsChecked, IsHeadline, IsRefutation, IsReadAnswer, IsSearchAnswer, IsSearched, IsUpgradeAnswer, IsUpgraded, WroteAnswer, WroteProof, derivation_limit, proved_status, proved_text, verdict_status}
 use Rattle.cyc_top.proofs.OneReading.{AreAlike}
 use Rattle.cyc_top.proofs.Readings.{one_file_reading, one_problem_reading}
 use Rattle.cyc_top.proofs.OneVerdict.{one_ending, right_faulty, same_back, same_few, same_progress}
 use Rattle.cyc_top.proofs.OneSearch.{one_search, found_search, goal_holds, proof_accepted}
+use Rattle.cyc_top.proofs.OneSat.{asked_ends, fault_fails, refusal_impossible, success_possible}
 
 -- ---- an input that was read in one way is answered with one status
 
@@ -56,6 +58,17 @@ searched_ends : (depth : ℕ) (input : List ℕ) (s t : Status) (xs ys : List �
 searched_ends depth input s t xs ys first second =
     search_answer_ends depth first.1 second.1 s t xs ys (one_problem_reading input first.1 second.1 first.2 second.2) first.3 second.3
 
+-- so is an upgraded one
+upgrade_answer_ends : (r q : Result ProofFile ReadFault) (s t : Status) (xs ys : List ℕ) → AreAlike AreSame r q → IsUpgradeAnswer r s xs → IsUpgradeAnswer q t ys → s ≡ t
+upgrade_answer_ends (Ok f) (Ok g) s t xs ys same first second = first.2 ∙ sym second.2
+upgrade_answer_ends (Err a) (Err b) s t xs ys same first second = first.0 ∙ same ∙ sym second.0
+upgrade_answer_ends (Ok f) (Err b) s t xs ys same first second = absurd same
+upgrade_answer_ends (Err a) (Ok g) s t xs ys same first second = absurd same
+
+upgraded_ends : (input : List ℕ) (s t : Status) (xs ys : List ℕ) → IsUpgraded input s xs → IsUpgraded input t ys → s ≡ t
+upgraded_ends input s t xs ys first second =
+    upgrade_answer_ends first.1 second.1 s t xs ys (one_file_reading input first.1 second.1 first.2 second.2) first.3 second.3
+
 -- a task is answered for an input with one status
 pub one_status : (task : Option Task) (input : List ℕ) (s t : Status) (xs ys : List ℕ) → IsAnswer task input s xs → IsAnswer task input t ys → s ≡ t
 one_status None input s t xs ys first second = first.0 ∙ sym second.0
@@ -67,6 +80,14 @@ one_status (Some (Prove depth)) input s t xs ys (inl first) (inl second) = first
 one_status (Some (Prove depth)) input s t xs ys (inr first) (inr second) = searched_ends depth input s t xs ys first second
 one_status (Some (Prove depth)) input s t xs ys (inl first) (inr second) = absurd (omega (arith, first.0, second.0))
 one_status (Some (Prove depth)) input s t xs ys (inr first) (inl second) = absurd (omega (arith, first.0, second.0))
+one_status (Some Upgrade) input s t xs ys (inl first) (inl second) = first.1 ∙ sym second.1
+one_status (Some Upgrade) input s t xs ys (inr first) (inr second) = upgraded_ends input s t xs ys first second
+one_status (Some Upgrade) input s t xs ys (inl first) (inr second) = absurd (omega (arith, first.0, second.0))
+one_status (Some Upgrade) input s t xs ys (inr first) (inl second) = absurd (omega (arith, first.0, second.0))
+one_status (Some Sat) input s t xs ys (inl first) (inl second) = first.1 ∙ sym second.1
+one_status (Some Sat) input s t xs ys (inr first) (inr second) = asked_ends input s t xs ys first second
+one_status (Some Sat) input s t xs ys (inl first) (inr second) = absurd (omega (arith, first.0, second.0))
+one_status (Some Sat) input s t xs ys (inr first) (inl second) = absurd (omega (arith, first.0, second.0))
 one_status (Some (Ring k)) input s t xs ys first second = first.0 ∙ sym second.0
 
 -- the input that was told
@@ -75,7 +96,7 @@ told_is None input other e told = cc
 told_is (Some xs) input other e told = cc
 
 -- an answer to what was told is one for the told input
-answer_for : (task : Option Task) (told : Option (List ℕ)) (input : List ℕ) (s : Status) (xs : List ℕ) → told ≡ Some input → Answers task told s xs → IsAnswer task input s xs
+pub answer_for : (task : Option Task) (told : Option (List ℕ)) (input : List ℕ) (s : Status) (xs : List ℕ) → told ≡ Some input → Answers task told s xs → IsAnswer task input s xs
 answer_for task told input s xs e answer =
     subst (λ i. IsAnswer task i s xs) (sym (told_is told input answer.0 e answer.1)) answer.2
 
@@ -92,14 +113,6 @@ success_accepts file Accepted is e = is.2
 success_accepts file (RuleRefused node fault) is e = absurd cc
 success_accepts file (PathRefused lasso) is e = absurd cc
 success_accepts file TooManyStates is e = absurd cc
-
--- no fault of the input ends with success
-pub fault_fails : (fault : ReadFault) → status.Success ≡ fault_status fault → ⊥
-fault_fails (faults.Lex fault) e = cc
-fault_fails (faults.Syntax token line column) e = cc
-fault_fails (faults.IllFormed fault token line column) e = cc
-fault_fails (faults.Limit what token line column) e = cc
-fault_fails faults.OutOfMemory e = cc
 
 -- a check that ends with success read a file whose root holds
 pub success_reads : (input : List ℕ) (r : Result ProofFile ReadFault) (xs : List ℕ) → IsRead input r → IsReadAnswer r status.Success xs → (file : ProofFile) × IsRead input (Ok file) × RootHolds file
@@ -118,6 +131,11 @@ success_proves : (depth : ℕ) (input : List ℕ) (r : Result Problem ReadFault)
 success_proves depth input (Ok p) xs is answer = (p, is, success_holds p answer.0 answer.1.1 answer.2)
 success_proves depth input (Err fault) xs is answer = absurd (fault_fails fault answer.0)
 
+-- an upgrade that ends with success read a file
+upgrade_reads : (input : List ℕ) (r : Result ProofFile ReadFault) (xs : List ℕ) → IsRead input r → IsUpgradeAnswer r status.Success xs → (file : ProofFile) × IsRead input (Ok file)
+upgrade_reads input (Ok file) xs is answer = (file, is)
+upgrade_reads input (Err fault) xs is answer = absurd (fault_fails fault answer.0)
+
 -- a task that ends with success says what it says
 pub success_true : (task : Option Task) (told : Option (List ℕ)) (input xs : List ℕ) → IsTold told input → IsAnswer task input status.Success xs → IsHeadline task told
 success_true None told input xs is answer = absurd (let e : status.Success ≡ status.Usage = answer.0 in cc)
@@ -125,7 +143,20 @@ success_true (Some Check) told input xs is (inl long) = absurd (let e : status.S
 success_true (Some Check) told input xs is (inr checked) = (input, is, success_reads input checked.1 xs checked.2 checked.3)
 success_true (Some (Prove depth)) told input xs is (inl long) = absurd (let e : status.Success ≡ status.Limit = long.1 in cc)
 success_true (Some (Prove depth)) told input xs is (inr searched) = (input, is, success_proves depth input searched.1 xs searched.2 searched.3)
+success_true (Some Upgrade) told input xs is (inl long) = absurd (let e : status.Success ≡ status.Limit = long.1 in cc)
+success_true (Some Upgrade) told input xs is (inr upgraded) = (input, is, upgraded.0, upgrade_reads input upgraded.1 xs upgraded.2 upgraded.3)
+success_true (Some Sat) told input xs is (inl long) = absurd (let e : status.Success ≡ status.Limit = long.1 in cc)
+success_true (Some Sat) told input xs is (inr asked) = (input, is, success_possible input asked.1 xs asked.2 asked.3)
 success_true (Some (Ring k)) told input xs is answer = tt
+
+-- what a refusal of an antecedent says is true
+refused_true : (told : Option (List ℕ)) (input xs : List ℕ) → IsTold told input → IsAnswer (Some Sat) input status.Refused xs → IsRefutation told
+refused_true told input xs is (inl long) = absurd (let e : status.Refused ≡ status.Limit = long.1 in cc)
+refused_true told input xs is (inr asked) = (input, is, refusal_impossible input asked.1 xs asked.2 asked.3)
+
+pub refusal_true : (task : Option Task) (told : Option (List ℕ)) (s : Status) (xs : List ℕ) → task ≡ Some Sat → Answers task told s xs → s ≡ status.Refused → IsRefutation told
+refusal_true task told s xs is answer e =
+    refused_true told answer.0 xs answer.1 (subst (λ t. IsAnswer t answer.0 status.Refused xs) is (subst (λ s. IsAnswer task answer.0 s xs) e answer.2))
 
 -- an answer of success is true
 pub answered_true : (task : Option Task) (told : Option (List ℕ)) (s : Status) (xs : List ℕ) → Answers task told s xs → s ≡ status.Success → IsHeadline task told
@@ -200,3 +231,53 @@ ring_succeeds k task told s text is answer = (subst (λ t. IsAnswer t answer.0 s
 -- it needs no input
 pub ring_reads_not : (k : ℕ) (task : Option Task) → task ≡ Some (Ring k) → reads_input task ≡ true → ⊥
 ring_reads_not k task is reads = let e : false ≡ true = ap reads_input (sym is) ∙ reads in cc
+
+-- ---- how a run ends, from what it wrote
+
+-- a run ends with an answer, or with a fault of the outside, or out of memory
+ending_kind : (s : Status) → (is_answer s ≡ true) ⊎ ((s ≡ status.ReadFault) ⊎ ((s ≡ status.WriteFault) ⊎ (s ≡ status.OutOfMemory)))
+ending_kind status.Success = inl refl
+ending_kind status.Refused = inl refl
+ending_kind status.Usage = inl refl
+ending_kind status.Unreadable = inl refl
+ending_kind status.IllFormed = inl refl
+ending_kind status.Limit = inl refl
+ending_kind status.NotFound = inl refl
+ending_kind status.ReadFault = inr (inl refl)
+ending_kind status.WriteFault = inr (inr (inl refl))
+ending_kind status.OutOfMemory = inr (inr (inr refl))
+
+-- what was written for a task was written for the words that mean it
+pub wrote_as : (task meaning : Option Task) (told old new : Option (List ℕ)) (s : Status) → task ≡ meaning → (is_answer s ≡ true → WroteAnswer task told old new s) → is_answer s ≡ true → WroteAnswer meaning told old new s
+wrote_as task meaning told old new s e wrote = subst (λ t. is_answer s ≡ true → WroteAnswer t told old new s) e wrote
+
+module _ (task : Option Task) (told old new : Option (List ℕ)) (s : Status) (wrote : is_answer s ≡ true → WroteAnswer task told old new s) where
+  -- what holds of each answer to the words holds of the run's
+  pub ended_so : (reads writes : Type 0) (t : Status) → (s ≡ status.ReadFault → reads) → (s ≡ status.WriteFault → writes) → ¬ reads → ¬ writes → ((text : List ℕ) → Answers task told s text → s ≡ t) → (s ≡ t) ⊎ (s ≡ status.OutOfMemory)
+  ended_so reads writes t read write quiet calm says = elim (ending_kind s) [
+    | inl answers ↦ let written = wrote answers in inl (says written.0 written.1)
+    | inr (inl failed) ↦ absurd (quiet (read failed))
+    | inr (inr (inl failed)) ↦ absurd (calm (write failed))
+    | inr (inr (inr memory)) ↦ inr memory
+  ]
+
+  -- success is true
+  pub success_says : s ≡ status.Success → IsHeadline task told
+  success_says e = let written = wrote (ap is_answer e) in answered_true task told s written.0 written.1 e
+
+  -- so is a refusal of an antecedent
+  pub refusal_says : task ≡ Some Sat → s ≡ status.Refused → IsRefutation told
+  refusal_says is e = let written = wrote (ap is_answer e) in refusal_true task told s written.0 is written.1 e
+
+  -- a search that ended with success wrote a proof
+  pub success_wrote : (depth : ℕ) → task ≡ Some (Prove depth) → s ≡ status.Success → WroteProof old new
+  success_wrote depth is e = let written = wrote (ap is_answer e) in wrote_proof depth task told old new s written.0 is written.1 e written.2
+
+  -- a ring reads nothing, and no refusal comes
+  pub ring_ends : (k : ℕ) → task ≡ Some (Ring k) → (s ≡ status.ReadFault → reads_input task ≡ true) → (s ≡ status.Success) ⊎ ((s ≡ status.WriteFault) ⊎ (s ≡ status.OutOfMemory))
+  ring_ends k is asked = elim (ending_kind s) [
+    | inl answers ↦ let written = wrote answers in inl (ring_succeeds k task told s written.0 is written.1)
+    | inr (inl read) ↦ absurd (ring_reads_not k task is (asked read))
+    | inr (inr (inl write)) ↦ inr (inl write)
+    | inr (inr (inr memory)) ↦ inr (inr memory)
+  ]

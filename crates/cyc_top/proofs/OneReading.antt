@@ -9,7 +9,7 @@ use Rattle.cyc_grammar.proofs.Laws.{Lawful}
 use Rattle.heap_reader.specs.declared.flaw.Item.TheVariants.{Ill, Over}
 use Rattle.heap_reader.specs.Reading.{Format, IsLexFault, IsRead, IsReadFrom}
 use Rattle.heap_reader.proofs.Readings.{no_tokens, ok_tokens, no_syntax_fault, no_flaw, one_flaw, one_value}
-use Rattle.cyc_top.specs.Answers.{fault_status}
+use Rattle.cyc_runs.specs.Faults.{fault_status}
 
 -- two readings give the same value, or faults that end a task in the same way
 abbrev pub AreAlike : {V : Type 0} → (V → V → Type 0) → Result V ReadFault → Result V ReadFault → Type 0

@@ -12,7 +12,6 @@ use Rattle.formula_reader.specs.declared.problem.Problem.{Problem}
 use Rattle.formula_reader.specs.Reading.{AreSame}
 use Rattle.proof_file.specs.declared.file.ProofFile.{ProofFile}
 use Rattle.proof_file.specs.Reading.{IsRead}
-use Rattle.proof_file.specs.Written.{text_of_file}
 use Rattle.proof_file.proofs.Readings.{text_is_read}
 use Rattle.proof_check.specs.declared.verdict.Verdict.TheVariants.{Accepted}
 use Rattle.proof_check.specs.Files.{node_of}
@@ -21,9 +20,10 @@ use Rattle.proof_search.specs.declared.prover.Proved.{Proved}
 use Rattle.proof_search.specs.declared.prover.Proved.TheVariants.{Found, NotFound, TooManyDerivations, TooManyStates}
 use Rattle.proof_search.specs.Outcomes.{outcome_of, search_for, IsProofFor}
 use Rattle.cyc_words.specs.declared.tasks.Task.TheVariants.{Check}
-use Rattle.cyc_top.specs.declared.endings.Status.{Status}
-use Rattle.cyc_top.specs.declared.endings.Status.TheVariants as status
-use Rattle.cyc_top.specs.Answers.{IsAnswer, derivation_limit, input_limit, nodes_text, proved_status}
+use Rattle.cyc_runs.specs.declared.endings.Status.{Status}
+use Rattle.cyc_runs.specs.declared.endings.Status.TheVariants as status
+use Rattle.cyc_runs.specs.Runs.{input_limit}
+use Rattle.cyc_top.specs.Answers.{IsAnswer, derivation_limit, file_text, nodes_text, proved_status}
 
 -- how a search with this outcome ends
 abbrev outcome_status : Outcome Reason → Status
@@ -75,6 +75,6 @@ goal_holds p f h =
     (subst (λ j. JudgementHolds f.defs.list f.program j) h.goal root))
 
 -- a check accepts the text of a proof
-pub proof_accepted : (p : Problem) (f : ProofFile) (text : List ℕ) → IsProofFor p f → text ≡ text_of_file f.defs.list f.program f.nodes → length text ≤ input_limit → (line : List ℕ) × IsAnswer (Some Check) text status.Success line
+pub proof_accepted : (p : Problem) (f : ProofFile) (text : List ℕ) → IsProofFor p f → text ≡ file_text f → length text ≤ input_limit → (line : List ℕ) × IsAnswer (Some Check) text status.Success line
 proof_accepted p f text h e short =
     (nodes_text f.nodes, inr (short, Ok f, subst (λ bytes. IsRead bytes (Ok f)) (sym e) (text_is_read f), (Accepted, (h.correct, h.states, h.holds), refl, refl)))

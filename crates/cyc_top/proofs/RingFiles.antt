@@ -5,7 +5,6 @@ use Rattle.cyc_lex.specs.declared.fault.ReadFault.TheVariants as faults
 use Rattle.pred_defs.specs.Book.{DefinitionBook}
 use Rattle.proof_file.specs.declared.file.ProofFile.{ProofFile}
 use Rattle.proof_file.specs.Reading.{Reads}
-use Rattle.proof_file.specs.Written.{text_of_file}
 use Rattle.proof_file.proofs.Readings.{text_read_again}
 use Rattle.proof_check.specs.declared.verdict.Verdict.{Verdict}
 use Rattle.proof_check.specs.declared.verdict.Verdict.TheVariants.{Accepted}
@@ -15,7 +14,7 @@ use Rattle.ring_family.specs.Ring.{ring_definitions, ring_nodes, file_nodes}
 use Rattle.ring_family.proofs.Accepted.{ring_is_accepted, ring_links}
 use Rattle.ring_family.proofs.Correct.{nodes_long}
 use Rattle.ring_family.proofs.Readable.{nodes_again}
-use Rattle.cyc_top.specs.Answers.{is_back, link_count}
+use Rattle.cyc_top.specs.Answers.{file_text, is_back, link_count}
 use Rattle.cyc_top.specs.Rings.{IsRing}
 
 -- the ring's file itself
@@ -24,7 +23,7 @@ whole_ring k f defs program nodes =
     record { most = ap (λ (book : DefinitionBook). book.most) defs; definitions = ap (λ (book : DefinitionBook). book.list) defs; program = program; nodes = nodes }
 
 -- what is read of its text
-pub read_ring_is : (k : ℕ) (f g : ProofFile) (text : List ℕ) → IsRing k f → text ≡ text_of_file f.defs.list f.program f.nodes → Reads text (Ok g) → IsRing k g
+pub read_ring_is : (k : ℕ) (f g : ProofFile) (text : List ℕ) → IsRing k f → text ≡ file_text f → Reads text (Ok g) → IsRing k g
 read_ring_is k f g text ring e reads =
     let same = text_read_again f text (Ok g) e reads in
     record {
@@ -35,7 +34,7 @@ read_ring_is k f g text ring e reads =
     }
 
 -- nothing is at fault in it
-pub read_ring_faultless : (f : ProofFile) (text : List ℕ) (fault : ReadFault) → text ≡ text_of_file f.defs.list f.program f.nodes → Reads text (Err fault) → fault ≡ faults.OutOfMemory
+pub read_ring_faultless : (f : ProofFile) (text : List ℕ) (fault : ReadFault) → text ≡ file_text f → Reads text (Err fault) → fault ≡ faults.OutOfMemory
 read_ring_faultless f text fault e reads = text_read_again f text (Err fault) e reads
 
 pub ring_accepted : (k : ℕ) (f : ProofFile) (v : Verdict) → 1 ≤ k → k ≤ 2000 → IsRing k f → IsVerdict f v → v ≡ Accepted

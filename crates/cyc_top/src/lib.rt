@@ -12,23 +12,58 @@ ghost use Rattle.proof_file.specs.Reading as files;
 ghost use Rattle.proof_check.specs.Verdicts.{file_graph, state_limit, IsCorrect};
 ghost use Rattle.proof_search.specs.Outcomes.{search_for};
 ghost use Rattle.cyc_io.specs.Causes.{Rose};
-ghost use Rattle.cyc_words.specs.Words.{meaning_of, reads_input};
-ghost use Rattle.cyc_words.specs.declared.tasks.Task.TheVariants.{Check, Prove, Ring};
-ghost use Rattle.cyc_top.specs.Endings.{is_answer};
-ghost use Rattle.cyc_top.specs.Answers.{IsAnswer, IsHeadline, IsReadThrough, WroteAnswer, WrotePart, WroteProof, derivation_limit, input_limit};
+ghost use Rattle.cyc_words.specs.Words.{IsInRange, meaning_of, reads_input};
+ghost use Rattle.cyc_words.specs.declared.tasks.Task.TheVariants.{Check, Prove, Ring, Upgrade, Sat};
+ghost use Rattle.cyc_runs.specs.Endings.{is_answer};
+ghost use Rattle.cyc_runs.specs.Runs.{IsReadThrough, input_limit};
+ghost use Rattle.cyc_top.specs.Answers.{IsAnswer, IsHeadline, IsRefutation, WroteAnswer, WrotePart, WroteProof, WroteUpgrade, derivation_limit};
 
-mod answers;
-mod endings;
-mod faults;
-mod inputs;
 mod rings;
 mod searches;
+mod upgrades;
 mod verdicts;
 
-use cyc_io::{Sink, Source, write_all};
-pub use endings::Status;
-use inputs::{NoAnswer, answer_to};
+use cyc_io::{Sink, Source};
+pub use cyc_runs::Status;
+use cyc_runs::{fixed_answer, give_made, run_over};
+use cyc_words::{Task, USAGE, task_of};
+use rings::answer_to_ring;
+use sat_answers::Satisfier;
+use searches::Prover;
 use std::alloc::Global;
+use upgrades::Upgrader;
+use verdicts::Checker;
+
+// Does what a task asks for, or says which words have a meaning.
+fn run_task<S: Source, K: Sink>(
+    alloc: Global,
+    task: Option<Task>,
+    src: &mut S,
+    out: &mut K,
+) -> Status
+    requires { IsInRange task }
+    ensures answered { is_answer result ≡ true → WroteAnswer task (S.left src.old) (K.written out.old) (K.written out.new) result }
+    ensures through { is_answer result ≡ true → reads_input task ≡ true → IsReadThrough (S.left src.old) (S.left src.new) }
+    ensures read_fault { result ≡ Status.ReadFault → Rose (S.faults src.old) (S.faults src.new) × (out.new ≡ out.old) }
+    // Only a task that needs its input reads.
+    ensures asked { result ≡ Status.ReadFault → reads_input task ≡ true }
+    ensures write_fault { result ≡ Status.WriteFault → Rose (K.faults out.old) (K.faults out.new)
+        × WrotePart task (S.left src.old) (K.written out.old) (K.written out.new) }
+    ensures memory { result ≡ Status.OutOfMemory → (out.new ≡ out.old) × (S.faults src.new ≡ S.faults src.old) }
+    ensures calm { is_answer result ≡ true
+        → (S.faults src.new ≡ S.faults src.old) × (K.faults out.new ≡ K.faults out.old) }
+    ensures counted { (S.faults src.old ≤ S.faults src.new) × (K.faults out.old ≤ K.faults out.new) }
+    ensures unread { reads_input task ≡ false → src.new ≡ src.old }
+{
+    match task {
+        Some(Task::Check) => run_over(alloc, &Checker, src, out),
+        Some(Task::Prove(depth)) => run_over(alloc, &Prover::new(depth), src, out),
+        Some(Task::Upgrade) => run_over(alloc, &Upgrader, src, out),
+        Some(Task::Sat) => run_over(alloc, &Satisfier, src, out),
+        Some(Task::Ring(k)) => give_made(answer_to_ring(alloc, k), out),
+        None => give_made(fixed_answer(alloc, Status::Usage, USAGE), out),
+    }
+}
 
 /// Does what the words of the command line, the program's name not among them, ask for: writes one
 /// line and says how it ended. The whole line is made before its first byte is written.
@@ -43,6 +78,8 @@ pub fn run<S: Source, K: Sink>(alloc: Global, words: &[String], src: &mut S, out
         → (result ≡ status) ⊎ (result ≡ Status.OutOfMemory) }
     // What was checked with success is true.
     ensures headline { result ≡ Status.Success → IsHeadline (meaning_of (map string_bytes words.now)) (S.left src.old) }
+    // Where nothing satisfies an antecedent, that is so.
+    ensures unsatisfiable { meaning_of (map string_bytes words.now) ≡ Some Sat → result ≡ Status.Refused → IsRefutation (S.left src.old) }
     // A correct file with few states is accepted.
     ensures accepts { (input : List ℕ) (file : ProofFile) → meaning_of (map string_bytes words.now) ≡ Some Check
         → S.left src.old ≡ Some input → length input ≤ input_limit → files.IsRead input (Ok file)
@@ -57,6 +94,14 @@ pub fn run<S: Source, K: Sink>(alloc: Global, words: &[String], src: &mut S, out
         → (result ≡ Status.Success) ⊎ (result ≡ Status.OutOfMemory) }
     // What prove writes, check accepts.
     ensures proof { (depth : ℕ) → meaning_of (map string_bytes words.now) ≡ Some (Prove depth) → result ≡ Status.Success → WroteProof (K.written out.old) (K.written out.new) }
+    // A file is upgraded, correct or not.
+    ensures upgrades { (input : List ℕ) (file : ProofFile) → meaning_of (map string_bytes words.now) ≡ Some Upgrade
+        → S.left src.old ≡ Some input → length input ≤ input_limit → files.IsRead input (Ok file)
+        → ¬ Rose (S.faults src.old) (S.faults src.new) → ¬ Rose (K.faults out.old) (K.faults out.new)
+        → (result ≡ Status.Success) ⊎ (result ≡ Status.OutOfMemory) }
+    // What upgrade writes, check accepts where it accepts the input.
+    ensures upgraded { meaning_of (map string_bytes words.now) ≡ Some Upgrade → result ≡ Status.Success
+        → WroteUpgrade (S.left src.old) (K.written out.old) (K.written out.new) }
     // A ring's proof is right, so that there is no refusal.
     ensures ring { (k : ℕ) → meaning_of (map string_bytes words.now) ≡ Some (Ring k) → (result ≡ Status.Success) ⊎ ((result ≡ Status.WriteFault) ⊎ (result ≡ Status.OutOfMemory)) }
     // A task that needs its input was answered at the input's end, or after one byte more than may come.
@@ -74,13 +119,8 @@ pub fn run<S: Source, K: Sink>(alloc: Global, words: &[String], src: &mut S, out
     // A task that needs no input leaves the source as it was.
     ensures unread { reads_input (meaning_of (map string_bytes words.now)) ≡ false → src.new ≡ src.old }
 {
-    let answer = match answer_to(alloc, words, src) {
-        Ok(answer) => answer,
-        Err(NoAnswer::ReadFault) => return Status::ReadFault,
-        Err(NoAnswer::OutOfMemory) => return Status::OutOfMemory,
-    };
-    match write_all(out, answer.text.as_slice()) {
-        Ok(()) => answer.status,
-        Err(_) => Status::WriteFault,
+    match task_of(alloc, words) {
+        Ok(task) => run_task(alloc, task, src, out),
+        Err(_) => Status::OutOfMemory,
     }
 }

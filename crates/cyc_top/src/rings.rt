@@ -3,11 +3,10 @@ ghost use Rattle.std.specs.Prelude.{◌≡◌, ◌≤◌, ◌+◌, ◌*◌, IfOk
 ghost use Rattle.cyc_texts.specs.Texts.{ring_text};
 ghost use Rattle.cyc_top.specs.Rings.{IsRing};
 
-use crate::answers::Answer;
-use crate::endings::Status;
 use crate::verdicts::links_of;
 use cyc_lex::ReadFault;
 use cyc_memory::OutOfMemory;
+use cyc_runs::{Answer, Status};
 use cyc_texts::ring_line;
 use proof_check::{Verdict, check};
 use proof_file::{ProofFile, read_file, write_file};

@@ -1,11 +1,10 @@
 // Answers to a search, by its input.
-ghost use Rattle.std.specs.Prelude.{◌≡◌, ◌≤◌, length, IfOk};
-ghost use Rattle.cyc_top.specs.Answers.{IsSearched, input_limit, proved_status, proved_text};
+ghost use Rattle.std.specs.Prelude.{◌≡◌, ◌≤◌, IfOk, true};
+ghost use Rattle.cyc_runs.specs.Endings.{is_answer};
+ghost use Rattle.cyc_top.specs.Answers.{proved_status, proved_text};
 
-use crate::answers::{Answer, fixed_answer};
-use crate::endings::Status;
-use crate::faults::answer_to_fault;
 use cyc_memory::OutOfMemory;
+use cyc_runs::{Answer, Status, Tool, answer_to_fault, fixed_answer};
 use cyc_texts::not_found_line;
 use formula_reader::read_problem;
 use proof_file::write_file;
@@ -18,6 +17,7 @@ const DERIVATION_LIMIT: u32 = 1_000_000;
 // The proof that was found, as a file has it, or the line that says why there is none.
 fn answer_to_proved(alloc: Global, depth: u32, proved: &Proved) -> Result<Answer, OutOfMemory>
     ensures status { IfOk result (λ a. a.status ≡ proved_status proved.now) }
+    ensures ending { IfOk result (λ a. is_answer a.status ≡ true) }
     ensures text { IfOk result (λ a. a.text.items ≡ proved_text depth proved.now) }
 {
     let (status, text) = match proved {
@@ -31,17 +31,35 @@ fn answer_to_proved(alloc: Global, depth: u32, proved: &Proved) -> Result<Answer
     Ok(Answer { status, text })
 }
 
-/// The answer to a search within this depth for a proof of the problem that these bytes spell.
-pub fn answer_to_problem(alloc: Global, input: &[u8], depth: u32) -> Result<Answer, OutOfMemory>
-    requires depth { depth ≤ 40 }
-    requires short { length input.now ≤ input_limit }
-    ensures { IfOk result (λ a. IsSearched depth input.now a.status a.text.items) }
-{
-    match read_problem(alloc, input) {
-        Ok(problem) => {
-            let proved = prove(alloc, &problem, depth, DERIVATION_LIMIT)?;
-            answer_to_proved(alloc, depth, &proved)
+/// The command `prove` at a depth, 1 to 40.
+#[derive(Clone, Copy)]
+pub struct Prover {
+    depth: u32,
+    ghost within: { depth ≤ 40 },
+}
+
+impl Prover {
+    /// A search within this depth.
+    pub fn new(depth: u32) -> Prover
+        requires { depth ≤ 40 }
+        ensures { result.depth ≡ depth }
+    {
+        Prover { depth }
+    }
+}
+
+impl Tool for Prover {
+    ghost use Rattle.cyc_top.specs.Answers.{IsSearched};
+
+    ghost answers = { λ prover. IsSearched prover.depth };
+
+    fn answer(&self, alloc: Global, input: &[u8]) -> Result<Answer, OutOfMemory> {
+        match read_problem(alloc, input) {
+            Ok(problem) => {
+                let proved = prove(alloc, &problem, self.depth, DERIVATION_LIMIT)?;
+                answer_to_proved(alloc, self.depth, &proved)
+            }
+            Err(fault) => answer_to_fault(alloc, fault),
         }
-        Err(fault) => answer_to_fault(alloc, fault),
     }
 }

@@ -1,11 +1,11 @@
 // Answers to a check, by its input.
-ghost use Rattle.std.specs.Prelude.{◌≡◌, ◌≤◌, ◌<◌, length, IfOk};
-ghost use Rattle.cyc_top.specs.Answers.{IsChecked, input_limit, is_back, link_count, nodes_text, verdict_status, verdict_text};
+ghost use Rattle.std.specs.Prelude.{◌≡◌, ◌≤◌, ◌<◌, length, IfOk, true};
+ghost use Rattle.cyc_runs.specs.Endings.{is_answer};
+ghost use Rattle.cyc_runs.specs.Runs.{input_limit};
+ghost use Rattle.cyc_top.specs.Answers.{IsChecked, is_back, link_count, nodes_text, verdict_status, verdict_text};
 
-use crate::answers::{Answer, fixed_answer};
-use crate::endings::Status;
-use crate::faults::answer_to_fault;
 use cyc_memory::OutOfMemory;
+use cyc_runs::{Answer, Status, Tool, answer_to_fault, fixed_answer};
 use cyc_texts::{accepted_line, node_refused_line, path_refused_line};
 use heap_formula::Reason;
 use proof_check::{Verdict, check};
@@ -53,6 +53,7 @@ fn answer_to_verdict(
 ) -> Result<Answer, OutOfMemory>
     requires { 0 < length file.now.nodes }
     ensures status { IfOk result (λ a. a.status ≡ verdict_status verdict) }
+    ensures ending { IfOk result (λ a. is_answer a.status ≡ true) }
     ensures text { IfOk result (λ a. a.text.items ≡ verdict_text file.now.nodes verdict) }
 {
     let (status, text) = match verdict {
@@ -66,16 +67,21 @@ fn answer_to_verdict(
     Ok(Answer { status, text })
 }
 
-/// The answer to a check of these bytes.
-pub fn answer_to_bytes(alloc: Global, input: &[u8]) -> Result<Answer, OutOfMemory>
-    requires { length input.now ≤ input_limit }
-    ensures { IfOk result (λ a. IsChecked input.now a.status a.text.items) }
-{
-    match read_file(alloc, input) {
-        Ok(file) => {
-            let verdict = check(alloc, &file)?;
-            answer_to_verdict(alloc, &file, verdict)
+/// The command `check`.
+pub struct Checker;
+
+impl Tool for Checker {
+    ghost use Rattle.cyc_top.specs.Answers.{IsChecked};
+
+    ghost answers = { λ _. IsChecked };
+
+    fn answer(&self, alloc: Global, input: &[u8]) -> Result<Answer, OutOfMemory> {
+        match read_file(alloc, input) {
+            Ok(file) => {
+                let verdict = check(alloc, &file)?;
+                answer_to_verdict(alloc, &file, verdict)
+            }
+            Err(fault) => answer_to_fault(alloc, fault),
         }
-        Err(fault) => answer_to_fault(alloc, fault),
     }
 }

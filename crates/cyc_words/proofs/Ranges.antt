@@ -5,7 +5,7 @@ use Rattle.std.specs.Str.{bytes_eq}
 use Rattle.clap.specs.Words.{Kinds, Row, Text, fault_of, subcommand_of}
 use Rattle.cyc_words.specs.Command.{cyclist_app}
 use Rattle.cyc_words.specs.Words.{IsInRange, argument_in, meaning_of_line, subcommand_meaning, taken_meaning}
-use Rattle.cyc_words.specs.declared.tasks.Task.TheVariants.{Check, Prove, Ring}
+use Rattle.cyc_words.specs.declared.tasks.Task.TheVariants.{Check, Prove, Ring, Upgrade, Sat}
 use Rattle.cyc_words.proofs.Numbers.{argument_in-range}
 
 prove_range : (number : Option ℕ) → IfSome number (λ n. (1 ≤ n) × (n ≤ 40)) → IsInRange (option_map (λ n. Prove n) number)
@@ -17,7 +17,7 @@ ring_range None within = tt
 ring_range (Some n) within = within
 
 subcommand_range : (name : Text) (rows : List Row) → IsInRange (subcommand_meaning name rows)
-subcommand_range name rows = go (bytes_eq name (codes "check")) (bytes_eq name (codes "prove")) (bytes_eq name (codes "ring"))
+subcommand_range name rows = go (bytes_eq name (codes "check")) (bytes_eq name (codes "prove")) (bytes_eq name (codes "ring")) (bytes_eq name (codes "upgrade")) (bytes_eq name (codes "sat"))
   where
     depth : Option ℕ
     depth = argument_in 1 40 (codes "depth") rows
@@ -25,11 +25,13 @@ subcommand_range name rows = go (bytes_eq name (codes "check")) (bytes_eq name (
     size : Option ℕ
     size = argument_in 1 2000 (codes "K") rows
 
-    go : (check prove ring : Bool) → IsInRange (cond check (Some Check) (cond prove (option_map (λ n. Prove n) depth) (cond ring (option_map (λ n. Ring n) size) None)))
-    go true prove ring = tt
-    go false true ring = prove_range depth (argument_in-range 1 40 (codes "depth") rows)
-    go false false true = ring_range size (argument_in-range 1 2000 (codes "K") rows)
-    go false false false = tt
+    go : (check prove ring upgrade sat : Bool) → IsInRange (cond check (Some Check) (cond prove (option_map (λ n. Prove n) depth) (cond ring (option_map (λ n. Ring n) size) (cond upgrade (Some Upgrade) (cond sat (Some Sat) None)))))
+    go true prove ring upgrade sat = tt
+    go false true ring upgrade sat = prove_range depth (argument_in-range 1 40 (codes "depth") rows)
+    go false false true upgrade sat = ring_range size (argument_in-range 1 2000 (codes "K") rows)
+    go false false false true sat = tt
+    go false false false false true = tt
+    go false false false false false = tt
 
 pub meaning_range : (line : List Text) → IsInRange (meaning_of_line line)
 meaning_range line = go (fault_of cyclist_app line) (subcommand_of cyclist_app line)

@@ -1,7 +1,7 @@
 // The command `cyclist`, as clap builds it.
 ghost use Rattle.std.specs.Prelude.{◌≡◌, IfOk, false};
 ghost use Rattle.clap.specs.Words.{rule_of};
-ghost use Rattle.cyc_words.specs.Command.{IsCommand, cyclist_app, depth_rule, prove_app, ring_app, size_rule};
+ghost use Rattle.cyc_words.specs.Command.{IsCommand, cyclist_app, depth_rule, prove_app, proving_app, ring_app, size_rule};
 
 use clap::{Arg, Command};
 use std::alloc::{AllocError, Global};
@@ -37,11 +37,20 @@ fn ring_command<'a>(alloc: Global) -> Result<Command<'a>, AllocError>
     Command::new(alloc, "ring").arg(size_argument(alloc))
 }
 
-pub fn cyclist_command<'a>(alloc: Global) -> Result<Command<'a>, AllocError>
-    ensures { IfOk result (λ command. IsCommand command cyclist_app) }
+// The command with the subcommands that make or check a proof.
+fn proving_command<'a>(alloc: Global) -> Result<Command<'a>, AllocError>
+    ensures { IfOk result (λ command. IsCommand command proving_app) }
 {
     Command::new(alloc, "cyclist")
         .subcommand(Command::new(alloc, "check"))?
         .subcommand(prove_command(alloc)?)?
         .subcommand(ring_command(alloc)?)
+}
+
+pub fn cyclist_command<'a>(alloc: Global) -> Result<Command<'a>, AllocError>
+    ensures { IfOk result (λ command. IsCommand command cyclist_app) }
+{
+    proving_command(alloc)?
+        .subcommand(Command::new(alloc, "upgrade"))?
+        .subcommand(Command::new(alloc, "sat"))
 }

@@ -26,6 +26,8 @@ fn task_of_subcommand(name: &str, matches: &ArgMatches<'_>) -> Option<Task>
         "check" => Some(Task::Check),
         "prove" => Some(Task::Prove(number_of(matches, "depth")?)),
         "ring" => Some(Task::Ring(number_of(matches, "K")?)),
+        "upgrade" => Some(Task::Upgrade),
+        "sat" => Some(Task::Sat),
         _ => None,
     }
 }

@@ -9,7 +9,11 @@ pub enum Task {
     Prove(u32),
     /// The ring family's file of this size, 1 to 2,000. No input is read.
     Ring(u32),
+    /// Write the proof file that the input spells as one of version 2.
+    Upgrade,
+    /// Say whether some stack and heap satisfy the antecedent of the goal of the problem that the input spells.
+    Sat,
 }
 
 /// The line that says which words have a meaning.
-pub const USAGE: &str = "usage: cyclist check | prove [--depth N] | ring K\n";
+pub const USAGE: &str = "usage: cyclist check | prove [--depth N] | ring K | upgrade | sat\n";

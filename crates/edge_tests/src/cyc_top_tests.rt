@@ -4,11 +4,13 @@ use cyc_top::run;
 use std::alloc::Global;
 use std::test::Fail;
 
-static FILE: &[u8] = b"cyclist proof 1;\nnode true : emp |- true : emp by Done;\nend;\n";
+// The proof that two list segments compose.
+static FILE: &[u8] =
+    b"cyclist proof 1;\npred ls(2) { $0 = $1 : emp | true : $0 -> (?0) * ls(?0, $1) };\nnode true : ls($0, $1) * ls($1, $2) |- true : ls($0, $2) by Unfold 0 to 1 4;\nnode $0 = $1 : ls($1, $2) |- true : ls($0, $2) by Rewrite 0 left to 2;\nnode true : ls($1, $2) |- true : ls($1, $2) by Frame 0 0 to 3;\nnode true : emp |- true : emp by Done;\nnode true : ls($1, $2) * $0 -> ($3) * ls($3, $1) |- true : ls($0, $2) by UnfoldRight 0 1 to 5;\nnode true : ls($1, $2) * $0 -> ($3) * ls($3, $1) |- true : $0 -> (?0) * ls(?0, $2) by Instantiate ?0 $3 to 6;\nnode true : ls($1, $2) * $0 -> ($3) * ls($3, $1) |- true : $0 -> ($3) * ls($3, $2) by Frame 1 0 to 7;\nnode true : ls($1, $2) * ls($3, $1) |- true : ls($3, $2) by Link 0 { $0 := $3, $1 := $1, $2 := $2 } [1 0] [0];\nend;\n";
 
-static ACCEPTED: &str = "accepted entailment nodes 1 links 0\n";
+static ACCEPTED: &str = "accepted entailment nodes 8 links 1\n";
 
-static USAGE: &str = "usage: cyclist check | prove [--depth N] | ring K\n";
+static USAGE: &str = "usage: cyclist check | prove [--depth N] | ring K | upgrade | sat\n";
 
 fn words_of(alloc: Global, line: &str) -> Result<Vec<String>, Fail> {
     let mut words = Vec::new(alloc);
@@ -41,19 +43,33 @@ fn a_sink_that_fails_at_a_call(rt: HostRuntime) -> Result<(), Fail> {
     Ok(())
 }
 
-// Seven calls read the 61 bytes in tens, and an eighth meets the end.
+// Eight calls read the 753 bytes in hundreds, and a ninth meets the end.
 #[test]
 fn a_source_that_fails_at_a_call(rt: HostRuntime) -> Result<(), Fail> {
     let alloc = rt.alloc();
     let words = words_of(alloc, "check")?;
-    for (call, written, code, faults) in [(1, 0, 7, 1), (4, 0, 7, 1), (8, 0, 7, 1), (9, 36, 0, 0)] {
-        let mut src = MemSource::new(Vec::from_slice(alloc, FILE)?, 10, vec![in alloc; call]?);
+    for call in 1..=10 {
+        let (written, code, faults) = if call < 10 { (0, 7, 1) } else { (36, 0, 0) };
+        let mut src = MemSource::new(Vec::from_slice(alloc, FILE)?, 100, vec![in alloc; call]?);
         let mut out = PlainSink::new(alloc, 1000, 1)?;
         let status = run(alloc, words.as_slice(), &mut src, &mut out);
         assert_eq!(rt; status.code(), code, "at call {call}");
         assert_eq!(rt; out.written().len(), written, "at call {call}");
         assert_eq!(rt; src.faults(), faults, "at call {call}");
     }
+    Ok(())
+}
+
+// A byte a call, and no call that fails.
+#[test]
+fn a_source_of_single_bytes(rt: HostRuntime) -> Result<(), Fail> {
+    let alloc = rt.alloc();
+    let words = words_of(alloc, "check")?;
+    let mut src = MemSource::new(Vec::from_slice(alloc, FILE)?, 1, Vec::new(alloc));
+    let mut out = PlainSink::new(alloc, 1000, 1)?;
+    let status = run(alloc, words.as_slice(), &mut src, &mut out);
+    assert_eq!(rt; status.code(), 0);
+    assert!(rt; out.written() == ACCEPTED.as_bytes());
     Ok(())
 }
 
@@ -86,6 +102,7 @@ fn words_and_inputs(rt: HostRuntime) -> Result<(), Fail> {
         ),
         ("check", long.as_slice(), 5, "limit input\n"),
         ("prove", long.as_slice(), 5, "limit input\n"),
+        ("upgrade", long.as_slice(), 5, "limit input\n"),
     ] {
         let words = words_of(alloc, line)?;
         let mut src = StdSource::new(input);

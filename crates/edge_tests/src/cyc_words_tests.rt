@@ -15,7 +15,7 @@ fn words_of(alloc: Global, line: &[&str]) -> Result<Vec<String>, Fail> {
 fn command_lines(rt: HostRuntime) -> Result<(), Fail> {
     let alloc = rt.alloc();
     let check = Some(Task::Check);
-    let table: [(&[&str], Option<Task>); 32] = [
+    let table: [(&[&str], Option<Task>); 37] = [
         (&["check"], check),
         (&["check", "--"], check),
         (&["check", "x"], None),
@@ -48,6 +48,11 @@ fn command_lines(rt: HostRuntime) -> Result<(), Fail> {
         (&["ring", "0"], None),
         (&["ring"], None),
         (&["ring", "1", "2"], None),
+        (&["upgrade"], Some(Task::Upgrade)),
+        (&["upgrade", "--"], Some(Task::Upgrade)),
+        (&["upgrade", "2"], None),
+        (&["Upgrade"], None),
+        (&["upgrade", "--depth", "4"], None),
     ];
     for (line, task) in table {
         let words = words_of(alloc, line)?;

@@ -53,8 +53,8 @@ few_cases [] e q = omega arith
 few_cases (d ∷ ds) e zero = e.0
 few_cases (d ∷ ds) e (suc q) = few_cases ds e.1 q
 
-pub are_few : (ds es : List Definition) → Each (IsDefinitionWithin ds) es → Each HasFewCases es
-are_few ds = each_of (IsDefinitionWithin ds) HasFewCases (λ d within. within.few)
+pub are_few : (most : ℕ) (ds es : List Definition) → Each (IsDefinitionWithin most ds) es → Each HasFewCases es
+are_few most ds = each_of (IsDefinitionWithin most ds) HasFewCases (λ d within. within.few)
 
 limited_few : (most : ℕ) (ps : List Premise) → length ps ≤ 16 → HasFew (limited most ps)
 limited_few most ps few = limited_gives HasFew no_premise most ps (λ s n. few)
@@ -65,11 +65,11 @@ one_few most p = limited_few most (one p) (omega arith)
 two_few : (most : ℕ) (p q : Premise) → HasFew (limited most (two p q))
 two_few most p q = limited_few most (two p q) (omega arith)
 
-unfold_few : (ds : List Definition) (p : ℕ) (j : Judgement) (k : ℕ) (x : Spatial) → Each HasFewCases ds → HasFew (calls x (λ q ts. limited 16 (map (unfold_premise j k ts (fresh_number p j)) (cases_of ds q))))
-unfold_few ds p j k (Cell t ts) d = tt
-unfold_few ds p j k (Pred q ts) d =
+unfold_few : (most : ℕ) (ds : List Definition) (p : ℕ) (j : Judgement) (k : ℕ) (x : Spatial) → Each HasFewCases ds → HasFew (calls x (λ q ts. limited most (map (unfold_premise j k ts (fresh_number p j)) (cases_of ds q))))
+unfold_few most ds p j k (Cell t ts) d = tt
+unfold_few most ds p j k (Pred q ts) d =
     let e = length-map (cases_of ds q) (unfold_premise j k ts (fresh_number p j)) in
-    let c = few_cases ds d q in limited_few 16 (map (unfold_premise j k ts (fresh_number p j)) (cases_of ds q)) (omega arith)
+    let c = few_cases ds d q in limited_few most (map (unfold_premise j k ts (fresh_number p j)) (cases_of ds q)) (omega arith)
 
 side_few : (p : ℕ) (j : Judgement) (k : ℕ) (x : Pure) (t u : Term) → HasFew (rewrite_side p j k x t u)
 side_few p j k x Nil u = tt
@@ -91,70 +91,70 @@ empty_few [] [] (y ∷ ys) = tt
 empty_few [] (p ∷ ps) ys = tt
 empty_few (x ∷ xs) ps ys = tt
 
-right_few : (ds : List Definition) (a b : SymbolicHeap) (k c : ℕ) (x : Spatial) → HasFew (calls x (λ q ts. finds (slice_get (cases_of ds q) c) NoSuchCase (λ case. limited 16 (one (with_right a (unfolded_right b k (in_heap (right_term ts (heap_exists b)) case) ∷ []))))))
-right_few ds a b k c (Cell t ts) = tt
-right_few ds a b k c (Pred q ts) =
-    finds_gives HasFew no_premise (slice_get (cases_of ds q) c) NoSuchCase _ (λ case at. one_few 16 (with_right a (unfolded_right b k (in_heap (right_term ts (heap_exists b)) case) ∷ [])))
+right_few : (most : ℕ) (ds : List Definition) (a b : SymbolicHeap) (k c : ℕ) (x : Spatial) → HasFew (calls x (λ q ts. finds (slice_get (cases_of ds q) c) NoSuchCase (λ case. limited most (one (with_right a (unfolded_right b k (in_heap (right_term ts (heap_exists b)) case) ∷ []))))))
+right_few most ds a b k c (Cell t ts) = tt
+right_few most ds a b k c (Pred q ts) =
+    finds_gives HasFew no_premise (slice_get (cases_of ds q) c) NoSuchCase _ (λ case at. one_few most (with_right a (unfolded_right b k (in_heap (right_term ts (heap_exists b)) case) ∷ [])))
 
-command_few : (i : ℕ) (a : SymbolicHeap) (n : ℕ) (c : Command) → HasFew (command_answer 16 i a n c)
-command_few i a n Stop = omega arith
-command_few i a n (Goto j) = one_few 16 (at_line j a a)
-command_few i a n (IfEq t u j) = two_few 16 (at_line j a (with_atom a (Eq t u))) (at_line (i + 1) a (with_atom a (Neq t u)))
-command_few i a n (IfNeq t u j) = two_few 16 (at_line j a (with_atom a (Neq t u))) (at_line (i + 1) a (with_atom a (Eq t u)))
-command_few i a n (Assign x t) =
-    one_few 16 (at_line (i + 1) a (with_atom (renamed x n a) (Eq (Univ x) (renamed_term x n t))))
-command_few i a n (Load x t k) =
+command_few : (most i : ℕ) (a : SymbolicHeap) (n : ℕ) (c : Command) → HasFew (command_answer most i a n c)
+command_few most i a n Stop = omega arith
+command_few most i a n (Goto j) = one_few most (at_line j a a)
+command_few most i a n (IfEq t u j) = two_few most (at_line j a (with_atom a (Eq t u))) (at_line (i + 1) a (with_atom a (Neq t u)))
+command_few most i a n (IfNeq t u j) = two_few most (at_line j a (with_atom a (Neq t u))) (at_line (i + 1) a (with_atom a (Eq t u)))
+command_few most i a n (Assign x t) =
+    one_few most (at_line (i + 1) a (with_atom (renamed x n a) (Eq (Univ x) (renamed_term x n t))))
+command_few most i a n (Load x t k) =
     finds_gives HasFew no_premise (cell_of a.pure t a.spatial) NoCell _ (λ c found.
-    finds_gives HasFew no_premise (counted_from_one c.fields k) NoCell _ (λ f field. one_few 16 (at_line (i + 1) a (with_atom (renamed x n a) (Eq (Univ x) (renamed_term x n f))))))
-command_few i a n (Store t k u) =
+    finds_gives HasFew no_premise (counted_from_one c.fields k) NoCell _ (λ f field. one_few most (at_line (i + 1) a (with_atom (renamed x n a) (Eq (Univ x) (renamed_term x n f))))))
+command_few most i a n (Store t k u) =
     finds_gives HasFew no_premise (cell_of a.pure t a.spatial) NoCell _ (λ c found.
-    finds_gives HasFew no_premise (counted_from_one c.fields k) NoCell _ (λ f field. one_few 16 (at_line (i + 1) a (with_field a c k u))))
-command_few i a n (New x k) =
-    one_few 16 (at_line (i + 1) a (with_cell (renamed x n a) x (variables_from (n + 1) k)))
-command_few i a n (Free t) =
+    finds_gives HasFew no_premise (counted_from_one c.fields k) NoCell _ (λ f field. one_few most (at_line (i + 1) a (with_field a c k u))))
+command_few most i a n (New x k) =
+    one_few most (at_line (i + 1) a (with_cell (renamed x n a) x (variables_from (n + 1) k)))
+command_few most i a n (Free t) =
     finds_gives HasFew no_premise (cell_of a.pure t a.spatial) NoCell _ (λ c found.
-    one_few 16 (record { judgement = Runs (i + 1) (without_spatial c.place a); pairs = kept_pairs c.place a.spatial }))
+    one_few most (record { judgement = Runs (i + 1) (without_spatial c.place a); pairs = kept_pairs c.place a.spatial }))
 
-rule_few : (ds : List Definition) (lines : List Command) (j : Judgement) (rule : Rule) → Each HasFewCases ds → HasFew (rule_answer 16 ds lines j rule)
-rule_few ds lines j Absurd d = needs_gives HasFew no_premise (is_absurd (antecedent j)) NotAbsurd (Ok []) (λ _. omega arith)
-rule_few ds lines j (Rewrite k side) d =
+rule_few : (most : ℕ) (ds : List Definition) (lines : List Command) (j : Judgement) (rule : Rule) → Each HasFewCases ds → HasFew (rule_answer most ds lines j rule)
+rule_few most ds lines j Absurd d = needs_gives HasFew no_premise (is_absurd (antecedent j)) NotAbsurd (Ok []) (λ _. omega arith)
+rule_few most ds lines j (Rewrite k side) d =
     finds_gives HasFew no_premise (slice_get (antecedent j).pure k) NoSuchAtom _ (λ x at. rewrite_few (variables_of lines j) j k side x)
-rule_few ds lines j (Split t u) d = two_few 32 (with_pure j (Eq t u)) (with_pure j (Neq t u))
-rule_few ds lines j (Distinct i k) d =
+rule_few most ds lines j (Split t u) d = two_few 32 (with_pure j (Eq t u)) (with_pure j (Neq t u))
+rule_few most ds lines j (Distinct i k) d =
     finds_gives HasFew no_premise (slice_get (antecedent j).spatial i) NoSuchAtom _ (λ x at_i.
     finds_gives HasFew no_premise (slice_get (antecedent j).spatial k) NoSuchAtom _ (λ y at_k.
     finds_gives HasFew no_premise (address_of x) NoCell _ (λ t is_t.
     finds_gives HasFew no_premise (address_of y) NoCell _ (λ u is_u. one_few 32 (with_pure j (Neq t (if nat_eq i k then Nil else u)))))))
-rule_few ds lines j (Weaken k) d = finds_gives HasFew no_premise (slice_get (antecedent j).pure k) NoSuchAtom _ (λ x at. omega arith)
-rule_few ds lines j (Unfold k) d =
-    finds_gives HasFew no_premise (slice_get (antecedent j).spatial k) NoSuchAtom _ (λ x at. unfold_few ds (variables_of lines j) j k x d)
-rule_few ds lines j (Cut places f) d =
+rule_few most ds lines j (Weaken k) d = finds_gives HasFew no_premise (slice_get (antecedent j).pure k) NoSuchAtom _ (λ x at. omega arith)
+rule_few most ds lines j (Unfold k) d =
+    finds_gives HasFew no_premise (slice_get (antecedent j).spatial k) NoSuchAtom _ (λ x at. unfold_few most ds (variables_of lines j) j k x d)
+rule_few most ds lines j (Cut places f) d =
     needs_gives HasFew no_premise (ascend_from 0 (length (antecedent j).spatial) places) NoSuchAtom _ (λ _.
-    two_few 16 (cut_left (antecedent j) (has_number places) f) (cut_right j (has_number places) f (max (fresh_number (variables_of lines j) j) (heap_bound f))))
-rule_few ds lines j Done d = single_gives HasFew no_premise j _ (λ a b e. empty_few a.spatial b.pure b.spatial)
-rule_few ds lines j (Choose k) d =
+    two_few most (cut_left (antecedent j) (has_number places) f) (cut_right j (has_number places) f (max (fresh_number (variables_of lines j) j) (heap_bound f))))
+rule_few most ds lines j Done d = single_gives HasFew no_premise j _ (λ a b e. empty_few a.spatial b.pure b.spatial)
+rule_few most ds lines j (Choose k) d =
     entails_gives HasFew no_premise j _ (λ a bs e. finds_gives HasFew no_premise (slice_get bs k) NoSuchAtom _ (λ b at. omega arith))
-rule_few ds lines j (PureRight k) d =
+rule_few most ds lines j (PureRight k) d =
     single_gives HasFew no_premise j _ (λ a b e.
     finds_gives HasFew no_premise (slice_get b.pure k) NoSuchAtom _ (λ x at.
     needs_gives HasFew no_premise (is_universal_pure x) HasExistential _ (λ _.
     needs_gives HasFew no_premise (follows a.pure x) NotFollowing _ (λ _. omega arith))))
-rule_few ds lines j (Instantiate v t) d = single_gives HasFew no_premise j _ (λ a b e. omega arith)
-rule_few ds lines j (Frame i k) d =
+rule_few most ds lines j (Instantiate v t) d = single_gives HasFew no_premise j _ (λ a b e. omega arith)
+rule_few most ds lines j (Frame i k) d =
     single_gives HasFew no_premise j _ (λ a b e.
     finds_gives HasFew no_premise (slice_get a.spatial i) NoSuchAtom _ (λ x at_i.
     finds_gives HasFew no_premise (slice_get b.spatial k) NoSuchAtom _ (λ y at_k.
     needs_gives HasFew no_premise (is_universal_spatial y) HasExistential _ (λ _.
     needs_gives HasFew no_premise (same_spatial x y) AtomsDiffer _ (λ _. omega arith)))))
-rule_few ds lines j (UnfoldRight k c) d =
-    single_gives HasFew no_premise j _ (λ a b e. finds_gives HasFew no_premise (slice_get b.spatial k) NoSuchAtom _ (λ x at. right_few ds a b k c x))
-rule_few ds lines j Exec d =
-    runs_gives HasFew no_premise j _ (λ i a e. finds_gives HasFew no_premise (counted_from_one lines i) WrongJudgement _ (λ c at. command_few i a (fresh_number (program_variables lines) j) c))
-rule_few ds lines j (Drop k) d =
+rule_few most ds lines j (UnfoldRight k c) d =
+    single_gives HasFew no_premise j _ (λ a b e. finds_gives HasFew no_premise (slice_get b.spatial k) NoSuchAtom _ (λ x at. right_few most ds a b k c x))
+rule_few most ds lines j Exec d =
+    runs_gives HasFew no_premise j _ (λ i a e. finds_gives HasFew no_premise (counted_from_one lines i) WrongJudgement _ (λ c at. command_few most i a (fresh_number (program_variables lines) j) c))
+rule_few most ds lines j (Drop k) d =
     runs_gives HasFew no_premise j _ (λ i a e. finds_gives HasFew no_premise (slice_get a.spatial k) NoSuchAtom _ (λ x at. omega arith))
 
-pub few_premises : (ds : List Definition) (lines : List Command) (j : Judgement) (rule : Rule) (ps : List Premise) → Each HasFewCases ds → rule_answer 16 ds lines j rule ≡ Ok ps → length ps ≤ 16
-few_premises ds lines j rule ps d e = subst (λ (answer : Answer). HasFew answer) e (rule_few ds lines j rule d)
+pub few_premises : (most : ℕ) (ds : List Definition) (lines : List Command) (j : Judgement) (rule : Rule) (ps : List Premise) → Each HasFewCases ds → rule_answer most ds lines j rule ≡ Ok ps → length ps ≤ 16
+few_premises most ds lines j rule ps d e = subst (λ (answer : Answer). HasFew answer) e (rule_few most ds lines j rule d)
 
-pub premises_few : (ds : List Definition) (lines : List Command) (j : Judgement) (rule : Rule) (ps : List Premise) → Each (IsDefinitionWithin ds) ds → rule_answer 16 ds lines j rule ≡ Ok ps → length ps ≤ 16
-premises_few ds lines j rule ps d e = few_premises ds lines j rule ps (are_few ds ds d) e
+pub premises_few : (most : ℕ) (ds : List Definition) (lines : List Command) (j : Judgement) (rule : Rule) (ps : List Premise) → Each (IsDefinitionWithin most ds) ds → rule_answer most ds lines j rule ≡ Ok ps → length ps ≤ 16
+premises_few most ds lines j rule ps d e = few_premises most ds lines j rule ps (are_few most ds ds d) e

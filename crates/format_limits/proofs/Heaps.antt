@@ -133,9 +133,9 @@ shapes_after ds f = Each-map (IsShaped ds) (IsShaped ds) (in_spatial f) (shape_a
 
 -- ---- heaps
 
-pub record IsSmall (ds : List Definition) (a : SymbolicHeap) : Type 0 where
+pub record IsSmall (most : ℕ) (ds : List Definition) (a : SymbolicHeap) : Type 0 where
   pub pures : length a.pure ≤ 64
-  pub spatials : length a.spatial ≤ 16
+  pub spatials : length a.spatial ≤ most
   pub low : InHeap IsLow a
   pub shaped : Each (IsShaped ds) a.spatial
 
@@ -147,28 +147,28 @@ pub short_spatials : (most : ℕ) (a : SymbolicHeap) → is_short most a ≡ tru
 short_spatials most a e =
     leb-true (length a.spatial) most (both (nat_le (length a.pure) 64) (nat_le (length a.spatial) most) e).1
 
-pub small : (ds : List Definition) (a : SymbolicHeap) → IsHeapWithin ds a → IsSmall ds a
-small ds a h =
+pub small : (most : ℕ) (ds : List Definition) (a : SymbolicHeap) → IsHeapWithin most ds a → IsSmall most ds a
+small most ds a h =
     record {
-      pures = short_pures 16 a h.short;
-      spatials = short_spatials 16 a h.short;
+      pures = short_pures most a h.short;
+      spatials = short_spatials most a h.short;
       low = low_heap a h.numbers;
       shaped = are_shaped ds a.spatial h.known h.fields;
     }
 
-pub within : (ds : List Definition) (a : SymbolicHeap) → IsSmall ds a → IsHeapWithin ds a
-within ds a h =
+pub within : (most : ℕ) (ds : List Definition) (a : SymbolicHeap) → IsSmall most ds a → IsHeapWithin most ds a
+within most ds a h =
     record {
-      short = both_true (nat_le (length a.pure) 64) (nat_le (length a.spatial) 16) (le-leb (length a.pure) 64 h.pures) (le-leb (length a.spatial) 16 h.spatials);
+      short = both_true (nat_le (length a.pure) 64) (nat_le (length a.spatial) most) (le-leb (length a.pure) 64 h.pures) (le-leb (length a.spatial) most h.spatials);
       numbers = heap_low a h.low;
       known = are_known ds a.spatial h.shaped;
       fields = each_of (IsShaped ds) HasFields (λ x s. s.1) a.spatial h.shaped;
     }
 
 -- what a test of its numbers and its length leaves to be shown
-pub within_tested : (ds : List Definition) (most : ℕ) (a : SymbolicHeap) → is_short most a ≡ true → has_numbers a ≡ true → (length a.spatial ≤ most → length a.spatial ≤ 16) → Each (IsShaped ds) a.spatial → IsHeapWithin ds a
-within_tested ds most a s n few shaped =
-    within ds a (record { pures = short_pures most a s; spatials = few (short_spatials most a s); low = low_heap a n; shaped = shaped })
+pub within_tested : (most : ℕ) (ds : List Definition) (tested : ℕ) (a : SymbolicHeap) → is_short tested a ≡ true → has_numbers a ≡ true → (length a.spatial ≤ tested → length a.spatial ≤ most) → Each (IsShaped ds) a.spatial → IsHeapWithin most ds a
+within_tested most ds tested a s n few shaped =
+    within most ds a (record { pures = short_pures tested a s; spatials = few (short_spatials tested a s); low = low_heap a n; shaped = shaped })
 
 -- ---- a map of terms
 
@@ -187,14 +187,14 @@ module _ (f : Term → Term) (g : (t : Term) → IsLow t → IsLow (f t)) where
   pub low_spatials_after : (xs : List Spatial) → Each (InSpatial IsLow) xs → Each (InSpatial IsLow) (map (in_spatial f) xs)
   low_spatials_after = Each-map (InSpatial IsLow) (InSpatial IsLow) (in_spatial f) low_spatial_after
 
-  pub within_after : (ds : List Definition) (a : SymbolicHeap) → IsHeapWithin ds a → IsHeapWithin ds (in_heap f a)
-  within_after ds a h =
-      let s = small ds a h in
+  pub within_after : (most : ℕ) (ds : List Definition) (a : SymbolicHeap) → IsHeapWithin most ds a → IsHeapWithin most ds (in_heap f a)
+  within_after most ds a h =
+      let s = small most ds a h in
       let p = length-map a.pure (in_pure f) in
       let q = length-map a.spatial (in_spatial f) in
       let m = s.pures in
       let n = s.spatials in
-      within ds (in_heap f a) (record {
+      within most ds (in_heap f a) (record {
         pures = omega arith;
         spatials = omega arith;
         low = (low_pures_after a.pure s.low.0, low_spatials_after a.spatial s.low.1);

@@ -40,40 +40,40 @@ form_map n s (Entail a bs) f =
     let few = f.1 in (omega arith, omega arith)
 form_map n s (Runs i a) f = f
 
-module _ (ds : List Definition) (n : ℕ) where
+module _ (most : ℕ) (ds : List Definition) (n : ℕ) where
   -- the heaps and the form are within the limits
   abbrev pub IsNearly : Premise → Type 0
-  IsNearly p = Each (IsHeapWithin ds) (heaps_of p.judgement) × IsFormWithin n p.judgement
+  IsNearly p = Each (IsHeapWithin most ds) (heaps_of p.judgement) × IsFormWithin n p.judgement
 
-  -- but for the counts of pure atoms and the numbers, and for that of spatial atoms if it is at most `most`
+  -- but for the counts of pure atoms and the numbers, and for that of spatial atoms if it is at tested `tested`
   abbrev pub IsReadyHeap : ℕ → SymbolicHeap → Type 0
-  IsReadyHeap most a = (length a.spatial ≤ most → length a.spatial ≤ 16) × Each (IsShaped ds) a.spatial
+  IsReadyHeap tested a = (length a.spatial ≤ tested → length a.spatial ≤ most) × Each (IsShaped ds) a.spatial
 
   abbrev pub IsReady : ℕ → Premise → Type 0
-  IsReady most p = Each (IsReadyHeap most) (heaps_of p.judgement) × IsFormWithin n p.judgement
+  IsReady tested p = Each (IsReadyHeap tested) (heaps_of p.judgement) × IsFormWithin n p.judgement
 
-  pub ready : (most : ℕ) (a : SymbolicHeap) → IsHeapWithin ds a → IsReadyHeap most a
-  ready most a h = let s = small ds a h in ((λ _. s.spatials), s.shaped)
+  pub ready : (tested : ℕ) (a : SymbolicHeap) → IsHeapWithin most ds a → IsReadyHeap tested a
+  ready tested a h = let s = small most ds a h in ((λ _. s.spatials), s.shaped)
 
-  pub all_ready : (most : ℕ) (xs : List SymbolicHeap) → Each (IsHeapWithin ds) xs → Each (IsReadyHeap most) xs
-  all_ready most [] e = tt
-  all_ready most (a ∷ xs) e = (ready most a e.0, all_ready most xs e.1)
+  pub all_ready : (tested : ℕ) (xs : List SymbolicHeap) → Each (IsHeapWithin most ds) xs → Each (IsReadyHeap tested) xs
+  all_ready tested [] e = tt
+  all_ready tested (a ∷ xs) e = (ready tested a e.0, all_ready tested xs e.1)
 
-  heaps_tested : (most : ℕ) (xs : List SymbolicHeap) → every (is_short most) xs ≡ true → every has_numbers xs ≡ true → Each (IsReadyHeap most) xs → Each (IsHeapWithin ds) xs
-  heaps_tested most [] s l e = tt
-  heaps_tested most (a ∷ xs) s l e =
-      let s' = both (is_short most a) (every (is_short most) xs) s in
+  heaps_tested : (tested : ℕ) (xs : List SymbolicHeap) → every (is_short tested) xs ≡ true → every has_numbers xs ≡ true → Each (IsReadyHeap tested) xs → Each (IsHeapWithin most ds) xs
+  heaps_tested tested [] s l e = tt
+  heaps_tested tested (a ∷ xs) s l e =
+      let s' = both (is_short tested a) (every (is_short tested) xs) s in
       let l' = both (has_numbers a) (every has_numbers xs) l in
-      (within_tested ds most a s'.0 l'.0 e.0.0 e.0.1, heaps_tested most xs s'.1 l'.1 e.1)
+      (within_tested most ds tested a s'.0 l'.0 e.0.0 e.0.1, heaps_tested tested xs s'.1 l'.1 e.1)
 
-  premises_tested : (most : ℕ) (ps : List Premise) → each_heap (is_short most) ps ≡ true → each_heap has_numbers ps ≡ true → Each (IsReady most) ps → Each IsNearly ps
-  premises_tested most [] s l e = tt
-  premises_tested most (p ∷ ps) s l e =
-      let s' = both (every (is_short most) (heaps_of p.judgement)) (each_heap (is_short most) ps) s in
+  premises_tested : (tested : ℕ) (ps : List Premise) → each_heap (is_short tested) ps ≡ true → each_heap has_numbers ps ≡ true → Each (IsReady tested) ps → Each IsNearly ps
+  premises_tested tested [] s l e = tt
+  premises_tested tested (p ∷ ps) s l e =
+      let s' = both (every (is_short tested) (heaps_of p.judgement)) (each_heap (is_short tested) ps) s in
       let l' = both (every has_numbers (heaps_of p.judgement)) (each_heap has_numbers ps) l in
-      ((heaps_tested most (heaps_of p.judgement) s'.0 l'.0 e.0.0, e.0.1), premises_tested most ps s'.1 l'.1 e.1)
+      ((heaps_tested tested (heaps_of p.judgement) s'.0 l'.0 e.0.0, e.0.1), premises_tested tested ps s'.1 l'.1 e.1)
 
   -- the last tests of a rule that adds atoms
-  pub limited_nearly : (most : ℕ) (ps : List Premise) → Each (IsReady most) ps → OnPremises IsNearly (limited most ps)
-  limited_nearly most ps e =
-      limited_gives (OnPremises IsNearly) (λ f. tt) most ps (λ s l. premises_tested most ps s l e)
+  pub limited_nearly : (tested : ℕ) (ps : List Premise) → Each (IsReady tested) ps → OnPremises IsNearly (limited tested ps)
+  limited_nearly tested ps e =
+      limited_gives (OnPremises IsNearly) (λ f. tt) tested ps (λ s l. premises_tested tested ps s l e)

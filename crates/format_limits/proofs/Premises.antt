@@ -43,29 +43,29 @@ program_commands lines p =
 
 -- ---- within
 
-universal_terms : (ds : List Definition) (rule : Rule) → IsRuleWithin ds rule → HasUniversalTerms rule
-universal_terms ds Absurd r = tt
-universal_terms ds (Rewrite k side) r = tt
-universal_terms ds (Split t u) r = (r.0.0, r.1.0)
-universal_terms ds (Distinct i k) r = tt
-universal_terms ds (Weaken k) r = tt
-universal_terms ds (Unfold k) r = tt
-universal_terms ds (Cut places f) r = tt
-universal_terms ds Done r = tt
-universal_terms ds (Choose k) r = tt
-universal_terms ds (PureRight k) r = tt
-universal_terms ds (Instantiate v t) r = tt
-universal_terms ds (Frame i k) r = tt
-universal_terms ds (UnfoldRight k c) r = tt
-universal_terms ds Exec r = tt
-universal_terms ds (Drop k) r = tt
+universal_terms : (most : ℕ) (ds : List Definition) (rule : Rule) → IsRuleWithin most ds rule → HasUniversalTerms rule
+universal_terms most ds Absurd r = tt
+universal_terms most ds (Rewrite k side) r = tt
+universal_terms most ds (Split t u) r = (r.0.0, r.1.0)
+universal_terms most ds (Distinct i k) r = tt
+universal_terms most ds (Weaken k) r = tt
+universal_terms most ds (Unfold k) r = tt
+universal_terms most ds (Cut places f) r = tt
+universal_terms most ds Done r = tt
+universal_terms most ds (Choose k) r = tt
+universal_terms most ds (PureRight k) r = tt
+universal_terms most ds (Instantiate v t) r = tt
+universal_terms most ds (Frame i k) r = tt
+universal_terms most ds (UnfoldRight k c) r = tt
+universal_terms most ds Exec r = tt
+universal_terms most ds (Drop k) r = tt
 
-all_within : (ds : List Definition) (n : ℕ) (ps : List Premise) → Each (IsNearly ds n) ps → Each IsUniversalPremise ps → Each (IsPremiseWithin ds n) ps
-all_within ds n [] h u = tt
-all_within ds n (p ∷ ps) h u = (record { heaps = h.0.0; universal = u.0; form = h.0.1 }, all_within ds n ps h.1 u.1)
+all_within : (most : ℕ) (ds : List Definition) (n : ℕ) (ps : List Premise) → Each (IsNearly most ds n) ps → Each IsUniversalPremise ps → Each (IsPremiseWithin most ds n) ps
+all_within most ds n [] h u = tt
+all_within most ds n (p ∷ ps) h u = (record { heaps = h.0.0; universal = u.0; form = h.0.1 }, all_within most ds n ps h.1 u.1)
 
-pub premises_within : (ds : List Definition) (lines : List Command) (j : Judgement) (rule : Rule) (ps : List Premise) → Each (IsDefinitionWithin ds) ds → IsProgram lines → IsJudgementWithin ds (length lines) j → IsRuleWithin ds rule → rule_answer 16 ds lines j rule ≡ Ok ps → Each (IsPremiseWithin ds (length lines)) ps
-premises_within ds lines j rule ps d g h r e =
-    let near = subst (λ (answer : Answer). OnPremises (IsNearly ds (length lines)) answer) e (rule_nearly ds lines j rule d g h r) in
-    let universal = subst (λ (answer : Answer). OnPremises IsUniversalPremise answer) e (rule_keeps 16 ds lines j rule h.universal (program_commands lines g) (universal_terms ds rule r)) in
-    all_within ds (length lines) ps near universal
+pub premises_within : (most : ℕ) (ds : List Definition) (lines : List Command) (j : Judgement) (rule : Rule) (ps : List Premise) → Each (IsDefinitionWithin most ds) ds → IsProgram lines → IsJudgementWithin most ds (length lines) j → IsRuleWithin most ds rule → rule_answer most ds lines j rule ≡ Ok ps → Each (IsPremiseWithin most ds (length lines)) ps
+premises_within most ds lines j rule ps d g h r e =
+    let near = subst (λ (answer : Answer). OnPremises (IsNearly most ds (length lines)) answer) e (rule_nearly most ds lines j rule d g h r) in
+    let universal = subst (λ (answer : Answer). OnPremises IsUniversalPremise answer) e (rule_keeps most ds lines j rule h.universal (program_commands lines g) (universal_terms most ds rule r)) in
+    all_within most ds (length lines) ps near universal

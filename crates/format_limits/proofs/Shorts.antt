@@ -55,17 +55,17 @@ Gives X ps answer = answer ≡ Ok ps → X
 no_answer : (X : Type 0) (ps : List Premise) (f : RuleFault) → Gives X ps (Err f)
 no_answer X ps f e = cc
 
-right_short : (ds : List Definition) (ps : List Premise) (a b : SymbolicHeap) (k c : ℕ) (x : Spatial) → Each (IsDefinitionWithin ds) ds → Gives (IsShortNumber c) ps (calls x (λ q ts. finds (slice_get (cases_of ds q) c) NoSuchCase (λ case. limited 16 (one (with_right a (unfolded_right b k (in_heap (right_term ts (heap_exists b)) case) ∷ []))))))
-right_short ds ps a b k c (Cell t ts) d = no_answer (IsShortNumber c) ps NoSuchAtom
-right_short ds ps a b k c (Pred q ts) d =
-    finds_gives (Gives (IsShortNumber c) ps) (no_answer (IsShortNumber c) ps) (slice_get (cases_of ds q) c) NoSuchCase _ (λ case at e. let few = few_cases ds (are_few ds ds d) q in short_at (cases_of ds q) c case at (omega arith))
+right_short : (most : ℕ) (ds : List Definition) (ps : List Premise) (a b : SymbolicHeap) (k c : ℕ) (x : Spatial) → Each (IsDefinitionWithin most ds) ds → Gives (IsShortNumber c) ps (calls x (λ q ts. finds (slice_get (cases_of ds q) c) NoSuchCase (λ case. limited most (one (with_right a (unfolded_right b k (in_heap (right_term ts (heap_exists b)) case) ∷ []))))))
+right_short most ds ps a b k c (Cell t ts) d = no_answer (IsShortNumber c) ps NoSuchAtom
+right_short most ds ps a b k c (Pred q ts) d =
+    finds_gives (Gives (IsShortNumber c) ps) (no_answer (IsShortNumber c) ps) (slice_get (cases_of ds q) c) NoSuchCase _ (λ case at e. let few = few_cases ds (are_few most ds ds d) q in short_at (cases_of ds q) c case at (omega arith))
 
-module _ (ds : List Definition) (lines : List Command) (j : Judgement) (ps : List Premise) (d : Each (IsDefinitionWithin ds) ds) (h : IsJudgementWithin ds (length lines) j) where
-  s : IsSmall ds (antecedent j)
-  s = small ds (antecedent j) (first_heap (IsHeapWithin ds) j h.heaps)
+module _ (most : ℕ) (bounded : most ≤ 32) (ds : List Definition) (lines : List Command) (j : Judgement) (ps : List Premise) (d : Each (IsDefinitionWithin most ds) ds) (h : IsJudgementWithin most ds (length lines) j) where
+  s : IsSmall most ds (antecedent j)
+  s = small most ds (antecedent j) (first_heap (IsHeapWithin most ds) j h.heaps)
 
-  same : (i : Judgement) → j ≡ i → IsJudgementWithin ds (length lines) i
-  same i e = subst (λ (i : Judgement). IsJudgementWithin ds (length lines) i) e h
+  same : (i : Judgement) → j ≡ i → IsJudgementWithin most ds (length lines) i
+  same i e = subst (λ (i : Judgement). IsJudgementWithin most ds (length lines) i) e h
 
   few_pures : length (antecedent j).pure ≤ 64
   few_pures = s.pures
@@ -73,7 +73,7 @@ module _ (ds : List Definition) (lines : List Command) (j : Judgement) (ps : Lis
   few_spatials : length (antecedent j).spatial ≤ 64
   few_spatials = let m = s.spatials in omega arith
 
-  pub rule_short : (rule : Rule) → rule_answer 16 ds lines j rule ≡ Ok ps → HasShortRule rule
+  pub rule_short : (rule : Rule) → rule_answer most ds lines j rule ≡ Ok ps → HasShortRule rule
   rule_short Absurd = λ e. tt
   rule_short (Rewrite k side) =
       let X = IsShortNumber k in finds_gives (Gives X ps) (no_answer X ps) (slice_get (antecedent j).pure k) NoSuchAtom _ (λ x at e. short_at (antecedent j).pure k x at few_pures)
@@ -100,7 +100,7 @@ module _ (ds : List Definition) (lines : List Command) (j : Judgement) (ps : Lis
       let X = IsShortNumber k in
       single_gives (Gives X ps) (no_answer X ps) j _ (λ a b is.
       finds_gives (Gives X ps) (no_answer X ps) (slice_get b.pure k) NoSuchAtom _ (λ x at e.
-      let few = (small ds b (same (Entail a (b ∷ [])) is).heaps.1.0).pures in short_at b.pure k x at few))
+      let few = (small most ds b (same (Entail a (b ∷ [])) is).heaps.1.0).pures in short_at b.pure k x at few))
   rule_short (Instantiate v t) = λ e. tt
   rule_short (Frame i k) =
       let X = IsShortNumber i × IsShortNumber k in
@@ -108,21 +108,21 @@ module _ (ds : List Definition) (lines : List Command) (j : Judgement) (ps : Lis
       finds_gives (Gives X ps) (no_answer X ps) (slice_get a.spatial i) NoSuchAtom _ (λ x at_i.
       finds_gives (Gives X ps) (no_answer X ps) (slice_get b.spatial k) NoSuchAtom _ (λ y at_k e.
       let w = same (Entail a (b ∷ [])) is in
-      let left = (small ds a w.heaps.0).spatials in
-      let right = (small ds b w.heaps.1.0).spatials in
+      let left = (small most ds a w.heaps.0).spatials in
+      let right = (small most ds b w.heaps.1.0).spatials in
       (short_at a.spatial i x at_i (omega arith), short_at b.spatial k y at_k (omega arith)))))
   rule_short (UnfoldRight k c) =
       let X = IsShortNumber k × IsShortNumber c in
       single_gives (Gives X ps) (no_answer X ps) j _ (λ a b is.
       finds_gives (Gives X ps) (no_answer X ps) (slice_get b.spatial k) NoSuchAtom _ (λ x at e.
-      let few = (small ds b (same (Entail a (b ∷ [])) is).heaps.1.0).spatials in
-      (short_at b.spatial k x at (omega arith), right_short ds ps a b k c x d e)))
+      let few = (small most ds b (same (Entail a (b ∷ [])) is).heaps.1.0).spatials in
+      (short_at b.spatial k x at (omega arith), right_short most ds ps a b k c x d e)))
   rule_short Exec = λ e. tt
   rule_short (Drop k) =
       let X = IsShortNumber k in
       runs_gives (Gives X ps) (no_answer X ps) j _ (λ i a is.
       finds_gives (Gives X ps) (no_answer X ps) (slice_get a.spatial k) NoSuchAtom _ (λ x at e.
-      let few = (small ds a (same (Runs i a) is).heaps.0).spatials in short_at a.spatial k x at (omega arith)))
+      let few = (small most ds a (same (Runs i a) is).heaps.0).spatials in short_at a.spatial k x at (omega arith)))
 
 -- ---- links
 
@@ -148,15 +148,15 @@ parts_short a bs b cs whole link few_atoms few_disjuncts e short =
       disjuncts = disjuncts_short bs link.disjuncts (map (apply_heap link.subst) cs) few_disjuncts parts.3;
     }
 
-pub link_short : (ds : List Definition) (count p : ℕ) (bud companion : Judgement) (link : Link) → IsJudgementWithin ds count bud → link_fault bud companion link p ≡ None → IsShortNumber link.target → HasShortLink link
-link_short ds count p (Entail a bs) (Runs i b) link h e short = cc
-link_short ds count p (Runs i a) (Entail b cs) link h e short = cc
-link_short ds count p (Entail a bs) (Entail b cs) link h e short =
-    let atoms = (small ds a h.heaps.0).spatials in
+pub link_short : (most : ℕ) (ds : List Definition) (count p : ℕ) (bud companion : Judgement) (link : Link) → most ≤ 32 → IsJudgementWithin most ds count bud → link_fault bud companion link p ≡ None → IsShortNumber link.target → HasShortLink link
+link_short most ds count p (Entail a bs) (Runs i b) link bounded h e short = cc
+link_short most ds count p (Runs i a) (Entail b cs) link bounded h e short = cc
+link_short most ds count p (Entail a bs) (Entail b cs) link bounded h e short =
+    let atoms = (small most ds a h.heaps.0).spatials in
     let few = h.form.1 in
     parts_short a bs b cs (nat_le (length a.spatial) (length b.spatial)) link (omega arith) (omega arith) e short
-link_short ds count p (Runs i a) (Runs k b) link h e short =
+link_short most ds count p (Runs i a) (Runs k b) link bounded h e short =
     let f = none_of_two (fault_unless (nat_eq i k) LineDiffers) _ e in
     let g = none_of_two (fault_unless (keeps_below link.subst p) LinkProgramVariable) (parts_fault a [] b [] true link) f.1 in
-    let atoms = (small ds a h.heaps.0).spatials in
+    let atoms = (small most ds a h.heaps.0).spatials in
     parts_short a [] b [] true link (omega arith) (omega arith) g.1 short

@@ -48,11 +48,11 @@ use Rattle.format_limits.proofs.Judgements.{heaps_with, first_heap, heaps_map, f
 
 -- ---- cases
 
-case_shapes : (ds es : List Definition) → Each (IsDefinitionWithin ds) es → (q : ℕ) → Each (λ (c : SymbolicHeap). Each (IsShaped ds) c.spatial) (cases_of es q)
-case_shapes ds [] e q = tt
-case_shapes ds (d ∷ es) e zero =
-    each_of (IsCaseWithin ds d.arity) (λ (c : SymbolicHeap). Each (IsShaped ds) c.spatial) (λ c w. (small ds c w.heap).shaped) d.cases e.0.cases
-case_shapes ds (d ∷ es) e (suc q) = case_shapes ds es e.1 q
+case_shapes : (most : ℕ) (ds es : List Definition) → Each (IsDefinitionWithin most ds) es → (q : ℕ) → Each (λ (c : SymbolicHeap). Each (IsShaped ds) c.spatial) (cases_of es q)
+case_shapes most ds [] e q = tt
+case_shapes most ds (d ∷ es) e zero =
+    each_of (IsCaseWithin most ds d.arity) (λ (c : SymbolicHeap). Each (IsShaped ds) c.spatial) (λ c w. (small most ds c w.heap).shaped) d.cases e.0.cases
+case_shapes most ds (d ∷ es) e (suc q) = case_shapes most ds es e.1 q
 
 -- ---- terms
 
@@ -88,12 +88,12 @@ length-variables_from : (n k : ℕ) → length (variables_from n k) ≡ k
 length-variables_from n zero = refl
 length-variables_from n (suc k) = let r = length-variables_from (suc n) k in omega arith
 
-module _ (ds : List Definition) (n : ℕ) where
+module _ (most : ℕ) (ds : List Definition) (n : ℕ) where
   abbrev P : Premise → Type 0
-  P = IsNearly ds n
+  P = IsNearly most ds n
 
   abbrev H : SymbolicHeap → Type 0
-  H = IsHeapWithin ds
+  H = IsHeapWithin most ds
 
   abbrev Shaped : Spatial → Type 0
   Shaped = IsShaped ds
@@ -103,84 +103,84 @@ module _ (ds : List Definition) (n : ℕ) where
 
   -- ---- the left
 
-  pures_nearly : (j : Judgement) (xs : List Pure) → IsJudgementWithin ds n j → length xs ≤ length (antecedent j).pure → Each (InPure IsLow) xs → P (with_pures j xs)
+  pures_nearly : (j : Judgement) (xs : List Pure) → IsJudgementWithin most ds n j → length xs ≤ length (antecedent j).pure → Each (InPure IsLow) xs → P (with_pures j xs)
   pures_nearly j xs h few low =
-      let s = small ds (antecedent j) (first_heap H j h.heaps) in
+      let s = small most ds (antecedent j) (first_heap H j h.heaps) in
       let m = s.pures in
-      let a = within ds (record { pure = xs; spatial = (antecedent j).spatial }) (record { pures = omega arith; spatials = s.spatials; low = (low, s.low.1); shaped = s.shaped }) in
+      let a = within most ds (record { pure = xs; spatial = (antecedent j).spatial }) (record { pures = omega arith; spatials = s.spatials; low = (low, s.low.1); shaped = s.shaped }) in
       (heaps_with H j (record { pure = xs; spatial = (antecedent j).spatial }) a h.heaps, form_with n j (record { pure = xs; spatial = (antecedent j).spatial }) h.form)
 
-  pures_dropped : (j : Judgement) (k : ℕ) → IsJudgementWithin ds n j → P (with_pures j (without k (antecedent j).pure))
+  pures_dropped : (j : Judgement) (k : ℕ) → IsJudgementWithin most ds n j → P (with_pures j (without k (antecedent j).pure))
   pures_dropped j k h =
-      let s = small ds (antecedent j) (first_heap H j h.heaps) in
+      let s = small most ds (antecedent j) (first_heap H j h.heaps) in
       pures_nearly j (without k (antecedent j).pure) h (length-without (antecedent j).pure k) (Each-without (InPure IsLow) (antecedent j).pure k s.low.0)
 
-  pures_ready : (most : ℕ) (j : Judgement) (xs : List Pure) → IsJudgementWithin ds n j → IsReady ds n most (with_pures j xs)
-  pures_ready most j xs h =
-      (heaps_with (IsReadyHeap ds n most) j (record { pure = xs; spatial = (antecedent j).spatial }) (ready ds n most (antecedent j) (first_heap H j h.heaps)) (all_ready ds n most (heaps_of j) h.heaps), form_with n j (record { pure = xs; spatial = (antecedent j).spatial }) h.form)
+  pures_ready : (tested : ℕ) (j : Judgement) (xs : List Pure) → IsJudgementWithin most ds n j → IsReady most ds n tested (with_pures j xs)
+  pures_ready tested j xs h =
+      (heaps_with (IsReadyHeap most ds n tested) j (record { pure = xs; spatial = (antecedent j).spatial }) (ready most ds n tested (antecedent j) (first_heap H j h.heaps)) (all_ready most ds n tested (heaps_of j) h.heaps), form_with n j (record { pure = xs; spatial = (antecedent j).spatial }) h.form)
 
-  rewritten_nearly : (p : ℕ) (j : Judgement) (k : ℕ) (x : Pure) (v : ℕ) (u : Term) → IsJudgementWithin ds n j → InPure IsLow x → IsLow u → P (rewritten p j k x v u)
+  rewritten_nearly : (p : ℕ) (j : Judgement) (k : ℕ) (x : Pure) (v : ℕ) (u : Term) → IsJudgementWithin most ds n j → InPure IsLow x → IsLow u → P (rewritten p j k x v u)
   rewritten_nearly p j k x v u h q r =
-      let s = small ds (antecedent j) (first_heap H j h.heaps) in
+      let s = small most ds (antecedent j) (first_heap H j h.heaps) in
       let f = apply_term ((v, u) ∷ []) in
       let e = length-map (antecedent j).spatial (apply_spatial ((v, u) ∷ [])) in
       let m = s.spatials in
-      let a = within ds _ (record {
+      let a = within most ds _ (record {
         pures = pures_few (nat_le p v) k v x u (antecedent j).pure s.pures;
         spatials = omega arith;
         low = (pures_low (nat_le p v) k v x u (antecedent j).pure r q s.low.0, low_spatials_after f (low_replaced v u r) (antecedent j).spatial s.low.1);
         shaped = shapes_after ds f (antecedent j).spatial s.shaped;
       }) in
-      (heaps_with H (apply_judgement ((v, u) ∷ []) j) _ a (heaps_map H H ((v, u) ∷ []) j (within_after f (low_replaced v u r) ds) h.heaps), form_with n (apply_judgement ((v, u) ∷ []) j) _ (form_map n ((v, u) ∷ []) j h.form))
+      (heaps_with H (apply_judgement ((v, u) ∷ []) j) _ a (heaps_map H H ((v, u) ∷ []) j (within_after f (low_replaced v u r) most ds) h.heaps), form_with n (apply_judgement ((v, u) ∷ []) j) _ (form_map n ((v, u) ∷ []) j h.form))
 
-  side_nearly : (p : ℕ) (j : Judgement) (k : ℕ) (x : Pure) (t u : Term) → IsJudgementWithin ds n j → InPure IsLow x → IsLow u → OnPremises P (rewrite_side p j k x t u)
+  side_nearly : (p : ℕ) (j : Judgement) (k : ℕ) (x : Pure) (t u : Term) → IsJudgementWithin most ds n j → InPure IsLow x → IsLow u → OnPremises P (rewrite_side p j k x t u)
   side_nearly p j k x Nil u h q r = tt
   side_nearly p j k x (Exist m) u h q r = tt
   side_nearly p j k x (Univ v) u h q r = (rewritten_nearly p j k x v u h q r, tt)
 
-  named_nearly : (p : ℕ) (j : Judgement) (k : ℕ) (side : Side) (t u : Term) → IsJudgementWithin ds n j → IsLow t → IsLow u → OnPremises P (rewrite_side p j k (Eq t u) (named side t u) (unnamed side t u))
+  named_nearly : (p : ℕ) (j : Judgement) (k : ℕ) (side : Side) (t u : Term) → IsJudgementWithin most ds n j → IsLow t → IsLow u → OnPremises P (rewrite_side p j k (Eq t u) (named side t u) (unnamed side t u))
   named_nearly p j k Left t u h q r = side_nearly p j k (Eq t u) t u h (q, r) r
   named_nearly p j k Right t u h q r = side_nearly p j k (Eq t u) u t h (q, r) q
 
-  test_nearly : (b : Bool) (p : ℕ) (j : Judgement) (k : ℕ) (side : Side) (t u : Term) → IsJudgementWithin ds n j → IsLow t → IsLow u → OnPremises P (cond b (Ok (one (with_pures j (without k (antecedent j).pure)))) (rewrite_side p j k (Eq t u) (named side t u) (unnamed side t u)))
+  test_nearly : (b : Bool) (p : ℕ) (j : Judgement) (k : ℕ) (side : Side) (t u : Term) → IsJudgementWithin most ds n j → IsLow t → IsLow u → OnPremises P (cond b (Ok (one (with_pures j (without k (antecedent j).pure)))) (rewrite_side p j k (Eq t u) (named side t u) (unnamed side t u)))
   test_nearly true p j k side t u h q r = (pures_dropped j k h, tt)
   test_nearly false p j k side t u h q r = named_nearly p j k side t u h q r
 
-  rewrite_nearly : (p : ℕ) (j : Judgement) (k : ℕ) (side : Side) (x : Pure) → IsJudgementWithin ds n j → InPure IsLow x → OnPremises P (rewrite_atom p j k side x)
+  rewrite_nearly : (p : ℕ) (j : Judgement) (k : ℕ) (side : Side) (x : Pure) → IsJudgementWithin most ds n j → InPure IsLow x → OnPremises P (rewrite_atom p j k side x)
   rewrite_nearly p j k side (Neq t u) h q = tt
   rewrite_nearly p j k side (Eq t u) h q = test_nearly (same_term t u) p j k side t u h q.0 q.1
 
   -- ---- Unfold
 
-  unfold_ready : (j : Judgement) (k : ℕ) (ts : List Term) (m : ℕ) (case : SymbolicHeap) → IsJudgementWithin ds n j → Each Shaped case.spatial → IsReady ds n 16 (unfold_premise j k ts m case)
+  unfold_ready : (j : Judgement) (k : ℕ) (ts : List Term) (m : ℕ) (case : SymbolicHeap) → IsJudgementWithin most ds n j → Each Shaped case.spatial → IsReady most ds n most (unfold_premise j k ts m case)
   unfold_ready j k ts m case h c =
-      let s = small ds (antecedent j) (first_heap H j h.heaps) in
+      let s = small most ds (antecedent j) (first_heap H j h.heaps) in
       let a = unfolded (antecedent j) k (case_body ts m case) in
       let shaped = Each-append Shaped (without k (antecedent j).spatial) (case_body ts m case).spatial (Each-without Shaped (antecedent j).spatial k s.shaped) (shapes_after ds (case_term ts m) case.spatial c) in
-      (heaps_with (IsReadyHeap ds n 16) j a ((λ few. few), shaped) (all_ready ds n 16 (heaps_of j) h.heaps), form_with n j a h.form)
+      (heaps_with (IsReadyHeap most ds n most) j a ((λ few. few), shaped) (all_ready most ds n most (heaps_of j) h.heaps), form_with n j a h.form)
 
-  unfolds_ready : (j : Judgement) (k : ℕ) (ts : List Term) (m : ℕ) (cases : List SymbolicHeap) → IsJudgementWithin ds n j → Each (λ (c : SymbolicHeap). Each Shaped c.spatial) cases → Each (IsReady ds n 16) (map (unfold_premise j k ts m) cases)
+  unfolds_ready : (j : Judgement) (k : ℕ) (ts : List Term) (m : ℕ) (cases : List SymbolicHeap) → IsJudgementWithin most ds n j → Each (λ (c : SymbolicHeap). Each Shaped c.spatial) cases → Each (IsReady most ds n most) (map (unfold_premise j k ts m) cases)
   unfolds_ready j k ts m [] h e = tt
   unfolds_ready j k ts m (c ∷ cs) h e = (unfold_ready j k ts m c h e.0, unfolds_ready j k ts m cs h e.1)
 
-  unfold_nearly : (p : ℕ) (j : Judgement) (k : ℕ) (x : Spatial) → Each (IsDefinitionWithin ds) ds → IsJudgementWithin ds n j → OnPremises P (calls x (λ q ts. limited 16 (map (unfold_premise j k ts (fresh_number p j)) (cases_of ds q))))
+  unfold_nearly : (p : ℕ) (j : Judgement) (k : ℕ) (x : Spatial) → Each (IsDefinitionWithin most ds) ds → IsJudgementWithin most ds n j → OnPremises P (calls x (λ q ts. limited most (map (unfold_premise j k ts (fresh_number p j)) (cases_of ds q))))
   unfold_nearly p j k (Cell t ts) d h = tt
   unfold_nearly p j k (Pred q ts) d h =
-      limited_nearly ds n 16 (map (unfold_premise j k ts (fresh_number p j)) (cases_of ds q)) (unfolds_ready j k ts (fresh_number p j) (cases_of ds q) h (case_shapes ds ds d q))
+      limited_nearly most ds n most (map (unfold_premise j k ts (fresh_number p j)) (cases_of ds q)) (unfolds_ready j k ts (fresh_number p j) (cases_of ds q) h (case_shapes most ds ds d q))
 
   -- ---- Cut
 
-  left_ready : (a f : SymbolicHeap) (p : ℕ → Bool) → H a → H f → IsReady ds n 16 (cut_left a p f)
+  left_ready : (a f : SymbolicHeap) (p : ℕ → Bool) → H a → H f → IsReady most ds n most (cut_left a p f)
   left_ready a f p h g =
-      let s = small ds a h in
-      ((((λ few. few), Each-chosen Shaped a.spatial p s.shaped), (ready ds n 16 f g, tt)), (omega arith, omega arith))
+      let s = small most ds a h in
+      ((((λ few. few), Each-chosen Shaped a.spatial p s.shaped), (ready most ds n most f g, tt)), (omega arith, omega arith))
 
-  right_ready : (j : Judgement) (f : SymbolicHeap) (p : ℕ → Bool) (m : ℕ) → IsJudgementWithin ds n j → H f → IsReady ds n 16 (cut_right j p f m)
+  right_ready : (j : Judgement) (f : SymbolicHeap) (p : ℕ → Bool) (m : ℕ) → IsJudgementWithin most ds n j → H f → IsReady most ds n most (cut_right j p f m)
   right_ready j f p m h g =
-      let s = small ds (antecedent j) (first_heap H j h.heaps) in
+      let s = small most ds (antecedent j) (first_heap H j h.heaps) in
       let body = in_heap (opened_term m) f in
-      let shaped = Each-append Shaped (chosen (others_of p) (antecedent j).spatial) body.spatial (Each-chosen Shaped (antecedent j).spatial (others_of p) s.shaped) (shapes_after ds (opened_term m) f.spatial (small ds f g).shaped) in
-      (heaps_with (IsReadyHeap ds n 16) j _ ((λ few. few), shaped) (all_ready ds n 16 (heaps_of j) h.heaps), form_with n j _ h.form)
+      let shaped = Each-append Shaped (chosen (others_of p) (antecedent j).spatial) body.spatial (Each-chosen Shaped (antecedent j).spatial (others_of p) s.shaped) (shapes_after ds (opened_term m) f.spatial (small most ds f g).shaped) in
+      (heaps_with (IsReadyHeap most ds n most) j _ ((λ few. few), shaped) (all_ready most ds n most (heaps_of j) h.heaps), form_with n j _ h.form)
 
   -- ---- the right
 
@@ -195,39 +195,39 @@ module _ (ds : List Definition) (n : ℕ) where
 
   pure_dropped : (k : ℕ) (a : SymbolicHeap) → H a → H (without_pure k a)
   pure_dropped k a h =
-      let s = small ds a h in
+      let s = small most ds a h in
       let l = length-without a.pure k in
       let m = s.pures in
-      within ds (without_pure k a) (record { pures = omega arith; spatials = s.spatials; low = (Each-without (InPure IsLow) a.pure k s.low.0, s.low.1); shaped = s.shaped })
+      within most ds (without_pure k a) (record { pures = omega arith; spatials = s.spatials; low = (Each-without (InPure IsLow) a.pure k s.low.0, s.low.1); shaped = s.shaped })
 
   spatial_dropped : (k : ℕ) (a : SymbolicHeap) → H a → H (without_spatial k a)
   spatial_dropped k a h =
-      let s = small ds a h in
+      let s = small most ds a h in
       let l = length-without a.spatial k in
       let m = s.spatials in
-      within ds (without_spatial k a) (record { pures = s.pures; spatials = omega arith; low = (s.low.0, Each-without (InSpatial IsLow) a.spatial k s.low.1); shaped = Each-without Shaped a.spatial k s.shaped })
+      within most ds (without_spatial k a) (record { pures = s.pures; spatials = omega arith; low = (s.low.0, Each-without (InSpatial IsLow) a.spatial k s.low.1); shaped = Each-without Shaped a.spatial k s.shaped })
 
-  unfolded_ready : (a b : SymbolicHeap) (k : ℕ) (f : Term → Term) (case : SymbolicHeap) → H a → H b → Each Shaped case.spatial → IsReady ds n 16 (with_right a (unfolded_right b k (in_heap f case) ∷ []))
+  unfolded_ready : (a b : SymbolicHeap) (k : ℕ) (f : Term → Term) (case : SymbolicHeap) → H a → H b → Each Shaped case.spatial → IsReady most ds n most (with_right a (unfolded_right b k (in_heap f case) ∷ []))
   unfolded_ready a b k f case h g c =
-      let s = small ds b g in
+      let s = small most ds b g in
       let shaped = Each-append Shaped (without k b.spatial) (in_heap f case).spatial (Each-without Shaped b.spatial k s.shaped) (shapes_after ds f case.spatial c) in
-      ((ready ds n 16 a h, (((λ few. few), shaped), tt)), (omega arith, omega arith))
+      ((ready most ds n most a h, (((λ few. few), shaped), tt)), (omega arith, omega arith))
 
-  unfold_right_nearly : (a b : SymbolicHeap) (k c : ℕ) (x : Spatial) → Each (IsDefinitionWithin ds) ds → H a → H b → OnPremises P (calls x (λ q ts. finds (slice_get (cases_of ds q) c) NoSuchCase (λ case. limited 16 (one (with_right a (unfolded_right b k (in_heap (right_term ts (heap_exists b)) case) ∷ []))))))
+  unfold_right_nearly : (a b : SymbolicHeap) (k c : ℕ) (x : Spatial) → Each (IsDefinitionWithin most ds) ds → H a → H b → OnPremises P (calls x (λ q ts. finds (slice_get (cases_of ds q) c) NoSuchCase (λ case. limited most (one (with_right a (unfolded_right b k (in_heap (right_term ts (heap_exists b)) case) ∷ []))))))
   unfold_right_nearly a b k c (Cell t ts) d h g = tt
   unfold_right_nearly a b k c (Pred q ts) d h g =
       finds_gives (OnPremises P) bad (slice_get (cases_of ds q) c) NoSuchCase _ (λ case at.
-      let shaped = Each-get (λ (c : SymbolicHeap). Each Shaped c.spatial) (cases_of ds q) c case at (case_shapes ds ds d q) in
-      limited_nearly ds n 16 (one (with_right a (unfolded_right b k (in_heap (right_term ts (heap_exists b)) case) ∷ []))) (unfolded_ready a b k (right_term ts (heap_exists b)) case h g shaped, tt))
+      let shaped = Each-get (λ (c : SymbolicHeap). Each Shaped c.spatial) (cases_of ds q) c case at (case_shapes most ds ds d q) in
+      limited_nearly most ds n most (one (with_right a (unfolded_right b k (in_heap (right_term ts (heap_exists b)) case) ∷ []))) (unfolded_ready a b k (right_term ts (heap_exists b)) case h g shaped, tt))
 
   -- ---- Exec
 
   module _ (i : ℕ) (a : SymbolicHeap) (m : ℕ) (h : H a) where
-    state_ready : (k : ℕ) (b : SymbolicHeap) → IsLineOf n k → Each Shaped b.spatial → IsReady ds n 16 (at_line k a b)
+    state_ready : (k : ℕ) (b : SymbolicHeap) → IsLineOf n k → Each Shaped b.spatial → IsReady most ds n most (at_line k a b)
     state_ready k b l s = ((((λ few. few), s), tt), l)
 
     shaped : Each Shaped a.spatial
-    shaped = (small ds a h).shaped
+    shaped = (small most ds a h).shaped
 
     renamed_shaped : (x : ℕ) → Each Shaped (renamed x m a).spatial
     renamed_shaped x = shapes_after ds (apply_term ((x, Univ m) ∷ [])) a.spatial shaped
@@ -248,94 +248,94 @@ module _ (ds : List Definition) (n : ℕ) where
     new_shaped x k some few =
         let e = length-variables_from (m + 1) k in (refl, (omega arith, omega arith))
 
-    command_nearly : (c : Command) → MayStandAt n i c → OnPremises P (command_answer 16 i a m c)
+    command_nearly : (c : Command) → MayStandAt n i c → OnPremises P (command_answer most i a m c)
     command_nearly Stop l = tt
-    command_nearly (Goto j) l = limited_nearly ds n 16 (one (at_line j a a)) (state_ready j a l shaped, tt)
+    command_nearly (Goto j) l = limited_nearly most ds n most (one (at_line j a a)) (state_ready j a l shaped, tt)
     command_nearly (IfEq t u j) l =
-        limited_nearly ds n 16 (two (at_line j a (with_atom a (Eq t u))) (at_line (i + 1) a (with_atom a (Neq t u)))) (state_ready j (with_atom a (Eq t u)) l.1 shaped, (state_ready (i + 1) (with_atom a (Neq t u)) (next l.0) shaped, tt))
+        limited_nearly most ds n most (two (at_line j a (with_atom a (Eq t u))) (at_line (i + 1) a (with_atom a (Neq t u)))) (state_ready j (with_atom a (Eq t u)) l.1 shaped, (state_ready (i + 1) (with_atom a (Neq t u)) (next l.0) shaped, tt))
     command_nearly (IfNeq t u j) l =
-        limited_nearly ds n 16 (two (at_line j a (with_atom a (Neq t u))) (at_line (i + 1) a (with_atom a (Eq t u)))) (state_ready j (with_atom a (Neq t u)) l.1 shaped, (state_ready (i + 1) (with_atom a (Eq t u)) (next l.0) shaped, tt))
+        limited_nearly most ds n most (two (at_line j a (with_atom a (Neq t u))) (at_line (i + 1) a (with_atom a (Eq t u)))) (state_ready j (with_atom a (Neq t u)) l.1 shaped, (state_ready (i + 1) (with_atom a (Eq t u)) (next l.0) shaped, tt))
     command_nearly (Assign x t) l =
-        limited_nearly ds n 16 (one (at_line (i + 1) a (with_atom (renamed x m a) (Eq (Univ x) (renamed_term x m t))))) (state_ready (i + 1) (with_atom (renamed x m a) (Eq (Univ x) (renamed_term x m t))) (next l) (renamed_shaped x), tt)
+        limited_nearly most ds n most (one (at_line (i + 1) a (with_atom (renamed x m a) (Eq (Univ x) (renamed_term x m t))))) (state_ready (i + 1) (with_atom (renamed x m a) (Eq (Univ x) (renamed_term x m t))) (next l) (renamed_shaped x), tt)
     command_nearly (Load x t k) l =
         finds_gives (OnPremises P) bad (cell_of a.pure t a.spatial) NoCell _ (λ c found.
         finds_gives (OnPremises P) bad (counted_from_one c.fields k) NoCell _ (λ f field.
-        limited_nearly ds n 16 (one (at_line (i + 1) a (with_atom (renamed x m a) (Eq (Univ x) (renamed_term x m f))))) (state_ready (i + 1) (with_atom (renamed x m a) (Eq (Univ x) (renamed_term x m f))) (next l.0) (renamed_shaped x), tt)))
+        limited_nearly most ds n most (one (at_line (i + 1) a (with_atom (renamed x m a) (Eq (Univ x) (renamed_term x m f))))) (state_ready (i + 1) (with_atom (renamed x m a) (Eq (Univ x) (renamed_term x m f))) (next l.0) (renamed_shaped x), tt)))
     command_nearly (Store t k u) l =
         finds_gives (OnPremises P) bad (cell_of a.pure t a.spatial) NoCell _ (λ c found.
         finds_gives (OnPremises P) bad (counted_from_one c.fields k) NoCell _ (λ f field.
-        limited_nearly ds n 16 (one (at_line (i + 1) a (with_field a c k u))) (state_ready (i + 1) (with_field a c k u) (next l.0) (Each-set Shaped a.spatial c.place (Cell c.address (slice_set c.fields (k - 1) u)) (field_shaped c (k - 1) u (cell_shaped t c found)) shaped), tt)))
+        limited_nearly most ds n most (one (at_line (i + 1) a (with_field a c k u))) (state_ready (i + 1) (with_field a c k u) (next l.0) (Each-set Shaped a.spatial c.place (Cell c.address (slice_set c.fields (k - 1) u)) (field_shaped c (k - 1) u (cell_shaped t c found)) shaped), tt)))
     command_nearly (New x k) l =
-        limited_nearly ds n 16 (one (at_line (i + 1) a (with_cell (renamed x m a) x (variables_from (m + 1) k)))) (state_ready (i + 1) (with_cell (renamed x m a) x (variables_from (m + 1) k)) (next l.0) (Each-append Shaped (renamed x m a).spatial (Cell (Univ x) (variables_from (m + 1) k) ∷ []) (renamed_shaped x) (new_shaped x k l.1.0 l.1.1, tt)), tt)
+        limited_nearly most ds n most (one (at_line (i + 1) a (with_cell (renamed x m a) x (variables_from (m + 1) k)))) (state_ready (i + 1) (with_cell (renamed x m a) x (variables_from (m + 1) k)) (next l.0) (Each-append Shaped (renamed x m a).spatial (Cell (Univ x) (variables_from (m + 1) k) ∷ []) (renamed_shaped x) (new_shaped x k l.1.0 l.1.1, tt)), tt)
     command_nearly (Free t) l =
         finds_gives (OnPremises P) bad (cell_of a.pure t a.spatial) NoCell _ (λ c found.
-        limited_nearly ds n 16 (one (record { judgement = Runs (i + 1) (without_spatial c.place a); pairs = kept_pairs c.place a.spatial })) (((((λ few. few), Each-without Shaped a.spatial c.place shaped), tt), next l), tt))
+        limited_nearly most ds n most (one (record { judgement = Runs (i + 1) (without_spatial c.place a); pairs = kept_pairs c.place a.spatial })) (((((λ few. few), Each-without Shaped a.spatial c.place shaped), tt), next l), tt))
 
-pub rule_nearly : (ds : List Definition) (lines : List Command) (j : Judgement) (rule : Rule) → Each (IsDefinitionWithin ds) ds → IsProgram lines → IsJudgementWithin ds (length lines) j → IsRuleWithin ds rule → OnPremises (IsNearly ds (length lines)) (rule_answer 16 ds lines j rule)
-rule_nearly ds lines j rule d g h = by rule
+pub rule_nearly : (most : ℕ) (ds : List Definition) (lines : List Command) (j : Judgement) (rule : Rule) → Each (IsDefinitionWithin most ds) ds → IsProgram lines → IsJudgementWithin most ds (length lines) j → IsRuleWithin most ds rule → OnPremises (IsNearly most ds (length lines)) (rule_answer most ds lines j rule)
+rule_nearly most ds lines j rule d g h = by rule
   where
     n : ℕ
     n = length lines
 
     S : Answer → Type 0
-    S = OnPremises (IsNearly ds n)
+    S = OnPremises (IsNearly most ds n)
 
     faulty : (f : RuleFault) → S (Err f)
     faulty f = tt
 
-    s : IsSmall ds (antecedent j)
-    s = small ds (antecedent j) (first_heap (IsHeapWithin ds) j h.heaps)
+    s : IsSmall most ds (antecedent j)
+    s = small most ds (antecedent j) (first_heap (IsHeapWithin most ds) j h.heaps)
 
-    same : (i : Judgement) → j ≡ i → IsJudgementWithin ds n i
-    same i e = subst (λ i. IsJudgementWithin ds n i) e h
+    same : (i : Judgement) → j ≡ i → IsJudgementWithin most ds n i
+    same i e = subst (λ i. IsJudgementWithin most ds n i) e h
 
-    by : (rule : Rule) → IsRuleWithin ds rule → S (rule_answer 16 ds lines j rule)
+    by : (rule : Rule) → IsRuleWithin most ds rule → S (rule_answer most ds lines j rule)
     by Absurd r = needs_gives S faulty (is_absurd (antecedent j)) NotAbsurd (Ok []) (λ _. tt)
     by (Rewrite k side) r =
-        finds_gives S faulty (slice_get (antecedent j).pure k) NoSuchAtom _ (λ x at. rewrite_nearly ds n (variables_of lines j) j k side x h (Each-get (InPure IsLow) (antecedent j).pure k x at s.low.0))
+        finds_gives S faulty (slice_get (antecedent j).pure k) NoSuchAtom _ (λ x at. rewrite_nearly most ds n (variables_of lines j) j k side x h (Each-get (InPure IsLow) (antecedent j).pure k x at s.low.0))
     by (Split t u) r =
-        limited_nearly ds n 32 (two (with_pure j (Eq t u)) (with_pure j (Neq t u))) (pures_ready ds n 32 j _ h, (pures_ready ds n 32 j _ h, tt))
+        limited_nearly most ds n 32 (two (with_pure j (Eq t u)) (with_pure j (Neq t u))) (pures_ready most ds n 32 j _ h, (pures_ready most ds n 32 j _ h, tt))
     by (Distinct i k) r =
         finds_gives S faulty (slice_get (antecedent j).spatial i) NoSuchAtom _ (λ x at_i.
         finds_gives S faulty (slice_get (antecedent j).spatial k) NoSuchAtom _ (λ y at_k.
         finds_gives S faulty (address_of x) NoCell _ (λ t is_t.
         finds_gives S faulty (address_of y) NoCell _ (λ u is_u.
-        limited_nearly ds n 32 (one (with_pure j (Neq t (if nat_eq i k then Nil else u)))) (pures_ready ds n 32 j _ h, tt)))))
-    by (Weaken k) r = finds_gives S faulty (slice_get (antecedent j).pure k) NoSuchAtom _ (λ x at. (pures_dropped ds n j k h, tt))
-    by (Unfold k) r = finds_gives S faulty (slice_get (antecedent j).spatial k) NoSuchAtom _ (λ x at. unfold_nearly ds n (variables_of lines j) j k x d h)
+        limited_nearly most ds n 32 (one (with_pure j (Neq t (if nat_eq i k then Nil else u)))) (pures_ready most ds n 32 j _ h, tt)))))
+    by (Weaken k) r = finds_gives S faulty (slice_get (antecedent j).pure k) NoSuchAtom _ (λ x at. (pures_dropped most ds n j k h, tt))
+    by (Unfold k) r = finds_gives S faulty (slice_get (antecedent j).spatial k) NoSuchAtom _ (λ x at. unfold_nearly most ds n (variables_of lines j) j k x d h)
     by (Cut places f) r =
         needs_gives S faulty (ascend_from 0 (length (antecedent j).spatial) places) NoSuchAtom _ (λ _.
-        limited_nearly ds n 16 (two (cut_left (antecedent j) (has_number places) f) (cut_right j (has_number places) f (max (fresh_number (variables_of lines j) j) (heap_bound f)))) (left_ready ds n (antecedent j) f (has_number places) (first_heap (IsHeapWithin ds) j h.heaps) r, (right_ready ds n j f (has_number places) (max (fresh_number (variables_of lines j) j) (heap_bound f)) h r, tt)))
-    by Done r = single_gives S faulty j _ (λ a b e. empty_nearly ds n a.spatial b.pure b.spatial)
+        limited_nearly most ds n most (two (cut_left (antecedent j) (has_number places) f) (cut_right j (has_number places) f (max (fresh_number (variables_of lines j) j) (heap_bound f)))) (left_ready most ds n (antecedent j) f (has_number places) (first_heap (IsHeapWithin most ds) j h.heaps) r, (right_ready most ds n j f (has_number places) (max (fresh_number (variables_of lines j) j) (heap_bound f)) h r, tt)))
+    by Done r = single_gives S faulty j _ (λ a b e. empty_nearly most ds n a.spatial b.pure b.spatial)
     by (Choose k) r =
         entails_gives S faulty j _ (λ a bs e.
         finds_gives S faulty (slice_get bs k) NoSuchAtom _ (λ b at.
-        let w = same (Entail a bs) e in (right_nearly ds n a b w.heaps.0 (Each-get (IsHeapWithin ds) bs k b at w.heaps.1), tt)))
+        let w = same (Entail a bs) e in (right_nearly most ds n a b w.heaps.0 (Each-get (IsHeapWithin most ds) bs k b at w.heaps.1), tt)))
     by (PureRight k) r =
         single_gives S faulty j _ (λ a b e.
         finds_gives S faulty (slice_get b.pure k) NoSuchAtom _ (λ x at.
         needs_gives S faulty (is_universal_pure x) HasExistential _ (λ _.
         needs_gives S faulty (follows a.pure x) NotFollowing _ (λ _.
-        let w = same (Entail a (b ∷ [])) e in (right_nearly ds n a (without_pure k b) w.heaps.0 (pure_dropped ds n k b w.heaps.1.0), tt)))))
+        let w = same (Entail a (b ∷ [])) e in (right_nearly most ds n a (without_pure k b) w.heaps.0 (pure_dropped most ds n k b w.heaps.1.0), tt)))))
     by (Instantiate v t) r =
         single_gives S faulty j _ (λ a b e.
-        let w = same (Entail a (b ∷ [])) e in (right_nearly ds n a (in_heap (instance_term v t) b) w.heaps.0 (within_after (instance_term v t) (low_instance v t r.1.1) ds b w.heaps.1.0), tt))
+        let w = same (Entail a (b ∷ [])) e in (right_nearly most ds n a (in_heap (instance_term v t) b) w.heaps.0 (within_after (instance_term v t) (low_instance v t r.1.1) most ds b w.heaps.1.0), tt))
     by (Frame i k) r =
         single_gives S faulty j _ (λ a b e.
         finds_gives S faulty (slice_get a.spatial i) NoSuchAtom _ (λ x at_i.
         finds_gives S faulty (slice_get b.spatial k) NoSuchAtom _ (λ y at_k.
         needs_gives S faulty (is_universal_spatial y) HasExistential _ (λ _.
         needs_gives S faulty (same_spatial x y) AtomsDiffer _ (λ _.
-        let w = same (Entail a (b ∷ [])) e in (((spatial_dropped ds n i a w.heaps.0, (spatial_dropped ds n k b w.heaps.1.0, tt)), (omega arith, omega arith)), tt))))))
+        let w = same (Entail a (b ∷ [])) e in (((spatial_dropped most ds n i a w.heaps.0, (spatial_dropped most ds n k b w.heaps.1.0, tt)), (omega arith, omega arith)), tt))))))
     by (UnfoldRight k c) r =
         single_gives S faulty j _ (λ a b e.
         finds_gives S faulty (slice_get b.spatial k) NoSuchAtom _ (λ x at.
-        let w = same (Entail a (b ∷ [])) e in unfold_right_nearly ds n a b k c x d w.heaps.0 w.heaps.1.0))
+        let w = same (Entail a (b ∷ [])) e in unfold_right_nearly most ds n a b k c x d w.heaps.0 w.heaps.1.0))
     by Exec r =
         runs_gives S faulty j _ (λ i a e.
         finds_gives S faulty (counted_from_one lines i) WrongJudgement _ (λ c at.
-        let w = same (Runs i a) e in command_nearly ds n i a (fresh_number (program_variables lines) j) w.heaps.0 c (g.commands i c at)))
+        let w = same (Runs i a) e in command_nearly most ds n i a (fresh_number (program_variables lines) j) w.heaps.0 c (g.commands i c at)))
     by (Drop k) r =
         runs_gives S faulty j _ (λ i a e.
         finds_gives S faulty (slice_get a.spatial k) NoSuchAtom _ (λ x at.
-        let w = same (Runs i a) e in (((spatial_dropped ds n k a w.heaps.0, tt), w.form), tt)))
+        let w = same (Runs i a) e in (((spatial_dropped most ds n k a w.heaps.0, tt), w.form), tt)))

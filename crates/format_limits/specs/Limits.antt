@@ -1,4 +1,4 @@
--- What may stand in a proof file of format version 1, whose heaps have at most sixteen spatial atoms.
+-- What may stand in a proof file whose heaps have at most so many spatial atoms.
 use Rattle.std.specs.Prelude.{◌≡◌, ℕ, ◌<◌, ◌≤◌, ◌^◌, List, length, true, None}
 use Rattle.heap_formula.specs.declared.terms.Term.{Term}
 use Rattle.heap_formula.specs.declared.atoms.Spatial.{Spatial}
@@ -28,10 +28,10 @@ abbrev pub HasFields : Spatial → Type 0
 HasFields (Cell t ts) = (0 < length ts) × (length ts ≤ 8)
 HasFields (Pred q ts) = Unit {0}
 
--- a heap outside definitions: at most 64 pure and 16 spatial atoms, variables up to number 65,534, known predicates with
+-- a heap outside definitions: at most 64 pure and `most` spatial atoms, variables up to number 65,534, known predicates with
 -- their numbers of arguments, and cells of one to eight fields
-pub record IsHeapWithin (ds : List Definition) (a : SymbolicHeap) : Type 0 where
-  pub short : is_short 16 a ≡ true
+pub record IsHeapWithin (most : ℕ) (ds : List Definition) (a : SymbolicHeap) : Type 0 where
+  pub short : is_short most a ≡ true
   pub numbers : has_numbers a ≡ true
   pub known : case_fault ds a ≡ None
   pub fields : Each HasFields a.spatial
@@ -42,28 +42,28 @@ IsFormWithin count (Entail a bs) = (0 < length bs) × (length bs ≤ 16)
 IsFormWithin count (Runs i a) = IsLineOf count i
 
 -- a judgement over these definitions, and so many lines
-pub record IsJudgementWithin (ds : List Definition) (count : ℕ) (j : Judgement) : Type 0 where
-  pub heaps : Each (IsHeapWithin ds) (heaps_of j)
+pub record IsJudgementWithin (most : ℕ) (ds : List Definition) (count : ℕ) (j : Judgement) : Type 0 where
+  pub heaps : Each (IsHeapWithin most ds) (heaps_of j)
   pub universal : IsUniversalHeap (antecedent j)
   pub form : IsFormWithin count j
 
-abbrev pub IsPremiseWithin : List Definition → ℕ → Premise → Type 0
-IsPremiseWithin ds count p = IsJudgementWithin ds count p.judgement
+abbrev pub IsPremiseWithin : ℕ → List Definition → ℕ → Premise → Type 0
+IsPremiseWithin most ds count p = IsJudgementWithin most ds count p.judgement
 
 -- ---- definitions
 
 -- a case: a heap with the parameters as its universal variables, and at most sixteen locals
-pub record IsCaseWithin (ds : List Definition) (arity : ℕ) (case : SymbolicHeap) : Type 0 where
-  pub heap : IsHeapWithin ds case
+pub record IsCaseWithin (most : ℕ) (ds : List Definition) (arity : ℕ) (case : SymbolicHeap) : Type 0 where
+  pub heap : IsHeapWithin most ds case
   pub parameters : heap_bound case ≤ arity
   pub locals : heap_exists case ≤ 16
 
 -- a definition: at most eight parameters, one to sixteen cases
-pub record IsDefinitionWithin (ds : List Definition) (d : Definition) : Type 0 where
+pub record IsDefinitionWithin (most : ℕ) (ds : List Definition) (d : Definition) : Type 0 where
   pub arity : d.arity ≤ 8
   pub some_case : 0 < length d.cases
   pub few : length d.cases ≤ 16
-  pub cases : Each (IsCaseWithin ds d.arity) d.cases
+  pub cases : Each (IsCaseWithin most ds d.arity) d.cases
 
 -- ---- reasons
 
@@ -72,19 +72,19 @@ abbrev pub IsTermWithin : Term → Type 0
 IsTermWithin t = IsUniversal t × (number_bound t ≤ 65535)
 
 -- the terms and the formula of a rule
-abbrev pub IsRuleWithin : List Definition → Rule → Type 0
-IsRuleWithin ds (Split t u) = IsTermWithin t × IsTermWithin u
-IsRuleWithin ds (Cut places f) = IsHeapWithin ds f
-IsRuleWithin ds (Instantiate v t) = (v ≤ 65534) × IsTermWithin t
-IsRuleWithin ds _ = Unit {0}
+abbrev pub IsRuleWithin : ℕ → List Definition → Rule → Type 0
+IsRuleWithin most ds (Split t u) = IsTermWithin t × IsTermWithin u
+IsRuleWithin most ds (Cut places f) = IsHeapWithin most ds f
+IsRuleWithin most ds (Instantiate v t) = (v ≤ 65534) × IsTermWithin t
+IsRuleWithin most ds _ = Unit {0}
 
 abbrev pub IsPairWithin : ℕ × Term → Type 0
 IsPairWithin pair = (pair.0 ≤ 65534) × IsTermWithin pair.1
 
 -- what a rule or a link brings in of its own
-abbrev pub IsReasonWithin : List Definition → Reason → Type 0
-IsReasonWithin ds (Step rule) = IsRuleWithin ds rule
-IsReasonWithin ds (Back link) = Each IsPairWithin link.subst
+abbrev pub IsReasonWithin : ℕ → List Definition → Reason → Type 0
+IsReasonWithin most ds (Step rule) = IsRuleWithin most ds rule
+IsReasonWithin most ds (Back link) = Each IsPairWithin link.subst
 
 -- a number of at most nine digits
 abbrev pub IsShortNumber : ℕ → Type 0

@@ -5,13 +5,14 @@ use Rattle.std.specs.List.{list_any}
 use Rattle.std.specs.Str.{bytes_eq}
 use Rattle.cyc_lex.specs.declared.fault.What.TheVariants.{Arguments, Cases, Disjuncts, Predicates, ProgramVariables, Variable, Locals}
 use Rattle.cyc_lex.specs.declared.fault.IllFault.TheVariants.{Parameter, Duplicate, NoLine}
+use Rattle.heap_syntax.specs.Versions.{most_spatial}
 use Rattle.heap_reader.specs.Trees.{Heading}
 use Rattle.heap_reader.specs.Spans.{heap_span}
 use Rattle.heap_reader.specs.Flaws.{ill_if, over_if, or_later, arity_in, heap_flaw, heaps_flaw}
 use Rattle.heap_reader.specs.LineFlaws.{lines_flaw}
 use Rattle.heap_reader.specs.Small.{IsSmall, IsSmallHeap}
 use Rattle.heap_reader.proofs.NoFlaw.{neither, not_over, not_ill, at_most, below, each_of, few_all}
-use Rattle.heap_reader.proofs.Fitting.{heap_small, heaps_small}
+use Rattle.heap_reader.proofs.Fitting.{most_fits, heap_small, heaps_small}
 use Rattle.heap_reader.proofs.Programs.{lines_are_program}
 use Rattle.name_numbers.specs.declared.tree.NumberedTerm.{NumberedTerm}
 use Rattle.name_numbers.specs.declared.tree.NumberedTerm.TheVariants.{Nil, Universal, Existential}
@@ -39,30 +40,30 @@ pub parameters_few : (k : ℕ) (ps : List (List ℕ)) → parameters_flaw k ps �
 parameters_few k ps e =
     few_all (parameter_flaw ps) parameter_span 8 (λ n j s h. below 8 n (not_over _ Arguments j (neither (ill_if (list_any (bytes_eq s) (take n ps)) Duplicate j) (over_if (nat_le 8 n) Arguments j) h).1)) k ps e
 
-goal_heap_small : (hs : List Heading) (k : ℕ) (h : Heap) → heap_flaw (term_flaw InGoal) term_span hs k h ≡ None → IsSmallHeap term_value h
-goal_heap_small hs k h e = heap_small (term_flaw InGoal) term_span term_value (term_small InGoal tt) hs k h e
+goal_heap_small : (most : ℕ) → most ≤ 32 → (hs : List Heading) (k : ℕ) (h : Heap) → heap_flaw (term_flaw InGoal) term_span most hs k h ≡ None → IsSmallHeap term_value h
+goal_heap_small most few hs k h e = heap_small (term_flaw InGoal) term_span term_value (term_small InGoal tt) most few hs k h e
 
-module _ (hs : List Heading) where
-  pub definition_small : (n k : ℕ) (d : Definition) → definition_flaw hs n k d ≡ None → (n < 4096) × IsSmallDefinition d
+module _ (most : ℕ) (few : most ≤ 32) (hs : List Heading) where
+  pub definition_small : (n k : ℕ) (d : Definition) → definition_flaw most hs n k d ≡ None → (n < 4096) × IsSmallDefinition d
   definition_small n k d e =
       let p = k + 3 + parameters_span d.parameters + 1 in
       let arity = length d.parameters in
-      let a = neither (head_flaw hs n k d) (cases_flaw hs arity p d.cases) e in
+      let a = neither (head_flaw hs n k d) (cases_flaw most hs arity p d.cases) e in
       let b = neither (over_if (nat_le 4096 n) Predicates k) (or_later (ill_if (is_some (arity_in (take n hs) d.name)) Duplicate (k + 1)) (parameters_flaw (k + 3) d.parameters)) a.0 in
       let c = neither (ill_if (is_some (arity_in (take n hs) d.name)) Duplicate (k + 1)) (parameters_flaw (k + 3) d.parameters) b.1 in
       let narrow = parameters_few (k + 3) d.parameters c.1 in
-      let cases = heaps_small (term_flaw (InCase arity)) term_span term_value (term_small (InCase arity) narrow) hs Cases p d.cases a.1 in
+      let cases = heaps_small (term_flaw (InCase arity)) term_span term_value (term_small (InCase arity) narrow) most few hs Cases p d.cases a.1 in
       (below 4096 n (not_over _ Predicates k b.0), record { parameters = narrow; cases = cases.0; few = cases.1 })
 
-  goal_small : (count k : ℕ) (g : Goal) → HasDisjunct g → goal_flaw hs count k g ≡ None → IsSmallGoal g
+  goal_small : (count k : ℕ) (g : Goal) → HasDisjunct g → goal_flaw most hs count k g ≡ None → IsSmallGoal g
   goal_small count k (Entailment h ds) some e =
       let p = k + 1 + heap_span term_span h in
-      let a = neither (heap_flaw (term_flaw InGoal) term_span hs (k + 1) h) (heaps_flaw (term_flaw InGoal) term_span hs Disjuncts p ds) e in
-      let heaps = heaps_small (term_flaw InGoal) term_span term_value (term_small InGoal tt) hs Disjuncts p ds a.1 in
-      (goal_heap_small hs (k + 1) h a.0, record { heaps = heaps.0; some = some; few = heaps.1 })
+      let a = neither (heap_flaw (term_flaw InGoal) term_span most hs (k + 1) h) (heaps_flaw (term_flaw InGoal) term_span most hs Disjuncts p ds) e in
+      let heaps = heaps_small (term_flaw InGoal) term_span term_value (term_small InGoal tt) most few hs Disjuncts p ds a.1 in
+      (goal_heap_small most few hs (k + 1) h a.0, record { heaps = heaps.0; some = some; few = heaps.1 })
   goal_small count k (From n h) some e =
-      let a = neither (ill_if (nat_eq n 0 || nat_lt count n) NoLine (k + 2)) (heap_flaw (term_flaw InGoal) term_span hs (k + 4) h) e in
-      goal_heap_small hs (k + 4) h a.1
+      let a = neither (ill_if (nat_eq n 0 || nat_lt count n) NoLine (k + 2)) (heap_flaw (term_flaw InGoal) term_span most hs (k + 4) h) e in
+      goal_heap_small most few hs (k + 4) h a.1
 
 variable_few : (k v : ℕ) → variable_flaw k v ≡ None → v < 64
 variable_few k v e = let h = at_most 63 v (not_over _ ProgramVariables k e) in omega arith
@@ -70,14 +71,16 @@ variable_few k v e = let h = at_most 63 v (not_over _ ProgramVariables k e) in o
 -- a problem without a flaw is small
 pub problem_small : (p : Problem) → HasDisjunct p.goal → problem_flaw p ≡ None → IsSmallProblem p
 problem_small p some e =
+    let most = most_spatial p.version in
+    let few = most_fits p.version in
     let hs = headings p.definitions in
     let at = 4 + definitions_span p.definitions in
     let goal_at = at + lines_span p.lines in
-    let a = neither (definitions_flaw hs 4 p.definitions) (or_later (lines_flaw variable_flaw variable_span at p.lines) (goal_flaw hs (length p.lines) goal_at p.goal)) e in
-    let b = neither (lines_flaw variable_flaw variable_span at p.lines) (goal_flaw hs (length p.lines) goal_at p.goal) a.1 in
+    let a = neither (definitions_flaw most hs 4 p.definitions) (or_later (lines_flaw variable_flaw variable_span at p.lines) (goal_flaw most hs (length p.lines) goal_at p.goal)) e in
+    let b = neither (lines_flaw variable_flaw variable_span at p.lines) (goal_flaw most hs (length p.lines) goal_at p.goal) a.1 in
     record {
-      definitions = each_of (definition_flaw hs) definition_span IsSmallDefinition (λ n k d h. (definition_small hs n k d h).1) 0 4 p.definitions a.0;
-      few = few_all (definition_flaw hs) definition_span 4096 (λ n k d h. (definition_small hs n k d h).0) 4 p.definitions a.0;
+      definitions = each_of (definition_flaw most hs) definition_span IsSmallDefinition (λ n k d h. (definition_small most few hs n k d h).1) 0 4 p.definitions a.0;
+      few = few_all (definition_flaw most hs) definition_span 4096 (λ n k d h. (definition_small most few hs n k d h).0) 4 p.definitions a.0;
       program = lines_are_program variable_flaw variable_span variable_value variable_few at p.lines b.0;
-      goal = goal_small hs (length p.lines) goal_at p.goal some b.1;
+      goal = goal_small most few hs (length p.lines) goal_at p.goal some b.1;
     }

@@ -1,5 +1,5 @@
 -- What a problem keeps follows from its text.
-use Rattle.std.proofs.Common.{◌≡◌, ℕ, suc, ◌+◌, Bool, true, false, not, ◌&&◌, ◌||◌, List, [], ◌∷◌, length, map, Option, Some, None, refl, sym, ap, ◌∙◌, subst, arith, if◌then◌else◌}
+use Rattle.std.proofs.Common.{◌≡◌, ℕ, suc, ◌+◌, ◌≤◌, Bool, true, false, not, ◌&&◌, ◌||◌, List, [], ◌∷◌, length, map, Option, Some, None, refl, sym, ap, ◌∙◌, subst, arith, if◌then◌else◌}
 use Rattle.std.specs.Prelude.{nat_eq, nat_lt, nat_le, slice_get}
 use Rattle.std.specs.List.{list_all}
 use Rattle.std.specs.Str.{bytes_eq}
@@ -18,12 +18,13 @@ use Rattle.heap_syntax.specs.declared.tree.PureTree.{PureTree}
 use Rattle.heap_syntax.specs.Trees.{Cell, Predicate, pure_of}
 use Rattle.problem_syntax.specs.Trees as named
 use Rattle.problem_syntax.specs.Trees.{Named, Nil, Plain, Primed}
+use Rattle.heap_syntax.specs.Versions.{most_spatial}
 use Rattle.heap_reader.specs.Trees.{Heading}
 use Rattle.heap_reader.specs.Spans.{heap_span, pure_span, pures_span, spatial_span}
 use Rattle.heap_reader.specs.Flaws.{ill_if, over_if, or_later, listed_flaw, arguments_flaw, pure_flaw, spatial_flaw, arity_in, use_flaw, heap_flaw, counted_flaw, heaps_flaw}
 use Rattle.heap_reader.specs.LineFlaws.{lines_flaw}
-use Rattle.heap_reader.specs.Small.{IsSmallHeap}
 use Rattle.heap_reader.specs.Values.{place_of, pure_value, spatial_value, heap_value, line_value}
+use Rattle.heap_reader.proofs.Fitting.{heap_few, heaps_few}
 use Rattle.heap_reader.proofs.NoFlaw.{neither, not_ill, each_of}
 use Rattle.name_numbers.specs.Names.{Name}
 use Rattle.name_numbers.specs.Numbering as numbers
@@ -34,7 +35,7 @@ use Rattle.formula_reader.specs.declared.terms.Scope.TheVariants.{Goal as InGoal
 use Rattle.formula_reader.specs.Spans.{term_span, variable_span, lines_span, parameters_span, definition_span, definitions_span}
 use Rattle.formula_reader.specs.Flaws.{headings, term_flaw, variable_flaw, head_flaw, cases_flaw, definition_flaw, definitions_flaw, goal_flaw, problem_flaw}
 use Rattle.formula_reader.specs.Values.{term_value, variable_value, definition_value, program_value, goal_value}
-use Rattle.formula_reader.specs.Small.{IsSmallGoal, IsSmallProblem}
+use Rattle.formula_reader.specs.Small.{IsSmallProblem}
 use Rattle.formula_reader.specs.WellFormed.{IsOfText, goal_heaps, goal_fault, is_universal_heap, is_short_heap, has_line}
 use Rattle.formula_reader.proofs.Fitting.{problem_small}
 use Rattle.formula_reader.proofs.SpanLaws.{text_some}
@@ -89,66 +90,75 @@ none_first : {X Y : Type 0} (f : Y → Option DefFault) (value : X → Y) (xs : 
 none_first f value [] e = refl
 none_first f value (x ∷ xs) e = (λ i. then_fault (e.0 i) (first_fault f (map value xs))) ∙ none_first f value xs e.1
 
-module _ (ds : List Definition) (scope : Scope) where
+module _ (most : ℕ) (ds : List Definition) (scope : Scope) where
   values : List DefinitionValue
   values = map (definition_value (headings ds)) ds
 
-  atom_right : (n k : ℕ) (x : Spatial) → spatial_flaw (term_flaw scope) term_span (headings ds) n k x ≡ None → use_fault values (spatial_value term_value (headings ds) x) ≡ None
+  atom_right : (n k : ℕ) (x : Spatial) → spatial_flaw (term_flaw scope) term_span most (headings ds) n k x ≡ None → use_fault values (spatial_value term_value (headings ds) x) ≡ None
   unfolding values
   atom_right n k (Cell t ts) e = refl
   atom_right n k (Predicate name ts) e =
-      let a = neither (use_flaw (arity_in (headings ds) name) (length ts) k) (or_later (over_if (nat_le 16 n) SpatialAtoms k) (arguments_flaw (term_flaw scope) term_span (k + 2) ts)) e in
+      let a = neither (use_flaw (arity_in (headings ds) name) (length ts) k) (or_later (over_if (nat_le most n) SpatialAtoms k) (arguments_flaw (term_flaw scope) term_span (k + 2) ts)) e in
       subst (λ (m : ℕ). arity_fault (slice_get values (place_of (headings ds) name)) m ≡ None) (sym (length-map ts term_value)) (use_right (headings ds) ds name (length ts) k a.0)
 
-  heap_right : (k : ℕ) (h : Heap) → heap_flaw (term_flaw scope) term_span (headings ds) k h ≡ None → case_fault values (heap_value term_value (headings ds) h) ≡ None
+  heap_right : (k : ℕ) (h : Heap) → heap_flaw (term_flaw scope) term_span most (headings ds) k h ≡ None → case_fault values (heap_value term_value (headings ds) h) ≡ None
   heap_right k h e =
       let p = k + pures_span term_span h.pure in
-      let a = neither (listed_flaw (pure_flaw (term_flaw scope) term_span) (pure_span term_span) 0 k h.pure) (listed_flaw (spatial_flaw (term_flaw scope) term_span (headings ds)) (spatial_span term_span) 0 p h.spatial) e in
-      none_first (use_fault values) (spatial_value term_value (headings ds)) h.spatial (each_of (spatial_flaw (term_flaw scope) term_span (headings ds)) (spatial_span term_span) (λ x. use_fault values (spatial_value term_value (headings ds) x) ≡ None) atom_right 0 p h.spatial a.1)
+      let a = neither (listed_flaw (pure_flaw (term_flaw scope) term_span) (pure_span term_span) 0 k h.pure) (listed_flaw (spatial_flaw (term_flaw scope) term_span most (headings ds)) (spatial_span term_span) 0 p h.spatial) e in
+      none_first (use_fault values) (spatial_value term_value (headings ds)) h.spatial (each_of (spatial_flaw (term_flaw scope) term_span most (headings ds)) (spatial_span term_span) (λ x. use_fault values (spatial_value term_value (headings ds) x) ≡ None) atom_right 0 p h.spatial a.1)
 
-  heaps_right : (what : What) (k : ℕ) (hs : List Heap) → heaps_flaw (term_flaw scope) term_span (headings ds) what k hs ≡ None → first_fault (case_fault values) (map (heap_value term_value (headings ds)) hs) ≡ None
+  heaps_right : (what : What) (k : ℕ) (hs : List Heap) → heaps_flaw (term_flaw scope) term_span most (headings ds) what k hs ≡ None → first_fault (case_fault values) (map (heap_value term_value (headings ds)) hs) ≡ None
   heaps_right what k hs e =
-      none_first (case_fault values) (heap_value term_value (headings ds)) hs (each_of (counted_flaw (term_flaw scope) term_span (headings ds) what) (heap_span term_span) (λ h. case_fault values (heap_value term_value (headings ds) h) ≡ None) (λ n j h g. heap_right j h (neither (over_if (nat_le 16 n) what j) (heap_flaw (term_flaw scope) term_span (headings ds) j h) g).1) 0 k hs e)
+      none_first (case_fault values) (heap_value term_value (headings ds)) hs (each_of (counted_flaw (term_flaw scope) term_span most (headings ds) what) (heap_span term_span) (λ h. case_fault values (heap_value term_value (headings ds) h) ≡ None) (λ n j h g. heap_right j h (neither (over_if (nat_le 16 n) what j) (heap_flaw (term_flaw scope) term_span most (headings ds) j h) g).1) 0 k hs e)
 
-module _ (ds : List Definition) where
-  definition_right : (n k : ℕ) (d : Definition) → definition_flaw (headings ds) n k d ≡ None → definition_fault (map (definition_value (headings ds)) ds) (definition_value (headings ds) d) ≡ None
+module _ (most : ℕ) (ds : List Definition) where
+  definition_right : (n k : ℕ) (d : Definition) → definition_flaw most (headings ds) n k d ≡ None → definition_fault (map (definition_value (headings ds)) ds) (definition_value (headings ds) d) ≡ None
   unfolding values
   definition_right n k d e =
       let p = k + 3 + parameters_span d.parameters + 1 in
       let arity = length d.parameters in
-      let a = neither (head_flaw (headings ds) n k d) (cases_flaw (headings ds) arity p d.cases) e in
-      heaps_right ds (InCase arity) Cases p d.cases a.1
+      let a = neither (head_flaw (headings ds) n k d) (cases_flaw most (headings ds) arity p d.cases) e in
+      heaps_right most ds (InCase arity) Cases p d.cases a.1
 
-  goal_right : (count k : ℕ) (g : Goal) → goal_flaw (headings ds) count k g ≡ None → goal_fault (map (definition_value (headings ds)) ds) (goal_value (headings ds) g) ≡ None
+  goal_right : (count k : ℕ) (g : Goal) → goal_flaw most (headings ds) count k g ≡ None → goal_fault (map (definition_value (headings ds)) ds) (goal_value (headings ds) g) ≡ None
   unfolding values
   goal_right count k (Entailment h hs) e =
       let p = k + 1 + heap_span term_span h in
-      let a = neither (heap_flaw (term_flaw InGoal) term_span (headings ds) (k + 1) h) (heaps_flaw (term_flaw InGoal) term_span (headings ds) Disjuncts p hs) e in
-      (λ i. then_fault (heap_right ds InGoal (k + 1) h a.0 i) (heaps_right ds InGoal Disjuncts p hs a.1 i))
+      let a = neither (heap_flaw (term_flaw InGoal) term_span most (headings ds) (k + 1) h) (heaps_flaw (term_flaw InGoal) term_span most (headings ds) Disjuncts p hs) e in
+      (λ i. then_fault (heap_right most ds InGoal (k + 1) h a.0 i) (heaps_right most ds InGoal Disjuncts p hs a.1 i))
   goal_right count k (From n h) e =
-      let a = neither (ill_if (nat_eq n 0 || nat_lt count n) NoLine (k + 2)) (heap_flaw (term_flaw InGoal) term_span (headings ds) (k + 4) h) e in
-      (λ i. then_fault (heap_right ds InGoal (k + 4) h a.1 i) None)
+      let a = neither (ill_if (nat_eq n 0 || nat_lt count n) NoLine (k + 2)) (heap_flaw (term_flaw InGoal) term_span most (headings ds) (k + 4) h) e in
+      (λ i. then_fault (heap_right most ds InGoal (k + 4) h a.1 i) None)
 
 -- ---- the line of the goal
 
-line_right : (hs gs : List Heading) (count k : ℕ) (g : Goal) → goal_flaw hs count k g ≡ None → has_line count (goal_value gs g) ≡ true
-line_right hs gs count k (Entailment h ds) e = refl
-line_right hs gs count k (From n h) e =
-    let a = neither (ill_if (nat_eq n 0 || nat_lt count n) NoLine (k + 2)) (heap_flaw (term_flaw InGoal) term_span hs (k + 4) h) e in
+line_right : (most : ℕ) (hs gs : List Heading) (count k : ℕ) (g : Goal) → goal_flaw most hs count k g ≡ None → has_line count (goal_value gs g) ≡ true
+line_right most hs gs count k (Entailment h ds) e = refl
+line_right most hs gs count k (From n h) e =
+    let a = neither (ill_if (nat_eq n 0 || nat_lt count n) NoLine (k + 2)) (heap_flaw (term_flaw InGoal) term_span most hs (k + 4) h) e in
     ap not (not_ill (nat_eq n 0 || nat_lt count n) NoLine (k + 2) a.0)
 
 -- ---- the goal's heaps are short
 
-short : (hs : List Heading) (h : Heap) → IsSmallHeap term_value h → is_short_heap (heap_value term_value hs h) ≡ true
-short hs h small = le-leb (length (map (spatial_value term_value hs) h.spatial)) 16 (let n = length-map h.spatial (spatial_value term_value hs) in let few = small.spatial_few in omega arith)
+module _ (most : ℕ) (hs : List Heading) where
+  short : (h : Heap) → length h.spatial ≤ most → is_short_heap most (heap_value term_value hs h) ≡ true
+  short h few = le-leb (length (map (spatial_value term_value hs) h.spatial)) most (let n = length-map h.spatial (spatial_value term_value hs) in omega arith)
 
-all_short : (hs : List Heading) (xs : List Heap) → Each (IsSmallHeap term_value) xs → list_all is_short_heap (map (heap_value term_value hs) xs) ≡ true
-all_short hs [] e = refl
-all_short hs (x ∷ xs) e = λ i. short hs x e.0 i && all_short hs xs e.1 i
+  all_short : (xs : List Heap) → Each (λ (h : Heap). length h.spatial ≤ most) xs → list_all (is_short_heap most) (map (heap_value term_value hs) xs) ≡ true
+  all_short [] e = refl
+  all_short (x ∷ xs) e = λ i. short x e.0 i && all_short xs e.1 i
 
-goal_short : (hs : List Heading) (g : Goal) → IsSmallGoal g → list_all is_short_heap (goal_heaps (goal_value hs g)) ≡ true
-goal_short hs (Entailment h ds) small = λ i. short hs h small.0 i && all_short hs ds small.1.heaps i
-goal_short hs (From n h) small = λ i. short hs h small i && true
+  goal_short : (count k : ℕ) (g : Goal) → goal_flaw most hs count k g ≡ None → list_all (is_short_heap most) (goal_heaps (goal_value hs g)) ≡ true
+  goal_short count k (Entailment h ds) e =
+      let p = k + 1 + heap_span term_span h in
+      let a = neither (heap_flaw (term_flaw InGoal) term_span most hs (k + 1) h) (heaps_flaw (term_flaw InGoal) term_span most hs Disjuncts p ds) e in
+      let left = short h (heap_few (term_flaw InGoal) term_span most hs (k + 1) h a.0) in
+      let right = all_short ds (heaps_few (term_flaw InGoal) term_span most hs Disjuncts p ds a.1) in
+      λ i. left i && right i
+  goal_short count k (From n h) e =
+      let a = neither (ill_if (nat_eq n 0 || nat_lt count n) NoLine (k + 2)) (heap_flaw (term_flaw InGoal) term_span most hs (k + 4) h) e in
+      let state = short h (heap_few (term_flaw InGoal) term_span most hs (k + 4) h a.1) in
+      λ i. state i && true
 
 -- ---- antecedents are universal
 
@@ -188,32 +198,33 @@ module _ (us : List Name) where
 -- ---- problems
 
 module _ (p : Problem) (text : IsOfText p) (right : problem_flaw p ≡ None) where
-  parts : (definitions_flaw (headings p.definitions) 4 p.definitions ≡ None) × (goal_flaw (headings p.definitions) (length p.lines) (4 + definitions_span p.definitions + lines_span p.lines) p.goal ≡ None)
+  parts : (definitions_flaw (most_spatial p.version) (headings p.definitions) 4 p.definitions ≡ None) × (goal_flaw (most_spatial p.version) (headings p.definitions) (length p.lines) (4 + definitions_span p.definitions + lines_span p.lines) p.goal ≡ None)
   parts =
+      let most = most_spatial p.version in
       let hs = headings p.definitions in
       let at = 4 + definitions_span p.definitions in
       let goal_at = at + lines_span p.lines in
-      let a = neither (definitions_flaw hs 4 p.definitions) (or_later (lines_flaw variable_flaw variable_span at p.lines) (goal_flaw hs (length p.lines) goal_at p.goal)) right in
-      let b = neither (lines_flaw variable_flaw variable_span at p.lines) (goal_flaw hs (length p.lines) goal_at p.goal) a.1 in
+      let a = neither (definitions_flaw most hs 4 p.definitions) (or_later (lines_flaw variable_flaw variable_span at p.lines) (goal_flaw most hs (length p.lines) goal_at p.goal)) right in
+      let b = neither (lines_flaw variable_flaw variable_span at p.lines) (goal_flaw most hs (length p.lines) goal_at p.goal) a.1 in
       (a.0, b.1)
 
   pub is_closed : closed_fault (map (definition_value (headings p.definitions)) p.definitions) ≡ None
   is_closed =
       let ds = p.definitions in
       let vs = map (definition_value (headings ds)) ds in
-      none_first (definition_fault vs) (definition_value (headings ds)) ds (each_of (definition_flaw (headings ds)) definition_span (λ d. definition_fault vs (definition_value (headings ds) d) ≡ None) (definition_right ds) 0 4 ds parts.0)
+      none_first (definition_fault vs) (definition_value (headings ds)) ds (each_of (definition_flaw (most_spatial p.version) (headings ds)) definition_span (λ d. definition_fault vs (definition_value (headings ds) d) ≡ None) (definition_right (most_spatial p.version) ds) 0 4 ds parts.0)
 
   pub is_known : goal_fault (map (definition_value (headings p.definitions)) p.definitions) (goal_value (headings p.definitions) p.goal) ≡ None
-  is_known = goal_right p.definitions (length p.lines) (4 + definitions_span p.definitions + lines_span p.lines) p.goal parts.1
+  is_known = goal_right (most_spatial p.version) p.definitions (length p.lines) (4 + definitions_span p.definitions + lines_span p.lines) p.goal parts.1
 
   pub has_its_line : has_line (length (program_value p.lines)) (goal_value (headings p.definitions) p.goal) ≡ true
   has_its_line =
       let lines = map (line_value variable_value) p.lines in
       let same : length (program_value p.lines) ≡ length p.lines = length-map lines _ ∙ length-map p.lines (line_value variable_value) in
-      subst (λ (n : ℕ). has_line n (goal_value (headings p.definitions) p.goal) ≡ true) (sym same) (line_right (headings p.definitions) (headings p.definitions) (length p.lines) (4 + definitions_span p.definitions + lines_span p.lines) p.goal parts.1)
+      subst (λ (n : ℕ). has_line n (goal_value (headings p.definitions) p.goal) ≡ true) (sym same) (line_right (most_spatial p.version) (headings p.definitions) (headings p.definitions) (length p.lines) (4 + definitions_span p.definitions + lines_span p.lines) p.goal parts.1)
 
-  pub is_short : list_all is_short_heap (goal_heaps (goal_value (headings p.definitions) p.goal)) ≡ true
-  is_short = goal_short (headings p.definitions) p.goal (small_of p text right).goal
+  pub is_short : list_all (is_short_heap (most_spatial p.version)) (goal_heaps (goal_value (headings p.definitions) p.goal)) ≡ true
+  is_short = goal_short (most_spatial p.version) (headings p.definitions) (length p.lines) (4 + definitions_span p.definitions + lines_span p.lines) p.goal parts.1
 
   pub has_universal_antecedent : is_universal_heap (antecedent (goal_value (headings p.definitions) p.goal)) ≡ true
   has_universal_antecedent =

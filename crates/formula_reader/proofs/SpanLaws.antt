@@ -205,9 +205,9 @@ some_disjunct us (named.From n h) f = tt
 pub problem_words : (p : named.Problem) → problem.fits p → length (problem.words p) ≡ problem_span (numbered p) + 3
 unfolding problem body definitions last_part
 problem_words p f =
-    let ds = alone (is_one pred_word) definition (λ d. definition_span (numbers.definition d)) definition_words p.definitions f.1.0 in
-    let ls = lines_counted (numbers.program_variables p.lines) p.lines f.1.1.0 in
-    let g = goal_words (numbers.universals p) p.goal f.1.1.1 in
+    let ds = alone (is_one pred_word) definition (λ d. definition_span (numbers.definition d)) definition_words p.definitions f.1.1.0 in
+    let ls = lines_counted (numbers.program_variables p.lines) p.lines f.1.1.1.0 in
+    let g = goal_words (numbers.universals p) p.goal f.1.1.1.1 in
     let same = total_map definition_span (λ d. definition_span (numbers.definition d)) numbers.definition (λ d. refl) p.definitions in
     let end = last_word.word tt ∷ [] in
     let k = length-append (goal.words p.goal) end in
@@ -220,7 +220,7 @@ problem_words p f =
 -- a goal of a text has a disjunct
 pub problem_some : (p : named.Problem) → problem.fits p → HasDisjunct (numbered p).goal
 unfolding problem body last_part
-problem_some p f = some_disjunct (numbers.universals p) p.goal f.1.1.1
+problem_some p f = some_disjunct (numbers.universals p) p.goal f.1.1.1.1
 
 pub text_some : (p : trees.Problem) → IsOfText p → HasDisjunct p.goal
 text_some p text = subst (λ (q : trees.Problem). HasDisjunct q.goal) text.2 (problem_some text.0 text.1)

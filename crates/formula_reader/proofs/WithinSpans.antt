@@ -5,6 +5,7 @@ use Rattle.std.specs.List.{list_any}
 use Rattle.std.specs.Str.{bytes_eq}
 use Rattle.cyc_lex.specs.declared.fault.What.TheVariants.{Arguments, Cases, Disjuncts, Predicates, ProgramVariables, Variable, Locals}
 use Rattle.cyc_lex.specs.declared.fault.IllFault.TheVariants.{Parameter, Duplicate, NoLine}
+use Rattle.heap_syntax.specs.Versions.{most_spatial}
 use Rattle.heap_reader.specs.Trees.{Heading}
 use Rattle.heap_reader.specs.Spans.{heap_span}
 use Rattle.heap_reader.specs.Flaws.{ill_if, over_if, or_later, arity_in, heap_flaw, heaps_flaw}
@@ -45,7 +46,7 @@ parameter_before : (ps : List (List ℕ)) (n k : ℕ) (s : List ℕ) → Before 
 parameter_before ps n k s =
     first_before (ill_if (list_any (bytes_eq s) (take n ps)) Duplicate k) (over_if (nat_le 8 n) Arguments k) (k + 2) (ill_before (list_any (bytes_eq s) (take n ps)) Duplicate k (k + 2) (omega arith)) (over_before (nat_le 8 n) Arguments k (k + 2) (omega arith))
 
-module _ (hs : List Heading) where
+module _ (most : ℕ) (hs : List Heading) where
   head_before : (n k : ℕ) (d : Definition) → Before (head_flaw hs n k d) (k + 3 + parameters_span d.parameters)
   head_before n k d =
       let m = k + 3 + parameters_span d.parameters in
@@ -53,34 +54,35 @@ module _ (hs : List Heading) where
       let ps = parameters_flaw (k + 3) d.parameters in
       first_before (over_if (nat_le 4096 n) Predicates k) (or_later (ill_if known Duplicate (k + 1)) ps) m (over_before (nat_le 4096 n) Predicates k m (omega arith)) (first_before (ill_if known Duplicate (k + 1)) ps m (ill_before known Duplicate (k + 1) m (omega arith)) (listed_or_before (parameter_flaw d.parameters) parameter_span 1 (parameter_before d.parameters) (k + 3) d.parameters))
 
-  definition_before : (n k : ℕ) (d : Definition) → Before (definition_flaw hs n k d) (k + definition_span d)
+  definition_before : (n k : ℕ) (d : Definition) → Before (definition_flaw most hs n k d) (k + definition_span d)
   definition_before n k d =
       let m = k + definition_span d in
       let p = k + 3 + parameters_span d.parameters in
       let arity = length d.parameters in
-      let cases = cases_flaw hs arity (p + 1) d.cases in
-      first_before (head_flaw hs n k d) cases m (later (head_flaw hs n k d) p m (omega arith) (head_before n k d)) (later cases (p + 1 + heaps_span d.cases) m (omega arith) (heaps_before (term_flaw (InCase arity)) term_span some_span (term_before (InCase arity)) hs Cases (p + 1) d.cases))
+      let cases = cases_flaw most hs arity (p + 1) d.cases in
+      first_before (head_flaw hs n k d) cases m (later (head_flaw hs n k d) p m (omega arith) (head_before n k d)) (later cases (p + 1 + heaps_span d.cases) m (omega arith) (heaps_before (term_flaw (InCase arity)) term_span some_span (term_before (InCase arity)) most hs Cases (p + 1) d.cases))
 
-  goal_before : (count k : ℕ) (g : Goal) → Before (goal_flaw hs count k g) (k + goal_span g)
+  goal_before : (count k : ℕ) (g : Goal) → Before (goal_flaw most hs count k g) (k + goal_span g)
   goal_before count k (Entailment h ds) =
       let m = k + goal_span (Entailment h ds) in
       let p = k + 1 + heap_span term_span h in
-      let left = heap_flaw (term_flaw InGoal) term_span hs (k + 1) h in
-      let right = heaps_flaw (term_flaw InGoal) term_span hs Disjuncts p ds in
-      first_before left right m (later left p m (omega arith) (heap_before (term_flaw InGoal) term_span some_span (term_before InGoal) hs (k + 1) h)) (later right (p + heaps_span ds) m (omega arith) (heaps_before (term_flaw InGoal) term_span some_span (term_before InGoal) hs Disjuncts p ds))
+      let left = heap_flaw (term_flaw InGoal) term_span most hs (k + 1) h in
+      let right = heaps_flaw (term_flaw InGoal) term_span most hs Disjuncts p ds in
+      first_before left right m (later left p m (omega arith) (heap_before (term_flaw InGoal) term_span some_span (term_before InGoal) most hs (k + 1) h)) (later right (p + heaps_span ds) m (omega arith) (heaps_before (term_flaw InGoal) term_span some_span (term_before InGoal) most hs Disjuncts p ds))
   goal_before count k (From n h) =
       let m = k + goal_span (From n h) in
       let none = nat_eq n 0 || nat_lt count n in
-      let state = heap_flaw (term_flaw InGoal) term_span hs (k + 4) h in
-      first_before (ill_if none NoLine (k + 2)) state m (ill_before none NoLine (k + 2) m (omega arith)) (later state (k + 4 + heap_span term_span h) m (omega arith) (heap_before (term_flaw InGoal) term_span some_span (term_before InGoal) hs (k + 4) h))
+      let state = heap_flaw (term_flaw InGoal) term_span most hs (k + 4) h in
+      first_before (ill_if none NoLine (k + 2)) state m (ill_before none NoLine (k + 2) m (omega arith)) (later state (k + 4 + heap_span term_span h) m (omega arith) (heap_before (term_flaw InGoal) term_span some_span (term_before InGoal) most hs (k + 4) h))
 
 pub problem_before : (p : Problem) → Before (problem_flaw p) (problem_span p)
 problem_before p =
+    let most = most_spatial p.version in
     let hs = headings p.definitions in
     let m = problem_span p in
     let at = 4 + definitions_span p.definitions in
     let goal_at = at + lines_span p.lines in
-    let first = definitions_flaw hs 4 p.definitions in
+    let first = definitions_flaw most hs 4 p.definitions in
     let second = lines_flaw variable_flaw variable_span at p.lines in
-    let third = goal_flaw hs (length p.lines) goal_at p.goal in
-    first_before first (or_later second third) m (later first at m (omega arith) (listed_before (definition_flaw hs) definition_span (definition_before hs) 0 4 p.definitions)) (first_before second third m (later second goal_at m (omega arith) (lines_before variable_flaw variable_span variable_before at p.lines)) (goal_before hs (length p.lines) goal_at p.goal))
+    let third = goal_flaw most hs (length p.lines) goal_at p.goal in
+    first_before first (or_later second third) m (later first at m (omega arith) (listed_before (definition_flaw most hs) definition_span (definition_before most hs) 0 4 p.definitions)) (first_before second third m (later second goal_at m (omega arith) (lines_before variable_flaw variable_span variable_before at p.lines)) (goal_before most hs (length p.lines) goal_at p.goal))

@@ -4,6 +4,7 @@ use Rattle.std.specs.List.{list_any}
 use Rattle.std.specs.Str.{bytes_eq}
 use Rattle.cyc_lex.specs.declared.fault.IllFault.TheVariants.{Duplicate, Parameter, NoLine}
 use Rattle.cyc_lex.specs.declared.fault.What.TheVariants.{Predicates, Arguments, Cases, Locals, Disjuncts, ProgramVariables, Variable}
+use Rattle.heap_syntax.specs.Versions.{most_spatial}
 use Rattle.heap_reader.specs.Trees.{Heading}
 use Rattle.heap_reader.specs.Spans.{heap_span}
 use Rattle.heap_reader.specs.Flaws.{Found, ill_if, over_if, or_later, listed_flaw, arity_in, heap_flaw, heaps_flaw}
@@ -51,29 +52,31 @@ abbrev pub head_flaw : List Heading → ℕ → ℕ → Definition → Found
 head_flaw hs n k d =
     or_later (over_if (nat_le 4096 n) Predicates k) (or_later (ill_if (is_some (arity_in (take n hs) d.name)) Duplicate (k + 1)) (parameters_flaw (k + 3) d.parameters))
 
-abbrev pub cases_flaw : List Heading → ℕ → ℕ → List Heap → Found
-cases_flaw hs arity k cases = heaps_flaw (term_flaw (InCase arity)) term_span hs Cases k cases
+-- of heaps that have at most so many spatial atoms, by the file's version
+abbrev pub cases_flaw : ℕ → List Heading → ℕ → ℕ → List Heap → Found
+cases_flaw most hs arity k cases = heaps_flaw (term_flaw (InCase arity)) term_span most hs Cases k cases
 
 -- at most 4,096, no two with one name
-abbrev pub definition_flaw : List Heading → ℕ → ℕ → Definition → Found
-definition_flaw hs n k d =
-    or_later (head_flaw hs n k d) (cases_flaw hs (length d.parameters) (k + 3 + parameters_span d.parameters + 1) d.cases)
+abbrev pub definition_flaw : ℕ → List Heading → ℕ → ℕ → Definition → Found
+definition_flaw most hs n k d =
+    or_later (head_flaw hs n k d) (cases_flaw most hs (length d.parameters) (k + 3 + parameters_span d.parameters + 1) d.cases)
 
-abbrev pub definitions_flaw : List Heading → ℕ → List Definition → Found
-definitions_flaw hs k ds = listed_flaw (definition_flaw hs) definition_span 0 k ds
+abbrev pub definitions_flaw : ℕ → List Heading → ℕ → List Definition → Found
+definitions_flaw most hs k ds = listed_flaw (definition_flaw most hs) definition_span 0 k ds
 
 -- ---- goals
 
 -- the goal of a program with so many lines
-abbrev pub goal_flaw : List Heading → ℕ → ℕ → Goal → Found
-goal_flaw hs count k (Entailment h ds) =
-    or_later (heap_flaw (term_flaw InGoal) term_span hs (k + 1) h) (heaps_flaw (term_flaw InGoal) term_span hs Disjuncts (k + 1 + heap_span term_span h) ds)
-goal_flaw hs count k (From n h) =
-    or_later (ill_if (nat_eq n 0 || nat_lt count n) NoLine (k + 2)) (heap_flaw (term_flaw InGoal) term_span hs (k + 4) h)
+abbrev pub goal_flaw : ℕ → List Heading → ℕ → ℕ → Goal → Found
+goal_flaw most hs count k (Entailment h ds) =
+    or_later (heap_flaw (term_flaw InGoal) term_span most hs (k + 1) h) (heaps_flaw (term_flaw InGoal) term_span most hs Disjuncts (k + 1 + heap_span term_span h) ds)
+goal_flaw most hs count k (From n h) =
+    or_later (ill_if (nat_eq n 0 || nat_lt count n) NoLine (k + 2)) (heap_flaw (term_flaw InGoal) term_span most hs (k + 4) h)
 
 -- ---- problems: four tokens stand before the definitions
 
 abbrev pub problem_flaw : Problem → Found
 problem_flaw p =
+    let most = most_spatial p.version in
     let lines_at = 4 + definitions_span p.definitions in
-    or_later (definitions_flaw (headings p.definitions) 4 p.definitions) (or_later (lines_flaw variable_flaw variable_span lines_at p.lines) (goal_flaw (headings p.definitions) (length p.lines) (lines_at + lines_span p.lines) p.goal))
+    or_later (definitions_flaw most (headings p.definitions) 4 p.definitions) (or_later (lines_flaw variable_flaw variable_span lines_at p.lines) (goal_flaw most (headings p.definitions) (length p.lines) (lines_at + lines_span p.lines) p.goal))

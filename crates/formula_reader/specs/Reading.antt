@@ -4,6 +4,7 @@ use Rattle.cyc_lex.specs.declared.fault.ReadFault.{ReadFault}
 use Rattle.cyc_lex.specs.Placed.{Placed}
 use Rattle.problem_syntax.specs.Grammar.{problem}
 use Rattle.problem_syntax.specs.Trees as named
+use Rattle.heap_syntax.specs.Versions.{most_spatial}
 use Rattle.heap_reader.specs.Reading as reading
 use Rattle.name_numbers.specs.Numbered as numbers
 use Rattle.name_numbers.specs.Numbering.{numbered}
@@ -13,7 +14,8 @@ use Rattle.formula_reader.specs.Values.{definition_value, program_value, goal_va
 
 -- the problem that a numbered tree says
 pub record IsProblemOf (tree : numbers.Problem) (p : Problem) : Type 0 where
-  pub most : p.defs.most ≡ 16
+  pub version : p.version ≡ tree.version
+  pub most : p.defs.most ≡ most_spatial tree.version
   pub definitions : p.defs.list ≡ map (definition_value (headings tree.definitions)) tree.definitions
   pub program : p.program ≡ program_value tree.lines
   pub goal : p.goal ≡ goal_value (headings tree.definitions) tree.goal
@@ -37,8 +39,9 @@ ReadsFrom = reading.ReadsFrom problems
 abbrev pub SpellsTree : List Placed → named.Problem → Type 0
 SpellsTree = reading.SpellsTree problems
 
--- two problems have the same definitions, program and goal
+-- two problems have one version, the same definitions, program and goal
 pub record AreSame (p q : Problem) : Type 0 where
+  pub version : p.version ≡ q.version
   pub most : p.defs.most ≡ q.defs.most
   pub definitions : p.defs.list ≡ q.defs.list
   pub program : p.program ≡ q.program

@@ -10,6 +10,7 @@ use Rattle.heap_formula.specs.Symbolic.{SymbolicHeap}
 use Rattle.pred_defs.specs.declared.faults.DefFault.{DefFault}
 use Rattle.pred_defs.specs.Faults.{first_fault, case_fault}
 use Rattle.rule_table.specs.Tests.{is_universal_pure, is_universal_spatial}
+use Rattle.heap_syntax.specs.declared.version.Version.{Version}
 use Rattle.problem_syntax.specs.Grammar.{problem}
 use Rattle.problem_syntax.specs.Trees as named
 use Rattle.name_numbers.specs.Numbered as numbers
@@ -22,15 +23,16 @@ abbrev pub IsOfText : numbers.Problem → Type 0
 IsOfText tree = (names : named.Problem) × problem.fits names × (numbered names ≡ tree)
 
 -- what a numbered tree without a flaw says
-pub record IsSaidBy (tree : numbers.Problem) (ds : List Definition) (lines : List Command) (judgement : Judgement) : Type 0 where
+pub record IsSaidBy (tree : numbers.Problem) (version : Version) (ds : List Definition) (lines : List Command) (judgement : Judgement) : Type 0 where
+  pub version_is : version ≡ tree.version
   pub text : IsOfText tree
   pub flawless : problem_flaw tree ≡ None
   pub definitions : ds ≡ map (definition_value (headings tree.definitions)) tree.definitions
   pub program : lines ≡ program_value tree.lines
   pub goal : judgement ≡ goal_value (headings tree.definitions) tree.goal
 
-abbrev pub IsWellFormed : List Definition → List Command → Judgement → Type 0
-IsWellFormed ds lines judgement = (tree : numbers.Problem) × IsSaidBy tree ds lines judgement
+abbrev pub IsWellFormed : Version → List Definition → List Command → Judgement → Type 0
+IsWellFormed version ds lines judgement = (tree : numbers.Problem) × IsSaidBy tree version ds lines judgement
 
 -- ---- what follows
 
@@ -45,9 +47,9 @@ goal_fault ds goal = first_fault (case_fault ds) (goal_heaps goal)
 abbrev pub is_universal_heap : SymbolicHeap → Bool
 is_universal_heap a = list_all is_universal_pure a.pure && list_all is_universal_spatial a.spatial
 
--- at most sixteen spatial atoms
-abbrev pub is_short_heap : SymbolicHeap → Bool
-is_short_heap a = nat_le (length a.spatial) 16
+-- at most so many spatial atoms
+abbrev pub is_short_heap : ℕ → SymbolicHeap → Bool
+is_short_heap most a = nat_le (length a.spatial) most
 
 -- the line of the goal, if it has one, is one of so many lines
 abbrev pub has_line : ℕ → Judgement → Bool

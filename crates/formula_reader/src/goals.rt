@@ -15,44 +15,52 @@ use name_numbers::{NumberedGoal, NumberedHeap, NumberedProblem};
 
 fn entailment(
     heads: &Heads<'_>,
+    most: u8,
     count: usize,
     at: usize,
     antecedent: &NumberedHeap<'_>,
     disjuncts: &[NumberedHeap<'_>],
 ) -> Result<usize, Flaw>
     requires { at + goal_span (Entailment (heap_of antecedent.now) (map heap_of disjuncts.now)) < 2 ^ 64 }
-    ensures { IsWalk result (goal_flaw heads.now count at (Entailment (heap_of antecedent.now) (map heap_of disjuncts.now))) (at + goal_span (Entailment (heap_of antecedent.now) (map heap_of disjuncts.now))) }
+    ensures { IsWalk result (goal_flaw most heads.now count at (Entailment (heap_of antecedent.now) (map heap_of disjuncts.now))) (at + goal_span (Entailment (heap_of antecedent.now) (map heap_of disjuncts.now))) }
 {
-    let right = walk_heap(heads, &Scope::Goal, at + 1, antecedent)?;
-    walk_heaps(heads, &Scope::Goal, What::Disjuncts, right, disjuncts)
+    let right = walk_heap(heads, &Scope::Goal, most, at + 1, antecedent)?;
+    walk_heaps(heads, &Scope::Goal, most, What::Disjuncts, right, disjuncts)
 }
 
 fn state(
     heads: &Heads<'_>,
+    most: u8,
     count: usize,
     at: usize,
     line: u32,
     heap: &NumberedHeap<'_>,
 ) -> Result<usize, Flaw>
     requires { at + goal_span (From line (heap_of heap.now)) < 2 ^ 64 }
-    ensures { IsWalk result (goal_flaw heads.now count at (From line (heap_of heap.now))) (at + goal_span (From line (heap_of heap.now))) }
+    ensures { IsWalk result (goal_flaw most heads.now count at (From line (heap_of heap.now))) (at + goal_span (From line (heap_of heap.now))) }
 {
     if line == 0 || line as usize > count {
         return Err(ill(IllFault::NoLine, at + 2));
     }
-    walk_heap(heads, &Scope::Goal, at + 4, heap)
+    walk_heap(heads, &Scope::Goal, most, at + 4, heap)
 }
 
-/// The goal of a program with so many lines.
-fn goal(heads: &Heads<'_>, count: usize, at: usize, tree: &NumberedGoal<'_>) -> Result<usize, Flaw>
+/// The goal of a program with so many lines; a heap has at most `most` spatial atoms.
+fn goal(
+    heads: &Heads<'_>,
+    most: u8,
+    count: usize,
+    at: usize,
+    tree: &NumberedGoal<'_>,
+) -> Result<usize, Flaw>
     requires { at + goal_span (goal_of tree.now) < 2 ^ 64 }
-    ensures { IsWalk result (goal_flaw heads.now count at (goal_of tree.now)) (at + goal_span (goal_of tree.now)) }
+    ensures { IsWalk result (goal_flaw most heads.now count at (goal_of tree.now)) (at + goal_span (goal_of tree.now)) }
 {
     match tree {
         NumberedGoal::Entailment(antecedent, disjuncts) => {
-            entailment(heads, count, at, antecedent, disjuncts)
+            entailment(heads, most, count, at, antecedent, disjuncts)
         }
-        NumberedGoal::From(line, heap) => state(heads, count, at, *line, heap),
+        NumberedGoal::From(line, heap) => state(heads, most, count, at, *line, heap),
     }
 }
 
@@ -61,9 +69,10 @@ fn walk(heads: &Heads<'_>, tree: &NumberedProblem<'_>) -> Result<usize, Flaw>
     requires fits { problem_span (problem_of tree.now) < 2 ^ 64 }
     ensures { IsWalk result (first_flaw (problem_of tree.now)) (problem_span (problem_of tree.now)) }
 {
-    let lines = definitions(heads, 4, &tree.definitions)?;
+    let most = tree.version.most_spatial();
+    let lines = definitions(heads, most, 4, &tree.definitions)?;
     let at = walk_lines(&Variables, lines, &tree.lines)?;
-    goal(heads, tree.lines.len(), at, &tree.goal)
+    goal(heads, most, tree.lines.len(), at, &tree.goal)
 }
 
 /// The first flaw of a problem, by its token.

@@ -4,26 +4,29 @@ ghost use Rattle.std.specs.Prelude.{◌≡◌, None, true, length};
 ghost use Rattle.std.specs.List.{list_all};
 ghost use Rattle.heap_formula.specs.Judgements.{antecedent};
 ghost use Rattle.pred_defs.specs.Faults.{closed_fault};
+ghost use Rattle.heap_syntax.specs.Versions.{most_spatial};
 ghost use Rattle.formula_reader.specs.WellFormed.{IsWellFormed, goal_heaps, goal_fault, is_universal_heap, is_short_heap, has_line};
 
 use goto_lang::Program;
 use heap_formula::Judgement;
+use heap_syntax::Version;
 use pred_defs::Defs;
 
-/// What is to be proved: definitions, a program, and a goal over them. Some text spells it, with names in place of numbers,
-/// and without a flaw. Each predicate that is used is defined, with this number of arguments; no existential variable
-/// stands in the goal's antecedent; heaps have at most sixteen spatial atoms; the goal's line, if it has one, is one of the
-/// program's.
+/// What is to be proved: definitions, a program, and a goal over them, in a version of the format. Some text spells it, with
+/// names in place of numbers, and without a flaw. Each predicate that is used is defined, with this number of arguments; no
+/// existential variable stands in the goal's antecedent; heaps have at most as many spatial atoms as the version allows; the
+/// goal's line, if it has one, is one of the program's.
 #[derive(Drop)]
 pub struct Problem {
+    pub version: Version,
     pub defs: Defs,
     pub program: Program,
     pub goal: Judgement,
-    pub ghost sixteen: { defs.most ≡ 16 },
-    pub ghost well_formed: { ∥ IsWellFormed defs.list program goal ∥₁ },
+    pub ghost limit: { defs.most ≡ most_spatial version },
+    pub ghost well_formed: { ∥ IsWellFormed version defs.list program goal ∥₁ },
     pub ghost closed: { closed_fault defs.list ≡ None },
     pub ghost known: { goal_fault defs.list goal ≡ None },
     pub ghost universal: { is_universal_heap (antecedent goal) ≡ true },
-    pub ghost short: { list_all is_short_heap (goal_heaps goal) ≡ true },
+    pub ghost short: { list_all (is_short_heap (most_spatial version)) (goal_heaps goal) ≡ true },
     pub ghost line: { has_line (length program) goal ≡ true },
 }

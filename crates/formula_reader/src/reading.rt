@@ -40,7 +40,8 @@ fn problem_of_tree(
     let program = program(alloc, &Variables, &tree.lines)?;
     let goal = goal(alloc, heads, &tree.goal)?;
     Ok(Problem {
-        defs: Defs::from_vec(alloc, 16, definitions),
+        version: tree.version,
+        defs: Defs::from_vec(alloc, tree.version.most_spatial(), definitions),
         program,
         goal,
     })

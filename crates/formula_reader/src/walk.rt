@@ -94,33 +94,36 @@ fn definition_head(
 
 fn definition(
     heads: &Heads<'_>,
+    most: u8,
     n: usize,
     at: usize,
     tree: &NumberedDefinition<'_>,
 ) -> Result<usize, Flaw>
     requires there { n ≤ length heads.now }
     requires fits { at + definition_span (definition_of tree.now) < 2 ^ 64 }
-    ensures { IsWalk result (definition_flaw heads.now n at (definition_of tree.now)) (at + definition_span (definition_of tree.now)) }
+    ensures { IsWalk result (definition_flaw most heads.now n at (definition_of tree.now)) (at + definition_span (definition_of tree.now)) }
 {
     let first = definition_head(heads, n, at, tree)?;
     let scope = Scope::Case(tree.parameters.len());
-    let behind = walk_heaps(heads, &scope, What::Cases, first, &tree.cases)?;
+    let behind = walk_heaps(heads, &scope, most, What::Cases, first, &tree.cases)?;
     Ok(behind + 1)
 }
 
-/// Goes over definitions, the first of which begins at a token, and gives the token behind them.
+/// Goes over definitions, the first of which begins at a token, and gives the token behind them. A heap has at most `most`
+/// spatial atoms.
 pub fn definitions(
     heads: &Heads<'_>,
+    most: u8,
     at: usize,
     trees: &[NumberedDefinition<'_>],
 ) -> Result<usize, Flaw>
     requires there { length trees.now ≤ length heads.now }
     requires fits { at + definitions_span (map definition_of trees.now) < 2 ^ 64 }
-    ensures { IsWalk result (definitions_flaw heads.now at (map definition_of trees.now)) (at + definitions_span (map definition_of trees.now)) }
+    ensures { IsWalk result (definitions_flaw most heads.now at (map definition_of trees.now)) (at + definitions_span (map definition_of trees.now)) }
 {
     let mut next = at;
     for (n, tree) in trees.iter().enumerate() {
-        next = definition(heads, n, next, tree)?;
+        next = definition(heads, most, n, next, tree)?;
     }
     Ok(next)
 }

@@ -25,68 +25,68 @@ use Rattle.found_files.proofs.Instances.{instance_rules, equations_within, field
 
 -- ---- rules without terms and formulas
 
-module _ (ds : List Definition) where
-  pub rewrite_within : (k : ℕ) (o : Option Side) → Each (IsRuleWithin ds) (rewrite_at k o)
+module _ (most : ℕ) (ds : List Definition) where
+  pub rewrite_within : (k : ℕ) (o : Option Side) → Each (IsRuleWithin most ds) (rewrite_at k o)
   rewrite_within k None = tt
   rewrite_within k (Some side) = (tt, tt)
 
-  rewrites_within : (xs : List Pure) → Each (IsRuleWithin ds) (rewrites xs)
-  rewrites_within xs = each_first_place (IsRuleWithin ds) (λ k x. rewrite_at k (side_of x)) xs (λ k x. rewrite_within k (side_of x))
+  rewrites_within : (xs : List Pure) → Each (IsRuleWithin most ds) (rewrites xs)
+  rewrites_within xs = each_first_place (IsRuleWithin most ds) (λ k x. rewrite_at k (side_of x)) xs (λ k x. rewrite_within k (side_of x))
 
-  choices_within : (bs : List SymbolicHeap) → Each (IsRuleWithin ds) (choices bs)
-  choices_within bs = each_anywhere (IsRuleWithin ds) choice_at bs (λ k b. (tt, tt))
+  choices_within : (bs : List SymbolicHeap) → Each (IsRuleWithin most ds) (choices bs)
+  choices_within bs = each_anywhere (IsRuleWithin most ds) choice_at bs (λ k b. (tt, tt))
 
-  unfolds_within : (xs : List Spatial) → Each (IsRuleWithin ds) (unfolds xs)
-  unfolds_within xs = each_anywhere (IsRuleWithin ds) unfold_at xs (λ k x. each_if (IsRuleWithin ds) (is_predicate x) (Unfold k ∷ []) (tt, tt))
+  unfolds_within : (xs : List Spatial) → Each (IsRuleWithin most ds) (unfolds xs)
+  unfolds_within xs = each_anywhere (IsRuleWithin most ds) unfold_at xs (λ k x. each_if (IsRuleWithin most ds) (is_predicate x) (Unfold k ∷ []) (tt, tt))
 
-  pure_rights_within : (xs : List Pure) → Each (IsRuleWithin ds) (pure_rights xs)
-  pure_rights_within xs = each_anywhere (IsRuleWithin ds) pure_right_at xs (λ k x. (tt, tt))
+  pure_rights_within : (xs : List Pure) → Each (IsRuleWithin most ds) (pure_rights xs)
+  pure_rights_within xs = each_anywhere (IsRuleWithin most ds) pure_right_at xs (λ k x. (tt, tt))
 
-  frames_within : (ys : List Spatial) (i : ℕ) (wanted : Bool) → Each (IsRuleWithin ds) (frames_if ys i wanted)
-  frames_within ys i wanted = each_if (IsRuleWithin ds) wanted (frames_from ys i) (each_anywhere (IsRuleWithin ds) (frame_at i) ys (λ k y. (tt, tt)))
+  frames_within : (ys : List Spatial) (i : ℕ) (wanted : Bool) → Each (IsRuleWithin most ds) (frames_if ys i wanted)
+  frames_within ys i wanted = each_if (IsRuleWithin most ds) wanted (frames_from ys i) (each_anywhere (IsRuleWithin most ds) (frame_at i) ys (λ k y. (tt, tt)))
 
-  cell_frames_within : (xs ys : List Spatial) → Each (IsRuleWithin ds) (cell_frames xs ys)
-  cell_frames_within xs ys = each_anywhere (IsRuleWithin ds) (λ i x. frames_if ys i (is_cell x)) xs (λ i x. frames_within ys i (is_cell x))
+  cell_frames_within : (xs ys : List Spatial) → Each (IsRuleWithin most ds) (cell_frames xs ys)
+  cell_frames_within xs ys = each_anywhere (IsRuleWithin most ds) (λ i x. frames_if ys i (is_cell x)) xs (λ i x. frames_within ys i (is_cell x))
 
-  predicate_frames_within : (xs ys : List Spatial) → Each (IsRuleWithin ds) (predicate_frames xs ys)
-  predicate_frames_within xs ys = each_anywhere (IsRuleWithin ds) (λ i x. frames_if ys i (is_predicate x)) xs (λ i x. frames_within ys i (is_predicate x))
+  predicate_frames_within : (xs ys : List Spatial) → Each (IsRuleWithin most ds) (predicate_frames xs ys)
+  predicate_frames_within xs ys = each_anywhere (IsRuleWithin most ds) (λ i x. frames_if ys i (is_predicate x)) xs (λ i x. frames_within ys i (is_predicate x))
 
-  distincts_for_within : (ys : List Spatial) (x : Pure) → Each (IsRuleWithin ds) (distincts_for ys x)
+  distincts_for_within : (ys : List Spatial) (x : Pure) → Each (IsRuleWithin most ds) (distincts_for ys x)
   distincts_for_within ys x =
-      each_anywhere (IsRuleWithin ds) (distincts_with x ys) ys (λ i y. each_anywhere (IsRuleWithin ds) (distinct_at x i y) ys (λ k z. each_if (IsRuleWithin ds) (is_or_mirrors x (apart i k (address_of y) (address_of z))) (Distinct i k ∷ []) (tt, tt)))
+      each_anywhere (IsRuleWithin most ds) (distincts_with x ys) ys (λ i y. each_anywhere (IsRuleWithin most ds) (distinct_at x i y) ys (λ k z. each_if (IsRuleWithin most ds) (is_or_mirrors x (apart i k (address_of y) (address_of z))) (Distinct i k ∷ []) (tt, tt)))
 
-  distincts_within : (ys : List Spatial) (xs : List Pure) → Each (IsRuleWithin ds) (distincts ys xs)
+  distincts_within : (ys : List Spatial) (xs : List Pure) → Each (IsRuleWithin most ds) (distincts ys xs)
   distincts_within ys xs =
-      each_of_any (IsRuleWithin ds) (λ x. distincts_if ys (is_universal_pure x) x) xs (λ x. each_if (IsRuleWithin ds) (is_universal_pure x) (distincts_for ys x) (distincts_for_within ys x))
+      each_of_any (IsRuleWithin most ds) (λ x. distincts_if ys (is_universal_pure x) x) xs (λ x. each_if (IsRuleWithin most ds) (is_universal_pure x) (distincts_for ys x) (distincts_for_within ys x))
 
-  right_unfolds_of_within : (t : Theory) (j : Judgement) (a : SymbolicHeap) (k : ℕ) (y : Spatial) → Each (IsRuleWithin ds) (right_unfolds_of t j a k y)
+  right_unfolds_of_within : (t : Theory) (j : Judgement) (a : SymbolicHeap) (k : ℕ) (y : Spatial) → Each (IsRuleWithin most ds) (right_unfolds_of t j a k y)
   right_unfolds_of_within t j a k (Cell u us) = tt
   right_unfolds_of_within t j a k (Pred q ts) =
-      each_anywhere (IsRuleWithin ds) (right_unfold_at t j a k ts) (cases_of t.definitions q) (λ c case. each_if (IsRuleWithin ds) (may_unfold t j a (in_heap (right_term ts 0) case)) (UnfoldRight k c ∷ []) (tt, tt))
+      each_anywhere (IsRuleWithin most ds) (right_unfold_at t j a k ts) (cases_of t.definitions q) (λ c case. each_if (IsRuleWithin most ds) (may_unfold t j a (in_heap (right_term ts 0) case)) (UnfoldRight k c ∷ []) (tt, tt))
 
-  right_unfolds_within : (t : Theory) (j : Judgement) (a : SymbolicHeap) (ys : List Spatial) → Each (IsRuleWithin ds) (right_unfolds t j a ys)
-  right_unfolds_within t j a ys = each_anywhere (IsRuleWithin ds) (right_unfolds_of t j a) ys (right_unfolds_of_within t j a)
+  right_unfolds_within : (t : Theory) (j : Judgement) (a : SymbolicHeap) (ys : List Spatial) → Each (IsRuleWithin most ds) (right_unfolds t j a ys)
+  right_unfolds_within t j a ys = each_anywhere (IsRuleWithin most ds) (right_unfolds_of t j a) ys (right_unfolds_of_within t j a)
 
   -- ---- the lines
 
-  pub before_within : (t : Theory) (j : Judgement) (a : SymbolicHeap) → Each (IsRuleWithin ds) (entailment_before t j a)
+  pub before_within : (t : Theory) (j : Judgement) (a : SymbolicHeap) → Each (IsRuleWithin most ds) (entailment_before t j a)
   before_within t j a =
-      each_first_line (IsRuleWithin ds) (filter (goes t j) (Absurd ∷ []) ∷ rewrites a.pure ∷ []) (each_filter (IsRuleWithin ds) (goes t j) (Absurd ∷ []) (tt, tt), (rewrites_within a.pure, tt))
+      each_first_line (IsRuleWithin most ds) (filter (goes t j) (Absurd ∷ []) ∷ rewrites a.pure ∷ []) (each_filter (IsRuleWithin most ds) (goes t j) (Absurd ∷ []) (tt, tt), (rewrites_within a.pure, tt))
 
   module _ (t : Theory) (j : Judgement) (a : SymbolicHeap) (b : SymbolicHeap) (left : Each HasTerms a.spatial) (right : InHeap HasNumber b) where
-    last_within : Each (IsRuleWithin ds) (last_line t j a b)
+    last_within : Each (IsRuleWithin most ds) (last_line t j a b)
     last_within =
         let instances = map instance_rule (argument_instances a.spatial b.spatial) in
         let unfolded = right_unfolds t j a b.spatial in
-        each_filter (IsRuleWithin ds) (goes t j) ((instances ++ unfolded) ++ unfolds a.spatial)
-        (each_append (IsRuleWithin ds) (instances ++ unfolded) (unfolds a.spatial)
-        (each_append (IsRuleWithin ds) instances unfolded (instance_rules ds (argument_instances a.spatial b.spatial) (arguments_within a.spatial b.spatial left right.1)) (right_unfolds_within t j a b.spatial))
+        each_filter (IsRuleWithin most ds) (goes t j) ((instances ++ unfolded) ++ unfolds a.spatial)
+        (each_append (IsRuleWithin most ds) (instances ++ unfolded) (unfolds a.spatial)
+        (each_append (IsRuleWithin most ds) instances unfolded (instance_rules most ds (argument_instances a.spatial b.spatial) (arguments_within a.spatial b.spatial left right.1)) (right_unfolds_within t j a b.spatial))
         (unfolds_within a.spatial))
 
-    lines_within : Each (Each (IsRuleWithin ds)) (single_lines t j a b)
+    lines_within : Each (Each (IsRuleWithin most ds)) (single_lines t j a b)
     lines_within =
-        let first = each_first_that (IsRuleWithin ds) (goes t j) in (
-          each_filter (IsRuleWithin ds) (goes t j) (Done ∷ []) (tt, tt),
+        let first = each_first_that (IsRuleWithin most ds) (goes t j) in (
+          each_filter (IsRuleWithin most ds) (goes t j) (Done ∷ []) (tt, tt),
           (
             first (pure_rights b.pure) (pure_rights_within b.pure),
             (
@@ -94,9 +94,9 @@ module _ (ds : List Definition) where
               (
                 first (cell_frames a.spatial b.spatial) (cell_frames_within a.spatial b.spatial),
                 (
-                  first (map instance_rule (equation_instances b.pure)) (instance_rules ds (equation_instances b.pure) (equations_within b.pure right.0)),
+                  first (map instance_rule (equation_instances b.pure)) (instance_rules most ds (equation_instances b.pure) (equations_within b.pure right.0)),
                   (
-                    first (map instance_rule (field_instances a.spatial b.spatial)) (instance_rules ds (field_instances a.spatial b.spatial) (fields_within a.spatial b.spatial left right.1)),
+                    first (map instance_rule (field_instances a.spatial b.spatial)) (instance_rules most ds (field_instances a.spatial b.spatial) (fields_within a.spatial b.spatial left right.1)),
                     (
                       first (predicate_frames a.spatial b.spatial) (predicate_frames_within a.spatial b.spatial),
                       (last_within, tt),
@@ -108,9 +108,9 @@ module _ (ds : List Definition) where
           ),
         )
 
-  pub after_within : (t : Theory) (j : Judgement) (a : SymbolicHeap) (bs : List SymbolicHeap) → IsHeapWithin ds a → Each (IsHeapWithin ds) bs → IsUniversalHeap a → Each (IsRuleWithin ds) (entailment_after t j a bs)
+  pub after_within : (t : Theory) (j : Judgement) (a : SymbolicHeap) (bs : List SymbolicHeap) → IsHeapWithin most ds a → Each (IsHeapWithin most ds) bs → IsUniversalHeap a → Each (IsRuleWithin most ds) (entailment_after t j a bs)
   after_within t j a [] w ws u = tt
   after_within t j a (b ∷ []) w ws u =
-      each_first_line (IsRuleWithin ds) (single_lines t j a b) (lines_within t j a b (spatials_within a.spatial u.1 (heap_has ds a w).1) (heap_has ds b ws.0))
+      each_first_line (IsRuleWithin most ds) (single_lines t j a b) (lines_within t j a b (spatials_within a.spatial u.1 (heap_has most ds a w).1) (heap_has most ds b ws.0))
   after_within t j a (b ∷ c ∷ bs) w ws u =
-      each_filter (IsRuleWithin ds) (goes t j) (choices (b ∷ c ∷ bs) ++ unfolds a.spatial) (each_append (IsRuleWithin ds) (choices (b ∷ c ∷ bs)) (unfolds a.spatial) (choices_within (b ∷ c ∷ bs)) (unfolds_within a.spatial))
+      each_filter (IsRuleWithin most ds) (goes t j) (choices (b ∷ c ∷ bs) ++ unfolds a.spatial) (each_append (IsRuleWithin most ds) (choices (b ∷ c ∷ bs)) (unfolds a.spatial) (choices_within (b ∷ c ∷ bs)) (unfolds_within a.spatial))

@@ -8,7 +8,6 @@ use Rattle.heap_formula.specs.declared.judgements.Premise.{Premise}
 use Rattle.heap_formula.specs.declared.proof_rules.Link.{Link}
 use Rattle.heap_formula.specs.declared.proof_rules.Reason.{Reason}
 use Rattle.heap_formula.specs.declared.proof_rules.Reason.TheVariants.{Step, Back}
-use Rattle.heap_formula.specs.declared.proof_rules.Rule.{Rule}
 use Rattle.heap_formula.specs.Judgements.{antecedent}
 use Rattle.heap_formula.specs.Words.{Each}
 use Rattle.rule_table.specs.Answer.{Answer}
@@ -39,10 +38,10 @@ use Rattle.search_calculus.proofs.Fairness.{beside_none, small_is_fair}
 use Rattle.found_files.specs.Found.{IsWithinLimits}
 
 abbrev pub Occurs : Theory → Judgement → Type 0
-Occurs t j = IsJudgementWithin t.definitions (length t.lines) j
+Occurs t j = IsJudgementWithin t.most t.definitions (length t.lines) j
 
 abbrev pub Allows : Theory → Reason → Type 0
-Allows t r = IsReasonWithin t.definitions r
+Allows t r = IsReasonWithin t.most t.definitions r
 
 -- ---- answers
 
@@ -58,8 +57,8 @@ answer_of (Err f) ps h = absurd (let e : None ≡ Some ps = h in cc)
 
 -- ---- judgements within the limits are short
 
-short_within : (t : Theory) (j : Judgement) → Occurs t j → IsShort j
-short_within t j h = (small t.definitions (antecedent j) (first_heap (IsHeapWithin t.definitions) j h.heaps)).spatials
+short_within : (t : Theory) (j : Judgement) → Occurs t j → IsShort t.most j
+short_within t j h = (small t.most t.definitions (antecedent j) (first_heap (IsHeapWithin t.most t.definitions) j h.heaps)).spatials
 
 -- ---- the graph of a goal
 
@@ -86,16 +85,12 @@ goal_has P t nodes g each here v node at =
 
 module _ (t : Theory) (goal : Judgement) (limits : IsWithinLimits t goal) where
   pub is_small : IsSmallProblem t goal
-  is_small = record { most = limits.most; cases = are_few t.definitions t.definitions limits.definitions; short = short_within t goal limits.goal_within }
+  is_small = record { most = limits.most; cases = are_few t.most t.definitions t.definitions limits.definitions; short = short_within t goal limits.goal_within }
 
-  -- the answer does not depend on the greatest number of atoms but by the limit
-  pub answer_within : (j : Judgement) (rule : Rule) (qs : List Premise) → rule_answer t.most t.definitions t.lines j rule ≡ Ok qs → rule_answer 16 t.definitions t.lines j rule ≡ Ok qs
-  answer_within j rule qs h = ap (λ n. rule_answer n t.definitions t.lines j rule) (sym limits.most) ∙ h
-
-  small_fair : IsFair (calculus_of t) IsShort (λ r. Unit {0})
+  small_fair : IsFair (calculus_of t) (IsShort t.most) (λ r. Unit {0})
   small_fair = small_is_fair t is_small.most is_small.cases
 
-  all_short : (nodes : List MadeNode) (g : OpenGoal) → AllOccur (Occurs t) nodes g → AllOccur IsShort nodes g
+  all_short : (nodes : List MadeNode) (g : OpenGoal) → AllOccur (Occurs t) nodes g → AllOccur (IsShort t.most) nodes g
   all_short nodes g occur = record {
     goal = short_within t g.premise.judgement occur.goal;
     made = λ i m at. short_within t (judgement_of m) (occur.made i m at);
@@ -106,26 +101,26 @@ module _ (t : Theory) (goal : Judgement) (limits : IsWithinLimits t goal) where
   offered nodes g r occur offer =
       elim offer [
         | inl link ↦ each_get (Allows t) (links_at t nodes g) link.place r (Each-map (λ (l : Link). Allows t (Back l)) (Allows t) Back (λ l h. h) (links_offered t graph (length nodes) g.premise.judgement) links) link.at
-        | inr rule ↦ each_get (Allows t) (rules_at t nodes g) rule.place r (Each-map (IsRuleWithin t.definitions) (Allows t) Step (λ x h. h) (rules_offered t graph (length nodes) g.premise.judgement) rules) rule.at
+        | inr rule ↦ each_get (Allows t) (rules_at t nodes g) rule.place r (Each-map (IsRuleWithin t.most t.definitions) (Allows t) Step (λ x h. h) (rules_offered t graph (length nodes) g.premise.judgement) rules) rule.at
       ]
     where
       graph : List GraphNode
       graph = goal_graph t nodes g
 
-      links : Each (λ (link : Link). IsReasonWithin t.definitions (Back link)) (links_offered t graph (length nodes) g.premise.judgement)
+      links : Each (λ (link : Link). IsReasonWithin t.most t.definitions (Back link)) (links_offered t graph (length nodes) g.premise.judgement)
       links = links_within t graph (length nodes) g.premise.judgement occur.goal (goal_has (Occurs t) t nodes g occur.made occur.goal)
 
-      rules : Each (IsRuleWithin t.definitions) (rules_offered t graph (length nodes) g.premise.judgement)
-      rules = rules_within t graph (length nodes) g.premise.judgement limits.most limits.definitions limits.program occur.goal
+      rules : Each (IsRuleWithin t.most t.definitions) (rules_offered t graph (length nodes) g.premise.judgement)
+      rules = rules_within t graph (length nodes) g.premise.judgement limits.some limits.definitions limits.program occur.goal
 
   -- the premises of a reason within the limits are within them
   premises_occur : (nodes : List MadeNode) (g : OpenGoal) (r : Reason) (ps : List (TracedPremise Judgement)) → AllOccur (Occurs t) nodes g → Allows t r → premises t nodes g r ≡ Some ps →
       (k : ℕ) (p : TracedPremise Judgement) → slice_get ps k ≡ Some p → Occurs t p.judgement
   premises_occur nodes g (Step rule) ps occur allowed h k p at =
       let a = answer_of (rule_answer t.most t.definitions t.lines g.premise.judgement rule) ps h in
-      let each = premises_within t.definitions t.lines g.premise.judgement rule a.premises limits.definitions limits.program occur.goal allowed (answer_within g.premise.judgement rule a.premises a.is_answer) in
+      let each = premises_within t.most t.definitions t.lines g.premise.judgement rule a.premises limits.definitions limits.program occur.goal allowed a.is_answer in
       each_get (λ (q : TracedPremise Judgement). Occurs t q.judgement) (map traced a.premises) k p
-      (Each-map (IsPremiseWithin t.definitions (length t.lines)) (λ (q : TracedPremise Judgement). Occurs t q.judgement) traced (λ q w. w) a.premises each)
+      (Each-map (IsPremiseWithin t.most t.definitions (length t.lines)) (λ (q : TracedPremise Judgement). Occurs t q.judgement) traced (λ q w. w) a.premises each)
       (subst (λ qs. slice_get qs k ≡ Some p) (sym a.are) at)
   premises_occur nodes g (Back link) ps occur allowed h k p at =
       let none : ps ≡ [] = beside_none (edge_to t g.premise.judgement link (slice_get nodes link.target)) ps h in

@@ -1,5 +1,5 @@
 -- The formulas that a state's atoms are folded into are within the limits.
-use Rattle.std.proofs.Common.{◌≡◌, ℕ, ◌≤◌, Bool, true, false, List, [], ◌∷◌, ◌++◌, map, length, Option, Some, None, refl, ap, ◌∙◌, arith, le-leb}
+use Rattle.std.proofs.Common.{◌≡◌, ℕ, ◌<◌, ◌≤◌, Bool, true, false, List, [], ◌∷◌, ◌++◌, map, length, Option, Some, None, ap, ◌∙◌, arith, le-leb}
 use Rattle.std.specs.Prelude.{IfSome, slice_get, nat_eq, if◌then◌else◌}
 use Rattle.std.proofs.lemmas.Bool.Decides.{Decides-eqb}
 use Rattle.std.proofs.lemmas.List.{length-map, length-take-le}
@@ -98,24 +98,24 @@ use_is_known o d n at same =
     let here : nat_eq n d.arity ≡ true = (Decides-eqb n d.arity).1 same in
     ap (λ (p : Option Definition). or_later (arity_fault p n) None) at ∙ ap (λ b. or_later (if b then None else Some Arity) None) here
 
-module _ (ds : List Definition) where
-  folded_within : (q : ℕ) (d : Definition) (s : Binding) → slice_get ds q ≡ Some d → d.arity ≤ 8 → HasValues s → IsHeapWithin ds (folded q d.arity s)
+module _ (most : ℕ) (some : 0 < most) (ds : List Definition) where
+  folded_within : (q : ℕ) (d : Definition) (s : Binding) → slice_get ds q ≡ Some d → d.arity ≤ 8 → HasValues s → IsHeapWithin most ds (folded q d.arity s)
   folded_within q d s at few h =
       let terms = map (bound_term s) (parameters d.arity) in
       let below : terms_numbers terms ≤ 65535 = below_each number_bound 65535 terms (each_map HasNumber (bound_term s) (parameters d.arity) (parameters_have s d.arity h)) in
       record {
-        short = refl;
+        short = le-leb 1 most some;
         numbers = le-leb _ _ (omega arith);
         known = use_is_known (slice_get ds q) d (length terms) at (length-map (parameters d.arity) (bound_term s) ∙ parameters_count d.arity few);
         fields = (tt, tt);
       }
 
-  folds_of_within : (a : SymbolicHeap) (q : ℕ) (d : Definition) → Each (InSpatial HasNumber) a.spatial → slice_get ds q ≡ Some d → d.arity ≤ 8 → Each (IsRuleWithin ds) (folds_of a q d)
+  folds_of_within : (a : SymbolicHeap) (q : ℕ) (d : Definition) → Each (InSpatial HasNumber) a.spatial → slice_get ds q ≡ Some d → d.arity ≤ 8 → Each (IsRuleWithin most ds) (folds_of a q d)
   folds_of_within a q d n at few =
-      each_of_any (IsRuleWithin ds) (folds_of_case a q d.arity) d.cases (λ case.
-      each_if (IsRuleWithin ds) (can_fold d.arity case) (placed (fold_by a q d.arity case) a.spatial case.spatial [] (Some []))
-      (placed_each (IsRuleWithin ds) (fold_by a q d.arity case) a.spatial case.spatial [] (Some []) n (λ places s v.
-      each_if (IsRuleWithin ds) (case_follows a case s) (Cut (ascending a.spatial places) (folded q d.arity s) ∷ []) (folded_within q d s at few v, tt)) tt))
+      each_of_any (IsRuleWithin most ds) (folds_of_case a q d.arity) d.cases (λ case.
+      each_if (IsRuleWithin most ds) (can_fold d.arity case) (placed (fold_by a q d.arity case) a.spatial case.spatial [] (Some []))
+      (placed_each (IsRuleWithin most ds) (fold_by a q d.arity case) a.spatial case.spatial [] (Some []) n (λ places s v.
+      each_if (IsRuleWithin most ds) (case_follows a case s) (Cut (ascending a.spatial places) (folded q d.arity s) ∷ []) (folded_within q d s at few v, tt)) tt))
 
-  pub folds_within : (a : SymbolicHeap) → Each (InSpatial HasNumber) a.spatial → Each (IsDefinitionWithin ds) ds → Each (IsRuleWithin ds) (folds a ds)
-  folds_within a n w = each_placed (IsRuleWithin ds) (folds_of a) ds (λ q d at. folds_of_within a q d n at (each_get (IsDefinitionWithin ds) ds q d w at).arity)
+  pub folds_within : (a : SymbolicHeap) → Each (InSpatial HasNumber) a.spatial → Each (IsDefinitionWithin most ds) ds → Each (IsRuleWithin most ds) (folds a ds)
+  folds_within a n w = each_placed (IsRuleWithin most ds) (folds_of a) ds (λ q d at. folds_of_within a q d n at (each_get (IsDefinitionWithin most ds) ds q d w at).arity)

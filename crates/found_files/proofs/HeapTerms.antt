@@ -45,12 +45,12 @@ spatials_have : (xs : List Spatial) → Each (λ x. spatial_numbers x ≤ 65535)
 spatials_have [] a = tt
 spatials_have (x ∷ xs) a = (spatial_has x a.0, spatials_have xs a.1)
 
-heap_below : (ds : List Definition) (a : SymbolicHeap) → IsHeapWithin ds a → heap_numbers a ≤ 65535
-heap_below ds a w = leb-true (heap_numbers a) 65535 w.numbers
+heap_below : (most : ℕ) (ds : List Definition) (a : SymbolicHeap) → IsHeapWithin most ds a → heap_numbers a ≤ 65535
+heap_below most ds a w = leb-true (heap_numbers a) 65535 w.numbers
 
-pub heap_has : (ds : List Definition) (a : SymbolicHeap) → IsHeapWithin ds a → InHeap HasNumber a
-heap_has ds a w =
-    let h = heap_below ds a w in
+pub heap_has : (most : ℕ) (ds : List Definition) (a : SymbolicHeap) → IsHeapWithin most ds a → InHeap HasNumber a
+heap_has most ds a w =
+    let h = heap_below most ds a w in
     (pures_have a.pure (each_below pure_numbers 65535 a.pure (omega arith)), spatials_have a.spatial (each_below spatial_numbers 65535 a.spatial (omega arith)))
 
 -- ---- the antecedent's atoms
@@ -91,11 +91,11 @@ heap_le a =
     let s = max_le spatial_bound spatial_numbers spatial_le a.spatial in
     omega arith
 
-heaps_le : (ds : List Definition) (bs : List SymbolicHeap) → Each (IsHeapWithin ds) bs → max_of (map heap_bound bs) ≤ 65535
-heaps_le ds [] a = omega arith
-heaps_le ds (b ∷ bs) a = let h = heap_below ds b a.0 in let l = heap_le b in let r = heaps_le ds bs a.1 in omega arith
+heaps_le : (most : ℕ) (ds : List Definition) (bs : List SymbolicHeap) → Each (IsHeapWithin most ds) bs → max_of (map heap_bound bs) ≤ 65535
+heaps_le most ds [] a = omega arith
+heaps_le most ds (b ∷ bs) a = let h = heap_below most ds b a.0 in let l = heap_le b in let r = heaps_le most ds bs a.1 in omega arith
 
 -- the universal numbers of a judgement's heaps
-pub judgement_below : (ds : List Definition) (j : Judgement) → Each (IsHeapWithin ds) (heaps_of j) → judgement_bound j ≤ 65535
-judgement_below ds (Entail a bs) w = let h = heap_below ds a w.0 in let l = heap_le a in let r = heaps_le ds bs w.1 in omega arith
-judgement_below ds (Runs i a) w = let h = heap_below ds a w.0 in let l = heap_le a in omega arith
+pub judgement_below : (most : ℕ) (ds : List Definition) (j : Judgement) → Each (IsHeapWithin most ds) (heaps_of j) → judgement_bound j ≤ 65535
+judgement_below most ds (Entail a bs) w = let h = heap_below most ds a w.0 in let l = heap_le a in let r = heaps_le most ds bs w.1 in omega arith
+judgement_below most ds (Runs i a) w = let h = heap_below most ds a w.0 in let l = heap_le a in omega arith

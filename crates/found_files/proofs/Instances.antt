@@ -1,5 +1,5 @@
 -- The instances of existentials that an entailment within the limits is offered are within them.
-use Rattle.std.proofs.Common.{◌≤◌, Bool, true, false, ◌&&◌, List, [], ◌∷◌, ◌++◌, map, length, Option, Some, None, arith}
+use Rattle.std.proofs.Common.{ℕ, ◌≤◌, Bool, true, false, ◌&&◌, List, [], ◌∷◌, ◌++◌, map, length, Option, Some, None, arith}
 use Rattle.std.specs.Prelude.{IfSome, nat_eq, if◌then◌else◌}
 use Rattle.std.specs.List.{list_any}
 use Rattle.heap_formula.specs.declared.terms.Term.{Term}
@@ -22,8 +22,8 @@ use Rattle.found_files.proofs.HeapTerms.{HasNumber, HasTerms}
 abbrev pub IsInstanceWithin : Instance → Type 0
 IsInstanceWithin i = (i.variable ≤ 65534) × IsTermWithin i.term
 
-pub instance_rules : (ds : List Definition) (is : List Instance) → Each IsInstanceWithin is → Each (IsRuleWithin ds) (map instance_rule is)
-instance_rules ds is a = each_map (IsRuleWithin ds) instance_rule is a
+pub instance_rules : (most : ℕ) (ds : List Definition) (is : List Instance) → Each IsInstanceWithin is → Each (IsRuleWithin most ds) (map instance_rule is)
+instance_rules most ds is a = each_map (IsRuleWithin most ds) instance_rule is a
 
 -- ---- by equations
 

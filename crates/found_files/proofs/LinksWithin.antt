@@ -74,11 +74,11 @@ all_offered : (P : Link → Type 0) (t : Theory) (nodes : List GraphNode) (goal 
 all_offered P t nodes goal j h =
     each_unless_some P (rules_before t j) (candidates t.lines nodes goal j) (each_placed P (links_to 1000000 t.lines j) (take goal nodes) (offered_each P 1000000 t nodes goal j h))
 
-pub links_within : (t : Theory) (nodes : List GraphNode) (goal : ℕ) (j : Judgement) → IsJudgementWithin t.definitions (length t.lines) j → ((v : ℕ) (node : GraphNode) → slice_get nodes v ≡ Some node → IsJudgementWithin t.definitions (length t.lines) node.judgement) → Each (λ (link : Link). IsReasonWithin t.definitions (Back link)) (links_offered t nodes goal j)
+pub links_within : (t : Theory) (nodes : List GraphNode) (goal : ℕ) (j : Judgement) → IsJudgementWithin t.most t.definitions (length t.lines) j → ((v : ℕ) (node : GraphNode) → slice_get nodes v ≡ Some node → IsJudgementWithin t.most t.definitions (length t.lines) node.judgement) → Each (λ (link : Link). IsReasonWithin t.most t.definitions (Back link)) (links_offered t nodes goal j)
 links_within t nodes goal j w ws =
-    all_offered (λ (link : Link). IsReasonWithin t.definitions (Back link)) t nodes goal j (λ k node lt e.
-    links_each (λ (link : Link). IsReasonWithin t.definitions (Back link)) (Each IsPairWithin) j node.judgement k (variables_of t.lines j)
-    (substitutions_within j node.judgement (judgement_below t.definitions j w.heaps) (judgement_below t.definitions node.judgement (ws k node e).heaps))
+    all_offered (λ (link : Link). IsReasonWithin t.most t.definitions (Back link)) t nodes goal j (λ k node lt e.
+    links_each (λ (link : Link). IsReasonWithin t.most t.definitions (Back link)) (Each IsPairWithin) j node.judgement k (variables_of t.lines j)
+    (substitutions_within j node.judgement (judgement_below t.most t.definitions j w.heaps) (judgement_below t.most t.definitions node.judgement (ws k node e).heaps))
     (λ places s entries q. q))
 
 pub links_back : (t : Theory) (nodes : List GraphNode) (goal : ℕ) (j : Judgement) → Each (λ (link : Link). link.target < goal) (links_offered t nodes goal j)

@@ -1,5 +1,5 @@
 -- What a goal within the limits is offered brings in nothing beyond them.
-use Rattle.std.proofs.Common.{◌≡◌, ℕ, Bool, List, [], ◌∷◌, ◌++◌, length, Option, Some, None}
+use Rattle.std.proofs.Common.{ℕ, ◌<◌, Bool, List, [], ◌∷◌, ◌++◌, length, Option, Some, None}
 use Rattle.std.specs.Prelude.{take, ◌&&◌}
 use Rattle.std.specs.List.{filter, list_any}
 use Rattle.heap_formula.specs.declared.terms.Term.{Term}
@@ -26,39 +26,39 @@ use Rattle.found_files.proofs.Folding.{folds_within}
 
 -- ---- states of a program
 
-module _ (ds : List Definition) where
-  state_rewrites_within : (p : ℕ) (a : SymbolicHeap) → Each (IsRuleWithin ds) (state_rewrites p a)
-  state_rewrites_within p a = each_first_place (IsRuleWithin ds) (state_rewrite p a) a.pure (λ k x. rewrite_within ds k (state_side p a k x))
+module _ (most : ℕ) (ds : List Definition) where
+  state_rewrites_within : (p : ℕ) (a : SymbolicHeap) → Each (IsRuleWithin most ds) (state_rewrites p a)
+  state_rewrites_within p a = each_first_place (IsRuleWithin most ds) (state_rewrite p a) a.pure (λ k x. rewrite_within most ds k (state_side p a k x))
 
-  stops_within : (c : Option Command) → Each (IsRuleWithin ds) (stops c)
-  stops_within c = each_if (IsRuleWithin ds) (is_stop c) (Exec ∷ []) (tt, tt)
+  stops_within : (c : Option Command) → Each (IsRuleWithin most ds) (stops c)
+  stops_within c = each_if (IsRuleWithin most ds) (is_stop c) (Exec ∷ []) (tt, tt)
 
-  unfolds_for_within : (a : SymbolicHeap) (o : Option Term) → Each (IsRuleWithin ds) (unfolds_for a o)
+  unfolds_for_within : (a : SymbolicHeap) (o : Option Term) → Each (IsRuleWithin most ds) (unfolds_for a o)
   unfolds_for_within a None = tt
-  unfolds_for_within a (Some t) = each_anywhere (IsRuleWithin ds) (unfold_for a.pure t) a.spatial (λ k x. each_if (IsRuleWithin ds) (reaches a.pure t x) (Unfold k ∷ []) (tt, tt))
+  unfolds_for_within a (Some t) = each_anywhere (IsRuleWithin most ds) (unfold_for a.pure t) a.spatial (λ k x. each_if (IsRuleWithin most ds) (reaches a.pure t x) (Unfold k ∷ []) (tt, tt))
 
-  unfolds_if_within : (missing : Bool) (a : SymbolicHeap) (c : Option Command) → Each (IsRuleWithin ds) (unfolds_if missing a c)
-  unfolds_if_within missing a c = each_if (IsRuleWithin ds) missing (unfolds_for a (wanted_cell c)) (unfolds_for_within a (wanted_cell c))
+  unfolds_if_within : (missing : Bool) (a : SymbolicHeap) (c : Option Command) → Each (IsRuleWithin most ds) (unfolds_if missing a c)
+  unfolds_if_within missing a c = each_if (IsRuleWithin most ds) missing (unfolds_for a (wanted_cell c)) (unfolds_for_within a (wanted_cell c))
 
-  state_before_within : (t : Theory) (j : Judgement) (i : ℕ) (a : SymbolicHeap) → Each (IsRuleWithin ds) (state_before t j i a)
+  state_before_within : (t : Theory) (j : Judgement) (i : ℕ) (a : SymbolicHeap) → Each (IsRuleWithin most ds) (state_before t j i a)
   state_before_within t j i a =
       let stopping = stops (counted_from_one t.lines i) in
-      each_first_line (IsRuleWithin ds) (filter (goes t j) (Absurd ∷ []) ∷ stops_that_go t j i ∷ state_rewrites (program_variables t.lines) a ∷ [])
-      (each_filter (IsRuleWithin ds) (goes t j) (Absurd ∷ []) (tt, tt), (each_filter (IsRuleWithin ds) (goes t j) stopping (stops_within (counted_from_one t.lines i)), (state_rewrites_within (program_variables t.lines) a, tt)))
+      each_first_line (IsRuleWithin most ds) (filter (goes t j) (Absurd ∷ []) ∷ stops_that_go t j i ∷ state_rewrites (program_variables t.lines) a ∷ [])
+      (each_filter (IsRuleWithin most ds) (goes t j) (Absurd ∷ []) (tt, tt), (each_filter (IsRuleWithin most ds) (goes t j) stopping (stops_within (counted_from_one t.lines i)), (state_rewrites_within (program_variables t.lines) a, tt)))
 
-state_after_within : (t : Theory) (nodes : List GraphNode) (goal : ℕ) (j : Judgement) (i : ℕ) (a : SymbolicHeap) → Each (IsDefinitionWithin t.definitions) t.definitions → IsHeapWithin t.definitions a → Each (IsRuleWithin t.definitions) (state_after t nodes goal j i a)
-state_after_within t nodes goal j i a ds w =
-    let P = IsRuleWithin t.definitions in
+state_after_within : (t : Theory) (nodes : List GraphNode) (goal : ℕ) (j : Judgement) (i : ℕ) (a : SymbolicHeap) → 0 < t.most → Each (IsDefinitionWithin t.most t.definitions) t.definitions → IsHeapWithin t.most t.definitions a → Each (IsRuleWithin t.most t.definitions) (state_after t nodes goal j i a)
+state_after_within t nodes goal j i a some ds w =
+    let P = IsRuleWithin t.most t.definitions in
     let last = unfolds_if (misses_cell (exec_answer t.most t.lines j)) a (counted_from_one t.lines i) in
     each_filter P (goes t j) (folds_if t nodes goal i a ++ (Exec ∷ last))
     (each_append P (folds_if t nodes goal i a) (Exec ∷ last)
-    (each_if P (climbs nodes goal goal && list_any (works_on i) (take goal nodes)) (folds a t.definitions) (folds_within t.definitions a (heap_has t.definitions a w).1 ds))
-    (tt, unfolds_if_within t.definitions (misses_cell (exec_answer t.most t.lines j)) a (counted_from_one t.lines i)))
+    (each_if P (climbs nodes goal goal && list_any (works_on i) (take goal nodes)) (folds a t.definitions) (folds_within t.most some t.definitions a (heap_has t.most t.definitions a w).1 ds))
+    (tt, unfolds_if_within t.most t.definitions (misses_cell (exec_answer t.most t.lines j)) a (counted_from_one t.lines i)))
 
 -- ---- either judgement
 
-pub rules_within : (t : Theory) (nodes : List GraphNode) (goal : ℕ) (j : Judgement) → t.most ≡ 16 → Each (IsDefinitionWithin t.definitions) t.definitions → IsProgram t.lines → IsJudgementWithin t.definitions (length t.lines) j → Each (IsRuleWithin t.definitions) (rules_offered t nodes goal j)
-rules_within t nodes goal (Entail a bs) most ds lines w =
-    each_or_else (IsRuleWithin t.definitions) (rules_before t (Entail a bs)) (rules_after t nodes goal (Entail a bs)) (before_within t.definitions t (Entail a bs) a) (after_within t.definitions t (Entail a bs) a bs w.heaps.0 w.heaps.1 w.universal)
-rules_within t nodes goal (Runs i a) most ds lines w =
-    each_or_else (IsRuleWithin t.definitions) (rules_before t (Runs i a)) (rules_after t nodes goal (Runs i a)) (state_before_within t.definitions t (Runs i a) i a) (state_after_within t nodes goal (Runs i a) i a ds w.heaps.0)
+pub rules_within : (t : Theory) (nodes : List GraphNode) (goal : ℕ) (j : Judgement) → 0 < t.most → Each (IsDefinitionWithin t.most t.definitions) t.definitions → IsProgram t.lines → IsJudgementWithin t.most t.definitions (length t.lines) j → Each (IsRuleWithin t.most t.definitions) (rules_offered t nodes goal j)
+rules_within t nodes goal (Entail a bs) some ds lines w =
+    each_or_else (IsRuleWithin t.most t.definitions) (rules_before t (Entail a bs)) (rules_after t nodes goal (Entail a bs)) (before_within t.most t.definitions t (Entail a bs) a) (after_within t.most t.definitions t (Entail a bs) a bs w.heaps.0 w.heaps.1 w.universal)
+rules_within t nodes goal (Runs i a) some ds lines w =
+    each_or_else (IsRuleWithin t.most t.definitions) (rules_before t (Runs i a)) (rules_after t nodes goal (Runs i a)) (state_before_within t.most t.definitions t (Runs i a) i a) (state_after_within t nodes goal (Runs i a) i a some ds w.heaps.0)

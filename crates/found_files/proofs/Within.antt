@@ -16,7 +16,7 @@ use Rattle.search_moves.specs.Trying.{Theory}
 use Rattle.search_calculus.specs.Calculus.{MadeNode, judgement_of}
 use Rattle.found_files.specs.Files.{numbers_of, nodes_made}
 use Rattle.found_files.specs.Found.{IsWithinLimits}
-use Rattle.found_files.proofs.Fair.{Occurs, Allows, answer_within}
+use Rattle.found_files.proofs.Fair.{Occurs, Allows}
 use Rattle.found_files.proofs.Made.{LeadsToPremise, IsBy, AllMade}
 use Rattle.found_files.proofs.Rows.{file_node_at}
 use Rattle.heap_formula.proofs.Members.{each_from}
@@ -33,23 +33,23 @@ targets_short nodes v (p ∷ ps) (e ∷ es) few size each =
 module _ (t : Theory) (goal : Judgement) (limits : IsWithinLimits t goal) (nodes : List MadeNode) (all' : AllMade t nodes) (few : length nodes ≤ 20000) where
   reason_short : (v : ℕ) (j : Judgement) (r : Reason) (es : List Edge) → Occurs t j → IsBy t nodes v j r es → HasShortNumbers r
   reason_short v j (Step rule) es within by =
-      rule_short t.definitions t.lines j by.premises limits.definitions within rule (answer_within t goal limits j rule by.premises by.is_answer)
+      rule_short t.most limits.most t.definitions t.lines j by.premises limits.definitions within rule by.is_answer
   reason_short v j (Back link) es within by =
       let less = slice_get_within nodes link.target by.companion by.is_companion in
-      link_short t.definitions (length t.lines) (variables_of t.lines j) j (judgement_of by.companion) link within by.no_fault (omega arith)
+      link_short t.most t.definitions (length t.lines) (variables_of t.lines j) j (judgement_of by.companion) link limits.most within by.no_fault (omega arith)
 
   numbers_short : (v : ℕ) (j : Judgement) (r : Reason) (es : List Edge) → IsBy t nodes v j r es → Each IsShortNumber (numbers_of r es)
   numbers_short v j (Step rule) es by = targets_short nodes v by.premises es few by.edges.as_many by.edges.each
   numbers_short v j (Back link) es by = tt
 
-  pub all_within : ((v : ℕ) (m : MadeNode) → slice_get nodes v ≡ Some m → Occurs t (judgement_of m) × Allows t m.reason) → Each (IsNodeWithin t.definitions (length t.lines)) (nodes_made t nodes)
-  all_within stand = each_from (IsNodeWithin t.definitions (length t.lines)) (nodes_made t nodes) each
+  pub all_within : ((v : ℕ) (m : MadeNode) → slice_get nodes v ≡ Some m → Occurs t (judgement_of m) × Allows t m.reason) → Each (IsNodeWithin t.most t.definitions (length t.lines)) (nodes_made t nodes)
+  all_within stand = each_from (IsNodeWithin t.most t.definitions (length t.lines)) (nodes_made t nodes) each
     where
-      each : (v : ℕ) (x : FileNode) → slice_get (nodes_made t nodes) v ≡ Some x → IsNodeWithin t.definitions (length t.lines) x
+      each : (v : ℕ) (x : FileNode) → slice_get (nodes_made t nodes) v ≡ Some x → IsNodeWithin t.most t.definitions (length t.lines) x
       each v x at =
           let f = file_node_at t nodes all' v x at in
           let s = stand v f.m f.is_m in
-          subst (IsNodeWithin t.definitions (length t.lines)) f.is (record {
+          subst (IsNodeWithin t.most t.definitions (length t.lines)) f.is (record {
             judgement = s.0;
             reason = s.1;
             numbers = reason_short v (judgement_of f.m) f.m.reason f.made.traces.edges s.0 f.made.by;

@@ -1,5 +1,5 @@
 -- What a search finds, as a proof.
-use Rattle.std.specs.Prelude.{◌≡◌, ◌≤◌, List, [], Some, length, slice_get}
+use Rattle.std.specs.Prelude.{◌≡◌, ◌<◌, ◌≤◌, List, [], Some, length, slice_get}
 use Rattle.heap_formula.specs.declared.judgements.Judgement.{Judgement}
 use Rattle.heap_formula.specs.declared.proof_rules.Reason.{Reason}
 use Rattle.heap_formula.specs.Words.{Each}
@@ -17,10 +17,11 @@ use Rattle.found_files.specs.Files.{nodes_made}
 
 -- a problem within the limits of a proof file
 pub record IsWithinLimits (t : Theory) (goal : Judgement) : Type 0 where
-  pub most : t.most ≡ 16
-  pub definitions : Each (IsDefinitionWithin t.definitions) t.definitions
+  pub some : 0 < t.most
+  pub most : t.most ≤ 32
+  pub definitions : Each (IsDefinitionWithin t.most t.definitions) t.definitions
   pub program : IsProgram t.lines
-  pub goal_within : IsJudgementWithin t.definitions (length t.lines) goal
+  pub goal_within : IsJudgementWithin t.most t.definitions (length t.lines) goal
 
 -- the nodes are a correct proof of the goal, may stand in a file, and have few product states
 pub record AreProof (t : Theory) (goal : Judgement) (nodes : List FileNode) : Type 0 where
@@ -30,7 +31,7 @@ pub record AreProof (t : Theory) (goal : Judgement) (nodes : List FileNode) : Ty
   pub right : AreRight t.most t.definitions t.lines (nodes_of nodes)
   pub paths : AllProgress (graph_of t.most t.definitions t.lines (nodes_of nodes))
   pub states : HasAtMost (graph_of t.most t.definitions t.lines (nodes_of nodes)) 200000
-  pub within : Each (IsNodeWithin t.definitions (length t.lines)) nodes
+  pub within : Each (IsNodeWithin t.most t.definitions (length t.lines)) nodes
   pub few : length nodes ≤ 20000
 
 -- the reasons make a proof of the goal, with no goal left open

@@ -1,5 +1,5 @@
 // Heaps as finite maps.
-ghost use Rattle.std.specs.Prelude.{◌≡◌, ◌+◌, ◌^◌, ◌<◌, length, OnOk, OnErr, MatchOption, Some, None};
+ghost use Rattle.std.specs.Prelude.{◌≡◌, ◌+◌, ◌^◌, ◌<◌, length, map, OnOk, OnErr, IfOk, MatchOption, Some, None};
 ghost use Rattle.std.specs.FinMap.{entries, insert, remove, len};
 ghost use Rattle.std.specs.BTreeMap.{IsOrdered};
 ghost use Rattle.std.specs.Ordering.{nat_cmp};
@@ -130,6 +130,15 @@ impl Cells {
         greatest_in(&self.cells)
     }
 
+    /// The addresses of the cells, ascending.
+    pub fn addresses(&self, alloc: Global) -> Result<Vec<u64>, OutOfMemory>
+        ensures value { IfOk result (λ v. v.items ≡ map (λ c. c.0) (entries self.now)) }
+        ensures heap { IsHeap self.now }
+    {
+        let addresses = keys_of(alloc, &self.cells)?;
+        Ok(addresses)
+    }
+
     /// The least positive address at which no cell stands.
     pub fn least_free(&self) -> u64
         ensures { IsLeastFree self.now result }
@@ -142,6 +151,13 @@ impl Cells {
         }
         count + 1
     }
+}
+
+fn keys_of(alloc: Global, cells: &BTreeMap<u64, Fields>) -> Result<Vec<u64>, AllocError>
+    ensures value { IfOk result (λ v. v.items ≡ map (λ c. c.0) cells.now.entries) }
+    ensures ordered { IfOk result (λ _. IsOrdered nat_cmp cells.now) }
+{
+    cells.keys().copied().collect(alloc)
 }
 
 fn greatest_in(cells: &BTreeMap<u64, Fields>) -> u64

@@ -5,4 +5,5 @@ pub mod Programs
 pub mod WithinSpans
 pub mod SpanLaws
 pub mod Readings
+pub mod Wider
 mod Indexes

@@ -1,5 +1,5 @@
 -- What no flaw says of the parts.
-use Rattle.std.proofs.Common.{◌≡◌, ℕ, suc, ◌+◌, ◌<◌, ◌≤◌, Bool, true, false, List, [], ◌∷◌, length, Some, None, refl, arith}
+use Rattle.std.proofs.Common.{◌≡◌, ℕ, suc, ◌+◌, ◌<◌, ◌≤◌, Bool, true, false, List, [], ◌∷◌, length, Some, None, refl, ap, ◌∙◌, arith}
 use Rattle.std.specs.Prelude.{nat_lt, nat_le}
 use Rattle.std.proofs.lemmas.Bool.{ltb-false, leb-false}
 use Rattle.heap_formula.specs.Words.{Each}
@@ -10,6 +10,9 @@ use Rattle.heap_reader.specs.Flaws.{Found, ill_if, over_if, or_later, listed_fla
 pub neither : (a b : Found) → or_later a b ≡ None → (a ≡ None) × (b ≡ None)
 neither None b e = (refl, e)
 neither (Some f) b e = absurd cc
+
+pub none_later : (a b : Found) → a ≡ None → b ≡ None → or_later a b ≡ None
+none_later a b e f = ap (λ (o : Found). or_later o b) e ∙ f
 
 pub not_over : (b : Bool) (what : What) (k : ℕ) → over_if b what k ≡ None → b ≡ false
 not_over true what k e = absurd cc

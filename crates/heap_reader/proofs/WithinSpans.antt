@@ -73,12 +73,12 @@ module _ {T : Type 0} (flaw : ℕ → T → Found) (span : T → ℕ) (some_span
       let m = k + pure_span span x in
       first_before (over_if (nat_le 64 n) Pure k) (or_later (flaw k x.left) (flaw (k + span x.left) x.right)) m (over_before (nat_le 64 n) Pure k m (omega arith)) (first_before (flaw k x.left) (flaw (k + span x.left) x.right) m (later (flaw k x.left) (k + span x.left) m (omega arith) (term_before k x.left)) (later (flaw (k + span x.left) x.right) (k + span x.left + span x.right) m (omega arith) (term_before (k + span x.left) x.right)))
 
-  cell_before : (n k : ℕ) (t : T) (ts : List T) → Before (cell_flaw flaw span n k t ts) (k + spatial_span span (Cell t ts))
-  cell_before n k t ts =
+  cell_before : (most n k : ℕ) (t : T) (ts : List T) → Before (cell_flaw flaw span most n k t ts) (k + spatial_span span (Cell t ts))
+  cell_before most n k t ts =
       let s = some_span t in
       let m = k + spatial_span span (Cell t ts) in
       let p = k + span t + 1 in
-      first_before (over_if (nat_le 16 n) SpatialAtoms k) (or_later (flaw k t) (arguments_flaw flaw span p ts)) m (over_before (nat_le 16 n) SpatialAtoms k m (omega arith)) (first_before (flaw k t) (arguments_flaw flaw span p ts) m (later (flaw k t) (k + span t) m (omega arith) (term_before k t)) (later (arguments_flaw flaw span p ts) (p + total span ts) m (omega arith) (listed_before (argument_flaw flaw span) span argument_before 0 p ts)))
+      first_before (over_if (nat_le most n) SpatialAtoms k) (or_later (flaw k t) (arguments_flaw flaw span p ts)) m (over_before (nat_le most n) SpatialAtoms k m (omega arith)) (first_before (flaw k t) (arguments_flaw flaw span p ts) m (later (flaw k t) (k + span t) m (omega arith) (term_before k t)) (later (arguments_flaw flaw span p ts) (p + total span ts) m (omega arith) (listed_before (argument_flaw flaw span) span argument_before 0 p ts)))
 
   some_pures : (xs : List (PureTree T)) → 2 ≤ pures_span span xs
   some_pures [] = omega arith
@@ -87,29 +87,29 @@ module _ {T : Type 0} (flaw : ℕ → T → Found) (span : T → ℕ) (some_span
   pub some_heap_span : (h : Heap T) → 2 ≤ heap_span span h
   some_heap_span h = let s = some_pures h.pure in omega arith
 
-  module _ (hs : List Heading) where
-    spatial_before : (n k : ℕ) (x : Spatial T) → Before (spatial_flaw flaw span hs n k x) (k + spatial_span span x)
-    spatial_before n k (Cell t ts) = cell_before n k t ts
+  module _ (most : ℕ) (hs : List Heading) where
+    spatial_before : (n k : ℕ) (x : Spatial T) → Before (spatial_flaw flaw span most hs n k x) (k + spatial_span span x)
+    spatial_before n k (Cell t ts) = cell_before most n k t ts
     spatial_before n k (Predicate name ts) =
         let m = k + spatial_span span (Predicate name ts) in
         let known = use_flaw (arity_in hs name) (length ts) k in
-        first_before known (or_later (over_if (nat_le 16 n) SpatialAtoms k) (arguments_flaw flaw span (k + 2) ts)) m (use_before (arity_in hs name) (length ts) k m (omega arith)) (first_before (over_if (nat_le 16 n) SpatialAtoms k) (arguments_flaw flaw span (k + 2) ts) m (over_before (nat_le 16 n) SpatialAtoms k m (omega arith)) (later (arguments_flaw flaw span (k + 2) ts) (k + 2 + total_or 1 span ts) m (omega arith) (listed_or_before (argument_flaw flaw span) span 1 argument_before (k + 2) ts)))
+        first_before known (or_later (over_if (nat_le most n) SpatialAtoms k) (arguments_flaw flaw span (k + 2) ts)) m (use_before (arity_in hs name) (length ts) k m (omega arith)) (first_before (over_if (nat_le most n) SpatialAtoms k) (arguments_flaw flaw span (k + 2) ts) m (over_before (nat_le most n) SpatialAtoms k m (omega arith)) (later (arguments_flaw flaw span (k + 2) ts) (k + 2 + total_or 1 span ts) m (omega arith) (listed_or_before (argument_flaw flaw span) span 1 argument_before (k + 2) ts)))
 
-    pub heap_before : (k : ℕ) (h : Heap T) → Before (heap_flaw flaw span hs k h) (k + heap_span span h)
+    pub heap_before : (k : ℕ) (h : Heap T) → Before (heap_flaw flaw span most hs k h) (k + heap_span span h)
     heap_before k h =
         let m = k + heap_span span h in
         let p = k + pures_span span h.pure in
         let pures = listed_flaw (pure_flaw flaw span) (pure_span span) 0 k h.pure in
-        let spatials = listed_flaw (spatial_flaw flaw span hs) (spatial_span span) 0 p h.spatial in
-        first_before pures spatials m (later pures p m (omega arith) (listed_or_before (pure_flaw flaw span) (pure_span span) 2 pure_before k h.pure)) (later spatials (p + spatials_span span h.spatial) m (omega arith) (listed_or_before (spatial_flaw flaw span hs) (spatial_span span) 2 spatial_before p h.spatial))
+        let spatials = listed_flaw (spatial_flaw flaw span most hs) (spatial_span span) 0 p h.spatial in
+        first_before pures spatials m (later pures p m (omega arith) (listed_or_before (pure_flaw flaw span) (pure_span span) 2 pure_before k h.pure)) (later spatials (p + spatials_span span h.spatial) m (omega arith) (listed_or_before (spatial_flaw flaw span most hs) (spatial_span span) 2 spatial_before p h.spatial))
 
-    counted_before : (what : What) (n k : ℕ) (h : Heap T) → Before (counted_flaw flaw span hs what n k h) (k + heap_span span h)
+    counted_before : (what : What) (n k : ℕ) (h : Heap T) → Before (counted_flaw flaw span most hs what n k h) (k + heap_span span h)
     counted_before what n k h =
         let s = some_heap_span h in
-        first_before (over_if (nat_le 16 n) what k) (heap_flaw flaw span hs k h) (k + heap_span span h) (over_before (nat_le 16 n) what k (k + heap_span span h) (omega arith)) (heap_before k h)
+        first_before (over_if (nat_le 16 n) what k) (heap_flaw flaw span most hs k h) (k + heap_span span h) (over_before (nat_le 16 n) what k (k + heap_span span h) (omega arith)) (heap_before k h)
 
-    pub heaps_before : (what : What) (k : ℕ) (heaps : List (Heap T)) → Before (heaps_flaw flaw span hs what k heaps) (k + total (heap_span span) heaps)
-    heaps_before what k heaps = listed_before (counted_flaw flaw span hs what) (heap_span span) (counted_before what) 0 k heaps
+    pub heaps_before : (what : What) (k : ℕ) (heaps : List (Heap T)) → Before (heaps_flaw flaw span most hs what k heaps) (k + total (heap_span span) heaps)
+    heaps_before what k heaps = listed_before (counted_flaw flaw span most hs what) (heap_span span) (counted_before what) 0 k heaps
 
 -- ---- lines
 

@@ -60,15 +60,17 @@ module _ {T : Type 0} (flaw : ℕ → T → Found) (span : T → ℕ) where
   abbrev pub pure_flaw : ℕ → ℕ → PureTree T → Found
   pure_flaw n k x = or_later (over_if (nat_le 64 n) Pure k) (or_later (flaw k x.left) (flaw (k + span x.left) x.right))
 
-  abbrev pub cell_flaw : ℕ → ℕ → T → List T → Found
-  cell_flaw n k t ts = or_later (over_if (nat_le 16 n) SpatialAtoms k) (or_later (flaw k t) (arguments_flaw (k + span t + 1) ts))
+  -- a cell of a heap that has at most so many spatial atoms
+  abbrev pub cell_flaw : ℕ → ℕ → ℕ → T → List T → Found
+  cell_flaw most n k t ts = or_later (over_if (nat_le most n) SpatialAtoms k) (or_later (flaw k t) (arguments_flaw (k + span t + 1) ts))
 
-  module _ (hs : List Heading) where
-    -- at most sixteen; the name's flaws stand at the same token, and go first
+  -- heaps that have at most so many spatial atoms
+  module _ (most : ℕ) (hs : List Heading) where
+    -- the name's flaws stand at the same token as the limit's, and go first
     abbrev pub spatial_flaw : ℕ → ℕ → Spatial T → Found
-    spatial_flaw n k (Cell t ts) = cell_flaw n k t ts
+    spatial_flaw n k (Cell t ts) = cell_flaw most n k t ts
     spatial_flaw n k (Predicate name ts) =
-        or_later (use_flaw (arity_in hs name) (length ts) k) (or_later (over_if (nat_le 16 n) SpatialAtoms k) (arguments_flaw (k + 2) ts))
+        or_later (use_flaw (arity_in hs name) (length ts) k) (or_later (over_if (nat_le most n) SpatialAtoms k) (arguments_flaw (k + 2) ts))
 
     abbrev pub heap_flaw : ℕ → Heap T → Found
     heap_flaw k h =

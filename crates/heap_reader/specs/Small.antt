@@ -31,7 +31,7 @@ module _ {T : Type 0} (value : T → Term) where
     pub pure : Each IsSmallPure h.pure
     pub pure_few : length h.pure ≤ 64
     pub spatial : Each IsSmallSpatial h.spatial
-    pub spatial_few : length h.spatial ≤ 16
+    pub spatial_few : length h.spatial ≤ 32
 
 -- ---- lines
 

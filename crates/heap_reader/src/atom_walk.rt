@@ -80,17 +80,19 @@ pub fn pure_part<F: TermReader>(
     }
 }
 
+/// A cell of a heap that has at most so many spatial atoms.
 fn cell<F: TermReader>(
     form: &F,
+    most: u8,
     n: usize,
     at: usize,
     address: F::Term,
     fields: &[F::Term],
 ) -> Result<usize, Flaw>
     requires { at + spatial_span F.span (Cell address fields.now) < 2 ^ 64 }
-    ensures { IsWalk result (cell_flaw (F.flaw form.now) F.span n at address fields.now) (at + spatial_span F.span (Cell address fields.now)) }
+    ensures { IsWalk result (cell_flaw (F.flaw form.now) F.span most n at address fields.now) (at + spatial_span F.span (Cell address fields.now)) }
 {
-    if n >= 16 {
+    if n >= most as usize {
         return Err(over(What::Spatial, at));
     }
     let open = form.walk(at, address)?;
@@ -127,35 +129,37 @@ fn predicate_name(heads: &Heads<'_>, at: usize, name: &str, n: usize) -> Result<
 fn predicate<F: TermReader>(
     heads: &Heads<'_>,
     form: &F,
+    most: u8,
     n: usize,
     at: usize,
     name: &str,
     args: &[F::Term],
 ) -> Result<usize, Flaw>
     requires { at + spatial_span F.span (Predicate name.now args.now) < 2 ^ 64 }
-    ensures { IsWalk result (spatial_flaw (F.flaw form.now) F.span heads.now n at (Predicate name.now args.now)) (at + spatial_span F.span (Predicate name.now args.now)) }
+    ensures { IsWalk result (spatial_flaw (F.flaw form.now) F.span most heads.now n at (Predicate name.now args.now)) (at + spatial_span F.span (Predicate name.now args.now)) }
 {
     predicate_name(heads, at, name, args.len())?;
-    if n >= 16 {
+    if n >= most as usize {
         return Err(over(What::Spatial, at));
     }
     let behind = argument_part(form, at + 2, args)?;
     Ok(behind + 1)
 }
 
-/// A spatial atom before which so many stand.
+/// A spatial atom before which n stand, of a heap that has at most so many.
 pub fn spatial_atom<F: TermReader>(
     heads: &Heads<'_>,
     form: &F,
+    most: u8,
     n: usize,
     at: usize,
     tree: &SpatialTree<'_, F::Term>,
 ) -> Result<usize, Flaw>
     requires { at + spatial_span F.span (spatial_of tree.now) < 2 ^ 64 }
-    ensures { IsWalk result (spatial_flaw (F.flaw form.now) F.span heads.now n at (spatial_of tree.now)) (at + spatial_span F.span (spatial_of tree.now)) }
+    ensures { IsWalk result (spatial_flaw (F.flaw form.now) F.span most heads.now n at (spatial_of tree.now)) (at + spatial_span F.span (spatial_of tree.now)) }
 {
     match tree {
-        SpatialTree::Cell(address, fields) => cell(form, n, at, *address, fields),
-        SpatialTree::Predicate(name, args) => predicate(heads, form, n, at, name, args),
+        SpatialTree::Cell(address, fields) => cell(form, most, n, at, *address, fields),
+        SpatialTree::Predicate(name, args) => predicate(heads, form, most, n, at, name, args),
     }
 }

@@ -1,9 +1,15 @@
 -- The shared words are words that the lexer gives.
-use Rattle.std.proofs.Common.{◌≡◌, true, refl}
+use Rattle.std.proofs.Common.{◌≡◌, true, Some, refl}
 use Rattle.std.specs.Prelude.{codes}
 use Rattle.cyc_lex.specs.Word.{is_number_text, is_symbol_text, is_lexeme}
 use Rattle.cyc_lex.proofs.Letters.{letters-name}
-use Rattle.heap_syntax.specs.Words.{nil, true_word, emp, pred_word, or_word, last_word, cyclist_word, version}
+use Rattle.cyc_grammar.specs.Classes.{find_text}
+use Rattle.cyc_grammar.proofs.Laws.{ClassLaw}
+use Rattle.cyc_grammar.proofs.ClassLaws.{numeral_of-law}
+use Rattle.heap_syntax.specs.Words.{nil, true_word, emp, pred_word, or_word, last_word, cyclist_word}
+use Rattle.heap_syntax.specs.declared.version.Version.{Version}
+use Rattle.heap_syntax.specs.declared.version.Version.TheVariants.{One, Two}
+use Rattle.heap_syntax.specs.Versions.{version_text, versions, version}
 
 pub nil-word : is_lexeme (nil.word tt) ≡ true
 nil-word = letters-name (codes "nil") refl
@@ -26,9 +32,18 @@ last-word = letters-name (codes "end") refl
 pub cyclist-word : is_lexeme (cyclist_word.word tt) ≡ true
 cyclist-word = letters-name (codes "cyclist") refl
 
-pub version-word : is_lexeme (version.word tt) ≡ true
+-- the number of each version is a number that the lexer gives, and is read as that version
+pub version-word : (v : Version) → version.fits v → is_lexeme (version.word v) ≡ true
 unfolding is_number_text
-version-word = refl
+version-word One f = refl
+version-word Two f = refl
+
+pub version-law : ClassLaw version
+version-law = numeral_of-law version_text versions One found
+  where
+    found : (v : Version) → find_text version_text versions (version_text v) ≡ Some v
+    found One = refl
+    found Two = refl
 
 -- symbols are told from the list of all of them
 pub record AllSymbols : Type 0 where

@@ -1,7 +1,7 @@
 -- The words that all formats with heaps share, and those that are no names.
 use Rattle.std.specs.Prelude.{ℕ, List, [], ◌∷◌, codes}
 use Rattle.cyc_grammar.specs.Syntax.{Class}
-use Rattle.cyc_grammar.specs.Classes.{symbol, keyword, numeral, name}
+use Rattle.cyc_grammar.specs.Classes.{symbol, keyword, name}
 use Rattle.heap_syntax.specs.declared.mark.Mark.{Mark}
 use Rattle.heap_syntax.specs.declared.mark.Mark.TheVariants.{Symbol, Keyword}
 
@@ -25,9 +25,6 @@ last_word = keyword (codes "end")
 
 abbrev pub cyclist_word : Class (Unit {0})
 cyclist_word = keyword (codes "cyclist")
-
-abbrev pub version : Class (Unit {0})
-version = numeral (codes "1")
 
 abbrev pub equal : Class (Unit {0})
 equal = symbol (codes "=")

@@ -8,6 +8,7 @@ mod mark;
 mod read_atoms;
 mod read_heaps;
 mod tree;
+mod version;
 mod word;
 
 pub use form::{AtomForm, TermForm, WrittenForm};
@@ -16,4 +17,5 @@ pub use mark::Mark;
 pub use read_atoms::{arguments, fields, sign, spatial};
 pub use read_heaps::{heap, heaps};
 pub use tree::{HeapTree, PureTree, SpatialTree};
+pub use version::{Version, read_version, write_version};
 pub use word::{free_name, reserved_words};

@@ -3,6 +3,7 @@ use Rattle.std.specs.Prelude.{ℕ, List, map}
 use Rattle.std.specs.Borrow.{Bor}
 use Rattle.heap_syntax.specs.Trees as heaps
 pub use Rattle.heap_reader.specs.Trees.{spatial_of, heap_of}
+use Rattle.heap_syntax.specs.declared.version.Version.{Version}
 use Rattle.command_syntax.specs.declared.tree.LineTree.{LineTree}
 use Rattle.name_numbers.specs.declared.tree.NumberedTerm.{NumberedTerm}
 use Rattle.name_numbers.specs.declared.tree.NumberedDefinition.{NumberedDefinition}
@@ -29,6 +30,7 @@ pub data Goal : Type 0 where
   From : ℕ → Heap → Goal
 
 pub record Problem : Type 0 where
+  pub version : Version
   pub definitions : List Definition
   pub lines : List Line
   pub goal : Goal
@@ -46,4 +48,4 @@ goal_of (goals.Entailment h ds) = Entailment (heap_of h) (map heap_of ds.items)
 goal_of (goals.From n h) = From n (heap_of h)
 
 abbrev pub problem_of : NumberedProblem → Problem
-problem_of p = record { definitions = map definition_of p.definitions.items; lines = p.lines.items; goal = goal_of p.goal }
+problem_of p = record { version = p.version; definitions = map definition_of p.definitions.items; lines = p.lines.items; goal = goal_of p.goal }

@@ -82,4 +82,4 @@ universals p = firsts (program_names p.lines ++ goal_names p.goal)
 
 abbrev pub numbered : named.Problem → Problem
 numbered p =
-    record { definitions = map definition p.definitions; lines = map (line (program_variables p.lines)) p.lines; goal = goal (universals p) p.goal }
+    record { version = p.version; definitions = map definition p.definitions; lines = map (line (program_variables p.lines)) p.lines; goal = goal (universals p) p.goal }

@@ -115,6 +115,7 @@ pub fn number_problem<'a>(
     let universals = first_names(alloc, &with_goal_names(alloc, uses, &tree.goal)?)?;
     let goal = goal(alloc, &universals, &tree.goal)?;
     Ok(NumberedProblem {
+        version: tree.version,
         definitions,
         lines,
         goal,

@@ -1,5 +1,7 @@
 //! Trees of problem files with numbers in place of names.
 
+use heap_syntax::Version;
+
 /// A term: `nil`, or a variable with its number from 0. A variable has two tokens where it is primed, and else one.
 #[derive(Clone, Copy, Debug, PartialEq, Eq)]
 pub enum NumberedTerm {
@@ -33,6 +35,7 @@ pub enum NumberedGoal<'a> {
 /// A problem file.
 #[derive(Drop)]
 pub struct NumberedProblem<'a> {
+    pub version: Version,
     pub definitions: Vec<NumberedDefinition<'a>>,
     pub lines: Vec<command_syntax::LineTree<usize>>,
     pub goal: NumberedGoal<'a>,

@@ -67,6 +67,14 @@ impl Defs {
         self.most
     }
 
+    /// Sets the greatest number of spatial atoms of a heap, 16 or 32 by the format's version; takes no memory.
+    pub fn set_most(&mut self, most: u8)
+        requires { most ≤ 32 }
+        ensures { self.new ≡ record { most = most; list = self.old.list } }
+    {
+        self.most = most;
+    }
+
     /// The definitions in order.
     pub fn as_slice(&self) -> &[Def]
         ensures value { result.now ≡ self.now.list }

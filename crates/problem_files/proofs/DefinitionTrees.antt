@@ -40,19 +40,19 @@ use Rattle.heap_formula.proofs.Members.{each_from as each_at}
 
 -- ---- the trees fit
 
-case_heaps : (ds : List Definition) (arity : ℕ) (cs : List SymbolicHeap) → Each (IsCaseWithin ds arity) cs → Each (IsHeapWithin ds) cs
-case_heaps ds arity cs w = each_of (IsCaseWithin ds arity) (IsHeapWithin ds) (λ c x. x.heap) cs w
+case_heaps : (limit : ℕ) (ds : List Definition) (arity : ℕ) (cs : List SymbolicHeap) → Each (IsCaseWithin limit ds arity) cs → Each (IsHeapWithin limit ds) cs
+case_heaps limit ds arity cs w = each_of (IsCaseWithin limit ds arity) (IsHeapWithin limit ds) (λ c x. x.heap) cs w
 
-module _ (ds : List Definition) (free : HaveFreeNames ds) where
-  definition_fits : (d : Definition) → is_free_name reserved d.name ≡ true → IsDefinitionWithin ds d → grammar.definition.fits (definition_tree ds d)
+module _ (limit : ℕ) (ds : List Definition) (free : HaveFreeNames ds) where
+  definition_fits : (d : Definition) → is_free_name reserved d.name ≡ true → IsDefinitionWithin limit ds d → grammar.definition.fits (definition_tree ds d)
   unfolding grammar.definition grammar.cases
   definition_fits d named w =
       let few = w.arity in
-      (tt, (named, (omega arith, heaps_fit ds free grammar.bar grammar.closing_brace d.cases w.some_case (case_heaps ds d.arity d.cases w.cases))))
+      (tt, (named, (omega arith, heaps_fit limit ds free grammar.bar grammar.closing_brace d.cases w.some_case (case_heaps limit ds d.arity d.cases w.cases))))
 
-  pub definitions_fit : Each (IsDefinitionWithin ds) ds → fits_many grammar.definition (map (definition_tree ds) ds)
+  pub definitions_fit : Each (IsDefinitionWithin limit ds) ds → fits_many grammar.definition (map (definition_tree ds) ds)
   definitions_fit w =
-      many_fit grammar.definition (definition_tree ds) ds (each_at (λ d. grammar.definition.fits (definition_tree ds d)) ds (λ q d at. definition_fits d (free q d at) (Each-get (IsDefinitionWithin ds) ds q d at w)))
+      many_fit grammar.definition (definition_tree ds) ds (each_at (λ d. grammar.definition.fits (definition_tree ds d)) ds (λ q d at. definition_fits d (free q d at) (Each-get (IsDefinitionWithin limit ds) ds q d at w)))
 
 -- ---- the terms of a case have no flaw
 
@@ -75,8 +75,8 @@ term_flawless arity Nil below few k = refl
 term_flawless arity (Univ n) below few k = ap (λ (b : Bool). ill_if b Parameter (k + 1)) (lt-leb arity n (omega arith))
 term_flawless arity (Exist n) below few k = ap (λ (b : Bool). over_if b Locals (k + 1)) (le-ltb 15 n (omega arith))
 
-case_flawless : (ds : List Definition) (arity : ℕ) (c : SymbolicHeap) → IsCaseWithin ds arity c → InHeap (IsFlawless (term_flaw (InCase arity))) c
-case_flawless ds arity c w =
+case_flawless : (limit : ℕ) (ds : List Definition) (arity : ℕ) (c : SymbolicHeap) → IsCaseWithin limit ds arity c → InHeap (IsFlawless (term_flaw (InCase arity))) c
+case_flawless limit ds arity c w =
     in_heap_both (IsBelow arity) (λ t. exist_bound t ≤ 16) (IsFlawless (term_flaw (InCase arity))) (term_flawless arity) c (heap_below arity c w.parameters) (heap_opened 16 c w.locals)
 
 -- ---- no definition before has the name
@@ -104,7 +104,7 @@ none_at flaw span tree n k (x ∷ xs) h =
     subst (λ (m : ℕ). flaw m j (tree y) ≡ None) next (h (suc i) y at j))) in
     none_later (flaw n k (tree x)) (listed_flaw flaw span (suc n) (k + span (tree x)) (map tree xs)) first rest
 
-module _ (ds : List Definition) (few : length ds ≤ 4096) (own : HaveOwnNames ds) (w : Each (IsDefinitionWithin ds) ds) where
+module _ (limit : ℕ) (ds : List Definition) (few : length ds ≤ 4096) (own : HaveOwnNames ds) (w : Each (IsDefinitionWithin limit ds) ds) where
   head_flawless : (n k : ℕ) (d : Definition) → slice_get ds n ≡ Some d → d.arity ≤ 8 → head_flaw (heads_of ds ds) n k (definition_tree ds d) ≡ None
   head_flawless n k d at narrow =
       let within = slice_get_within ds n d at in
@@ -116,19 +116,19 @@ module _ (ds : List Definition) (few : length ds ≤ 4096) (own : HaveOwnNames d
       let last = ap (λ (b : Bool). over_if b Arguments (k + 3)) (le-ltb 8 d.arity narrow) in
       none_later (over_if (nat_le 4096 n) Predicates k) _ first (none_later (ill_if (is_some (arity_in (take n (heads_of ds ds)) d.name)) Duplicate (k + 1)) (over_if (nat_lt 8 d.arity) Arguments (k + 3)) not_taken last)
 
-  definition_flawless : (n k : ℕ) (d : Definition) → slice_get ds n ≡ Some d → IsDefinitionWithin ds d → definition_flaw (heads_of ds ds) n k (definition_tree ds d) ≡ None
+  definition_flawless : (n k : ℕ) (d : Definition) → slice_get ds n ≡ Some d → IsDefinitionWithin limit ds d → definition_flaw limit (heads_of ds ds) n k (definition_tree ds d) ≡ None
   definition_flawless n k d at x =
       let scope = InCase d.arity in
-      let cases = heaps_flawless (term_flaw scope) term_span ds own (few_parameters ds ds w) Cases d.cases x.few (case_heaps ds d.arity d.cases x.cases) (each_of (IsCaseWithin ds d.arity) (InHeap (IsFlawless (term_flaw scope))) (case_flawless ds d.arity) d.cases x.cases) (k + 6) in
-      none_later (head_flaw (heads_of ds ds) n k (definition_tree ds d)) (heaps_flaw (term_flaw scope) term_span (heads_of ds ds) Cases (k + 6) (map (heap_tree ds) d.cases)) (head_flawless n k d at x.arity) cases
+      let cases = heaps_flawless (term_flaw scope) term_span limit ds own (few_parameters limit ds ds w) Cases d.cases x.few (case_heaps limit ds d.arity d.cases x.cases) (each_of (IsCaseWithin limit ds d.arity) (InHeap (IsFlawless (term_flaw scope))) (case_flawless limit ds d.arity) d.cases x.cases) (k + 6) in
+      none_later (head_flaw (heads_of ds ds) n k (definition_tree ds d)) (heaps_flaw (term_flaw scope) term_span limit (heads_of ds ds) Cases (k + 6) (map (heap_tree ds) d.cases)) (head_flawless n k d at x.arity) cases
 
-  pub definitions_flawless : listed_flaw (definition_flaw (heads_of ds ds)) definition_span 0 4 (map (definition_tree ds) ds) ≡ None
+  pub definitions_flawless : listed_flaw (definition_flaw limit (heads_of ds ds)) definition_span 0 4 (map (definition_tree ds) ds) ≡ None
   definitions_flawless =
-      none_at (definition_flaw (heads_of ds ds)) definition_span (definition_tree ds) 0 4 ds (λ i d at j. (
+      none_at (definition_flaw limit (heads_of ds ds)) definition_span (definition_tree ds) 0 4 ds (λ i d at j. (
       let here : i ≡ 0 + i = omega arith in
-      subst (λ (n : ℕ). definition_flaw (heads_of ds ds) n j (definition_tree ds d) ≡ None) here (definition_flawless i j d at (Each-get (IsDefinitionWithin ds) ds i d at w))))
+      subst (λ (n : ℕ). definition_flaw limit (heads_of ds ds) n j (definition_tree ds d) ≡ None) here (definition_flawless i j d at (Each-get (IsDefinitionWithin limit ds) ds i d at w))))
 
 -- ---- their cases are few
 
-pub few_cases : (ds xs : List Definition) → Each (IsDefinitionWithin ds) xs → all_have_few_cases xs ≡ true
-few_cases ds xs w = all_true has_few_cases xs (each_of (IsDefinitionWithin ds) (λ d. has_few_cases d ≡ true) (λ d x. le-leb (length d.cases) 16 x.few) xs w)
+pub few_cases : (limit : ℕ) (ds xs : List Definition) → Each (IsDefinitionWithin limit ds) xs → all_have_few_cases xs ≡ true
+few_cases limit ds xs w = all_true has_few_cases xs (each_of (IsDefinitionWithin limit ds) (λ d. has_few_cases d ≡ true) (λ d x. le-leb (length d.cases) 16 x.few) xs w)

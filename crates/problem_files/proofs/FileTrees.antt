@@ -5,6 +5,8 @@ use Rattle.heap_formula.specs.Definitions.{Definition}
 use Rattle.heap_formula.specs.Words.{Each}
 use Rattle.goto_lang.specs.Lines.{IsProgram}
 use Rattle.format_limits.specs.Limits.{IsDefinitionWithin}
+use Rattle.heap_syntax.specs.declared.version.Version.{Version}
+use Rattle.heap_syntax.specs.Versions.{most_spatial}
 use Rattle.heap_reader.specs.Flaws.{or_later, listed_flaw}
 use Rattle.proof_syntax.specs.Grammar as grammar
 use Rattle.proof_file.specs.declared.node.FileNode.{FileNode}
@@ -19,17 +21,19 @@ use Rattle.problem_files.proofs.DefinitionTrees.{definitions_fit, definitions_fl
 use Rattle.problem_files.proofs.NodesFit.{nodes_fit}
 use Rattle.problem_files.proofs.NodesFlawless.{nodes_flawless}
 
-module _ (ds : List Definition) (cs : List Command) (ns : List FileNode) (w : Each (IsDefinitionWithin ds) ds) (program : IsProgram cs) (nodes : Each (IsNodeWithin ds (length cs)) ns) where
-  pub file_fits : HaveFreeNames ds → 0 < length ns → grammar.file.fits (tree_of ds cs ns)
+module _ (version : Version) (limit : ℕ) (same : limit ≡ most_spatial version) (ds : List Definition) (cs : List Command) (ns : List FileNode) (w : Each (IsDefinitionWithin limit ds) ds) (program : IsProgram cs) (nodes : Each (IsNodeWithin limit ds (length cs)) ns) where
+  pub file_fits : HaveFreeNames ds → 0 < length ns → grammar.file.fits (tree_of version ds cs ns)
   unfolding grammar.file grammar.body grammar.definitions
   file_fits free some =
-      (tt, (definitions_fit ds free w, (program_fits cs program, nodes_fit ds (length cs) free program.few_lines ns some nodes)))
+      (tt, (tt, (definitions_fit limit ds free w, (program_fits cs program, nodes_fit limit ds (length cs) free program.few_lines ns some nodes))))
 
-  pub file_flawless : HaveOwnNames ds → length ds ≤ 4096 → length ns ≤ 20000 → file_flaw (tree_of ds cs ns) ≡ None
+  pub file_flawless : HaveOwnNames ds → length ds ≤ 4096 → length ns ≤ 20000 → file_flaw (tree_of version ds cs ns) ≡ None
   file_flawless own few most =
-      let file = tree_of ds cs ns in
+      let file = tree_of version ds cs ns in
       let hs = heads_of ds ds in
-      let first = definitions_flawless ds few own w in
+      let first = definitions_flawless limit ds few own w in
       let second = program_flawless cs program (first_line file) in
-      let third = subst (λ (count : ℕ). listed_flaw (node_flaw hs count) node_span 0 (first_node file) (map (node_tree ds) ns) ≡ None) (sym (lines_long 0 cs)) (nodes_flawless ds (length cs) own (few_parameters ds ds w) ns most nodes (first_node file)) in
-      none_later (listed_flaw (definition_flaw hs) definition_span 0 4 file.definitions) (or_later (program_flaw (first_line file) file.lines) (nodes_flaw file)) first (none_later (program_flaw (first_line file) file.lines) (nodes_flaw file) second third)
+      let third = subst (λ (count : ℕ). listed_flaw (node_flaw limit hs count) node_span 0 (first_node file) (map (node_tree ds) ns) ≡ None) (sym (lines_long 0 cs)) (nodes_flawless limit ds (length cs) own (few_parameters limit ds ds w) ns most nodes (first_node file)) in
+      let first_here = subst (λ (most : ℕ). listed_flaw (definition_flaw most hs) definition_span 0 4 file.definitions ≡ None) same first in
+      let third_here = subst (λ (most : ℕ). listed_flaw (node_flaw most hs (length file.lines)) node_span 0 (first_node file) file.nodes ≡ None) same third in
+      none_later (listed_flaw (definition_flaw (most_spatial version) hs) definition_span 0 4 file.definitions) (or_later (program_flaw (first_line file) file.lines) (nodes_flaw file)) first_here (none_later (program_flaw (first_line file) file.lines) (nodes_flaw file) second third_here)

@@ -50,7 +50,7 @@ module _ (P Q R : Term → Type 0) (g : (t : Term) → P t → Q t → R t) wher
 abbrev pub HeapFits : List Definition → Bool → SymbolicHeap → Type 0
 HeapFits ds universal a = (grammar.heap (grammar.terms universal)).fits (heap_tree ds a)
 
-module _ (ds : List Definition) (free : HaveFreeNames ds) where
+module _ (limit : ℕ) (ds : List Definition) (free : HaveFreeNames ds) where
   module _ (universal : Bool) where
     pure_fits : (x : Pure) → InPure (TermFits universal) x → (grammar.pure (grammar.terms universal)).fits (pure_tree x)
     unfolding shared.pure shared.sign
@@ -83,21 +83,21 @@ module _ (ds : List Definition) (free : HaveFreeNames ds) where
     spatials_fit (x ∷ xs) s f =
         (tt, list_fits (grammar.spatial (grammar.terms universal)) (spatial_tree ds) grammar.some_spatial grammar.star (x ∷ xs) (omega arith) (each_of_both (IsShaped ds) (InSpatial (TermFits universal)) (λ y. (grammar.spatial (grammar.terms universal)).fits (spatial_tree ds y)) spatial_fits (x ∷ xs) s f))
 
-    pub heap_fits : (a : SymbolicHeap) → IsHeapWithin ds a → InHeap (MayStand universal) a → HeapFits ds universal a
+    pub heap_fits : (a : SymbolicHeap) → IsHeapWithin limit ds a → InHeap (MayStand universal) a → HeapFits ds universal a
     unfolding shared.heap
     heap_fits a w m =
-        let s = small ds a w in
+        let s = small limit ds a w in
         let terms = in_heap_both IsLow (MayStand universal) (TermFits universal) (term_fits universal) a s.low m in
         (tt, (pures_fit a.pure terms.0, spatials_fit a.spatial s.shaped terms.1))
 
   -- outside antecedents and states any term may stand
-  pub any_heap_fits : (a : SymbolicHeap) → IsHeapWithin ds a → HeapFits ds false a
+  pub any_heap_fits : (a : SymbolicHeap) → IsHeapWithin limit ds a → HeapFits ds false a
   any_heap_fits a w = heap_fits false a w (any_heap a)
 
   -- disjuncts and cases
-  pub heaps_fit : (between behind : Class (Unit {0})) (heaps : List SymbolicHeap) → 0 < length heaps → Each (IsHeapWithin ds) heaps → (grammar.heaps between behind).fits (map (heap_tree ds) heaps)
+  pub heaps_fit : (between behind : Class (Unit {0})) (heaps : List SymbolicHeap) → 0 < length heaps → Each (IsHeapWithin limit ds) heaps → (grammar.heaps between behind).fits (map (heap_tree ds) heaps)
   heaps_fit between behind heaps some w =
-      listed_fits (grammar.heap (grammar.terms false)) (heap_tree ds) grammar.some_heap between behind heaps some (each_of (IsHeapWithin ds) (HeapFits ds false) any_heap_fits heaps w)
+      listed_fits (grammar.heap (grammar.terms false)) (heap_tree ds) grammar.some_heap between behind heaps some (each_of (IsHeapWithin limit ds) (HeapFits ds false) any_heap_fits heaps w)
 
 -- ---- heaps without a flaw
 
@@ -116,28 +116,28 @@ module _ (flaw : ℕ → TermTree → Found) (span : TermTree → ℕ) where
   pure_flawless n k (Neq t u) below g =
       none_later (over_if (nat_le 64 n) PureAtoms k) _ (over_none n 64 PureAtoms k below) (none_later (flaw k (term_tree t)) _ (g.0 k) (g.1 (k + span (term_tree t))))
 
-  module _ (ds : List Definition) (own : HaveOwnNames ds) (few : HaveFewParameters ds) where
-    spatial_flawless : (n k : ℕ) (x : Spatial) → n < 16 → IsShaped ds x → InSpatial (IsFlawless flaw) x → spatial_flaw flaw span (heads_of ds ds) n k (spatial_tree ds x) ≡ None
+  module _ (limit : ℕ) (ds : List Definition) (own : HaveOwnNames ds) (few : HaveFewParameters ds) where
+    spatial_flawless : (n k : ℕ) (x : Spatial) → n < limit → IsShaped ds x → InSpatial (IsFlawless flaw) x → spatial_flaw flaw span limit (heads_of ds ds) n k (spatial_tree ds x) ≡ None
     spatial_flawless n k (Cell t ts) below s g =
-        none_later (over_if (nat_le 16 n) SpatialAtoms k) _ (over_none n 16 SpatialAtoms k below) (none_later (flaw k (term_tree t)) _ (g.0 k) (arguments_flawless ts s.1.1 g.1 (k + span (term_tree t) + 1)))
+        none_later (over_if (nat_le limit n) SpatialAtoms k) _ (over_none n limit SpatialAtoms k below) (none_later (flaw k (term_tree t)) _ (g.0 k) (arguments_flawless ts s.1.1 g.1 (k + span (term_tree t) + 1)))
     spatial_flawless n k (Pred q ts) below s g =
         let same = length-map ts term_tree in
         let known = no_use_flaw ds q (length ts) s.0 own k in
         let fine = subst (λ m. use_flaw (arity_in (heads_of ds ds) (name_of ds q)) m k ≡ None) (sym same) known in
-        none_later (use_flaw (arity_in (heads_of ds ds) (name_of ds q)) (length (map term_tree ts)) k) _ fine (none_later (over_if (nat_le 16 n) SpatialAtoms k) _ (over_none n 16 SpatialAtoms k below) (arguments_flawless ts (used_with_few ds q (length ts) s.0 few) g (k + 2)))
+        none_later (use_flaw (arity_in (heads_of ds ds) (name_of ds q)) (length (map term_tree ts)) k) _ fine (none_later (over_if (nat_le limit n) SpatialAtoms k) _ (over_none n limit SpatialAtoms k below) (arguments_flawless ts (used_with_few ds q (length ts) s.0 few) g (k + 2)))
 
-    pub heap_flawless : (a : SymbolicHeap) → IsHeapWithin ds a → InHeap (IsFlawless flaw) a → (k : ℕ) → heap_flaw flaw span (heads_of ds ds) k (heap_tree ds a) ≡ None
+    pub heap_flawless : (a : SymbolicHeap) → IsHeapWithin limit ds a → InHeap (IsFlawless flaw) a → (k : ℕ) → heap_flaw flaw span limit (heads_of ds ds) k (heap_tree ds a) ≡ None
     heap_flawless a w g k =
-        let s = small ds a w in
+        let s = small limit ds a w in
         let pures = s.pures in
         let spatials = s.spatials in
         let shaped = each_of_both (IsShaped ds) (InSpatial (IsFlawless flaw)) (λ x. IsShaped ds x × InSpatial (IsFlawless flaw) x) (λ x p q. (p, q)) a.spatial s.shaped g.1 in
         let first = none_listed (pure_flaw flaw span) (pure_span span) pure_tree (InPure (IsFlawless flaw)) 64 pure_flawless 0 k a.pure (omega arith) g.0 in
-        let second = none_listed (spatial_flaw flaw span (heads_of ds ds)) (spatial_span span) (spatial_tree ds) (λ x. IsShaped ds x × InSpatial (IsFlawless flaw) x) 16 (λ n j x below b. spatial_flawless n j x below b.0 b.1) 0 (k + pures_span span (map pure_tree a.pure)) a.spatial (omega arith) shaped in
+        let second = none_listed (spatial_flaw flaw span limit (heads_of ds ds)) (spatial_span span) (spatial_tree ds) (λ x. IsShaped ds x × InSpatial (IsFlawless flaw) x) limit (λ n j x below b. spatial_flawless n j x below b.0 b.1) 0 (k + pures_span span (map pure_tree a.pure)) a.spatial (omega arith) shaped in
         none_later _ _ first second
 
     -- at most sixteen disjuncts or cases
-    pub heaps_flawless : (what : What) (heaps : List SymbolicHeap) → length heaps ≤ 16 → Each (IsHeapWithin ds) heaps → Each (InHeap (IsFlawless flaw)) heaps → (k : ℕ) → heaps_flaw flaw span (heads_of ds ds) what k (map (heap_tree ds) heaps) ≡ None
+    pub heaps_flawless : (what : What) (heaps : List SymbolicHeap) → length heaps ≤ 16 → Each (IsHeapWithin limit ds) heaps → Each (InHeap (IsFlawless flaw)) heaps → (k : ℕ) → heaps_flaw flaw span limit (heads_of ds ds) what k (map (heap_tree ds) heaps) ≡ None
     heaps_flawless what heaps most w g k =
-        let both = each_of_both (IsHeapWithin ds) (InHeap (IsFlawless flaw)) (λ a. IsHeapWithin ds a × InHeap (IsFlawless flaw) a) (λ a p q. (p, q)) heaps w g in
-        none_listed (counted_flaw flaw span (heads_of ds ds) what) (heap_span span) (heap_tree ds) (λ a. IsHeapWithin ds a × InHeap (IsFlawless flaw) a) 16 (λ n j a below b. none_later (over_if (nat_le 16 n) what j) _ (over_none n 16 what j below) (heap_flawless a b.0 b.1 j)) 0 k heaps (omega arith) both
+        let both = each_of_both (IsHeapWithin limit ds) (InHeap (IsFlawless flaw)) (λ a. IsHeapWithin limit ds a × InHeap (IsFlawless flaw) a) (λ a p q. (p, q)) heaps w g in
+        none_listed (counted_flaw flaw span limit (heads_of ds ds) what) (heap_span span) (heap_tree ds) (λ a. IsHeapWithin limit ds a × InHeap (IsFlawless flaw) a) 16 (λ n j a below b. none_later (over_if (nat_le 16 n) what j) _ (over_none n 16 what j below) (heap_flawless a b.0 b.1 j)) 0 k heaps (omega arith) both

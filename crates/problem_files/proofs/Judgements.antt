@@ -36,23 +36,23 @@ use Rattle.problem_files.proofs.Heaps.{in_heap_both, heap_fits, heaps_fit, heap_
 -- ---- heaps outside definitions
 
 -- no term of the heap has a flaw
-low_flawless : (ds : List Definition) (a : SymbolicHeap) → IsHeapWithin ds a → InHeap (IsFlawless (term_flaw InNode)) a
-low_flawless ds a w =
-    let low = (small ds a w).low in
+low_flawless : (limit : ℕ) (ds : List Definition) (a : SymbolicHeap) → IsHeapWithin limit ds a → InHeap (IsFlawless (term_flaw InNode)) a
+low_flawless limit ds a w =
+    let low = (small limit ds a w).low in
     in_heap_both IsLow IsLow (IsFlawless (term_flaw InNode)) (λ t b _. term_flawless t b) a low low
 
-pub node_heap_flawless : (ds : List Definition) → HaveOwnNames ds → HaveFewParameters ds → (a : SymbolicHeap) → IsHeapWithin ds a → (k : ℕ) → heap_flaw (term_flaw InNode) term_span (heads_of ds ds) k (heap_tree ds a) ≡ None
-node_heap_flawless ds own few a w = heap_flawless (term_flaw InNode) term_span ds own few a w (low_flawless ds a w)
+pub node_heap_flawless : (limit : ℕ) (ds : List Definition) → HaveOwnNames ds → HaveFewParameters ds → (a : SymbolicHeap) → IsHeapWithin limit ds a → (k : ℕ) → heap_flaw (term_flaw InNode) term_span limit (heads_of ds ds) k (heap_tree ds a) ≡ None
+node_heap_flawless limit ds own few a w = heap_flawless (term_flaw InNode) term_span limit ds own few a w (low_flawless limit ds a w)
 
 -- ---- judgements
 
-module _ (ds : List Definition) (count : ℕ) where
-  pub judgement_fits : HaveFreeNames ds → count ≤ 4096 → (j : Judgement) → IsJudgementWithin ds count j → grammar.judgement.fits (judgement_tree ds j)
+module _ (limit : ℕ) (ds : List Definition) (count : ℕ) where
+  pub judgement_fits : HaveFreeNames ds → count ≤ 4096 → (j : Judgement) → IsJudgementWithin limit ds count j → grammar.judgement.fits (judgement_tree ds j)
   unfolding grammar.judgement grammar.entailment grammar.state grammar.disjuncts
   judgement_fits free most (Entail a bs) w =
-      (tt, (tt, (heap_fits ds free true a w.heaps.0 w.universal, heaps_fit ds free grammar.or_word grammar.by_word bs w.form.0 w.heaps.1)))
+      (tt, (tt, (heap_fits limit ds free true a w.heaps.0 w.universal, heaps_fit limit ds free grammar.or_word grammar.by_word bs w.form.0 w.heaps.1)))
   judgement_fits free most (Runs i a) w =
-      let last = w.form.1 in (tt, (omega arith, heap_fits ds free true a w.heaps.0 w.universal))
+      let last = w.form.1 in (tt, (omega arith, heap_fits limit ds free true a w.heaps.0 w.universal))
 
   line_there : (i k : ℕ) → IsLineOf count i → ill_if (nat_eq i 0 || nat_lt count i) NoLine k ≡ None
   line_there i k l =
@@ -60,13 +60,13 @@ module _ (ds : List Definition) (count : ℕ) where
       let positive : nat_eq i 0 ≡ false = ne_eqb i 0 (λ e. omega (arith, e)) in
       rw (positive, le-ltb count i l.1) refl
 
-  pub judgement_flawless : HaveOwnNames ds → HaveFewParameters ds → (j : Judgement) → IsJudgementWithin ds count j → (k : ℕ) → judgement_flaw (heads_of ds ds) count k (judgement_tree ds j) ≡ None
+  pub judgement_flawless : HaveOwnNames ds → HaveFewParameters ds → (j : Judgement) → IsJudgementWithin limit ds count j → (k : ℕ) → judgement_flaw limit (heads_of ds ds) count k (judgement_tree ds j) ≡ None
   judgement_flawless own few (Entail a bs) w k =
-      none_later _ _ (node_heap_flawless ds own few a w.heaps.0 k) (heaps_flawless (term_flaw InNode) term_span ds own few Disjuncts bs w.form.1 w.heaps.1 (each_of (IsHeapWithin ds) (InHeap (IsFlawless (term_flaw InNode))) (low_flawless ds) bs w.heaps.1) (k + heap_span term_span (heap_tree ds a)))
+      none_later _ _ (node_heap_flawless limit ds own few a w.heaps.0 k) (heaps_flawless (term_flaw InNode) term_span limit ds own few Disjuncts bs w.form.1 w.heaps.1 (each_of (IsHeapWithin limit ds) (InHeap (IsFlawless (term_flaw InNode))) (low_flawless limit ds) bs w.heaps.1) (k + heap_span term_span (heap_tree ds a)))
   judgement_flawless own few (Runs i a) w k =
-      none_later _ _ (line_there i (k + 1) w.form) (node_heap_flawless ds own few a w.heaps.0 (k + 3))
+      none_later _ _ (line_there i (k + 1) w.form) (node_heap_flawless limit ds own few a w.heaps.0 (k + 3))
 
-  pub judgement_at_line : (j : Judgement) → IsJudgementWithin ds count j → is_at_line count j ≡ true
+  pub judgement_at_line : (j : Judgement) → IsJudgementWithin limit ds count j → is_at_line count j ≡ true
   judgement_at_line (Entail a bs) w = refl
   judgement_at_line (Runs i a) w =
       and_from (nat_lt 0 i) (nat_le i count) (lt-ltb 0 i w.form.0) (le-leb i count w.form.1)

@@ -28,11 +28,11 @@ use Rattle.problem_files.proofs.Names.{HaveFreeNames, HaveOwnNames}
 
 -- the definitions, the program and the goal are within the limits of a proof file, and each predicate has a free name of
 -- its own
-pub record IsKept (ds : List Definition) (lines : List Command) (goal : Judgement) : Type 0 where
+pub record IsKept (limit : ℕ) (ds : List Definition) (lines : List Command) (goal : Judgement) : Type 0 where
   pub few : length ds ≤ 4096
-  pub definitions : Each (IsDefinitionWithin ds) ds
+  pub definitions : Each (IsDefinitionWithin limit ds) ds
   pub program : IsProgram lines
-  pub judgement : IsJudgementWithin ds (length lines) goal
+  pub judgement : IsJudgementWithin limit ds (length lines) goal
   pub free : HaveFreeNames ds
   pub own : HaveOwnNames ds
 
@@ -102,40 +102,40 @@ form_prop : (count : ℕ) (j : Judgement) → IsProp (IsFormWithin count j)
 form_prop count (Entail a bs) = ×_prop le_prop le_prop
 form_prop count (Runs i a) = ×_prop le_prop le_prop
 
-module _ (ds : List Definition) where
-  heap_prop : (a : SymbolicHeap) → IsProp (IsHeapWithin ds a)
+module _ (limit : ℕ) (ds : List Definition) where
+  heap_prop : (a : SymbolicHeap) → IsProp (IsHeapWithin limit ds a)
   heap_prop a p q = λ i. record {
-    short = true_prop (is_short 16 a) p.short q.short i;
+    short = true_prop (is_short limit a) p.short q.short i;
     numbers = true_prop (has_numbers a) p.numbers q.numbers i;
     known = none_prop (case_fault ds a) p.known q.known i;
     fields = each_prop HasFields fields_prop a.spatial p.fields q.fields i;
   }
 
-  judgement_prop : (count : ℕ) (j : Judgement) → IsProp (IsJudgementWithin ds count j)
+  judgement_prop : (count : ℕ) (j : Judgement) → IsProp (IsJudgementWithin limit ds count j)
   judgement_prop count j p q = λ i. record {
-    heaps = each_prop (IsHeapWithin ds) heap_prop (heaps_of j) p.heaps q.heaps i;
+    heaps = each_prop (IsHeapWithin limit ds) heap_prop (heaps_of j) p.heaps q.heaps i;
     universal = ×_prop (each_prop (InPure IsUniversal) pure_prop (antecedent j).pure) (each_prop (InSpatial IsUniversal) spatial_prop (antecedent j).spatial) p.universal q.universal i;
     form = form_prop count j p.form q.form i;
   }
 
-  case_prop : (arity : ℕ) (c : SymbolicHeap) → IsProp (IsCaseWithin ds arity c)
+  case_prop : (arity : ℕ) (c : SymbolicHeap) → IsProp (IsCaseWithin limit ds arity c)
   case_prop arity c p q =
       λ i. record { heap = heap_prop c p.heap q.heap i; parameters = le_prop p.parameters q.parameters i; locals = le_prop p.locals q.locals i }
 
-  definition_prop : (d : Definition) → IsProp (IsDefinitionWithin ds d)
+  definition_prop : (d : Definition) → IsProp (IsDefinitionWithin limit ds d)
   definition_prop d p q = λ i. record {
     arity = le_prop p.arity q.arity i;
     some_case = le_prop p.some_case q.some_case i;
     few = le_prop p.few q.few i;
-    cases = each_prop (IsCaseWithin ds d.arity) (case_prop d.arity) d.cases p.cases q.cases i;
+    cases = each_prop (IsCaseWithin limit ds d.arity) (case_prop d.arity) d.cases p.cases q.cases i;
   }
 
-pub kept_prop : (ds : List Definition) (lines : List Command) (goal : Judgement) → IsProp (IsKept ds lines goal)
-kept_prop ds lines goal p q = λ i. record {
+pub kept_prop : (limit : ℕ) (ds : List Definition) (lines : List Command) (goal : Judgement) → IsProp (IsKept limit ds lines goal)
+kept_prop limit ds lines goal p q = λ i. record {
   few = le_prop p.few q.few i;
-  definitions = each_prop (IsDefinitionWithin ds) (definition_prop ds) ds p.definitions q.definitions i;
+  definitions = each_prop (IsDefinitionWithin limit ds) (definition_prop limit ds) ds p.definitions q.definitions i;
   program = program_prop lines p.program q.program i;
-  judgement = judgement_prop ds (length lines) goal p.judgement q.judgement i;
+  judgement = judgement_prop limit ds (length lines) goal p.judgement q.judgement i;
   free = λ n d at. true_prop (is_free_name reserved d.name) (p.free n d at) (q.free n d at) i;
   own = λ m n d e at_m at_n same. Coded-set coded_ℕ m n (p.own m n d e at_m at_n same) (q.own m n d e at_m at_n same) i;
 }

@@ -5,6 +5,7 @@ use Rattle.std.proofs.lemmas.Bool.{and_from}
 use Rattle.heap_formula.specs.Words.{Each}
 use Rattle.cyc_grammar.specs.Syntax.{Syntax, Class, after, list1, fits_many}
 use Rattle.heap_syntax.specs.Grammar as shared
+pub use Rattle.heap_reader.proofs.NoFlaw.{none_later}
 use Rattle.heap_reader.specs.Flaws.{Found, or_later, listed_flaw}
 
 -- ---- members
@@ -35,9 +36,6 @@ module _ {X Y : Type 0} (a : Syntax Y) (tree : X → Y) where
   listed_fits d c behind (x ∷ xs) some e = (omega arith, (e.0, behind_fit c xs e.1))
 
 -- ---- members without a flaw
-
-pub none_later : (a b : Found) → a ≡ None → b ≡ None → or_later a b ≡ None
-none_later a b e f = ap (λ (o : Found). or_later o b) e ∙ f
 
 -- at most so many members, each without a flaw at such a place
 pub none_listed : {X Y : Type 0} (flaw : ℕ → ℕ → Y → Found) (span : Y → ℕ) (tree : X → Y) (P : X → Type 0) (most : ℕ) → ((n k : ℕ) (x : X) → n < most → P x → flaw n k (tree x) ≡ None) → (n k : ℕ) (xs : List X) → n + length xs ≤ most → Each P xs → listed_flaw flaw span n k (map tree xs) ≡ None

@@ -31,8 +31,8 @@ HaveOwnNames ds =
 abbrev pub HaveFewParameters : List Definition → Type 0
 HaveFewParameters ds = (q : ℕ) (d : Definition) → slice_get ds q ≡ Some d → d.arity ≤ 8
 
-pub few_parameters : (ds xs : List Definition) → Each (IsDefinitionWithin ds) xs → HaveFewParameters xs
-few_parameters ds xs e q d at = (Each-get (IsDefinitionWithin ds) xs q d at e).arity
+pub few_parameters : (limit : ℕ) (ds xs : List Definition) → Each (IsDefinitionWithin limit ds) xs → HaveFewParameters xs
+few_parameters limit ds xs e q d at = (Each-get (IsDefinitionWithin limit ds) xs q d at e).arity
 
 -- the names and arities of some definitions' trees
 abbrev pub heads_of : List Definition → List Definition → List Heading

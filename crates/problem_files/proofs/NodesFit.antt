@@ -15,26 +15,26 @@ use Rattle.problem_files.proofs.Names.{HaveFreeNames}
 use Rattle.problem_files.proofs.Judgements.{judgement_fits, judgement_at_line, heap_readable}
 use Rattle.problem_files.proofs.Reasons.{reason_fits, premises_fit, reason_readable}
 
-module _ (ds : List Definition) (count : ℕ) where
-  node_fits : HaveFreeNames ds → count ≤ 4096 → (n : FileNode) → IsNodeWithin ds count n → grammar.node.fits (node_tree ds n)
+module _ (limit : ℕ) (ds : List Definition) (count : ℕ) where
+  node_fits : HaveFreeNames ds → count ≤ 4096 → (n : FileNode) → IsNodeWithin limit ds count n → grammar.node.fits (node_tree ds n)
   unfolding grammar.node
   node_fits free most n w =
-      (tt, (judgement_fits ds count free most n.judgement w.judgement, (reason_fits ds free n.reason w.reason w.numbers, premises_fit n.premises w.premises)))
+      (tt, (judgement_fits limit ds count free most n.judgement w.judgement, (reason_fits limit ds free n.reason w.reason w.numbers, premises_fit n.premises w.premises)))
 
-  pub nodes_fit : HaveFreeNames ds → count ≤ 4096 → (ns : List FileNode) → 0 < length ns → Each (IsNodeWithin ds count) ns → grammar.nodes.fits (map (node_tree ds) ns)
+  pub nodes_fit : HaveFreeNames ds → count ≤ 4096 → (ns : List FileNode) → 0 < length ns → Each (IsNodeWithin limit ds count) ns → grammar.nodes.fits (map (node_tree ds) ns)
   unfolding grammar.nodes grammar.more_nodes
   nodes_fit free most [] some w = absurd (omega (arith, some))
   nodes_fit free most (n ∷ ns) some w =
-      let each = each_of (IsNodeWithin ds count) (λ m. grammar.node.fits (node_tree ds m)) (node_fits free most) (n ∷ ns) w in
+      let each = each_of (IsNodeWithin limit ds count) (λ m. grammar.node.fits (node_tree ds m)) (node_fits free most) (n ∷ ns) w in
       (omega arith, (each.0, many_fit grammar.node (node_tree ds) ns each.1))
 
-  node_readable : (n : FileNode) → IsNodeWithin ds count n → is_readable n ≡ true
+  node_readable : (n : FileNode) → IsNodeWithin limit ds count n → is_readable n ≡ true
   node_readable n w =
-      and_from (is_universal_heap (antecedent n.judgement)) (is_universal_reason n.reason) (heap_readable (antecedent n.judgement) w.judgement.universal) (reason_readable ds n.reason w.reason)
+      and_from (is_universal_heap (antecedent n.judgement)) (is_universal_reason n.reason) (heap_readable (antecedent n.judgement) w.judgement.universal) (reason_readable limit ds n.reason w.reason)
 
-  pub nodes_readable : (ns : List FileNode) → Each (IsNodeWithin ds count) ns → are_readable ns ≡ true
-  nodes_readable ns w = all_true is_readable ns (each_of (IsNodeWithin ds count) (λ n. is_readable n ≡ true) node_readable ns w)
+  pub nodes_readable : (ns : List FileNode) → Each (IsNodeWithin limit ds count) ns → are_readable ns ≡ true
+  nodes_readable ns w = all_true is_readable ns (each_of (IsNodeWithin limit ds count) (λ n. is_readable n ≡ true) node_readable ns w)
 
-  pub nodes_at_lines : (ns : List FileNode) → Each (IsNodeWithin ds count) ns → are_at_lines count ns ≡ true
+  pub nodes_at_lines : (ns : List FileNode) → Each (IsNodeWithin limit ds count) ns → are_at_lines count ns ≡ true
   nodes_at_lines ns w =
-      all_true (λ n. is_at_line count n.judgement) ns (each_of (IsNodeWithin ds count) (λ n. is_at_line count n.judgement ≡ true) (λ n v. judgement_at_line ds count n.judgement v.judgement) ns w)
+      all_true (λ n. is_at_line count n.judgement) ns (each_of (IsNodeWithin limit ds count) (λ n. is_at_line count n.judgement ≡ true) (λ n v. judgement_at_line limit ds count n.judgement v.judgement) ns w)

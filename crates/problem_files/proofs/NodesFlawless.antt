@@ -16,11 +16,11 @@ use Rattle.problem_files.proofs.Names.{HaveOwnNames, HaveFewParameters, heads_of
 use Rattle.problem_files.proofs.Judgements.{judgement_flawless}
 use Rattle.problem_files.proofs.Reasons.{reason_flawless}
 
-module _ (ds : List Definition) (count : ℕ) (own : HaveOwnNames ds) (few : HaveFewParameters ds) where
-  node_flawless : (n k : ℕ) (x : FileNode) → n < 20000 → IsNodeWithin ds count x → node_flaw (heads_of ds ds) count n k (node_tree ds x) ≡ None
+module _ (limit : ℕ) (ds : List Definition) (count : ℕ) (own : HaveOwnNames ds) (few : HaveFewParameters ds) where
+  node_flawless : (n k : ℕ) (x : FileNode) → n < 20000 → IsNodeWithin limit ds count x → node_flaw limit (heads_of ds ds) count n k (node_tree ds x) ≡ None
   node_flawless n k x below w =
-      none_later (over_if (nat_le 20000 n) Nodes k) _ (ap (λ b. over_if b Nodes k) (lt-leb 20000 n below)) (none_later _ _ (judgement_flawless ds count own few x.judgement w.judgement (k + 1)) (reason_flawless ds own few x.reason w.reason (k + 1 + judgement_span (judgement_tree ds x.judgement))))
+      none_later (over_if (nat_le 20000 n) Nodes k) _ (ap (λ b. over_if b Nodes k) (lt-leb 20000 n below)) (none_later _ _ (judgement_flawless limit ds count own few x.judgement w.judgement (k + 1)) (reason_flawless limit ds own few x.reason w.reason (k + 1 + judgement_span (judgement_tree ds x.judgement))))
 
-  pub nodes_flawless : (ns : List FileNode) → length ns ≤ 20000 → Each (IsNodeWithin ds count) ns → (k : ℕ) → listed_flaw (node_flaw (headings (map (definition_tree ds) ds)) count) node_span 0 k (map (node_tree ds) ns) ≡ None
+  pub nodes_flawless : (ns : List FileNode) → length ns ≤ 20000 → Each (IsNodeWithin limit ds count) ns → (k : ℕ) → listed_flaw (node_flaw limit (headings (map (definition_tree ds) ds)) count) node_span 0 k (map (node_tree ds) ns) ≡ None
   nodes_flawless ns most w k =
-      none_listed (node_flaw (heads_of ds ds) count) node_span (node_tree ds) (IsNodeWithin ds count) 20000 node_flawless 0 k ns (omega arith) w
+      none_listed (node_flaw limit (heads_of ds ds) count) node_span (node_tree ds) (IsNodeWithin limit ds count) 20000 node_flawless 0 k ns (omega arith) w

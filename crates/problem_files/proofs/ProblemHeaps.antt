@@ -65,23 +65,23 @@ module _ {T : Type 0} (flaw : ℕ → T → Found) (span : T → ℕ) (value : T
       let sides = neither (flaw j x.left) (flaw (j + span x.left) x.right) (neither (over_if (nat_le 64 n) PureAtoms j) (or_later (flaw j x.left) (flaw (j + span x.left) x.right)) h).1 in
       pure_keeps x (one j x.left sides.0) (one (j + span x.left) x.right sides.1)) 0 k xs e)
 
-  module _ (hs : List Heading) where
-    spatial_keeps : (n k : ℕ) (x : Spatial T) → spatial_flaw flaw span hs n k x ≡ None → InSpatial Q (spatial_value value hs x)
+  module _ (limit : ℕ) (hs : List Heading) where
+    spatial_keeps : (n k : ℕ) (x : Spatial T) → spatial_flaw flaw span limit hs n k x ≡ None → InSpatial Q (spatial_value value hs x)
     spatial_keeps n k (Cell t ts) e =
-        let a = neither (over_if (nat_le 16 n) SpatialAtoms k) (or_later (flaw k t) (arguments_flaw flaw span (k + span t + 1) ts)) e in
+        let a = neither (over_if (nat_le limit n) SpatialAtoms k) (or_later (flaw k t) (arguments_flaw flaw span (k + span t + 1) ts)) e in
         let b = neither (flaw k t) (arguments_flaw flaw span (k + span t + 1) ts) a.1 in
         (one k t b.0, arguments_keep (k + span t + 1) ts b.1)
     spatial_keeps n k (Predicate name ts) e =
-        let a = neither (use_flaw (arity_in hs name) (length ts) k) (or_later (over_if (nat_le 16 n) SpatialAtoms k) (arguments_flaw flaw span (k + 2) ts)) e in
-        let b = neither (over_if (nat_le 16 n) SpatialAtoms k) (arguments_flaw flaw span (k + 2) ts) a.1 in
+        let a = neither (use_flaw (arity_in hs name) (length ts) k) (or_later (over_if (nat_le limit n) SpatialAtoms k) (arguments_flaw flaw span (k + 2) ts)) e in
+        let b = neither (over_if (nat_le limit n) SpatialAtoms k) (arguments_flaw flaw span (k + 2) ts) a.1 in
         arguments_keep (k + 2) ts b.1
 
-    pub heap_keeps : (k : ℕ) (h : Heap T) → heap_flaw flaw span hs k h ≡ None → InHeap Q (heap_value value hs h)
+    pub heap_keeps : (k : ℕ) (h : Heap T) → heap_flaw flaw span limit hs k h ≡ None → InHeap Q (heap_value value hs h)
     heap_keeps k h e =
         let p = k + pures_span span h.pure in
-        let a = neither (listed_flaw (pure_flaw flaw span) (pure_span span) 0 k h.pure) (listed_flaw (spatial_flaw flaw span hs) (spatial_span span) 0 p h.spatial) e in (
+        let a = neither (listed_flaw (pure_flaw flaw span) (pure_span span) 0 k h.pure) (listed_flaw (spatial_flaw flaw span limit hs) (spatial_span span) 0 p h.spatial) e in (
           pures_keep k h.pure a.0,
-          mapped (spatial_value value hs) (InSpatial Q) h.spatial (each_flawless (spatial_flaw flaw span hs) (spatial_span span) (λ x. InSpatial Q (spatial_value value hs x)) spatial_keeps 0 p h.spatial a.1),
+          mapped (spatial_value value hs) (InSpatial Q) h.spatial (each_flawless (spatial_flaw flaw span limit hs) (spatial_span span) (λ x. InSpatial Q (spatial_value value hs x)) spatial_keeps 0 p h.spatial a.1),
         )
 
 -- ---- a fact of each term as a bound of the heap
@@ -154,7 +154,7 @@ module _ (b : Bool) where
 
 -- ---- a heap of a text without a flaw is within the limits
 
-module _ (hs : List Heading) (scope : numbers.Scope) where
+module _ (limit : ℕ) (hs : List Heading) (scope : numbers.Scope) where
   fields_kept : (x : named.Spatial) → HasField x → IsSmallSpatial term_value (numbers.spatial scope x) → HasFields (spatial_value term_value hs (numbers.spatial scope x))
   fields_kept (Cell t ts) some small =
       let m = length-map ts (numbers.term scope) in
@@ -167,15 +167,14 @@ module _ (hs : List Heading) (scope : numbers.Scope) where
   all_fields_kept [] some small = tt
   all_fields_kept (x ∷ xs) some small = (fields_kept x some.0 small.0, all_fields_kept xs some.1 small.1)
 
-  pub heap_within : (ds : List Definition) (b : Bool) (h : named.Heap) → (heap b).fits h → IsSmallHeap term_value (numbers.heap scope h) → InHeap IsLow (heap_value term_value hs (numbers.heap scope h)) → case_fault ds (heap_value term_value hs (numbers.heap scope h)) ≡ None → IsHeapWithin ds (heap_value term_value hs (numbers.heap scope h))
-  heap_within ds b h fits small low known =
+  pub heap_within : (ds : List Definition) (b : Bool) (h : named.Heap) → (heap b).fits h → IsSmallHeap term_value (numbers.heap scope h) → length (numbers.heap scope h).spatial ≤ limit → InHeap IsLow (heap_value term_value hs (numbers.heap scope h)) → case_fault ds (heap_value term_value hs (numbers.heap scope h)) ≡ None → IsHeapWithin limit ds (heap_value term_value hs (numbers.heap scope h))
+  heap_within ds b h fits small short low known =
       let tree = numbers.heap scope h in
       let a = heap_value term_value hs tree in
       let m = length-map tree.pure (pure_value term_value) in
       let n = length-map tree.spatial (spatial_value term_value hs) in
       let few_pure = small.pure_few in
-      let few_spatial = small.spatial_few in
-      within ds a (record {
+      within limit ds a (record {
         pures = omega arith;
         spatials = omega arith;
         low = low;

@@ -42,6 +42,9 @@ use Rattle.heap_reader.specs.LineFlaws.{lines_flaw}
 use Rattle.heap_reader.specs.Small.{IsSmallHeap}
 use Rattle.heap_reader.specs.Values.{heap_value, line_value}
 use Rattle.heap_reader.proofs.Programs.{lines_universal}
+use Rattle.heap_syntax.specs.declared.version.Version.{Version}
+use Rattle.heap_syntax.specs.Versions.{most_spatial}
+use Rattle.heap_reader.proofs.Fitting.{most_fits, heap_few, heaps_few}
 use Rattle.heap_reader.proofs.NoFlaw.{neither, not_over, not_ill, at_most, below, each_of as each_flawless}
 use Rattle.name_numbers.specs.declared.tree.NumberedTerm.{NumberedTerm}
 use Rattle.name_numbers.specs.declared.tree.NumberedTerm.TheVariants.{Nil, Universal, Existential}
@@ -104,44 +107,46 @@ goal_term k (Existential n primed) e = let h = at_most 65534 n (not_over (nat_lt
 
 -- ---- definitions
 
-module _ (hs : List Heading) where
+module _ (limit : ℕ) (bounded : limit ≤ 32) (hs : List Heading) where
   abbrev HasCaseTerms : ℕ → Heap → Type 0
   HasCaseTerms arity h = InHeap (IsCaseTerm arity) (heap_value term_value hs h)
 
   -- what a definition without a flaw keeps
   record IsGood (d : Definition) : Type 0 where
     small : IsSmallDefinition d
+    short : Each (λ (c : Heap). length c.spatial ≤ limit) d.cases
     terms : Each (HasCaseTerms (length d.parameters)) d.cases
 
-  good : (n k : ℕ) (d : Definition) → definition_flaw hs n k d ≡ None → IsGood d
+  good : (n k : ℕ) (d : Definition) → definition_flaw limit hs n k d ≡ None → IsGood d
   good n k d e =
       let p = k + 3 + parameters_span d.parameters + 1 in
       let arity = length d.parameters in
-      let small = (definition_small hs n k d e).1 in
-      let a = neither (head_flaw hs n k d) (cases_flaw hs arity p d.cases) e in
+      let small = (definition_small limit bounded hs n k d e).1 in
+      let a = neither (head_flaw hs n k d) (cases_flaw limit hs arity p d.cases) e in
       record {
         small = small;
-        terms = each_flawless (counted_flaw (term_flaw (InCase arity)) term_span hs Cases) (heap_span term_span) (HasCaseTerms arity) (λ m j c g. heap_keeps (term_flaw (InCase arity)) term_span term_value (IsCaseTerm arity) (case_term arity small.parameters) hs j c (neither (over_if (nat_le 16 m) Cases j) (heap_flaw (term_flaw (InCase arity)) term_span hs j c) g).1) 0 p d.cases a.1;
+        short = heaps_few (term_flaw (InCase arity)) term_span limit hs Cases p d.cases a.1;
+        terms = each_flawless (counted_flaw (term_flaw (InCase arity)) term_span limit hs Cases) (heap_span term_span) (HasCaseTerms arity) (λ m j c g. heap_keeps (term_flaw (InCase arity)) term_span term_value (IsCaseTerm arity) (case_term arity small.parameters) limit hs j c (neither (over_if (nat_le 16 m) Cases j) (heap_flaw (term_flaw (InCase arity)) term_span limit hs j c) g).1) 0 p d.cases a.1;
       }
 
   module _ (ds : List DefinitionValue) where
-    case_within : (ps : List Name) (arity : ℕ) (h : named.Heap) → (heap false).fits h → IsSmallHeap term_value (numbers.case ps h) → HasCaseTerms arity (numbers.case ps h) → case_fault ds (heap_value term_value hs (numbers.case ps h)) ≡ None → IsCaseWithin ds arity (heap_value term_value hs (numbers.case ps h))
+    case_within : (ps : List Name) (arity : ℕ) (h : named.Heap) → (heap false).fits h → IsSmallHeap term_value (numbers.case ps h) → length (numbers.case ps h).spatial ≤ limit → HasCaseTerms arity (numbers.case ps h) → case_fault ds (heap_value term_value hs (numbers.case ps h)) ≡ None → IsCaseWithin limit ds arity (heap_value term_value hs (numbers.case ps h))
     unfolding numbers.case
-    case_within ps arity h fits small terms known =
+    case_within ps arity h fits small short terms known =
         let scope = numbers.Case ps (numbers.locals ps h) in
         let a = heap_value term_value hs (numbers.heap scope h) in
         record {
-          heap = heap_within hs scope ds false h fits small (in_heap_each (IsCaseTerm arity) IsLow (λ t c. c.low) a terms) known;
+          heap = heap_within limit hs scope ds false h fits small short (in_heap_each (IsCaseTerm arity) IsLow (λ t c. c.low) a terms) known;
           parameters = heap_bounded arity a (in_heap_each (IsCaseTerm arity) (λ t. univ_bound t ≤ arity) (λ t c. c.parameter) a terms);
           locals = heap_open 16 a (in_heap_each (IsCaseTerm arity) (λ t. exist_bound t ≤ 16) (λ t c. c.few) a terms);
         }
 
-    cases_within : (ps : List Name) (arity : ℕ) (xs : List named.Heap) → Each (heap false).fits xs → Each (IsSmallHeap term_value) (map (numbers.case ps) xs) → Each (HasCaseTerms arity) (map (numbers.case ps) xs) → Each (λ c. case_fault ds c ≡ None) (map (heap_value term_value hs) (map (numbers.case ps) xs)) → Each (IsCaseWithin ds arity) (map (heap_value term_value hs) (map (numbers.case ps) xs))
-    cases_within ps arity [] fits small terms known = tt
-    cases_within ps arity (x ∷ xs) fits small terms known =
-        (case_within ps arity x fits.0 small.0 terms.0 known.0, cases_within ps arity xs fits.1 small.1 terms.1 known.1)
+    cases_within : (ps : List Name) (arity : ℕ) (xs : List named.Heap) → Each (heap false).fits xs → Each (IsSmallHeap term_value) (map (numbers.case ps) xs) → Each (λ (c : Heap). length c.spatial ≤ limit) (map (numbers.case ps) xs) → Each (HasCaseTerms arity) (map (numbers.case ps) xs) → Each (λ c. case_fault ds c ≡ None) (map (heap_value term_value hs) (map (numbers.case ps) xs)) → Each (IsCaseWithin limit ds arity) (map (heap_value term_value hs) (map (numbers.case ps) xs))
+    cases_within ps arity [] fits small short terms known = tt
+    cases_within ps arity (x ∷ xs) fits small short terms known =
+        (case_within ps arity x fits.0 small.0 short.0 terms.0 known.0, cases_within ps arity xs fits.1 small.1 short.1 terms.1 known.1)
 
-    definition_within : (d : named.Definition) → definition.fits d → IsGood (numbers.definition d) → definition_fault ds (definition_value hs (numbers.definition d)) ≡ None → IsDefinitionWithin ds (definition_value hs (numbers.definition d))
+    definition_within : (d : named.Definition) → definition.fits d → IsGood (numbers.definition d) → definition_fault ds (definition_value hs (numbers.definition d)) ≡ None → IsDefinitionWithin limit ds (definition_value hs (numbers.definition d))
     unfolding definition cases
     definition_within d fits g known =
         let ps = numbers.parameter_names d in
@@ -155,10 +160,10 @@ module _ (hs : List Heading) where
           arity = g.small.parameters;
           some_case = omega arith;
           few = omega arith;
-          cases = cases_within ps (length d.parameters) d.cases parts.1 g.small.cases g.terms (each_right (case_fault ds) (map (heap_value term_value hs) trees) known);
+          cases = cases_within ps (length d.parameters) d.cases parts.1 g.small.cases g.short g.terms (each_right (case_fault ds) (map (heap_value term_value hs) trees) known);
         }
 
-    definitions_within : (xs : List named.Definition) → Each definition.fits xs → Each IsGood (map numbers.definition xs) → Each (λ d. definition_fault ds d ≡ None) (map (definition_value hs) (map numbers.definition xs)) → Each (IsDefinitionWithin ds) (map (definition_value hs) (map numbers.definition xs))
+    definitions_within : (xs : List named.Definition) → Each definition.fits xs → Each IsGood (map numbers.definition xs) → Each (λ d. definition_fault ds d ≡ None) (map (definition_value hs) (map numbers.definition xs)) → Each (IsDefinitionWithin limit ds) (map (definition_value hs) (map numbers.definition xs))
     definitions_within [] fits g known = tt
     definitions_within (x ∷ xs) fits g known = (definition_within x fits.0 g.0 known.0, definitions_within xs fits.1 g.1 known.1)
 
@@ -202,27 +207,27 @@ line_of count i e =
         let most = ltb-false count i parts.1 in
         (omega arith, omega arith)
 
-module _ (hs : List Heading) (ds : List DefinitionValue) where
-  goal_heap_terms : (k : ℕ) (h : Heap) → heap_flaw (term_flaw InGoal) term_span hs k h ≡ None → InHeap IsLow (heap_value term_value hs h)
-  goal_heap_terms k h e = heap_keeps (term_flaw InGoal) term_span term_value IsLow goal_term hs k h e
+module _ (limit : ℕ) (hs : List Heading) (ds : List DefinitionValue) where
+  goal_heap_terms : (k : ℕ) (h : Heap) → heap_flaw (term_flaw InGoal) term_span limit hs k h ≡ None → InHeap IsLow (heap_value term_value hs h)
+  goal_heap_terms k h e = heap_keeps (term_flaw InGoal) term_span term_value IsLow goal_term limit hs k h e
 
-  disjunct_within : (us : List Name) (h : named.Heap) → (heap true).fits h → IsSmallHeap term_value (numbers.disjunct us h) → InHeap IsLow (heap_value term_value hs (numbers.disjunct us h)) → case_fault ds (heap_value term_value hs (numbers.disjunct us h)) ≡ None → IsHeapWithin ds (heap_value term_value hs (numbers.disjunct us h))
+  disjunct_within : (us : List Name) (h : named.Heap) → (heap true).fits h → IsSmallHeap term_value (numbers.disjunct us h) → length (numbers.disjunct us h).spatial ≤ limit → InHeap IsLow (heap_value term_value hs (numbers.disjunct us h)) → case_fault ds (heap_value term_value hs (numbers.disjunct us h)) ≡ None → IsHeapWithin limit ds (heap_value term_value hs (numbers.disjunct us h))
   unfolding numbers.disjunct
-  disjunct_within us h fits small low known = heap_within hs (numbers.Disjunct us (firsts (primed_names h))) ds true h fits small low known
+  disjunct_within us h fits small short low known = heap_within limit hs (numbers.Disjunct us (firsts (primed_names h))) ds true h fits small short low known
 
-  disjuncts_within : (us : List Name) (xs : List named.Heap) → Each (heap true).fits xs → Each (IsSmallHeap term_value) (map (numbers.disjunct us) xs) → Each (λ h. InHeap IsLow (heap_value term_value hs h)) (map (numbers.disjunct us) xs) → Each (λ c. case_fault ds c ≡ None) (map (heap_value term_value hs) (map (numbers.disjunct us) xs)) → Each (IsHeapWithin ds) (map (heap_value term_value hs) (map (numbers.disjunct us) xs))
-  disjuncts_within us [] fits small low known = tt
-  disjuncts_within us (x ∷ xs) fits small low known =
-      (disjunct_within us x fits.0 small.0 low.0 known.0, disjuncts_within us xs fits.1 small.1 low.1 known.1)
+  disjuncts_within : (us : List Name) (xs : List named.Heap) → Each (heap true).fits xs → Each (IsSmallHeap term_value) (map (numbers.disjunct us) xs) → Each (λ (c : Heap). length c.spatial ≤ limit) (map (numbers.disjunct us) xs) → Each (λ h. InHeap IsLow (heap_value term_value hs h)) (map (numbers.disjunct us) xs) → Each (λ c. case_fault ds c ≡ None) (map (heap_value term_value hs) (map (numbers.disjunct us) xs)) → Each (IsHeapWithin limit ds) (map (heap_value term_value hs) (map (numbers.disjunct us) xs))
+  disjuncts_within us [] fits small short low known = tt
+  disjuncts_within us (x ∷ xs) fits small short low known =
+      (disjunct_within us x fits.0 small.0 short.0 low.0 known.0, disjuncts_within us xs fits.1 small.1 short.1 low.1 known.1)
 
-  goal_within : (us : List Name) (count k : ℕ) (g : named.Goal) → goal.fits g → goal_flaw hs count k (numbers.goal us g) ≡ None → IsSmallGoal (numbers.goal us g) → goal_fault ds (goal_value hs (numbers.goal us g)) ≡ None → is_universal_heap (antecedent (goal_value hs (numbers.goal us g))) ≡ true → (n : ℕ) → has_line n (goal_value hs (numbers.goal us g)) ≡ true → IsJudgementWithin ds n (goal_value hs (numbers.goal us g))
+  goal_within : (us : List Name) (count k : ℕ) (g : named.Goal) → goal.fits g → goal_flaw limit hs count k (numbers.goal us g) ≡ None → IsSmallGoal (numbers.goal us g) → goal_fault ds (goal_value hs (numbers.goal us g)) ≡ None → is_universal_heap (antecedent (goal_value hs (numbers.goal us g))) ≡ true → (n : ℕ) → has_line n (goal_value hs (numbers.goal us g)) ≡ true → IsJudgementWithin limit ds n (goal_value hs (numbers.goal us g))
   unfolding goal entailment state disjuncts
   goal_within us count k (named.Entailment h xs) fits right small known universal n line =
       let left = numbers.heap (numbers.Antecedent us) h in
       let trees = map (numbers.disjunct us) xs in
       let p = k + 1 + heap_span term_span left in
-      let flaws = neither (heap_flaw (term_flaw InGoal) term_span hs (k + 1) left) (heaps_flaw (term_flaw InGoal) term_span hs Disjuncts p trees) right in
-      let low = each_flawless (counted_flaw (term_flaw InGoal) term_span hs Disjuncts) (heap_span term_span) (λ c. InHeap IsLow (heap_value term_value hs c)) (λ m j c g. goal_heap_terms j c (neither (over_if (nat_le 16 m) Disjuncts j) (heap_flaw (term_flaw InGoal) term_span hs j c) g).1) 0 p trees flaws.1 in
+      let flaws = neither (heap_flaw (term_flaw InGoal) term_span limit hs (k + 1) left) (heaps_flaw (term_flaw InGoal) term_span limit hs Disjuncts p trees) right in
+      let low = each_flawless (counted_flaw (term_flaw InGoal) term_span limit hs Disjuncts) (heap_span term_span) (λ c. InHeap IsLow (heap_value term_value hs c)) (λ m j c g. goal_heap_terms j c (neither (over_if (nat_le 16 m) Disjuncts j) (heap_flaw (term_flaw InGoal) term_span limit hs j c) g).1) 0 p trees flaws.1 in
       let each_known = each_right (case_fault ds) (heap_value term_value hs left ∷ map (heap_value term_value hs) trees) known in
       let parts = heaps_parts or_word semicolon (heap true) xs fits.1.1 in
       let some = small.1.some in
@@ -230,18 +235,18 @@ module _ (hs : List Heading) (ds : List DefinitionValue) where
       let m = length-map trees (heap_value term_value hs) in
       record {
         heaps = (
-          heap_within hs (numbers.Antecedent us) ds true h fits.1.0 small.0 (goal_heap_terms (k + 1) left flaws.0) each_known.0,
-          disjuncts_within us xs parts.1 small.1.heaps low each_known.1,
+          heap_within limit hs (numbers.Antecedent us) ds true h fits.1.0 small.0 (heap_few (term_flaw InGoal) term_span limit hs (k + 1) left flaws.0) (goal_heap_terms (k + 1) left flaws.0) each_known.0,
+          disjuncts_within us xs parts.1 small.1.heaps (heaps_few (term_flaw InGoal) term_span limit hs Disjuncts p trees flaws.1) low each_known.1,
         );
         universal = universal_heap (heap_value term_value hs left) universal;
         form = (omega arith, omega arith);
       }
   goal_within us count k (named.From i h) fits right small known universal n line =
       let left = numbers.heap (numbers.Antecedent us) h in
-      let flaws = neither (ill_if (nat_eq i 0 || nat_lt count i) NoLine (k + 2)) (heap_flaw (term_flaw InGoal) term_span hs (k + 4) left) right in
+      let flaws = neither (ill_if (nat_eq i 0 || nat_lt count i) NoLine (k + 2)) (heap_flaw (term_flaw InGoal) term_span limit hs (k + 4) left) right in
       let each_known = each_right (case_fault ds) (heap_value term_value hs left ∷ []) known in
       record {
-        heaps = (heap_within hs (numbers.Antecedent us) ds true h fits.1.1 small (goal_heap_terms (k + 4) left flaws.1) each_known.0, tt);
+        heaps = (heap_within limit hs (numbers.Antecedent us) ds true h fits.1.1 small (heap_few (term_flaw InGoal) term_span limit hs (k + 4) left flaws.1) (goal_heap_terms (k + 4) left flaws.1) each_known.0, tt);
         universal = universal_heap (heap_value term_value hs left) universal;
         form = line_of n i line;
       }
@@ -249,44 +254,45 @@ module _ (hs : List Heading) (ds : List DefinitionValue) where
 -- ---- problems
 
 -- what a text keeps
-text_keeps : (names : named.Problem) → problem.fits names → problem_flaw (numbered names) ≡ None → IsKept (map (definition_value (headings (numbered names).definitions)) (numbered names).definitions) (program_value (numbered names).lines) (goal_value (headings (numbered names).definitions) (numbered names).goal)
+text_keeps : (names : named.Problem) → problem.fits names → problem_flaw (numbered names) ≡ None → IsKept (most_spatial names.version) (map (definition_value (headings (numbered names).definitions)) (numbered names).definitions) (program_value (numbered names).lines) (goal_value (headings (numbered names).definitions) (numbered names).goal)
 unfolding problem body definitions last_part
 text_keeps names fits right =
     let tree = numbered names in
+    let limit = most_spatial names.version in
     let text : IsOfText tree = (names, fits, refl) in
     let hs = headings tree.definitions in
     let ds = map (definition_value hs) tree.definitions in
     let at = 4 + definitions_span tree.definitions in
     let goal_at = at + lines_span tree.lines in
-    let a = neither (definitions_flaw hs 4 tree.definitions) (or_later (lines_flaw variable_flaw variable_span at tree.lines) (goal_flaw hs (length tree.lines) goal_at tree.goal)) right in
-    let b = neither (lines_flaw variable_flaw variable_span at tree.lines) (goal_flaw hs (length tree.lines) goal_at tree.goal) a.1 in
+    let a = neither (definitions_flaw limit hs 4 tree.definitions) (or_later (lines_flaw variable_flaw variable_span at tree.lines) (goal_flaw limit hs (length tree.lines) goal_at tree.goal)) right in
+    let b = neither (lines_flaw variable_flaw variable_span at tree.lines) (goal_flaw limit hs (length tree.lines) goal_at tree.goal) a.1 in
     let small = small_of tree text right in
-    let each_fits = many_parts definition names.definitions fits.1.0 in
-    let each_good = each_flawless (definition_flaw hs) definition_span (IsGood hs) (good hs) 0 4 tree.definitions a.0 in
+    let each_fits = many_parts definition names.definitions fits.1.1.0 in
+    let each_good = each_flawless (definition_flaw limit hs) definition_span (IsGood limit (most_fits names.version) hs) (good limit (most_fits names.version) hs) 0 4 tree.definitions a.0 in
     let few = small.few in
     let m = length-map tree.definitions (definition_value hs) in
     record {
       few = omega arith;
-      definitions = definitions_within hs ds names.definitions each_fits each_good (each_right (definition_fault ds) ds (is_closed tree text right));
+      definitions = definitions_within limit (most_fits names.version) hs ds names.definitions each_fits each_good (each_right (definition_fault ds) ds (is_closed tree text right));
       program = faultless_is_program (map (line_value variable_value) tree.lines) small.program (lines_universal variable_value tree.lines);
-      judgement = goal_within hs ds (numbers.universals names) (length tree.lines) goal_at names.goal fits.1.1.1 b.1 small.goal (is_known tree text right) (has_universal_antecedent tree text right) (length (program_value tree.lines)) (has_its_line tree text right);
-      free = λ q d at_q. Each-get (λ (v : DefinitionValue). is_free_name reserved v.name ≡ true) ds q d at_q (definitions_free hs names.definitions each_fits);
-      own = own_names tree.definitions hs a.0;
+      judgement = goal_within limit hs ds (numbers.universals names) (length tree.lines) goal_at names.goal fits.1.1.1.1 b.1 small.goal (is_known tree text right) (has_universal_antecedent tree text right) (length (program_value tree.lines)) (has_its_line tree text right);
+      free = λ q d at_q. Each-get (λ (v : DefinitionValue). is_free_name reserved v.name ≡ true) ds q d at_q (definitions_free limit (most_fits names.version) hs names.definitions each_fits);
+      own = own_names limit tree.definitions hs a.0;
     }
 
-said_keeps : (tree : Problem) → IsOfText tree → problem_flaw tree ≡ None → IsKept (map (definition_value (headings tree.definitions)) tree.definitions) (program_value tree.lines) (goal_value (headings tree.definitions) tree.goal)
+said_keeps : (tree : Problem) → IsOfText tree → problem_flaw tree ≡ None → IsKept (most_spatial tree.version) (map (definition_value (headings tree.definitions)) tree.definitions) (program_value tree.lines) (goal_value (headings tree.definitions) tree.goal)
 said_keeps tree text right =
-    subst (λ (t : Problem). problem_flaw t ≡ None → IsKept (map (definition_value (headings t.definitions)) t.definitions) (program_value t.lines) (goal_value (headings t.definitions) t.goal)) text.2 (text_keeps text.0 text.1) right
+    subst (λ (t : Problem). problem_flaw t ≡ None → IsKept (most_spatial t.version) (map (definition_value (headings t.definitions)) t.definitions) (program_value t.lines) (goal_value (headings t.definitions) t.goal)) text.2 (text_keeps text.0 text.1) right
 
-well_formed_keeps : (ds : List DefinitionValue) (lines : List Command) (judgement : Judgement) → IsWellFormed ds lines judgement → IsKept ds lines judgement
-well_formed_keeps ds lines judgement w =
+well_formed_keeps : (version : Version) (ds : List DefinitionValue) (lines : List Command) (judgement : Judgement) → IsWellFormed version ds lines judgement → IsKept (most_spatial version) ds lines judgement
+well_formed_keeps version ds lines judgement w =
     let tree = w.0 in
     let said = w.1 in
     let read = map (definition_value (headings tree.definitions)) tree.definitions in
     let kept = said_keeps tree said.text said.flawless in
-    subst (λ (x : List DefinitionValue). IsKept x lines judgement) (sym said.definitions) (subst (λ (x : List Command). IsKept read x judgement) (sym said.program) (subst (λ (x : Judgement). IsKept read (program_value tree.lines) x) (sym said.goal) kept))
+    subst (λ (v : Version). IsKept (most_spatial v) ds lines judgement) (sym said.version_is) (subst (λ (x : List DefinitionValue). IsKept (most_spatial tree.version) x lines judgement) (sym said.definitions) (subst (λ (x : List Command). IsKept (most_spatial tree.version) read x judgement) (sym said.program) (subst (λ (x : Judgement). IsKept (most_spatial tree.version) read (program_value tree.lines) x) (sym said.goal) kept)))
 
 -- what a problem keeps
-pub problem_keeps : (p : ProblemValue) → IsKept p.defs.list p.program p.goal
+pub problem_keeps : (p : ProblemValue) → IsKept p.defs.most p.defs.list p.program p.goal
 problem_keeps p =
-    ∥∥₁_elim p.well_formed (kept_prop p.defs.list p.program p.goal) (well_formed_keeps p.defs.list p.program p.goal)
+    subst (λ (limit : ℕ). IsKept limit p.defs.list p.program p.goal) (sym p.limit) (∥∥₁_elim p.well_formed (kept_prop (most_spatial p.version) p.defs.list p.program p.goal) (well_formed_keeps p.version p.defs.list p.program p.goal))

@@ -23,10 +23,10 @@ of_member f (x ∷ xs) zero y e = let same : f x ≡ y = cc in (x, refl, same)
 of_member f (x ∷ xs) (suc n) y e = of_member f xs n y e
 
 -- no definition before has the name
-is_new : (hs : List Heading) (n k : ℕ) (d : Definition) → definition_flaw hs n k d ≡ None → arity_in (take n hs) d.name ≡ None
-is_new hs n k d e =
+is_new : (limit : ℕ) (hs : List Heading) (n k : ℕ) (d : Definition) → definition_flaw limit hs n k d ≡ None → arity_in (take n hs) d.name ≡ None
+is_new limit hs n k d e =
     let taken = is_some (arity_in (take n hs) d.name) in
-    let a = neither (head_flaw hs n k d) (cases_flaw hs (length d.parameters) (k + 3 + parameters_span d.parameters + 1) d.cases) e in
+    let a = neither (head_flaw hs n k d) (cases_flaw limit hs (length d.parameters) (k + 3 + parameters_span d.parameters + 1) d.cases) e in
     let b = neither (over_if (nat_le 4096 n) Predicates k) (or_later (ill_if taken Duplicate (k + 1)) (parameters_flaw (k + 3) d.parameters)) a.0 in
     let c = neither (ill_if taken Duplicate (k + 1)) (parameters_flaw (k + 3) d.parameters) b.1 in
     is_none (arity_in (take n hs) d.name) (not_ill taken Duplicate (k + 1) c.0)
@@ -49,12 +49,12 @@ not_new (y ∷ ys) (suc p) (suc q) x name at same less none = by_test (bytes_eq 
 equal_unless_apart : (p q : ℕ) → (p < q → ⊥) → (q < p → ⊥) → p ≡ q
 equal_unless_apart p q f g = omega arith
 
-module _ (xs : List Definition) (hs : List Heading) (right : definitions_flaw (headings xs) 4 xs ≡ None) where
+module _ (limit : ℕ) (xs : List Definition) (hs : List Heading) (right : definitions_flaw limit (headings xs) 4 xs ≡ None) where
   apart : (p q : ℕ) (d e : Definition) → slice_get xs p ≡ Some d → slice_get xs q ≡ Some e → d.name ≡ e.name → p < q → ⊥
   apart p q d e at_p at_q same less =
-      let at = flawless_at (definition_flaw (headings xs)) definition_span 0 4 xs q e at_q right in
+      let at = flawless_at (definition_flaw limit (headings xs)) definition_span 0 4 xs q e at_q right in
       let here : 0 + q ≡ q = omega arith in
-      let new = is_new (headings xs) q at.0 e (subst (λ (n : ℕ). definition_flaw (headings xs) n at.0 e ≡ None) here at.1) in
+      let new = is_new limit (headings xs) q at.0 e (subst (λ (n : ℕ). definition_flaw limit (headings xs) n at.0 e ≡ None) here at.1) in
       not_new xs p q d e.name at_p same less new
 
   pub own_names : HaveOwnNames (map (definition_value hs) xs)

@@ -53,8 +53,8 @@ pairs_fit (p ∷ ps) w =
 
 -- ---- reasons
 
-module _ (ds : List Definition) where
-  pub reason_fits : HaveFreeNames ds → (r : Reason) → IsReasonWithin ds r → HasShortNumbers r → grammar.reason.fits (reason_tree ds r)
+module _ (limit : ℕ) (ds : List Definition) where
+  pub reason_fits : HaveFreeNames ds → (r : Reason) → IsReasonWithin limit ds r → HasShortNumbers r → grammar.reason.fits (reason_tree ds r)
   unfolding grammar.reason grammar.parts grammar.rewrite grammar.side grammar.split grammar.two_numbers grammar.cut grammar.instantiate grammar.link
   reason_fits free (Step Absurd) w s = (tt, (tt, tt))
   reason_fits free (Step (Rewrite k side)) w s = (tt, (tt, (s, tt)))
@@ -62,7 +62,7 @@ module _ (ds : List Definition) where
   reason_fits free (Step (Distinct i k)) w s = (tt, (tt, (s.0, s.1)))
   reason_fits free (Step (Weaken k)) w s = (tt, (tt, s))
   reason_fits free (Step (Unfold k)) w s = (tt, (tt, s))
-  reason_fits free (Step (Cut places f)) w s = (tt, (tt, (bracketed_fits places s, any_heap_fits ds free f w)))
+  reason_fits free (Step (Cut places f)) w s = (tt, (tt, (bracketed_fits places s, any_heap_fits limit ds free f w)))
   reason_fits free (Step Done) w s = (tt, (tt, tt))
   reason_fits free (Step (Choose k)) w s = (tt, (tt, s))
   reason_fits free (Step (PureRight k)) w s = (tt, (tt, s))
@@ -80,7 +80,7 @@ module _ (ds : List Definition) where
   pair_flawless : (n k : ℕ) (p : ℕ × Term) → IsPairWithin p → pair_flaw k (pair_tree p) ≡ None
   pair_flawless n k p w = none_later _ _ (variable_low p.0 (k + 1) w.0) (term_flawless p.1 w.1.1 (k + 3))
 
-  pub reason_flawless : HaveOwnNames ds → HaveFewParameters ds → (r : Reason) → IsReasonWithin ds r → (k : ℕ) → reason_flaw (heads_of ds ds) k (reason_tree ds r) ≡ None
+  pub reason_flawless : HaveOwnNames ds → HaveFewParameters ds → (r : Reason) → IsReasonWithin limit ds r → (k : ℕ) → reason_flaw limit (heads_of ds ds) k (reason_tree ds r) ≡ None
   reason_flawless own few (Step Absurd) w k = refl
   reason_flawless own few (Step (Rewrite i side)) w k = refl
   reason_flawless own few (Step (Split t u)) w k =
@@ -88,7 +88,7 @@ module _ (ds : List Definition) where
   reason_flawless own few (Step (Distinct i j)) w k = refl
   reason_flawless own few (Step (Weaken i)) w k = refl
   reason_flawless own few (Step (Unfold i)) w k = refl
-  reason_flawless own few (Step (Cut places f)) w k = node_heap_flawless ds own few f w (k + 3 + length places)
+  reason_flawless own few (Step (Cut places f)) w k = node_heap_flawless limit ds own few f w (k + 3 + length places)
   reason_flawless own few (Step Done) w k = refl
   reason_flawless own few (Step (Choose j)) w k = refl
   reason_flawless own few (Step (PureRight i)) w k = refl
@@ -100,7 +100,7 @@ module _ (ds : List Definition) where
   reason_flawless own few (Back link) w k =
       none_listed (λ n. pair_flaw) pair_span pair_tree IsPairWithin (length link.subst) (λ n j p below q. pair_flawless n j p q) 0 (k + 3) link.subst (omega arith) w
 
-  pub reason_readable : (r : Reason) → IsReasonWithin ds r → is_universal_reason r ≡ true
+  pub reason_readable : (r : Reason) → IsReasonWithin limit ds r → is_universal_reason r ≡ true
   reason_readable (Step Absurd) w = refl
   reason_readable (Step (Rewrite i side)) w = refl
   reason_readable (Step (Split t u)) w = and_from (is_universal t) (is_universal u) (term_readable t w.0.0) (term_readable u w.1.0)

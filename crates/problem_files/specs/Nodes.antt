@@ -5,9 +5,9 @@ use Rattle.heap_formula.specs.Words.{Each}
 use Rattle.proof_file.specs.declared.node.FileNode.{FileNode}
 use Rattle.format_limits.specs.Limits.{IsJudgementWithin, IsReasonWithin, HasShortNumbers, IsShortNumber}
 
--- a node over these definitions and so many lines
-pub record IsNodeWithin (ds : List Definition) (count : ℕ) (node : FileNode) : Type 0 where
-  pub judgement : IsJudgementWithin ds count node.judgement
-  pub reason : IsReasonWithin ds node.reason
+-- a node over these definitions and so many lines, whose heaps have at most so many spatial atoms
+pub record IsNodeWithin (most : ℕ) (ds : List Definition) (count : ℕ) (node : FileNode) : Type 0 where
+  pub judgement : IsJudgementWithin most ds count node.judgement
+  pub reason : IsReasonWithin most ds node.reason
   pub numbers : HasShortNumbers node.reason
   pub premises : Each IsShortNumber node.premises

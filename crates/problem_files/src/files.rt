@@ -8,7 +8,7 @@ use formula_reader::Problem;
 use proof_file::{FileNodes, ProofFile};
 use std::alloc::Global;
 
-/// A proof file with copies of the problem's definitions and program, and with these nodes.
+/// A proof file of the problem's version with copies of the problem's definitions and program, and with these nodes.
 pub fn file_for(
     alloc: Global,
     problem: &Problem,
@@ -16,8 +16,8 @@ pub fn file_for(
 ) -> Result<ProofFile, OutOfMemory>
     requires some_node { 0 < length nodes }
     requires few { length nodes ≤ 20000 }
-    requires within { Each (IsNodeWithin problem.now.defs.list (length problem.now.program)) nodes }
-    ensures version { IfOk result (λ f. f.version ≡ 1) }
+    requires within { Each (IsNodeWithin problem.now.defs.most problem.now.defs.list (length problem.now.program)) nodes }
+    ensures version { IfOk result (λ f. f.version ≡ problem.now.version) }
     ensures definitions { IfOk result (λ f. f.defs ≡ problem.now.defs) }
     ensures program { IfOk result (λ f. f.program ≡ problem.now.program) }
     ensures nodes { IfOk result (λ f. f.nodes ≡ nodes) }
@@ -25,7 +25,7 @@ pub fn file_for(
     let defs = problem.defs.clone()?;
     let program = problem.program.clone()?;
     Ok(ProofFile {
-        version: 1,
+        version: problem.version,
         defs,
         program,
         nodes,

@@ -7,7 +7,9 @@ use Rattle.cyc_grammar.specs.Syntax.{one, seq, is_one}
 use Rattle.cyc_grammar.specs.Classes.{number}
 use Rattle.cyc_grammar.proofs.ClassLaws.{number-lexeme}
 use Rattle.cyc_grammar.proofs.Ends.{Inner, EndsLast, one-inner, seq-inner, after-inner, before-inner, alt-inner, many-inner, shaped-inner, nothing-inner, or_empty-inner, end-once}
-use Rattle.heap_syntax.specs.Words.{nil, pred_word, or_word, last_word, cyclist_word, version, comma, semicolon, bar, arrow, turnstile, opening, closing, opening_brace, closing_brace, prime, free_name}
+use Rattle.heap_syntax.specs.Words.{nil, pred_word, or_word, last_word, cyclist_word, comma, semicolon, bar, arrow, turnstile, opening, closing, opening_brace, closing_brace, prime, free_name}
+use Rattle.heap_syntax.specs.declared.version.Version.{Version}
+use Rattle.heap_syntax.specs.Versions.{version}
 use Rattle.heap_syntax.specs.Grammar.{Any}
 use Rattle.heap_syntax.proofs.WordTexts.{nil-word, pred-word, or-word, last-word, cyclist-word, version-word, syms}
 use Rattle.heap_syntax.proofs.HeapEnds.{listed-inner, fields-inner, arguments-inner, free_name-inner, heap-inner, heaps-inner}
@@ -67,7 +69,7 @@ last_part-inner = after-inner goal_word _ (letters-name (codes "goal") refl) (be
 
 body-inner : Inner body
 unfolding body definitions
-body-inner = shaped-inner {A = List Definition × (List Line × Goal)} to_problem from_problem Any _ (after-inner cyclist_word _ cyclist-word (after-inner problem_word _ (letters-name (codes "problem") refl) (after-inner version _ version-word (after-inner semicolon _ syms.semicolon_word
+body-inner = shaped-inner {A = Version × (List Definition × (List Line × Goal))} to_problem from_problem Any _ (after-inner cyclist_word _ cyclist-word (after-inner problem_word _ (letters-name (codes "problem") refl) (seq-inner (one version) _ (one-inner version version-word) (after-inner semicolon _ syms.semicolon_word
     (seq-inner _ _ (many-inner (is_one pred_word) definition definition-inner) (seq-inner lines last_part (lines-inner (one free_name) free_name-inner) last_part-inner))))))
 
 pub problem-last : EndsLast problem

@@ -6,7 +6,7 @@ use Rattle.cyc_lex.proofs.Letters.{letters-name}
 use Rattle.cyc_grammar.specs.Syntax.{Syntax, ◌>>=◌, read_one, Class, one, seq, alt, after, before, is_one}
 use Rattle.cyc_grammar.specs.Classes.{the_end, number, is_free_name}
 use Rattle.cyc_grammar.proofs.Laws.{Lawful, Faults, Stops, Begins, BeginsNot, BeginsNot-append, ClassLaw, ok_is, differ, one-law, seq-law, shaped-law, alt-law, many-law, after-law, before-law, nothing-law, or_empty-law, Stops-never}
-use Rattle.cyc_grammar.proofs.ClassLaws.{symbol-law, keyword-law, numeral-law, the_end-law, number-law}
+use Rattle.cyc_grammar.proofs.ClassLaws.{symbol-law, keyword-law, the_end-law, number-law}
 use Rattle.heap_syntax.specs.Words.{nil, true_word, emp, pred_word, or_word, last_word, comma, semicolon, bar, arrow, turnstile, opening, closing, opening_brace, closing_brace, prime, reserved, free_name}
 use Rattle.heap_syntax.specs.Grammar.{Any, listed, fields, arguments, some_heap}
 use Rattle.heap_syntax.specs.Trees.{Cell, Predicate}
@@ -14,6 +14,9 @@ use Rattle.heap_syntax.proofs.HeapLaws.{TermLaw, AtomLaw, closed-stops, listed-l
 use Rattle.command_syntax.specs.Grammar as commands
 use Rattle.command_syntax.proofs.CommandLaws.{VariableLaw, lines-law, lines-end}
 use Rattle.problem_syntax.specs.Trees.{Named, Nil, Plain, Primed, Spatial, Heap, Line, Definition, Goal, Entailment, From}
+use Rattle.heap_syntax.specs.declared.version.Version.{Version}
+use Rattle.heap_syntax.specs.Versions.{version}
+use Rattle.heap_syntax.proofs.WordTexts.{version-law}
 use Rattle.problem_syntax.specs.Grammar.{problem_word, goal_word, from_word, given_word, option_words, option_more, read_option, option, is_false, no_prime, forget, primes, named, to_named, from_named, term, terms, Atoms, to_spatial, from_spatial, behind_address, behind_name, spatial, heap, parameters, cases, to_definition, from_definition, definition, to_goal, from_goal, disjuncts, state, entailment, goal, definitions, lines, to_problem, from_problem, last_part, body, problem}
 
 -- ---- a word or nothing
@@ -314,11 +317,12 @@ definitions-apart ds (l ∷ ls) g r = definitions-end (commands.line_word.word t
 body-law : Lawful body
 unfolding body
 body-law =
-    shaped-law {A = List Definition × (List Line × Goal)} to_problem from_problem Any _ (λ x f. (refl, tt)) (λ p h. refl)
-    (after-law _ _ (keyword-law _) (after-law _ _ (keyword-law _) (after-law _ _ (numeral-law _) (after-law semicolon _ (symbol-law _)
+    shaped-law {A = Version × (List Definition × (List Line × Goal))} to_problem from_problem Any _ (λ x f. (refl, tt)) (λ p h. refl)
+    (after-law _ _ (keyword-law _) (after-law _ _ (keyword-law _) (seq-law (one version) (after semicolon (seq definitions (seq lines last_part))) (one-law version version-law) (after-law semicolon _ (symbol-law _)
     (seq-law definitions (seq lines last_part) definitions-law
     (seq-law lines last_part (lines-law (one free_name) free_variables) last_part-law (λ ls g r fls fg h. rest-apart ls g r))
-    (λ ds p r fx fy h. definitions-apart ds p.0 p.1 r))))))
+    (λ ds p r fx fy h. definitions-apart ds p.0 p.1 r)))
+    (λ x y r fx fy h. Stops-never ((after semicolon (seq definitions (seq lines last_part))).words y ++ r)))))
 
 pub problem-law : Lawful problem
 unfolding problem body last_part

@@ -4,7 +4,9 @@ use Rattle.std.proofs.Common.{inl, inr}
 use Rattle.cyc_lex.specs.Word.{Word}
 use Rattle.cyc_grammar.specs.Syntax.{Reading, ◌>>=◌, Syntax, Class, begins, read_class, never, one, seq, alt, many, shaped, after, before, nothing, is_one, or_empty}
 use Rattle.cyc_grammar.specs.Classes.{keyword, number, the_end}
-use Rattle.heap_syntax.specs.Words.{nil, pred_word, or_word, last_word, cyclist_word, version, comma, semicolon, bar, arrow, turnstile, opening, closing, opening_brace, closing_brace, prime, free_name}
+use Rattle.heap_syntax.specs.Words.{nil, pred_word, or_word, last_word, cyclist_word, comma, semicolon, bar, arrow, turnstile, opening, closing, opening_brace, closing_brace, prime, free_name}
+use Rattle.heap_syntax.specs.declared.version.Version.{Version}
+use Rattle.heap_syntax.specs.Versions.{version}
 use Rattle.heap_syntax.specs.Grammar as shared
 use Rattle.heap_syntax.specs.Grammar.{Any, Terms, listed, fields, arguments}
 use Rattle.heap_syntax.specs.Trees as heaps
@@ -148,7 +150,7 @@ entailment = seq (heap true) (after turnstile disjuncts)
 unfoldable pub goal : Syntax Goal
 goal = shaped {A = (ℕ × Heap) ⊎ (Heap × List Heap)} to_goal from_goal Any (alt (is_one from_word) state entailment)
 
--- ---- problem = "cyclist" "problem" "1" ";" { pred } { line } "goal" goal "end" ";", and the end of the text
+-- ---- problem = "cyclist" "problem" ( "1" | "2" ) ";" { pred } { line } "goal" goal "end" ";", and the end of the text
 
 unfoldable pub definitions : Syntax (List Definition)
 definitions = many (is_one pred_word) definition
@@ -156,19 +158,19 @@ definitions = many (is_one pred_word) definition
 abbrev pub lines : Syntax (List Line)
 lines = commands.lines (one free_name)
 
-abbrev pub to_problem : List Definition × (List Line × Goal) → Problem
-to_problem p = record { definitions = p.0; lines = p.1.0; goal = p.1.1 }
+abbrev pub to_problem : Version × (List Definition × (List Line × Goal)) → Problem
+to_problem p = record { version = p.0; definitions = p.1.0; lines = p.1.1.0; goal = p.1.1.1 }
 
-abbrev pub from_problem : Problem → List Definition × (List Line × Goal)
-from_problem p = (p.definitions, (p.lines, p.goal))
+abbrev pub from_problem : Problem → Version × (List Definition × (List Line × Goal))
+from_problem p = (p.version, (p.definitions, (p.lines, p.goal)))
 
 -- the goal statement and the last one
 unfoldable pub last_part : Syntax Goal
 last_part = after goal_word (before (before goal last_word) semicolon)
 
 unfoldable pub body : Syntax Problem
-body = shaped {A = List Definition × (List Line × Goal)} to_problem from_problem Any
-    (after cyclist_word (after problem_word (after version (after semicolon (seq definitions (seq lines last_part))))))
+body = shaped {A = Version × (List Definition × (List Line × Goal))} to_problem from_problem Any
+    (after cyclist_word (after problem_word (seq (one version) (after semicolon (seq definitions (seq lines last_part))))))
 
 unfoldable pub problem : Syntax Problem
 problem = before body the_end

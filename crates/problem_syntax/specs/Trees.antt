@@ -2,6 +2,7 @@
 use Rattle.std.specs.Prelude.{ℕ, List, map}
 use Rattle.std.specs.Borrow.{Bor}
 use Rattle.heap_syntax.specs.Trees as heaps
+use Rattle.heap_syntax.specs.declared.version.Version.{Version}
 use Rattle.command_syntax.specs.declared.tree.LineTree.{LineTree}
 use Rattle.command_syntax.specs.Trees as commands
 use Rattle.problem_syntax.specs.declared.tree.NameTree.{NameTree}
@@ -37,6 +38,7 @@ pub data Goal : Type 0 where
   From : ℕ → Heap → Goal
 
 pub record Problem : Type 0 where
+  pub version : Version
   pub definitions : List Definition
   pub lines : List Line
   pub goal : Goal
@@ -65,4 +67,4 @@ goal_of (goals.Entailment h ds) = Entailment (heap_of h) (map heap_of ds.items)
 goal_of (goals.From n h) = From n (heap_of h)
 
 abbrev pub problem_of : ProblemTree → Problem
-problem_of p = record { definitions = map definition_of p.definitions.items; lines = map line_of p.lines.items; goal = goal_of p.goal }
+problem_of p = record { version = p.version; definitions = map definition_of p.definitions.items; lines = map line_of p.lines.items; goal = goal_of p.goal }

@@ -14,7 +14,7 @@ use crate::read_definitions::definitions;
 use crate::tree::{GoalTree, HeapTree, LineTree, ProblemTree};
 use cyc_grammar::{Cursor, Refusal, read_fault};
 use cyc_lex::{ReadFault, Token, Tokens};
-use heap_syntax::{Mark, heaps};
+use heap_syntax::{Mark, heaps, read_version};
 use std::alloc::Global;
 
 fn goal_heap<'a>(alloc: Global, cursor: &mut Cursor<'_, 'a>) -> Result<HeapTree<'a>, Refusal>
@@ -92,12 +92,13 @@ fn body<'a>(alloc: Global, cursor: &mut Cursor<'_, 'a>) -> Result<ProblemTree<'a
 {
     cursor.keyword("cyclist")?;
     cursor.keyword("problem")?;
-    cursor.numeral("1")?;
+    let version = read_version(cursor)?;
     cursor.symbol(";")?;
     let definitions = definitions(alloc, cursor)?;
     let lines = lines(alloc, cursor)?;
     let goal = last_part(alloc, cursor)?;
     Ok(ProblemTree {
+        version,
         definitions,
         lines,
         goal,

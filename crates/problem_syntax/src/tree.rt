@@ -1,5 +1,7 @@
 //! Trees of problem files: what a text of the grammar says, with lists of any length and numbers of at most nine digits.
 
+use heap_syntax::Version;
+
 /// A term: `nil`, a name, or a name with a prime behind it.
 #[derive(Clone, Copy)]
 pub enum NameTree<'a> {
@@ -34,6 +36,7 @@ pub enum GoalTree<'a> {
 /// A problem file.
 #[derive(Drop)]
 pub struct ProblemTree<'a> {
+    pub version: Version,
     pub definitions: Vec<DefinitionTree<'a>>,
     pub lines: Vec<LineTree<'a>>,
     pub goal: GoalTree<'a>,

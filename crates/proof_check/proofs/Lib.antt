@@ -5,3 +5,5 @@ pub mod KeptFacts
 mod TestLoops
 mod Tables
 pub mod OneAnswer
+mod WiderRules
+pub mod Upgraded

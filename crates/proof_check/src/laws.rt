@@ -9,6 +9,7 @@ ghost use Rattle.trace_pairs.specs.Lasso.{AllProgress};
 ghost use Rattle.buchi_inclusion.specs.Answers.{HasAtMost};
 ghost use Rattle.heap_formula.specs.Words.{Each};
 ghost use Rattle.proof_file.specs.declared.file.ProofFile.{ProofFile};
+ghost use Rattle.proof_file.specs.Upgrades.{IsUpgrade};
 ghost use Rattle.proof_check.specs.declared.verdict.Verdict.{Verdict};
 ghost use Rattle.proof_check.specs.declared.verdict.Verdict.TheVariants.{Accepted};
 ghost use Rattle.proof_check.specs.Files.{graph_of, AreReadable, AreRight, HasFewCases, HasSmallHeaps};
@@ -22,4 +23,12 @@ pub fn correct_files_hold()
 /// Of a correct file with few states no check can say anything but that it is accepted.
 pub fn correct_files_are_accepted()
     ensures { (f : ProofFile) (v : Verdict) → IsVerdict f v → IsCorrect f → HasAtMost (file_graph f) state_limit → v ≡ Accepted }
+{}
+
+/// A file is correct exactly where the same as a file of version 2 is, and then both have one trace graph, so as many
+/// product states.
+pub fn upgraded_files_are_as_correct()
+    ensures correct { (f g : ProofFile) → IsUpgrade f g → IsCorrect f → IsCorrect g }
+    ensures before { (f g : ProofFile) → IsUpgrade f g → IsCorrect g → IsCorrect f }
+    ensures graph { (f g : ProofFile) → IsUpgrade f g → IsCorrect f → file_graph g ≡ file_graph f }
 {}

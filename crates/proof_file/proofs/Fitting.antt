@@ -8,12 +8,13 @@ use Rattle.proof_syntax.specs.declared.tree.TermTree.{TermTree}
 use Rattle.proof_syntax.specs.declared.tree.TermTree.TheVariants.{Nil, Univ, Exist}
 use Rattle.proof_syntax.specs.declared.tree.PairTree.{PairTree}
 use Rattle.proof_syntax.specs.Trees.{Heap, Definition, Entailment, Judgement, Entails, From, Reason, Absurd, Rewrite, Split, Distinct, Weaken, Unfold, Cut, Done, Choose, PureRight, Instantiate, Frame, UnfoldRight, Exec, Drop, Link, Node, File}
+use Rattle.heap_syntax.specs.Versions.{most_spatial}
 use Rattle.heap_reader.specs.Trees.{Heading}
 use Rattle.heap_reader.specs.Spans.{heap_span}
 use Rattle.heap_reader.specs.Flaws.{ill_if, over_if, or_later, listed_flaw, arity_in, heap_flaw, heaps_flaw}
 use Rattle.heap_reader.specs.Small.{IsSmall, IsSmallHeap}
 use Rattle.heap_reader.proofs.NoFlaw.{neither, not_over, not_ill, at_most, below, each_of, few_all}
-use Rattle.heap_reader.proofs.Fitting.{heap_small, heaps_small}
+use Rattle.heap_reader.proofs.Fitting.{most_fits, heap_small, heaps_small}
 use Rattle.proof_file.specs.declared.scope.Scope.{Scope}
 use Rattle.proof_file.specs.declared.scope.Scope.TheVariants.{Node as InNode, Case as InCase}
 use Rattle.proof_file.specs.Spans.{term_span, definition_span, judgement_span, pair_span, node_span}
@@ -45,30 +46,30 @@ abbrev pub HasDisjunct : Judgement → Type 0
 HasDisjunct (Entails e) = 0 < length e.disjuncts
 HasDisjunct (From n h) = Unit {0}
 
-node_heap_small : (hs : List Heading) (k : ℕ) (h : Heap) → heap_flaw (term_flaw InNode) term_span hs k h ≡ None → IsSmallHeap term_value h
-node_heap_small hs k h e = heap_small (term_flaw InNode) term_span term_value (term_small InNode tt) hs k h e
+node_heap_small : (most : ℕ) → most ≤ 32 → (hs : List Heading) (k : ℕ) (h : Heap) → heap_flaw (term_flaw InNode) term_span most hs k h ≡ None → IsSmallHeap term_value h
+node_heap_small most few hs k h e = heap_small (term_flaw InNode) term_span term_value (term_small InNode tt) most few hs k h e
 
-module _ (hs : List Heading) where
-  definition_small : (n k : ℕ) (d : Definition) → definition_flaw hs n k d ≡ None → (n < 4096) × IsSmallDefinition d
+module _ (most : ℕ) (few : most ≤ 32) (hs : List Heading) where
+  definition_small : (n k : ℕ) (d : Definition) → definition_flaw most hs n k d ≡ None → (n < 4096) × IsSmallDefinition d
   definition_small n k d e =
-      let a = neither (head_flaw hs n k d) (heaps_flaw (term_flaw (InCase d.arity)) term_span hs Cases (k + 6) d.cases) e in
+      let a = neither (head_flaw hs n k d) (heaps_flaw (term_flaw (InCase d.arity)) term_span most hs Cases (k + 6) d.cases) e in
       let b = neither (over_if (nat_le 4096 n) Predicates k) (or_later (ill_if (is_some (arity_in (take n hs) d.name)) Duplicate (k + 1)) (over_if (nat_lt 8 d.arity) Arguments (k + 3))) a.0 in
       let c = neither (ill_if (is_some (arity_in (take n hs) d.name)) Duplicate (k + 1)) (over_if (nat_lt 8 d.arity) Arguments (k + 3)) b.1 in
       let narrow = at_most 8 d.arity (not_over _ Arguments (k + 3) c.1) in
-      let cases = heaps_small (term_flaw (InCase d.arity)) term_span term_value (term_small (InCase d.arity) narrow) hs Cases (k + 6) d.cases a.1 in
+      let cases = heaps_small (term_flaw (InCase d.arity)) term_span term_value (term_small (InCase d.arity) narrow) most few hs Cases (k + 6) d.cases a.1 in
       (below 4096 n (not_over _ Predicates k b.0), record { cases = cases.0; few = cases.1 })
 
-  entailment_small : (k : ℕ) (j : Entailment) → 0 < length j.disjuncts → entailment_flaw hs k j ≡ None → IsSmallEntailment j
+  entailment_small : (k : ℕ) (j : Entailment) → 0 < length j.disjuncts → entailment_flaw most hs k j ≡ None → IsSmallEntailment j
   entailment_small k j some e =
       let p = k + heap_span term_span j.antecedent in
-      let a = neither (heap_flaw (term_flaw InNode) term_span hs k j.antecedent) (heaps_flaw (term_flaw InNode) term_span hs Disjuncts p j.disjuncts) e in
-      let disjuncts = heaps_small (term_flaw InNode) term_span term_value (term_small InNode tt) hs Disjuncts p j.disjuncts a.1 in
-      record { antecedent = node_heap_small hs k j.antecedent a.0; disjuncts = disjuncts.0; some = some; few = disjuncts.1 }
+      let a = neither (heap_flaw (term_flaw InNode) term_span most hs k j.antecedent) (heaps_flaw (term_flaw InNode) term_span most hs Disjuncts p j.disjuncts) e in
+      let disjuncts = heaps_small (term_flaw InNode) term_span term_value (term_small InNode tt) most few hs Disjuncts p j.disjuncts a.1 in
+      record { antecedent = node_heap_small most few hs k j.antecedent a.0; disjuncts = disjuncts.0; some = some; few = disjuncts.1 }
 
-  judgement_small : (count k : ℕ) (j : Judgement) → HasDisjunct j → judgement_flaw hs count k j ≡ None → IsSmallJudgement j
+  judgement_small : (count k : ℕ) (j : Judgement) → HasDisjunct j → judgement_flaw most hs count k j ≡ None → IsSmallJudgement j
   judgement_small count k (Entails e) some none = entailment_small k e some none
   judgement_small count k (From n h) some none =
-      node_heap_small hs (k + 3) h (neither (ill_if (nat_eq n 0 || nat_lt count n) NoLine (k + 1)) (heap_flaw (term_flaw InNode) term_span hs (k + 3) h) none).1
+      node_heap_small most few hs (k + 3) h (neither (ill_if (nat_eq n 0 || nat_lt count n) NoLine (k + 1)) (heap_flaw (term_flaw InNode) term_span most hs (k + 3) h) none).1
 
   pair_small : (k : ℕ) (p : PairTree) → pair_flaw k p ≡ None → IsSmallPair p
   pair_small k p e =
@@ -76,11 +77,11 @@ module _ (hs : List Heading) where
       let h = at_most 65534 p.variable (not_over _ Variable (k + 1) a.0) in
       (omega arith, term_small InNode tt (k + 3) p.value a.1)
 
-  reason_small : (k : ℕ) (r : Reason) → reason_flaw hs k r ≡ None → IsSmallReason r
+  reason_small : (k : ℕ) (r : Reason) → reason_flaw most hs k r ≡ None → IsSmallReason r
   reason_small k (Split t u) e =
       let a = neither (term_flaw InNode (k + 1) t) (term_flaw InNode (k + term_span t) u) e in
       (term_small InNode tt (k + 1) t a.0, term_small InNode tt (k + term_span t) u a.1)
-  reason_small k (Cut places formula) e = node_heap_small hs (k + 3 + length places) formula e
+  reason_small k (Cut places formula) e = node_heap_small most few hs (k + 3 + length places) formula e
   reason_small k (Instantiate v t) e =
       let a = neither (over_if (nat_lt 65534 v) Variable (k + 2)) (term_flaw InNode (k + 3) t) e in
       let h = at_most 65534 v (not_over _ Variable (k + 2) a.0) in
@@ -101,28 +102,28 @@ module _ (hs : List Heading) where
 
   module _ (count : ℕ) where
     -- what a node without a flaw has no flaw in
-    pub node_parts : (n k : ℕ) (x : Node) → node_flaw hs count n k x ≡ None → (nat_le 20000 n ≡ false) × (judgement_flaw hs count (k + 1) x.judgement ≡ None) × (reason_flaw hs (k + 1 + judgement_span x.judgement) x.reason ≡ None)
+    pub node_parts : (n k : ℕ) (x : Node) → node_flaw most hs count n k x ≡ None → (nat_le 20000 n ≡ false) × (judgement_flaw most hs count (k + 1) x.judgement ≡ None) × (reason_flaw most hs (k + 1 + judgement_span x.judgement) x.reason ≡ None)
     node_parts n k x e =
-        let reason = reason_flaw hs (k + 1 + judgement_span x.judgement) x.reason in
-        let a = neither (over_if (nat_le 20000 n) Nodes k) (or_later (judgement_flaw hs count (k + 1) x.judgement) reason) e in
-        let b = neither (judgement_flaw hs count (k + 1) x.judgement) reason a.1 in
+        let reason = reason_flaw most hs (k + 1 + judgement_span x.judgement) x.reason in
+        let a = neither (over_if (nat_le 20000 n) Nodes k) (or_later (judgement_flaw most hs count (k + 1) x.judgement) reason) e in
+        let b = neither (judgement_flaw most hs count (k + 1) x.judgement) reason a.1 in
         (not_over (nat_le 20000 n) Nodes k a.0, b.0, b.1)
 
-    node_small : (n k : ℕ) (x : Node) → HasDisjunct x.judgement → node_flaw hs count n k x ≡ None → IsSmallNode x
+    node_small : (n k : ℕ) (x : Node) → HasDisjunct x.judgement → node_flaw most hs count n k x ≡ None → IsSmallNode x
     node_small n k x some e =
         let parts = node_parts n k x e in
         (judgement_small count (k + 1) x.judgement some parts.1, reason_small (k + 1 + judgement_span x.judgement) x.reason parts.2)
 
-    nodes_small : (n k : ℕ) (nodes : List Node) → Each (λ (x : Node). HasDisjunct x.judgement) nodes → listed_flaw (node_flaw hs count) node_span n k nodes ≡ None → Each IsSmallNode nodes
+    nodes_small : (n k : ℕ) (nodes : List Node) → Each (λ (x : Node). HasDisjunct x.judgement) nodes → listed_flaw (node_flaw most hs count) node_span n k nodes ≡ None → Each IsSmallNode nodes
     nodes_small n k [] some e = tt
     nodes_small n k (x ∷ xs) some e =
-        let both = neither (node_flaw hs count n k x) (listed_flaw (node_flaw hs count) node_span (suc n) (k + node_span x) xs) e in
+        let both = neither (node_flaw most hs count n k x) (listed_flaw (node_flaw most hs count) node_span (suc n) (k + node_span x) xs) e in
         (node_small n k x some.0 both.0, nodes_small (suc n) (k + node_span x) xs some.1 both.1)
 
 -- what a file without a flaw has no flaw in
-pub file_parts : (f : File) → file_flaw f ≡ None → (listed_flaw (definition_flaw (headings f.definitions)) definition_span 0 4 f.definitions ≡ None) × (program_flaw (first_line f) f.lines ≡ None) × (nodes_flaw f ≡ None)
+pub file_parts : (f : File) → file_flaw f ≡ None → (listed_flaw (definition_flaw (most_spatial f.version) (headings f.definitions)) definition_span 0 4 f.definitions ≡ None) × (program_flaw (first_line f) f.lines ≡ None) × (nodes_flaw f ≡ None)
 file_parts f e =
-    let definitions = listed_flaw (definition_flaw (headings f.definitions)) definition_span 0 4 f.definitions in
+    let definitions = listed_flaw (definition_flaw (most_spatial f.version) (headings f.definitions)) definition_span 0 4 f.definitions in
     let a = neither definitions (or_later (program_flaw (first_line f) f.lines) (nodes_flaw f)) e in
     let b = neither (program_flaw (first_line f) f.lines) (nodes_flaw f) a.1 in
     (a.0, b.0, b.1)
@@ -132,11 +133,13 @@ pub file_small : (f : File) → Each (λ (x : Node). HasDisjunct x.judgement) f.
 file_small f some e =
     let ds = f.definitions in
     let hs = headings ds in
+    let most = most_spatial f.version in
+    let few = most_fits f.version in
     let count = length f.lines in
     let parts = file_parts f e in
     record {
-      definitions = each_of (definition_flaw hs) definition_span IsSmallDefinition (λ n k d h. (definition_small hs n k d h).1) 0 4 ds parts.0;
-      few = few_all (definition_flaw hs) definition_span 4096 (λ n k d h. (definition_small hs n k d h).0) 4 ds parts.0;
-      nodes = nodes_small hs count 0 (first_node f) f.nodes some parts.2;
-      nodes_few = few_all (node_flaw hs count) node_span 20000 (λ n k x h. below 20000 n (node_parts hs count n k x h).0) (first_node f) f.nodes parts.2;
+      definitions = each_of (definition_flaw most hs) definition_span IsSmallDefinition (λ n k d h. (definition_small most few hs n k d h).1) 0 4 ds parts.0;
+      few = few_all (definition_flaw most hs) definition_span 4096 (λ n k d h. (definition_small most few hs n k d h).0) 4 ds parts.0;
+      nodes = nodes_small most few hs count 0 (first_node f) f.nodes some parts.2;
+      nodes_few = few_all (node_flaw most hs count) node_span 20000 (λ n k x h. below 20000 n (node_parts most few hs count n k x h).0) (first_node f) f.nodes parts.2;
     }

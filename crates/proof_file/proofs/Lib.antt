@@ -5,3 +5,4 @@ mod WithinSpans
 mod TreesAgain
 pub mod ValuesAgain
 pub mod Readings
+pub mod Wider

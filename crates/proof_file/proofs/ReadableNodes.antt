@@ -1,5 +1,5 @@
 -- What the grammar lets through has universal variables alone where it must.
-use Rattle.std.proofs.Common.{◌≡◌, ℕ, zero, suc, ◌+◌, ◌<◌, Bool, true, false, ◌&&◌, List, [], ◌∷◌, map, length, None, refl, arith}
+use Rattle.std.proofs.Common.{◌≡◌, ℕ, zero, suc, ◌+◌, ◌<◌, ◌≤◌, Bool, true, false, ◌&&◌, List, [], ◌∷◌, map, length, None, refl, arith}
 use Rattle.std.specs.List.{list_all}
 use Rattle.std.specs.Prelude.{◌||◌, nat_eq, nat_lt, nat_le}
 use Rattle.std.proofs.lemmas.Bool.{le-leb, lt-ltb, ltb-false}
@@ -21,9 +21,11 @@ use Rattle.proof_syntax.specs.declared.tree.TermTree.TheVariants.{Nil, Univ, Exi
 use Rattle.proof_syntax.specs.declared.tree.PairTree.{PairTree}
 use Rattle.proof_syntax.specs.Trees.{PureTree, Spatial, Cell, Predicate, Heap, Line, Definition, Judgement, Entails, From, LinkData, Reason, Absurd, Rewrite, Split, Distinct, Weaken, Unfold, Cut, Done, Choose, PureRight, Instantiate, Frame, UnfoldRight, Exec, Drop, Link, Node, File}
 use Rattle.proof_syntax.specs.Grammar.{uterm, terms, pure, pures, spatial, spatials, heap, entailment, state, judgement, pair, pairs1, pairs, link, parts, split, instantiate, reason, node, nodes, more_nodes, body, file, some_pure, some_spatial, some_pair, comma, star, colon, closing}
+use Rattle.heap_syntax.specs.Versions.{most_spatial}
 use Rattle.heap_reader.specs.Trees.{Heading}
 use Rattle.heap_reader.specs.Flaws.{ill_if, listed_flaw, heap_flaw}
 use Rattle.heap_reader.specs.Values.{pure_value, spatial_value, heap_value, operand_value, command_value}
+use Rattle.heap_reader.proofs.Fitting.{most_fits}
 use Rattle.heap_reader.proofs.NoFlaw.{neither, not_ill}
 use Rattle.proof_file.proofs.Fitting.{node_parts, file_parts}
 use Rattle.proof_file.specs.declared.scope.Scope.TheVariants.{Node as InNode}
@@ -160,7 +162,7 @@ nodes_fit (n ∷ ns) f = (f.1.0, many_fit node ns f.1.1)
 pub nodes_readable : (f : File) → file.fits f → are_readable (map (node_value (headings f.definitions)) f.nodes) ≡ true
 unfolding file body
 nodes_readable f fit =
-    all_pass is_readable (node_value (headings f.definitions)) node.fits (readable_node (headings f.definitions)) f.nodes (nodes_fit f.nodes fit.1.1.1)
+    all_pass is_readable (node_value (headings f.definitions)) node.fits (readable_node (headings f.definitions)) f.nodes (nodes_fit f.nodes fit.1.1.1.1)
 
 pub cases_few : (ds : List Definition) (hs : List Heading) → Each IsSmallDefinition ds → all_have_few_cases (map (definition_value hs) ds) ≡ true
 cases_few ds hs small =
@@ -211,18 +213,18 @@ line_there count n e =
         let within = ltb-false count n o in
         both_true (nat_lt 0 n) (nat_le n count) (lt-ltb 0 n (omega arith)) (le-leb n count within)
 
-judgement_at_line : (hs : List Heading) (count k : ℕ) (j : Judgement) → judgement_flaw hs count k j ≡ None → is_at_line count (judgement_value hs j) ≡ true
-judgement_at_line hs count k (Entails j) e = refl
-judgement_at_line hs count k (From n h) e =
+judgement_at_line : (most : ℕ) (hs : List Heading) (count k : ℕ) (j : Judgement) → judgement_flaw most hs count k j ≡ None → is_at_line count (judgement_value hs j) ≡ true
+judgement_at_line most hs count k (Entails j) e = refl
+judgement_at_line most hs count k (From n h) e =
     let out = nat_eq n 0 || nat_lt count n in
-    line_there count n (not_ill out NoLine (k + 1) (neither (ill_if out NoLine (k + 1)) (heap_flaw (term_flaw InNode) term_span hs (k + 3) h) e).0)
+    line_there count n (not_ill out NoLine (k + 1) (neither (ill_if out NoLine (k + 1)) (heap_flaw (term_flaw InNode) term_span most hs (k + 3) h) e).0)
 
-nodes_at_lines : (hs : List Heading) (count n k : ℕ) (xs : List Node) → listed_flaw (node_flaw hs count) node_span n k xs ≡ None → are_at_lines count (map (node_value hs) xs) ≡ true
-nodes_at_lines hs count n k [] e = refl
-nodes_at_lines hs count n k (x ∷ xs) e =
-    let both = neither (node_flaw hs count n k x) (listed_flaw (node_flaw hs count) node_span (suc n) (k + node_span x) xs) e in
-    let first = judgement_at_line hs count (k + 1) x.judgement (node_parts hs count n k x both.0).1 in
-    both_true (is_at_line count (judgement_value hs x.judgement)) (are_at_lines count (map (node_value hs) xs)) first (nodes_at_lines hs count (suc n) (k + node_span x) xs both.1)
+nodes_at_lines : (most : ℕ) → most ≤ 32 → (hs : List Heading) (count n k : ℕ) (xs : List Node) → listed_flaw (node_flaw most hs count) node_span n k xs ≡ None → are_at_lines count (map (node_value hs) xs) ≡ true
+nodes_at_lines most few hs count n k [] e = refl
+nodes_at_lines most few hs count n k (x ∷ xs) e =
+    let both = neither (node_flaw most hs count n k x) (listed_flaw (node_flaw most hs count) node_span (suc n) (k + node_span x) xs) e in
+    let first = judgement_at_line most hs count (k + 1) x.judgement (node_parts most few hs count n k x both.0).1 in
+    both_true (is_at_line count (judgement_value hs x.judgement)) (are_at_lines count (map (node_value hs) xs)) first (nodes_at_lines most few hs count (suc n) (k + node_span x) xs both.1)
 
 pub file_at_lines : (f : File) → file_flaw f ≡ None → are_at_lines (length f.lines) (map (node_value (headings f.definitions)) f.nodes) ≡ true
-file_at_lines f e = nodes_at_lines (headings f.definitions) (length f.lines) 0 (first_node f) f.nodes (file_parts f e).2
+file_at_lines f e = nodes_at_lines (most_spatial f.version) (most_fits f.version) (headings f.definitions) (length f.lines) 0 (first_node f) f.nodes (file_parts f e).2

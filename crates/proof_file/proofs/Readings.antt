@@ -34,20 +34,20 @@ one_spelled bytes f g first second =
 -- ---- what is written
 
 -- a file's text spells it
-pub text_is_read : (f : ProofFile) → IsRead (text_of_file f.defs.list f.program f.nodes) (Ok f)
+pub text_is_read : (f : ProofFile) → IsRead (text_of_file f.version f.defs.list f.program f.nodes) (Ok f)
 unfolding file
 text_is_read f =
-    let t = tree_of f.defs.list f.program f.nodes in
+    let t = tree_of f.version f.defs.list f.program f.nodes in
     let has = lexemes-read (body.words t) (body-inner.inner t f.fits) in
     (has.0, has.1, (t, (f.fits, has.2), f.flawless, file_known f))
 
 -- what is written of a file, if anything, spells it
-pub written_is_read : {V E : Type 0} (items : V → List ℕ) (f : ProofFile) (t : File) (r : Result V E) → t ≡ tree_of f.defs.list f.program f.nodes → IfOk r (λ v. items v ≡ text_of (body.words t)) → IfOk r (λ v. IsRead (items v) (Ok f))
+pub written_is_read : {V E : Type 0} (items : V → List ℕ) (f : ProofFile) (t : File) (r : Result V E) → t ≡ tree_of f.version f.defs.list f.program f.nodes → IfOk r (λ v. items v ≡ text_of (body.words t)) → IfOk r (λ v. IsRead (items v) (Ok f))
 written_is_read items f t (Ok v) same h =
     subst (λ bs. IsRead bs (Ok f)) (sym (h ∙ ap (λ u. text_of (body.words u)) same)) (text_is_read f)
 written_is_read items f t (Err e) same h = tt
 
 -- what is read of a file's text is that file
-pub text_read_again : (f : ProofFile) (bytes : List ℕ) (answer : Result ProofFile ReadFault) → bytes ≡ text_of_file f.defs.list f.program f.nodes → Reads bytes answer → IsReadAgain f answer
+pub text_read_again : (f : ProofFile) (bytes : List ℕ) (answer : Result ProofFile ReadFault) → bytes ≡ text_of_file f.version f.defs.list f.program f.nodes → Reads bytes answer → IsReadAgain f answer
 text_read_again f bytes answer same =
     again proof_files file-law AreSame one_file f bytes answer (subst (λ bs. IsRead bs (Ok f)) (sym same) (text_is_read f))

@@ -170,9 +170,9 @@ nodes_words (n ∷ ns) f =
 pub file_words : (f : File) → file.fits f → length (file.words f) ≡ 4 + total definition_span f.definitions + total (line_span variable_span) f.lines + total node_span f.nodes + 3
 unfolding file body definitions
 file_words f fit =
-    let d = alone (λ w. true) definition definition_span definition_words f.definitions fit.1.0 in
-    let l = lines_words variable variable_span variable_words f.lines fit.1.1.0 in
-    let n = nodes_words f.nodes fit.1.1.1 in
+    let d = alone (λ w. true) definition definition_span definition_words f.definitions fit.1.1.0 in
+    let l = lines_words variable variable_span variable_words f.lines fit.1.1.1.0 in
+    let n = nodes_words f.nodes fit.1.1.1.1 in
     let a = length-append (nodes.words f.nodes) (semicolon.word tt ∷ []) in
     let e = length-append (lines.words f.lines) (nodes.words f.nodes ++ semicolon.word tt ∷ []) in
     let b = length-append (words_many definition f.definitions) (lines.words f.lines ++ (nodes.words f.nodes ++ semicolon.word tt ∷ [])) in
@@ -200,8 +200,8 @@ list_some (n ∷ ns) g = many_some (n ∷ ns) (g.1.0, g.1.1)
 
 pub nodes_some : (f : File) → file.fits f → Each (λ (n : Node). HasDisjunct n.judgement) f.nodes
 unfolding file body
-nodes_some f fit = list_some f.nodes fit.1.1.1
+nodes_some f fit = list_some f.nodes fit.1.1.1.1
 
 pub file_some : (f : File) → file.fits f → 0 < length f.nodes
 unfolding file body nodes
-file_some f fit = fit.1.1.1.0
+file_some f fit = fit.1.1.1.1.0

@@ -1,5 +1,5 @@
 -- What a tree without a flaw says is written as that tree.
-use Rattle.std.proofs.Common.{◌≡◌, ℕ, suc, ◌+◌, Bool, true, false, List, [], ◌∷◌, length, map, Some, None, refl, subst, arith}
+use Rattle.std.proofs.Common.{◌≡◌, ℕ, suc, ◌+◌, ◌≤◌, Bool, true, false, List, [], ◌∷◌, length, map, Some, None, refl, subst, arith}
 use Rattle.std.specs.Prelude.{◌||◌, ◌&&◌, not, nat_eq, nat_lt, nat_le, if◌then◌else◌}
 use Rattle.std.specs.Str.{bytes_eq}
 use Rattle.std.proofs.lemmas.Bool.{eqb-true}
@@ -20,11 +20,13 @@ use Rattle.proof_syntax.specs.declared.tree.SideTree.{SideTree}
 use Rattle.proof_syntax.specs.declared.tree.SideTree.TheVariants.{Left, Right}
 use Rattle.proof_syntax.specs.declared.tree.PairTree.{PairTree}
 use Rattle.proof_syntax.specs.Trees.{PureTree, Spatial, Cell, Predicate, Heap, Line, Definition, Judgement, Entails, From, Reason, Absurd, Rewrite, Split, Distinct, Weaken, Unfold, Cut, Done, Choose, PureRight, Instantiate, Frame, UnfoldRight, Exec, Drop, Link, Node, File}
+use Rattle.heap_syntax.specs.Versions.{most_spatial}
 use Rattle.heap_reader.specs.Trees.{Heading}
 use Rattle.heap_reader.specs.Spans.{pure_span, pures_span, spatial_span, heap_span, line_span}
 use Rattle.heap_reader.specs.Flaws.{Found, ill_if, over_if, or_later, listed_flaw, arguments_flaw, pure_flaw, arity_in, use_flaw, spatial_flaw, heap_flaw, counted_flaw, heaps_flaw}
 use Rattle.heap_reader.specs.LineFlaws.{goes_on, line_head_flaw, command_flaw, line_flaw}
 use Rattle.heap_reader.specs.Values.{pure_value, place_of, spatial_value, heap_value, operand_value, command_value}
+use Rattle.heap_reader.proofs.Fitting.{most_fits}
 use Rattle.heap_reader.proofs.NoFlaw.{neither, not_ill}
 use Rattle.proof_file.specs.declared.scope.Scope.{Scope}
 use Rattle.proof_file.specs.declared.scope.Scope.TheVariants.{Node as InNode, Case as InCase}
@@ -127,43 +129,43 @@ found_name hs (d ∷ ds) name n k e =
 
 -- ---- heaps
 
-module _ (hs : List Heading) (vs : List DefinitionValue) (named : (name : List ℕ) (n k : ℕ) → use_flaw (arity_in hs name) n k ≡ None → name_of vs (place_of hs name) ≡ name) where
-  spatial_again : (scope : Scope) (n k : ℕ) (x : Spatial) → spatial_flaw (term_flaw scope) term_span hs n k x ≡ None → spatial_tree vs (spatial_value term_value hs x) ≡ x
+module _ (most : ℕ) (few : most ≤ 32) (hs : List Heading) (vs : List DefinitionValue) (named : (name : List ℕ) (n k : ℕ) → use_flaw (arity_in hs name) n k ≡ None → name_of vs (place_of hs name) ≡ name) where
+  spatial_again : (scope : Scope) (n k : ℕ) (x : Spatial) → spatial_flaw (term_flaw scope) term_span most hs n k x ≡ None → spatial_tree vs (spatial_value term_value hs x) ≡ x
   spatial_again scope n k (Cell t ts) e = λ i. Cell (term_again t i) (terms_again ts i)
   spatial_again scope n k (Predicate name ts) e =
-      let used = neither (use_flaw (arity_in hs name) (length ts) k) (or_later (over_if (nat_le 16 n) SpatialAtoms k) (arguments_flaw (term_flaw scope) term_span (k + 2) ts)) e in
+      let used = neither (use_flaw (arity_in hs name) (length ts) k) (or_later (over_if (nat_le most n) SpatialAtoms k) (arguments_flaw (term_flaw scope) term_span (k + 2) ts)) e in
       let same = named name (length ts) k used.0 in
       λ i. Predicate (same i) (terms_again ts i)
 
-  heap_again : (scope : Scope) (k : ℕ) (h : Heap) → heap_flaw (term_flaw scope) term_span hs k h ≡ None → heap_tree vs (heap_value term_value hs h) ≡ h
+  heap_again : (scope : Scope) (k : ℕ) (h : Heap) → heap_flaw (term_flaw scope) term_span most hs k h ≡ None → heap_tree vs (heap_value term_value hs h) ≡ h
   heap_again scope k h e =
-      let both = neither (listed_flaw (pure_flaw (term_flaw scope) term_span) (pure_span term_span) 0 k h.pure) (listed_flaw (spatial_flaw (term_flaw scope) term_span hs) (spatial_span term_span) 0 (k + pures_span term_span h.pure) h.spatial) e in
+      let both = neither (listed_flaw (pure_flaw (term_flaw scope) term_span) (pure_span term_span) 0 k h.pure) (listed_flaw (spatial_flaw (term_flaw scope) term_span most hs) (spatial_span term_span) 0 (k + pures_span term_span h.pure) h.spatial) e in
       let pure = all_again (pure_value term_value) pure_tree pure_again h.pure in
-      let spatial = listed_again (spatial_flaw (term_flaw scope) term_span hs) (spatial_span term_span) (spatial_value term_value hs) (spatial_tree vs) (spatial_again scope) 0 (k + pures_span term_span h.pure) h.spatial both.1 in
+      let spatial = listed_again (spatial_flaw (term_flaw scope) term_span most hs) (spatial_span term_span) (spatial_value term_value hs) (spatial_tree vs) (spatial_again scope) 0 (k + pures_span term_span h.pure) h.spatial both.1 in
       λ i. record { pure = pure i; spatial = spatial i }
 
   -- ---- definitions
 
-  heaps_again : (scope : Scope) (what : What) (k : ℕ) (heaps : List Heap) → heaps_flaw (term_flaw scope) term_span hs what k heaps ≡ None → map (heap_tree vs) (map (heap_value term_value hs) heaps) ≡ heaps
+  heaps_again : (scope : Scope) (what : What) (k : ℕ) (heaps : List Heap) → heaps_flaw (term_flaw scope) term_span most hs what k heaps ≡ None → map (heap_tree vs) (map (heap_value term_value hs) heaps) ≡ heaps
   heaps_again scope what k heaps e =
-      listed_again (counted_flaw (term_flaw scope) term_span hs what) (heap_span term_span) (heap_value term_value hs) (heap_tree vs) (λ n j h g. heap_again scope j h (neither (over_if (nat_le 16 n) what j) (heap_flaw (term_flaw scope) term_span hs j h) g).1) 0 k heaps e
+      listed_again (counted_flaw (term_flaw scope) term_span most hs what) (heap_span term_span) (heap_value term_value hs) (heap_tree vs) (λ n j h g. heap_again scope j h (neither (over_if (nat_le 16 n) what j) (heap_flaw (term_flaw scope) term_span most hs j h) g).1) 0 k heaps e
 
-  definition_again : (n k : ℕ) (d : Definition) → definition_flaw hs n k d ≡ None → definition_tree vs (definition_value hs d) ≡ d
+  definition_again : (n k : ℕ) (d : Definition) → definition_flaw most hs n k d ≡ None → definition_tree vs (definition_value hs d) ≡ d
   definition_again n k d e =
-      let both = neither (head_flaw hs n k d) (heaps_flaw (term_flaw (InCase d.arity)) term_span hs Cases (k + 6) d.cases) e in
+      let both = neither (head_flaw hs n k d) (heaps_flaw (term_flaw (InCase d.arity)) term_span most hs Cases (k + 6) d.cases) e in
       let cases = heaps_again (InCase d.arity) Cases (k + 6) d.cases both.1 in
       λ i. record { name = d.name; arity = d.arity; cases = cases i }
 
   -- ---- nodes
 
-  judgement_again : (count k : ℕ) (j : Judgement) → judgement_flaw hs count k j ≡ None → judgement_tree vs (judgement_value hs j) ≡ j
+  judgement_again : (count k : ℕ) (j : Judgement) → judgement_flaw most hs count k j ≡ None → judgement_tree vs (judgement_value hs j) ≡ j
   judgement_again count k (Entails j) e =
-      let both = neither (heap_flaw (term_flaw InNode) term_span hs k j.antecedent) (heaps_flaw (term_flaw InNode) term_span hs Disjuncts (k + heap_span term_span j.antecedent) j.disjuncts) e in
+      let both = neither (heap_flaw (term_flaw InNode) term_span most hs k j.antecedent) (heaps_flaw (term_flaw InNode) term_span most hs Disjuncts (k + heap_span term_span j.antecedent) j.disjuncts) e in
       let antecedent = heap_again InNode k j.antecedent both.0 in
       let disjuncts = heaps_again InNode Disjuncts (k + heap_span term_span j.antecedent) j.disjuncts both.1 in
       λ i. Entails (record { antecedent = antecedent i; disjuncts = disjuncts i })
   judgement_again count k (From n h) e =
-      let state = heap_again InNode (k + 3) h (neither (ill_if (nat_eq n 0 || nat_lt count n) NoLine (k + 1)) (heap_flaw (term_flaw InNode) term_span hs (k + 3) h) e).1 in
+      let state = heap_again InNode (k + 3) h (neither (ill_if (nat_eq n 0 || nat_lt count n) NoLine (k + 1)) (heap_flaw (term_flaw InNode) term_span most hs (k + 3) h) e).1 in
       λ i. From n (state i)
 
   side_again : (s : SideTree) → side_tree (side_value s) ≡ s
@@ -173,7 +175,7 @@ module _ (hs : List Heading) (vs : List DefinitionValue) (named : (name : List �
   pair_again : (p : PairTree) → pair_tree (pair_value p) ≡ p
   pair_again p = λ i. record { variable = p.variable; value = term_again p.value i }
 
-  reason_again : (k : ℕ) (r : Reason) → reason_flaw hs k r ≡ None → reason_tree vs (reason_value hs r) ≡ r
+  reason_again : (k : ℕ) (r : Reason) → reason_flaw most hs k r ≡ None → reason_tree vs (reason_value hs r) ≡ r
   reason_again k Absurd e = refl
   reason_again k (Rewrite n s) e = λ i. Rewrite n (side_again s i)
   reason_again k (Split t u) e = λ i. Split (term_again t i) (term_again u i)
@@ -195,22 +197,24 @@ module _ (hs : List Heading) (vs : List DefinitionValue) (named : (name : List �
       let pairs = all_again pair_value pair_tree pair_again l.substitution in
       λ i. Link (record { target = l.target; substitution = pairs i; mapped = l.mapped; disjuncts = l.disjuncts })
 
-  node_again : (count n k : ℕ) (x : Node) → node_flaw hs count n k x ≡ None → node_tree vs (node_value hs x) ≡ x
+  node_again : (count n k : ℕ) (x : Node) → node_flaw most hs count n k x ≡ None → node_tree vs (node_value hs x) ≡ x
   node_again count n k x e =
-      let parts = node_parts hs count n k x e in
+      let parts = node_parts most few hs count n k x e in
       let judgement = judgement_again count (k + 1) x.judgement parts.1 in
       let reason = reason_again (k + 1 + judgement_span x.judgement) x.reason parts.2 in
       λ i. record { judgement = judgement i; reason = reason i; premises = x.premises }
 
 -- the values of a tree without a flaw have that tree
-pub tree_again : (f : File) → file_flaw f ≡ None → tree_of (map (definition_value (headings f.definitions)) f.definitions) (program_value f.lines) (map (node_value (headings f.definitions)) f.nodes) ≡ f
+pub tree_again : (f : File) → file_flaw f ≡ None → tree_of f.version (map (definition_value (headings f.definitions)) f.definitions) (program_value f.lines) (map (node_value (headings f.definitions)) f.nodes) ≡ f
 tree_again f e =
     let ds = f.definitions in
     let hs = headings ds in
     let vs = map (definition_value hs) ds in
     let count = length f.lines in
+    let most = most_spatial f.version in
+    let few = most_fits f.version in
     let parts = file_parts f e in
-    let definitions = listed_again (definition_flaw hs) definition_span (definition_value hs) (definition_tree vs) (definition_again hs vs (found_name hs ds)) 0 4 ds parts.0 in
+    let definitions = listed_again (definition_flaw most hs) definition_span (definition_value hs) (definition_tree vs) (definition_again most few hs vs (found_name hs ds)) 0 4 ds parts.0 in
     let lines = lines_again count 0 (first_line f) f.lines parts.1 in
-    let nodes = listed_again (node_flaw hs count) node_span (node_value hs) (node_tree vs) (node_again hs vs (found_name hs ds) count) 0 (first_node f) f.nodes parts.2 in
-    λ i. record { definitions = definitions i; lines = lines i; nodes = nodes i }
+    let nodes = listed_again (node_flaw most hs count) node_span (node_value hs) (node_tree vs) (node_again most few hs vs (found_name hs ds) count) 0 (first_node f) f.nodes parts.2 in
+    λ i. record { version = f.version; definitions = definitions i; lines = lines i; nodes = nodes i }

@@ -30,6 +30,7 @@ use Rattle.cyc_lex.specs.declared.fault.IllFault.TheVariants.{Duplicate}
 use Rattle.cyc_grammar.specs.Classes.{is_free_name}
 use Rattle.cyc_grammar.specs.Syntax.{Class}
 use Rattle.proof_syntax.specs.Trees.{Heap, Definition}
+use Rattle.heap_syntax.specs.Versions.{most_spatial}
 use Rattle.heap_syntax.specs.Grammar as shared
 use Rattle.proof_syntax.specs.Grammar.{reserved, uterm, terms, spatial, heap, heaps, cases, definition, disjuncts, entailment, state, judgement, cut, split, parts, reason, node, nodes, definitions, body, file, bar, closing_brace, or_word, by_word}
 use Rattle.proof_file.specs.declared.node.FileNode.{FileNode}
@@ -62,7 +63,7 @@ each_known tree value Q one (x ∷ xs) e =
     let rest = each_known tree value Q one xs e.1 in
     λ i. first i ∷ rest i
 
-get_map : {X Y : Type 0} (f : X → Y) (xs : List X) (n : ℕ) (x : X) → slice_get xs n ≡ Some x → slice_get (map f xs) n ≡ Some (f x)
+pub get_map : {X Y : Type 0} (f : X → Y) (xs : List X) (n : ℕ) (x : X) → slice_get xs n ≡ Some x → slice_get (map f xs) n ≡ Some (f x)
 get_map f [] n x e = absurd cc
 get_map f (y ∷ ys) zero x e = let same : y ≡ x = cc in ap (λ z. Some (f z)) same
 get_map f (y ∷ ys) (suc n) x e = get_map f ys n x e
@@ -102,9 +103,9 @@ pub none_of : {X : Type 0} (o : Option X) → is_some o ≡ false → o ≡ None
 none_of None e = refl
 none_of (Some x) e = absurd cc
 
-no_earlier : (hs : List Heading) (n k : ℕ) (d : Definition) → definition_flaw hs n k d ≡ None → arity_in (take n hs) d.name ≡ None
-no_earlier hs n k d e =
-    let all = neither (head_flaw hs n k d) (heaps_flaw (term_flaw (InCase d.arity)) term_span hs Cases (k + 6) d.cases) e in
+no_earlier : (most : ℕ) (hs : List Heading) (n k : ℕ) (d : Definition) → definition_flaw most hs n k d ≡ None → arity_in (take n hs) d.name ≡ None
+no_earlier most hs n k d e =
+    let all = neither (head_flaw hs n k d) (heaps_flaw (term_flaw (InCase d.arity)) term_span most hs Cases (k + 6) d.cases) e in
     let head = neither (over_if (nat_le 4096 n) Predicates k) (or_later (ill_if (is_some (arity_in (take n hs) d.name)) Duplicate (k + 1)) (over_if (nat_lt 8 d.arity) Arguments (k + 3))) all.0 in
     let taken = neither (ill_if (is_some (arity_in (take n hs) d.name)) Duplicate (k + 1)) (over_if (nat_lt 8 d.arity) Arguments (k + 3)) head.1 in
     none_of (arity_in (take n hs) d.name) (not_ill _ Duplicate (k + 1) taken.0)
@@ -130,15 +131,15 @@ abbrev heads_of : List DefinitionValue → List Heading
 heads_of ds = headings (trees_of ds)
 
 -- the name of a number has that place
-found_place : (ds : List DefinitionValue) → listed_flaw (definition_flaw (heads_of ds)) definition_span 0 4 (trees_of ds) ≡ None → (p : ℕ) → is_free_name reserved (name_of ds p) ≡ true → place_of (heads_of ds) (name_of ds p) ≡ p
-found_place ds none p free =
+found_place : (most : ℕ) (ds : List DefinitionValue) → listed_flaw (definition_flaw most (heads_of ds)) definition_span 0 4 (trees_of ds) ≡ None → (p : ℕ) → is_free_name reserved (name_of ds p) ≡ true → place_of (heads_of ds) (name_of ds p) ≡ p
+found_place most ds none p free =
     let d = defined (slice_get ds p) free in
     let tree = definition_tree ds d.0 in
     let there = get_map (definition_tree ds) ds p d.0 d.1 in
     let known = get_map heading (trees_of ds) p tree there in
-    let at = flaw_at (definition_flaw (heads_of ds)) definition_span 0 4 (trees_of ds) p tree there none in
+    let at = flaw_at (definition_flaw most (heads_of ds)) definition_span 0 4 (trees_of ds) p tree there none in
     let here : 0 + p ≡ p = omega arith in
-    let first = no_earlier (heads_of ds) p at.0 tree (subst (λ n. definition_flaw (heads_of ds) n at.0 tree ≡ None) here at.1) in
+    let first = no_earlier most (heads_of ds) p at.0 tree (subst (λ n. definition_flaw most (heads_of ds) n at.0 tree ≡ None) here at.1) in
     ap (λ o. place_of (heads_of ds) (name_in o)) d.1 ∙ place_first (heads_of ds) p (heading tree) known first
 
 -- ---- terms and atoms
@@ -280,17 +281,17 @@ unfolding definitions
 definitions_fit ds f = many_fit definition ds f
 
 -- the definitions, the program and the nodes of a file are what its tree says
-pub file_known : (f : ProofFile) → IsFileOf (tree_of f.defs.list f.program f.nodes) f
+pub file_known : (f : ProofFile) → IsFileOf (tree_of f.version f.defs.list f.program f.nodes) f
 unfolding file body
 file_known f =
     let ds = f.defs.list in
-    let tree = tree_of ds f.program f.nodes in
+    let tree = tree_of f.version ds f.program f.nodes in
     let hs = headings tree.definitions in
-    let placed = found_place ds (file_parts tree f.flawless).0 in
+    let placed = found_place (most_spatial f.version) ds (file_parts tree f.flawless).0 in
     record {
-      version = f.first_version;
-      most = f.sixteen;
-      definitions = sym (each_known (definition_tree ds) (definition_value hs) definition.fits (definition_known ds hs placed) ds (definitions_fit tree.definitions f.fits.1.0));
+      version = refl;
+      most = f.limit;
+      definitions = sym (each_known (definition_tree ds) (definition_value hs) definition.fits (definition_known ds hs placed) ds (definitions_fit tree.definitions f.fits.1.1.0));
       program = sym (commands_known 0 f.program f.universal);
-      nodes = sym (each_known (node_tree ds) (node_value hs) node.fits (node_known ds hs placed) f.nodes (nodes_fit tree.nodes f.fits.1.1.1));
+      nodes = sym (each_known (node_tree ds) (node_value hs) node.fits (node_known ds hs placed) f.nodes (nodes_fit tree.nodes f.fits.1.1.1.1));
     }

@@ -7,6 +7,7 @@ use Rattle.proof_syntax.specs.declared.tree.TermTree.{TermTree}
 use Rattle.proof_syntax.specs.declared.tree.TermTree.TheVariants.{Nil, Univ, Exist}
 use Rattle.proof_syntax.specs.declared.tree.PairTree.{PairTree}
 use Rattle.proof_syntax.specs.Trees.{Heap, Definition, Entailment, Judgement, Entails, From, Reason, Absurd, Rewrite, Split, Distinct, Weaken, Unfold, Cut, Done, Choose, PureRight, Instantiate, Frame, UnfoldRight, Exec, Drop, Link, Node, File}
+use Rattle.heap_syntax.specs.Versions.{most_spatial}
 use Rattle.heap_reader.specs.Trees.{Heading}
 use Rattle.heap_reader.specs.Spans.{total, total_or, heap_span}
 use Rattle.heap_reader.specs.Flaws.{ill_if, over_if, or_later, listed_flaw, arity_in, heap_flaw, heaps_flaw}
@@ -35,46 +36,46 @@ variable_before k v = over_before (nat_lt 63 v) ProgramVariables (k + 1) (k + 3)
 
 -- ---- definitions and nodes
 
-node_heap_before : (hs : List Heading) (k : ℕ) (h : Heap) → Before (heap_flaw (term_flaw InNode) term_span hs k h) (k + heap_span term_span h)
-node_heap_before hs k h = heap_before (term_flaw InNode) term_span some_span (term_before InNode) hs k h
+node_heap_before : (most : ℕ) (hs : List Heading) (k : ℕ) (h : Heap) → Before (heap_flaw (term_flaw InNode) term_span most hs k h) (k + heap_span term_span h)
+node_heap_before most hs k h = heap_before (term_flaw InNode) term_span some_span (term_before InNode) most hs k h
 
-module _ (hs : List Heading) where
-  definition_before : (n k : ℕ) (d : Definition) → Before (definition_flaw hs n k d) (k + definition_span d)
+module _ (most : ℕ) (hs : List Heading) where
+  definition_before : (n k : ℕ) (d : Definition) → Before (definition_flaw most hs n k d) (k + definition_span d)
   definition_before n k d =
       let m = k + definition_span d in
       let taken = is_some (arity_in (take n hs) d.name) in
-      let cases = heaps_flaw (term_flaw (InCase d.arity)) term_span hs Cases (k + 6) d.cases in
-      first_before (head_flaw hs n k d) cases m (first_before (over_if (nat_le 4096 n) Predicates k) (or_later (ill_if taken Duplicate (k + 1)) (over_if (nat_lt 8 d.arity) Arguments (k + 3))) m (over_before (nat_le 4096 n) Predicates k m (omega arith)) (first_before (ill_if taken Duplicate (k + 1)) (over_if (nat_lt 8 d.arity) Arguments (k + 3)) m (ill_before taken Duplicate (k + 1) m (omega arith)) (over_before (nat_lt 8 d.arity) Arguments (k + 3) m (omega arith)))) (later cases (k + 6 + total (heap_span term_span) d.cases) m (omega arith) (heaps_before (term_flaw (InCase d.arity)) term_span some_span (term_before (InCase d.arity)) hs Cases (k + 6) d.cases))
+      let cases = heaps_flaw (term_flaw (InCase d.arity)) term_span most hs Cases (k + 6) d.cases in
+      first_before (head_flaw hs n k d) cases m (first_before (over_if (nat_le 4096 n) Predicates k) (or_later (ill_if taken Duplicate (k + 1)) (over_if (nat_lt 8 d.arity) Arguments (k + 3))) m (over_before (nat_le 4096 n) Predicates k m (omega arith)) (first_before (ill_if taken Duplicate (k + 1)) (over_if (nat_lt 8 d.arity) Arguments (k + 3)) m (ill_before taken Duplicate (k + 1) m (omega arith)) (over_before (nat_lt 8 d.arity) Arguments (k + 3) m (omega arith)))) (later cases (k + 6 + total (heap_span term_span) d.cases) m (omega arith) (heaps_before (term_flaw (InCase d.arity)) term_span some_span (term_before (InCase d.arity)) most hs Cases (k + 6) d.cases))
 
-  entailment_before : (k : ℕ) (e : Entailment) → Before (entailment_flaw hs k e) (k + entailment_span e)
+  entailment_before : (k : ℕ) (e : Entailment) → Before (entailment_flaw most hs k e) (k + entailment_span e)
   entailment_before k e =
       let m = k + entailment_span e in
       let p = k + heap_span term_span e.antecedent in
-      let left = heap_flaw (term_flaw InNode) term_span hs k e.antecedent in
-      let right = heaps_flaw (term_flaw InNode) term_span hs Disjuncts p e.disjuncts in
-      first_before left right m (later left p m (omega arith) (node_heap_before hs k e.antecedent)) (later right (p + total (heap_span term_span) e.disjuncts) m (omega arith) (heaps_before (term_flaw InNode) term_span some_span (term_before InNode) hs Disjuncts p e.disjuncts))
+      let left = heap_flaw (term_flaw InNode) term_span most hs k e.antecedent in
+      let right = heaps_flaw (term_flaw InNode) term_span most hs Disjuncts p e.disjuncts in
+      first_before left right m (later left p m (omega arith) (node_heap_before most hs k e.antecedent)) (later right (p + total (heap_span term_span) e.disjuncts) m (omega arith) (heaps_before (term_flaw InNode) term_span some_span (term_before InNode) most hs Disjuncts p e.disjuncts))
 
-  judgement_before : (count k : ℕ) (j : Judgement) → Before (judgement_flaw hs count k j) (k + judgement_span j)
+  judgement_before : (count k : ℕ) (j : Judgement) → Before (judgement_flaw most hs count k j) (k + judgement_span j)
   judgement_before count k (Entails e) = entailment_before k e
   judgement_before count k (From n h) =
       let m = k + judgement_span (From n h) in
       let out = nat_eq n 0 || nat_lt count n in
-      let state = heap_flaw (term_flaw InNode) term_span hs (k + 3) h in
-      first_before (ill_if out NoLine (k + 1)) state m (ill_before out NoLine (k + 1) m (omega arith)) (later state (k + 3 + heap_span term_span h) m (omega arith) (node_heap_before hs (k + 3) h))
+      let state = heap_flaw (term_flaw InNode) term_span most hs (k + 3) h in
+      first_before (ill_if out NoLine (k + 1)) state m (ill_before out NoLine (k + 1) m (omega arith)) (later state (k + 3 + heap_span term_span h) m (omega arith) (node_heap_before most hs (k + 3) h))
 
   pair_before : (k : ℕ) (p : PairTree) → Before (pair_flaw k p) (k + pair_span p)
   pair_before k p =
       let m = k + pair_span p in
       first_before (over_if (nat_lt 65534 p.variable) Variable (k + 1)) (term_flaw InNode (k + 3) p.value) m (over_before (nat_lt 65534 p.variable) Variable (k + 1) m (omega arith)) (later (term_flaw InNode (k + 3) p.value) (k + 3 + term_span p.value) m (omega arith) (term_before InNode (k + 3) p.value))
 
-  reason_before : (k : ℕ) (r : Reason) → Before (reason_flaw hs k r) (k + reason_span r)
+  reason_before : (k : ℕ) (r : Reason) → Before (reason_flaw most hs k r) (k + reason_span r)
   reason_before k (Split t u) =
       let s = some_span t in
       let v = some_span u in
       let m = k + reason_span (Split t u) in
       first_before (term_flaw InNode (k + 1) t) (term_flaw InNode (k + term_span t) u) m (later (term_flaw InNode (k + 1) t) (k + 1 + term_span t) m (omega arith) (term_before InNode (k + 1) t)) (later (term_flaw InNode (k + term_span t) u) (k + term_span t + term_span u) m (omega arith) (term_before InNode (k + term_span t) u))
   reason_before k (Cut places formula) =
-      later (heap_flaw (term_flaw InNode) term_span hs (k + 3 + length places) formula) (k + 3 + length places + heap_span term_span formula) (k + reason_span (Cut places formula)) (omega arith) (node_heap_before hs (k + 3 + length places) formula)
+      later (heap_flaw (term_flaw InNode) term_span most hs (k + 3 + length places) formula) (k + 3 + length places + heap_span term_span formula) (k + reason_span (Cut places formula)) (omega arith) (node_heap_before most hs (k + 3 + length places) formula)
   reason_before k (Instantiate v t) =
       let m = k + reason_span (Instantiate v t) in
       first_before (over_if (nat_lt 65534 v) Variable (k + 2)) (term_flaw InNode (k + 3) t) m (over_before (nat_lt 65534 v) Variable (k + 2) m (omega arith)) (later (term_flaw InNode (k + 3) t) (k + 3 + term_span t) m (omega arith) (term_before InNode (k + 3) t))
@@ -93,12 +94,12 @@ module _ (hs : List Heading) where
   reason_before k Exec = tt
   reason_before k (Drop i) = tt
 
-  node_before : (count n k : ℕ) (x : Node) → Before (node_flaw hs count n k x) (k + node_span x)
+  node_before : (count n k : ℕ) (x : Node) → Before (node_flaw most hs count n k x) (k + node_span x)
   node_before count n k x =
       let m = k + node_span x in
       let p = k + 1 + judgement_span x.judgement in
-      let judgement = judgement_flaw hs count (k + 1) x.judgement in
-      let reason = reason_flaw hs p x.reason in
+      let judgement = judgement_flaw most hs count (k + 1) x.judgement in
+      let reason = reason_flaw most hs p x.reason in
       first_before (over_if (nat_le 20000 n) Nodes k) (or_later judgement reason) m (over_before (nat_le 20000 n) Nodes k m (omega arith)) (first_before judgement reason m (later judgement p m (omega arith) (judgement_before count (k + 1) x.judgement)) (later reason (p + reason_span x.reason) m (omega arith) (reason_before p x.reason)))
 
 -- a file's flaw stands at a token before its last statement
@@ -106,8 +107,9 @@ pub file_before : (f : File) → Before (file_flaw f) (first_node f + total node
 file_before f =
     let ds = f.definitions in
     let hs = headings ds in
+    let most = most_spatial f.version in
     let count = length f.lines in
     let m = first_node f + total node_span f.nodes in
-    let definitions = listed_flaw (definition_flaw hs) definition_span 0 4 ds in
+    let definitions = listed_flaw (definition_flaw most hs) definition_span 0 4 ds in
     let program = program_flaw (first_line f) f.lines in
-    first_before definitions (or_later program (nodes_flaw f)) m (later definitions (first_line f) m (omega arith) (listed_before (definition_flaw hs) definition_span (definition_before hs) 0 4 ds)) (first_before program (nodes_flaw f) m (later program (first_node f) m (omega arith) (lines_before variable_flaw variable_span variable_before (first_line f) f.lines)) (listed_before (node_flaw hs count) node_span (node_before hs count) 0 (first_node f) f.nodes))
+    first_before definitions (or_later program (nodes_flaw f)) m (later definitions (first_line f) m (omega arith) (listed_before (definition_flaw most hs) definition_span (definition_before most hs) 0 4 ds)) (first_before program (nodes_flaw f) m (later program (first_node f) m (omega arith) (lines_before variable_flaw variable_span variable_before (first_line f) f.lines)) (listed_before (node_flaw most hs count) node_span (node_before most hs count) 0 (first_node f) f.nodes))

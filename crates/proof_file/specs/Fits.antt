@@ -204,4 +204,4 @@ nodes-fit ns =
 pub file-fit : HasOneFit file
 unfolding file body definitions
 file-fit f =
-    ×_prop Unit-prop (×_prop (many-fit definition definition-fit f.definitions) (×_prop (lines-fit f.lines) (nodes-fit f.nodes)))
+    ×_prop Unit-prop (×_prop Unit-prop (×_prop (many-fit definition definition-fit f.definitions) (×_prop (lines-fit f.lines) (nodes-fit f.nodes))))

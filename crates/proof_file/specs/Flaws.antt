@@ -2,6 +2,7 @@
 use Rattle.std.specs.Prelude.{ℕ, ◌+◌, ◌||◌, nat_eq, nat_lt, nat_le, is_some, List, length, map, take, None}
 use Rattle.cyc_lex.specs.declared.fault.IllFault.TheVariants.{Duplicate, Parameter, NoLine}
 use Rattle.cyc_lex.specs.declared.fault.What.TheVariants.{Predicates, Arguments, Cases, Locals, Disjuncts, ProgramVariables, Nodes, Variable}
+use Rattle.heap_syntax.specs.Versions.{most_spatial}
 use Rattle.heap_reader.specs.Trees.{Heading}
 use Rattle.heap_reader.specs.Spans.{total, heap_span, line_span}
 use Rattle.heap_reader.specs.Flaws.{Found, ill_if, over_if, or_later, listed_flaw, arity_in, heap_flaw, heaps_flaw}
@@ -40,7 +41,7 @@ variable_flaw k n = over_if (nat_lt 63 n) ProgramVariables (k + 1)
 abbrev pub program_flaw : ℕ → List Line → Found
 program_flaw k ls = lines_flaw variable_flaw variable_span k ls
 
--- ---- definitions
+-- ---- definitions; a heap has at most so many spatial atoms, by the file's version
 
 -- the name, which no definition before has, and the arity
 abbrev pub head_flaw : List Heading → ℕ → ℕ → Definition → Found
@@ -48,50 +49,50 @@ head_flaw hs n k d =
     or_later (over_if (nat_le 4096 n) Predicates k) (or_later (ill_if (is_some (arity_in (take n hs) d.name)) Duplicate (k + 1)) (over_if (nat_lt 8 d.arity) Arguments (k + 3)))
 
 -- at most 4,096, no two with one name
-abbrev pub definition_flaw : List Heading → ℕ → ℕ → Definition → Found
-definition_flaw hs n k d =
-    or_later (head_flaw hs n k d) (heaps_flaw (term_flaw (InCase d.arity)) term_span hs Cases (k + 6) d.cases)
+abbrev pub definition_flaw : ℕ → List Heading → ℕ → ℕ → Definition → Found
+definition_flaw most hs n k d =
+    or_later (head_flaw hs n k d) (heaps_flaw (term_flaw (InCase d.arity)) term_span most hs Cases (k + 6) d.cases)
 
 -- ---- nodes of a file that has so many lines
 
-abbrev pub entailment_flaw : List Heading → ℕ → Entailment → Found
-entailment_flaw hs k e =
-    or_later (heap_flaw (term_flaw InNode) term_span hs k e.antecedent) (heaps_flaw (term_flaw InNode) term_span hs Disjuncts (k + heap_span term_span e.antecedent) e.disjuncts)
+abbrev pub entailment_flaw : ℕ → List Heading → ℕ → Entailment → Found
+entailment_flaw most hs k e =
+    or_later (heap_flaw (term_flaw InNode) term_span most hs k e.antecedent) (heaps_flaw (term_flaw InNode) term_span most hs Disjuncts (k + heap_span term_span e.antecedent) e.disjuncts)
 
 -- the number of a line, and the symbolic state there
-abbrev pub state_flaw : List Heading → ℕ → ℕ → ℕ → Heap → Found
-state_flaw hs count k n h =
-    or_later (ill_if (nat_eq n 0 || nat_lt count n) NoLine (k + 1)) (heap_flaw (term_flaw InNode) term_span hs (k + 3) h)
+abbrev pub state_flaw : ℕ → List Heading → ℕ → ℕ → ℕ → Heap → Found
+state_flaw most hs count k n h =
+    or_later (ill_if (nat_eq n 0 || nat_lt count n) NoLine (k + 1)) (heap_flaw (term_flaw InNode) term_span most hs (k + 3) h)
 
-abbrev pub judgement_flaw : List Heading → ℕ → ℕ → Judgement → Found
-judgement_flaw hs count k (Entails e) = entailment_flaw hs k e
-judgement_flaw hs count k (From n h) = state_flaw hs count k n h
+abbrev pub judgement_flaw : ℕ → List Heading → ℕ → ℕ → Judgement → Found
+judgement_flaw most hs count k (Entails e) = entailment_flaw most hs k e
+judgement_flaw most hs count k (From n h) = state_flaw most hs count k n h
 
 abbrev pub pair_flaw : ℕ → PairTree → Found
 pair_flaw k p = or_later (over_if (nat_lt 65534 p.variable) Variable (k + 1)) (term_flaw InNode (k + 3) p.value)
 
-abbrev pub reason_flaw : List Heading → ℕ → Reason → Found
-reason_flaw hs k Absurd = None
-reason_flaw hs k (Rewrite i side) = None
-reason_flaw hs k (Split t u) = or_later (term_flaw InNode (k + 1) t) (term_flaw InNode (k + term_span t) u)
-reason_flaw hs k (Distinct i j) = None
-reason_flaw hs k (Weaken i) = None
-reason_flaw hs k (Unfold i) = None
-reason_flaw hs k (Cut places formula) = heap_flaw (term_flaw InNode) term_span hs (k + 3 + length places) formula
-reason_flaw hs k Done = None
-reason_flaw hs k (Choose j) = None
-reason_flaw hs k (PureRight i) = None
-reason_flaw hs k (Instantiate v t) = or_later (over_if (nat_lt 65534 v) Variable (k + 2)) (term_flaw InNode (k + 3) t)
-reason_flaw hs k (Frame i j) = None
-reason_flaw hs k (UnfoldRight j c) = None
-reason_flaw hs k Exec = None
-reason_flaw hs k (Drop i) = None
-reason_flaw hs k (Link l) = listed_flaw (λ n. pair_flaw) pair_span 0 (k + 3) l.substitution
+abbrev pub reason_flaw : ℕ → List Heading → ℕ → Reason → Found
+reason_flaw most hs k Absurd = None
+reason_flaw most hs k (Rewrite i side) = None
+reason_flaw most hs k (Split t u) = or_later (term_flaw InNode (k + 1) t) (term_flaw InNode (k + term_span t) u)
+reason_flaw most hs k (Distinct i j) = None
+reason_flaw most hs k (Weaken i) = None
+reason_flaw most hs k (Unfold i) = None
+reason_flaw most hs k (Cut places formula) = heap_flaw (term_flaw InNode) term_span most hs (k + 3 + length places) formula
+reason_flaw most hs k Done = None
+reason_flaw most hs k (Choose j) = None
+reason_flaw most hs k (PureRight i) = None
+reason_flaw most hs k (Instantiate v t) = or_later (over_if (nat_lt 65534 v) Variable (k + 2)) (term_flaw InNode (k + 3) t)
+reason_flaw most hs k (Frame i j) = None
+reason_flaw most hs k (UnfoldRight j c) = None
+reason_flaw most hs k Exec = None
+reason_flaw most hs k (Drop i) = None
+reason_flaw most hs k (Link l) = listed_flaw (λ n. pair_flaw) pair_span 0 (k + 3) l.substitution
 
 -- at most 20,000
-abbrev pub node_flaw : List Heading → ℕ → ℕ → ℕ → Node → Found
-node_flaw hs count n k node =
-    or_later (over_if (nat_le 20000 n) Nodes k) (or_later (judgement_flaw hs count (k + 1) node.judgement) (reason_flaw hs (k + 1 + judgement_span node.judgement) node.reason))
+abbrev pub node_flaw : ℕ → List Heading → ℕ → ℕ → ℕ → Node → Found
+node_flaw most hs count n k node =
+    or_later (over_if (nat_le 20000 n) Nodes k) (or_later (judgement_flaw most hs count (k + 1) node.judgement) (reason_flaw most hs (k + 1 + judgement_span node.judgement) node.reason))
 
 -- ---- files: four tokens stand before the definitions
 
@@ -103,8 +104,8 @@ abbrev pub first_node : File → ℕ
 first_node f = first_line f + total (line_span variable_span) f.lines
 
 abbrev pub nodes_flaw : File → Found
-nodes_flaw f = listed_flaw (node_flaw (headings f.definitions) (length f.lines)) node_span 0 (first_node f) f.nodes
+nodes_flaw f = listed_flaw (node_flaw (most_spatial f.version) (headings f.definitions) (length f.lines)) node_span 0 (first_node f) f.nodes
 
 abbrev pub file_flaw : File → Found
 file_flaw f =
-    or_later (listed_flaw (definition_flaw (headings f.definitions)) definition_span 0 4 f.definitions) (or_later (program_flaw (first_line f) f.lines) (nodes_flaw f))
+    or_later (listed_flaw (definition_flaw (most_spatial f.version) (headings f.definitions)) definition_span 0 4 f.definitions) (or_later (program_flaw (first_line f) f.lines) (nodes_flaw f))

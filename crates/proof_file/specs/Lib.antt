@@ -5,4 +5,5 @@ pub mod Small
 pub mod Readable
 pub mod Reading
 pub mod Written
+pub mod Upgrades
 pub mod Fits

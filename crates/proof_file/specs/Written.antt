@@ -20,6 +20,7 @@ use Rattle.heap_formula.specs.declared.proof_rules.Reason.TheVariants.{Step, Bac
 use Rattle.heap_formula.specs.Definitions.{Definition as DefinitionValue}
 use Rattle.heap_formula.specs.Symbolic.{SymbolicHeap}
 use Rattle.cyc_lex.specs.Spacing.{text_of}
+use Rattle.heap_syntax.specs.declared.version.Version.{Version}
 use Rattle.command_syntax.specs.declared.tree.OperandTree.{OperandTree}
 use Rattle.command_syntax.specs.declared.tree.OperandTree.TheVariants as operands
 use Rattle.command_syntax.specs.declared.tree.ChangeTree.TheVariants as changes
@@ -133,10 +134,10 @@ reason_tree ds (Back link) = Link (link_tree link)
 abbrev pub node_tree : List DefinitionValue → FileNode → Node
 node_tree ds n = record { judgement = judgement_tree ds n.judgement; reason = reason_tree ds n.reason; premises = n.premises }
 
--- the tree of these definitions, lines and nodes
-abbrev pub tree_of : List DefinitionValue → List Command → List FileNode → File
-tree_of ds cs ns = record { definitions = map (definition_tree ds) ds; lines = lines_tree cs; nodes = map (node_tree ds) ns }
+-- the tree of a version with these definitions, lines and nodes
+abbrev pub tree_of : Version → List DefinitionValue → List Command → List FileNode → File
+tree_of version ds cs ns = record { version = version; definitions = map (definition_tree ds) ds; lines = lines_tree cs; nodes = map (node_tree ds) ns }
 
 -- their text
-abbrev pub text_of_file : List DefinitionValue → List Command → List FileNode → List ℕ
-text_of_file ds cs ns = text_of (body.words (tree_of ds cs ns))
+abbrev pub text_of_file : Version → List DefinitionValue → List Command → List FileNode → List ℕ
+text_of_file version ds cs ns = text_of (body.words (tree_of version ds cs ns))

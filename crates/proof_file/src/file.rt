@@ -1,5 +1,6 @@
 // Proof files as values.
 ghost use Rattle.std.specs.Prelude.{◌≡◌, ◌<◌, ◌≤◌, None, length, true};
+ghost use Rattle.heap_syntax.specs.Versions.{most_spatial};
 ghost use Rattle.proof_syntax.specs.Grammar.{file};
 ghost use Rattle.proof_file.specs.Readable.{are_readable, are_universal_commands, are_at_lines, all_have_few_cases};
 ghost use Rattle.proof_file.specs.Flaws.{file_flaw};
@@ -8,6 +9,7 @@ ghost use Rattle.proof_file.specs.Written.{tree_of};
 
 use crate::node::FileNodes;
 use goto_lang::Program;
+use heap_syntax::Version;
 use pred_defs::Defs;
 
 /// A proof file: the version of the format, the definitions, the program, and the nodes of the proof, node 0 being its
@@ -16,7 +18,7 @@ use pred_defs::Defs;
 /// names one of the program's. The file has a text: its tree fits the grammar, and has no flaw.
 #[derive(Drop)]
 pub struct ProofFile {
-    pub version: u8,
+    pub version: Version,
     pub defs: Defs,
     pub program: Program,
     pub nodes: FileNodes,
@@ -26,8 +28,7 @@ pub struct ProofFile {
     ghost universal: { are_universal_commands program ≡ true },
     ghost at_lines: { are_at_lines (length program) nodes ≡ true },
     ghost cases: { all_have_few_cases defs.list ≡ true },
-    ghost first_version: { version ≡ 1 },
-    ghost sixteen: { defs.most ≡ 16 },
-    ghost fits: { file.fits (tree_of defs.list program nodes) } by { file-fit (tree_of defs.list program nodes) },
-    ghost flawless: { file_flaw (tree_of defs.list program nodes) ≡ None },
+    ghost limit: { defs.most ≡ most_spatial version },
+    ghost fits: { file.fits (tree_of version defs.list program nodes) } by { file-fit (tree_of version defs.list program nodes) },
+    ghost flawless: { file_flaw (tree_of version defs.list program nodes) ≡ None },
 }

@@ -30,11 +30,12 @@ fn file_of_tree(
     requires right { first_flaw (file_of tree.now) ≡ None }
     ensures { IfOk result (IsFileOf (file_of tree.now)) }
 {
-    let defs = Defs::from_vec(alloc, 16, definitions(alloc, heads, &tree.definitions)?);
+    let definitions = definitions(alloc, heads, &tree.definitions)?;
+    let defs = Defs::from_vec(alloc, tree.version.most_spatial(), definitions);
     let program = program(alloc, &ProgramVariables, &tree.lines)?;
     let nodes = FileNodes::from_vec(nodes(alloc, heads, &tree.nodes)?);
     Ok(ProofFile {
-        version: 1,
+        version: tree.version,
         defs,
         program,
         nodes,

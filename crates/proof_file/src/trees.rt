@@ -269,13 +269,14 @@ fn nodes<'a>(
 
 /// The tree of a file.
 pub fn file_tree<'a>(alloc: Global, file: &'a ProofFile) -> Result<FileTree<'a>, OutOfMemory>
-    ensures { IfOk result (λ t. file_of t ≡ tree_of file.now.defs.list file.now.program file.now.nodes) }
+    ensures { IfOk result (λ t. file_of t ≡ tree_of file.now.version file.now.defs.list file.now.program file.now.nodes) }
 {
     let defs = file.defs.as_slice();
     let definitions = definitions(alloc, defs)?;
     let lines = lines(alloc, &file.program)?;
     let nodes = nodes(alloc, defs, file.nodes.as_slice())?;
     Ok(FileTree {
+        version: file.version,
         definitions,
         lines,
         nodes,

@@ -1,5 +1,6 @@
 // A walk over a file's tree in the order of its tokens, up to the first flaw. Each function is given the number of the
-// part's first token and gives that of the token behind it and the one that follows every part of its kind.
+// part's first token and gives that of the token behind it and the one that follows every part of its kind. A heap has at
+// most `most` spatial atoms.
 ghost use Rattle.std.specs.Prelude.{◌≡◌, ◌+◌, ◌<◌, ◌≤◌, ◌^◌, length, map, nat_lt};
 ghost use Rattle.cyc_lex.specs.declared.fault.What.TheVariants.{Variable, Cases};
 ghost use Rattle.proof_syntax.specs.Trees.{heap_of, definition_of, entailment_of, judgement_of, link_of, reason_of, node_of, file_of};
@@ -39,77 +40,103 @@ fn definition_head(
     Ok(())
 }
 
-fn cases(heads: &Heads<'_>, arity: u32, at: usize, trees: &[HeapTree<'_>]) -> Result<usize, Flaw>
+fn cases(
+    heads: &Heads<'_>,
+    most: u8,
+    arity: u32,
+    at: usize,
+    trees: &[HeapTree<'_>],
+) -> Result<usize, Flaw>
     requires { at + total (heap_span term_span) (map heap_of trees.now) < 2 ^ 64 }
-    ensures { IsWalk result (heaps_flaw (term_flaw (Case arity)) term_span heads.now Cases at (map heap_of trees.now)) (at + total (heap_span term_span) (map heap_of trees.now)) }
+    ensures { IsWalk result (heaps_flaw (term_flaw (Case arity)) term_span most heads.now Cases at (map heap_of trees.now)) (at + total (heap_span term_span) (map heap_of trees.now)) }
 {
-    walk_heaps(heads, &Scope::Case(arity), What::Cases, at, trees)
+    walk_heaps(heads, &Scope::Case(arity), most, What::Cases, at, trees)
 }
 
 fn definition(
     heads: &Heads<'_>,
+    most: u8,
     n: usize,
     at: usize,
     tree: &DefinitionTree<'_>,
 ) -> Result<usize, Flaw>
     requires there { n ≤ length heads.now }
     requires fits { at + definition_span (definition_of tree.now) < 2 ^ 64 }
-    ensures { IsWalk result (definition_flaw heads.now n at (definition_of tree.now)) (at + definition_span (definition_of tree.now)) }
+    ensures { IsWalk result (definition_flaw most heads.now n at (definition_of tree.now)) (at + definition_span (definition_of tree.now)) }
 {
     definition_head(heads, n, at, tree)?;
-    let behind = cases(heads, tree.arity, at + 6, &tree.cases)?;
+    let behind = cases(heads, most, tree.arity, at + 6, &tree.cases)?;
     Ok(behind + 1)
 }
 
-fn definitions(heads: &Heads<'_>, at: usize, trees: &[DefinitionTree<'_>]) -> Result<usize, Flaw>
+fn definitions(
+    heads: &Heads<'_>,
+    most: u8,
+    at: usize,
+    trees: &[DefinitionTree<'_>],
+) -> Result<usize, Flaw>
     requires there { length trees.now ≤ length heads.now }
     requires fits { at + total definition_span (map definition_of trees.now) < 2 ^ 64 }
-    ensures { IsWalk result (listed_flaw (definition_flaw heads.now) definition_span 0 at (map definition_of trees.now)) (at + total definition_span (map definition_of trees.now)) }
+    ensures { IsWalk result (listed_flaw (definition_flaw most heads.now) definition_span 0 at (map definition_of trees.now)) (at + total definition_span (map definition_of trees.now)) }
 {
     let mut next = at;
     for (n, tree) in trees.iter().enumerate() {
-        next = definition(heads, n, next, tree)?;
+        next = definition(heads, most, n, next, tree)?;
     }
     Ok(next)
 }
 
-fn entailment(heads: &Heads<'_>, at: usize, tree: &EntailmentTree<'_>) -> Result<usize, Flaw>
+fn entailment(
+    heads: &Heads<'_>,
+    most: u8,
+    at: usize,
+    tree: &EntailmentTree<'_>,
+) -> Result<usize, Flaw>
     requires { at + entailment_span (entailment_of tree.now) < 2 ^ 64 }
-    ensures { IsWalk result (entailment_flaw heads.now at (entailment_of tree.now)) (at + entailment_span (entailment_of tree.now)) }
+    ensures { IsWalk result (entailment_flaw most heads.now at (entailment_of tree.now)) (at + entailment_span (entailment_of tree.now)) }
 {
-    let right = walk_heap(heads, &Scope::Node, at, &tree.antecedent)?;
-    walk_heaps(heads, &Scope::Node, What::Disjuncts, right, &tree.disjuncts)
+    let right = walk_heap(heads, &Scope::Node, most, at, &tree.antecedent)?;
+    walk_heaps(
+        heads,
+        &Scope::Node,
+        most,
+        What::Disjuncts,
+        right,
+        &tree.disjuncts,
+    )
 }
 
 /// The number of a line, one of so many, and the symbolic state there.
 fn state(
     heads: &Heads<'_>,
+    most: u8,
     count: usize,
     at: usize,
     line: u32,
     tree: &HeapTree<'_>,
 ) -> Result<usize, Flaw>
     requires { at + 3 + heap_span term_span (heap_of tree.now) < 2 ^ 64 }
-    ensures { IsWalk result (state_flaw heads.now count at line (heap_of tree.now)) (at + 3 + heap_span term_span (heap_of tree.now)) }
+    ensures { IsWalk result (state_flaw most heads.now count at line (heap_of tree.now)) (at + 3 + heap_span term_span (heap_of tree.now)) }
 {
     if line == 0 || line as usize > count {
         return Err(ill(IllFault::NoLine, at + 1));
     }
-    walk_heap(heads, &Scope::Node, at + 3, tree)
+    walk_heap(heads, &Scope::Node, most, at + 3, tree)
 }
 
 fn judgement(
     heads: &Heads<'_>,
+    most: u8,
     count: usize,
     at: usize,
     tree: &JudgementTree<'_>,
 ) -> Result<usize, Flaw>
     requires { at + judgement_span (judgement_of tree.now) < 2 ^ 64 }
-    ensures { IsWalk result (judgement_flaw heads.now count at (judgement_of tree.now)) (at + judgement_span (judgement_of tree.now)) }
+    ensures { IsWalk result (judgement_flaw most heads.now count at (judgement_of tree.now)) (at + judgement_span (judgement_of tree.now)) }
 {
     match tree {
-        JudgementTree::Entailment(tree) => entailment(heads, at, tree),
-        JudgementTree::From(line, tree) => state(heads, count, at, *line, tree),
+        JudgementTree::Entailment(tree) => entailment(heads, most, at, tree),
+        JudgementTree::From(line, tree) => state(heads, most, count, at, *line, tree),
     }
 }
 
@@ -171,9 +198,9 @@ fn split(at: usize, left: TermTree, right: TermTree) -> Result<usize, Flaw>
     Scope::Node.walk(behind - 1, right)
 }
 
-fn reason(heads: &Heads<'_>, at: usize, tree: &ReasonTree<'_>) -> Result<usize, Flaw>
+fn reason(heads: &Heads<'_>, most: u8, at: usize, tree: &ReasonTree<'_>) -> Result<usize, Flaw>
     requires { at + reason_span (reason_of tree.now) < 2 ^ 64 }
-    ensures { IsWalk result (reason_flaw heads.now at (reason_of tree.now)) (at + reason_span (reason_of tree.now)) }
+    ensures { IsWalk result (reason_flaw most heads.now at (reason_of tree.now)) (at + reason_span (reason_of tree.now)) }
 {
     match tree {
         ReasonTree::Absurd | ReasonTree::Done | ReasonTree::Exec => Ok(at + 2),
@@ -188,7 +215,7 @@ fn reason(heads: &Heads<'_>, at: usize, tree: &ReasonTree<'_>) -> Result<usize, 
         | ReasonTree::UnfoldRight(_, _) => Ok(at + 4),
         ReasonTree::Split(left, right) => split(at, *left, *right),
         ReasonTree::Cut(places, formula) => {
-            walk_heap(heads, &Scope::Node, at + 3 + places.len(), formula)
+            walk_heap(heads, &Scope::Node, most, at + 3 + places.len(), formula)
         }
         ReasonTree::Instantiate(variable, term) => instantiate(at, *variable, *term),
         ReasonTree::Link(tree) => link(at, tree),
@@ -208,29 +235,36 @@ fn premises(at: usize, numbers: &[u32]) -> usize
 /// A node of a file that has so many lines.
 fn node(
     heads: &Heads<'_>,
+    most: u8,
     count: usize,
     n: usize,
     at: usize,
     tree: &NodeTree<'_>,
 ) -> Result<usize, Flaw>
     requires { at + node_span (node_of tree.now) < 2 ^ 64 }
-    ensures { IsWalk result (node_flaw heads.now count n at (node_of tree.now)) (at + node_span (node_of tree.now)) }
+    ensures { IsWalk result (node_flaw most heads.now count n at (node_of tree.now)) (at + node_span (node_of tree.now)) }
 {
     if n >= 20000 {
         return Err(over(What::Nodes, at));
     }
-    let by = judgement(heads, count, at + 1, &tree.judgement)?;
-    let behind = reason(heads, by, &tree.reason)?;
+    let by = judgement(heads, most, count, at + 1, &tree.judgement)?;
+    let behind = reason(heads, most, by, &tree.reason)?;
     Ok(premises(behind, &tree.premises))
 }
 
-fn nodes(heads: &Heads<'_>, count: usize, at: usize, trees: &[NodeTree<'_>]) -> Result<usize, Flaw>
+fn nodes(
+    heads: &Heads<'_>,
+    most: u8,
+    count: usize,
+    at: usize,
+    trees: &[NodeTree<'_>],
+) -> Result<usize, Flaw>
     requires { at + total node_span (map node_of trees.now) < 2 ^ 64 }
-    ensures { IsWalk result (listed_flaw (node_flaw heads.now count) node_span 0 at (map node_of trees.now)) (at + total node_span (map node_of trees.now)) }
+    ensures { IsWalk result (listed_flaw (node_flaw most heads.now count) node_span 0 at (map node_of trees.now)) (at + total node_span (map node_of trees.now)) }
 {
     let mut next = at;
     for (n, tree) in trees.iter().enumerate() {
-        next = node(heads, count, n, next, tree)?;
+        next = node(heads, most, count, n, next, tree)?;
     }
     Ok(next)
 }
@@ -241,9 +275,10 @@ fn statements(heads: &Heads<'_>, tree: &FileTree<'_>) -> Result<usize, Flaw>
     requires fits { first_node (file_of tree.now) + total node_span (map node_of tree.now.nodes.items) < 2 ^ 64 }
     ensures { IsWalk result (first_flaw (file_of tree.now)) (first_node (file_of tree.now) + total node_span (map node_of tree.now.nodes.items)) }
 {
-    let first_line = definitions(heads, 4, &tree.definitions)?;
+    let most = tree.version.most_spatial();
+    let first_line = definitions(heads, most, 4, &tree.definitions)?;
     let first_node = walk_lines(&ProgramVariables, first_line, &tree.lines)?;
-    nodes(heads, tree.lines.len(), first_node, &tree.nodes)
+    nodes(heads, most, tree.lines.len(), first_node, &tree.nodes)
 }
 
 /// The first flaw of a file, by its token; the heads are those of its definitions.

@@ -23,6 +23,10 @@ use Rattle.proof_graph.proofs.Joined.{mapped_at}
 use Rattle.node_reasons.proofs.RightGraphs.{each_at}
 use Rattle.proof_check.proofs.KeptFacts.{root_holds}
 use Rattle.rule_table.specs.Nodes.{Node}
+use Rattle.heap_syntax.specs.declared.version.Version.{Version}
+use Rattle.heap_syntax.specs.declared.version.Version.TheVariants.{One, Two}
+use Rattle.heap_syntax.specs.Versions.{most_spatial}
+use Rattle.heap_reader.proofs.Fitting.{most_fits}
 use Rattle.format_limits.specs.Limits.{IsDefinitionWithin, IsJudgementWithin}
 use Rattle.problem_files.specs.Nodes.{IsNodeWithin}
 use Rattle.search_moves.specs.Limits.{IsSmall}
@@ -38,15 +42,26 @@ use Rattle.derivation_moves.specs.Derivations.{theory_in, nodes_in, goals_in, re
 use Rattle.proof_search.specs.Outcomes.{search_for, reasons_of, IsProofFor}
 use Rattle.proof_search.proofs.FileNodes.{reasons_made, some_is}
 
+-- the limit of each version
+some_atoms : (version : Version) → 0 < most_spatial version
+some_atoms One = omega arith
+some_atoms Two = omega arith
+
+limit_bounded : (problem : Problem) → problem.defs.most ≤ 32
+limit_bounded problem = subst (λ (most : ℕ). most ≤ 32) (sym problem.limit) (most_fits problem.version)
+
+limit_positive : (problem : Problem) → 0 < problem.defs.most
+limit_positive problem = subst (λ (most : ℕ). 0 < most) (sym problem.limit) (some_atoms problem.version)
+
 abbrev pub theory_for : Problem → Theory
 theory_for problem = theory problem.defs problem.program
 
-small_each : (ds xs : List Definition) → Each (IsDefinitionWithin ds) xs → Each IsSmall xs
-small_each ds [] h = tt
-small_each ds (x ∷ xs) h = (record { parameters = h.0.arity; cases = h.0.few }, small_each ds xs h.1)
+small_each : (most : ℕ) (ds xs : List Definition) → Each (IsDefinitionWithin most ds) xs → Each IsSmall xs
+small_each most ds [] h = tt
+small_each most ds (x ∷ xs) h = (record { parameters = h.0.arity; cases = h.0.few }, small_each most ds xs h.1)
 
 pub are_small : (problem : Problem) → IsWithinLimits (theory_for problem) problem.goal → Each IsSmall problem.defs.list
-are_small problem limits = small_each problem.defs.list problem.defs.list limits.definitions
+are_small problem limits = small_each problem.defs.most problem.defs.list problem.defs.list limits.definitions
 
 -- the moves, with what they found
 pub record HasFound (problem : Problem) (moves : Derivation) : Type 0 where
@@ -79,19 +94,19 @@ pub some_node : (t : Theory) (goal : Judgement) (nodes : List FileNode) → AreP
 some_node t goal nodes proof = let n = slice_get_within nodes 0 proof.root proof.is_root in omega (arith, n)
 
 -- an antecedent within the limits has few spatial atoms
-few_atoms : (ds : List Definition) (count : ℕ) (j : Judgement) → IsJudgementWithin ds count j → length (antecedent j).spatial ≤ 32
-few_atoms ds count (Entail a bs) h =
-    let few = leb-true (length a.spatial) 16 (and_parts (nat_le (length a.pure) 64) (nat_le (length a.spatial) 16) h.heaps.0.short).1 in omega (arith, few)
-few_atoms ds count (Runs i a) h =
-    let few = leb-true (length a.spatial) 16 (and_parts (nat_le (length a.pure) 64) (nat_le (length a.spatial) 16) h.heaps.0.short).1 in omega (arith, few)
+few_atoms : (most : ℕ) → most ≤ 32 → (ds : List Definition) (count : ℕ) (j : Judgement) → IsJudgementWithin most ds count j → length (antecedent j).spatial ≤ 32
+few_atoms most bounded ds count (Entail a bs) h =
+    let few = leb-true (length a.spatial) most (and_parts (nat_le (length a.pure) 64) (nat_le (length a.spatial) most) h.heaps.0.short).1 in omega (arith, few, bounded)
+few_atoms most bounded ds count (Runs i a) h =
+    let few = leb-true (length a.spatial) most (and_parts (nat_le (length a.pure) 64) (nat_le (length a.spatial) most) h.heaps.0.short).1 in omega (arith, few, bounded)
 
-small_heaps : (t : Theory) (nodes : List FileNode) → Each (IsNodeWithin t.definitions (length t.lines)) nodes → HasSmallHeaps (nodes_of nodes)
-small_heaps t nodes within v node at =
+small_heaps : (t : Theory) (nodes : List FileNode) → t.most ≤ 32 → Each (IsNodeWithin t.most t.definitions (length t.lines)) nodes → HasSmallHeaps (nodes_of nodes)
+small_heaps t nodes bounded within v node at =
     let m = mapped_at node_of nodes v node at in
-    let w = each_at (IsNodeWithin t.definitions (length t.lines)) nodes v m.from m.at within in
-    subst (λ (n : Node). length (antecedent n.judgement).spatial ≤ 32) m.is (few_atoms t.definitions (length t.lines) m.from.judgement w.judgement)
+    let w = each_at (IsNodeWithin t.most t.definitions (length t.lines)) nodes v m.from m.at within in
+    subst (λ (n : Node). length (antecedent n.judgement).spatial ≤ 32) m.is (few_atoms t.most bounded t.definitions (length t.lines) m.from.judgement w.judgement)
 
-module _ (problem : Problem) (f : ProofFile) (moves : Derivation) (h : HasFound problem moves) (is_program : IsProgram problem.program) (same_defs : f.defs ≡ problem.defs) (same_program : f.program ≡ problem.program)
+module _ (problem : Problem) (f : ProofFile) (moves : Derivation) (h : HasFound problem moves) (is_program : IsProgram problem.program) (same_version : f.version ≡ problem.version) (same_defs : f.defs ≡ problem.defs) (same_program : f.program ≡ problem.program)
     (same_nodes : f.nodes ≡ nodes_made (theory_for problem) (nodes_in moves)) (same_reasons : reasons_of f ≡ reasons_in moves) where
   graph_same : graph_of problem.defs.most problem.defs.list problem.program (nodes_of (nodes_made (theory_for problem) (nodes_in moves))) ≡ graph_of f.defs.most f.defs.list f.program (nodes_of f.nodes)
   graph_same = λ i. graph_of (sym same_defs i).most (sym same_defs i).list (sym same_program i) (nodes_of (sym same_nodes i))
@@ -105,10 +120,11 @@ module _ (problem : Problem) (f : ProofFile) (moves : Derivation) (h : HasFound 
   }
 
   small : HasSmallHeaps (nodes_of f.nodes)
-  small = subst (λ ns. HasSmallHeaps (nodes_of ns)) (sym same_nodes) (small_heaps (theory_for problem) (nodes_made (theory_for problem) (nodes_in moves)) h.proof.within)
+  small = subst (λ ns. HasSmallHeaps (nodes_of ns)) (sym same_nodes) (small_heaps (theory_for problem) (nodes_made (theory_for problem) (nodes_in moves)) (limit_bounded problem) h.proof.within)
 
   pub is_proof : IsProofFor problem f
   is_proof = record {
+    version = same_version;
     definitions = same_defs;
     program = same_program;
     tableau = h.tableau;
@@ -129,8 +145,8 @@ follows problem moves d p g = λ i. search_system (theory (sym d i) (sym p i)) (
 pub same_about : (problem : Problem) (moves : Derivation) → moves.defs ≡ problem.defs → moves.program ≡ problem.program → moves.root ≡ problem.goal → about moves ≡ (problem.defs, (problem.program, problem.goal))
 same_about problem moves d p g = λ i. (d i, (p i, g i))
 
-pub within : (problem : Problem) → Each (IsDefinitionWithin problem.defs.list) problem.defs.list → IsProgram problem.program → IsJudgementWithin problem.defs.list (length problem.program) problem.goal → IsWithinLimits (theory_for problem) problem.goal
-within problem definitions program goal = record { most = problem.sixteen; definitions = definitions; program = program; goal_within = goal }
+pub within : (problem : Problem) → Each (IsDefinitionWithin problem.defs.most problem.defs.list) problem.defs.list → IsProgram problem.program → IsJudgementWithin problem.defs.most problem.defs.list (length problem.program) problem.goal → IsWithinLimits (theory_for problem) problem.goal
+within problem definitions program goal = record { some = limit_positive problem; most = limit_bounded problem; definitions = definitions; program = program; goal_within = goal }
 
 pub same_reasons : (problem : Problem) (f : ProofFile) (moves : Derivation) → f.nodes ≡ nodes_made (theory_for problem) (nodes_in moves) → reasons_of f ≡ reasons_in moves
 same_reasons problem f moves e = ap (map (λ (n : FileNode). n.reason)) e ∙ reasons_made (theory_for problem) moves.made.items

@@ -33,6 +33,7 @@ outcome_of TooManyStates = HasTooManyStates
 
 -- a correct proof of the problem's goal, which holds; its nodes are what its reasons make of the goal
 pub record IsProofFor (problem : Problem) (f : ProofFile) : Type 0 where
+  pub version : f.version ≡ problem.version
   pub definitions : f.defs ≡ problem.defs
   pub program : f.program ≡ problem.program
   pub tableau : Tableau Judgement Reason

@@ -85,6 +85,7 @@ pub fn file_of(
     requires closed { goals_in moves.now ≡ [] }
     requires theory { theory_in moves.now ≡ theory problem.now.defs problem.now.program }
     requires proof { AreProof (theory problem.now.defs problem.now.program) problem.now.goal (nodes_made (theory problem.now.defs problem.now.program) (nodes_in moves.now)) }
+    ensures version { IfOk result (λ f. f.version ≡ problem.now.version) }
     ensures definitions { IfOk result (λ f. f.defs ≡ problem.now.defs) }
     ensures program { IfOk result (λ f. f.program ≡ problem.now.program) }
     ensures nodes { IfOk result (λ f. f.nodes ≡ nodes_made (theory problem.now.defs problem.now.program) (nodes_in moves.now)) }

@@ -16,6 +16,7 @@ use Rattle.proof_syntax.specs.declared.reason_word.ReasonWord.TheVariants as wor
 use Rattle.proof_syntax.specs.ReasonWords.{side_text, sides}
 use Rattle.proof_syntax.specs.Trees.{Heap, Line, Definition, Entailment, Judgement, Reason, Node}
 use Rattle.proof_syntax.specs.Grammar.{Any, nil, pred_word, node_word, from_word, given_word, or_word, by_word, to_word, last_word, cyclist_word, proof_word, version, dollar, query, comma, semicolon, bar, assign, turnstile, opening, closing, opening_brace, closing_brace, opening_bracket, closing_bracket, free_name, to_term, from_term, term, to_uterm, from_uterm, IsUniversal, uterm, terms, terms_of, spatial, heap, cons, IsSome, heaps, to_definition, from_definition, cases, definition, variable, lines, to_entailment, from_entailment, disjuncts, entailment, state, to_judgement, from_judgement, judgement, numbers, bracketed, two_numbers, side, rewrite, split, cut, instantiate, to_pair, from_pair, pair, some_pair, pairs1, pairs, to_link, from_link, link, Parts, parts, to_reason, from_reason, reason_word, reason, to_premises, from_premises, premises, to_node, from_node, node, some_node, definitions, more_nodes, nodes, to_file, from_file, body, file}
+use Rattle.heap_syntax.specs.declared.version.Version.{Version}
 use Rattle.heap_syntax.proofs.WordTexts.{nil-word, pred-word, or-word, last-word, cyclist-word, version-word, syms}
 use Rattle.command_syntax.proofs.CommandLaws.{lines-inner}
 use Rattle.heap_syntax.proofs.HeapEnds.{free_name-inner, spatial-inner, heap-inner, heaps-inner}
@@ -180,7 +181,7 @@ nodes-inner = shaped-inner {A = Node × List Node} cons (uncons some_node) IsSom
 
 pub body-inner : Inner body
 unfolding body definitions
-body-inner = shaped-inner {A = List Definition × (List Line × List Node)} to_file from_file Any _ (after-inner cyclist_word _ cyclist-word (after-inner proof_word _ proof-word (after-inner version _ version-word (after-inner semicolon _ syms.semicolon_word
+body-inner = shaped-inner {A = Version × (List Definition × (List Line × List Node))} to_file from_file Any _ (after-inner cyclist_word _ cyclist-word (after-inner proof_word _ proof-word (seq-inner (one version) _ (one-inner version version-word) (after-inner semicolon _ syms.semicolon_word
     (seq-inner _ _ (many-inner (is_one pred_word) definition definition-inner) (seq-inner lines _ (lines-inner variable variable-inner) (before-inner nodes semicolon syms.semicolon_word nodes-inner)))))))
 
 pub file-last : EndsLast file

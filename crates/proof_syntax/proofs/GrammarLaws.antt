@@ -4,7 +4,7 @@ use Rattle.cyc_lex.specs.Word.{Word}
 use Rattle.cyc_grammar.specs.Syntax.{one, seq, alt, after, before, headed, is_one, uncons, list1}
 use Rattle.cyc_grammar.specs.Classes.{the_end, number, find_text, keyword_of}
 use Rattle.cyc_grammar.proofs.Laws.{Lawful, Stops, Begins, BeginsNot, BeginsNot-append, ClassLaw, one-law, seq-law, shaped-law, alt-law, many-law, after-law, before-law, nothing-law, headed-law, list1-law, or_empty-law, uncons-cons, Stops-never}
-use Rattle.cyc_grammar.proofs.ClassLaws.{symbol-law, keyword-law, numeral-law, the_end-law, number-law, keyword_of-law}
+use Rattle.cyc_grammar.proofs.ClassLaws.{symbol-law, keyword-law, the_end-law, number-law, keyword_of-law}
 use Rattle.proof_syntax.specs.declared.tree.TermTree.{TermTree}
 use Rattle.proof_syntax.specs.declared.tree.TermTree.TheVariants.{Nil, Univ, Exist}
 use Rattle.proof_syntax.specs.declared.tree.PairTree.{PairTree}
@@ -14,7 +14,9 @@ use Rattle.proof_syntax.specs.declared.reason_word.ReasonWord.{ReasonWord}
 use Rattle.proof_syntax.specs.declared.reason_word.ReasonWord.TheVariants as words
 use Rattle.proof_syntax.specs.ReasonWords.{reason_text, reason_words, side_text, sides}
 use Rattle.proof_syntax.specs.Trees.{Heap, Line, Definition, Entailment, Judgement, Entails, From, Reason, Absurd, Rewrite, Split, Distinct, Weaken, Unfold, Cut, Done, Choose, PureRight, Instantiate, Frame, UnfoldRight, Exec, Drop, Link, Node}
-use Rattle.proof_syntax.specs.Grammar.{Any, nil, true_word, emp, pred_word, node_word, from_word, given_word, or_word, by_word, to_word, last_word, dollar, query, comma, semicolon, star, bar, assign, turnstile, opening, closing, opening_brace, closing_brace, opening_bracket, closing_bracket, free_name, to_term, from_term, term, to_uterm, from_uterm, IsUniversal, uterm, terms, terms_of, spatial, heap, some_heap, cons, IsSome, to_definition, from_definition, cases, definition, variable, lines, to_entailment, from_entailment, disjuncts, entailment, state, to_judgement, from_judgement, judgement, numbers, bracketed, two_numbers, side, rewrite, split, cut, instantiate, to_pair, from_pair, pair, some_pair, pairs1, pairs, to_link, from_link, link, Parts, parts, made_of, to_reason, from_reason, reason_word, reason, to_premises, from_premises, premises, to_node, from_node, node, some_node, definitions, more_nodes, nodes, to_file, from_file, body, file}
+use Rattle.proof_syntax.specs.Grammar.{Any, nil, true_word, emp, pred_word, node_word, from_word, given_word, or_word, by_word, to_word, last_word, dollar, query, comma, semicolon, star, bar, assign, turnstile, opening, closing, opening_brace, closing_brace, opening_bracket, closing_bracket, free_name, to_term, from_term, term, to_uterm, from_uterm, IsUniversal, uterm, terms, terms_of, spatial, heap, some_heap, cons, IsSome, to_definition, from_definition, cases, definition, variable, lines, to_entailment, from_entailment, disjuncts, entailment, state, to_judgement, from_judgement, judgement, numbers, bracketed, two_numbers, side, rewrite, split, cut, instantiate, to_pair, from_pair, pair, some_pair, pairs1, pairs, to_link, from_link, link, Parts, parts, made_of, to_reason, from_reason, reason_word, reason, to_premises, from_premises, premises, to_node, from_node, node, some_node, definitions, more_nodes, nodes, to_file, from_file, version, body, file}
+use Rattle.heap_syntax.specs.declared.version.Version.{Version}
+use Rattle.heap_syntax.proofs.WordTexts.{version-law}
 use Rattle.command_syntax.specs.Grammar as commands
 use Rattle.command_syntax.proofs.CommandLaws.{VariableLaw, lines-law, lines-end}
 use Rattle.heap_syntax.proofs.HeapLaws.{TermLaw, AtomLaw, Nameless, closed-stops, list-end, listed-closed, spatial-all, heap-law, heap-end, heap-not, heaps-law, free_name-law, nil-no-name}
@@ -541,11 +543,12 @@ definitions-apart ds (l ∷ ls) ns rest = definitions-end (commands.line_word.wo
 body-law : Lawful body
 unfolding body
 body-law =
-    shaped-law {A = List Definition × (List Line × List Node)} to_file from_file Any _ (λ x f. (refl, tt)) (λ n h. refl)
-    (after-law _ _ (keyword-law _) (after-law _ _ (keyword-law _) (after-law _ _ (numeral-law _) (after-law semicolon _ (symbol-law _)
+    shaped-law {A = Version × (List Definition × (List Line × List Node))} to_file from_file Any _ (λ x f. (refl, tt)) (λ n h. refl)
+    (after-law _ _ (keyword-law _) (after-law _ _ (keyword-law _) (seq-law (one version) (after semicolon (seq definitions (seq lines (before nodes semicolon)))) (one-law version version-law) (after-law semicolon _ (symbol-law _)
     (seq-law definitions (seq lines (before nodes semicolon)) definitions-law
     (seq-law lines (before nodes semicolon) (lines-law variable dollar_variables) (before-law nodes semicolon (symbol-law _) nodes-law (λ ns f. nodes-closed ns (semicolon.word tt))) (λ ls ns r fls fns h. lines-apart ls ns r))
-    (λ ds p r fx fy h. definitions-apart ds p.0 p.1 r))))))
+    (λ ds p r fx fy h. definitions-apart ds p.0 p.1 r)))
+    (λ x y r fx fy h. Stops-never ((after semicolon (seq definitions (seq lines (before nodes semicolon)))).words y ++ r)))))
 
 pub file-law : Lawful file
 unfolding file body

@@ -1,12 +1,10 @@
 -- What is written for premises and for a whole file.
-use Rattle.std.proofs.Common.{◌≡◌, ℕ, List, [], ◌∷◌, ◌++◌, ap, ◌∙◌, refl}
-use Rattle.std.specs.Prelude.{codes, decimal}
-use Rattle.std.specs.Fmt.{digits}
-use Rattle.cyc_lex.specs.declared.token.Kind.TheVariants.{Number}
+use Rattle.std.proofs.Common.{◌≡◌, ℕ, List, [], ◌∷◌, ◌++◌}
 use Rattle.cyc_lex.specs.Word.{Word}
 use Rattle.cyc_lex.specs.Writing.{Written, write, write_all}
 use Rattle.cyc_grammar.specs.Classes.{number}
 use Rattle.cyc_grammar.proofs.WrittenTexts.{wrote-behind, wrote-both, wrote-ended}
+use Rattle.heap_syntax.specs.declared.version.Version.{Version}
 use Rattle.proof_syntax.specs.Trees.{Definition, Line, Node}
 use Rattle.proof_syntax.specs.Grammar.{to_word, cyclist_word, proof_word, version, semicolon, numbers, premises, definitions, lines, nodes, body}
 
@@ -16,17 +14,13 @@ premises-wrote old a b c d n ns ha hb hc hd =
     let rest : List Word = numbers.words ns ++ semicolon.word tt ∷ [] in
     wrote-behind old a d (to_word.word tt) (number.word n ∷ rest) ha (wrote-behind a b d (number.word n) rest hb (wrote-both b c d (numbers.words ns) (semicolon.word tt ∷ []) hc hd))
 
-one-text : decimal 1 ≡ codes "1"
-unfolding digits
-one-text = refl
-
-pub body-wrote : (old a b c d e l f g : Written) (ds : List Definition) (ls : List Line) (ns : List Node) → a ≡ write old (cyclist_word.word tt) → b ≡ write a (proof_word.word tt) → c ≡ write b (record { kind = Number; text = decimal 1 }) → d ≡ write c (semicolon.word tt)
-    → e ≡ write_all d (definitions.words ds) → l ≡ write_all e (lines.words ls) → f ≡ write_all l (nodes.words ns) → g ≡ write f (semicolon.word tt) → g ≡ write_all old (body.words (record { definitions = ds; lines = ls; nodes = ns }))
+pub body-wrote : (old a b c d e l f g : Written) (v : Version) (ds : List Definition) (ls : List Line) (ns : List Node) → a ≡ write old (cyclist_word.word tt) → b ≡ write a (proof_word.word tt) → c ≡ write b (version.word v) → d ≡ write c (semicolon.word tt)
+    → e ≡ write_all d (definitions.words ds) → l ≡ write_all e (lines.words ls) → f ≡ write_all l (nodes.words ns) → g ≡ write f (semicolon.word tt) → g ≡ write_all old (body.words (record { version = v; definitions = ds; lines = ls; nodes = ns }))
 unfolding body
-body-wrote old a b c d e l f g ds ls ns ha hb hc hd he hl hf hg =
+body-wrote old a b c d e l f g v ds ls ns ha hb hc hd he hl hf hg =
     let last : List Word = lines.words ls ++ (nodes.words ns ++ semicolon.word tt ∷ []) in
     let rest : List Word = definitions.words ds ++ last in
-    wrote-behind old a g (cyclist_word.word tt) (proof_word.word tt ∷ version.word tt ∷ semicolon.word tt ∷ rest) ha
-    (wrote-behind a b g (proof_word.word tt) (version.word tt ∷ semicolon.word tt ∷ rest) hb
-    (wrote-behind b c g (version.word tt) (semicolon.word tt ∷ rest) (hc ∙ ap (λ (s : List ℕ). write b (record { kind = Number; text = s })) one-text)
+    wrote-behind old a g (cyclist_word.word tt) (proof_word.word tt ∷ version.word v ∷ semicolon.word tt ∷ rest) ha
+    (wrote-behind a b g (proof_word.word tt) (version.word v ∷ semicolon.word tt ∷ rest) hb
+    (wrote-behind b c g (version.word v) (semicolon.word tt ∷ rest) hc
     (wrote-behind c d g (semicolon.word tt) rest hd (wrote-both d e g (definitions.words ds) last he (wrote-ended e l f g (lines.words ls) (nodes.words ns) (semicolon.word tt) hl hf hg)))))

@@ -6,10 +6,12 @@ use Rattle.cyc_grammar.specs.Syntax.{Reading, ◌>>=◌, Syntax, Class, one, seq
 use Rattle.cyc_grammar.specs.Classes.{symbol, keyword, the_end, number, keyword_of}
 use Rattle.heap_syntax.specs.Grammar as shared
 use Rattle.heap_syntax.specs.Grammar.{Terms}
-pub use Rattle.heap_syntax.specs.Words.{nil, true_word, emp, pred_word, or_word, last_word, cyclist_word, version, equal, unequal, comma, colon, semicolon, star, bar, arrow, assign, turnstile, opening, closing, opening_brace, closing_brace, reserved, free_name}
+pub use Rattle.heap_syntax.specs.Words.{nil, true_word, emp, pred_word, or_word, last_word, cyclist_word, equal, unequal, comma, colon, semicolon, star, bar, arrow, assign, turnstile, opening, closing, opening_brace, closing_brace, reserved, free_name}
+pub use Rattle.heap_syntax.specs.Versions.{version}
 pub use Rattle.heap_syntax.specs.Grammar.{Any, cons, IsSome, some_heap}
 unfoldable pub use Rattle.heap_syntax.specs.Grammar.{sign, pure}
 use Rattle.command_syntax.specs.Grammar as commands
+use Rattle.heap_syntax.specs.declared.version.Version.{Version}
 use Rattle.proof_syntax.specs.declared.tree.TermTree.{TermTree}
 use Rattle.proof_syntax.specs.declared.tree.TermTree.TheVariants.{Nil, Univ, Exist}
 use Rattle.proof_syntax.specs.declared.tree.SideTree.{SideTree}
@@ -385,7 +387,7 @@ from_node n = (n.judgement, (n.reason, n.premises))
 unfoldable pub node : Syntax Node
 node = shaped {A = Judgement × (Reason × List ℕ)} to_node from_node Any (after node_word (seq judgement (seq reason premises)))
 
--- ---- file = "cyclist" "proof" "1" ";" { pred } { line } node { node } "end" ";", and the end of the text
+-- ---- file = "cyclist" "proof" ( "1" | "2" ) ";" { pred } { line } node { node } "end" ";", and the end of the text
 
 abbrev pub some_node : Node
 some_node = record { judgement = Entails (record { antecedent = some_heap; disjuncts = some_heap ∷ [] }); reason = Done; premises = [] }
@@ -400,14 +402,14 @@ more_nodes = many (is_one node_word) node
 unfoldable pub nodes : Syntax (List Node)
 nodes = shaped {A = Node × List Node} cons (uncons some_node) IsSome (seq node (before more_nodes last_word))
 
-abbrev pub to_file : List Definition × (List Line × List Node) → File
-to_file p = record { definitions = p.0; lines = p.1.0; nodes = p.1.1 }
+abbrev pub to_file : Version × (List Definition × (List Line × List Node)) → File
+to_file p = record { version = p.0; definitions = p.1.0; lines = p.1.1.0; nodes = p.1.1.1 }
 
-abbrev pub from_file : File → List Definition × (List Line × List Node)
-from_file f = (f.definitions, (f.lines, f.nodes))
+abbrev pub from_file : File → Version × (List Definition × (List Line × List Node))
+from_file f = (f.version, (f.definitions, (f.lines, f.nodes)))
 
 unfoldable pub body : Syntax File
-body = shaped {A = List Definition × (List Line × List Node)} to_file from_file Any (after cyclist_word (after proof_word (after version (after semicolon (seq definitions (seq lines (before nodes semicolon)))))))
+body = shaped {A = Version × (List Definition × (List Line × List Node))} to_file from_file Any (after cyclist_word (after proof_word (seq (one version) (after semicolon (seq definitions (seq lines (before nodes semicolon)))))))
 
 unfoldable pub file : Syntax File
 file = before body the_end

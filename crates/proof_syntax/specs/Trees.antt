@@ -7,6 +7,7 @@ pub use Rattle.heap_syntax.specs.Trees.{Cell, Predicate}
 use Rattle.heap_syntax.specs.declared.tree.SpatialTree.{SpatialTree}
 use Rattle.heap_syntax.specs.declared.tree.SpatialTree.TheVariants as spatials
 use Rattle.heap_syntax.specs.declared.tree.HeapTree.{HeapTree}
+use Rattle.heap_syntax.specs.declared.version.Version.{Version}
 use Rattle.command_syntax.specs.declared.tree.LineTree.{LineTree}
 use Rattle.proof_syntax.specs.declared.tree.DefinitionTree.{DefinitionTree}
 use Rattle.proof_syntax.specs.declared.tree.EntailmentTree.{EntailmentTree}
@@ -79,6 +80,7 @@ pub record Node : Type 0 where
   pub premises : List ℕ
 
 pub record File : Type 0 where
+  pub version : Version
   pub definitions : List Definition
   pub lines : List Line
   pub nodes : List Node
@@ -146,4 +148,4 @@ abbrev pub node_of : NodeTree → Node
 node_of n = record { judgement = judgement_of n.judgement; reason = reason_of n.reason; premises = n.premises.items }
 
 abbrev pub file_of : FileTree → File
-file_of f = record { definitions = map definition_of f.definitions.items; lines = f.lines.items; nodes = map node_of f.nodes.items }
+file_of f = record { version = f.version; definitions = map definition_of f.definitions.items; lines = f.lines.items; nodes = map node_of f.nodes.items }

@@ -16,7 +16,7 @@ use crate::term_heaps::{heap, heaps};
 use crate::tree::{DefinitionTree, EntailmentTree, FileTree, HeapTree, JudgementTree, NodeTree};
 use cyc_grammar::{Cursor, Refusal, read_fault};
 use cyc_lex::{ReadFault, Token, Tokens};
-use heap_syntax::{Mark, free_name};
+use heap_syntax::{Mark, free_name, read_version};
 use std::alloc::Global;
 
 #[tactic(auto, unfolding(crate::specs::Grammar::cases))]
@@ -184,13 +184,14 @@ fn body<'a>(alloc: Global, cursor: &mut Cursor<'_, 'a>) -> Result<FileTree<'a>, 
 {
     cursor.keyword("cyclist")?;
     cursor.keyword("proof")?;
-    cursor.numeral("1")?;
+    let version = read_version(cursor)?;
     cursor.symbol(";")?;
     let definitions = definitions(alloc, cursor)?;
     let lines = lines(alloc, cursor)?;
     let nodes = nodes(alloc, cursor)?;
     cursor.symbol(";")?;
     Ok(FileTree {
+        version,
         definitions,
         lines,
         nodes,

@@ -1,5 +1,7 @@
 //! Trees of proof files: what a text of the grammar says, with lists of any length and numbers of at most nine digits.
 
+use heap_syntax::Version;
+
 /// A term: `nil`, a universal variable `$n` or an existential variable `?n`; in a case of a definition `$n` is parameter n and `?n` local n.
 #[derive(Clone, Copy, Debug, PartialEq, Eq)]
 pub enum TermTree {
@@ -98,6 +100,7 @@ pub struct NodeTree<'a> {
 /// A proof file, which has at least one node.
 #[derive(Drop)]
 pub struct FileTree<'a> {
+    pub version: Version,
     pub definitions: Vec<DefinitionTree<'a>>,
     pub lines: Vec<LineTree>,
     pub nodes: Vec<NodeTree<'a>>,

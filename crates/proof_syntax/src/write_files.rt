@@ -14,7 +14,7 @@ use crate::tree::{DefinitionTree, EntailmentTree, FileTree, HeapTree, JudgementT
 use crate::write_reasons::write_reason;
 use cyc_lex::WordWriter;
 use cyc_memory::OutOfMemory;
-use heap_syntax::Mark;
+use heap_syntax::{Mark, write_version};
 use std::alloc::Global;
 
 #[tactic(auto, unfolding(crate::specs::Grammar::cases))]
@@ -155,7 +155,7 @@ fn write_body(tree: &FileTree<'_>, writer: &mut WordWriter) -> Result<(), OutOfM
 {
     writer.name("cyclist")?;
     writer.name("proof")?;
-    writer.number(1)?;
+    write_version(tree.version, writer)?;
     writer.symbol(";")?;
     write_definitions(&tree.definitions, writer)?;
     write_lines(&tree.lines, writer)?;

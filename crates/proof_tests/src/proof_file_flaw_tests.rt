@@ -5,8 +5,9 @@ use proof_file::read_file;
 use std::alloc::Global;
 use std::test::Fail;
 
-/// Statements with a part so many times in between, and the fault of the file whose second line they are.
+/// The first line, statements with a part so many times in between, and the fault of the file whose second line they are.
 type Faulty = (
+    &'static [u8],
     &'static [u8],
     &'static [u8],
     usize,
@@ -14,8 +15,13 @@ type Faulty = (
     ReadFault,
 );
 
+const FIRST: &[u8] = b"cyclist proof 1;\n";
+
+const SECOND: &[u8] = b"cyclist proof 2;\n";
+
 static FAULTS: &[Faulty] = &[
     (
+        FIRST,
         b"node ",
         b"$0=$0,",
         64,
@@ -28,6 +34,7 @@ static FAULTS: &[Faulty] = &[
         },
     ),
     (
+        FIRST,
         b"node true:",
         b"nil->(nil)*",
         16,
@@ -40,6 +47,46 @@ static FAULTS: &[Faulty] = &[
         },
     ),
     (
+        SECOND,
+        b"node true:",
+        b"nil->(nil)*",
+        32,
+        b"nil->(nil)|-true:emp by Done;",
+        ReadFault::Limit {
+            what: What::Spatial,
+            token: 199,
+            line: 2,
+            column: 363,
+        },
+    ),
+    (
+        SECOND,
+        b"pred p(0){true:",
+        b"nil->(nil)*",
+        32,
+        b"nil->(nil)};node true:emp|-true:emp by Done;",
+        ReadFault::Limit {
+            what: What::Spatial,
+            token: 204,
+            line: 2,
+            column: 368,
+        },
+    ),
+    (
+        FIRST,
+        b"node true:emp|-true:emp by Cut[]true:",
+        b"nil->(nil)*",
+        16,
+        b"nil->(nil);",
+        ReadFault::Limit {
+            what: What::Spatial,
+            token: 114,
+            line: 2,
+            column: 214,
+        },
+    ),
+    (
+        FIRST,
         b"node true:",
         b"nil->(nil)*",
         16,
@@ -52,6 +99,7 @@ static FAULTS: &[Faulty] = &[
         },
     ),
     (
+        FIRST,
         b"node true:nil->(",
         b"nil,",
         8,
@@ -64,6 +112,7 @@ static FAULTS: &[Faulty] = &[
         },
     ),
     (
+        FIRST,
         b"node true:emp|-",
         b"true:emp or ",
         16,
@@ -76,6 +125,7 @@ static FAULTS: &[Faulty] = &[
         },
     ),
     (
+        FIRST,
         b"pred p(0){",
         b"true:emp|",
         16,
@@ -88,6 +138,7 @@ static FAULTS: &[Faulty] = &[
         },
     ),
     (
+        FIRST,
         b"",
         b"pred p(0){true:emp};",
         2,
@@ -100,6 +151,7 @@ static FAULTS: &[Faulty] = &[
         },
     ),
     (
+        FIRST,
         b"pred p(1){$1=nil:emp};",
         b"",
         0,
@@ -112,6 +164,7 @@ static FAULTS: &[Faulty] = &[
         },
     ),
     (
+        FIRST,
         b"pred p(1){?16=nil:emp};",
         b"",
         0,
@@ -124,6 +177,7 @@ static FAULTS: &[Faulty] = &[
         },
     ),
     (
+        FIRST,
         b"pred p(9){true:emp};",
         b"",
         0,
@@ -136,6 +190,7 @@ static FAULTS: &[Faulty] = &[
         },
     ),
     (
+        FIRST,
         b"pred p(1){true:emp};",
         b"",
         0,
@@ -148,6 +203,7 @@ static FAULTS: &[Faulty] = &[
         },
     ),
     (
+        FIRST,
         b"node $65535=nil:emp|-true:emp by Done;",
         b"",
         0,
@@ -160,6 +216,7 @@ static FAULTS: &[Faulty] = &[
         },
     ),
     (
+        FIRST,
         b"node true:emp|-true:emp by Link 0{$65535:=nil}[][];",
         b"",
         0,
@@ -172,6 +229,7 @@ static FAULTS: &[Faulty] = &[
         },
     ),
     (
+        FIRST,
         b"node true:emp|-true:emp by Instantiate ?65535 nil;",
         b"",
         0,
@@ -185,16 +243,17 @@ static FAULTS: &[Faulty] = &[
     ),
 ];
 
-/// The text whose second line has a part so many times.
+/// The text with this first line whose second line has a part so many times.
 fn repeated(
     alloc: Global,
+    first: &[u8],
     before: &[u8],
     part: &[u8],
     times: usize,
     after: &[u8],
 ) -> Result<Vec<u8>, OutOfMemory> {
     let mut text = Vec::new(alloc);
-    text.extend_from_slice(b"cyclist proof 1;\n")?;
+    text.extend_from_slice(first)?;
     text.extend_from_slice(before)?;
     for _ in 0..times {
         text.extend_from_slice(part)?;
@@ -216,9 +275,30 @@ fn fault(alloc: Global, bytes: &[u8]) -> Result<Option<ReadFault>, &'static str>
 #[test]
 fn flaws_stand_at_their_tokens(rt: HostRuntime) -> Result<(), Fail> {
     let alloc = rt.alloc();
-    for (before, part, times, after, expected) in FAULTS {
-        let text = repeated(alloc, before, part, *times, after)?;
+    for (first, before, part, times, after, expected) in FAULTS {
+        let text = repeated(alloc, first, before, part, *times, after)?;
         assert_eq!(rt; fault(alloc, &text)?, Some(*expected));
+    }
+    Ok(())
+}
+
+/// As many spatial atoms as each version allows, in a second line.
+static FULL: &[(&[u8], usize)] = &[(FIRST, 15), (SECOND, 15), (SECOND, 31)];
+
+/// A heap may have as many spatial atoms as its file's version allows.
+#[test]
+fn limits_may_be_met(rt: HostRuntime) -> Result<(), Fail> {
+    let alloc = rt.alloc();
+    for (first, times) in FULL {
+        let text = repeated(
+            alloc,
+            first,
+            b"node true:",
+            b"nil->(nil)*",
+            *times,
+            b"nil->(nil)|-true:emp by Done;",
+        )?;
+        assert_eq!(rt; fault(alloc, &text)?, None);
     }
     Ok(())
 }

@@ -1,7 +1,7 @@
 use cyc_lex::{IllFault, ReadFault, What, WordWriter};
 use cyc_memory::OutOfMemory;
 use heap_reader::Item;
-use proof_file::{read_file, write_file};
+use proof_file::{read_file, upgrade, write_file};
 use std::alloc::Global;
 use std::test::Fail;
 
@@ -84,12 +84,54 @@ node true : emp |- true : emp by Done;
 end;
 ";
 
+const SECOND_VERSION: &[u8] = b"cyclist proof 2;
+pred list(1) { $0 = nil : emp | true : $0 -> (?0) * list(?0) };
+line 1 : stop;
+node from 1 given true : list($0) by Exec;
+end;
+";
+
 /// A text in the written form is written as it stands.
 #[test]
 fn writes_what_it_reads(rt: HostRuntime) -> Result<(), Fail> {
-    for text in [NO_DEFINITION, PREDICATES, REASONS, LIST, COMMANDS] {
+    for text in [
+        NO_DEFINITION,
+        PREDICATES,
+        REASONS,
+        LIST,
+        COMMANDS,
+        SECOND_VERSION,
+    ] {
         let written = again(rt.alloc(), text)?;
         assert_eq!(rt; written.as_slice(), text);
+    }
+    Ok(())
+}
+
+/// What is written of the file that a text spells, as one of version 2.
+fn upgraded(alloc: Global, bytes: &[u8]) -> Result<Vec<u8>, &'static str> {
+    if bytes.len() > 10000 {
+        return Err("long");
+    }
+    match read_file(alloc, bytes) {
+        Err(_) => Err("not read"),
+        Ok(file) => write_file(alloc, &upgrade(file)).map_err(|_| "no memory"),
+    }
+}
+
+const FIRST_VERSION: &[u8] = b"cyclist proof 1;
+pred list(1) { $0 = nil : emp | true : $0 -> (?0) * list(?0) };
+line 1 : stop;
+node from 1 given true : list($0) by Exec;
+end;
+";
+
+/// A file of either version is upgraded to version 2, with the same statements behind the first.
+#[test]
+fn upgrades_files(rt: HostRuntime) -> Result<(), Fail> {
+    for text in [FIRST_VERSION, SECOND_VERSION] {
+        let written = upgraded(rt.alloc(), text)?;
+        assert_eq!(rt; written.as_slice(), SECOND_VERSION);
     }
     Ok(())
 }

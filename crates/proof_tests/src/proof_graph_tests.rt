@@ -171,6 +171,9 @@ fn the_limit(rt: HostRuntime) -> Result<(), Fail> {
         assert_eq!(rt; graph.push_node(&judgement)?, number);
     }
     assert_eq!(rt; graph.push_node(&judgement), Err(GraphFault::TooManyNodes));
+    graph.truncate(19999);
+    assert_eq!(rt; graph.push_node(&judgement)?, 19999);
+    assert_eq!(rt; graph.push_node(&judgement), Err(GraphFault::TooManyNodes));
     Ok(())
 }
 

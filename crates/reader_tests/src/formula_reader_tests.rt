@@ -137,6 +137,10 @@ static FAULTY: &[(&'static [u8], Told)] = &[
         Told::Over(What::Spatial, 103, 2, 189),
     ),
     (
+        b"cyclist problem 2;\ngoal true : x -> (y) * x -> (y) * x -> (y) * x -> (y) * x -> (y) * x -> (y) * x -> (y) * x -> (y) * x -> (y) * x -> (y) * x -> (y) * x -> (y) * x -> (y) * x -> (y) * x -> (y) * x -> (y) * x -> (y) * x -> (y) * x -> (y) * x -> (y) * x -> (y) * x -> (y) * x -> (y) * x -> (y) * x -> (y) * x -> (y) * x -> (y) * x -> (y) * x -> (y) * x -> (y) * x -> (y) * x -> (y) * x -> (y) |- true : emp;\nend;",
+        Told::Over(What::Spatial, 199, 2, 365),
+    ),
+    (
         b"cyclist problem 1;\ngoal true : x -> (y) * x -> (y) * x -> (y) * x -> (y) * x -> (y) * x -> (y) * x -> (y) * x -> (y) * x -> (y) * x -> (y) * x -> (y) * x -> (y) * x -> (y) * x -> (y) * x -> (y) * x -> (y) * q(x) |- true : emp;\nend;",
         Told::Ill(IllFault::Unknown, 103, 2, 189),
     ),

@@ -397,7 +397,7 @@ fn read_use(
         Ok(tree) => tree,
         Err(OutOfMemory) => return Err("no memory"),
     };
-    match walk_heap(&heads, &Universals, 4, &tree) {
+    match walk_heap(&heads, &Universals, 16, 4, &tree) {
         Err(flaw) => Ok(Err(flaw)),
         Ok(_) => match heap_value(alloc, &heads, &Universals, &tree) {
             Ok(heap) => Ok(Ok(number_in(&heap))),
@@ -510,7 +510,7 @@ fn two_heaps(
     let left = use_of(alloc, first, &[])?;
     let right = use_of(alloc, second, &[])?;
     let trees = [left, right];
-    match walk_heaps(&heads, &Universals, What::Disjuncts, 4, &trees) {
+    match walk_heaps(&heads, &Universals, 16, What::Disjuncts, 4, &trees) {
         Err(flaw) => Ok(Err(flaw)),
         Ok(_) => {
             let heaps = heap_values(alloc, &heads, &Universals, &trees)?;

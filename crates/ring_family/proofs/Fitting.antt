@@ -20,6 +20,7 @@ use Rattle.heap_syntax.specs.Grammar as shared
 use Rattle.command_syntax.specs.Grammar as commands
 use Rattle.proof_syntax.specs.Trees.{Node as NodeTree}
 use Rattle.proof_syntax.specs.Grammar as grammar
+use Rattle.heap_syntax.specs.declared.version.Version.TheVariants.{One}
 use Rattle.proof_file.specs.Written.{term_tree, heap_tree, definition_tree, reason_tree, node_tree, tree_of}
 use Rattle.ring_family.specs.Ring.{emp, is_nil, holds, cell_then, after, list_of, definitions_from, ring_definitions, ring_block, ring_bud, ring_nodes, file_node}
 use Rattle.ring_family.proofs.Blocks.{EachFrom, blocks_long}
@@ -185,9 +186,9 @@ module _ (k : ℕ) (one : 1 ≤ k) (few : k ≤ 2000) where
   some_fit [] some h = absurd (omega (arith, some))
   some_fit (y ∷ ys) some h = (some, (h.0, h.1))
 
-  pub file_fits : grammar.file.fits (tree_of ds [] (map file_node (ring_nodes k)))
+  pub file_fits : grammar.file.fits (tree_of One ds [] (map file_node (ring_nodes k)))
   unfolding grammar.file grammar.body grammar.definitions commands.lines
   file_fits =
       let long = blocks_long (ring_block k) (ring_bud k) (λ j. refl) 0 k in
       let nodes = many_fit (ring_nodes k) (each_node NodeFits k block_fits bud_fits) in
-      (tt, (definitions_fit 0 k (omega arith), (tt, some_fit (map (node_tree ds) (map file_node (ring_nodes k))) (omega (arith, long, length-map (ring_nodes k) file_node, length-map (map file_node (ring_nodes k)) (node_tree ds))) nodes)))
+      (tt, (tt, (definitions_fit 0 k (omega arith), (tt, some_fit (map (node_tree ds) (map file_node (ring_nodes k))) (omega (arith, long, length-map (ring_nodes k) file_node, length-map (map file_node (ring_nodes k)) (node_tree ds))) nodes))))

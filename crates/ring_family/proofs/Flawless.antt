@@ -18,6 +18,7 @@ use Rattle.heap_reader.specs.Trees.{Heading}
 use Rattle.heap_reader.specs.Flaws.{Found, over_if, or_later, listed_flaw, arity_in, heap_flaw}
 use Rattle.proof_file.specs.declared.scope.Scope.TheVariants.{Node as InNode}
 use Rattle.proof_file.specs.Spans.{term_span, definition_span, node_span}
+use Rattle.heap_syntax.specs.declared.version.Version.TheVariants.{One}
 use Rattle.proof_file.specs.Flaws.{term_flaw, definition_flaw, reason_flaw, node_flaw, file_flaw, first_node}
 use Rattle.proof_file.specs.Written.{term_tree, heap_tree, definition_tree, reason_tree, node_tree, tree_of}
 use Rattle.ring_family.specs.Ring.{emp, is_nil, holds, cell_then, after, list_of, definitions_from, ring_definitions, ring_block, ring_bud, ring_nodes, file_node}
@@ -56,7 +57,7 @@ module _ (k : ℕ) (one : 1 ≤ k) (few : k ≤ 2000) where
   hs = heads ds ds
 
   abbrev IsGoodHeap : SymbolicHeap → Type 0
-  IsGoodHeap h = (s : ℕ) → heap_flaw (term_flaw InNode) term_span hs s (heap_tree ds h) ≡ None
+  IsGoodHeap h = (s : ℕ) → heap_flaw (term_flaw InNode) term_span 16 hs s (heap_tree ds h) ≡ None
 
   emp_good : IsGoodHeap emp
   emp_good s = refl
@@ -72,10 +73,10 @@ module _ (k : ℕ) (one : 1 ≤ k) (few : k ≤ 2000) where
 
   -- ---- definitions
 
-  definition_good : (j : ℕ) (name : List ℕ) (p : ℕ) → j < 4096 → p ≤ k → arity_in (take j hs) name ≡ None → (t : ℕ) → definition_flaw hs j t (definition_tree ds (list_of name p)) ≡ None
+  definition_good : (j : ℕ) (name : List ℕ) (p : ℕ) → j < 4096 → p ≤ k → arity_in (take j hs) name ≡ None → (t : ℕ) → definition_flaw 16 hs j t (definition_tree ds (list_of name p)) ≡ None
   definition_good j name p b within new t = rw (lt-leb 4096 j b, new, known k one few p within)
 
-  definitions_good : (i n : ℕ) → i + n ≡ k → EachFrom (λ j d. (t : ℕ) → definition_flaw hs j t (definition_tree ds d) ≡ None) i (definitions_from k i n)
+  definitions_good : (i n : ℕ) → i + n ≡ k → EachFrom (λ j d. (t : ℕ) → definition_flaw 16 hs j t (definition_tree ds d) ≡ None) i (definitions_from k i n)
   definitions_good i zero e = (definition_good i (113 ∷ []) k (omega arith) (omega arith) (new_q ds k 0 k i (omega arith)), tt)
   definitions_good i (suc n) e =
       (definition_good i (112 ∷ decimal i) (after k i) (omega arith) (after_within k one few i (omega arith)) (new_p ds k 0 k i i (omega arith) (omega arith) (omega arith)), definitions_good (suc i) n (omega arith))
@@ -83,9 +84,9 @@ module _ (k : ℕ) (one : 1 ≤ k) (few : k ≤ 2000) where
   -- ---- nodes
 
   abbrev IsGoodNode : Node → Type 0
-  IsGoodNode x = (i : ℕ) → i < 20000 → (t : ℕ) → node_flaw hs 0 i t (node_tree ds (file_node x)) ≡ None
+  IsGoodNode x = (i : ℕ) → i < 20000 → (t : ℕ) → node_flaw 16 hs 0 i t (node_tree ds (file_node x)) ≡ None
 
-  node_good : (a b : SymbolicHeap) (reason : Reason) (us : List ℕ) → IsGoodHeap a → IsGoodHeap b → ((t : ℕ) → reason_flaw hs t (reason_tree ds reason) ≡ None) → IsGoodNode (record { judgement = Entail a (b ∷ []); reason = reason; premises = us })
+  node_good : (a b : SymbolicHeap) (reason : Reason) (us : List ℕ) → IsGoodHeap a → IsGoodHeap b → ((t : ℕ) → reason_flaw 16 hs t (reason_tree ds reason) ≡ None) → IsGoodNode (record { judgement = Entail a (b ∷ []); reason = reason; premises = us })
   node_good a b reason us g h r i within t = rw (lt-leb 20000 i within) (simp (g, h, r))
 
   block_good : (m : ℕ) → m < k → EachFrom (λ _ x. IsGoodNode x) 0 (ring_block k m)
@@ -127,11 +128,11 @@ module _ (k : ℕ) (one : 1 ≤ k) (few : k ≤ 2000) where
       let u = univ_good k (omega arith) in
       node_good (holds 0 (Univ k)) (holds k (Univ k)) (Back (record { target = 0; subst = (0, Univ k) ∷ []; map = 0 ∷ []; disjuncts = 0 ∷ [] })) [] (holds_good 0 (Univ k) (omega arith) u) (holds_good k (Univ k) (omega arith) u) (λ t. rw (u (t + 3 + 3)))
 
-  pub no_flaw : file_flaw (tree_of ds [] (map file_node (ring_nodes k))) ≡ None
+  pub no_flaw : file_flaw (tree_of One ds [] (map file_node (ring_nodes k))) ≡ None
   no_flaw =
-      let file = tree_of ds [] (map file_node (ring_nodes k)) in
-      let nodes = from_members (λ i x. (t : ℕ) → node_flaw hs 0 i t (node_tree ds (file_node x)) ≡ None) 0 (ring_nodes k) (λ i v x e h t. (
+      let file = tree_of One ds [] (map file_node (ring_nodes k)) in
+      let nodes = from_members (λ i x. (t : ℕ) → node_flaw 16 hs 0 i t (node_tree ds (file_node x)) ≡ None) 0 (ring_nodes k) (λ i v x e h t. (
       let within = slice_get_within (ring_nodes k) v x h in
       each_node IsGoodNode k block_good bud_good v x h i (omega (arith, within, e, blocks_long (ring_block k) (ring_bud k) (λ j. refl) 0 k)) t)) in
-      let rest = none_listed_twice (node_flaw hs 0) node_span (node_tree ds) file_node 0 (first_node file) (ring_nodes k) nodes in
-      ap (λ (o : Found). or_later o (listed_flaw (node_flaw hs 0) node_span 0 (first_node file) file.nodes)) (none_listed (definition_flaw hs) definition_span (definition_tree ds) 0 4 ds (definitions_good 0 k (omega arith))) ∙ rest
+      let rest = none_listed_twice (node_flaw 16 hs 0) node_span (node_tree ds) file_node 0 (first_node file) (ring_nodes k) nodes in
+      ap (λ (o : Found). or_later o (listed_flaw (node_flaw 16 hs 0) node_span 0 (first_node file) file.nodes)) (none_listed (definition_flaw 16 hs) definition_span (definition_tree ds) 0 4 ds (definitions_good 0 k (omega arith))) ∙ rest

@@ -15,6 +15,7 @@ use Rattle.heap_syntax.specs.Grammar as shared
 use Rattle.command_syntax.specs.Grammar as commands
 use Rattle.proof_syntax.specs.Trees.{Definition as DefinitionTree, Node as NodeTree}
 use Rattle.proof_syntax.specs.Grammar as grammar
+use Rattle.heap_syntax.specs.declared.version.Version.TheVariants.{One}
 use Rattle.proof_file.specs.Written.{name_of, definition_tree, node_tree, tree_of, text_of_file}
 use Rattle.ring_family.specs.Ring.{after, list_of, definitions_from, ring_definitions, ring_block, ring_bud, ring_nodes, file_node, file_nodes}
 use Rattle.ring_family.proofs.Blocks.{EachFrom, blocks_long}
@@ -117,17 +118,17 @@ module _ (k : ℕ) (one : 1 ≤ k) (few : k ≤ 2000) where
   some_short (y ∷ ys) some =
       omega (arith, joined (grammar.node.words y) (words_many grammar.node ys ++ grammar.last_word.word tt ∷ []), joined (words_many grammar.node ys) (grammar.last_word.word tt ∷ []), joined (grammar.node.words y) (words_many grammar.node ys))
 
-  body_short : (defs : List DefinitionTree) (ns : List NodeTree) → 0 < length ns → spaced_words (grammar.body.words (record { definitions = defs; lines = []; nodes = ns })) ≡ spaced_words (words_many grammar.definition defs) + spaced_words (words_many grammar.node ns) + 24
+  body_short : (defs : List DefinitionTree) (ns : List NodeTree) → 0 < length ns → spaced_words (grammar.body.words (record { version = One; definitions = defs; lines = []; nodes = ns })) ≡ spaced_words (words_many grammar.definition defs) + spaced_words (words_many grammar.node ns) + 24
   unfolding grammar.body grammar.definitions commands.lines
   body_short defs ns some =
-      let front = grammar.cyclist_word.word tt ∷ grammar.proof_word.word tt ∷ grammar.version.word tt ∷ grammar.semicolon.word tt ∷ [] in
+      let front = grammar.cyclist_word.word tt ∷ grammar.proof_word.word tt ∷ grammar.version.word One ∷ grammar.semicolon.word tt ∷ [] in
       let end = grammar.semicolon.word tt ∷ [] in
       omega (arith, joined front (words_many grammar.definition defs ++ (grammar.nodes.words ns ++ end)), joined (words_many grammar.definition defs) (grammar.nodes.words ns ++ end), joined (grammar.nodes.words ns) end, some_short ns some)
 
-  pub ring_text_short : length (text_of_file ds [] (file_nodes (ring_nodes k))) < 16777216
+  pub ring_text_short : length (text_of_file One ds [] (file_nodes (ring_nodes k))) < 16777216
   ring_text_short =
       let defs = map (definition_tree ds) ds in
       let ns = map (node_tree ds) (file_nodes (ring_nodes k)) in
       let long = blocks_long (ring_block k) (ring_bud k) (λ j. refl) 0 k in
       let some : 0 < length ns = omega (arith, long, length-map (ring_nodes k) file_node, length-map (file_nodes (ring_nodes k)) (node_tree ds)) in
-      omega (arith, text_short (grammar.body.words (tree_of ds [] (file_nodes (ring_nodes k)))), body_short defs ns some, definitions_short 0 k (omega arith), many_short (ring_nodes k) (each_node IsShortNode k block_short bud_short), long)
+      omega (arith, text_short (grammar.body.words (tree_of One ds [] (file_nodes (ring_nodes k)))), body_short defs ns some, definitions_short 0 k (omega arith), many_short (ring_nodes k) (each_node IsShortNode k block_short bud_short), long)

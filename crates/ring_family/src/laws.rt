@@ -8,6 +8,7 @@ ghost use Rattle.heap_formula.specs.declared.proof_rules.Reason.TheVariants.{Ste
 ghost use Rattle.heap_formula.specs.declared.proof_rules.Rule.{Rule};
 ghost use Rattle.trace_pairs.specs.Lasso.{AllProgress};
 ghost use Rattle.buchi_inclusion.specs.Answers.{HasAtMost, HasMoreThan};
+ghost use Rattle.heap_syntax.specs.declared.version.Version.TheVariants.{One};
 ghost use Rattle.proof_file.specs.Written.{text_of_file};
 ghost use Rattle.proof_file.specs.declared.file.ProofFile.{ProofFile};
 ghost use Rattle.proof_file.specs.declared.node.FileNode.{FileNode};
@@ -28,7 +29,7 @@ pub fn ring_is_correct()
 
 /// The text of a ring's file is shorter than the greatest input.
 pub fn ring_texts_are_short()
-    ensures { (k : ℕ) → 1 ≤ k → k ≤ 2000 → length (text_of_file (ring_definitions k) [] (file_nodes (ring_nodes k))) < 16777216 }
+    ensures { (k : ℕ) → 1 ≤ k → k ≤ 2000 → length (text_of_file One (ring_definitions k) [] (file_nodes (ring_nodes k))) < 16777216 }
 {}
 
 /// What is told of a ring's proof: the root is an entailment, and of 8 k + 1 nodes one is a link, by any test that tells

@@ -1,6 +1,7 @@
 //! Satisfiability of symbolic heaps by base pairs (Brotherston, Fuhs, Navarro Pérez and Gorogiannis 2014).
 #![tactic(auto)]
 
+mod agenda;
 mod cases;
 mod numbers;
 mod rounds;

@@ -7,6 +7,7 @@ ghost use Rattle.pair_family.specs.Family.{CaseGives, InFamily, arity_of};
 ghost use Rattle.pair_family.specs.Tables.{IsMember, IsTable, HasAtMost, HasMoreThan, in_table, pairs_of};
 ghost use Rattle.sat_pairs.specs.Growth.{total, IsPartOf, IsGrown, HasGiven, HasAllGiven};
 
+use crate::agenda::Agenda;
 use crate::cases::given_by;
 use crate::tables::Table;
 use cyc_memory::OutOfMemory;
@@ -146,8 +147,9 @@ fn sweep(
     Ok(now)
 }
 
-/// The same from the last definition to the first.
-fn sweep_back(
+/// Goes through the definitions that are to be done, the longest waiting first: where one gives a base pair that is new,
+/// its users are to be done again. It ends where none is left.
+fn work(
     alloc: Global,
     defs: &Defs,
     table: &mut Table,
@@ -160,17 +162,26 @@ fn sweep_back(
     ensures grown { IfOk result (λ _. IsGrown table.old table.new) }
     ensures many { (result ≡ Err PairFault.TooManyPairs) → HasMoreThan defs.now.list most }
 {
-    let mut now = count;
     let n = defs.as_slice().len();
-    for i in 0..n {
-        now = put_definition(alloc, defs, table, now, most, (n - 1 - i) as u16)?;
+    let mut agenda = Agenda::new(alloc, defs)?;
+    let mut now = count;
+    for _turn in 0..usize::MAX {
+        let pred = match agenda.next() {
+            Some(pred) if (pred as usize) < n => pred,
+            _ => return Ok(now),
+        };
+        let before = now;
+        now = put_definition(alloc, defs, table, now, most, pred)?;
+        if now > before {
+            agenda.add_users(pred)?;
+        }
     }
     Ok(now)
 }
 
-/// The base pairs of all predicates: the least family that has what each case gives. The definitions are gone through
-/// forwards and backwards in turn, so that chains of uses in either direction take few rounds, until a round forwards
-/// gives nothing new; so at no time are there more than `most` and one.
+/// The base pairs of all predicates: the least family that has what each case gives. Definitions are done again where a
+/// predicate that they use has grown; and then all are gone through once more, until that gives nothing new. So at no time
+/// are there more than `most` and one.
 pub fn base_pairs(alloc: Global, defs: &Defs, most: u32) -> Result<Table, PairFault>
     ensures table { IfOk result (λ t. IsTable defs.now.list t × HasAtMost defs.now.list most) }
     ensures many { (result ≡ Err PairFault.TooManyPairs) → HasMoreThan defs.now.list most }
@@ -178,10 +189,11 @@ pub fn base_pairs(alloc: Global, defs: &Defs, most: u32) -> Result<Table, PairFa
     let mut table = Table::empty(alloc, defs.as_slice().len())?;
     let mut count = 0;
     loop {
-        let now = sweep(alloc, defs, &mut table, count, most)?;
-        if now == count {
+        let worked = work(alloc, defs, &mut table, count, most)?;
+        let now = sweep(alloc, defs, &mut table, worked, most)?;
+        if now == worked {
             return Ok(table);
         }
-        count = sweep_back(alloc, defs, &mut table, now, most)?;
+        count = now;
     }
 }

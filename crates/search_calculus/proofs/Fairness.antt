@@ -44,27 +44,27 @@ pairs_in olds news (q ∷ pairs) fit (suc i) p at = pairs_in olds news pairs fit
 
 -- ---- premises
 
-each_premise : (t : Theory) (g : OpenGoal) (ps : List Premise) → IsShort g.premise.judgement → Each (StaysShort g.premise.judgement) ps → Each (PremiseFits g.premise.judgement) ps → (k : ℕ) (p : TracedPremise Judgement) → slice_get (map traced ps) k ≡ Some p →
-    IsPremise (calculus_of t) IsShort g p
+each_premise : (t : Theory) (g : OpenGoal) (ps : List Premise) → IsShort t.most g.premise.judgement → Each (StaysShort t.most g.premise.judgement) ps → Each (PremiseFits g.premise.judgement) ps → (k : ℕ) (p : TracedPremise Judgement) → slice_get (map traced ps) k ≡ Some p →
+    IsPremise (calculus_of t) (IsShort t.most) g p
 each_premise t g [] short stay fit k p at = absurd (let e : None ≡ Some p = at in cc)
 each_premise t g (x ∷ ps) short stay fit zero p at =
     let e : Some (traced x) ≡ Some p = at in
     let e' : traced x ≡ p = cc in
-    subst (IsPremise (calculus_of t) IsShort g) e' (record {
+    subst (IsPremise (calculus_of t) (IsShort t.most) g) e' (record {
       occurs = stay.0 short;
       fit = pairs_in (antecedent g.premise.judgement).spatial (antecedent x.judgement).spatial x.pairs fit.0;
     })
 each_premise t g (x ∷ ps) short stay fit (suc k) p at = each_premise t g ps short stay.1 fit.1 k p at
 
-answered_premises : (t : Theory) (g : OpenGoal) (answer : Answer) (ps : List (TracedPremise Judgement)) → IsShort g.premise.judgement → OnPremises (StaysShort g.premise.judgement) answer → OnPremises (PremiseFits g.premise.judgement) answer →
-    ((qs : List Premise) → answer ≡ Ok qs → length qs ≤ 16) → answered answer ≡ Some ps → ArePremises (calculus_of t) IsShort g ps
+answered_premises : (t : Theory) (g : OpenGoal) (answer : Answer) (ps : List (TracedPremise Judgement)) → IsShort t.most g.premise.judgement → OnPremises (StaysShort t.most g.premise.judgement) answer → OnPremises (PremiseFits g.premise.judgement) answer →
+    ((qs : List Premise) → answer ≡ Ok qs → length qs ≤ 16) → answered answer ≡ Some ps → ArePremises (calculus_of t) (IsShort t.most) g ps
 answered_premises t g (Err f) ps short stay fit few h = absurd (let e : None ≡ Some ps = h in cc)
 answered_premises t g (Ok qs) ps short stay fit few h =
     let e : Some (map traced qs) ≡ Some ps = h in
     let e' : map traced qs ≡ ps = cc in
     let l = length-map qs traced in
     let n = few qs refl in
-    subst (ArePremises (calculus_of t) IsShort g) e' (record { few = omega (arith, l, n); each = each_premise t g qs short stay fit })
+    subst (ArePremises (calculus_of t) (IsShort t.most) g) e' (record { few = omega (arith, l, n); each = each_premise t g qs short stay fit })
 
 -- ---- links
 
@@ -103,9 +103,9 @@ step_forth t nodes g (rule ∷ rules) (suc k) r at = step_forth t nodes g rules 
 
 -- ---- the calculus
 
-pub small_is_fair : (t : Theory) → t.most ≡ 16 → Each (λ d. length d.cases ≤ 16) t.definitions → IsFair (calculus_of t) (λ j. length (antecedent j).spatial ≤ 16) (λ r. Unit {0})
+pub small_is_fair : (t : Theory) → t.most ≤ 32 → Each (λ d. length d.cases ≤ 16) t.definitions → IsFair (calculus_of t) (λ j. length (antecedent j).spatial ≤ t.most) (λ r. Unit {0})
 small_is_fair t most cases = record {
-  positions = λ j short. places_set (antecedent j).spatial (omega (arith, short));
+  positions = λ j short. places_set (antecedent j).spatial (omega (arith, short, most));
   offers = λ nodes g r occur offered. tt;
   premises = λ nodes g r ps occur allowed h. have_premises nodes g r ps occur.goal h;
   links_back = λ nodes g r e occur allowed h. lead_back nodes g r e h;
@@ -113,14 +113,12 @@ small_is_fair t most cases = record {
   rules_forth = λ nodes g r is_in. lead_forth nodes g r is_in;
 }
   where
-    have_premises : (nodes : List MadeNode) (g : OpenGoal) (r : Reason) (ps : List (TracedPremise Judgement)) → IsShort g.premise.judgement → premises t nodes g r ≡ Some ps → ArePremises (calculus_of t) IsShort g ps
+    have_premises : (nodes : List MadeNode) (g : OpenGoal) (r : Reason) (ps : List (TracedPremise Judgement)) → IsShort t.most g.premise.judgement → premises t nodes g r ≡ Some ps → ArePremises (calculus_of t) (IsShort t.most) g ps
     have_premises nodes g (Step rule) ps short h =
-        let same : rule_answer t.most t.definitions t.lines g.premise.judgement rule ≡ rule_answer 16 t.definitions t.lines g.premise.judgement rule =
-        ap (λ n. rule_answer n t.definitions t.lines g.premise.judgement rule) most in
-        answered_premises t g (rule_answer 16 t.definitions t.lines g.premise.judgement rule) ps short (rule_stays_short t.definitions t.lines g.premise.judgement rule) (rule_fits 16 t.definitions t.lines g.premise.judgement rule) (λ qs e. few_premises t.definitions t.lines g.premise.judgement rule qs cases e) (sym (ap answered same) ∙ h)
+        answered_premises t g (rule_answer t.most t.definitions t.lines g.premise.judgement rule) ps short (rule_stays_short t.most t.definitions t.lines g.premise.judgement rule) (rule_fits t.most t.definitions t.lines g.premise.judgement rule) (λ qs e. few_premises t.most t.definitions t.lines g.premise.judgement rule qs cases e) h
     have_premises nodes g (Back link) ps short h =
         let none : ps ≡ [] = beside_none (edge_to t g.premise.judgement link (slice_get nodes link.target)) ps h in
-        subst (ArePremises (calculus_of t) IsShort g) (sym none) (record { few = omega arith; each = λ k p at. absurd (let e : None ≡ Some p = at in cc) })
+        subst (ArePremises (calculus_of t) (IsShort t.most) g) (sym none) (record { few = omega arith; each = λ k p at. absurd (let e : None ≡ Some p = at in cc) })
 
     lead_back : (nodes : List MadeNode) (g : OpenGoal) (r : Reason) (e : Edge) → back t nodes g r ≡ Some e → IsBack (calculus_of t) nodes g e
     lead_back nodes g (Step rule) e h = absurd (let x : None ≡ Some e = h in cc)

@@ -33,14 +33,14 @@ IsAllowed r = Unit {0}
 
 -- ---- in order
 
-pub made_in_order : (t : Theory) (j : Judgement) (d : List Reason) (b : Tableau Judgement Reason) → IsSmallProblem t j → replay (calculus_of t) j d ≡ Some b → InOrder (calculus_of t) IsShort IsAllowed j b
+pub made_in_order : (t : Theory) (j : Judgement) (d : List Reason) (b : Tableau Judgement Reason) → IsSmallProblem t j → replay (calculus_of t) j d ≡ Some b → InOrder (calculus_of t) (IsShort t.most) IsAllowed j b
 made_in_order t j d b small h =
-    replayed_from (calculus_of t) IsShort IsAllowed (small_is_fair t small.most small.cases) j d (begin j) b (begins (calculus_of t) IsShort IsAllowed j small.short) (λ k r at. tt) h
+    replayed_from (calculus_of t) (IsShort t.most) IsAllowed (small_is_fair t small.most small.cases) j d (begin j) b (begins (calculus_of t) (IsShort t.most) IsAllowed j small.short) (λ k r at. tt) h
 
 -- the trace graph is in order, once a node is made
 pub made_is_graph : (t : Theory) (j : Judgement) (d : List Reason) (b : Tableau Judgement Reason) → IsSmallProblem t j → replay (calculus_of t) j d ≡ Some b → 0 < length b.nodes → IsGraph b.graph
 made_is_graph t j d b small h some' =
-    graph_in_order (calculus_of t) IsShort IsAllowed (small_is_fair t small.most small.cases) j b (made_in_order t j d b small h) some'
+    graph_in_order (calculus_of t) (IsShort t.most) IsAllowed (small_is_fair t small.most small.cases) j b (made_in_order t j d b small h) some'
 
 -- ---- each node made
 

@@ -1,4 +1,4 @@
--- The premises of a rule have at most sixteen spatial atoms on the left, as its judgement has.
+-- The premises of a rule have at most so many spatial atoms on the left, as its judgement has.
 use Rattle.std.proofs.Common.{◌≡◌, ℕ, ◌+◌, ◌≤◌, max, Bool, true, false, cond, List, [], ◌∷◌, ◌++◌, map, length, slice_get, nat_eq, arith}
 use Rattle.std.proofs.lemmas.List.{length-map}
 use Rattle.std.specs.Prelude.{Ok, if◌then◌else◌}
@@ -39,53 +39,53 @@ use Rattle.rule_table.proofs.Reflects.{both}
 use Rattle.format_limits.proofs.Gives.{limited_gives}
 use Rattle.format_limits.proofs.Heaps.{length-without, short_spatials}
 
--- the antecedent has at most sixteen spatial atoms
-abbrev pub IsShort : Judgement → Type 0
-IsShort j = length (antecedent j).spatial ≤ 16
+-- the antecedent has at most so many spatial atoms
+abbrev pub IsShort : ℕ → Judgement → Type 0
+IsShort most j = length (antecedent j).spatial ≤ most
 
-abbrev pub StaysShort : Judgement → Premise → Type 0
-StaysShort j p = IsShort j → IsShort p.judgement
+abbrev pub StaysShort : ℕ → Judgement → Premise → Type 0
+StaysShort most j p = IsShort most j → IsShort most p.judgement
 
 -- ---- rules that add spatial atoms test for it
 
-first_short : (j : Judgement) → every (is_short 16) (heaps_of j) ≡ true → IsShort j
-first_short (Entail a bs) e = short_spatials 16 a (both (is_short 16 a) (every (is_short 16) bs) e).0
-first_short (Runs i a) e = short_spatials 16 a (both (is_short 16 a) true e).0
+first_short : (most : ℕ) → (j : Judgement) → every (is_short most) (heaps_of j) ≡ true → IsShort most j
+first_short most (Entail a bs) e = short_spatials most a (both (is_short most a) (every (is_short most) bs) e).0
+first_short most (Runs i a) e = short_spatials most a (both (is_short most a) true e).0
 
-tested_short : (j : Judgement) (ps : List Premise) → each_heap (is_short 16) ps ≡ true → Each (StaysShort j) ps
-tested_short j [] e = tt
-tested_short j (p ∷ ps) e =
-    let b = both (every (is_short 16) (heaps_of p.judgement)) (each_heap (is_short 16) ps) e in ((λ h. first_short p.judgement b.0), tested_short j ps b.1)
+tested_short : (most : ℕ) → (j : Judgement) (ps : List Premise) → each_heap (is_short most) ps ≡ true → Each (StaysShort most j) ps
+tested_short most j [] e = tt
+tested_short most j (p ∷ ps) e =
+    let b = both (every (is_short most) (heaps_of p.judgement)) (each_heap (is_short most) ps) e in ((λ h. first_short most p.judgement b.0), tested_short most j ps b.1)
 
-limited_short : (j : Judgement) (ps : List Premise) → OnPremises (StaysShort j) (limited 16 ps)
-limited_short j ps = limited_gives (OnPremises (StaysShort j)) (λ f. tt) 16 ps (λ s n. tested_short j ps s)
+limited_short : (most : ℕ) → (j : Judgement) (ps : List Premise) → OnPremises (StaysShort most j) (limited most ps)
+limited_short most j ps = limited_gives (OnPremises (StaysShort most j)) (λ f. tt) most ps (λ s n. tested_short most j ps s)
 
 -- ---- the others keep the atoms, or drop some
 
-pures_short : (j : Judgement) (xs : List Pure) → StaysShort j (with_pures j xs)
-pures_short (Entail a bs) xs h = h
-pures_short (Runs i a) xs h = h
+pures_short : (most : ℕ) → (j : Judgement) (xs : List Pure) → StaysShort most j (with_pures j xs)
+pures_short most (Entail a bs) xs h = h
+pures_short most (Runs i a) xs h = h
 
-rewritten_short : (p : ℕ) (j : Judgement) (k : ℕ) (x : Pure) (v : ℕ) (u : Term) → StaysShort j (rewritten p j k x v u)
-rewritten_short p (Entail a bs) k x v u h = let e = length-map a.spatial (apply_spatial ((v, u) ∷ [])) in omega (arith, e, h)
-rewritten_short p (Runs i a) k x v u h = let e = length-map a.spatial (apply_spatial ((v, u) ∷ [])) in omega (arith, e, h)
+rewritten_short : (most : ℕ) → (p : ℕ) (j : Judgement) (k : ℕ) (x : Pure) (v : ℕ) (u : Term) → StaysShort most j (rewritten p j k x v u)
+rewritten_short most p (Entail a bs) k x v u h = let e = length-map a.spatial (apply_spatial ((v, u) ∷ [])) in omega (arith, e, h)
+rewritten_short most p (Runs i a) k x v u h = let e = length-map a.spatial (apply_spatial ((v, u) ∷ [])) in omega (arith, e, h)
 
-side_short : (p : ℕ) (j : Judgement) (k : ℕ) (x : Pure) (t u : Term) → OnPremises (StaysShort j) (rewrite_side p j k x t u)
-side_short p j k x Nil u = tt
-side_short p j k x (Exist m) u = tt
-side_short p j k x (Univ v) u = (rewritten_short p j k x v u, tt)
+side_short : (most : ℕ) → (p : ℕ) (j : Judgement) (k : ℕ) (x : Pure) (t u : Term) → OnPremises (StaysShort most j) (rewrite_side p j k x t u)
+side_short most p j k x Nil u = tt
+side_short most p j k x (Exist m) u = tt
+side_short most p j k x (Univ v) u = (rewritten_short most p j k x v u, tt)
 
-test_short : (b : Bool) (p : ℕ) (j : Judgement) (k : ℕ) (x : Pure) (t u : Term) → OnPremises (StaysShort j) (cond b (Ok (one (with_pures j (without k (antecedent j).pure)))) (rewrite_side p j k x t u))
-test_short true p j k x t u = (pures_short j (without k (antecedent j).pure), tt)
-test_short false p j k x t u = side_short p j k x t u
+test_short : (most : ℕ) → (b : Bool) (p : ℕ) (j : Judgement) (k : ℕ) (x : Pure) (t u : Term) → OnPremises (StaysShort most j) (cond b (Ok (one (with_pures j (without k (antecedent j).pure)))) (rewrite_side p j k x t u))
+test_short most true p j k x t u = (pures_short most j (without k (antecedent j).pure), tt)
+test_short most false p j k x t u = side_short most p j k x t u
 
-atom_short : (p : ℕ) (j : Judgement) (k : ℕ) (side : Side) (x : Pure) → OnPremises (StaysShort j) (rewrite_atom p j k side x)
-atom_short p j k side (Neq t u) = tt
-atom_short p j k side (Eq t u) = test_short (same_term t u) p j k (Eq t u) (named side t u) (unnamed side t u)
+atom_short : (most : ℕ) → (p : ℕ) (j : Judgement) (k : ℕ) (side : Side) (x : Pure) → OnPremises (StaysShort most j) (rewrite_atom p j k side x)
+atom_short most p j k side (Neq t u) = tt
+atom_short most p j k side (Eq t u) = test_short most (same_term t u) p j k (Eq t u) (named side t u) (unnamed side t u)
 
-unfold_short : (ds : List Definition) (p : ℕ) (j : Judgement) (k : ℕ) (x : Spatial) → OnPremises (StaysShort j) (calls x (λ q ts. limited 16 (map (unfold_premise j k ts (fresh_number p j)) (cases_of ds q))))
-unfold_short ds p j k (Cell t ts) = tt
-unfold_short ds p j k (Pred q ts) = limited_short j (map (unfold_premise j k ts (fresh_number p j)) (cases_of ds q))
+unfold_short : (most : ℕ) → (ds : List Definition) (p : ℕ) (j : Judgement) (k : ℕ) (x : Spatial) → OnPremises (StaysShort most j) (calls x (λ q ts. limited most (map (unfold_premise j k ts (fresh_number p j)) (cases_of ds q))))
+unfold_short most ds p j k (Cell t ts) = tt
+unfold_short most ds p j k (Pred q ts) = limited_short most j (map (unfold_premise j k ts (fresh_number p j)) (cases_of ds q))
 
 empty_short : (P : Premise → Type 0) (xs : List Spatial) (ps : List Pure) (ys : List Spatial) → OnPremises P (are_empty xs ps ys)
 empty_short P [] [] [] = tt
@@ -93,75 +93,75 @@ empty_short P [] [] (y ∷ ys) = tt
 empty_short P [] (p ∷ ps) ys = tt
 empty_short P (x ∷ xs) ps ys = tt
 
-dropped_short : (k : ℕ) (xs : List Spatial) → length xs ≤ 16 → length (without k xs) ≤ 16
-dropped_short k xs h = let e = length-without xs k in omega (arith, e, h)
+dropped_short : (most : ℕ) → (k : ℕ) (xs : List Spatial) → length xs ≤ most → length (without k xs) ≤ most
+dropped_short most k xs h = let e = length-without xs k in omega (arith, e, h)
 
-right_short : (ds : List Definition) (a b : SymbolicHeap) (k c : ℕ) (x : Spatial) → OnPremises (StaysShort (Entail a (b ∷ []))) (calls x (λ q ts. finds (slice_get (cases_of ds q) c) NoSuchCase (λ case. limited 16 (one (with_right a (unfolded_right b k (in_heap (right_term ts (heap_exists b)) case) ∷ []))))))
-right_short ds a b k c (Cell t ts) = tt
-right_short ds a b k c (Pred q ts) =
-    finds_on (StaysShort (Entail a (b ∷ []))) (slice_get (cases_of ds q) c) NoSuchCase _ (λ case at.
-    limited_short (Entail a (b ∷ [])) (one (with_right a (unfolded_right b k (in_heap (right_term ts (heap_exists b)) case) ∷ []))))
+right_short : (most : ℕ) → (ds : List Definition) (a b : SymbolicHeap) (k c : ℕ) (x : Spatial) → OnPremises (StaysShort most (Entail a (b ∷ []))) (calls x (λ q ts. finds (slice_get (cases_of ds q) c) NoSuchCase (λ case. limited most (one (with_right a (unfolded_right b k (in_heap (right_term ts (heap_exists b)) case) ∷ []))))))
+right_short most ds a b k c (Cell t ts) = tt
+right_short most ds a b k c (Pred q ts) =
+    finds_on (StaysShort most (Entail a (b ∷ []))) (slice_get (cases_of ds q) c) NoSuchCase _ (λ case at.
+    limited_short most (Entail a (b ∷ [])) (one (with_right a (unfolded_right b k (in_heap (right_term ts (heap_exists b)) case) ∷ []))))
 
-command_short : (i : ℕ) (a : SymbolicHeap) (n : ℕ) (c : Command) → OnPremises (StaysShort (Runs i a)) (command_answer 16 i a n c)
-command_short i a n Stop = tt
-command_short i a n (Goto j) = limited_short (Runs i a) (one (at_line j a a))
-command_short i a n (IfEq t u j) =
-    limited_short (Runs i a) (two (at_line j a (with_atom a (Eq t u))) (at_line (i + 1) a (with_atom a (Neq t u))))
-command_short i a n (IfNeq t u j) =
-    limited_short (Runs i a) (two (at_line j a (with_atom a (Neq t u))) (at_line (i + 1) a (with_atom a (Eq t u))))
-command_short i a n (Assign x t) =
-    limited_short (Runs i a) (one (at_line (i + 1) a (with_atom (renamed x n a) (Eq (Univ x) (renamed_term x n t)))))
-command_short i a n (Load x t k) =
-    finds_on (StaysShort (Runs i a)) (cell_of a.pure t a.spatial) NoCell _ (λ c found.
-    finds_on (StaysShort (Runs i a)) (counted_from_one c.fields k) NoCell _ (λ f field. limited_short (Runs i a) (one (at_line (i + 1) a (with_atom (renamed x n a) (Eq (Univ x) (renamed_term x n f)))))))
-command_short i a n (Store t k u) =
-    finds_on (StaysShort (Runs i a)) (cell_of a.pure t a.spatial) NoCell _ (λ c found.
-    finds_on (StaysShort (Runs i a)) (counted_from_one c.fields k) NoCell _ (λ f field. limited_short (Runs i a) (one (at_line (i + 1) a (with_field a c k u)))))
-command_short i a n (New x k) =
-    limited_short (Runs i a) (one (at_line (i + 1) a (with_cell (renamed x n a) x (variables_from (n + 1) k))))
-command_short i a n (Free t) =
-    finds_on (StaysShort (Runs i a)) (cell_of a.pure t a.spatial) NoCell _ (λ c found.
-    limited_short (Runs i a) (one (record { judgement = Runs (i + 1) (without_spatial c.place a); pairs = kept_pairs c.place a.spatial })))
+command_short : (most : ℕ) → (i : ℕ) (a : SymbolicHeap) (n : ℕ) (c : Command) → OnPremises (StaysShort most (Runs i a)) (command_answer most i a n c)
+command_short most i a n Stop = tt
+command_short most i a n (Goto j) = limited_short most (Runs i a) (one (at_line j a a))
+command_short most i a n (IfEq t u j) =
+    limited_short most (Runs i a) (two (at_line j a (with_atom a (Eq t u))) (at_line (i + 1) a (with_atom a (Neq t u))))
+command_short most i a n (IfNeq t u j) =
+    limited_short most (Runs i a) (two (at_line j a (with_atom a (Neq t u))) (at_line (i + 1) a (with_atom a (Eq t u))))
+command_short most i a n (Assign x t) =
+    limited_short most (Runs i a) (one (at_line (i + 1) a (with_atom (renamed x n a) (Eq (Univ x) (renamed_term x n t)))))
+command_short most i a n (Load x t k) =
+    finds_on (StaysShort most (Runs i a)) (cell_of a.pure t a.spatial) NoCell _ (λ c found.
+    finds_on (StaysShort most (Runs i a)) (counted_from_one c.fields k) NoCell _ (λ f field. limited_short most (Runs i a) (one (at_line (i + 1) a (with_atom (renamed x n a) (Eq (Univ x) (renamed_term x n f)))))))
+command_short most i a n (Store t k u) =
+    finds_on (StaysShort most (Runs i a)) (cell_of a.pure t a.spatial) NoCell _ (λ c found.
+    finds_on (StaysShort most (Runs i a)) (counted_from_one c.fields k) NoCell _ (λ f field. limited_short most (Runs i a) (one (at_line (i + 1) a (with_field a c k u)))))
+command_short most i a n (New x k) =
+    limited_short most (Runs i a) (one (at_line (i + 1) a (with_cell (renamed x n a) x (variables_from (n + 1) k))))
+command_short most i a n (Free t) =
+    finds_on (StaysShort most (Runs i a)) (cell_of a.pure t a.spatial) NoCell _ (λ c found.
+    limited_short most (Runs i a) (one (record { judgement = Runs (i + 1) (without_spatial c.place a); pairs = kept_pairs c.place a.spatial })))
 
 -- the premises of a rule have short antecedents
-pub rule_stays_short : (ds : List Definition) (lines : List Command) (j : Judgement) (rule : Rule) → OnPremises (StaysShort j) (rule_answer 16 ds lines j rule)
-rule_stays_short ds lines j Absurd = needs_on (StaysShort j) (is_absurd (antecedent j)) NotAbsurd (Ok []) (λ _. tt)
-rule_stays_short ds lines j (Rewrite k side) =
-    finds_on (StaysShort j) (slice_get (antecedent j).pure k) NoSuchAtom _ (λ x at. atom_short (variables_of lines j) j k side x)
-rule_stays_short ds lines j (Split t u) =
-    limited_on (StaysShort j) 32 (two (with_pure j (Eq t u)) (with_pure j (Neq t u))) (pures_short j ((antecedent j).pure ++ Eq t u ∷ []), (pures_short j ((antecedent j).pure ++ Neq t u ∷ []), tt))
-rule_stays_short ds lines j (Distinct i k) =
-    finds_on (StaysShort j) (slice_get (antecedent j).spatial i) NoSuchAtom _ (λ x at_i.
-    finds_on (StaysShort j) (slice_get (antecedent j).spatial k) NoSuchAtom _ (λ y at_k.
-    finds_on (StaysShort j) (address_of x) NoCell _ (λ t is_t.
-    finds_on (StaysShort j) (address_of y) NoCell _ (λ u is_u.
-    limited_on (StaysShort j) 32 (one (with_pure j (Neq t (if nat_eq i k then Nil else u)))) (pures_short j ((antecedent j).pure ++ Neq t (if nat_eq i k then Nil else u) ∷ []), tt)))))
-rule_stays_short ds lines j (Weaken k) =
-    finds_on (StaysShort j) (slice_get (antecedent j).pure k) NoSuchAtom _ (λ x at. (pures_short j (without k (antecedent j).pure), tt))
-rule_stays_short ds lines j (Unfold k) =
-    finds_on (StaysShort j) (slice_get (antecedent j).spatial k) NoSuchAtom _ (λ x at. unfold_short ds (variables_of lines j) j k x)
-rule_stays_short ds lines j (Cut places f) =
-    needs_on (StaysShort j) (ascend_from 0 (length (antecedent j).spatial) places) NoSuchAtom _ (λ _.
-    limited_short j (two (cut_left (antecedent j) (has_number places) f) (cut_right j (has_number places) f (max (fresh_number (variables_of lines j) j) (heap_bound f)))))
-rule_stays_short ds lines j Done =
-    single_on StaysShort j _ (λ a b. empty_short (StaysShort (Entail a (b ∷ []))) a.spatial b.pure b.spatial)
-rule_stays_short ds lines j (Choose k) =
-    entails_on StaysShort j _ (λ a bs. finds_on (StaysShort (Entail a bs)) (slice_get bs k) NoSuchAtom _ (λ b at. ((λ h. h), tt)))
-rule_stays_short ds lines j (PureRight k) =
-    single_on StaysShort j _ (λ a b.
-    finds_on (StaysShort (Entail a (b ∷ []))) (slice_get b.pure k) NoSuchAtom _ (λ x at.
-    needs_on (StaysShort (Entail a (b ∷ []))) (is_universal_pure x) HasExistential _ (λ _.
-    needs_on (StaysShort (Entail a (b ∷ []))) (follows a.pure x) NotFollowing _ (λ _. ((λ h. h), tt)))))
-rule_stays_short ds lines j (Instantiate v t) = single_on StaysShort j _ (λ a b. ((λ h. h), tt))
-rule_stays_short ds lines j (Frame i k) =
-    single_on StaysShort j _ (λ a b.
-    finds_on (StaysShort (Entail a (b ∷ []))) (slice_get a.spatial i) NoSuchAtom _ (λ x at_i.
-    finds_on (StaysShort (Entail a (b ∷ []))) (slice_get b.spatial k) NoSuchAtom _ (λ y at_k.
-    needs_on (StaysShort (Entail a (b ∷ []))) (is_universal_spatial y) HasExistential _ (λ _.
-    needs_on (StaysShort (Entail a (b ∷ []))) (same_spatial x y) AtomsDiffer _ (λ _. (dropped_short i a.spatial, tt))))))
-rule_stays_short ds lines j (UnfoldRight k c) =
-    single_on StaysShort j _ (λ a b. finds_on (StaysShort (Entail a (b ∷ []))) (slice_get b.spatial k) NoSuchAtom _ (λ x at. right_short ds a b k c x))
-rule_stays_short ds lines j Exec =
-    runs_on StaysShort j _ (λ i a. finds_on (StaysShort (Runs i a)) (counted_from_one lines i) WrongJudgement _ (λ c at. command_short i a (fresh_number (program_variables lines) j) c))
-rule_stays_short ds lines j (Drop k) =
-    runs_on StaysShort j _ (λ i a. finds_on (StaysShort (Runs i a)) (slice_get a.spatial k) NoSuchAtom _ (λ x at. (dropped_short k a.spatial, tt)))
+pub rule_stays_short : (most : ℕ) → (ds : List Definition) (lines : List Command) (j : Judgement) (rule : Rule) → OnPremises (StaysShort most j) (rule_answer most ds lines j rule)
+rule_stays_short most ds lines j Absurd = needs_on (StaysShort most j) (is_absurd (antecedent j)) NotAbsurd (Ok []) (λ _. tt)
+rule_stays_short most ds lines j (Rewrite k side) =
+    finds_on (StaysShort most j) (slice_get (antecedent j).pure k) NoSuchAtom _ (λ x at. atom_short most (variables_of lines j) j k side x)
+rule_stays_short most ds lines j (Split t u) =
+    limited_on (StaysShort most j) 32 (two (with_pure j (Eq t u)) (with_pure j (Neq t u))) (pures_short most j ((antecedent j).pure ++ Eq t u ∷ []), (pures_short most j ((antecedent j).pure ++ Neq t u ∷ []), tt))
+rule_stays_short most ds lines j (Distinct i k) =
+    finds_on (StaysShort most j) (slice_get (antecedent j).spatial i) NoSuchAtom _ (λ x at_i.
+    finds_on (StaysShort most j) (slice_get (antecedent j).spatial k) NoSuchAtom _ (λ y at_k.
+    finds_on (StaysShort most j) (address_of x) NoCell _ (λ t is_t.
+    finds_on (StaysShort most j) (address_of y) NoCell _ (λ u is_u.
+    limited_on (StaysShort most j) 32 (one (with_pure j (Neq t (if nat_eq i k then Nil else u)))) (pures_short most j ((antecedent j).pure ++ Neq t (if nat_eq i k then Nil else u) ∷ []), tt)))))
+rule_stays_short most ds lines j (Weaken k) =
+    finds_on (StaysShort most j) (slice_get (antecedent j).pure k) NoSuchAtom _ (λ x at. (pures_short most j (without k (antecedent j).pure), tt))
+rule_stays_short most ds lines j (Unfold k) =
+    finds_on (StaysShort most j) (slice_get (antecedent j).spatial k) NoSuchAtom _ (λ x at. unfold_short most ds (variables_of lines j) j k x)
+rule_stays_short most ds lines j (Cut places f) =
+    needs_on (StaysShort most j) (ascend_from 0 (length (antecedent j).spatial) places) NoSuchAtom _ (λ _.
+    limited_short most j (two (cut_left (antecedent j) (has_number places) f) (cut_right j (has_number places) f (max (fresh_number (variables_of lines j) j) (heap_bound f)))))
+rule_stays_short most ds lines j Done =
+    single_on (StaysShort most) j _ (λ a b. empty_short (StaysShort most (Entail a (b ∷ []))) a.spatial b.pure b.spatial)
+rule_stays_short most ds lines j (Choose k) =
+    entails_on (StaysShort most) j _ (λ a bs. finds_on (StaysShort most (Entail a bs)) (slice_get bs k) NoSuchAtom _ (λ b at. ((λ h. h), tt)))
+rule_stays_short most ds lines j (PureRight k) =
+    single_on (StaysShort most) j _ (λ a b.
+    finds_on (StaysShort most (Entail a (b ∷ []))) (slice_get b.pure k) NoSuchAtom _ (λ x at.
+    needs_on (StaysShort most (Entail a (b ∷ []))) (is_universal_pure x) HasExistential _ (λ _.
+    needs_on (StaysShort most (Entail a (b ∷ []))) (follows a.pure x) NotFollowing _ (λ _. ((λ h. h), tt)))))
+rule_stays_short most ds lines j (Instantiate v t) = single_on (StaysShort most) j _ (λ a b. ((λ h. h), tt))
+rule_stays_short most ds lines j (Frame i k) =
+    single_on (StaysShort most) j _ (λ a b.
+    finds_on (StaysShort most (Entail a (b ∷ []))) (slice_get a.spatial i) NoSuchAtom _ (λ x at_i.
+    finds_on (StaysShort most (Entail a (b ∷ []))) (slice_get b.spatial k) NoSuchAtom _ (λ y at_k.
+    needs_on (StaysShort most (Entail a (b ∷ []))) (is_universal_spatial y) HasExistential _ (λ _.
+    needs_on (StaysShort most (Entail a (b ∷ []))) (same_spatial x y) AtomsDiffer _ (λ _. (dropped_short most i a.spatial, tt))))))
+rule_stays_short most ds lines j (UnfoldRight k c) =
+    single_on (StaysShort most) j _ (λ a b. finds_on (StaysShort most (Entail a (b ∷ []))) (slice_get b.spatial k) NoSuchAtom _ (λ x at. right_short most ds a b k c x))
+rule_stays_short most ds lines j Exec =
+    runs_on (StaysShort most) j _ (λ i a. finds_on (StaysShort most (Runs i a)) (counted_from_one lines i) WrongJudgement _ (λ c at. command_short most i a (fresh_number (program_variables lines) j) c))
+rule_stays_short most ds lines j (Drop k) =
+    runs_on (StaysShort most) j _ (λ i a. finds_on (StaysShort most (Runs i a)) (slice_get a.spatial k) NoSuchAtom _ (λ x at. (dropped_short most k a.spatial, tt)))

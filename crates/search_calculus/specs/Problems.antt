@@ -1,12 +1,13 @@
 -- Problems whose lists are short.
-use Rattle.std.specs.Prelude.{◌≡◌, ◌≤◌, length}
+use Rattle.std.specs.Prelude.{◌≤◌, length}
 use Rattle.heap_formula.specs.declared.judgements.Judgement.{Judgement}
 use Rattle.heap_formula.specs.Judgements.{antecedent}
 use Rattle.heap_formula.specs.Words.{Each}
 use Rattle.search_moves.specs.Trying.{Theory}
 
--- heaps have at most sixteen spatial atoms, as the judgement's antecedent has, and definitions at most sixteen cases
+-- heaps have at most as many spatial atoms as a version allows, as the judgement's antecedent has, and definitions at most
+-- sixteen cases
 pub record IsSmallProblem (t : Theory) (j : Judgement) : Type 0 where
-  pub most : t.most ≡ 16
+  pub most : t.most ≤ 32
   pub cases : Each (λ d. length d.cases ≤ 16) t.definitions
-  pub short : length (antecedent j).spatial ≤ 16
+  pub short : length (antecedent j).spatial ≤ t.most

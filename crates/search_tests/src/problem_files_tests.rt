@@ -28,9 +28,19 @@ node true : emp |- true : emp by Done;
 end;
 ";
 
+const SECOND_PROBLEM: &[u8] = b"cyclist problem 2;
+goal true : emp |- true : emp;
+end;
+";
+
+const SECOND_FILE: &[u8] = b"cyclist proof 2;
+node true : emp |- true : emp by Done;
+end;
+";
+
 /// The goal `true : emp |- true : emp`, by `Done`.
 fn done(alloc: Global) -> Result<FileNode, OutOfMemory>
-    ensures { IfOk result (λ n. (ds : List Definition) (count : ℕ) → IsNodeWithin ds count n) }
+    ensures { IfOk result (λ n. (most : ℕ) (ds : List Definition) (count : ℕ) → IsNodeWithin most ds count n) }
 {
     let right = Disjuncts::single(alloc, Heap::new(alloc))?;
     Ok(FileNode {
@@ -60,5 +70,9 @@ fn text_of_file(alloc: Global, bytes: &[u8]) -> Result<Vec<u8>, &'static str> {
 #[test]
 fn texts(rt: HostRuntime) -> Result<(), Fail> {
     assert_eq!(rt; text_of_file(rt.alloc(), PROBLEM)?.as_slice(), FILE);
+    assert_eq!(rt;
+        text_of_file(rt.alloc(), SECOND_PROBLEM)?.as_slice(),
+        SECOND_FILE
+    );
     Ok(())
 }

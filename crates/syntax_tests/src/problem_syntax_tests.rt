@@ -53,6 +53,9 @@ fn reads_all_forms(rt: HostRuntime) -> Result<(), Fail> {
 fn finds_first_dead_token(rt: HostRuntime) -> Result<(), Fail> {
     let alloc = rt.alloc();
     assert_eq!(rt; dead(alloc, b"cyclist proof 1;")?, Some((1, 1, 9)));
+    assert_eq!(rt; dead(alloc, b"cyclist problem 2;")?, Some((4, 1, 19)));
+    assert_eq!(rt; dead(alloc, b"cyclist problem 3;")?, Some((2, 1, 17)));
+    assert_eq!(rt; dead(alloc, b"cyclist problem 02;")?, Some((2, 1, 17)));
     assert_eq!(rt;
         dead(alloc, b"cyclist problem 1;\npred p(x,) {")?,
         Some((9, 2, 10))

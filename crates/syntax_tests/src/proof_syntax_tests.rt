@@ -38,14 +38,27 @@ fn again(alloc: Global, bytes: &[u8]) -> Result<Vec<u8>, &'static str> {
     }
 }
 
+/// First statements with no version's number.
+static VERSIONS: &[&[u8]] = &[
+    b"cyclist proof 01;",
+    b"cyclist proof 02;",
+    b"cyclist proof 3;",
+    b"cyclist proof 0;",
+    b"cyclist proof 12;",
+    b"cyclist proof two;",
+    b"cyclist proof ;",
+];
+
 /// The first dead token of small texts.
 #[test]
 fn finds_first_dead_token(rt: HostRuntime) -> Result<(), Fail> {
     let alloc = rt.alloc();
     assert_eq!(rt; dead(alloc, b"")?, Some((0, 1, 1)));
     assert_eq!(rt; dead(alloc, b"cyclist proof 1;")?, Some((4, 1, 17)));
-    assert_eq!(rt; dead(alloc, b"cyclist proof 01;")?, Some((2, 1, 15)));
-    assert_eq!(rt; dead(alloc, b"cyclist proof 3;")?, Some((2, 1, 15)));
+    assert_eq!(rt; dead(alloc, b"cyclist proof 2;")?, Some((4, 1, 17)));
+    for text in VERSIONS {
+        assert_eq!(rt; dead(alloc, text)?, Some((2, 1, 15)));
+    }
     assert_eq!(rt;
         dead(
             alloc,

@@ -9,7 +9,7 @@ use std::test::Fail;
 /// Words, an input, and how a run on them ends: its status and what it writes.
 type Run = (&'static str, &'static str, u8, &'static str);
 
-static USAGE: &str = "usage: cyclist check | prove [--depth N] | ring K\n";
+static USAGE: &str = "usage: cyclist check | prove [--depth N] | ring K | upgrade | sat\n";
 
 static COMPOSE: &str = "cyclist problem 1;
 pred ls(a, b) { a = b : emp | true : a -> (c) * ls(c, b) };
@@ -77,6 +77,26 @@ goal from 1 given true : list(x);
 end;
 ";
 
+static SEVENTEEN: &str = "cyclist problem 2;
+goal true : x -> (nil) * a -> (nil) * b -> (nil) * c -> (nil) * d -> (nil) * e -> (nil) * f -> (nil) * g -> (nil) * h -> (nil) * i -> (nil) * j -> (nil) * k -> (nil) * l -> (nil) * m -> (nil) * n -> (nil) * o -> (nil) * x -> (a) |- true : emp;
+end;
+";
+
+static ABSURD: &str = "cyclist proof 2;
+node true : $0 -> (nil) * $1 -> (nil) * $2 -> (nil) * $3 -> (nil) * $4 -> (nil) * $5 -> (nil) * $6 -> (nil) * $7 -> (nil) * $8 -> (nil) * $9 -> (nil) * $10 -> (nil) * $11 -> (nil) * $12 -> (nil) * $13 -> (nil) * $14 -> (nil) * $15 -> (nil) * $0 -> ($1) |- true : emp by Absurd;
+end;
+";
+
+static REFUSED: &str =
+    "cyclist proof 1; line 1:free $0; line 2 : stop; node from 1 given true:emp by Exec; end;";
+
+static REFUSED_AGAIN: &str = "cyclist proof 2;
+line 1 : free $0;
+line 2 : stop;
+node from 1 given true : emp by Exec;
+end;
+";
+
 static UNKNOWN: &str = "cyclist problem 1;
 goal true : ls(x, y) |- true : emp;
 end;
@@ -103,7 +123,7 @@ fn ending(alloc: Global, line: &str, input: &[u8]) -> Result<(u8, Vec<u8>), Fail
 #[test]
 fn searches_and_rings(rt: HostRuntime) -> Result<(), Fail> {
     let alloc = rt.alloc();
-    let runs: [Run; 16] = [
+    let runs: [Run; 22] = [
         ("prove", COMPOSE, 0, COMPOSED),
         ("prove --depth 5", COMPOSE, 0, COMPOSED),
         ("prove --depth 4", COMPOSE, 6, "not found depth 4\n"),
@@ -112,6 +132,22 @@ fn searches_and_rings(rt: HostRuntime) -> Result<(), Fail> {
         ("prove --depth 0", COMPOSE, 2, USAGE),
         ("prove --help", COMPOSE, 2, USAGE),
         ("prove", WALK, 0, WALKED),
+        ("prove --depth 1", SEVENTEEN, 0, ABSURD),
+        ("upgrade", ABSURD, 0, ABSURD),
+        ("upgrade", REFUSED, 0, REFUSED_AGAIN),
+        ("upgrade 2", ABSURD, 2, USAGE),
+        (
+            "upgrade",
+            SEVENTEEN,
+            3,
+            "unreadable syntax token 1 line 1 column 9\n",
+        ),
+        (
+            "upgrade",
+            "cyclist proof 1; node true : l() |- true : emp by Done; end;",
+            4,
+            "ill-formed unknown token 7 line 1 column 30\n",
+        ),
         (
             "prove",
             UNKNOWN,
@@ -153,6 +189,20 @@ fn a_found_proof_is_accepted(rt: HostRuntime) -> Result<(), Fail> {
     let (status, line) = ending(alloc, "check", proof.as_slice())?;
     assert_eq!(rt; status, 0);
     assert!(rt; line.as_slice() == "accepted termination nodes 13 links 1\n".as_bytes());
+    Ok(())
+}
+
+// The same nodes, read again from version 2: eight, of which one is a link.
+#[test]
+fn an_upgraded_proof_is_accepted(rt: HostRuntime) -> Result<(), Fail> {
+    let alloc = rt.alloc();
+    let (status, proof) = ending(alloc, "upgrade", COMPOSED.as_bytes())?;
+    assert_eq!(rt; status, 0);
+    assert!(rt; proof.starts_with(b"cyclist proof 2;\n".as_slice()));
+    assert!(rt; proof.as_slice()[17..] == COMPOSED.as_bytes()[17..]);
+    let (status, line) = ending(alloc, "check", proof.as_slice())?;
+    assert_eq!(rt; status, 0);
+    assert!(rt; line.as_slice() == "accepted entailment nodes 8 links 1\n".as_bytes());
     Ok(())
 }
 

@@ -6,10 +6,10 @@ use std::alloc::Global;
 use std::test::Fail;
 
 /// A text, and how a run on it ends: its status and its line.
-type Text = (&'static [u8], u8, &'static str);
+pub type Text = (&'static [u8], u8, &'static str);
 
 /// The number of the first text that is answered otherwise, if there is one.
-fn first_other(alloc: Global, texts: &'static [Text]) -> Result<Option<usize>, Fail> {
+pub fn first_other(alloc: Global, texts: &'static [Text]) -> Result<Option<usize>, Fail> {
     let mut words = Vec::new(alloc);
     words.push(String::from_str(alloc, "check")?)?;
     for (number, text) in texts.iter().enumerate() {
@@ -236,7 +236,7 @@ fn faults_of_tokens(rt: HostRuntime) -> Result<(), Fail> {
 static GRAMMAR: &[Text] = &[
     (b"cyclist", 3, "unreadable syntax token 1 line 1 column 8"),
     (
-        b"cyclist proof 2;\nnode true : emp |- true : emp by Done;\nend;\n",
+        b"cyclist proof 3;\nnode true : emp |- true : emp by Done;\nend;\n",
         3,
         "unreadable syntax token 2 line 1 column 15",
     ),
@@ -565,6 +565,57 @@ fn programs(rt: HostRuntime) -> Result<(), Fail> {
     let alloc = rt.alloc();
     assert_eq!(rt; first_other(alloc, PROGRAMS)?, None);
     assert_eq!(rt; first_other(alloc, ILL_PROGRAMS)?, None);
+    Ok(())
+}
+
+// As many spatial atoms as a version has, and one more; also in a Cut; and what is no version.
+static VERSIONS: &[Text] = &[
+    (
+        b"cyclist proof 2;\nnode true : nil -> (nil) * nil -> (nil) * nil -> (nil) * nil -> (nil) * nil -> (nil) * nil -> (nil) * nil -> (nil) * nil -> (nil) * nil -> (nil) * nil -> (nil) * nil -> (nil) * nil -> (nil) * nil -> (nil) * nil -> (nil) * nil -> (nil) * nil -> (nil) * nil -> (nil) * nil -> (nil) * nil -> (nil) * nil -> (nil) * nil -> (nil) * nil -> (nil) * nil -> (nil) * nil -> (nil) * nil -> (nil) * nil -> (nil) * nil -> (nil) * nil -> (nil) * nil -> (nil) * nil -> (nil) * nil -> (nil) * nil -> (nil) |- true : emp by Absurd;\nend;\n",
+        0,
+        "accepted entailment nodes 1 links 0",
+    ),
+    (
+        b"cyclist proof 2;\nnode true : nil -> (nil) * nil -> (nil) * nil -> (nil) * nil -> (nil) * nil -> (nil) * nil -> (nil) * nil -> (nil) * nil -> (nil) * nil -> (nil) * nil -> (nil) * nil -> (nil) * nil -> (nil) * nil -> (nil) * nil -> (nil) * nil -> (nil) * nil -> (nil) * nil -> (nil) * nil -> (nil) * nil -> (nil) * nil -> (nil) * nil -> (nil) * nil -> (nil) * nil -> (nil) * nil -> (nil) * nil -> (nil) * nil -> (nil) * nil -> (nil) * nil -> (nil) * nil -> (nil) * nil -> (nil) * nil -> (nil) * nil -> (nil) * nil -> (nil) |- true : emp by Absurd;\nend;\n",
+        5,
+        "limit spatial token 199 line 2 column 493",
+    ),
+    (
+        b"cyclist proof 1;\nnode true : nil -> (nil) * nil -> (nil) * nil -> (nil) * nil -> (nil) * nil -> (nil) * nil -> (nil) * nil -> (nil) * nil -> (nil) * nil -> (nil) * nil -> (nil) * nil -> (nil) * nil -> (nil) * nil -> (nil) * nil -> (nil) * nil -> (nil) * nil -> (nil) |- true : emp by Absurd;\nend;\n",
+        0,
+        "accepted entailment nodes 1 links 0",
+    ),
+    (
+        b"cyclist proof 1;\nnode true : nil -> (nil) * nil -> (nil) * nil -> (nil) * nil -> (nil) * nil -> (nil) * nil -> (nil) * nil -> (nil) * nil -> (nil) * nil -> (nil) * nil -> (nil) * nil -> (nil) * nil -> (nil) * nil -> (nil) * nil -> (nil) * nil -> (nil) * nil -> (nil) * nil -> (nil) |- true : emp by Absurd;\nend;\n",
+        5,
+        "limit spatial token 103 line 2 column 253",
+    ),
+    (
+        b"cyclist proof 2;\nnode true : nil -> (nil) * nil -> (nil) * nil -> (nil) * nil -> (nil) * nil -> (nil) * nil -> (nil) * nil -> (nil) * nil -> (nil) * nil -> (nil) * nil -> (nil) * nil -> (nil) * nil -> (nil) * nil -> (nil) * nil -> (nil) * nil -> (nil) * nil -> (nil) * nil -> (nil) |- true : emp by Absurd;\nend;\n",
+        0,
+        "accepted entailment nodes 1 links 0",
+    ),
+    (
+        b"cyclist proof 2;\nnode true : nil -> (nil) |- true : emp by Cut [0] true : nil -> (nil) * nil -> (nil) * nil -> (nil) * nil -> (nil) * nil -> (nil) * nil -> (nil) * nil -> (nil) * nil -> (nil) * nil -> (nil) * nil -> (nil) * nil -> (nil) * nil -> (nil) * nil -> (nil) * nil -> (nil) * nil -> (nil) * nil -> (nil) * nil -> (nil) to 1 2;\nnode true : nil -> (nil) |- true : nil -> (nil) * nil -> (nil) * nil -> (nil) * nil -> (nil) * nil -> (nil) * nil -> (nil) * nil -> (nil) * nil -> (nil) * nil -> (nil) * nil -> (nil) * nil -> (nil) * nil -> (nil) * nil -> (nil) * nil -> (nil) * nil -> (nil) * nil -> (nil) * nil -> (nil) by Absurd;\nnode true : nil -> (nil) * nil -> (nil) * nil -> (nil) * nil -> (nil) * nil -> (nil) * nil -> (nil) * nil -> (nil) * nil -> (nil) * nil -> (nil) * nil -> (nil) * nil -> (nil) * nil -> (nil) * nil -> (nil) * nil -> (nil) * nil -> (nil) * nil -> (nil) * nil -> (nil) |- true : emp by Absurd;\nend;\n",
+        0,
+        "accepted entailment nodes 3 links 0",
+    ),
+    (
+        b"cyclist proof 3;\nnode true : emp |- true : emp by Done;\nend;\n",
+        3,
+        "unreadable syntax token 2 line 1 column 15",
+    ),
+    (
+        b"cyclist proof 01;\nnode true : emp |- true : emp by Done;\nend;\n",
+        3,
+        "unreadable syntax token 2 line 1 column 15",
+    ),
+];
+
+#[test]
+fn versions(rt: HostRuntime) -> Result<(), Fail> {
+    let alloc = rt.alloc();
+    assert_eq!(rt; first_other(alloc, VERSIONS)?, None);
     Ok(())
 }
 

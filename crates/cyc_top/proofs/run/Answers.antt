@@ -1,36 +1,46 @@
-use Rattle.std.proofs.Common.{ap, inl, subst, Err}
-use Rattle.std.specs.Io.KnownBytes.{Appends}
-use Rattle.cyc_top.proofs.Exact.{answered_true, correct_succeeds, found_succeeds, ring_reads_not, ring_succeeds, told_status, wrote_proof}
+use Rattle.std.proofs.Common.{◌≡◌, subst, true}
+use Rattle.cyc_words.specs.Words.{reads_input}
+use Rattle.cyc_runs.specs.declared.endings.Status.TheVariants.{Success}
+use Rattle.cyc_top.proofs.Exact.{correct_succeeds, ended_so, found_succeeds, refusal_says, ring_ends, success_says, success_wrote, told_status, wrote_as}
+use Rattle.cyc_top.proofs.Upgraded.{success_upgraded, upgrade_succeeds}
 use Rattle.cyc_top.proofs.run.Goals as goal
 
-pub returns-in-Ok-write_all-clause-exact : goal.returns-in-Ok-write_all-clause-exact
-returns-in-Ok-write_all-clause-exact g c =
-    λ input status text told expected calm quiet.
-    inl (told_status _ _ input c.in-Ok.answer.status status _ text told expected c.in-Ok.ensures.answered)
+pub returns-in-Ok-clause-exact : goal.returns-in-Ok-clause-exact
+returns-in-Ok-clause-exact g c =
+    λ input status text told expected quiet calm.
+    ended_so _ _ _ _ _ (wrote_as _ _ _ _ _ _ c.in-Ok.ensures.meaning c.run_task.ensures.answered) _ _ status (λ e. (c.run_task.ensures.read_fault e).0) (λ e. (c.run_task.ensures.write_fault e).0) quiet calm
+    (λ xs answer. told_status _ _ input _ status xs text told expected answer)
 
-pub returns-in-Ok-write_all-clause-headline : goal.returns-in-Ok-write_all-clause-headline
-returns-in-Ok-write_all-clause-headline g c = answered_true _ _ _ _ c.in-Ok.ensures.answered
+pub returns-in-Ok-clause-headline : goal.returns-in-Ok-clause-headline
+returns-in-Ok-clause-headline g c = success_says _ _ _ _ _ (wrote_as _ _ _ _ _ _ c.in-Ok.ensures.meaning c.run_task.ensures.answered)
 
-pub returns-in-Ok-write_all-clause-accepts : goal.returns-in-Ok-write_all-clause-accepts
-returns-in-Ok-write_all-clause-accepts g c =
-    λ input file is told short read correct few calm quiet.
-    inl (correct_succeeds _ _ input file _ _ is told short read correct few c.in-Ok.ensures.answered)
+pub returns-in-Ok-clause-unsatisfiable : goal.returns-in-Ok-clause-unsatisfiable
+returns-in-Ok-clause-unsatisfiable g c = refusal_says _ _ _ _ _ (wrote_as _ _ _ _ _ _ c.in-Ok.ensures.meaning c.run_task.ensures.answered)
 
-pub returns-in-Ok-write_all-clause-complete : goal.returns-in-Ok-write_all-clause-complete
-returns-in-Ok-write_all-clause-complete g c =
-    λ depth input problem d is told short read found calm quiet.
-    inl (found_succeeds depth _ _ input problem d _ _ is told short read found c.in-Ok.ensures.answered)
+pub returns-in-Ok-clause-accepts : goal.returns-in-Ok-clause-accepts
+returns-in-Ok-clause-accepts g c =
+    λ input file is told short read correct few quiet calm.
+    ended_so _ _ _ _ _ (wrote_as _ _ _ _ _ _ c.in-Ok.ensures.meaning c.run_task.ensures.answered) _ _ Success (λ e. (c.run_task.ensures.read_fault e).0) (λ e. (c.run_task.ensures.write_fault e).0) quiet calm
+    (λ xs answer. correct_succeeds _ _ input file _ xs is told short read correct few answer)
 
-pub returns-in-Ok-write_all-clause-ring : goal.returns-in-Ok-write_all-clause-ring
-returns-in-Ok-write_all-clause-ring g c = λ k is. inl (ring_succeeds k _ _ _ _ is c.in-Ok.ensures.answered)
+pub returns-in-Ok-clause-complete : goal.returns-in-Ok-clause-complete
+returns-in-Ok-clause-complete g c =
+    λ depth input problem d is told short read found quiet calm.
+    ended_so _ _ _ _ _ (wrote_as _ _ _ _ _ _ c.in-Ok.ensures.meaning c.run_task.ensures.answered) _ _ Success (λ e. (c.run_task.ensures.read_fault e).0) (λ e. (c.run_task.ensures.write_fault e).0) quiet calm
+    (λ xs answer. found_succeeds depth _ _ input problem d _ xs is told short read found answer)
 
-pub returns-in-Ok-write_all-clause-proof : goal.returns-in-Ok-write_all-clause-proof
-returns-in-Ok-write_all-clause-proof g c =
-    λ depth is e.
-    wrote_proof depth _ _ _ _ _ c.in-Ok.answer.text.items is c.in-Ok.ensures.answered e
-    (subst (Appends (g.K.Sink.written c.args.out.now) (g.K.Sink.written c.write_all.new.sink)) c.as_slice.ensures.value c.in-Ok-write_all.ensures.all)
+pub returns-in-Ok-clause-upgrades : goal.returns-in-Ok-clause-upgrades
+returns-in-Ok-clause-upgrades g c =
+    λ input file is told short read quiet calm.
+    ended_so _ _ _ _ _ (wrote_as _ _ _ _ _ _ c.in-Ok.ensures.meaning c.run_task.ensures.answered) _ _ Success (λ e. (c.run_task.ensures.read_fault e).0) (λ e. (c.run_task.ensures.write_fault e).0) quiet calm
+    (λ xs answer. upgrade_succeeds _ _ input file _ xs is told short read answer)
 
--- a ring reads no input
-pub returns-in-Err-ReadFault-clause-ring : goal.returns-in-Err-ReadFault-clause-ring
-returns-in-Err-ReadFault-clause-ring g c =
-    λ k is. absurd (ring_reads_not k _ is (c.in-Err-ReadFault.ensures.asked (ap Err c.in-Err-ReadFault.field-0-is)))
+pub returns-in-Ok-clause-upgraded : goal.returns-in-Ok-clause-upgraded
+returns-in-Ok-clause-upgraded g c = success_upgraded _ _ _ _ _ (wrote_as _ _ _ _ _ _ c.in-Ok.ensures.meaning c.run_task.ensures.answered)
+
+pub returns-in-Ok-clause-proof : goal.returns-in-Ok-clause-proof
+returns-in-Ok-clause-proof g c = λ depth is e. success_wrote _ _ _ _ _ (wrote_as _ _ _ _ _ _ c.in-Ok.ensures.meaning c.run_task.ensures.answered) depth is e
+
+pub returns-in-Ok-clause-ring : goal.returns-in-Ok-clause-ring
+returns-in-Ok-clause-ring g c =
+    λ k is. ring_ends _ _ _ _ _ (wrote_as _ _ _ _ _ _ c.in-Ok.ensures.meaning c.run_task.ensures.answered) k is (λ e. subst (λ t. reads_input t ≡ true) c.in-Ok.ensures.meaning (c.run_task.ensures.asked e))

@@ -1,4 +1,4 @@
-use Rattle.std.proofs.Common.{◌≡◌, List, length, map, sym, ap, ◌∙◌, subst, arith, None}
+use Rattle.std.proofs.Common.{◌≡◌, List, length, map, sym, ap, ◌∙◌, subst, arith, refl, None}
 use Rattle.std.proofs.lemmas.List.{length-map}
 use Rattle.heap_formula.specs.Words.{Each}
 use Rattle.heap_formula.specs.Judgements.{antecedent}
@@ -6,6 +6,7 @@ use Rattle.std.specs.List.{list_all}
 use Rattle.pred_defs.specs.Book.{DefinitionBook}
 use Rattle.pred_defs.specs.Faults.{closed_fault}
 use Rattle.goto_lang.specs.Faults.{program_fault}
+use Rattle.heap_syntax.specs.Versions.{most_spatial}
 use Rattle.heap_reader.specs.Values.{line_value}
 use Rattle.name_numbers.specs.declared.tree.NumberedDefinition.{NumberedDefinition}
 use Rattle.name_numbers.specs.Numbered.{definition_of, problem_of}
@@ -61,11 +62,11 @@ invariant_of-result c =
     let lines_are = c.in_ok-program.ensures ∙ (λ i. program_value (c.deref-2.ensures.value i)) in
     let goal_is = c.in_ok-goal.ensures ∙ (λ i. goal_value (same i) p.goal) in
     record {
-      sixteen = ap (λ (b : DefinitionBook). b.most) c.from_vec.ensures;
-      well_formed = ∣ (p, record { text = text; flawless = right; definitions = definitions_are; program = lines_are; goal = goal_is }) ∣₁;
+      limit = ap (λ (b : DefinitionBook). b.most) c.from_vec.ensures ∙ c.most_spatial.ensures.value;
+      well_formed = ∣ (p, record { version_is = refl; text = text; flawless = right; definitions = definitions_are; program = lines_are; goal = goal_is }) ∣₁;
       closed = (λ i. closed_fault (definitions_are i)) ∙ is_closed p text right;
       known = (λ i. goal_fault (definitions_are i) (goal_is i)) ∙ is_known p text right;
       universal = (λ i. is_universal_heap (antecedent (goal_is i))) ∙ has_universal_antecedent p text right;
-      short = (λ i. list_all is_short_heap (goal_heaps (goal_is i))) ∙ is_short p text right;
+      short = (λ i. list_all (is_short_heap (most_spatial p.version)) (goal_heaps (goal_is i))) ∙ is_short p text right;
       line = (λ i. has_line (length (lines_are i)) (goal_is i)) ∙ has_its_line p text right;
     }

@@ -8,4 +8,4 @@ use Rattle.formula_reader.proofs.walk.definitions.Given as goal
 
 abbrev pub invariant-loop-n : goal.invariant-loop-n
 invariant-loop-n l =
-    (listed_flaw (definition_flaw l.heads) definition_span l.n l.next (map definition_of (drop l.n l.trees)) ≡ listed_flaw (definition_flaw l.heads) definition_span 0 l.fn.at (map definition_of l.trees)) × (l.next + total definition_span (map definition_of (drop l.n l.trees)) ≡ l.fn.at + total definition_span (map definition_of l.trees))
+    (listed_flaw (definition_flaw l.most l.heads) definition_span l.n l.next (map definition_of (drop l.n l.trees)) ≡ listed_flaw (definition_flaw l.most l.heads) definition_span 0 l.fn.at (map definition_of l.trees)) × (l.next + total definition_span (map definition_of (drop l.n l.trees)) ≡ l.fn.at + total definition_span (map definition_of l.trees))

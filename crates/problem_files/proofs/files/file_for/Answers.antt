@@ -20,7 +20,7 @@ copied P book copy program lines d l x =
 pub invariant_of-result-clause-readable : goal.invariant_of-result-clause-readable
 invariant_of-result-clause-readable c =
     let p = c.args.problem.now in
-    nodes_readable p.defs.list (length p.program) c.args.nodes c.requires.within
+    nodes_readable p.defs.most p.defs.list (length p.program) c.args.nodes c.requires.within
 
 pub invariant_of-result-clause-universal : goal.invariant_of-result-clause-universal
 invariant_of-result-clause-universal c =
@@ -30,21 +30,21 @@ invariant_of-result-clause-universal c =
 pub invariant_of-result-clause-at_lines : goal.invariant_of-result-clause-at_lines
 invariant_of-result-clause-at_lines c =
     let p = c.args.problem.now in
-    subst (λ (lines : List Command). are_at_lines (length lines) c.args.nodes ≡ true) (sym c.in_ok-program.ensures.cases) (nodes_at_lines p.defs.list (length p.program) c.args.nodes c.requires.within)
+    subst (λ (lines : List Command). are_at_lines (length lines) c.args.nodes ≡ true) (sym c.in_ok-program.ensures.cases) (nodes_at_lines p.defs.most p.defs.list (length p.program) c.args.nodes c.requires.within)
 
 pub invariant_of-result-clause-cases : goal.invariant_of-result-clause-cases
 invariant_of-result-clause-cases c =
     let p = c.args.problem.now in
-    subst (λ (book : DefinitionBook). all_have_few_cases book.list ≡ true) (sym c.in_ok-defs.ensures.cases) (few_cases p.defs.list p.defs.list (problem_keeps p).definitions)
+    subst (λ (book : DefinitionBook). all_have_few_cases book.list ≡ true) (sym c.in_ok-defs.ensures.cases) (few_cases p.defs.most p.defs.list p.defs.list (problem_keeps p).definitions)
 
 pub invariant_of-result-clause-fits : goal.invariant_of-result-clause-fits
 invariant_of-result-clause-fits c =
     let p = c.args.problem.now in
     let kept = problem_keeps p in
-    copied (λ book lines. file.fits (tree_of book.list lines c.args.nodes)) p.defs c.in_ok-defs.defs p.program c.in_ok-program.program c.in_ok-defs.ensures.cases c.in_ok-program.ensures.cases (file_fits p.defs.list p.program c.args.nodes kept.definitions kept.program c.requires.within kept.free c.requires.some_node)
+    copied (λ book lines. file.fits (tree_of p.version book.list lines c.args.nodes)) p.defs c.in_ok-defs.defs p.program c.in_ok-program.program c.in_ok-defs.ensures.cases c.in_ok-program.ensures.cases (file_fits p.version p.defs.most p.limit p.defs.list p.program c.args.nodes kept.definitions kept.program c.requires.within kept.free c.requires.some_node)
 
 pub invariant_of-result-clause-flawless : goal.invariant_of-result-clause-flawless
 invariant_of-result-clause-flawless c =
     let p = c.args.problem.now in
     let kept = problem_keeps p in
-    copied (λ book lines. file_flaw (tree_of book.list lines c.args.nodes) ≡ None) p.defs c.in_ok-defs.defs p.program c.in_ok-program.program c.in_ok-defs.ensures.cases c.in_ok-program.ensures.cases (file_flawless p.defs.list p.program c.args.nodes kept.definitions kept.program c.requires.within kept.own kept.few c.requires.few)
+    copied (λ book lines. file_flaw (tree_of p.version book.list lines c.args.nodes) ≡ None) p.defs c.in_ok-defs.defs p.program c.in_ok-program.program c.in_ok-defs.ensures.cases c.in_ok-program.ensures.cases (file_flawless p.version p.defs.most p.limit p.defs.list p.program c.args.nodes kept.definitions kept.program c.requires.within kept.own kept.few c.requires.few)

@@ -79,7 +79,7 @@ invariant_of-result c =
     let nodes_are = c.from_vec-nodes.ensures ∙ c.in_ok-nodes.ensures ∙ (λ i. map (node_value (c.requires.known i)) (map node_of (c.deref-3.ensures.value i))) in
     let lines_are = c.in_ok-program.ensures ∙ ap program_value c.deref-2.ensures.value in
     let list_is = ap (λ (b : DefinitionBook). b.list) c.from_vec-defs.ensures ∙ c.in_ok-definitions.ensures.value ∙ (λ i. map (definition_value (c.requires.known i)) (map definition_of (c.deref.ensures.value i))) in
-    let same : f ≡ tree_of c.from_vec-defs.result.list c.in_ok-program.program c.from_vec-nodes.result = sym ((λ i. tree_of (list_is i) (lines_are i) (nodes_are i)) ∙ tree_again f c.requires.right) in
+    let same : f ≡ tree_of f.version c.from_vec-defs.result.list c.in_ok-program.program c.from_vec-nodes.result = sym ((λ i. tree_of f.version (list_is i) (lines_are i) (nodes_are i)) ∙ tree_again f c.requires.right) in
     let size = length-map f.nodes (node_value hs) in
     let count = ap length lines_are ∙ lines_size f.lines in
     record {
@@ -89,8 +89,7 @@ invariant_of-result c =
       universal = subst (λ (cs : List Command). are_universal_commands cs ≡ true) (sym lines_are) (commands_universal f.lines);
       at_lines = (λ i. are_at_lines (count i) (nodes_are i)) ∙ file_at_lines f c.requires.right;
       cases = subst (λ (ds : List DefinitionValue). all_have_few_cases ds ≡ true) (sym list_is) (cases_few f.definitions hs small.definitions);
-      first_version = refl;
-      sixteen = ap (λ (b : DefinitionBook). b.most) c.from_vec-defs.ensures;
+      limit = ap (λ (b : DefinitionBook). b.most) c.from_vec-defs.ensures ∙ c.most_spatial.ensures.value;
       fits = subst (λ (t : File). file.fits t) same c.requires.fits;
       flawless = ap file_flaw (sym same) ∙ c.requires.right;
     }

@@ -8,4 +8,4 @@ use Rattle.proof_file.proofs.walk.nodes.Given as goal
 
 abbrev pub invariant-loop-n : goal.invariant-loop-n
 invariant-loop-n l =
-    (listed_flaw (node_flaw l.heads l.count) node_span l.n l.next (map node_of (drop l.n l.trees)) ≡ listed_flaw (node_flaw l.heads l.count) node_span 0 l.fn.at (map node_of l.trees)) × (l.next + total node_span (map node_of (drop l.n l.trees)) ≡ l.fn.at + total node_span (map node_of l.trees))
+    (listed_flaw (node_flaw l.most l.heads l.count) node_span l.n l.next (map node_of (drop l.n l.trees)) ≡ listed_flaw (node_flaw l.most l.heads l.count) node_span 0 l.fn.at (map node_of l.trees)) × (l.next + total node_span (map node_of (drop l.n l.trees)) ≡ l.fn.at + total node_span (map node_of l.trees))

@@ -26,7 +26,7 @@ file_for-requires-clause-few c =
 pub file_for-requires-clause-within : goal.file_for-requires-clause-within
 file_for-requires-clause-within c =
     let is : c.from_vec.result ≡ nodes_made (theory c.args.problem.now.defs c.args.problem.now.program) (nodes_in c.args.moves.now) = c.from_vec.ensures ∙ (c.in_ok-nodes.ensures ∙ (ap (file_nodes_from c.args.moves.now.graph 0) c.deref.ensures.value ∙ (nodes_are c.args.moves.now c.requires.order c.requires.closed ∙ ap (λ (t : _). nodes_made t (nodes_in c.args.moves.now)) c.requires.theory))) in
-    subst (λ (ns : _). Each (IsNodeWithin c.args.problem.now.defs.list (length c.args.problem.now.program)) ns) (sym is) c.requires.proof.within
+    subst (λ (ns : _). Each (IsNodeWithin c.args.problem.now.defs.most c.args.problem.now.defs.list (length c.args.problem.now.program)) ns) (sym is) c.requires.proof.within
 
 pub returns-clause-nodes : goal.returns-clause-nodes
 returns-clause-nodes c =

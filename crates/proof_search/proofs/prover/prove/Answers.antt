@@ -50,7 +50,7 @@ returns-in-Some-Found-clause-proved c =
     (within c.args.problem.now c.problem_is_within.ensures.definitions c.problem_is_within.ensures.program c.problem_is_within.ensures.goal)
     (answers_at (search_for c.args.problem.now) c.args.most c.loop-bound.bound _ (c.args.depth - c.loop-bound.bound) stop.Found (reasons_in c.search_depth.new.moves) _ (omega arith)
     (c.in_ok-search_depth.ensures.searched (search_for c.args.problem.now) (follows c.args.problem.now c.in_ok-moves.moves c.in_ok-moves.ensures.defs c.in_ok-moves.ensures.program c.in_ok-moves.ensures.root)) (c.in-Some-Found.is ∙ ap Some c.in-Some-Found.field-0-is) ∙ c.loop-bound.invariant) in
-    is_proof c.args.problem.now c.in_ok-file_of-in-Some-Found.field-0 c.search_depth.new.moves h c.problem_is_within.ensures.program c.in_ok-file_of-in-Some-Found.ensures.definitions c.in_ok-file_of-in-Some-Found.ensures.program c.in_ok-file_of-in-Some-Found.ensures.nodes (same_reasons c.args.problem.now c.in_ok-file_of-in-Some-Found.field-0 c.search_depth.new.moves c.in_ok-file_of-in-Some-Found.ensures.nodes)
+    is_proof c.args.problem.now c.in_ok-file_of-in-Some-Found.field-0 c.search_depth.new.moves h c.problem_is_within.ensures.program c.in_ok-file_of-in-Some-Found.ensures.version c.in_ok-file_of-in-Some-Found.ensures.definitions c.in_ok-file_of-in-Some-Found.ensures.program c.in_ok-file_of-in-Some-Found.ensures.nodes (same_reasons c.args.problem.now c.in_ok-file_of-in-Some-Found.field-0 c.search_depth.new.moves c.in_ok-file_of-in-Some-Found.ensures.nodes)
 
 pub loop-bound-preserved : goal.loop-bound-preserved
 loop-bound-preserved c =

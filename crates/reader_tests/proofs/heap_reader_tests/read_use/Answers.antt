@@ -25,4 +25,4 @@ walk_heap-requires c =
 
 pub heap_value-requires-clause-small : goal.heap_value-requires-clause-small
 heap_value-requires-clause-small c =
-    heap_small dollar_flaw three Univ small_dollars c.in-Ok.heads 4 (heap_of c.in-Ok-use_of.tree) c.in-Ok-walk_heap.ensures.0
+    heap_small dollar_flaw three Univ small_dollars 16 (omega arith) c.in-Ok.heads 4 (heap_of c.in-Ok-use_of.tree) c.in-Ok-walk_heap.ensures.0

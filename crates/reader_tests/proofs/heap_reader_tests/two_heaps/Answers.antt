@@ -27,4 +27,4 @@ walk_heaps-requires c =
 
 pub heap_values-requires-clause-small : goal.heap_values-requires-clause-small
 heap_values-requires-clause-small c =
-    (heaps_small dollar_flaw three Univ small_dollars c.in_ok-heads.heads Disjuncts 4 (heap_of c.in_ok-left.left ∷ heap_of c.in_ok-right.right ∷ []) c.in-Ok.ensures.0).0
+    (heaps_small dollar_flaw three Univ small_dollars 16 (omega arith) c.in_ok-heads.heads Disjuncts 4 (heap_of c.in_ok-left.left ∷ heap_of c.in_ok-right.right ∷ []) c.in-Ok.ensures.0).0

@@ -10,6 +10,7 @@ use Rattle.proof_syntax.specs.Grammar.{file}
 use Rattle.proof_file.specs.declared.node.FileNode.{FileNode}
 use Rattle.proof_file.specs.Readable.{are_readable, are_universal_commands, are_at_lines, all_have_few_cases}
 use Rattle.proof_file.specs.Flaws.{file_flaw}
+use Rattle.heap_syntax.specs.declared.version.Version.TheVariants.{One}
 use Rattle.proof_file.specs.Written.{tree_of, text_of_file}
 use Rattle.proof_check.specs.Files.{AreRight, graph_of, nodes_of}
 use Rattle.ring_family.specs.Ring.{ring_definitions, ring_nodes, file_nodes}
@@ -36,7 +37,7 @@ invariant_of-result c =
     let k = c.args.k in
     let one = c.requires.from_one in
     let few = c.requires.most in
-    let d = c.from_vec-defs.ensures ∙ ap (λ (l : List Definition). record { most = 16; list = l }) c.in_ok-definitions.ensures in
+    let d = c.from_vec-defs.ensures ∙ (λ i. record { most = c.most_spatial.ensures.value i; list = c.in_ok-definitions.ensures i }) in
     let p = c.in_ok-program.ensures in
     let n = c.from_vec-nodes.ensures ∙ c.in_ok-nodes.ensures in
     let all' = (λ (P : DefinitionBook → List Command → List FileNode → Type 0). kept P k c.from_vec-defs.result c.in_ok-program.program c.from_vec-nodes.result d p n) in
@@ -47,10 +48,9 @@ invariant_of-result c =
       universal = all' (λ book program nodes. are_universal_commands program ≡ true) refl;
       at_lines = all' (λ book program nodes. are_at_lines (length program) nodes ≡ true) (at_lines k);
       cases = all' (λ book program nodes. all_have_few_cases book.list ≡ true) (few_cases k);
-      first_version = refl;
-      sixteen = all' (λ book program nodes. book.most ≡ 16) refl;
-      fits = all' (λ book program nodes. file.fits (tree_of book.list program nodes)) (file_fits k one few);
-      flawless = all' (λ book program nodes. file_flaw (tree_of book.list program nodes) ≡ None) (no_flaw k one few);
+      limit = all' (λ book program nodes. book.most ≡ 16) refl;
+      fits = all' (λ book program nodes. file.fits (tree_of One book.list program nodes)) (file_fits k one few);
+      flawless = all' (λ book program nodes. file_flaw (tree_of One book.list program nodes) ≡ None) (no_flaw k one few);
     }
 
 pub returns-clause-nodes : goal.returns-clause-nodes
@@ -62,14 +62,14 @@ returns-clause-file_form c = c.from_vec-nodes.ensures ∙ c.in_ok-nodes.ensures
 pub returns-clause-short : goal.returns-clause-short
 returns-clause-short c =
     let k = c.args.k in
-    let d = c.from_vec-defs.ensures ∙ ap (λ (l : List Definition). record { most = 16; list = l }) c.in_ok-definitions.ensures in
+    let d = c.from_vec-defs.ensures ∙ (λ i. record { most = c.most_spatial.ensures.value i; list = c.in_ok-definitions.ensures i }) in
     let n = c.from_vec-nodes.ensures ∙ c.in_ok-nodes.ensures in
-    kept (λ book program nodes. length (text_of_file book.list program nodes) < 16777216) k c.from_vec-defs.result c.in_ok-program.program c.from_vec-nodes.result d c.in_ok-program.ensures n (ring_text_short k c.requires.from_one c.requires.most)
+    kept (λ book program nodes. length (text_of_file One book.list program nodes) < 16777216) k c.from_vec-defs.result c.in_ok-program.program c.from_vec-nodes.result d c.in_ok-program.ensures n (ring_text_short k c.requires.from_one c.requires.most)
 
 pub returns-clause-correct : goal.returns-clause-correct
 returns-clause-correct c =
     let k = c.args.k in
-    let d = c.from_vec-defs.ensures ∙ ap (λ (l : List Definition). record { most = 16; list = l }) c.in_ok-definitions.ensures in
+    let d = c.from_vec-defs.ensures ∙ (λ i. record { most = c.most_spatial.ensures.value i; list = c.in_ok-definitions.ensures i }) in
     let n = ap nodes_of (c.from_vec-nodes.ensures ∙ c.in_ok-nodes.ensures) ∙ nodes_again (ring_nodes k) in
     let all' = (λ (P : DefinitionBook → List Command → List Node → Type 0). moved P k c.from_vec-defs.result c.in_ok-program.program (nodes_of c.from_vec-nodes.result) d c.in_ok-program.ensures n) in
     record {
@@ -80,13 +80,13 @@ returns-clause-correct c =
 pub returns-clause-at_most : goal.returns-clause-at_most
 returns-clause-at_most c =
     let k = c.args.k in
-    let d = c.from_vec-defs.ensures ∙ ap (λ (l : List Definition). record { most = 16; list = l }) c.in_ok-definitions.ensures in
+    let d = c.from_vec-defs.ensures ∙ (λ i. record { most = c.most_spatial.ensures.value i; list = c.in_ok-definitions.ensures i }) in
     let n = ap nodes_of (c.from_vec-nodes.ensures ∙ c.in_ok-nodes.ensures) ∙ nodes_again (ring_nodes k) in
     moved (λ book program nodes. HasAtMost (graph_of book.most book.list program nodes) (8 * k + 1)) k c.from_vec-defs.result c.in_ok-program.program (nodes_of c.from_vec-nodes.result) d c.in_ok-program.ensures n (states_at_most k c.requires.from_one c.requires.most)
 
 pub returns-clause-at_least : goal.returns-clause-at_least
 returns-clause-at_least c =
     let k = c.args.k in
-    let d = c.from_vec-defs.ensures ∙ ap (λ (l : List Definition). record { most = 16; list = l }) c.in_ok-definitions.ensures in
+    let d = c.from_vec-defs.ensures ∙ (λ i. record { most = c.most_spatial.ensures.value i; list = c.in_ok-definitions.ensures i }) in
     let n = ap nodes_of (c.from_vec-nodes.ensures ∙ c.in_ok-nodes.ensures) ∙ nodes_again (ring_nodes k) in
     moved (λ book program nodes. HasMoreThan (graph_of book.most book.list program nodes) (8 * k)) k c.from_vec-defs.result c.in_ok-program.program (nodes_of c.from_vec-nodes.result) d c.in_ok-program.ensures n (states_at_least k c.requires.from_one c.requires.most)

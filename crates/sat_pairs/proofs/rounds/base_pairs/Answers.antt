@@ -10,7 +10,7 @@ loop-table-init c =
     let e : c.in_ok-table.table ≡ replicate (length ds) [] = c.in_ok-table.ensures ∙ ap (λ xs. replicate (length xs) []) c.as_slice.ensures.value in
     record { part = empty_part ds c.args.most c.in_ok-table.table e; count = empty_count (length ds) c.in_ok-table.table e }
 
-pub returns-then-now-count-clause-table : goal.returns-then-now-count-clause-table
-returns-then-now-count-clause-table c =
-    let same : total c.sweep.new.table ≡ total c.loop-table.table = sym c.in_ok-now.ensures.part.1 ∙ (c.if-now-count.true ∙ c.loop-table.invariant.count) in
-    finished c.args.defs.now.list c.args.most c.loop-table.table c.sweep.new.table c.in_ok-now.ensures.part.0 c.in_ok-now.ensures.grown same c.in_ok-now.ensures.taken
+pub returns-then-now-worked-clause-table : goal.returns-then-now-worked-clause-table
+returns-then-now-worked-clause-table c =
+    let same : total c.sweep.new.table ≡ total c.work.new.table = sym c.in_ok-now.ensures.part.1 ∙ (c.if-now-worked.true ∙ c.in_ok-worked.ensures.part.1) in
+    finished c.args.defs.now.list c.args.most c.work.new.table c.sweep.new.table c.in_ok-now.ensures.part.0 c.in_ok-now.ensures.grown same c.in_ok-now.ensures.taken

@@ -1,0 +1,102 @@
+//! A run of a program that answers its whole input: bytes in, one text and a status out.
+#![tactic(auto)]
+
+ghost use Rattle.std.specs.Prelude.{◌≡◌, ◌≢◌, ◌≤◌, ℕ, List, length, IfOk, true};
+ghost use Rattle.std.specs.Io.KnownBytes.{Appends};
+ghost use Rattle.cyc_io.specs.Bytes.{AppendsProperPrefix};
+ghost use Rattle.cyc_io.specs.Causes.{Rose};
+ghost use Rattle.cyc_runs.specs.Endings.{is_answer};
+ghost use Rattle.cyc_runs.specs.Runs.{IsAnswerOf, IsReadThrough, WroteAnswer, WrotePart, input_limit};
+
+mod answers;
+mod endings;
+mod faults;
+mod inputs;
+
+pub use answers::{Answer, fixed_answer};
+use cyc_io::{Sink, Source, write_all};
+pub use cyc_memory::OutOfMemory;
+pub use endings::Status;
+pub use faults::answer_to_fault;
+use inputs::answer_over;
+pub use inputs::{INPUT_LIMIT, NoAnswer};
+use std::alloc::Global;
+
+/// What a program does with an input that has come whole.
+pub trait Tool {
+    ghost use Rattle.cyc_runs.specs.declared.endings.Status.{Status};
+
+    /// This input is answered with this status and this text.
+    ghost answers: { Self → List ℕ → Status → List ℕ → Type 0 };
+
+    /// The answer to an input within the limit.
+    fn answer(&self, alloc: Global, input: &[u8]) -> Result<Answer, OutOfMemory>
+        requires { length input.now ≤ input_limit }
+        ensures answered { IfOk result (λ a. answers self.now input.now a.status a.text.items) }
+        ensures ending { IfOk result (λ a. is_answer a.status ≡ true) };
+}
+
+/// Writes an answer, whole unless a write fails, and says how the run ends.
+pub fn give<K: Sink>(answer: Answer, out: &mut K) -> Status
+    requires { is_answer answer.status ≡ true }
+    ensures whole { is_answer result ≡ true → (result ≡ answer.status) × Appends (K.written out.old) (K.written out.new) answer.text.items }
+    ensures part { result ≡ Status.WriteFault
+        → Rose (K.faults out.old) (K.faults out.new) × AppendsProperPrefix (K.written out.old) (K.written out.new) answer.text.items }
+    ensures calm { is_answer result ≡ true → K.faults out.new ≡ K.faults out.old }
+    ensures counted { K.faults out.old ≤ K.faults out.new }
+    ensures read_fault { result ≢ Status.ReadFault }
+    ensures memory { result ≢ Status.OutOfMemory }
+{
+    match write_all(out, answer.text.as_slice()) {
+        Ok(()) => answer.status,
+        Err(_) => Status::WriteFault,
+    }
+}
+
+/// Writes an answer on which no input bears, if memory sufficed to make it, and says how the run ends.
+pub fn give_made<K: Sink>(made: Result<Answer, OutOfMemory>, out: &mut K) -> Status
+    requires { IfOk made (λ a. is_answer a.status ≡ true) }
+    ensures whole { (status : Status) (text : List ℕ) → IfOk made (λ a. (a.status ≡ status) × (a.text.items ≡ text))
+        → is_answer result ≡ true → (result ≡ status) × Appends (K.written out.old) (K.written out.new) text }
+    ensures part { (status : Status) (text : List ℕ) → IfOk made (λ a. (a.status ≡ status) × (a.text.items ≡ text))
+        → result ≡ Status.WriteFault → AppendsProperPrefix (K.written out.old) (K.written out.new) text }
+    ensures cause { result ≡ Status.WriteFault → Rose (K.faults out.old) (K.faults out.new) }
+    ensures read_fault { result ≢ Status.ReadFault }
+    ensures memory { result ≡ Status.OutOfMemory → out.new ≡ out.old }
+    ensures calm { is_answer result ≡ true → K.faults out.new ≡ K.faults out.old }
+    ensures counted { K.faults out.old ≤ K.faults out.new }
+{
+    match made {
+        Ok(answer) => give(answer, out),
+        Err(_) => Status::OutOfMemory,
+    }
+}
+
+/// Reads the source to its end, or to one byte past the greatest input, and writes the tool's answer. The whole text
+/// is made before its first byte is written.
+pub fn run_over<T: Tool, S: Source, K: Sink>(
+    alloc: Global,
+    tool: &T,
+    src: &mut S,
+    out: &mut K,
+) -> Status
+    // The text of the answer to the bytes that the source told was written, whole.
+    ensures answered { is_answer result ≡ true
+        → WroteAnswer (IsAnswerOf (T.answers tool.now)) (S.left src.old) (K.written out.old) (K.written out.new) result }
+    ensures through { is_answer result ≡ true → IsReadThrough (S.left src.old) (S.left src.new) }
+    ensures read_fault { result ≡ Status.ReadFault → Rose (S.faults src.old) (S.faults src.new) × (out.new ≡ out.old) }
+    ensures write_fault { result ≡ Status.WriteFault → Rose (K.faults out.old) (K.faults out.new)
+        × WrotePart (IsAnswerOf (T.answers tool.now)) (S.left src.old) (K.written out.old) (K.written out.new) }
+    // Neither a failed read nor a failed write ends so.
+    ensures memory { result ≡ Status.OutOfMemory → (out.new ≡ out.old) × (S.faults src.new ≡ S.faults src.old) }
+    // After a failed read or write no answer is given.
+    ensures calm { is_answer result ≡ true
+        → (S.faults src.new ≡ S.faults src.old) × (K.faults out.new ≡ K.faults out.old) }
+    ensures counted { (S.faults src.old ≤ S.faults src.new) × (K.faults out.old ≤ K.faults out.new) }
+{
+    match answer_over(alloc, tool, src) {
+        Ok(answer) => give(answer, out),
+        Err(NoAnswer::ReadFault) => Status::ReadFault,
+        Err(NoAnswer::OutOfMemory) => Status::OutOfMemory,
+    }
+}

@@ -1,0 +1,100 @@
+-- The question whether an antecedent can be satisfied has one answer.
+use Rattle.std.proofs.Common.{◌≡◌, ◌∙◌, ℕ, List, sym, subst, inl, inr, Result, Ok, Err}
+use Rattle.heap_formula.specs.Judgements.{antecedent}
+use Rattle.pair_family.specs.Statements.{IsSatisfiable}
+use Rattle.pair_family.specs.Tables.{HasAtMost, HasMoreThan}
+use Rattle.pair_family.proofs.Rounds.{not_both}
+use Rattle.formula_reader.specs.declared.problem.Problem.{Problem}
+use Rattle.formula_reader.specs.Reading as problems
+use Rattle.cyc_lex.specs.declared.fault.ReadFault.{ReadFault}
+use Rattle.cyc_lex.specs.declared.fault.ReadFault.TheVariants as faults
+use Rattle.cyc_runs.specs.Faults.{fault_status}
+use Rattle.cyc_runs.specs.declared.endings.Status.{Status}
+use Rattle.cyc_runs.specs.declared.endings.Status.TheVariants.{Success, Refused, Limit}
+use Rattle.sat_answers.specs.Answers.{IsAsked, IsPairsAnswer, IsPossible, IsReadAnswer, IsSaid, pair_limit}
+use Rattle.cyc_top.proofs.OneReading.{AreAlike}
+use Rattle.cyc_top.proofs.Readings.{one_problem_reading}
+
+-- no fault of the input ends with success
+pub fault_fails : (fault : ReadFault) → Success ≡ fault_status fault → ⊥
+fault_fails (faults.Lex fault) e = cc
+fault_fails (faults.Syntax token line column) e = cc
+fault_fails (faults.IllFormed fault token line column) e = cc
+fault_fails (faults.Limit what token line column) e = cc
+fault_fails faults.OutOfMemory e = cc
+
+-- nor with a refusal
+fault_is_no_refusal : (fault : ReadFault) → Refused ≡ fault_status fault → ⊥
+fault_is_no_refusal (faults.Lex fault) e = cc
+fault_is_no_refusal (faults.Syntax token line column) e = cc
+fault_is_no_refusal (faults.IllFormed fault token line column) e = cc
+fault_is_no_refusal (faults.Limit what token line column) e = cc
+fault_is_no_refusal faults.OutOfMemory e = cc
+
+module _ (p q : Problem) (same : problems.AreSame p q) where
+  possible : IsPossible p → IsPossible q
+  possible is =
+      subst (λ ds. IsSatisfiable ds (antecedent q.goal)) same.definitions
+      (subst (λ j. IsSatisfiable p.defs.list (antecedent j)) same.goal is)
+
+  possible_back : IsPossible q → IsPossible p
+  possible_back is =
+      subst (λ ds. IsSatisfiable ds (antecedent p.goal)) (sym same.definitions)
+      (subst (λ j. IsSatisfiable q.defs.list (antecedent j)) (sym same.goal) is)
+
+  both : HasAtMost p.defs.list pair_limit → HasMoreThan q.defs.list pair_limit → ⊥
+  both few many = not_both q.defs.list pair_limit (subst (λ ds. HasAtMost ds pair_limit) same.definitions few) many
+
+  both_back : HasMoreThan p.defs.list pair_limit → HasAtMost q.defs.list pair_limit → ⊥
+  both_back many few = not_both q.defs.list pair_limit few (subst (λ ds. HasMoreThan ds pair_limit) same.definitions many)
+
+  said_ends : (s t : Status) (xs ys : List ℕ) → IsSaid p s xs → IsSaid q t ys → s ≡ t
+  said_ends s t xs ys (inl first) (inl second) = first.1 ∙ sym second.1
+  said_ends s t xs ys (inr first) (inr second) = first.1 ∙ sym second.1
+  said_ends s t xs ys (inl first) (inr second) = absurd (second.0 (possible first.0))
+  said_ends s t xs ys (inr first) (inl second) = absurd (first.0 (possible_back second.0))
+
+  pairs_end : (s t : Status) (xs ys : List ℕ) → IsPairsAnswer p s xs → IsPairsAnswer q t ys → s ≡ t
+  pairs_end s t xs ys (inl first) (inl second) = first.1 ∙ sym second.1
+  pairs_end s t xs ys (inr first) (inr second) = said_ends s t xs ys first.1 second.1
+  pairs_end s t xs ys (inl first) (inr second) = absurd (both_back first.0 second.0)
+  pairs_end s t xs ys (inr first) (inl second) = absurd (both first.0 second.0)
+
+read_ends : (r q : Result Problem ReadFault) (s t : Status) (xs ys : List ℕ) → AreAlike problems.AreSame r q → IsReadAnswer r s xs → IsReadAnswer q t ys → s ≡ t
+read_ends (Ok p) (Ok q) s t xs ys same first second = pairs_end p q same s t xs ys first second
+read_ends (Err a) (Err b) s t xs ys same first second = first.0 ∙ same ∙ sym second.0
+read_ends (Ok p) (Err b) s t xs ys same first second = absurd same
+read_ends (Err a) (Ok q) s t xs ys same first second = absurd same
+
+-- an input is answered with one status
+pub asked_ends : (input : List ℕ) (s t : Status) (xs ys : List ℕ) → IsAsked input s xs → IsAsked input t ys → s ≡ t
+asked_ends input s t xs ys first second =
+    read_ends first.1 second.1 s t xs ys (one_problem_reading input first.1 second.1 first.2 second.2) first.3 second.3
+
+-- ---- what the answers say
+
+said_possible : (p : Problem) (xs : List ℕ) → IsSaid p Success xs → IsPossible p
+said_possible p xs (inl is) = is.0
+said_possible p xs (inr other) = absurd (let e : Success ≡ Refused = other.1 in cc)
+
+said_impossible : (p : Problem) (xs : List ℕ) → IsSaid p Refused xs → ¬ IsPossible p
+said_impossible p xs (inl other) = absurd (let e : Refused ≡ Success = other.1 in cc)
+said_impossible p xs (inr is) = is.0
+
+pairs_possible : (p : Problem) (xs : List ℕ) → IsPairsAnswer p Success xs → IsPossible p
+pairs_possible p xs (inl many) = absurd (let e : Success ≡ Limit = many.1 in cc)
+pairs_possible p xs (inr few) = said_possible p xs few.1
+
+pairs_impossible : (p : Problem) (xs : List ℕ) → IsPairsAnswer p Refused xs → ¬ IsPossible p
+pairs_impossible p xs (inl many) = absurd (let e : Refused ≡ Limit = many.1 in cc)
+pairs_impossible p xs (inr few) = said_impossible p xs few.1
+
+-- success says that the antecedent of the problem that was read is satisfiable
+pub success_possible : (input : List ℕ) (r : Result Problem ReadFault) (xs : List ℕ) → problems.IsRead input r → IsReadAnswer r Success xs → (p : Problem) × problems.IsRead input (Ok p) × IsPossible p
+success_possible input (Ok p) xs is answer = (p, is, pairs_possible p xs answer)
+success_possible input (Err fault) xs is answer = absurd (fault_fails fault answer.0)
+
+-- a refusal, that it is not
+pub refusal_impossible : (input : List ℕ) (r : Result Problem ReadFault) (xs : List ℕ) → problems.IsRead input r → IsReadAnswer r Refused xs → (p : Problem) × problems.IsRead input (Ok p) × (¬ IsPossible p)
+refusal_impossible input (Ok p) xs is answer = (p, is, pairs_impossible p xs answer)
+refusal_impossible input (Err fault) xs is answer = absurd (fault_is_no_refusal fault answer.0)

@@ -1,0 +1,4 @@
+pub mod Graphs
+pub mod Quoting
+pub mod Reading
+pub mod Texts

@@ -1,0 +1,43 @@
+//! The top call of `draw`: words and a source of bytes in, a drawing and a status out.
+#![tactic(auto)]
+
+ghost use Rattle.std.specs.Prelude.{◌≡◌, ◌≤◌, length, true};
+ghost use Rattle.cyc_io.specs.Causes.{Rose};
+ghost use Rattle.cyc_runs.specs.Endings.{is_answer};
+ghost use Rattle.cyc_runs.specs.Runs.{IsReadThrough};
+ghost use Rattle.draw_top.specs.Answers.{WroteDrawing, WrotePartOfDrawing};
+
+mod answering;
+mod drawing;
+mod edges;
+mod nodes;
+mod sets;
+
+use answering::Drawer;
+use cyc_io::{Sink, Source};
+pub use cyc_runs::Status;
+use cyc_runs::{fixed_answer, give_made, run_over};
+use std::alloc::Global;
+
+/// Where there are no words beyond the program's name, draws the proof that the source holds, or says why it cannot be
+/// read; any word gives the usage. The whole text is made before its first byte is written.
+pub fn run<S: Source, K: Sink>(alloc: Global, words: &[String], src: &mut S, out: &mut K) -> Status
+    // The text of the answer to the words and to the bytes that the source told was written, whole.
+    ensures answered { is_answer result ≡ true
+        → WroteDrawing (length words.now) (S.left src.old) (K.written out.old) (K.written out.new) result }
+    ensures through { is_answer result ≡ true → length words.now ≡ 0 → IsReadThrough (S.left src.old) (S.left src.new) }
+    ensures read_fault { result ≡ Status.ReadFault → Rose (S.faults src.old) (S.faults src.new) × (out.new ≡ out.old) }
+    ensures write_fault { result ≡ Status.WriteFault → Rose (K.faults out.old) (K.faults out.new)
+        × WrotePartOfDrawing (length words.now) (S.left src.old) (K.written out.old) (K.written out.new) }
+    // Neither a failed read nor a failed write ends so.
+    ensures memory { result ≡ Status.OutOfMemory → (out.new ≡ out.old) × (S.faults src.new ≡ S.faults src.old) }
+    // After a failed read or write no answer is given.
+    ensures calm { is_answer result ≡ true
+        → (S.faults src.new ≡ S.faults src.old) × (K.faults out.new ≡ K.faults out.old) }
+    ensures counted { (S.faults src.old ≤ S.faults src.new) × (K.faults out.old ≤ K.faults out.new) }
+{
+    match words {
+        [] => run_over(alloc, &Drawer, src, out),
+        _ => give_made(fixed_answer(alloc, Status::Usage, "usage: draw\n"), out),
+    }
+}

@@ -1,0 +1,11 @@
+use Rattle.std.proofs.Common.{refl}
+use Rattle.std.specs.Fmt.{digits}
+use Rattle.heap_syntax.proofs.version.Version.number.Goals as goal
+
+pub returns-in-One : goal.returns-in-One
+unfolding digits
+returns-in-One c = rw (c.in-One.is) refl
+
+pub returns-in-Two : goal.returns-in-Two
+unfolding digits
+returns-in-Two c = rw (c.in-Two.is) refl

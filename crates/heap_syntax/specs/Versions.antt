@@ -1,0 +1,23 @@
+-- The versions of the formats of proof files and of problem files.
+use Rattle.std.specs.Prelude.{ℕ, List, [], ◌∷◌, codes}
+use Rattle.cyc_grammar.specs.Syntax.{Class}
+use Rattle.cyc_grammar.specs.Classes.{numeral_of}
+use Rattle.heap_syntax.specs.declared.version.Version.{Version}
+use Rattle.heap_syntax.specs.declared.version.Version.TheVariants.{One, Two}
+
+-- the number that names a version, as it is written
+abbrev pub version_text : Version → List ℕ
+version_text One = codes "1"
+version_text Two = codes "2"
+
+-- all of them
+abbrev pub versions : List Version
+versions = One ∷ Two ∷ []
+
+abbrev pub version : Class Version
+version = numeral_of version_text versions
+
+-- the greatest number of spatial atoms of one heap
+abbrev pub most_spatial : Version → ℕ
+most_spatial One = 16
+most_spatial Two = 32

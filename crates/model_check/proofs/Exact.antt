@@ -1,0 +1,56 @@
+-- The answer is exact.
+use Rattle.std.specs.Prelude.{◌↔◌, IsTrue}
+use Rattle.std.proofs.Common.{◌≡◌, ℕ, ◌<◌, List, length, Bool, true, false, sym, subst}
+use Rattle.heap_formula.specs.declared.atoms.Spatial.{Spatial}
+use Rattle.heap_formula.specs.Symbolic.{SymbolicHeap}
+use Rattle.heap_formula.specs.Definitions.{Definition}
+use Rattle.heap_formula.specs.Values.{Stack}
+use Rattle.heap_formula.specs.Cells.{Cells}
+use Rattle.heap_formula.specs.Meaning.{at_stage, Satisfies}
+use Rattle.model_check.proofs.OnlyLocals.{holds_fits, inside_all}
+use Rattle.model_check.specs.declared.ground.Piece.{Piece}
+use Rattle.model_check.specs.declared.ground.GroundRule.{GroundRule}
+use Rattle.model_check.specs.Questions.{Question}
+use Rattle.model_check.specs.Constructive.{Fits, IsOnly}
+use Rattle.model_check.specs.MaskParts.{mask_of}
+use Rattle.model_check.specs.Ground.{Table, Unions, derived, IsSolved}
+use Rattle.model_check.specs.WideMasks.{HoldsMask}
+use Rattle.model_check.specs.Tables.{Row, HasMask, HeadsFit}
+use Rattle.model_check.specs.Grounding.{PiecesFit, Extends, AskedPieces, IsRule, Grounds}
+use Rattle.model_check.proofs.KnownTerms.{each_map}
+use Rattle.model_check.proofs.Asking.{pieces_kept}
+use Rattle.model_check.proofs.QuestionLists.{question_within}
+use Rattle.model_check.proofs.Rounds.{union_map, derived_in, unions_satisfy, satisfied_unions}
+
+pub heads_fit : (ds : List Definition) (h : Cells) (ns : List ℕ) (qs : List Question) (rules : List GroundRule) (n : ℕ) → length qs ≡ n → Grounds ds h ns qs rules → HeadsFit n rules
+heads_fit ds h ns qs rules n e g =
+    subst (λ m. HeadsFit m rules) e (each_map (IsRule ds h ns qs) (λ r. r.head < length qs) (λ r k. question_within qs r.head k.predicate k.values k.question) rules g.sound)
+
+-- a solved table tells whether the stack and the heap satisfy the formula
+pub exact : (ds : List Definition) (h : Cells) (ns : List ℕ) (qs : List Question) (rules : List GroundRule) (T : Table) (s e : Stack) (a : SymbolicHeap) (ys : List Piece) → Grounds ds h ns qs rules → IsSolved rules T → IsOnly h s e a → PiecesFit ns qs s e a.spatial ys → Unions T ys (mask_of ns h) ↔ Satisfies ds s h a
+exact ds h ns qs rules T s e a ys g t k z = (
+  λ u. unions_satisfy ds h ns qs rules g s e a ys k.fits z (union_map T (derived rules) t.sound ys (mask_of ns h) u),
+  λ x. union_map (derived rules) T (derived_in rules T t) ys (mask_of ns h) (satisfied_unions ds h ns qs rules g s e a ys k z x),
+)
+
+pub answer : (ds : List Definition) (h : Cells) (ns : List ℕ) (q0 q1 q2 : List Question) (rules rs : List GroundRule) (table tv : List Row) (s e : Stack) (a : SymbolicHeap) (xs : List Spatial) (ys yv : List Piece) (out ov : Row) (m : ℕ) (b : Bool) → xs ≡ a.spatial → rs ≡ rules → tv ≡ table → yv ≡ ys → ov ≡ out → m ≡ mask_of ns h → AskedPieces ns q0 q1 s e xs ys → Extends q1 q2 → Grounds ds h ns q2 rules → IsSolved rs (HasMask table) → IsOnly h s e a → ((m : ℕ) → HoldsMask m out ↔ Unions (HasMask tv) yv m) → IsTrue b ↔ HoldsMask m ov → IsTrue b ↔ Satisfies ds s h a
+answer ds h ns q0 q1 q2 rules rs table tv s e a xs ys yv out ov m b xe re te ye oe me ask ext g t k u i =
+    let z1 = subst (λ ws. PiecesFit ns q1 s e ws ys) xe ask.pieces in
+    let z : PiecesFit ns q2 s e a.spatial ys = pieces_kept ns q1 q2 ext s e a.spatial ys z1 in
+    let t' = subst (λ ws. IsSolved ws (HasMask table)) re t in
+    let x = exact ds h ns q2 rules (HasMask table) s e a ys g t' k z in
+    let v0 = subst (λ ws. (m : ℕ) → HoldsMask m out ↔ Unions (HasMask ws) yv m) te u in
+    let v1 = subst (λ ws. (m : ℕ) → HoldsMask m out ↔ Unions (HasMask table) ws m) ye v0 in
+    let v : HoldsMask (mask_of ns h) out ↔ Unions (HasMask table) ys (mask_of ns h) = v1 (mask_of ns h) in
+    let j0 = subst (λ ws. IsTrue b ↔ HoldsMask m ws) oe i in
+    let j : IsTrue b ↔ HoldsMask (mask_of ns h) out = subst (λ n. IsTrue b ↔ HoldsMask n out) me j0 in
+    (λ y. x.0 (v.0 (j.0 y)), λ y. j.1 (v.1 (x.1 y)))
+
+pub never : (ds : List Definition) (h : Cells) (s : Stack) (a : SymbolicHeap) → ((e : Stack) → Fits h s e a → ⊥) → IsTrue false ↔ Satisfies ds s h a
+never ds h s a n = (λ t. absurd (let z : false ≡ true = t in cc), λ x. absurd (never_fits x))
+  where
+    never_fits : Satisfies ds s h a → ⊥
+    never_fits x = n x.1.0 (holds_fits (λ k. at_stage ds (x.0 k)) s x.1.0 a h h (inside_all h) x.1.1)
+
+pub heads_fit_at : (ds : List Definition) (h : Cells) (ns : List ℕ) (qs : List Question) (rules rs : List GroundRule) (n : ℕ) → length qs ≡ n → rs ≡ rules → Grounds ds h ns qs rules → HeadsFit n rs
+heads_fit_at ds h ns qs rules rs n e w g = subst (HeadsFit n) (sym w) (heads_fit ds h ns qs rules n e g)

@@ -1,0 +1,16 @@
+pub mod OnlyLocals
+pub mod MaskParts
+pub mod Rounds
+pub mod KnownTerms
+pub mod Loops
+pub mod TableSteps
+pub mod Forcing
+pub mod Fitting
+pub mod Asking
+pub mod CaseRules
+pub mod CaseLists
+pub mod QuestionLists
+pub mod Exact
+pub mod WideWords
+pub mod PlaceLists
+pub mod FirstBad

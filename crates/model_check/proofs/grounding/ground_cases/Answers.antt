@@ -1,0 +1,8 @@
+use Rattle.std.proofs.Common.{◌<◌, length, arith}
+use Rattle.model_check.proofs.CaseLists.{next_case_at}
+use Rattle.model_check.proofs.grounding.ground_cases.Goals as goal
+
+pub loop-case-preserved : goal.loop-case-preserved
+loop-case-preserved c =
+    let h : c.loop-case.case-index < length c.args.cases.now = omega arith in
+    next_case_at c.args.cells.now c.args.places.now.keys c.args.head c.args.values.now c.args.questions.now.keys c.loop-case.questions.keys c.ground_case.new.questions.keys c.args.rules.now.items c.loop-case.rules.items c.ground_case.new.rules.items c.args.cases.now c.loop-case.case-index c.case-item.result h c.case-item.is c.loop-case.invariant c.in_ok-ground_case.ensures

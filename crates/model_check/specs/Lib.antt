@@ -1,0 +1,10 @@
+pub mod Constructive
+pub mod MaskParts
+pub mod Ground
+pub mod Grounding
+pub mod Steps
+pub mod Tables
+pub mod ForcedLocals
+pub mod WideMasks
+pub mod Questions
+pub mod FirstPlaces

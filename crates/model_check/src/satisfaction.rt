@@ -1,0 +1,121 @@
+// Whether a stack and a heap satisfy a formula.
+ghost use Rattle.std.specs.Prelude.{◌≡◌, ℕ, ◌↔◌, IsTrue, IfOk, Bool, nat_eq, ◌&&◌, ◌+◌, slice_index};
+ghost use Rattle.std.specs.Option.{is_some};
+ghost use Rattle.heap_formula.specs.Cells.{IsHeap, cell_at};
+ghost use Rattle.heap_formula.specs.Meaning.{Satisfies};
+ghost use Rattle.model_check.specs.Constructive.{Member, IsConstructive, AreConstructive, IsOnly};
+ghost use Rattle.model_check.specs.ForcedLocals.{stack_of};
+ghost use Rattle.model_check.specs.WideMasks.{number};
+ghost use Rattle.model_check.specs.MaskParts.{place, from_bits, stands, mask_of, Covers};
+
+use crate::grounding::{ground_questions, pieces_of, place_of};
+use crate::locals::{Local, locals_of};
+use crate::mask::Mask;
+use crate::solving::solve;
+use crate::unions::{has_mask, unions};
+use cyc_memory::OutOfMemory;
+use goto_lang::{Cells, Stack};
+use heap_formula::Heap;
+use indexmap::IndexSet;
+use pred_defs::Defs;
+use std::alloc::Global;
+
+/// The addresses, each with its place in this order.
+fn places_of(alloc: Global, addresses: &[u64]) -> Result<IndexSet<u64>, OutOfMemory>
+    ensures { IfOk result (λ p. (a : ℕ) → Member a addresses.now → Member a p.keys) }
+{
+    let mut places = IndexSet::new(alloc);
+    for address in addresses {
+        places.insert(*address)?;
+    }
+    Ok(places)
+}
+
+/// The places of the heap's cells.
+fn heap_places(alloc: Global, cells: &Cells) -> Result<IndexSet<u64>, OutOfMemory>
+    ensures covers { IfOk result (λ p. Covers p.keys cells.now) }
+    ensures heap { IsHeap cells.now }
+{
+    let addresses = cells.addresses(alloc)?;
+    places_of(alloc, &addresses)
+}
+
+fn stands_at(places: &IndexSet<u64>, cells: &Cells, i: usize, address: u64) -> bool
+    ensures { result ≡ (nat_eq (place places.now.keys address) i && is_some (cell_at cells.now address)) }
+{
+    place_of(places, address) == i && cells.get(address).is_some()
+}
+
+/// The mask with a place, if a cell of the heap stands there.
+fn with_place(
+    alloc: Global,
+    places: &IndexSet<u64>,
+    cells: &Cells,
+    mask: Mask,
+    i: usize,
+    address: u64,
+) -> Result<Mask, OutOfMemory>
+    requires address { address ≡ slice_index places.now.keys i }
+    requires before { number mask ≡ from_bits (stands places.now.keys cells.now) i }
+    ensures { IfOk result (λ m. number m ≡ from_bits (stands places.now.keys cells.now) (i + 1)) }
+{
+    if !stands_at(places, cells, i, address) {
+        return Ok(mask);
+    }
+    let one = Mask::one(alloc, i)?;
+    mask.union(alloc, &one)
+}
+
+/// The mask of the whole heap.
+fn whole_mask(alloc: Global, places: &IndexSet<u64>, cells: &Cells) -> Result<Mask, OutOfMemory>
+    ensures { IfOk result (λ m. number m ≡ mask_of places.now.keys cells.now) }
+{
+    let mut mask = Mask::empty(alloc);
+    for (i, address) in places.as_slice().iter().enumerate() {
+        mask = with_place(alloc, places, cells, mask, i, *address)?;
+    }
+    Ok(mask)
+}
+
+/// The answer where these values of the formula's locals are the only ones that fit.
+fn satisfied_with(
+    alloc: Global,
+    defs: &Defs,
+    stack: &[u64],
+    cells: &Cells,
+    locals: &[Local],
+    ask: &Heap,
+) -> Result<bool, OutOfMemory>
+    requires constructive { AreConstructive defs.now.list }
+    requires only { IsOnly cells.now stack.now (stack_of locals.now) ask.now }
+    ensures { IfOk result (λ b. IsTrue b ↔ Satisfies defs.now.list stack.now cells.now ask.now) }
+{
+    let places = heap_places(alloc, cells)?;
+    let mut questions = IndexSet::new(alloc);
+    let mut rules = Vec::new(alloc);
+    let pieces = pieces_of(alloc, &places, &mut questions, stack, locals, ask.spatial())?;
+    ground_questions(alloc, defs, cells, &places, &mut questions, &mut rules)?;
+    let table = solve(alloc, &rules, questions.len())?;
+    let masks = unions(alloc, &table, pieces.as_slice())?;
+    let whole = whole_mask(alloc, &places, cells)?;
+    Ok(has_mask(masks.as_slice(), &whole))
+}
+
+/// Whether the stack and the heap satisfy the formula, under the least meaning of the definitions. `constructive` names
+/// no place of the definitions and the formula.
+pub fn satisfied(
+    alloc: Global,
+    defs: &Defs,
+    stack: &Stack,
+    heap: &Cells,
+    ask: &Heap,
+) -> Result<bool, OutOfMemory>
+    requires definitions { AreConstructive defs.now.list }
+    requires formula { IsConstructive ask.now }
+    ensures exact { IfOk result (λ b. IsTrue b ↔ Satisfies defs.now.list stack.now heap.now ask.now) }
+{
+    match locals_of(alloc, stack.as_slice(), heap, ask)? {
+        None => Ok(false),
+        Some(locals) => satisfied_with(alloc, defs, stack.as_slice(), heap, &locals, ask),
+    }
+}

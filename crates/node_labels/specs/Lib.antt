@@ -1,0 +1,4 @@
+pub mod Pieces
+pub mod Layout
+pub mod Places
+pub mod Labels

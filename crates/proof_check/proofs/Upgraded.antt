@@ -1,0 +1,179 @@
+-- A file and its upgrade are correct together, and have one trace graph then.
+use Rattle.std.proofs.Common.{◌≡◌, ℕ, suc, ◌≤◌, Bool, true, false, List, [], ◌∷◌, map, length, Option, Some, None, refl, sym, ap, subst, ◌∙◌}
+use Rattle.std.specs.Prelude.{Ok, Err, nat_eq, nat_lt, nat_le, slice_get}
+use Rattle.heap_formula.specs.declared.commands.Command.{Command}
+use Rattle.heap_formula.specs.declared.judgements.Judgement.{Judgement}
+use Rattle.heap_formula.specs.declared.judgements.Judgement.TheVariants.{Entail, Term as Runs}
+use Rattle.heap_formula.specs.declared.judgements.Premise.{Premise}
+use Rattle.heap_formula.specs.declared.proof_rules.Reason.{Reason}
+use Rattle.heap_formula.specs.declared.proof_rules.Reason.TheVariants.{Step, Back}
+use Rattle.heap_formula.specs.declared.proof_rules.RuleFault.{RuleFault}
+use Rattle.heap_formula.specs.declared.proof_rules.RuleFault.TheVariants.{NoSuchNode, PremiseCount, PremiseDiffers}
+use Rattle.heap_formula.specs.Definitions.{Definition}
+use Rattle.heap_formula.specs.Symbolic.{SymbolicHeap}
+use Rattle.rule_table.specs.Answer.{Answer, every, heaps_of, each_heap}
+use Rattle.rule_table.specs.LinkTable.{first_of, fault_unless}
+use Rattle.rule_table.specs.Nodes.{Node, all_same, same_heap, same_judgement, differs, premises_fault, answer_fault, reason_fault, node_fault, answer_edges, edges_of}
+use Rattle.rule_table.specs.RuleBook.{rule_answer}
+use Rattle.rule_table.specs.Tests.{same_pure, same_spatial}
+use Rattle.rule_table.proofs.Reflects.{both, and_true}
+use Rattle.trace_pairs.specs.Lasso.{AllProgress}
+use Rattle.heap_syntax.specs.Versions.{most_spatial}
+use Rattle.heap_reader.proofs.Fitting.{most_fits}
+use Rattle.proof_graph.specs.Traces.{positions_of}
+use Rattle.proof_graph.proofs.Joined.{mapped_at}
+use Rattle.proof_file.specs.declared.file.ProofFile.{ProofFile}
+use Rattle.proof_file.specs.Upgrades.{IsUpgrade}
+use Rattle.proof_file.proofs.Wider.{node_is_few}
+use Rattle.proof_check.specs.Files.{graph_edge, graph_node, graph_of, node_of, nodes_of, AreRight}
+use Rattle.proof_check.specs.Verdicts.{file_graph, IsCorrect}
+use Rattle.proof_check.proofs.WiderRules.{is_few, rule_wide}
+
+-- ---- judgements that are one have as many spatial atoms
+
+same_length : {X : Type 0} (same : X → X → Bool) (xs ys : List X) → all_same same xs ys ≡ true → length xs ≡ length ys
+same_length same [] [] e = refl
+same_length same [] (y ∷ ys) e = absurd cc
+same_length same (x ∷ xs) [] e = absurd cc
+same_length same (x ∷ xs) (y ∷ ys) e = ap suc (same_length same xs ys (both (same x y) (all_same same xs ys) e).1)
+
+heap_few : (most : ℕ) (a b : SymbolicHeap) → same_heap a b ≡ true → is_few most b ≡ true → is_few most a ≡ true
+heap_few most a b e few =
+    let spatial = same_length same_spatial a.spatial b.spatial (both (all_same same_pure a.pure b.pure) (all_same same_spatial a.spatial b.spatial) e).1 in
+    ap (λ n. nat_le n most) spatial ∙ few
+
+heaps_few : (most : ℕ) (xs ys : List SymbolicHeap) → all_same same_heap xs ys ≡ true → every (is_few most) ys ≡ true → every (is_few most) xs ≡ true
+heaps_few most [] [] e few = refl
+heaps_few most [] (b ∷ ys) e few = absurd cc
+heaps_few most (a ∷ xs) [] e few = absurd cc
+heaps_few most (a ∷ xs) (b ∷ ys) e few =
+    let h = both (same_heap a b) (all_same same_heap xs ys) e in
+    let f = both (is_few most b) (every (is_few most) ys) few in
+    and_true (is_few most a) (every (is_few most) xs) (heap_few most a b h.0 f.0) (heaps_few most xs ys h.1 f.1)
+
+judgement_few : (most : ℕ) (i j : Judgement) → same_judgement i j ≡ true → every (is_few most) (heaps_of j) ≡ true → every (is_few most) (heaps_of i) ≡ true
+judgement_few most (Entail a bs) (Entail b cs) e few = heaps_few most (a ∷ bs) (b ∷ cs) e few
+judgement_few most (Runs i a) (Runs k b) e few =
+    heaps_few most (a ∷ []) (b ∷ []) (and_true (same_heap a b) true (both (nat_eq i k) (same_heap a b) e).1 refl) few
+judgement_few most (Entail a bs) (Runs k b) e few = absurd cc
+judgement_few most (Runs i a) (Entail b cs) e few = absurd cc
+
+-- ---- faults
+
+no_first : (a b : Option RuleFault) → first_of a b ≡ None → (a ≡ None) × (b ≡ None)
+no_first None b e = (refl, e)
+no_first (Some f) b e = absurd cc
+
+passes : (b : Bool) (f : RuleFault) → fault_unless b f ≡ None → b ≡ true
+passes true f e = refl
+passes false f e = absurd cc
+
+-- an answer without a fault is a list of premises
+record HasPremises (nodes : List Node) (v : ℕ) (us : List ℕ) (answer : Answer) : Type 0 where
+  ps : List Premise
+  is : answer ≡ Ok ps
+  fine : premises_fault nodes v 0 ps us ≡ None
+
+premises_of : (nodes : List Node) (v : ℕ) (us : List ℕ) (answer : Answer) → answer_fault nodes v us answer ≡ None → HasPremises nodes v us answer
+premises_of nodes v us (Ok ps) e =
+    record { ps = ps; is = refl; fine = (no_first (fault_unless (nat_eq (length ps) (length us)) PremiseCount) (premises_fault nodes v 0 ps us) e).1 }
+premises_of nodes v us (Err f) e = absurd cc
+
+module _ (most : ℕ) (nodes : List Node) (few : (u : ℕ) (node : Node) → slice_get nodes u ≡ Some node → every (is_few most) (heaps_of node.judgement) ≡ true) where
+  premise_few : (i u : ℕ) (p : Premise) (o : Option Node) → slice_get nodes u ≡ o → differs nodes i u p o ≡ None → every (is_few most) (heaps_of p.judgement) ≡ true
+  premise_few i u p None at e = absurd cc
+  premise_few i u p (Some node) at e =
+      judgement_few most p.judgement node.judgement (passes (same_judgement p.judgement node.judgement) (PremiseDiffers i) e) (few u node at)
+
+  -- the premises of a right node have few spatial atoms, as its nodes have
+  premises_few : (v i : ℕ) (ps : List Premise) (us : List ℕ) → premises_fault nodes v i ps us ≡ None → each_heap (is_few most) ps ≡ true
+  premises_few v i [] us e = refl
+  premises_few v i (p ∷ ps) [] e = absurd cc
+  premises_few v i (p ∷ ps) (u ∷ us) e =
+      let a = no_first (fault_unless (nat_lt v u) NoSuchNode) (first_of (differs nodes i u p (slice_get nodes u)) (premises_fault nodes v (suc i) ps us)) e in
+      let b = no_first (differs nodes i u p (slice_get nodes u)) (premises_fault nodes v (suc i) ps us) a.1 in
+      and_true (every (is_few most) (heaps_of p.judgement)) (each_heap (is_few most) ps) (premise_few i u p (slice_get nodes u) refl b.0) (premises_few v (suc i) ps us b.1)
+
+  module _ (more : ℕ) (le : most ≤ more) (ds : List Definition) (lines : List Command) where
+    reason_rises : (v : ℕ) (j : Judgement) (us : List ℕ) (r : Reason) → reason_fault most ds lines nodes v j us r ≡ None → reason_fault more ds lines nodes v j us r ≡ None
+    reason_rises v j us (Step rule) e =
+        let h = premises_of nodes v us (rule_answer most ds lines j rule) e in
+        let other = (rule_wide most more le ds lines j rule).rises h.ps h.is in
+        ap (answer_fault nodes v us) (other ∙ sym h.is) ∙ e
+    reason_rises v j us (Back link) e = e
+
+    reason_falls : (v : ℕ) (j : Judgement) (us : List ℕ) (r : Reason) → reason_fault more ds lines nodes v j us r ≡ None → reason_fault most ds lines nodes v j us r ≡ None
+    reason_falls v j us (Step rule) e =
+        let h = premises_of nodes v us (rule_answer more ds lines j rule) e in
+        let other = (rule_wide most more le ds lines j rule).falls h.ps h.is (premises_few v 0 h.ps us h.fine) in
+        ap (answer_fault nodes v us) (other ∙ sym h.is) ∙ e
+    reason_falls v j us (Back link) e = e
+
+    edges_same : (v : ℕ) (node : Node) → node_fault most ds lines nodes v node ≡ None → edges_of more ds lines nodes node ≡ edges_of most ds lines nodes node
+    edges_same v node e = by node.reason e
+      where
+        by : (r : Reason) → reason_fault most ds lines nodes v node.judgement node.premises r ≡ None → edges_of more ds lines nodes (record node { reason = r }) ≡ edges_of most ds lines nodes (record node { reason = r })
+        by (Step rule) g =
+            let h = premises_of nodes v node.premises (rule_answer most ds lines node.judgement rule) g in
+            ap (answer_edges node.premises) ((rule_wide most more le ds lines node.judgement rule).rises h.ps h.is ∙ sym h.is)
+        by (Back link) g = refl
+
+    right_rises : AreRight most ds lines nodes → AreRight more ds lines nodes
+    right_rises right v node at = reason_rises v node.judgement node.premises node.reason (right v node at)
+
+    right_falls : AreRight more ds lines nodes → AreRight most ds lines nodes
+    right_falls right v node at = reason_falls v node.judgement node.premises node.reason (right v node at)
+
+    -- right nodes have one graph
+    graph_same : AreRight most ds lines nodes → graph_of more ds lines nodes ≡ graph_of most ds lines nodes
+    graph_same right =
+        same_map (graph_node more ds lines nodes) (graph_node most ds lines nodes) nodes (λ v node at. (
+        let edges = edges_same v node (right v node at) in
+        λ i. record { positions = positions_of node.judgement; edges = map graph_edge (edges i) }))
+      where
+        same_map : {X Y : Type 0} (f g : X → Y) (xs : List X) → ((v : ℕ) (x : X) → slice_get xs v ≡ Some x → f x ≡ g x) → map f xs ≡ map g xs
+        same_map f g [] one = refl
+        same_map f g (x ∷ xs) one = λ i. one 0 x refl i ∷ same_map f g xs (λ v y at. one (suc v) y at) i
+
+-- ---- files
+
+few_nodes : (f : ProofFile) (u : ℕ) (node : Node) → slice_get (nodes_of f.nodes) u ≡ Some node → every (is_few f.defs.most) (heaps_of node.judgement) ≡ true
+few_nodes f u node at =
+    let m = mapped_at node_of f.nodes u node at in
+    let here = node_is_few f u m.from m.at in
+    subst (λ (n : ℕ). every (is_few n) (heaps_of node.judgement) ≡ true) (sym f.limit) (subst (λ (n : Node). every (is_few (most_spatial f.version)) (heaps_of n.judgement) ≡ true) m.is here)
+
+module _ (f g : ProofFile) (up : IsUpgrade f g) where
+  limit : g.defs.most ≡ 32
+  limit = g.limit ∙ ap most_spatial up.version
+
+  le : f.defs.most ≤ 32
+  le = subst (λ (n : ℕ). n ≤ 32) (sym f.limit) (most_fits f.version)
+
+  -- the nodes, definitions and lines of the one, under the limit of the other
+  right_up : AreRight 32 f.defs.list f.program (nodes_of f.nodes) → AreRight g.defs.most g.defs.list g.program (nodes_of g.nodes)
+  right_up r = subst (λ (x : _). x) (λ i. AreRight (sym limit i) (sym up.definitions i) (sym up.program i) (nodes_of (sym up.nodes i))) r
+
+  right_down : AreRight g.defs.most g.defs.list g.program (nodes_of g.nodes) → AreRight 32 f.defs.list f.program (nodes_of f.nodes)
+  right_down r = subst (λ (x : _). x) (λ i. AreRight (limit i) (up.definitions i) (up.program i) (nodes_of (up.nodes i))) r
+
+  graph_up : graph_of 32 f.defs.list f.program (nodes_of f.nodes) ≡ file_graph g
+  graph_up = λ i. graph_of (sym limit i) (sym up.definitions i) (sym up.program i) (nodes_of (sym up.nodes i))
+
+  right_graph : AreRight f.defs.most f.defs.list f.program (nodes_of f.nodes) → file_graph g ≡ file_graph f
+  right_graph right =
+      sym graph_up ∙ graph_same f.defs.most (nodes_of f.nodes) (few_nodes f) 32 le f.defs.list f.program right
+
+  pub same_graph : IsCorrect f → file_graph g ≡ file_graph f
+  same_graph correct = right_graph correct.nodes
+
+  pub correct_again : IsCorrect f → IsCorrect g
+  correct_again correct = record {
+    nodes = right_up (right_rises f.defs.most (nodes_of f.nodes) (few_nodes f) 32 le f.defs.list f.program correct.nodes);
+    paths = subst AllProgress (sym (same_graph correct)) correct.paths;
+  }
+
+  pub correct_before : IsCorrect g → IsCorrect f
+  correct_before correct =
+      let right = right_falls f.defs.most (nodes_of f.nodes) (few_nodes f) 32 le f.defs.list f.program (right_down correct.nodes) in
+      record { nodes = right; paths = subst AllProgress (right_graph right) correct.paths }

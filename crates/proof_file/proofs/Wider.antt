@@ -1,0 +1,125 @@
+-- A file without a flaw has none as a file of version 2, and each of its judgements is within its version's limit.
+use Rattle.std.proofs.Common.{◌≡◌, ℕ, ◌+◌, ◌≤◌, true, List, [], ◌∷◌, length, map, None, Some, refl, arith}
+use Rattle.std.specs.Prelude.{◌||◌, nat_eq, nat_lt, nat_le, slice_get}
+use Rattle.std.proofs.lemmas.Bool.{le-leb}
+use Rattle.std.proofs.lemmas.List.{length-map}
+use Rattle.heap_formula.specs.declared.commands.Command.{Command}
+use Rattle.heap_formula.specs.declared.judgements.Judgement.{Judgement as JudgementValue}
+use Rattle.heap_formula.specs.declared.judgements.Judgement.TheVariants.{Entail, Term as Halting}
+use Rattle.heap_formula.specs.Definitions.{Definition as DefinitionValue}
+use Rattle.heap_formula.specs.Symbolic.{SymbolicHeap}
+use Rattle.heap_formula.specs.Words.{Each}
+use Rattle.rule_table.specs.Answer.{every, heaps_of}
+use Rattle.rule_table.proofs.Reflects.{and_true as both_true}
+use Rattle.cyc_lex.specs.declared.fault.IllFault.TheVariants.{NoLine}
+use Rattle.cyc_lex.specs.declared.fault.What.TheVariants.{Cases, Disjuncts, Nodes}
+use Rattle.heap_syntax.specs.declared.version.Version.{Version}
+use Rattle.heap_syntax.specs.declared.version.Version.TheVariants.{Two}
+use Rattle.heap_syntax.specs.Versions.{most_spatial}
+use Rattle.proof_syntax.specs.Trees.{Heap, Definition, Entailment, Judgement, Entails, From, Reason, Absurd, Rewrite, Split, Distinct, Weaken, Unfold, Cut, Done, Choose, PureRight, Instantiate, Frame, UnfoldRight, Exec, Drop, Link, Node, File}
+use Rattle.proof_syntax.specs.Grammar.{body, file}
+use Rattle.heap_reader.specs.Trees.{Heading}
+use Rattle.heap_reader.specs.Spans.{heap_span}
+use Rattle.heap_reader.specs.Flaws.{ill_if, over_if, or_later, listed_flaw, heap_flaw, heaps_flaw}
+use Rattle.heap_reader.proofs.NoFlaw.{neither, none_later}
+use Rattle.heap_reader.proofs.Fitting.{most_fits, heap_few, heaps_few}
+use Rattle.heap_reader.proofs.Wider.{listed_wider, heap_wider, heaps_wider}
+use Rattle.proof_file.specs.declared.file.ProofFile.{ProofFile}
+use Rattle.proof_file.specs.declared.node.FileNode.{FileNode}
+use Rattle.proof_file.specs.declared.scope.Scope.TheVariants.{Node as InNode, Case as InCase}
+use Rattle.proof_file.specs.Spans.{term_span, definition_span, judgement_span, node_span}
+use Rattle.proof_file.specs.Flaws.{headings, term_flaw, program_flaw, head_flaw, definition_flaw, entailment_flaw, judgement_flaw, reason_flaw, node_flaw, first_line, first_node, nodes_flaw, file_flaw}
+use Rattle.proof_file.specs.Written.{spatial_tree, heap_tree, judgement_tree, node_tree, tree_of}
+use Rattle.proof_file.proofs.Fitting.{node_parts, file_parts}
+use Rattle.proof_file.proofs.ValuesAgain.{get_map, flaw_at}
+
+-- ---- more spatial atoms may stand in a heap
+
+module _ (most more : ℕ) (le : most ≤ more) (hs : List Heading) where
+  definition_wider : (n k : ℕ) (d : Definition) → definition_flaw most hs n k d ≡ None → definition_flaw more hs n k d ≡ None
+  definition_wider n k d e =
+      let both = neither (head_flaw hs n k d) (heaps_flaw (term_flaw (InCase d.arity)) term_span most hs Cases (k + 6) d.cases) e in
+      none_later (head_flaw hs n k d) (heaps_flaw (term_flaw (InCase d.arity)) term_span more hs Cases (k + 6) d.cases) both.0 (heaps_wider (term_flaw (InCase d.arity)) term_span most more le hs Cases (k + 6) d.cases both.1)
+
+  judgement_wider : (count k : ℕ) (j : Judgement) → judgement_flaw most hs count k j ≡ None → judgement_flaw more hs count k j ≡ None
+  judgement_wider count k (Entails j) e =
+      let p = k + heap_span term_span j.antecedent in
+      let both = neither (heap_flaw (term_flaw InNode) term_span most hs k j.antecedent) (heaps_flaw (term_flaw InNode) term_span most hs Disjuncts p j.disjuncts) e in
+      none_later (heap_flaw (term_flaw InNode) term_span more hs k j.antecedent) (heaps_flaw (term_flaw InNode) term_span more hs Disjuncts p j.disjuncts) (heap_wider (term_flaw InNode) term_span most more le hs k j.antecedent both.0) (heaps_wider (term_flaw InNode) term_span most more le hs Disjuncts p j.disjuncts both.1)
+  judgement_wider count k (From n h) e =
+      let out = ill_if (nat_eq n 0 || nat_lt count n) NoLine (k + 1) in
+      let both = neither out (heap_flaw (term_flaw InNode) term_span most hs (k + 3) h) e in
+      none_later out (heap_flaw (term_flaw InNode) term_span more hs (k + 3) h) both.0 (heap_wider (term_flaw InNode) term_span most more le hs (k + 3) h both.1)
+
+  reason_wider : (k : ℕ) (r : Reason) → reason_flaw most hs k r ≡ None → reason_flaw more hs k r ≡ None
+  reason_wider k (Cut places formula) e = heap_wider (term_flaw InNode) term_span most more le hs (k + 3 + length places) formula e
+  reason_wider k (Split t u) e = e
+  reason_wider k (Instantiate v t) e = e
+  reason_wider k (Link l) e = e
+  reason_wider k Absurd e = refl
+  reason_wider k (Rewrite i side) e = refl
+  reason_wider k (Distinct i j) e = refl
+  reason_wider k (Weaken i) e = refl
+  reason_wider k (Unfold i) e = refl
+  reason_wider k Done e = refl
+  reason_wider k (Choose j) e = refl
+  reason_wider k (PureRight i) e = refl
+  reason_wider k (Frame i j) e = refl
+  reason_wider k (UnfoldRight j c) e = refl
+  reason_wider k Exec e = refl
+  reason_wider k (Drop i) e = refl
+
+  node_wider : (count n k : ℕ) (x : Node) → node_flaw most hs count n k x ≡ None → node_flaw more hs count n k x ≡ None
+  node_wider count n k x e =
+      let p = k + 1 + judgement_span x.judgement in
+      let over = over_if (nat_le 20000 n) Nodes k in
+      let first = neither over (or_later (judgement_flaw most hs count (k + 1) x.judgement) (reason_flaw most hs p x.reason)) e in
+      let both = neither (judgement_flaw most hs count (k + 1) x.judgement) (reason_flaw most hs p x.reason) first.1 in
+      none_later over (or_later (judgement_flaw more hs count (k + 1) x.judgement) (reason_flaw more hs p x.reason)) first.0 (none_later (judgement_flaw more hs count (k + 1) x.judgement) (reason_flaw more hs p x.reason) (judgement_wider count (k + 1) x.judgement both.0) (reason_wider p x.reason both.1))
+
+pub file_wider : (version : Version) (ds : List DefinitionValue) (cs : List Command) (ns : List FileNode) → file_flaw (tree_of version ds cs ns) ≡ None → file_flaw (tree_of Two ds cs ns) ≡ None
+file_wider version ds cs ns e =
+    let tree = tree_of version ds cs ns in
+    let hs = headings tree.definitions in
+    let count = length tree.lines in
+    let most = most_spatial version in
+    let le = most_fits version in
+    let parts = file_parts tree e in
+    let definitions = listed_wider (definition_flaw most hs) (definition_flaw 32 hs) definition_span (definition_wider most 32 le hs) 0 4 tree.definitions parts.0 in
+    let nodes = listed_wider (node_flaw most hs count) (node_flaw 32 hs count) node_span (node_wider most 32 le hs count) 0 (first_node tree) tree.nodes parts.2 in
+    none_later (listed_flaw (definition_flaw 32 hs) definition_span 0 4 tree.definitions) (or_later (program_flaw (first_line tree) tree.lines) (listed_flaw (node_flaw 32 hs count) node_span 0 (first_node tree) tree.nodes)) definitions (none_later (program_flaw (first_line tree) tree.lines) (listed_flaw (node_flaw 32 hs count) node_span 0 (first_node tree) tree.nodes) parts.1 nodes)
+
+-- the grammar takes the same as a file of version 2
+pub fits_wider : (version : Version) (ds : List DefinitionValue) (cs : List Command) (ns : List FileNode) → file.fits (tree_of version ds cs ns) → file.fits (tree_of Two ds cs ns)
+unfolding file body
+fits_wider version ds cs ns e = (tt, (tt, e.1.1))
+
+-- ---- how many stand in the heaps of a file's judgements
+
+heaps_are_few : (most : ℕ) (ds : List DefinitionValue) (bs : List SymbolicHeap) → Each (λ (h : Heap). length h.spatial ≤ most) (map (heap_tree ds) bs) → every (λ (a : SymbolicHeap). nat_le (length a.spatial) most) bs ≡ true
+heaps_are_few most ds [] e = refl
+heaps_are_few most ds (b ∷ bs) e =
+    let few = e.0 in
+    let l = length-map b.spatial (spatial_tree ds) in
+    both_true (nat_le (length b.spatial) most) (every (λ (a : SymbolicHeap). nat_le (length a.spatial) most) bs) (le-leb (length b.spatial) most (omega arith)) (heaps_are_few most ds bs e.1)
+
+judgement_is_few : (most : ℕ) (ds : List DefinitionValue) (hs : List Heading) (count k : ℕ) (j : JudgementValue) → judgement_flaw most hs count k (judgement_tree ds j) ≡ None → every (λ (a : SymbolicHeap). nat_le (length a.spatial) most) (heaps_of j) ≡ true
+judgement_is_few most ds hs count k (Entail a bs) e =
+    let p = k + heap_span term_span (heap_tree ds a) in
+    let both = neither (heap_flaw (term_flaw InNode) term_span most hs k (heap_tree ds a)) (heaps_flaw (term_flaw InNode) term_span most hs Disjuncts p (map (heap_tree ds) bs)) e in
+    heaps_are_few most ds (a ∷ bs) (heap_few (term_flaw InNode) term_span most hs k (heap_tree ds a) both.0, heaps_few (term_flaw InNode) term_span most hs Disjuncts p (map (heap_tree ds) bs) both.1)
+judgement_is_few most ds hs count k (Halting n a) e =
+    let both = neither (ill_if (nat_eq n 0 || nat_lt count n) NoLine (k + 1)) (heap_flaw (term_flaw InNode) term_span most hs (k + 3) (heap_tree ds a)) e in
+    heaps_are_few most ds (a ∷ []) (heap_few (term_flaw InNode) term_span most hs (k + 3) (heap_tree ds a) both.1, tt)
+
+-- the heaps of a node's judgement are within the limit of the file's version
+pub node_is_few : (f : ProofFile) (v : ℕ) (n : FileNode) → slice_get f.nodes v ≡ Some n → every (λ (a : SymbolicHeap). nat_le (length a.spatial) (most_spatial f.version)) (heaps_of n.judgement) ≡ true
+node_is_few f v n at =
+    let ds = f.defs.list in
+    let most = most_spatial f.version in
+    let tree = tree_of f.version ds f.program f.nodes in
+    let hs = headings tree.definitions in
+    let count = length tree.lines in
+    let there = get_map (node_tree ds) f.nodes v n at in
+    let found = flaw_at (node_flaw most hs count) node_span 0 (first_node tree) tree.nodes v (node_tree ds n) there (file_parts tree f.flawless).2 in
+    judgement_is_few most ds hs count (found.0 + 1) n.judgement (node_parts most (most_fits f.version) hs count (0 + v) found.0 (node_tree ds n) found.1).1

@@ -1,0 +1,4 @@
+pub mod Red
+pub mod Arrows
+pub mod Carried
+pub mod Pictures

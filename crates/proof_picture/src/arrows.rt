@@ -1,0 +1,141 @@
+//! The edges that stand in a picture.
+ghost use Rattle.std.specs.Prelude.{◌≡◌, ◌<◌, ◌^◌, length, map, IfOk};
+ghost use Rattle.std.specs.Option.{option_copied};
+ghost use Rattle.rule_table.specs.Nodes.{Node};
+ghost use Rattle.node_reasons.specs.Answers.{companion_in, targets_of as target_numbers};
+ghost use Rattle.proof_check.specs.Files.{nodes_of};
+ghost use Rattle.proof_picture.specs.Arrows.{arrows_at, drawn_of, is_link as links, pairs_at, premises_at, row_of, rows_of};
+ghost use Rattle.proof_picture.specs.Red.{step_in};
+
+use crate::steps::RefusedSteps;
+use cyc_memory::OutOfMemory;
+use heap_formula::{Judgement, Pairs, Premise, Reason, RuleError};
+use node_reasons::premises_by_reason;
+use proof_file::{FileNode, ProofFile};
+use rule_table::antecedent;
+use std::alloc::Global;
+
+/// An edge of a picture: its number among the edges of its node, counted from 0; the node that it leads to; whether it is
+/// a link to a companion; whether a refused path takes it; and its trace pairs.
+#[derive(Drop)]
+pub struct Arrow {
+    pub place: usize,
+    pub target: u32,
+    pub is_link: bool,
+    pub is_refused: bool,
+    pub pairs: Pairs,
+}
+
+/// The edges of a node, and how many spatial atoms its antecedent has.
+#[derive(Drop)]
+pub struct Row {
+    pub atoms: usize,
+    pub arrows: Vec<Arrow>,
+}
+
+/// The judgement of the node that a link names, if there is one.
+fn companion_of<'a>(nodes: &'a [FileNode], reason: &Reason) -> Option<&'a Judgement>
+    ensures { option_copied result ≡ companion_in (λ (n : Node). n.judgement) (nodes_of nodes.now) reason.now }
+{
+    match reason {
+        Reason::Step(_) => None,
+        Reason::Back(link) => match nodes.get(link.target as usize) {
+            None => None,
+            Some(node) => Some(&node.judgement),
+        },
+    }
+}
+
+/// What the reason of a node leaves to be shown, with trace pairs; none where it has a fault.
+fn premises_of(
+    alloc: Global,
+    file: &ProofFile,
+    node: &FileNode,
+) -> Result<Vec<Premise>, OutOfMemory>
+    ensures { IfOk result (λ v. v.items ≡ premises_at file.now node.now) }
+{
+    let companion = companion_of(file.nodes.as_slice(), &node.reason);
+    match premises_by_reason(
+        alloc,
+        &file.defs,
+        &file.program,
+        &node.judgement,
+        &node.reason,
+        companion,
+    ) {
+        Ok(premises) => Ok(premises),
+        Err(RuleError::Fault(_)) => Ok(Vec::new(alloc)),
+        Err(RuleError::OutOfMemory) => Err(OutOfMemory),
+    }
+}
+
+/// The pairs to the premise of this number, none where there is none.
+fn pairs_to(alloc: Global, premises: &[Premise], i: usize) -> Result<Pairs, OutOfMemory>
+    ensures { IfOk result (λ p. p ≡ pairs_at premises.now i) }
+{
+    match premises.get(i) {
+        Some(premise) => Ok(premise.pairs.clone()?),
+        None => Ok(Pairs::new(alloc)),
+    }
+}
+
+fn is_link(reason: &Reason) -> bool
+    ensures { result ≡ links reason.now }
+{
+    match reason {
+        Reason::Step(_) => false,
+        Reason::Back(_) => true,
+    }
+}
+
+/// The numbers of the nodes to which a node's edges lead: of its premises, or of its companion.
+fn targets_of(alloc: Global, node: &FileNode) -> Result<Vec<u32>, OutOfMemory>
+    ensures { IfOk result (λ v. v.items ≡ target_numbers node.now.premises node.now.reason) }
+{
+    match &node.reason {
+        Reason::Step(_) => Ok(Vec::from_slice(alloc, node.premises.as_slice())?),
+        Reason::Back(link) => Ok(Vec::from_slice(alloc, &[link.target])?),
+    }
+}
+
+/// The edges of node `v`: one for each number that is a node's.
+fn arrows_of(
+    alloc: Global,
+    file: &ProofFile,
+    steps: &RefusedSteps,
+    v: usize,
+    node: &FileNode,
+) -> Result<Vec<Arrow>, OutOfMemory>
+    ensures { IfOk result (λ a. map drawn_of a.items ≡ arrows_at file.now (step_in steps.now.steps.keys) v node.now) }
+{
+    let premises = premises_of(alloc, file, node)?;
+    let targets = targets_of(alloc, node)?;
+    let nodes = file.nodes.as_slice();
+    let is_link = is_link(&node.reason);
+    let mut arrows = Vec::new(alloc);
+    for (place, target) in targets.iter().enumerate() {
+        if (*target as usize) < nodes.len() {
+            arrows.push(Arrow {
+                place,
+                target: *target,
+                is_link,
+                is_refused: steps.has(v, place),
+                pairs: pairs_to(alloc, &premises, place)?,
+            })?;
+        }
+    }
+    Ok(arrows)
+}
+
+/// The edges of all nodes.
+pub fn rows(alloc: Global, file: &ProofFile, steps: &RefusedSteps) -> Result<Vec<Row>, OutOfMemory>
+    ensures { IfOk result (λ v. map row_of v.items ≡ rows_of file.now (step_in steps.now.steps.keys)) }
+{
+    let mut rows = Vec::new(alloc);
+    for (v, node) in file.nodes.as_slice().iter().enumerate() {
+        let atoms = antecedent(&node.judgement).spatial().len();
+        let arrows = arrows_of(alloc, file, steps, v, node)?;
+        rows.push(Row { atoms, arrows })?;
+    }
+    Ok(rows)
+}

@@ -1,0 +1,97 @@
+//! The picture of a proof.
+ghost use Rattle.std.specs.Prelude.{◌≡◌, IfOk, map};
+ghost use Rattle.proof_picture.specs.Pictures.{IsPicture, boxes_from, box_of, fault_at as fault_of_node, is_large as has_many_states};
+ghost use Rattle.proof_picture.specs.Arrows.{row_of};
+ghost use Rattle.node_labels.specs.Pieces.{pieces_of};
+
+use crate::arrows::{Arrow, Row, rows};
+use crate::carried::atoms_carried;
+use crate::steps::RefusedSteps;
+use cyc_memory::OutOfMemory;
+use heap_formula::RuleFault;
+use node_labels::{Label, labels_of_file};
+use proof_check::Verdict;
+use proof_file::ProofFile;
+use std::alloc::Global;
+use std::collections::VecDeque;
+
+/// A node of a picture: its text, its fault where the verdict names it, and its edges.
+#[derive(Drop)]
+pub struct NodeBox {
+    pub label: Label,
+    pub fault: Option<RuleFault>,
+    pub arrows: Vec<Arrow>,
+}
+
+/// The picture of a proof: the boxes of its nodes in order, and whether its product has too many states for a verdict.
+#[derive(Drop)]
+pub struct Picture {
+    pub boxes: Vec<NodeBox>,
+    pub is_large: bool,
+}
+
+fn fault_at(verdict: &Verdict, v: usize) -> Option<RuleFault>
+    ensures { result ≡ fault_of_node verdict.now v }
+{
+    match verdict {
+        Verdict::RuleRefused { node, fault } => {
+            if *node as usize == v {
+                Some(*fault)
+            } else {
+                None
+            }
+        }
+        _ => None,
+    }
+}
+
+fn is_large(verdict: &Verdict) -> bool
+    ensures { result ≡ has_many_states verdict.now }
+{
+    match verdict {
+        Verdict::TooManyStates => true,
+        _ => false,
+    }
+}
+
+fn boxes(
+    alloc: Global,
+    verdict: &Verdict,
+    labels: Vec<Label>,
+    rows: Vec<Row>,
+) -> Result<Vec<NodeBox>, OutOfMemory>
+    ensures { IfOk result (λ v. map box_of v.items ≡ boxes_from verdict.now 0 (map pieces_of labels.items) (map row_of rows.items)) }
+{
+    let mut labels = VecDeque::from_vec(labels);
+    let mut boxes = Vec::new(alloc);
+    for row in rows {
+        let Some(label) = labels.pop_front() else {
+            return Ok(boxes);
+        };
+        let fault = fault_at(verdict, boxes.len());
+        let arrows = row.arrows;
+        boxes.push(NodeBox {
+            label,
+            fault,
+            arrows,
+        })?;
+    }
+    Ok(boxes)
+}
+
+/// The picture of a file about which this is said: in red, the fault of a node, or the steps of a path.
+pub fn picture_of(
+    alloc: Global,
+    file: &ProofFile,
+    verdict: &Verdict,
+) -> Result<Picture, OutOfMemory>
+    ensures { IfOk result (IsPicture file.now verdict.now) }
+{
+    let steps = RefusedSteps::of(alloc, verdict)?;
+    let rows = rows(alloc, file, &steps)?;
+    let flags = atoms_carried(alloc, &rows)?;
+    let labels = labels_of_file(alloc, file, &flags)?;
+    let boxes = boxes(alloc, verdict, labels, rows)?;
+    let is_large = is_large(verdict);
+    Ok(Picture { boxes, is_large })
+}

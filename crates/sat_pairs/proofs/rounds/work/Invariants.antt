@@ -1,0 +1,10 @@
+use Rattle.std.proofs.Common.{◌≡◌}
+use Rattle.sat_pairs.specs.Growth.{total, IsPartOf, IsGrown}
+use Rattle.sat_pairs.proofs.rounds.work.Given as goal
+
+abbrev pub invariant-loop-turn : goal.invariant-loop-turn
+invariant-loop-turn l = record {
+  part : IsPartOf l.defs.list l.most l.table;
+  count : l.now ≡ total l.table;
+  grown : IsGrown l.fn.table l.table;
+}

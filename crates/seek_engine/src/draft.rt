@@ -1,0 +1,120 @@
+// The draft of a proof.
+ghost use Rattle.std.specs.Prelude.{◌≤◌, ◌<◌, IfOk};
+
+use cyc_memory::OutOfMemory;
+use heap_formula::{Judgement, Pairs, Premise, Reason, Rule};
+use std::alloc::Global;
+
+/// The greatest number of nodes of a draft.
+pub const MOST_NODES: usize = 3000;
+
+/// An edge to a premise: its trace pairs, and its node as soon as it has one.
+#[derive(Drop)]
+pub struct DraftEdge {
+    pub pairs: Pairs,
+    pub target: Option<u32>,
+}
+
+/// A node of a draft. It is open as long as it has no reason. `parent` is the node of which it is a premise.
+#[derive(Drop)]
+pub struct DraftNode {
+    pub judgement: Judgement,
+    pub reason: Option<Reason>,
+    pub edges: Vec<DraftEdge>,
+    pub parent: Option<u32>,
+}
+
+/// The draft of a proof: nodes, of which the first has the goal. They grow at the end, and are cut off there.
+#[derive(Drop)]
+pub struct Draft {
+    pub nodes: Vec<DraftNode>,
+    alloc: Global,
+}
+
+impl DraftNode {
+    /// Whether links may lead to the node: it unfolds or executes.
+    pub fn is_companion(&self) -> bool {
+        matches!(
+            &self.reason,
+            Some(Reason::Step(Rule::Unfold(_))) | Some(Reason::Step(Rule::Exec))
+        )
+    }
+}
+
+impl Draft {
+    /// The draft of one open node.
+    pub fn new(alloc: Global, goal: &Judgement) -> Result<Draft, OutOfMemory> {
+        let mut nodes = Vec::new(alloc);
+        nodes.push(DraftNode {
+            judgement: goal.clone()?,
+            reason: None,
+            edges: Vec::new(alloc),
+            parent: None,
+        })?;
+        Ok(Draft { nodes, alloc })
+    }
+
+    /// How many nodes there are.
+    pub fn len(&self) -> usize {
+        self.nodes.len()
+    }
+
+    /// The node of this number, if there is one.
+    pub fn node(&self, node: u32) -> Option<&DraftNode> {
+        self.nodes.get(node as usize)
+    }
+
+    /// Puts an open node at the end, unless there is no room.
+    pub fn push(&mut self, judgement: Judgement, parent: u32) -> Result<Option<u32>, OutOfMemory> {
+        let number = self.nodes.len();
+        if number >= MOST_NODES {
+            return Ok(None);
+        }
+        self.nodes.push(DraftNode {
+            judgement,
+            reason: None,
+            edges: Vec::new(self.alloc),
+            parent: Some(parent),
+        })?;
+        Ok(Some(number as u32))
+    }
+
+    /// Gives a node a reason and edges for its premises.
+    pub fn close(&mut self, node: u32, reason: Reason, edges: Vec<DraftEdge>) {
+        if let Some(node) = self.nodes.get_mut(node as usize) {
+            node.reason = Some(reason);
+            node.edges = edges;
+        }
+    }
+
+    /// Lets the edge of a node lead to another.
+    pub fn lead(&mut self, node: u32, place: usize, target: u32) {
+        if let Some(node) = self.nodes.get_mut(node as usize) {
+            if let Some(edge) = node.edges.get_mut(place) {
+                edge.target = Some(target);
+            }
+        }
+    }
+
+    /// Opens a node again, and cuts off all nodes from a number on.
+    pub fn reopen(&mut self, node: u32, kept: usize) {
+        self.nodes.truncate(kept);
+        let edges = Vec::new(self.alloc);
+        if let Some(node) = self.nodes.get_mut(node as usize) {
+            node.reason = None;
+            node.edges = edges;
+        }
+    }
+}
+
+/// Edges to premises that have no nodes yet.
+pub fn open_edges(alloc: Global, premises: &[Premise]) -> Result<Vec<DraftEdge>, OutOfMemory> {
+    let mut edges = Vec::new(alloc);
+    for premise in premises {
+        edges.push(DraftEdge {
+            pairs: premise.pairs.clone()?,
+            target: None,
+        })?;
+    }
+    Ok(edges)
+}

@@ -1,0 +1,119 @@
+// The nodes that are being worked on.
+use crate::moves::{Aim, Move, Step};
+use cyc_memory::OutOfMemory;
+use heap_formula::{Judgement, Premise, Rule};
+use std::alloc::Global;
+
+/// What is to be done at a node: rules first, of which the next one is the last of the list, and then an aim.
+#[derive(Drop)]
+pub struct Task {
+    pub rules: Vec<Rule>,
+    pub aim: Aim,
+}
+
+/// A premise that has no node yet, with its place, and what is to be done there.
+#[derive(Drop)]
+pub struct Goal {
+    pub place: usize,
+    pub premise: Premise,
+    pub task: Task,
+}
+
+/// A node that is being worked on. `moves` are left of the stage before `stage`, the next one at the end; `goals` are the
+/// premises of the move that is being made, the next one at the end; `kept` is how many nodes the draft had before, and
+/// `most` the number of steps at which the work ends.
+#[derive(Drop)]
+pub struct Frame {
+    pub node: u32,
+    pub aim: Aim,
+    pub stage: u32,
+    pub is_last: bool,
+    pub moves: Vec<Move>,
+    pub is_moving: bool,
+    pub goals: Vec<Goal>,
+    pub kept: usize,
+    pub most: u32,
+}
+
+/// The moves of a task: its rules, or none yet.
+fn moves_of_task(alloc: Global, task: Task) -> Result<Vec<Move>, OutOfMemory> {
+    let mut moves = Vec::new(alloc);
+    if !task.rules.is_empty() {
+        moves.push(Move::Step(Step {
+            rules: task.rules,
+            side: None,
+            aim: task.aim,
+        }))?;
+    }
+    Ok(moves)
+}
+
+impl Frame {
+    /// The work on a node that has just been made.
+    pub fn new(
+        alloc: Global,
+        node: u32,
+        task: Task,
+        kept: usize,
+        most: u32,
+    ) -> Result<Frame, OutOfMemory> {
+        let aim = task.aim;
+        let is_last = !task.rules.is_empty();
+        Ok(Frame {
+            node,
+            aim,
+            stage: 0,
+            is_last,
+            moves: moves_of_task(alloc, task)?,
+            is_moving: false,
+            goals: Vec::new(alloc),
+            kept,
+            most,
+        })
+    }
+}
+
+fn copied(rules: &[Rule], alloc: Global) -> Result<Vec<Rule>, OutOfMemory> {
+    let mut copies = Vec::new(alloc);
+    for rule in rules {
+        copies.push(rule.clone()?)?;
+    }
+    Ok(copies)
+}
+
+fn line_of(judgement: &Judgement) -> u32 {
+    match judgement {
+        Judgement::Entail(_, _) => 0,
+        Judgement::Term(line, _) => *line,
+    }
+}
+
+/// The premises of a step's first rule as goals, the first one at the end. Of two lines the lower one comes first, so that
+/// a loop is settled before the code behind it.
+pub fn goals_of(
+    alloc: Global,
+    premises: Vec<Premise>,
+    rest: &[Rule],
+    side: Option<Aim>,
+    aim: Aim,
+) -> Result<Vec<Goal>, OutOfMemory> {
+    let count = premises.len();
+    let mut goals = Vec::new(alloc);
+    for (place, premise) in premises.into_iter().enumerate() {
+        let is_side = count > 1 && place == 0;
+        let rules = if is_side {
+            Vec::new(alloc)
+        } else {
+            copied(rest, alloc)?
+        };
+        let aim = if is_side { side.unwrap_or(aim) } else { aim };
+        goals.push(Goal {
+            place,
+            premise,
+            task: Task { rules, aim },
+        })?;
+    }
+    goals.reverse();
+    goals.sort_by_key(|goal| u32::MAX - line_of(&goal.premise.judgement))?;
+    Ok(goals)
+}

@@ -1,0 +1,17 @@
+//! A search for cyclic proofs that does as it likes: one draft of a proof is grown depth first, by moves that a strategy
+//! offers. A premise that is closed stays closed, so alternatives add up and do not multiply. Nothing here is promised of
+//! what is found beyond its shape: it is checked before it counts.
+#![tactic(auto)]
+
+mod draft;
+mod engine;
+mod frames;
+mod moves;
+mod setting;
+mod traces;
+
+pub use cyc_memory::OutOfMemory;
+pub use draft::{Draft, DraftEdge, DraftNode, MOST_NODES};
+pub use engine::{Outcome, search};
+pub use moves::{Aim, Move, Stage, Step, Strategy};
+pub use setting::Setting;

@@ -1,0 +1,60 @@
+// The way from a node up to the first.
+use heap_formula::{Judgement, Reason, Rule};
+use seek_engine::{Draft, DraftNode, MOST_NODES};
+
+fn is_exec(node: &DraftNode) -> bool {
+    matches!(&node.reason, Some(Reason::Step(Rule::Exec)))
+}
+
+fn is_unfold(node: &DraftNode) -> bool {
+    matches!(&node.reason, Some(Reason::Step(Rule::Unfold(_))))
+}
+
+fn is_on_line(judgement: &Judgement, line: u32) -> bool {
+    match judgement {
+        Judgement::Term(other, _) => *other == line,
+        Judgement::Entail(_, _) => false,
+    }
+}
+
+fn parent<'a>(draft: &'a Draft, node: Option<&'a DraftNode>) -> Option<&'a DraftNode> {
+    match node?.parent {
+        Some(number) => draft.node(number),
+        None => None,
+    }
+}
+
+/// How many nodes above execute the line.
+pub fn visits(draft: &Draft, node: u32, line: u32) -> u32 {
+    let mut count: u32 = 0;
+    let mut above = parent(draft, draft.node(node));
+    for _ in 0..MOST_NODES {
+        let Some(at) = above else {
+            return count;
+        };
+        if is_on_line(&at.judgement, line) && is_exec(at) {
+            count = count.saturating_add(1);
+        }
+        above = parent(draft, above);
+    }
+    count
+}
+
+/// How many nodes above unfold, up to the first that executes.
+pub fn unfolds_here(draft: &Draft, node: u32) -> u32 {
+    let mut count: u32 = 0;
+    let mut above = parent(draft, draft.node(node));
+    for _ in 0..MOST_NODES {
+        let Some(at) = above else {
+            return count;
+        };
+        if is_exec(at) {
+            return count;
+        }
+        if is_unfold(at) {
+            count = count.saturating_add(1);
+        }
+        above = parent(draft, above);
+    }
+    count
+}

@@ -1,0 +1,242 @@
+// Atoms of a state beside its folds: kept, generalised, or dropped.
+use crate::commons::Commons;
+use crate::forced::is_predicate;
+use cyc_memory::OutOfMemory;
+use heap_formula::{Args, Spatial, Term};
+use seek_entailments::{args_of, arguments, is_alike};
+use std::alloc::Global;
+
+/// A more general state on its way: places of the first state that are cut away, the atoms that come in their place, the
+/// places that are dropped, the places of the second state that are accounted for, the pairs of terms that became
+/// existentials, and a score, of which a low one is good.
+#[derive(Drop)]
+pub struct Plan {
+    pub cut: Vec<u32>,
+    pub by: Vec<Spatial>,
+    pub dropped: Vec<u32>,
+    pub used: Vec<u32>,
+    pub unknown: Vec<(Term, Term)>,
+    pub score: u32,
+}
+
+fn has_place(places: &[u32], place: u32) -> bool {
+    places.iter().any(|other| *other == place)
+}
+
+impl Plan {
+    /// The plan that changes nothing.
+    pub fn new(alloc: Global) -> Plan {
+        Plan {
+            cut: Vec::new(alloc),
+            by: Vec::new(alloc),
+            dropped: Vec::new(alloc),
+            used: Vec::new(alloc),
+            unknown: Vec::new(alloc),
+            score: 0,
+        }
+    }
+
+    /// Adds to the score.
+    pub fn pay(&mut self, score: u32) {
+        self.score = self.score.saturating_add(score);
+    }
+
+    fn has_unknown(&self, pair: (Term, Term)) -> bool {
+        self.unknown.iter().any(|other| *other == pair)
+    }
+
+    /// The existential of a pair of terms.
+    fn existential(&mut self, pair: (Term, Term)) -> Result<Term, OutOfMemory> {
+        if !self.has_unknown(pair) {
+            self.unknown.push(pair)?;
+        }
+        let mut number: u16 = 0;
+        for other in self.unknown.iter() {
+            if *other == pair {
+                return Ok(Term::Exist(number));
+            }
+            number = number.saturating_add(1);
+        }
+        Ok(pair.0)
+    }
+
+    /// One term for two: the common one, or an existential.
+    pub fn joined_term(
+        &mut self,
+        commons: &Commons<'_>,
+        t: Term,
+        u: Term,
+    ) -> Result<Term, OutOfMemory> {
+        match commons.meeting(t, u) {
+            Some(term) => Ok(term),
+            None => self.existential((t, u)),
+        }
+    }
+
+    fn joined_args(
+        &mut self,
+        alloc: Global,
+        commons: &Commons<'_>,
+        ts: &[Term],
+        us: &[Term],
+    ) -> Result<Args, OutOfMemory> {
+        let mut terms: Vec<Term> = Vec::new(alloc);
+        for (t, u) in ts.iter().zip(us) {
+            terms.push(self.joined_term(commons, *t, *u)?)?;
+        }
+        Ok(args_of(&terms))
+    }
+
+    /// One atom for two of one kind.
+    pub fn joined(
+        &mut self,
+        alloc: Global,
+        commons: &Commons<'_>,
+        x: &Spatial,
+        y: &Spatial,
+    ) -> Result<Spatial, OutOfMemory> {
+        match (x, y) {
+            (Spatial::Cell(t, f), Spatial::Cell(u, g)) => {
+                let address = self.joined_term(commons, *t, *u)?;
+                let fields = self.joined_args(alloc, commons, f.as_slice(), g.as_slice())?;
+                Ok(Spatial::Cell(address, fields))
+            }
+            (Spatial::Pred(p, f), Spatial::Pred(_, g)) => {
+                let args = self.joined_args(alloc, commons, f.as_slice(), g.as_slice())?;
+                Ok(Spatial::Pred(*p, args))
+            }
+            _ => Ok(*x),
+        }
+    }
+}
+
+fn are_like(commons: &Commons<'_>, ts: &[Term], us: &[Term]) -> bool {
+    for (t, u) in ts.iter().zip(us) {
+        if commons.meeting(*t, *u).is_none() {
+            return false;
+        }
+    }
+    ts.len() == us.len()
+}
+
+/// Whether both atoms say the same of common terms.
+fn is_same(commons: &Commons<'_>, x: &Spatial, y: &Spatial) -> bool {
+    let has_address = match (x, y) {
+        (Spatial::Cell(t, _), Spatial::Cell(u, _)) => commons.meeting(*t, *u).is_some(),
+        _ => true,
+    };
+    has_address && is_alike(x, y) && are_like(commons, arguments(x), arguments(y))
+}
+
+impl Plan {
+    fn some_is_like(&self, commons: &Commons<'_>, ts: &[Term], us: &[Term]) -> bool {
+        for (t, u) in ts.iter().zip(us) {
+            if commons.meeting(*t, *u).is_some() || self.has_unknown((*t, *u)) {
+                return true;
+            }
+        }
+        false
+    }
+
+    /// Whether the second atom may be what became of the first: a cell of one address, or a predicate with a term at one
+    /// place.
+    fn is_partner(&self, commons: &Commons<'_>, x: &Spatial, y: &Spatial) -> bool {
+        if !is_alike(x, y) {
+            return false;
+        }
+        match (x, y) {
+            (Spatial::Cell(t, _), Spatial::Cell(u, _)) => commons.meeting(*t, *u).is_some(),
+            _ => self.some_is_like(commons, arguments(x), arguments(y)),
+        }
+    }
+
+    fn find(&self, commons: &Commons<'_>, x: &Spatial, is_whole: bool) -> Option<(u32, Spatial)> {
+        for (k, y) in commons.second.spatial().iter().enumerate() {
+            let fits = if is_whole {
+                is_same(commons, x, y)
+            } else {
+                self.is_partner(commons, x, y)
+            };
+            if fits && !has_place(&self.used, k as u32) {
+                return Some((k as u32, *y));
+            }
+        }
+        None
+    }
+
+    /// Keeps the atom if the second state has it, up to equations.
+    fn keep(
+        &mut self,
+        alloc: Global,
+        commons: &Commons<'_>,
+        i: u32,
+        x: &Spatial,
+    ) -> Result<bool, OutOfMemory> {
+        let Some((k, y)) = self.find(commons, x, true) else {
+            return Ok(false);
+        };
+        self.used.push(k)?;
+        let joined = self.joined(alloc, commons, x, &y)?;
+        if joined != *x {
+            self.cut.push(i)?;
+            self.by.push(joined)?;
+        }
+        Ok(true)
+    }
+
+    /// Generalises the atom to what both states have of it, or drops it.
+    fn generalise(
+        &mut self,
+        alloc: Global,
+        commons: &Commons<'_>,
+        i: u32,
+        x: &Spatial,
+    ) -> Result<(), OutOfMemory> {
+        let Some((k, y)) = self.find(commons, x, false) else {
+            self.dropped.push(i)?;
+            self.pay(3);
+            return Ok(());
+        };
+        self.used.push(k)?;
+        let joined = self.joined(alloc, commons, x, &y)?;
+        self.by.push(joined)?;
+        self.cut.push(i)?;
+        self.pay(1);
+        Ok(())
+    }
+
+    fn generalise_all(
+        &mut self,
+        alloc: Global,
+        commons: &Commons<'_>,
+        left: &[u32],
+        of_predicates: bool,
+    ) -> Result<(), OutOfMemory> {
+        for i in left {
+            if let Some(x) = commons.first.spatial_at(*i) {
+                if is_predicate(x) == of_predicates {
+                    self.generalise(alloc, commons, *i, x)?;
+                }
+            }
+        }
+        Ok(())
+    }
+
+    /// What becomes of the first state's atoms that no fold takes; cells before predicates.
+    pub fn settle(
+        &mut self,
+        alloc: Global,
+        commons: &Commons<'_>,
+        folded: &[u32],
+    ) -> Result<(), OutOfMemory> {
+        let mut left: Vec<u32> = Vec::new(alloc);
+        for (i, x) in commons.first.spatial().iter().enumerate() {
+            let i = i as u32;
+            if !has_place(folded, i) && !self.keep(alloc, commons, i, x)? {
+                left.push(i)?;
+            }
+        }
+        self.generalise_all(alloc, commons, &left, false)?;
+        self.generalise_all(alloc, commons, &left, true)
+    }
+}

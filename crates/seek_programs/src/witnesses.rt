@@ -1,0 +1,212 @@
+// The states in which a run from the head of a loop comes to it again.
+use crate::forced::forced_rule;
+use crate::heads::is_head;
+use crate::runs::steps;
+use cyc_memory::OutOfMemory;
+use heap_formula::{Heap, Judgement, Rule, Subst, Term, apply_to_heap, bound_of_heap};
+use seek_engine::Setting;
+use std::alloc::Global;
+
+/// The steps of a run.
+const MOST_STEPS: u32 = 400;
+
+/// How many states are wanted.
+const MOST_STATES: usize = 6;
+
+/// The most lines on one way.
+const MOST_LINES: usize = 60;
+
+/// How far logic variables are lifted, so that no fresh variable is one of them.
+const LIFT: u16 = 2000;
+
+/// The variables from this number on are not lifted.
+const MOST_LIFTED: u32 = 60_000;
+
+/// A point of the run: the lines that led to it, and whether nothing was executed yet.
+#[derive(Drop)]
+struct Point {
+    judgement: Judgement,
+    path: Vec<u32>,
+    is_first: bool,
+}
+
+/// A run from the head of a loop.
+#[derive(Clone, Copy)]
+struct Run<'a> {
+    setting: Setting<'a>,
+    head: u32,
+    /// Lines below belong to a loop around this one.
+    floor: u32,
+}
+
+fn count_of(path: &[u32], line: u32) -> u32 {
+    let mut count: u32 = 0;
+    for other in path {
+        if *other == line {
+            count = count.saturating_add(1);
+        }
+    }
+    count
+}
+
+impl Run<'_> {
+    /// The rule with which the run goes on: `None` where it ends.
+    fn rule_at(&self, point: &Point) -> Result<Option<Rule>, OutOfMemory> {
+        let Judgement::Term(line, state) = &point.judgement else {
+            return Ok(None);
+        };
+        if let Some(rule) = forced_rule(&self.setting, &point.judgement, *line, state)? {
+            return Ok(Some(rule));
+        }
+        if *line == self.head && !point.is_first {
+            return Ok(None);
+        }
+        if is_head(self.setting.program, *line) && count_of(&point.path, *line) > 1 {
+            return Ok(None);
+        }
+        let mut rules = steps(&self.setting, &point.judgement, *line, state)?;
+        rules.truncate(1);
+        Ok(rules.pop())
+    }
+
+    /// Whether the run has come to the head again, its state being settled.
+    fn is_again(&self, point: &Point) -> Result<bool, OutOfMemory> {
+        let Judgement::Term(line, state) = &point.judgement else {
+            return Ok(false);
+        };
+        if *line != self.head || point.is_first {
+            return Ok(false);
+        }
+        let rule = forced_rule(&self.setting, &point.judgement, *line, state)?;
+        Ok(rule.is_none())
+    }
+
+    fn is_beyond(&self, point: &Point) -> bool {
+        match &point.judgement {
+            Judgement::Term(line, _) => *line < self.floor || point.path.len() > MOST_LINES,
+            Judgement::Entail(_, _) => true,
+        }
+    }
+
+    fn push_next(
+        &self,
+        points: &mut Vec<Point>,
+        point: &Point,
+        rule: &Rule,
+    ) -> Result<(), OutOfMemory> {
+        let Some(mut premises) = self.setting.premises(&point.judgement, rule)? else {
+            return Ok(());
+        };
+        premises.reverse();
+        let is_exec = matches!(rule, Rule::Exec);
+        for premise in premises {
+            let mut path = point.path.clone()?;
+            if let (true, Judgement::Term(line, _)) = (is_exec, &point.judgement) {
+                path.push(*line)?;
+            }
+            points.push(Point {
+                judgement: premise.judgement,
+                path,
+                is_first: point.is_first && !is_exec,
+            })?;
+        }
+        Ok(())
+    }
+
+    fn visit(
+        &self,
+        points: &mut Vec<Point>,
+        found: &mut Vec<Heap>,
+        point: Point,
+    ) -> Result<(), OutOfMemory> {
+        if self.is_beyond(&point) {
+            return Ok(());
+        }
+        if self.is_again(&point)? {
+            if let Judgement::Term(_, state) = &point.judgement {
+                if !found.iter().any(|other| *other == *state) {
+                    found.push(state.clone()?)?;
+                }
+            }
+            return Ok(());
+        }
+        if let Some(rule) = self.rule_at(&point)? {
+            self.push_next(points, &point, &rule)?;
+        }
+        Ok(())
+    }
+
+    fn states(&self, start: Heap) -> Result<Vec<Heap>, OutOfMemory> {
+        let alloc = self.setting.alloc;
+        let mut found = Vec::new(alloc);
+        let mut points = Vec::new(alloc);
+        points.push(Point {
+            judgement: Judgement::Term(self.head, start),
+            path: Vec::new(alloc),
+            is_first: true,
+        })?;
+        for _ in 0..MOST_STEPS {
+            if found.len() >= MOST_STATES {
+                return Ok(found);
+            }
+            let Some(point) = points.pop() else {
+                return Ok(found);
+            };
+            self.visit(&mut points, &mut found, point)?;
+        }
+        Ok(found)
+    }
+}
+
+/// The substitution that lifts the heap's logic variables, or lowers them again.
+fn lift(alloc: Global, heap: &Heap, variables: u16, is_back: bool) -> Result<Subst, OutOfMemory> {
+    let mut pairs = Vec::new(alloc);
+    let bound = bound_of_heap(heap).min(MOST_LIFTED) as u16;
+    for n in variables..bound.max(variables) {
+        let far = n.saturating_add(LIFT);
+        if is_back {
+            pairs.push((far, Term::Univ(n)))?;
+        } else {
+            pairs.push((n, Term::Univ(far)))?;
+        }
+    }
+    Ok(Subst::from_vec(pairs))
+}
+
+fn lowered(alloc: Global, states: &[Heap], back: &Subst) -> Result<Vec<Heap>, OutOfMemory> {
+    let mut all = Vec::new(alloc);
+    for state in states {
+        all.push(apply_to_heap(alloc, state, back)?)?;
+    }
+    Ok(all)
+}
+
+/// The states in which a run from the state comes to the line again, by the first Unfold only; those with the most atoms
+/// first. Lines below the head are left out at first.
+pub fn witnesses(
+    setting: &Setting<'_>,
+    head: u32,
+    state: &Heap,
+    variables: u16,
+) -> Result<Vec<Heap>, OutOfMemory> {
+    let alloc = setting.alloc;
+    let far = apply_to_heap(alloc, state, &lift(alloc, state, variables, false)?)?;
+    let run = Run {
+        setting: *setting,
+        head,
+        floor: head,
+    };
+    let mut states = run.states(far.clone()?)?;
+    if states.is_empty() {
+        let run = Run {
+            setting: *setting,
+            head,
+            floor: 0,
+        };
+        states = run.states(far)?;
+    }
+    let back = lift(alloc, state, variables, true)?;
+    let mut states = lowered(alloc, &states, &back)?;
+    states.sort_by_key(|state| 64 - state.spatial().len().min(64))?;
+    Ok(states)
+}
