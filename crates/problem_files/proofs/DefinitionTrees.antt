@@ -27,7 +27,7 @@ use Rattle.cyc_grammar.specs.Classes.{is_free_name}
 use Rattle.heap_syntax.specs.Words.{reserved}
 use Rattle.proof_syntax.specs.Grammar as grammar
 use Rattle.heap_reader.specs.Flaws.{Found, ill_if, over_if, listed_flaw, arity_in, heaps_flaw}
-use Rattle.proof_file.specs.declared.scope.Scope.TheVariants.{Case as InCase}
+use Rattle.pred_reader.specs.declared.scope.Scope.TheVariants.{Case as InCase}
 use Rattle.proof_file.specs.Spans.{term_span, definition_span}
 use Rattle.proof_file.specs.Flaws.{term_flaw, head_flaw, definition_flaw}
 use Rattle.proof_file.specs.Readable.{has_few_cases, all_have_few_cases}

@@ -19,8 +19,8 @@ use Rattle.cyc_lex.specs.declared.fault.What.{What}
 use Rattle.cyc_lex.specs.declared.fault.What.TheVariants.{Arguments, Pure as PureAtoms, Spatial as SpatialAtoms}
 use Rattle.cyc_grammar.specs.Syntax.{Class}
 use Rattle.heap_syntax.specs.Grammar as shared
-use Rattle.proof_syntax.specs.declared.tree.TermTree.{TermTree}
-use Rattle.proof_syntax.specs.declared.tree.TermTree.TheVariants as trees
+use Rattle.pred_syntax.specs.declared.tree.TermTree.{TermTree}
+use Rattle.pred_syntax.specs.declared.tree.TermTree.TheVariants as trees
 use Rattle.proof_syntax.specs.Grammar as grammar
 use Rattle.heap_reader.specs.Spans.{pure_span, pures_span, spatial_span, heap_span}
 use Rattle.heap_reader.specs.Flaws.{Found, over_if, arity_in, use_flaw, argument_flaw, arguments_flaw, pure_flaw, spatial_flaw, heap_flaw, counted_flaw, heaps_flaw}

@@ -23,7 +23,7 @@ use Rattle.cyc_lex.specs.declared.fault.What.TheVariants.{Disjuncts}
 use Rattle.proof_syntax.specs.Grammar as grammar
 use Rattle.heap_reader.specs.Spans.{heap_span}
 use Rattle.heap_reader.specs.Flaws.{ill_if, heap_flaw}
-use Rattle.proof_file.specs.declared.scope.Scope.TheVariants.{Node as InNode}
+use Rattle.pred_reader.specs.declared.scope.Scope.TheVariants.{Outside as InNode}
 use Rattle.proof_file.specs.Spans.{term_span}
 use Rattle.proof_file.specs.Flaws.{term_flaw, judgement_flaw}
 use Rattle.proof_file.specs.Readable.{is_universal_heap, is_at_line}

@@ -7,10 +7,10 @@ use Rattle.heap_formula.specs.Closedness.{IsUniversal}
 use Rattle.rule_table.specs.Answer.{number_bound}
 use Rattle.rule_table.specs.Tests.{is_universal}
 use Rattle.format_limits.specs.Limits.{IsTermWithin}
-use Rattle.proof_syntax.specs.declared.tree.TermTree.{TermTree}
+use Rattle.pred_syntax.specs.declared.tree.TermTree.{TermTree}
 use Rattle.proof_syntax.specs.Grammar as grammar
 use Rattle.heap_reader.specs.Flaws.{Found}
-use Rattle.proof_file.specs.declared.scope.Scope.TheVariants.{Node as InNode}
+use Rattle.pred_reader.specs.declared.scope.Scope.TheVariants.{Outside as InNode}
 use Rattle.proof_file.specs.Flaws.{term_flaw}
 use Rattle.proof_file.specs.Written.{term_tree}
 

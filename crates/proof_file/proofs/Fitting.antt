@@ -1,75 +1,48 @@
 -- A file without a flaw fits the values' types.
-use Rattle.std.proofs.Common.{◌≡◌, ℕ, suc, ◌+◌, ◌<◌, ◌≤◌, List, [], ◌∷◌, false, length, take, None, arith}
-use Rattle.std.specs.Prelude.{◌||◌, nat_eq, nat_lt, nat_le, is_some}
+use Rattle.std.proofs.Common.{◌≡◌, ℕ, suc, ◌+◌, ◌<◌, ◌≤◌, List, [], ◌∷◌, false, length, None, arith}
+use Rattle.std.specs.Prelude.{◌||◌, nat_eq, nat_lt, nat_le}
 use Rattle.heap_formula.specs.Words.{Each}
-use Rattle.cyc_lex.specs.declared.fault.What.TheVariants.{Arguments, Cases, Disjuncts, Nodes, Predicates, ProgramVariables, Variable, Locals}
-use Rattle.cyc_lex.specs.declared.fault.IllFault.TheVariants.{Parameter, Duplicate, NoLine}
-use Rattle.proof_syntax.specs.declared.tree.TermTree.{TermTree}
-use Rattle.proof_syntax.specs.declared.tree.TermTree.TheVariants.{Nil, Univ, Exist}
+use Rattle.cyc_lex.specs.declared.fault.What.TheVariants.{Disjuncts, Nodes, ProgramVariables, Variable}
+use Rattle.cyc_lex.specs.declared.fault.IllFault.TheVariants.{NoLine}
 use Rattle.proof_syntax.specs.declared.tree.PairTree.{PairTree}
-use Rattle.proof_syntax.specs.Trees.{Heap, Definition, Entailment, Judgement, Entails, From, Reason, Absurd, Rewrite, Split, Distinct, Weaken, Unfold, Cut, Done, Choose, PureRight, Instantiate, Frame, UnfoldRight, Exec, Drop, Link, Node, File}
+use Rattle.proof_syntax.specs.Trees.{Entailment, Judgement, Entails, From, Reason, Absurd, Rewrite, Split, Distinct, Weaken, Unfold, Cut, Done, Choose, PureRight, Instantiate, Frame, UnfoldRight, Exec, Drop, Link, Node, File}
 use Rattle.heap_syntax.specs.Versions.{most_spatial}
 use Rattle.heap_reader.specs.Trees.{Heading}
 use Rattle.heap_reader.specs.Spans.{heap_span}
-use Rattle.heap_reader.specs.Flaws.{ill_if, over_if, or_later, listed_flaw, arity_in, heap_flaw, heaps_flaw}
-use Rattle.heap_reader.specs.Small.{IsSmall, IsSmallHeap}
-use Rattle.heap_reader.proofs.NoFlaw.{neither, not_over, not_ill, at_most, below, each_of, few_all}
-use Rattle.heap_reader.proofs.Fitting.{most_fits, heap_small, heaps_small}
-use Rattle.proof_file.specs.declared.scope.Scope.{Scope}
-use Rattle.proof_file.specs.declared.scope.Scope.TheVariants.{Node as InNode, Case as InCase}
+use Rattle.heap_reader.specs.Flaws.{ill_if, over_if, or_later, listed_flaw, heap_flaw, heaps_flaw}
+use Rattle.heap_reader.proofs.NoFlaw.{neither, not_over, at_most, below, each_of, few_all}
+use Rattle.heap_reader.proofs.Fitting.{most_fits, heaps_small}
+use Rattle.pred_reader.specs.declared.scope.Scope.TheVariants.{Outside as InNode}
+use Rattle.pred_reader.proofs.Fitting.{term_small, outside_small, definitions_small}
 use Rattle.proof_file.specs.Spans.{term_span, definition_span, judgement_span, pair_span, node_span}
-use Rattle.proof_file.specs.Flaws.{headings, term_flaw, variable_flaw, program_flaw, head_flaw, definition_flaw, entailment_flaw, judgement_flaw, pair_flaw, reason_flaw, node_flaw, first_line, first_node, nodes_flaw, file_flaw}
+use Rattle.proof_file.specs.Flaws.{headings, term_flaw, variable_flaw, program_flaw, definition_flaw, entailment_flaw, judgement_flaw, pair_flaw, reason_flaw, node_flaw, first_line, first_node, nodes_flaw, file_flaw}
 use Rattle.proof_file.specs.Values.{term_value, variable_value}
-use Rattle.proof_file.specs.Small.{IsSmallEntailment, IsSmallJudgement, IsSmallPair, IsSmallReason, IsSmallNode, IsSmallDefinition, IsSmallFile}
+use Rattle.proof_file.specs.Small.{IsSmallEntailment, IsSmallJudgement, IsSmallPair, IsSmallReason, IsSmallNode, IsSmallFile}
 
--- ---- terms
-
--- a case of a predicate has at most eight parameters
-abbrev pub IsNarrow : Scope → Type 0
-IsNarrow InNode = Unit {0}
-IsNarrow (InCase arity) = arity ≤ 8
-
-pub term_small : (scope : Scope) → IsNarrow scope → (k : ℕ) (t : TermTree) → term_flaw scope k t ≡ None → IsSmall term_value t
-term_small scope narrow k Nil e = tt
-term_small InNode narrow k (Univ n) e = let h = at_most 65534 n (not_over _ Variable (k + 1) e) in omega arith
-term_small InNode narrow k (Exist n) e = let h = at_most 65534 n (not_over _ Variable (k + 1) e) in omega arith
-term_small (InCase arity) narrow k (Univ n) e = let h = below arity n (not_ill _ Parameter (k + 1) e) in omega arith
-term_small (InCase arity) narrow k (Exist n) e = let h = at_most 15 n (not_over _ Locals (k + 1) e) in omega arith
+-- ---- lines
 
 pub variable_few : (k v : ℕ) → variable_flaw k v ≡ None → variable_value v < 64
 variable_few k v e = let h = at_most 63 v (not_over _ ProgramVariables (k + 1) e) in omega arith
 
--- ---- definitions and nodes
+-- ---- nodes
 
 -- an entailment has a disjunct
 abbrev pub HasDisjunct : Judgement → Type 0
 HasDisjunct (Entails e) = 0 < length e.disjuncts
 HasDisjunct (From n h) = Unit {0}
 
-node_heap_small : (most : ℕ) → most ≤ 32 → (hs : List Heading) (k : ℕ) (h : Heap) → heap_flaw (term_flaw InNode) term_span most hs k h ≡ None → IsSmallHeap term_value h
-node_heap_small most few hs k h e = heap_small (term_flaw InNode) term_span term_value (term_small InNode tt) most few hs k h e
-
 module _ (most : ℕ) (few : most ≤ 32) (hs : List Heading) where
-  definition_small : (n k : ℕ) (d : Definition) → definition_flaw most hs n k d ≡ None → (n < 4096) × IsSmallDefinition d
-  definition_small n k d e =
-      let a = neither (head_flaw hs n k d) (heaps_flaw (term_flaw (InCase d.arity)) term_span most hs Cases (k + 6) d.cases) e in
-      let b = neither (over_if (nat_le 4096 n) Predicates k) (or_later (ill_if (is_some (arity_in (take n hs) d.name)) Duplicate (k + 1)) (over_if (nat_lt 8 d.arity) Arguments (k + 3))) a.0 in
-      let c = neither (ill_if (is_some (arity_in (take n hs) d.name)) Duplicate (k + 1)) (over_if (nat_lt 8 d.arity) Arguments (k + 3)) b.1 in
-      let narrow = at_most 8 d.arity (not_over _ Arguments (k + 3) c.1) in
-      let cases = heaps_small (term_flaw (InCase d.arity)) term_span term_value (term_small (InCase d.arity) narrow) most few hs Cases (k + 6) d.cases a.1 in
-      (below 4096 n (not_over _ Predicates k b.0), record { cases = cases.0; few = cases.1 })
-
   entailment_small : (k : ℕ) (j : Entailment) → 0 < length j.disjuncts → entailment_flaw most hs k j ≡ None → IsSmallEntailment j
   entailment_small k j some e =
       let p = k + heap_span term_span j.antecedent in
       let a = neither (heap_flaw (term_flaw InNode) term_span most hs k j.antecedent) (heaps_flaw (term_flaw InNode) term_span most hs Disjuncts p j.disjuncts) e in
       let disjuncts = heaps_small (term_flaw InNode) term_span term_value (term_small InNode tt) most few hs Disjuncts p j.disjuncts a.1 in
-      record { antecedent = node_heap_small most few hs k j.antecedent a.0; disjuncts = disjuncts.0; some = some; few = disjuncts.1 }
+      record { antecedent = outside_small most few hs k j.antecedent a.0; disjuncts = disjuncts.0; some = some; few = disjuncts.1 }
 
   judgement_small : (count k : ℕ) (j : Judgement) → HasDisjunct j → judgement_flaw most hs count k j ≡ None → IsSmallJudgement j
   judgement_small count k (Entails e) some none = entailment_small k e some none
   judgement_small count k (From n h) some none =
-      node_heap_small most few hs (k + 3) h (neither (ill_if (nat_eq n 0 || nat_lt count n) NoLine (k + 1)) (heap_flaw (term_flaw InNode) term_span most hs (k + 3) h) none).1
+      outside_small most few hs (k + 3) h (neither (ill_if (nat_eq n 0 || nat_lt count n) NoLine (k + 1)) (heap_flaw (term_flaw InNode) term_span most hs (k + 3) h) none).1
 
   pair_small : (k : ℕ) (p : PairTree) → pair_flaw k p ≡ None → IsSmallPair p
   pair_small k p e =
@@ -81,7 +54,7 @@ module _ (most : ℕ) (few : most ≤ 32) (hs : List Heading) where
   reason_small k (Split t u) e =
       let a = neither (term_flaw InNode (k + 1) t) (term_flaw InNode (k + term_span t) u) e in
       (term_small InNode tt (k + 1) t a.0, term_small InNode tt (k + term_span t) u a.1)
-  reason_small k (Cut places formula) e = node_heap_small most few hs (k + 3 + length places) formula e
+  reason_small k (Cut places formula) e = outside_small most few hs (k + 3 + length places) formula e
   reason_small k (Instantiate v t) e =
       let a = neither (over_if (nat_lt 65534 v) Variable (k + 2)) (term_flaw InNode (k + 3) t) e in
       let h = at_most 65534 v (not_over _ Variable (k + 2) a.0) in
@@ -137,9 +110,10 @@ file_small f some e =
     let few = most_fits f.version in
     let count = length f.lines in
     let parts = file_parts f e in
+    let small = definitions_small most few hs 4 ds parts.0 in
     record {
-      definitions = each_of (definition_flaw most hs) definition_span IsSmallDefinition (λ n k d h. (definition_small most few hs n k d h).1) 0 4 ds parts.0;
-      few = few_all (definition_flaw most hs) definition_span 4096 (λ n k d h. (definition_small most few hs n k d h).0) 4 ds parts.0;
+      definitions = small.0;
+      few = small.1;
       nodes = nodes_small most few hs count 0 (first_node f) f.nodes some parts.2;
       nodes_few = few_all (node_flaw most hs count) node_span 20000 (λ n k x h. below 20000 n (node_parts most few hs count n k x h).0) (first_node f) f.nodes parts.2;
     }

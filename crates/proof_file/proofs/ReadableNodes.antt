@@ -8,7 +8,6 @@ use Rattle.heap_formula.specs.declared.terms.Term.{Term}
 use Rattle.heap_formula.specs.Words.{Each}
 use Rattle.heap_formula.specs.Judgements.{antecedent}
 use Rattle.rule_table.specs.Tests.{is_universal, are_universal, is_universal_pure, is_universal_spatial}
-use Rattle.cyc_grammar.specs.Syntax.{Syntax, Class, after, fits_many, list1}
 use Rattle.heap_syntax.specs.Grammar as shared
 use Rattle.command_syntax.specs.declared.tree.OperandTree.{OperandTree}
 use Rattle.command_syntax.specs.declared.tree.OperandTree.TheVariants as operands
@@ -16,11 +15,11 @@ use Rattle.command_syntax.specs.declared.tree.ChangeTree.TheVariants as changes
 use Rattle.command_syntax.specs.declared.tree.CommandTree.{CommandTree}
 use Rattle.command_syntax.specs.declared.tree.CommandTree.TheVariants.{Stop, Goto, Free, If, StoreAtNil, Change}
 use Rattle.cyc_lex.specs.declared.fault.IllFault.TheVariants.{NoLine}
-use Rattle.proof_syntax.specs.declared.tree.TermTree.{TermTree}
-use Rattle.proof_syntax.specs.declared.tree.TermTree.TheVariants.{Nil, Univ, Exist}
+use Rattle.pred_syntax.specs.declared.tree.TermTree.{TermTree}
+use Rattle.pred_syntax.specs.declared.tree.TermTree.TheVariants.{Nil, Univ, Exist}
 use Rattle.proof_syntax.specs.declared.tree.PairTree.{PairTree}
 use Rattle.proof_syntax.specs.Trees.{PureTree, Spatial, Cell, Predicate, Heap, Line, Definition, Judgement, Entails, From, LinkData, Reason, Absurd, Rewrite, Split, Distinct, Weaken, Unfold, Cut, Done, Choose, PureRight, Instantiate, Frame, UnfoldRight, Exec, Drop, Link, Node, File}
-use Rattle.proof_syntax.specs.Grammar.{uterm, terms, pure, pures, spatial, spatials, heap, entailment, state, judgement, pair, pairs1, pairs, link, parts, split, instantiate, reason, node, nodes, more_nodes, body, file, some_pure, some_spatial, some_pair, comma, star, colon, closing}
+use Rattle.proof_syntax.specs.Grammar.{uterm, terms, pure, pures, spatial, heap, entailment, state, judgement, pair, pairs1, pairs, link, parts, split, instantiate, reason, node, nodes, more_nodes, body, file, some_pure, some_pair, comma, colon, closing}
 use Rattle.heap_syntax.specs.Versions.{most_spatial}
 use Rattle.heap_reader.specs.Trees.{Heading}
 use Rattle.heap_reader.specs.Flaws.{ill_if, listed_flaw, heap_flaw}
@@ -28,32 +27,16 @@ use Rattle.heap_reader.specs.Values.{pure_value, spatial_value, heap_value, oper
 use Rattle.heap_reader.proofs.Fitting.{most_fits}
 use Rattle.heap_reader.proofs.NoFlaw.{neither, not_ill}
 use Rattle.proof_file.proofs.Fitting.{node_parts, file_parts}
-use Rattle.proof_file.specs.declared.scope.Scope.TheVariants.{Node as InNode}
+use Rattle.pred_reader.specs.declared.scope.Scope.TheVariants.{Outside as InNode}
 use Rattle.proof_file.specs.Spans.{term_span, node_span}
 use Rattle.proof_file.specs.Flaws.{headings, term_flaw, judgement_flaw, node_flaw, first_node, file_flaw}
 use Rattle.proof_file.specs.Values.{term_value, variable_value, definition_value, program_value, judgement_value, pair_value, reason_value, node_value}
 use Rattle.proof_file.specs.Readable.{is_universal_heap, is_universal_reason, is_readable, are_readable, is_universal_command, are_universal_commands, is_at_line, are_at_lines, has_few_cases, all_have_few_cases}
 use Rattle.proof_file.specs.Small.{IsSmallDefinition}
 use Rattle.rule_table.proofs.Reflects.{and_true as both_true}
+use Rattle.pred_reader.proofs.Members.{list_fit, listed_fit, many_fit, spatials_fit}
 
--- ---- members that fit
-
-pub behind_fit : {A : Type 0} (c : Class (Unit {0})) (a : Syntax A) (xs : List A) → fits_many (after c a) xs → Each a.fits xs
-behind_fit c a [] f = tt
-behind_fit c a (x ∷ xs) f = (f.0, behind_fit c a xs f.1)
-
-list_fit : {A : Type 0} (d : A) (c : Class (Unit {0})) (a : Syntax A) (xs : List A) → (list1 d c a).fits xs → Each a.fits xs
-list_fit d c a [] f = tt
-list_fit d c a (x ∷ xs) f = (f.1.0, behind_fit c a xs f.1.1)
-
-listed_fit : {A : Type 0} (d : A) (c behind : Class (Unit {0})) (a : Syntax A) (xs : List A) → (shared.listed d c behind a).fits xs → Each a.fits xs
-unfolding shared.listed
-listed_fit d c behind a [] f = tt
-listed_fit d c behind a (x ∷ xs) f = (f.1.0, behind_fit c a xs f.1.1)
-
-pub many_fit : {A : Type 0} (a : Syntax A) (xs : List A) → fits_many a xs → Each a.fits xs
-many_fit a [] f = tt
-many_fit a (x ∷ xs) f = (f.0, many_fit a xs f.1)
+-- ---- members
 
 all_pass : {X Y : Type 0} (p : Y → Bool) (value : X → Y) (Q : X → Type 0) → ((x : X) → Q x → p (value x) ≡ true) → (xs : List X) → Each Q xs → list_all p (map value xs) ≡ true
 all_pass p value Q one [] e = refl
@@ -97,11 +80,6 @@ pures_fit : (xs : List PureTree) → (pures (terms true)).fits xs → Each (pure
 unfolding shared.pures shared.pures1
 pures_fit [] f = tt
 pures_fit (x ∷ xs) f = listed_fit some_pure comma colon (pure (terms true)) (x ∷ xs) f.1
-
-pub spatials_fit : (b : Bool) (xs : List Spatial) → (spatials (terms b)).fits xs → Each (spatial (terms b)).fits xs
-unfolding shared.spatials shared.spatials1
-spatials_fit b [] f = tt
-spatials_fit b (x ∷ xs) f = list_fit some_spatial star (spatial (terms b)) (x ∷ xs) f.1
 
 universal_heap : (hs : List Heading) (h : Heap) → (heap (terms true)).fits h → is_universal_heap (heap_value term_value hs h) ≡ true
 unfolding shared.heap

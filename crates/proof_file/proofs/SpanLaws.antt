@@ -1,18 +1,17 @@
 -- The spans count the words of the grammar, so each flaw's number is that of the token at which it stands.
-use Rattle.std.proofs.Common.{◌≡◌, ℕ, ◌+◌, ◌<◌, Bool, true, false, List, [], ◌∷◌, ◌++◌, length, refl, arith, length-append}
+use Rattle.std.proofs.Common.{◌≡◌, ℕ, ◌+◌, ◌<◌, true, false, List, [], ◌∷◌, ◌++◌, length, refl, arith, length-append}
 use Rattle.heap_formula.specs.Words.{Each}
 use Rattle.cyc_grammar.specs.Classes.{the_end}
-use Rattle.cyc_grammar.specs.Syntax.{Class, words_many, fits_many, list1}
+use Rattle.cyc_grammar.specs.Syntax.{words_many, fits_many, list1}
 use Rattle.heap_syntax.specs.Grammar as shared
-use Rattle.heap_reader.specs.Spans.{total, total_or, heap_span, line_span}
-use Rattle.heap_reader.proofs.SpanLaws.{between, listed_words, alone, spatial_words, heap_words as every_heap, lines_words}
-use Rattle.proof_syntax.specs.declared.tree.TermTree.{TermTree}
-use Rattle.proof_syntax.specs.declared.tree.TermTree.TheVariants.{Nil, Univ, Exist}
+use Rattle.heap_reader.specs.Spans.{total, total_or, line_span}
+use Rattle.heap_reader.proofs.SpanLaws.{between, alone, lines_words}
+use Rattle.pred_reader.proofs.SpanLaws.{uterm_words, heap_words, heaps_words, definition_words}
 use Rattle.proof_syntax.specs.declared.tree.PairTree.{PairTree}
-use Rattle.proof_syntax.specs.Trees.{Heap, Definition, Entailment, Judgement, Entails, From, LinkData, Reason, Absurd, Rewrite, Split, Distinct, Weaken, Unfold, Cut, Done, Choose, PureRight, Instantiate, Frame, UnfoldRight, Exec, Drop, Link, Node, File}
-use Rattle.proof_syntax.specs.Grammar.{term, uterm, terms, terms_of, spatial, heap, heaps, cases, definition, variable, lines, disjuncts, entailment, state, judgement, numbers, bracketed, two_numbers, side, rewrite, split, cut, instantiate, pair, pairs1, pairs, link, parts, reason, premises, node, definitions, more_nodes, nodes, body, file, some_heap, some_pair, comma, closing_bracket, closing_brace, semicolon, or_word, by_word, bar, last_word, turnstile}
+use Rattle.proof_syntax.specs.Trees.{Entailment, Judgement, Entails, From, LinkData, Reason, Absurd, Rewrite, Split, Distinct, Weaken, Unfold, Cut, Done, Choose, PureRight, Instantiate, Frame, UnfoldRight, Exec, Drop, Link, Node, File}
+use Rattle.proof_syntax.specs.Grammar.{uterm, terms, heap, heaps, definition, variable, lines, disjuncts, entailment, state, judgement, numbers, bracketed, two_numbers, side, rewrite, split, cut, instantiate, pair, pairs1, pairs, link, parts, reason, premises, node, definitions, more_nodes, nodes, body, file, some_pair, comma, closing_bracket, closing_brace, semicolon, or_word, by_word, last_word, turnstile}
 use Rattle.proof_file.proofs.Fitting.{HasDisjunct}
-use Rattle.proof_file.specs.Spans.{term_span, variable_span, definition_span, entailment_span, judgement_span, pair_span, link_span, reason_span, premises_rest, node_span}
+use Rattle.proof_file.specs.Spans.{variable_span, definition_span, entailment_span, judgement_span, pair_span, link_span, reason_span, premises_rest, node_span}
 
 -- ---- lists
 
@@ -21,40 +20,7 @@ unfolding numbers
 numbers_words [] = refl
 numbers_words (n ∷ ns) = let r = numbers_words ns in omega arith
 
--- ---- terms and heaps
-
-term_words : (t : TermTree) → length (term.words t) + 1 ≡ term_span t
-unfolding term
-term_words Nil = refl
-term_words (Univ n) = refl
-term_words (Exist n) = refl
-
-uterm_words : (t : TermTree) → uterm.fits t → length (uterm.words t) + 1 ≡ term_span t
-unfolding uterm
-uterm_words Nil f = refl
-uterm_words (Univ n) f = refl
-uterm_words (Exist n) f = absurd f.0
-
-terms_words : (b : Bool) (t : TermTree) → (terms b).fits t → length ((terms b).words t) + 1 ≡ term_span t
-unfolding terms
-terms_words true t f = uterm_words t f
-terms_words false t f = term_words t
-
-heap_words : (b : Bool) (h : Heap) → (heap (terms b)).fits h → length ((heap (terms b)).words h) + 1 ≡ heap_span term_span h
-heap_words b h f =
-    every_heap (terms_of (terms b)) term_span (terms_words b) (spatial (terms b)) (spatial_words (terms_of (terms b)) term_span (terms_words b)) h f
-
--- ---- definitions and judgements
-
-heaps_words : (c behind : Class (Unit {0})) (hs : List Heap) → (heaps c behind).fits hs → length ((heaps c behind).words hs) ≡ total (heap_span term_span) hs
-heaps_words c behind hs f = listed_words some_heap c behind (heap (terms false)) (heap_span term_span) (heap_words false) hs f
-
-pub definition_words : (d : Definition) → definition.fits d → length (definition.words d) ≡ definition_span d
-unfolding definition cases
-definition_words d f =
-    let h = heaps_words bar closing_brace d.cases f.1.1.1 in
-    let l = length-append ((heaps bar closing_brace).words d.cases) (semicolon.word tt ∷ []) in
-    omega arith
+-- ---- judgements
 
 entailment_words : (e : Entailment) → entailment.fits e → length (entailment.words e) ≡ entailment_span e
 unfolding entailment disjuncts

@@ -1,16 +1,7 @@
 -- Values that have a text are what their tree says.
-use Rattle.std.proofs.Common.{◌≡◌, ℕ, zero, suc, ◌+◌, Bool, true, false, List, [], ◌∷◌, length, take, map, Option, Some, None, refl, sym, ap, subst, ◌∙◌, arith}
-use Rattle.std.specs.Prelude.{not, ◌&&◌, is_some, if◌then◌else◌, slice_get, nat_lt, nat_le}
-use Rattle.std.specs.List.{list_any}
-use Rattle.std.specs.Str.{bytes_eq, chars, is_utf8}
-use Rattle.std.proofs.lemmas.Bool.{false≢true}
-use Rattle.std.proofs.lemmas.Slice.Eq.{bytes_eq-Decides}
+use Rattle.std.proofs.Common.{◌≡◌, ℕ, ◌+◌, true, false, List, [], ◌∷◌, refl, sym}
 use Rattle.heap_formula.specs.declared.terms.Term.{Term}
 use Rattle.heap_formula.specs.declared.terms.Term.TheVariants as terms
-use Rattle.heap_formula.specs.declared.atoms.Pure.{Pure}
-use Rattle.heap_formula.specs.declared.atoms.Pure.TheVariants.{Eq, Neq}
-use Rattle.heap_formula.specs.declared.atoms.Spatial.{Spatial as SpatialAtom}
-use Rattle.heap_formula.specs.declared.atoms.Spatial.TheVariants as atoms
 use Rattle.heap_formula.specs.declared.commands.Command.{Command}
 use Rattle.heap_formula.specs.declared.commands.Command.TheVariants as commands
 use Rattle.heap_formula.specs.declared.judgements.Judgement.{Judgement}
@@ -21,179 +12,36 @@ use Rattle.heap_formula.specs.declared.proof_rules.Rule.TheVariants as rules
 use Rattle.heap_formula.specs.declared.proof_rules.Reason.{Reason as ReasonValue}
 use Rattle.heap_formula.specs.declared.proof_rules.Reason.TheVariants.{Step, Back}
 use Rattle.heap_formula.specs.Definitions.{Definition as DefinitionValue}
-use Rattle.heap_formula.specs.Symbolic.{SymbolicHeap}
-use Rattle.heap_formula.specs.Words.{Each}
-use Rattle.cyc_lex.specs.Word.{is_name_text, is_identifier}
 use Rattle.cyc_lex.proofs.BoolParts.{and-parts}
-use Rattle.cyc_lex.specs.declared.fault.What.TheVariants.{Predicates, Arguments, Cases}
-use Rattle.cyc_lex.specs.declared.fault.IllFault.TheVariants.{Duplicate}
 use Rattle.cyc_grammar.specs.Classes.{is_free_name}
-use Rattle.cyc_grammar.specs.Syntax.{Class}
-use Rattle.proof_syntax.specs.Trees.{Heap, Definition}
 use Rattle.heap_syntax.specs.Versions.{most_spatial}
-use Rattle.heap_syntax.specs.Grammar as shared
-use Rattle.proof_syntax.specs.Grammar.{reserved, uterm, terms, spatial, heap, heaps, cases, definition, disjuncts, entailment, state, judgement, cut, split, parts, reason, node, nodes, definitions, body, file, bar, closing_brace, or_word, by_word}
+use Rattle.proof_syntax.specs.Grammar.{reserved, uterm, definition, disjuncts, entailment, state, judgement, cut, split, parts, reason, node, body, file, or_word, by_word}
 use Rattle.proof_file.specs.declared.node.FileNode.{FileNode}
 use Rattle.proof_file.specs.declared.file.ProofFile.{ProofFile}
 use Rattle.heap_reader.specs.Trees.{Heading}
-use Rattle.heap_reader.specs.Flaws.{Found, ill_if, over_if, or_later, listed_flaw, arity_in, heaps_flaw}
-use Rattle.heap_reader.specs.Values.{pure_value, place_of, spatial_value, heap_value, operand_value, command_value}
-use Rattle.heap_reader.proofs.NoFlaw.{neither, not_ill}
-use Rattle.proof_file.specs.declared.scope.Scope.TheVariants.{Case as InCase}
-use Rattle.proof_file.specs.Spans.{term_span, definition_span}
-use Rattle.proof_file.specs.Flaws.{heading, headings, term_flaw, head_flaw, definition_flaw}
-use Rattle.proof_file.specs.Values.{term_value, variable_value, definition_value, program_value, judgement_value, side_value, pair_value, reason_value, node_value}
-use Rattle.proof_file.specs.Written.{term_tree, pure_tree, operand_tree, store_tree, command_tree, lines_behind, name_in, name_of, spatial_tree, heap_tree, definition_tree, judgement_tree, side_tree, pair_tree, reason_tree, node_tree, tree_of}
+use Rattle.heap_reader.specs.Values.{place_of, operand_value, command_value}
+pub use Rattle.pred_reader.proofs.ValuesAgain.{get_map, flaw_at, none_of}
+use Rattle.pred_reader.proofs.ValuesAgain.{all_known, each_known, found_place, term_known, heap_known, heaps_known, definition_known, definitions_fit}
+use Rattle.proof_file.specs.Flaws.{headings}
+use Rattle.proof_file.specs.Values.{variable_value, definition_value, program_value, judgement_value, side_value, pair_value, reason_value, node_value}
+use Rattle.proof_file.specs.Written.{operand_tree, store_tree, command_tree, lines_behind, name_of, definition_tree, judgement_tree, side_tree, pair_tree, reason_tree, node_tree, tree_of}
 use Rattle.proof_file.specs.Reading.{IsFileOf}
 use Rattle.proof_file.specs.Readable.{is_universal_command, are_universal_commands}
 use Rattle.proof_file.proofs.Fitting.{file_parts}
 use Rattle.rule_table.specs.Tests.{is_universal}
-use Rattle.proof_file.proofs.ReadableNodes.{behind_fit, many_fit, spatials_fit, nodes_fit}
+use Rattle.proof_file.proofs.ReadableNodes.{nodes_fit}
 
--- ---- lists
-
-all_known : {X Y : Type 0} (tree : X → Y) (value : Y → X) → ((x : X) → value (tree x) ≡ x) → (xs : List X) → map value (map tree xs) ≡ xs
-all_known tree value one [] = refl
-all_known tree value one (x ∷ xs) = λ i. one x i ∷ all_known tree value one xs i
-
-each_known : {X Y : Type 0} (tree : X → Y) (value : Y → X) (Q : Y → Type 0) → ((x : X) → Q (tree x) → value (tree x) ≡ x) → (xs : List X) → Each Q (map tree xs) → map value (map tree xs) ≡ xs
-each_known tree value Q one [] e = refl
-each_known tree value Q one (x ∷ xs) e =
-    let first = one x e.0 in
-    let rest = each_known tree value Q one xs e.1 in
-    λ i. first i ∷ rest i
-
-pub get_map : {X Y : Type 0} (f : X → Y) (xs : List X) (n : ℕ) (x : X) → slice_get xs n ≡ Some x → slice_get (map f xs) n ≡ Some (f x)
-get_map f [] n x e = absurd cc
-get_map f (y ∷ ys) zero x e = let same : y ≡ x = cc in ap (λ z. Some (f z)) same
-get_map f (y ∷ ys) (suc n) x e = get_map f ys n x e
-
--- a member of a list without a flaw has none
-pub flaw_at : {X : Type 0} (flaw : ℕ → ℕ → X → Found) (span : X → ℕ) (n k : ℕ) (xs : List X) (p : ℕ) (x : X) → slice_get xs p ≡ Some x → listed_flaw flaw span n k xs ≡ None → (j : ℕ) × (flaw (n + p) j x ≡ None)
-flaw_at flaw span n k [] p x e none = absurd cc
-flaw_at flaw span n k (y ∷ ys) zero x e none =
-    let both = neither (flaw n k y) (listed_flaw flaw span (suc n) (k + span y) ys) none in
-    let same : y ≡ x = cc in
-    let here : n ≡ n + 0 = omega arith in
-    (k, subst (λ z. flaw (n + 0) k z ≡ None) same (subst (λ m. flaw m k y ≡ None) here both.0))
-flaw_at flaw span n k (y ∷ ys) (suc p) x e none =
-    let both = neither (flaw n k y) (listed_flaw flaw span (suc n) (k + span y) ys) none in
-    let rest = flaw_at flaw span (suc n) (k + span y) ys p x e both.1 in
-    let here : suc n + p ≡ n + suc p = omega arith in
-    (rest.0, subst (λ m. flaw m rest.0 x ≡ None) here rest.1)
-
--- ---- names
-
-own_place : (y : Heading) (ys : List Heading) (name : List ℕ) (b : Bool) → y.name ≡ name → bytes_eq y.name name ≡ b → (if b then 0 else suc (place_of ys name)) ≡ 0
-own_place y ys name true same e = refl
-own_place y ys name false same e = let yes = (bytes_eq-Decides y.name name).1 same in absurd cc
-
-later_place : (y : Heading) (front ys : List Heading) (name : List ℕ) (p : ℕ) (b : Bool) → (arity_in front name ≡ None → place_of ys name ≡ p) → (if b then Some y.arity else arity_in front name) ≡ None → (if b then 0 else suc (place_of ys name)) ≡ suc p
-later_place y front ys name p true rest e = absurd cc
-later_place y front ys name p false rest e = ap suc (rest e)
-
--- the first predicate with a name is that which has none before it
-place_first : (ys : List Heading) (p : ℕ) (x : Heading) → slice_get ys p ≡ Some x → arity_in (take p ys) x.name ≡ None → place_of ys x.name ≡ p
-place_first [] p x e none = absurd cc
-place_first (y ∷ ys) zero x e none = let same : y ≡ x = cc in own_place y ys x.name (bytes_eq y.name x.name) (ap (λ (d : Heading). d.name) same) refl
-place_first (y ∷ ys) (suc p) x e none =
-    later_place y (take p ys) ys x.name p (bytes_eq y.name x.name) (place_first ys p x e) none
-
-pub none_of : {X : Type 0} (o : Option X) → is_some o ≡ false → o ≡ None
-none_of None e = refl
-none_of (Some x) e = absurd cc
-
-no_earlier : (most : ℕ) (hs : List Heading) (n k : ℕ) (d : Definition) → definition_flaw most hs n k d ≡ None → arity_in (take n hs) d.name ≡ None
-no_earlier most hs n k d e =
-    let all = neither (head_flaw hs n k d) (heaps_flaw (term_flaw (InCase d.arity)) term_span most hs Cases (k + 6) d.cases) e in
-    let head = neither (over_if (nat_le 4096 n) Predicates k) (or_later (ill_if (is_some (arity_in (take n hs) d.name)) Duplicate (k + 1)) (over_if (nat_lt 8 d.arity) Arguments (k + 3))) all.0 in
-    let taken = neither (ill_if (is_some (arity_in (take n hs) d.name)) Duplicate (k + 1)) (over_if (nat_lt 8 d.arity) Arguments (k + 3)) head.1 in
-    none_of (arity_in (take n hs) d.name) (not_ill _ Duplicate (k + 1) taken.0)
-
--- the empty text is no name
-no_name : is_free_name reserved [] ≡ true → ⊥
-unfolding is_free_name is_name_text chars
-no_name e =
-    let named = and-parts (is_name_text []) (not (list_any (bytes_eq []) reserved)) e in
-    let short = and-parts (is_utf8 []) (nat_le (length {A = ℕ} []) 64 && is_identifier (chars [])) named.0 in
-    let letters = and-parts (nat_le (length {A = ℕ} []) 64) (is_identifier (chars [])) short.1 in
-    false≢true letters.1
-
--- a predicate with a name is defined
-defined : (o : Option DefinitionValue) → is_free_name reserved (name_in o) ≡ true → (d : DefinitionValue) × (o ≡ Some d)
-defined None e = absurd (no_name e)
-defined (Some d) e = (d, refl)
-
-abbrev trees_of : List DefinitionValue → List Definition
-trees_of ds = map (definition_tree ds) ds
-
-abbrev heads_of : List DefinitionValue → List Heading
-heads_of ds = headings (trees_of ds)
-
--- the name of a number has that place
-found_place : (most : ℕ) (ds : List DefinitionValue) → listed_flaw (definition_flaw most (heads_of ds)) definition_span 0 4 (trees_of ds) ≡ None → (p : ℕ) → is_free_name reserved (name_of ds p) ≡ true → place_of (heads_of ds) (name_of ds p) ≡ p
-found_place most ds none p free =
-    let d = defined (slice_get ds p) free in
-    let tree = definition_tree ds d.0 in
-    let there = get_map (definition_tree ds) ds p d.0 d.1 in
-    let known = get_map heading (trees_of ds) p tree there in
-    let at = flaw_at (definition_flaw most (heads_of ds)) definition_span 0 4 (trees_of ds) p tree there none in
-    let here : 0 + p ≡ p = omega arith in
-    let first = no_earlier most (heads_of ds) p at.0 tree (subst (λ n. definition_flaw most (heads_of ds) n at.0 tree ≡ None) here at.1) in
-    ap (λ o. place_of (heads_of ds) (name_in o)) d.1 ∙ place_first (heads_of ds) p (heading tree) known first
-
--- ---- terms and atoms
-
-term_known : (t : Term) → term_value (term_tree t) ≡ t
-term_known terms.Nil = refl
-term_known (terms.Univ n) = refl
-term_known (terms.Exist n) = refl
-
-terms_known : (ts : List Term) → map term_value (map term_tree ts) ≡ ts
-terms_known ts = all_known term_tree term_value term_known ts
-
-pure_known : (x : Pure) → pure_value term_value (pure_tree x) ≡ x
-pure_known (Eq t u) = λ i. Eq (term_known t i) (term_known u i)
-pure_known (Neq t u) = λ i. Neq (term_known t i) (term_known u i)
+-- ---- judgements and nodes
 
 module _ (ds : List DefinitionValue) (ts : List Heading) (placed : (p : ℕ) → is_free_name reserved (name_of ds p) ≡ true → place_of ts (name_of ds p) ≡ p) where
-  spatial_known : (b : Bool) (x : SpatialAtom) → (spatial (terms b)).fits (spatial_tree ds x) → spatial_value term_value ts (spatial_tree ds x) ≡ x
-  unfolding shared.spatial shared.predicate shared.cell
-  spatial_known b (atoms.Cell t us) f = λ i. atoms.Cell (term_known t i) (terms_known us i)
-  spatial_known b (atoms.Pred p us) f =
-      let same = placed p f.1.0 in
-      λ i. atoms.Pred (same i) (terms_known us i)
-
-  heap_known : (b : Bool) (h : SymbolicHeap) → (heap (terms b)).fits (heap_tree ds h) → heap_value term_value ts (heap_tree ds h) ≡ h
-  unfolding shared.heap
-  heap_known b h f =
-      let pure = all_known pure_tree (pure_value term_value) pure_known h.pure in
-      let spatial = each_known (spatial_tree ds) (spatial_value term_value ts) (spatial (terms b)).fits (spatial_known b) h.spatial (spatials_fit b (map (spatial_tree ds) h.spatial) f.1.1) in
-      λ i. record { pure = pure i; spatial = spatial i }
-
-  heaps_fit : (between behind : Class (Unit {0})) (hs : List Heap) → (heaps between behind).fits hs → Each (heap (terms false)).fits hs
-  unfolding shared.listed
-  heaps_fit between behind [] f = tt
-  heaps_fit between behind (h ∷ hs) f = (f.1.0, behind_fit between (heap (terms false)) hs f.1.1)
-
-  heaps_known : (between behind : Class (Unit {0})) (hs : List SymbolicHeap) → (heaps between behind).fits (map (heap_tree ds) hs) → map (heap_value term_value ts) (map (heap_tree ds) hs) ≡ hs
-  heaps_known between behind hs f =
-      each_known (heap_tree ds) (heap_value term_value ts) (heap (terms false)).fits (heap_known false) hs (heaps_fit between behind (map (heap_tree ds) hs) f)
-
-  definition_known : (d : DefinitionValue) → definition.fits (definition_tree ds d) → definition_value ts (definition_tree ds d) ≡ d
-  unfolding definition cases
-  definition_known d f =
-      let same = heaps_known bar closing_brace d.cases f.1.1.1 in
-      λ i. record { name = d.name; arity = d.arity; cases = same i }
-
   judgement_known : (j : Judgement) → judgement.fits (judgement_tree ds j) → judgement_value ts (judgement_tree ds j) ≡ j
   unfolding judgement entailment state disjuncts
   judgement_known (Entail a bs) f =
-      let left = heap_known true a f.1.1.0 in
-      let right = heaps_known or_word by_word bs f.1.1.1 in
+      let left = heap_known ds ts placed true a f.1.1.0 in
+      let right = heaps_known ds ts placed or_word by_word bs f.1.1.1 in
       λ i. Entail (left i) (right i)
   judgement_known (Halting k a) f =
-      let state = heap_known true a f.1.1 in
+      let state = heap_known ds ts placed true a f.1.1 in
       λ i. Halting k (state i)
 
   side_known : (s : Side) → side_value (side_tree s) ≡ s
@@ -212,7 +60,7 @@ module _ (ds : List DefinitionValue) (ts : List Heading) (placed : (p : ℕ) →
   reason_known (Step (rules.Weaken k)) f = refl
   reason_known (Step (rules.Unfold k)) f = refl
   reason_known (Step (rules.Cut places formula)) f =
-      let same = heap_known false formula f.1.1.1 in
+      let same = heap_known ds ts placed false formula f.1.1.1 in
       λ i. Step (rules.Cut places (same i))
   reason_known (Step rules.Done) f = refl
   reason_known (Step (rules.Choose k)) f = refl
@@ -275,10 +123,6 @@ commands_known n (c ∷ cs) e =
     λ i. first i ∷ rest i
 
 -- ---- files
-
-definitions_fit : (ds : List Definition) → definitions.fits ds → Each definition.fits ds
-unfolding definitions
-definitions_fit ds f = many_fit definition ds f
 
 -- the definitions, the program and the nodes of a file are what its tree says
 pub file_known : (f : ProofFile) → IsFileOf (tree_of f.version f.defs.list f.program f.nodes) f

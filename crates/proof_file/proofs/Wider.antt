@@ -16,7 +16,7 @@ use Rattle.cyc_lex.specs.declared.fault.What.TheVariants.{Cases, Disjuncts, Node
 use Rattle.heap_syntax.specs.declared.version.Version.{Version}
 use Rattle.heap_syntax.specs.declared.version.Version.TheVariants.{Two}
 use Rattle.heap_syntax.specs.Versions.{most_spatial}
-use Rattle.proof_syntax.specs.Trees.{Heap, Definition, Entailment, Judgement, Entails, From, Reason, Absurd, Rewrite, Split, Distinct, Weaken, Unfold, Cut, Done, Choose, PureRight, Instantiate, Frame, UnfoldRight, Exec, Drop, Link, Node, File}
+use Rattle.proof_syntax.specs.Trees.{Heap, Definition, Judgement, Entails, From, Reason, Absurd, Rewrite, Split, Distinct, Weaken, Unfold, Cut, Done, Choose, PureRight, Instantiate, Frame, UnfoldRight, Exec, Drop, Link, Node}
 use Rattle.proof_syntax.specs.Grammar.{body, file}
 use Rattle.heap_reader.specs.Trees.{Heading}
 use Rattle.heap_reader.specs.Spans.{heap_span}
@@ -26,9 +26,9 @@ use Rattle.heap_reader.proofs.Fitting.{most_fits, heap_few, heaps_few}
 use Rattle.heap_reader.proofs.Wider.{listed_wider, heap_wider, heaps_wider}
 use Rattle.proof_file.specs.declared.file.ProofFile.{ProofFile}
 use Rattle.proof_file.specs.declared.node.FileNode.{FileNode}
-use Rattle.proof_file.specs.declared.scope.Scope.TheVariants.{Node as InNode, Case as InCase}
+use Rattle.pred_reader.specs.declared.scope.Scope.TheVariants.{Outside as InNode, Case as InCase}
 use Rattle.proof_file.specs.Spans.{term_span, definition_span, judgement_span, node_span}
-use Rattle.proof_file.specs.Flaws.{headings, term_flaw, program_flaw, head_flaw, definition_flaw, entailment_flaw, judgement_flaw, reason_flaw, node_flaw, first_line, first_node, nodes_flaw, file_flaw}
+use Rattle.proof_file.specs.Flaws.{headings, term_flaw, program_flaw, head_flaw, definition_flaw, judgement_flaw, reason_flaw, node_flaw, first_line, first_node, file_flaw}
 use Rattle.proof_file.specs.Written.{spatial_tree, heap_tree, judgement_tree, node_tree, tree_of}
 use Rattle.proof_file.proofs.Fitting.{node_parts, file_parts}
 use Rattle.proof_file.proofs.ValuesAgain.{get_map, flaw_at}

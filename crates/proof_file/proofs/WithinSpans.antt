@@ -1,59 +1,35 @@
 -- A flaw stands at a token of its part.
-use Rattle.std.proofs.Common.{ℕ, ◌+◌, ◌≤◌, List, length, take, arith}
-use Rattle.std.specs.Prelude.{◌||◌, nat_eq, nat_lt, nat_le, is_some}
-use Rattle.cyc_lex.specs.declared.fault.What.TheVariants.{Arguments, Cases, Disjuncts, Nodes, Predicates, ProgramVariables, Variable, Locals}
-use Rattle.cyc_lex.specs.declared.fault.IllFault.TheVariants.{Parameter, Duplicate, NoLine}
-use Rattle.proof_syntax.specs.declared.tree.TermTree.{TermTree}
-use Rattle.proof_syntax.specs.declared.tree.TermTree.TheVariants.{Nil, Univ, Exist}
+use Rattle.std.proofs.Common.{ℕ, ◌+◌, List, length, arith}
+use Rattle.std.specs.Prelude.{◌||◌, nat_eq, nat_lt, nat_le}
+use Rattle.cyc_lex.specs.declared.fault.What.TheVariants.{Disjuncts, Nodes, ProgramVariables, Variable}
+use Rattle.cyc_lex.specs.declared.fault.IllFault.TheVariants.{NoLine}
 use Rattle.proof_syntax.specs.declared.tree.PairTree.{PairTree}
-use Rattle.proof_syntax.specs.Trees.{Heap, Definition, Entailment, Judgement, Entails, From, Reason, Absurd, Rewrite, Split, Distinct, Weaken, Unfold, Cut, Done, Choose, PureRight, Instantiate, Frame, UnfoldRight, Exec, Drop, Link, Node, File}
+use Rattle.proof_syntax.specs.Trees.{Entailment, Judgement, Entails, From, Reason, Absurd, Rewrite, Split, Distinct, Weaken, Unfold, Cut, Done, Choose, PureRight, Instantiate, Frame, UnfoldRight, Exec, Drop, Link, Node, File}
 use Rattle.heap_syntax.specs.Versions.{most_spatial}
 use Rattle.heap_reader.specs.Trees.{Heading}
 use Rattle.heap_reader.specs.Spans.{total, total_or, heap_span}
-use Rattle.heap_reader.specs.Flaws.{ill_if, over_if, or_later, listed_flaw, arity_in, heap_flaw, heaps_flaw}
-use Rattle.heap_reader.proofs.WithinSpans.{Before, first_before, over_before, ill_before, later, listed_before, listed_or_before, heap_before, heaps_before, lines_before}
-use Rattle.proof_file.specs.declared.scope.Scope.{Scope}
-use Rattle.proof_file.specs.declared.scope.Scope.TheVariants.{Node as InNode, Case as InCase}
+use Rattle.heap_reader.specs.Flaws.{ill_if, over_if, or_later, listed_flaw, heap_flaw, heaps_flaw}
+use Rattle.heap_reader.proofs.WithinSpans.{Before, first_before, over_before, ill_before, later, listed_before, listed_or_before, heaps_before, lines_before}
+use Rattle.pred_reader.specs.declared.scope.Scope.TheVariants.{Outside as InNode}
+use Rattle.pred_reader.proofs.WithinSpans.{term_before, some_span, outside_before, definition_before}
 use Rattle.proof_file.specs.Spans.{term_span, variable_span, definition_span, entailment_span, judgement_span, pair_span, reason_span, node_span}
-use Rattle.proof_file.specs.Flaws.{headings, term_flaw, variable_flaw, program_flaw, head_flaw, definition_flaw, entailment_flaw, judgement_flaw, pair_flaw, reason_flaw, node_flaw, first_line, first_node, nodes_flaw, file_flaw}
+use Rattle.proof_file.specs.Flaws.{headings, term_flaw, variable_flaw, program_flaw, definition_flaw, entailment_flaw, judgement_flaw, pair_flaw, reason_flaw, node_flaw, first_line, first_node, nodes_flaw, file_flaw}
 
--- ---- terms
-
-term_before : (scope : Scope) (k : ℕ) (t : TermTree) → Before (term_flaw scope k t) (k + term_span t)
-term_before scope k Nil = tt
-term_before InNode k (Univ n) = over_before (nat_lt 65534 n) Variable (k + 1) (k + 3) (omega arith)
-term_before InNode k (Exist n) = over_before (nat_lt 65534 n) Variable (k + 1) (k + 3) (omega arith)
-term_before (InCase arity) k (Univ n) = ill_before (nat_le arity n) Parameter (k + 1) (k + 3) (omega arith)
-term_before (InCase arity) k (Exist n) = over_before (nat_lt 15 n) Locals (k + 1) (k + 3) (omega arith)
-
-some_span : (t : TermTree) → 2 ≤ term_span t
-some_span Nil = omega arith
-some_span (Univ n) = omega arith
-some_span (Exist n) = omega arith
+-- ---- lines
 
 variable_before : (k v : ℕ) → Before (variable_flaw k v) (k + variable_span v)
 variable_before k v = over_before (nat_lt 63 v) ProgramVariables (k + 1) (k + 3) (omega arith)
 
--- ---- definitions and nodes
-
-node_heap_before : (most : ℕ) (hs : List Heading) (k : ℕ) (h : Heap) → Before (heap_flaw (term_flaw InNode) term_span most hs k h) (k + heap_span term_span h)
-node_heap_before most hs k h = heap_before (term_flaw InNode) term_span some_span (term_before InNode) most hs k h
+-- ---- nodes
 
 module _ (most : ℕ) (hs : List Heading) where
-  definition_before : (n k : ℕ) (d : Definition) → Before (definition_flaw most hs n k d) (k + definition_span d)
-  definition_before n k d =
-      let m = k + definition_span d in
-      let taken = is_some (arity_in (take n hs) d.name) in
-      let cases = heaps_flaw (term_flaw (InCase d.arity)) term_span most hs Cases (k + 6) d.cases in
-      first_before (head_flaw hs n k d) cases m (first_before (over_if (nat_le 4096 n) Predicates k) (or_later (ill_if taken Duplicate (k + 1)) (over_if (nat_lt 8 d.arity) Arguments (k + 3))) m (over_before (nat_le 4096 n) Predicates k m (omega arith)) (first_before (ill_if taken Duplicate (k + 1)) (over_if (nat_lt 8 d.arity) Arguments (k + 3)) m (ill_before taken Duplicate (k + 1) m (omega arith)) (over_before (nat_lt 8 d.arity) Arguments (k + 3) m (omega arith)))) (later cases (k + 6 + total (heap_span term_span) d.cases) m (omega arith) (heaps_before (term_flaw (InCase d.arity)) term_span some_span (term_before (InCase d.arity)) most hs Cases (k + 6) d.cases))
-
   entailment_before : (k : ℕ) (e : Entailment) → Before (entailment_flaw most hs k e) (k + entailment_span e)
   entailment_before k e =
       let m = k + entailment_span e in
       let p = k + heap_span term_span e.antecedent in
       let left = heap_flaw (term_flaw InNode) term_span most hs k e.antecedent in
       let right = heaps_flaw (term_flaw InNode) term_span most hs Disjuncts p e.disjuncts in
-      first_before left right m (later left p m (omega arith) (node_heap_before most hs k e.antecedent)) (later right (p + total (heap_span term_span) e.disjuncts) m (omega arith) (heaps_before (term_flaw InNode) term_span some_span (term_before InNode) most hs Disjuncts p e.disjuncts))
+      first_before left right m (later left p m (omega arith) (outside_before most hs k e.antecedent)) (later right (p + total (heap_span term_span) e.disjuncts) m (omega arith) (heaps_before (term_flaw InNode) term_span some_span (term_before InNode) most hs Disjuncts p e.disjuncts))
 
   judgement_before : (count k : ℕ) (j : Judgement) → Before (judgement_flaw most hs count k j) (k + judgement_span j)
   judgement_before count k (Entails e) = entailment_before k e
@@ -61,7 +37,7 @@ module _ (most : ℕ) (hs : List Heading) where
       let m = k + judgement_span (From n h) in
       let out = nat_eq n 0 || nat_lt count n in
       let state = heap_flaw (term_flaw InNode) term_span most hs (k + 3) h in
-      first_before (ill_if out NoLine (k + 1)) state m (ill_before out NoLine (k + 1) m (omega arith)) (later state (k + 3 + heap_span term_span h) m (omega arith) (node_heap_before most hs (k + 3) h))
+      first_before (ill_if out NoLine (k + 1)) state m (ill_before out NoLine (k + 1) m (omega arith)) (later state (k + 3 + heap_span term_span h) m (omega arith) (outside_before most hs (k + 3) h))
 
   pair_before : (k : ℕ) (p : PairTree) → Before (pair_flaw k p) (k + pair_span p)
   pair_before k p =
@@ -75,7 +51,7 @@ module _ (most : ℕ) (hs : List Heading) where
       let m = k + reason_span (Split t u) in
       first_before (term_flaw InNode (k + 1) t) (term_flaw InNode (k + term_span t) u) m (later (term_flaw InNode (k + 1) t) (k + 1 + term_span t) m (omega arith) (term_before InNode (k + 1) t)) (later (term_flaw InNode (k + term_span t) u) (k + term_span t + term_span u) m (omega arith) (term_before InNode (k + term_span t) u))
   reason_before k (Cut places formula) =
-      later (heap_flaw (term_flaw InNode) term_span most hs (k + 3 + length places) formula) (k + 3 + length places + heap_span term_span formula) (k + reason_span (Cut places formula)) (omega arith) (node_heap_before most hs (k + 3 + length places) formula)
+      later (heap_flaw (term_flaw InNode) term_span most hs (k + 3 + length places) formula) (k + 3 + length places + heap_span term_span formula) (k + reason_span (Cut places formula)) (omega arith) (outside_before most hs (k + 3 + length places) formula)
   reason_before k (Instantiate v t) =
       let m = k + reason_span (Instantiate v t) in
       first_before (over_if (nat_lt 65534 v) Variable (k + 2)) (term_flaw InNode (k + 3) t) m (over_before (nat_lt 65534 v) Variable (k + 2) m (omega arith)) (later (term_flaw InNode (k + 3) t) (k + 3 + term_span t) m (omega arith) (term_before InNode (k + 3) t))

@@ -1,38 +1,19 @@
 -- The first flaw of a file that the grammar has: what is ill-formed or passes a limit, and at which token.
-use Rattle.std.specs.Prelude.{ℕ, ◌+◌, ◌||◌, nat_eq, nat_lt, nat_le, is_some, List, length, map, take, None}
-use Rattle.cyc_lex.specs.declared.fault.IllFault.TheVariants.{Duplicate, Parameter, NoLine}
-use Rattle.cyc_lex.specs.declared.fault.What.TheVariants.{Predicates, Arguments, Cases, Locals, Disjuncts, ProgramVariables, Nodes, Variable}
+use Rattle.std.specs.Prelude.{ℕ, ◌+◌, ◌||◌, nat_eq, nat_lt, nat_le, List, length, None}
+use Rattle.cyc_lex.specs.declared.fault.IllFault.TheVariants.{NoLine}
+use Rattle.cyc_lex.specs.declared.fault.What.TheVariants.{Disjuncts, ProgramVariables, Nodes, Variable}
 use Rattle.heap_syntax.specs.Versions.{most_spatial}
 use Rattle.heap_reader.specs.Trees.{Heading}
 use Rattle.heap_reader.specs.Spans.{total, heap_span, line_span}
-use Rattle.heap_reader.specs.Flaws.{Found, ill_if, over_if, or_later, listed_flaw, arity_in, heap_flaw, heaps_flaw}
+use Rattle.heap_reader.specs.Flaws.{Found, ill_if, over_if, or_later, listed_flaw, heap_flaw, heaps_flaw}
 use Rattle.heap_reader.specs.LineFlaws.{lines_flaw}
-use Rattle.proof_syntax.specs.declared.tree.TermTree.{TermTree}
-use Rattle.proof_syntax.specs.declared.tree.TermTree.TheVariants.{Nil, Univ, Exist}
 use Rattle.proof_syntax.specs.declared.tree.PairTree.{PairTree}
-use Rattle.proof_syntax.specs.Trees.{Heap, Line, Definition, Entailment, Judgement, Entails, From, Reason, Absurd, Rewrite, Split, Distinct, Weaken, Unfold, Cut, Done, Choose, PureRight, Instantiate, Frame, UnfoldRight, Exec, Drop, Link, Node, File}
-use Rattle.proof_file.specs.declared.scope.Scope.{Scope}
-use Rattle.proof_file.specs.declared.scope.Scope.TheVariants.{Node as InNode, Case as InCase}
+use Rattle.proof_syntax.specs.Trees.{Heap, Line, Entailment, Judgement, Entails, From, Reason, Absurd, Rewrite, Split, Distinct, Weaken, Unfold, Cut, Done, Choose, PureRight, Instantiate, Frame, UnfoldRight, Exec, Drop, Link, Node, File}
+use Rattle.pred_reader.specs.declared.scope.Scope.TheVariants.{Outside as InNode}
+pub use Rattle.pred_reader.specs.Flaws.{heading, headings, term_flaw, head_flaw, definition_flaw}
 use Rattle.proof_file.specs.Spans.{term_span, variable_span, definition_span, judgement_span, pair_span, node_span}
 
--- what a use of the predicate is compared with
-abbrev pub heading : Definition → Heading
-heading d = record { name = d.name; arity = d.arity }
-
-abbrev pub headings : List Definition → List Heading
-headings ds = map heading ds
-
--- ---- terms; each part begins at token k, and n members stand before it
-
--- outside cases a number is at most 65,534; in a case $n is a parameter and ?n one of sixteen locals
-abbrev pub term_flaw : Scope → ℕ → TermTree → Found
-term_flaw scope k Nil = None
-term_flaw InNode k (Univ n) = over_if (nat_lt 65534 n) Variable (k + 1)
-term_flaw InNode k (Exist n) = over_if (nat_lt 65534 n) Variable (k + 1)
-term_flaw (InCase arity) k (Univ n) = ill_if (nat_le arity n) Parameter (k + 1)
-term_flaw (InCase arity) k (Exist n) = over_if (nat_lt 15 n) Locals (k + 1)
-
--- ---- lines
+-- ---- lines; each part begins at token k, and n members stand before it
 
 -- a program variable is one of 64
 abbrev pub variable_flaw : ℕ → ℕ → Found
@@ -41,19 +22,7 @@ variable_flaw k n = over_if (nat_lt 63 n) ProgramVariables (k + 1)
 abbrev pub program_flaw : ℕ → List Line → Found
 program_flaw k ls = lines_flaw variable_flaw variable_span k ls
 
--- ---- definitions; a heap has at most so many spatial atoms, by the file's version
-
--- the name, which no definition before has, and the arity
-abbrev pub head_flaw : List Heading → ℕ → ℕ → Definition → Found
-head_flaw hs n k d =
-    or_later (over_if (nat_le 4096 n) Predicates k) (or_later (ill_if (is_some (arity_in (take n hs) d.name)) Duplicate (k + 1)) (over_if (nat_lt 8 d.arity) Arguments (k + 3)))
-
--- at most 4,096, no two with one name
-abbrev pub definition_flaw : ℕ → List Heading → ℕ → ℕ → Definition → Found
-definition_flaw most hs n k d =
-    or_later (head_flaw hs n k d) (heaps_flaw (term_flaw (InCase d.arity)) term_span most hs Cases (k + 6) d.cases)
-
--- ---- nodes of a file that has so many lines
+-- ---- nodes of a file that has so many lines; a heap has at most so many spatial atoms, by the file's version
 
 abbrev pub entailment_flaw : ℕ → List Heading → ℕ → Entailment → Found
 entailment_flaw most hs k e =

@@ -3,7 +3,8 @@ use Rattle.std.specs.Prelude.{◌<◌, ◌≤◌, length}
 use Rattle.heap_formula.specs.Words.{Each}
 use Rattle.heap_reader.specs.Small.{IsSmall, IsSmallHeap}
 use Rattle.proof_syntax.specs.declared.tree.PairTree.{PairTree}
-use Rattle.proof_syntax.specs.Trees.{Definition, Entailment, Judgement, Entails, From, Reason, Absurd, Rewrite, Split, Distinct, Weaken, Unfold, Cut, Done, Choose, PureRight, Instantiate, Frame, UnfoldRight, Exec, Drop, Link, Node, File}
+use Rattle.proof_syntax.specs.Trees.{Entailment, Judgement, Entails, From, Reason, Absurd, Rewrite, Split, Distinct, Weaken, Unfold, Cut, Done, Choose, PureRight, Instantiate, Frame, UnfoldRight, Exec, Drop, Link, Node, File}
+pub use Rattle.pred_reader.specs.Small.{IsSmallDefinition}
 use Rattle.proof_file.specs.Values.{term_value}
 
 pub record IsSmallEntailment (e : Entailment) : Type 0 where
@@ -39,10 +40,6 @@ IsSmallReason (Drop k) = Unit {0}
 
 abbrev pub IsSmallNode : Node → Type 0
 IsSmallNode n = IsSmallJudgement n.judgement × IsSmallReason n.reason
-
-pub record IsSmallDefinition (d : Definition) : Type 0 where
-  pub cases : Each (IsSmallHeap term_value) d.cases
-  pub few : length d.cases ≤ 16
 
 pub record IsSmallFile (f : File) : Type 0 where
   pub definitions : Each IsSmallDefinition f.definitions

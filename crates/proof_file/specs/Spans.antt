@@ -1,23 +1,13 @@
 -- How many tokens the parts of a file have, the one token behind a part counted in.
 use Rattle.std.specs.Prelude.{ℕ, ◌+◌, List, [], ◌∷◌, length}
 use Rattle.heap_reader.specs.Spans.{total, total_or, heap_span}
-use Rattle.proof_syntax.specs.declared.tree.TermTree.{TermTree}
-use Rattle.proof_syntax.specs.declared.tree.TermTree.TheVariants.{Nil, Univ, Exist}
+pub use Rattle.pred_reader.specs.Spans.{term_span, definition_span}
 use Rattle.proof_syntax.specs.declared.tree.PairTree.{PairTree}
-use Rattle.proof_syntax.specs.Trees.{Definition, Entailment, Judgement, Entails, From, LinkData, Reason, Absurd, Rewrite, Split, Distinct, Weaken, Unfold, Cut, Done, Choose, PureRight, Instantiate, Frame, UnfoldRight, Exec, Drop, Link, Node}
-
-abbrev pub term_span : TermTree → ℕ
-term_span Nil = 2
-term_span (Univ n) = 3
-term_span (Exist n) = 3
+use Rattle.proof_syntax.specs.Trees.{Entailment, Judgement, Entails, From, LinkData, Reason, Absurd, Rewrite, Split, Distinct, Weaken, Unfold, Cut, Done, Choose, PureRight, Instantiate, Frame, UnfoldRight, Exec, Drop, Link, Node}
 
 -- a program variable: "$" and its number
 abbrev pub variable_span : ℕ → ℕ
 variable_span n = 3
-
--- "pred", the name, "(", the arity, ")", "{", the cases, and ";"; nothing behind it
-abbrev pub definition_span : Definition → ℕ
-definition_span d = 6 + total (heap_span term_span) d.cases + 1
 
 -- the turnstile stands behind the antecedent, and "by" behind the last disjunct
 abbrev pub entailment_span : Entailment → ℕ

@@ -1,7 +1,6 @@
 -- What a file's tree says: predicates by their numbers in place of their names.
 use Rattle.std.specs.Prelude.{ℕ, List, map}
 use Rattle.heap_formula.specs.declared.terms.Term.{Term}
-use Rattle.heap_formula.specs.declared.terms.Term.TheVariants as terms
 use Rattle.heap_formula.specs.declared.judgements.Judgement.{Judgement}
 use Rattle.heap_formula.specs.declared.judgements.Judgement.TheVariants.{Term as Halting}
 use Rattle.heap_formula.specs.declared.proof_rules.Side.{Side}
@@ -12,25 +11,14 @@ use Rattle.heap_formula.specs.declared.proof_rules.Reason.{Reason as ReasonValue
 use Rattle.heap_formula.specs.declared.proof_rules.Reason.TheVariants.{Step, Back}
 use Rattle.heap_formula.specs.declared.commands.Command.{Command}
 use Rattle.goto_lang.specs.Lines.{commands_of}
-use Rattle.heap_formula.specs.Definitions.{Definition as DefinitionValue}
 use Rattle.heap_reader.specs.Trees.{Heading}
-use Rattle.heap_reader.specs.Values as values
+pub use Rattle.pred_reader.specs.Values.{term_value, definition_value}
 use Rattle.heap_reader.specs.Values.{heap_value, entailment_value, line_value}
-use Rattle.proof_syntax.specs.declared.tree.TermTree.{TermTree}
-use Rattle.proof_syntax.specs.declared.tree.TermTree.TheVariants.{Nil, Univ, Exist}
 use Rattle.proof_syntax.specs.declared.tree.SideTree.{SideTree}
 use Rattle.proof_syntax.specs.declared.tree.SideTree.TheVariants.{Left, Right}
 use Rattle.proof_syntax.specs.declared.tree.PairTree.{PairTree}
-use Rattle.proof_syntax.specs.Trees.{Line, Definition, Judgement as JudgementTree, Entails, From, LinkData, Reason, Absurd, Rewrite, Split, Distinct, Weaken, Unfold, Cut, Done, Choose, PureRight, Instantiate, Frame, UnfoldRight, Exec, Drop, Link, Node}
+use Rattle.proof_syntax.specs.Trees.{Line, Judgement as JudgementTree, Entails, From, LinkData, Reason, Absurd, Rewrite, Split, Distinct, Weaken, Unfold, Cut, Done, Choose, PureRight, Instantiate, Frame, UnfoldRight, Exec, Drop, Link, Node}
 use Rattle.proof_file.specs.declared.node.FileNode.{FileNode}
-
-abbrev pub term_value : TermTree → Term
-term_value Nil = terms.Nil
-term_value (Univ n) = terms.Univ n
-term_value (Exist n) = terms.Exist n
-
-abbrev pub definition_value : List Heading → Definition → DefinitionValue
-definition_value hs d = values.definition_value term_value hs d.name d.arity d.cases
 
 -- a program variable is its number
 abbrev pub variable_value : ℕ → ℕ

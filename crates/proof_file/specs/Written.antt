@@ -1,11 +1,7 @@
 -- What is written of a file: its values as trees, predicates by their names in place of their numbers.
-use Rattle.std.specs.Prelude.{ℕ, ◌+◌, true, false, List, [], ◌∷◌, map, Option, Some, None, slice_get}
+use Rattle.std.specs.Prelude.{ℕ, ◌+◌, true, false, List, [], ◌∷◌, map}
 use Rattle.heap_formula.specs.declared.terms.Term.{Term}
 use Rattle.heap_formula.specs.declared.terms.Term.TheVariants as terms
-use Rattle.heap_formula.specs.declared.atoms.Pure.{Pure}
-use Rattle.heap_formula.specs.declared.atoms.Pure.TheVariants.{Eq, Neq}
-use Rattle.heap_formula.specs.declared.atoms.Spatial.{Spatial as SpatialAtom}
-use Rattle.heap_formula.specs.declared.atoms.Spatial.TheVariants as atoms
 use Rattle.heap_formula.specs.declared.commands.Command.{Command}
 use Rattle.heap_formula.specs.declared.commands.Command.TheVariants as commands
 use Rattle.heap_formula.specs.declared.judgements.Judgement.{Judgement}
@@ -18,31 +14,20 @@ use Rattle.heap_formula.specs.declared.proof_rules.Link.{Link as LinkValue}
 use Rattle.heap_formula.specs.declared.proof_rules.Reason.{Reason as ReasonValue}
 use Rattle.heap_formula.specs.declared.proof_rules.Reason.TheVariants.{Step, Back}
 use Rattle.heap_formula.specs.Definitions.{Definition as DefinitionValue}
-use Rattle.heap_formula.specs.Symbolic.{SymbolicHeap}
 use Rattle.cyc_lex.specs.Spacing.{text_of}
 use Rattle.heap_syntax.specs.declared.version.Version.{Version}
+pub use Rattle.pred_reader.specs.Written.{term_tree, pure_tree, name_in, name_of, spatial_tree, heap_tree, definition_tree}
 use Rattle.command_syntax.specs.declared.tree.OperandTree.{OperandTree}
 use Rattle.command_syntax.specs.declared.tree.OperandTree.TheVariants as operands
 use Rattle.command_syntax.specs.declared.tree.ChangeTree.TheVariants as changes
 use Rattle.command_syntax.specs.declared.tree.CommandTree.{CommandTree}
 use Rattle.command_syntax.specs.declared.tree.CommandTree.TheVariants.{Stop, Goto, Free, If, StoreAtNil, Change}
-use Rattle.proof_syntax.specs.declared.tree.TermTree.{TermTree}
-use Rattle.proof_syntax.specs.declared.tree.TermTree.TheVariants.{Nil, Univ, Exist}
 use Rattle.proof_syntax.specs.declared.tree.SideTree.{SideTree}
 use Rattle.proof_syntax.specs.declared.tree.SideTree.TheVariants.{Left, Right}
 use Rattle.proof_syntax.specs.declared.tree.PairTree.{PairTree}
-use Rattle.proof_syntax.specs.Trees.{PureTree, Spatial, Cell, Predicate, Heap, Line, Definition, Judgement as JudgementTree, Entails, From, LinkData, Reason, Absurd, Rewrite, Split, Distinct, Weaken, Unfold, Cut, Done, Choose, PureRight, Instantiate, Frame, UnfoldRight, Exec, Drop, Link, Node, File}
+use Rattle.proof_syntax.specs.Trees.{Line, Judgement as JudgementTree, Entails, From, LinkData, Reason, Absurd, Rewrite, Split, Distinct, Weaken, Unfold, Cut, Done, Choose, PureRight, Instantiate, Frame, UnfoldRight, Exec, Drop, Link, Node, File}
 use Rattle.proof_syntax.specs.Grammar.{body}
 use Rattle.proof_file.specs.declared.node.FileNode.{FileNode}
-
-abbrev pub term_tree : Term → TermTree
-term_tree terms.Nil = Nil
-term_tree (terms.Univ n) = Univ n
-term_tree (terms.Exist n) = Exist n
-
-abbrev pub pure_tree : Pure → PureTree
-pure_tree (Eq t u) = record { left = term_tree t; is_equation = true; right = term_tree u }
-pure_tree (Neq t u) = record { left = term_tree t; is_equation = false; right = term_tree u }
 
 -- ---- lines
 
@@ -76,25 +61,7 @@ lines_behind n (c ∷ cs) = record { number = n + 1; command = command_tree c } 
 abbrev pub lines_tree : List Command → List Line
 lines_tree cs = lines_behind 0 cs
 
--- ---- definitions and nodes
-
-abbrev pub name_in : Option DefinitionValue → List ℕ
-name_in (Some d) = d.name
-name_in None = []
-
--- the name of the predicate with this number, empty where there is none
-abbrev pub name_of : List DefinitionValue → ℕ → List ℕ
-name_of ds p = name_in (slice_get ds p)
-
-abbrev pub spatial_tree : List DefinitionValue → SpatialAtom → Spatial
-spatial_tree ds (atoms.Cell t ts) = Cell (term_tree t) (map term_tree ts)
-spatial_tree ds (atoms.Pred p ts) = Predicate (name_of ds p) (map term_tree ts)
-
-abbrev pub heap_tree : List DefinitionValue → SymbolicHeap → Heap
-heap_tree ds h = record { pure = map pure_tree h.pure; spatial = map (spatial_tree ds) h.spatial }
-
-abbrev pub definition_tree : List DefinitionValue → DefinitionValue → Definition
-definition_tree ds d = record { name = d.name; arity = d.arity; cases = map (heap_tree ds) d.cases }
+-- ---- nodes
 
 abbrev pub judgement_tree : List DefinitionValue → Judgement → JudgementTree
 judgement_tree ds (Entail a bs) = Entails (record { antecedent = heap_tree ds a; disjuncts = map (heap_tree ds) bs })

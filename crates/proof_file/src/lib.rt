@@ -2,7 +2,6 @@
 #![tactic(auto)]
 
 mod file;
-mod head_list;
 mod line_trees;
 mod node;
 mod reading;

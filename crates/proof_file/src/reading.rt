@@ -7,15 +7,15 @@ ghost use Rattle.proof_file.specs.Flaws.{headings, file_flaw as first_flaw};
 ghost use Rattle.proof_file.specs.Reading.{IsFileOf, ReadsFrom, Reads};
 
 use crate::file::ProofFile;
-use crate::head_list::heads;
 use crate::node::FileNodes;
 use crate::scope::ProgramVariables;
-use crate::values::{definitions, nodes};
+use crate::values::nodes;
 use crate::walk::file_flaw;
 use cyc_lex::{LexFault, ReadFault, Tokens, tokens};
 use cyc_memory::OutOfMemory;
 use heap_reader::{Heads, flaw_fault, program};
 use pred_defs::Defs;
+use pred_reader::{definition_values, heads};
 use proof_syntax::{FileTree, read_tree};
 use std::alloc::Global;
 
@@ -30,7 +30,7 @@ fn file_of_tree(
     requires right { first_flaw (file_of tree.now) ≡ None }
     ensures { IfOk result (IsFileOf (file_of tree.now)) }
 {
-    let definitions = definitions(alloc, heads, &tree.definitions)?;
+    let definitions = definition_values(alloc, heads, &tree.definitions)?;
     let defs = Defs::from_vec(alloc, tree.version.most_spatial(), definitions);
     let program = program(alloc, &ProgramVariables, &tree.lines)?;
     let nodes = FileNodes::from_vec(nodes(alloc, heads, &tree.nodes)?);

@@ -1,152 +1,18 @@
 // Files as trees, with the names of predicates borrowed from the definitions.
 ghost use Rattle.std.specs.Prelude.{◌≡◌, map, IfOk};
-ghost use Rattle.proof_syntax.specs.Trees.{spatial_of, heap_of, definition_of, judgement_of, link_of, reason_of, node_of, file_of};
-ghost use Rattle.proof_file.specs.Written.{term_tree, pure_tree, name_of as name_of_predicate, spatial_tree, heap_tree, definition_tree, judgement_tree, side_tree, pair_tree, link_tree, rule_tree, reason_tree, node_tree, tree_of};
+ghost use Rattle.proof_syntax.specs.Trees.{judgement_of, link_of, reason_of, node_of, file_of};
+ghost use Rattle.proof_file.specs.Written.{judgement_tree, side_tree, pair_tree, link_tree, rule_tree, reason_tree, node_tree, tree_of};
 
 use crate::file::ProofFile;
 use crate::line_trees::lines;
 use crate::node::FileNode;
 use cyc_memory::OutOfMemory;
-use heap_formula::{Def, Heap, Judgement, Link, Pure, Reason, Rule, Side, Spatial, Term};
+use heap_formula::{Def, Judgement, Link, Reason, Rule, Side, Term};
+use pred_reader::{definition_trees, heap_tree, heap_trees, term_tree};
 use proof_syntax::{
-    DefinitionTree, EntailmentTree, FileTree, HeapTree, JudgementTree, LinkTree, NodeTree,
-    PairTree, PureTree, ReasonTree, SideTree, SpatialTree, TermTree,
+    EntailmentTree, FileTree, JudgementTree, LinkTree, NodeTree, PairTree, ReasonTree, SideTree,
 };
 use std::alloc::Global;
-
-fn term(value: Term) -> TermTree
-    ensures { result ≡ term_tree value }
-{
-    match value {
-        Term::Nil => TermTree::Nil,
-        Term::Univ(n) => TermTree::Univ(u32::from(n)),
-        Term::Exist(n) => TermTree::Exist(u32::from(n)),
-    }
-}
-
-fn terms(alloc: Global, values: &[Term]) -> Result<Vec<TermTree>, OutOfMemory>
-    ensures { IfOk result (λ v. v.items ≡ map term_tree values.now) }
-{
-    let mut trees = Vec::with_capacity(alloc, values.len())?;
-    for value in values {
-        trees.push(term(*value))?;
-    }
-    Ok(trees)
-}
-
-fn pure_atom(value: Pure) -> PureTree
-    ensures { result ≡ pure_tree value }
-{
-    let (left, is_equation, right) = match value {
-        Pure::Eq(left, right) => (left, true, right),
-        Pure::Neq(left, right) => (left, false, right),
-    };
-    PureTree {
-        left: term(left),
-        is_equation,
-        right: term(right),
-    }
-}
-
-fn pure_atoms(alloc: Global, values: &[Pure]) -> Result<Vec<PureTree>, OutOfMemory>
-    ensures { IfOk result (λ v. v.items ≡ map pure_tree values.now) }
-{
-    let mut trees = Vec::with_capacity(alloc, values.len())?;
-    for value in values {
-        trees.push(pure_atom(*value))?;
-    }
-    Ok(trees)
-}
-
-/// The name of the predicate with this number, empty where there is none.
-fn name_of(defs: &[Def], pred: u16) -> &str
-    ensures { result.now ≡ name_of_predicate defs.now pred }
-{
-    match defs.get(pred as usize) {
-        Some(def) => def.name.as_text(),
-        None => "",
-    }
-}
-
-fn spatial_atom<'a>(
-    alloc: Global,
-    defs: &'a [Def],
-    value: &Spatial,
-) -> Result<SpatialTree<'a>, OutOfMemory>
-    ensures { IfOk result (λ t. spatial_of t ≡ spatial_tree defs.now value.now) }
-{
-    match value {
-        Spatial::Cell(address, fields) => {
-            let fields = terms(alloc, fields.as_slice())?;
-            Ok(SpatialTree::Cell(term(*address), fields))
-        }
-        Spatial::Pred(pred, args) => {
-            let args = terms(alloc, args.as_slice())?;
-            Ok(SpatialTree::Predicate(name_of(defs, *pred), args))
-        }
-    }
-}
-
-fn spatial_atoms<'a>(
-    alloc: Global,
-    defs: &'a [Def],
-    values: &[Spatial],
-) -> Result<Vec<SpatialTree<'a>>, OutOfMemory>
-    ensures { IfOk result (λ v. map spatial_of v.items ≡ map (spatial_tree defs.now) values.now) }
-{
-    let mut trees = Vec::with_capacity(alloc, values.len())?;
-    for value in values {
-        trees.push(spatial_atom(alloc, defs, value)?)?;
-    }
-    Ok(trees)
-}
-
-fn heap<'a>(alloc: Global, defs: &'a [Def], value: &Heap) -> Result<HeapTree<'a>, OutOfMemory>
-    ensures { IfOk result (λ h. heap_of h ≡ heap_tree defs.now value.now) }
-{
-    let pure = pure_atoms(alloc, value.pure())?;
-    let spatial = spatial_atoms(alloc, defs, value.spatial())?;
-    Ok(HeapTree { pure, spatial })
-}
-
-fn heaps<'a>(
-    alloc: Global,
-    defs: &'a [Def],
-    values: &[Heap],
-) -> Result<Vec<HeapTree<'a>>, OutOfMemory>
-    ensures { IfOk result (λ v. map heap_of v.items ≡ map (heap_tree defs.now) values.now) }
-{
-    let mut trees = Vec::with_capacity(alloc, values.len())?;
-    for value in values {
-        trees.push(heap(alloc, defs, value)?)?;
-    }
-    Ok(trees)
-}
-
-fn definition<'a>(
-    alloc: Global,
-    defs: &'a [Def],
-    value: &'a Def,
-) -> Result<DefinitionTree<'a>, OutOfMemory>
-    ensures { IfOk result (λ d. definition_of d ≡ definition_tree defs.now value.now) }
-{
-    let cases = heaps(alloc, defs, value.cases.heaps())?;
-    Ok(DefinitionTree {
-        name: value.name.as_text(),
-        arity: value.arity,
-        cases,
-    })
-}
-
-fn definitions<'a>(alloc: Global, defs: &'a [Def]) -> Result<Vec<DefinitionTree<'a>>, OutOfMemory>
-    ensures { IfOk result (λ v. map definition_of v.items ≡ map (definition_tree defs.now) defs.now) }
-{
-    let mut trees = Vec::with_capacity(alloc, defs.len())?;
-    for value in defs {
-        trees.push(definition(alloc, defs, value)?)?;
-    }
-    Ok(trees)
-}
 
 fn judgement<'a>(
     alloc: Global,
@@ -157,15 +23,15 @@ fn judgement<'a>(
 {
     match value {
         Judgement::Entail(left, right) => {
-            let antecedent = heap(alloc, defs, left)?;
-            let disjuncts = heaps(alloc, defs, right.heaps())?;
+            let antecedent = heap_tree(alloc, defs, left)?;
+            let disjuncts = heap_trees(alloc, defs, right.heaps())?;
             Ok(JudgementTree::Entailment(EntailmentTree {
                 antecedent,
                 disjuncts,
             }))
         }
         Judgement::Term(line, state) => {
-            Ok(JudgementTree::From(*line, heap(alloc, defs, state)?))
+            Ok(JudgementTree::From(*line, heap_tree(alloc, defs, state)?))
         }
     }
 }
@@ -186,7 +52,7 @@ fn pairs(alloc: Global, values: &[(u16, Term)]) -> Result<Vec<PairTree>, OutOfMe
     for (variable, value) in values {
         trees.push(PairTree {
             variable: u32::from(*variable),
-            value: term(*value),
+            value: term_tree(*value),
         })?;
     }
     Ok(trees)
@@ -212,18 +78,18 @@ fn rule<'a>(alloc: Global, defs: &'a [Def], value: &Rule) -> Result<ReasonTree<'
     Ok(match value {
         Rule::Absurd => ReasonTree::Absurd,
         Rule::Rewrite(k, named) => ReasonTree::Rewrite(*k, side(*named)),
-        Rule::Split(left, right) => ReasonTree::Split(term(*left), term(*right)),
+        Rule::Split(left, right) => ReasonTree::Split(term_tree(*left), term_tree(*right)),
         Rule::Distinct(i, j) => ReasonTree::Distinct(*i, *j),
         Rule::Weaken(k) => ReasonTree::Weaken(*k),
         Rule::Unfold(k) => ReasonTree::Unfold(*k),
         Rule::Cut(places, formula) => {
             let places = Vec::from_slice(alloc, places.as_slice())?;
-            ReasonTree::Cut(places, heap(alloc, defs, formula)?)
+            ReasonTree::Cut(places, heap_tree(alloc, defs, formula)?)
         }
         Rule::Done => ReasonTree::Done,
         Rule::Choose(j) => ReasonTree::Choose(*j),
         Rule::PureRight(k) => ReasonTree::PureRight(*k),
-        Rule::Instantiate(v, value) => ReasonTree::Instantiate(u32::from(*v), term(*value)),
+        Rule::Instantiate(v, value) => ReasonTree::Instantiate(u32::from(*v), term_tree(*value)),
         Rule::Frame(i, j) => ReasonTree::Frame(*i, *j),
         Rule::UnfoldRight(j, c) => ReasonTree::UnfoldRight(*j, *c),
         Rule::Exec => ReasonTree::Exec,
@@ -272,7 +138,7 @@ pub fn file_tree<'a>(alloc: Global, file: &'a ProofFile) -> Result<FileTree<'a>,
     ensures { IfOk result (λ t. file_of t ≡ tree_of file.now.version file.now.defs.list file.now.program file.now.nodes) }
 {
     let defs = file.defs.as_slice();
-    let definitions = definitions(alloc, defs)?;
+    let definitions = definition_trees(alloc, defs)?;
     let lines = lines(alloc, &file.program)?;
     let nodes = nodes(alloc, defs, file.nodes.as_slice())?;
     Ok(FileTree {

@@ -1,50 +1,17 @@
 // Values of trees that fit them.
 ghost use Rattle.std.specs.Prelude.{◌≡◌, ◌<◌, ◌≤◌, length, map, IfOk};
 ghost use Rattle.heap_formula.specs.Words.{Each};
-ghost use Rattle.proof_syntax.specs.Trees.{definition_of, judgement_of, link_of, reason_of, node_of};
-ghost use Rattle.proof_file.specs.Small.{IsSmallJudgement, IsSmallPair, IsSmallReason, IsSmallNode, IsSmallDefinition};
-ghost use Rattle.proof_file.specs.Values.{definition_value as value_of_definition, judgement_value, side_value, pair_value, link_value, reason_value, node_value};
+ghost use Rattle.proof_syntax.specs.Trees.{judgement_of, link_of, reason_of, node_of};
+ghost use Rattle.proof_file.specs.Small.{IsSmallJudgement, IsSmallPair, IsSmallReason, IsSmallNode};
+ghost use Rattle.proof_file.specs.Values.{judgement_value, side_value, pair_value, link_value, reason_value, node_value};
 
 use crate::node::FileNode;
-use crate::scope::Scope;
 use cyc_memory::OutOfMemory;
-use heap_formula::{Def, Judgement, Link, Positions, Reason, Rule, Side, Subst};
-use heap_reader::{Heads, TermReader, definition_value, entailment_value, heap_value};
-use proof_syntax::{
-    DefinitionTree, JudgementTree, LinkTree, NodeTree, PairTree, ReasonTree, SideTree,
-};
+use heap_formula::{Judgement, Link, Positions, Reason, Rule, Side, Subst};
+use heap_reader::{Heads, TermReader, entailment_value, heap_value};
+use pred_reader::Scope;
+use proof_syntax::{JudgementTree, LinkTree, NodeTree, PairTree, ReasonTree, SideTree};
 use std::alloc::Global;
-
-fn definition(
-    alloc: Global,
-    heads: &Heads<'_>,
-    tree: &DefinitionTree<'_>,
-) -> Result<Def, OutOfMemory>
-    requires small { IsSmallDefinition (definition_of tree.now) }
-    requires few { length heads.now ≤ 4096 }
-    ensures { IfOk result (λ d. d ≡ value_of_definition heads.now (definition_of tree.now)) }
-{
-    let scope = Scope::Case(tree.arity);
-    definition_value(alloc, heads, &scope, tree.name, tree.arity, &tree.cases)
-}
-
-/// The definitions of a file.
-pub fn definitions(
-    alloc: Global,
-    heads: &Heads<'_>,
-    trees: &[DefinitionTree<'_>],
-) -> Result<Vec<Def>, OutOfMemory>
-    requires small { Each IsSmallDefinition (map definition_of trees.now) }
-    requires few { length heads.now ≤ 4096 }
-    ensures value { IfOk result (λ v. v.items ≡ map (value_of_definition heads.now) (map definition_of trees.now)) }
-    ensures size { IfOk result (λ v. length v.items ≡ length trees.now) }
-{
-    let mut made = Vec::with_capacity(alloc, trees.len())?;
-    for tree in trees {
-        made.push(definition(alloc, heads, tree)?)?;
-    }
-    Ok(made)
-}
 
 fn judgement(
     alloc: Global,
@@ -60,13 +27,13 @@ fn judgement(
             entailment_value(
                 alloc,
                 heads,
-                &Scope::Node,
+                &Scope::Outside,
                 &tree.antecedent,
                 &tree.disjuncts,
             )
         }
         JudgementTree::From(line, tree) => {
-            let state = heap_value(alloc, heads, &Scope::Node, tree)?;
+            let state = heap_value(alloc, heads, &Scope::Outside, tree)?;
             Ok(Judgement::Term(*line, state))
         }
     }
@@ -93,7 +60,7 @@ fn substitution(alloc: Global, trees: &[PairTree]) -> Result<Subst, OutOfMemory>
 {
     let mut pairs = Vec::with_capacity(alloc, trees.len())?;
     for tree in trees {
-        pairs.push((tree.variable as u16, Scope::Node.value(tree.value)))?;
+        pairs.push((tree.variable as u16, Scope::Outside.value(tree.value)))?;
     }
     Ok(Subst::from_vec(pairs))
 }
@@ -123,14 +90,14 @@ fn reason(alloc: Global, heads: &Heads<'_>, tree: &ReasonTree<'_>) -> Result<Rea
         ReasonTree::Cut(places, formula) => {
             Rule::Cut(
                 positions(alloc, places)?,
-                heap_value(alloc, heads, &Scope::Node, formula)?,
+                heap_value(alloc, heads, &Scope::Outside, formula)?,
             )
         }
         ReasonTree::Absurd => Rule::Absurd,
         ReasonTree::Rewrite(k, named) => Rule::Rewrite(*k, side(*named)),
         ReasonTree::Split(left, right) => Rule::Split(
-            Scope::Node.value(*left),
-            Scope::Node.value(*right),
+            Scope::Outside.value(*left),
+            Scope::Outside.value(*right),
         ),
         ReasonTree::Distinct(i, j) => Rule::Distinct(*i, *j),
         ReasonTree::Weaken(k) => Rule::Weaken(*k),
@@ -140,7 +107,7 @@ fn reason(alloc: Global, heads: &Heads<'_>, tree: &ReasonTree<'_>) -> Result<Rea
         ReasonTree::PureRight(k) => Rule::PureRight(*k),
         ReasonTree::Instantiate(v, value) => Rule::Instantiate(
             *v as u16,
-            Scope::Node.value(*value),
+            Scope::Outside.value(*value),
         ),
         ReasonTree::Frame(i, j) => Rule::Frame(*i, *j),
         ReasonTree::UnfoldRight(j, c) => Rule::UnfoldRight(*j, *c),

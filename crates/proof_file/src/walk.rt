@@ -2,89 +2,22 @@
 // part's first token and gives that of the token behind it and the one that follows every part of its kind. A heap has at
 // most `most` spatial atoms.
 ghost use Rattle.std.specs.Prelude.{◌≡◌, ◌+◌, ◌<◌, ◌≤◌, ◌^◌, length, map, nat_lt};
-ghost use Rattle.cyc_lex.specs.declared.fault.What.TheVariants.{Variable, Cases};
+ghost use Rattle.cyc_lex.specs.declared.fault.What.TheVariants.{Variable};
 ghost use Rattle.proof_syntax.specs.Trees.{heap_of, definition_of, entailment_of, judgement_of, link_of, reason_of, node_of, file_of};
 ghost use Rattle.heap_reader.specs.Spans.{total, total_or, heap_span};
 ghost use Rattle.heap_reader.specs.Flaws.{or_later, over_if, listed_flaw, heaps_flaw, IsName, IsWalk};
 ghost use Rattle.proof_file.specs.Spans.{term_span, definition_span, entailment_span, judgement_span, pair_span, link_span, reason_span, premises_rest, node_span};
 ghost use Rattle.proof_file.specs.Flaws.{headings, term_flaw, head_flaw, definition_flaw, entailment_flaw, state_flaw, judgement_flaw, pair_flaw, reason_flaw, node_flaw, first_node, file_flaw as first_flaw};
-ghost use Rattle.proof_file.specs.declared.scope.Scope.TheVariants.{Node, Case};
+ghost use Rattle.pred_reader.specs.declared.scope.Scope.TheVariants.{Outside};
 
-use crate::scope::{ProgramVariables, Scope};
+use crate::scope::ProgramVariables;
 use cyc_lex::{IllFault, What};
 use heap_reader::{Flaw, Heads, TermReader, ill, over, walk_heap, walk_heaps, walk_lines};
+use pred_reader::{Scope, walk_definitions};
 use proof_syntax::{
-    DefinitionTree, EntailmentTree, FileTree, HeapTree, JudgementTree, LinkTree, NodeTree,
-    PairTree, ReasonTree, TermTree,
+    EntailmentTree, FileTree, HeapTree, JudgementTree, LinkTree, NodeTree, PairTree, ReasonTree,
+    TermTree,
 };
-
-fn definition_head(
-    heads: &Heads<'_>,
-    n: usize,
-    at: usize,
-    tree: &DefinitionTree<'_>,
-) -> Result<(), Flaw>
-    requires there { n ≤ length heads.now }
-    requires fits { at + 3 < 2 ^ 64 }
-    ensures { IsName result (head_flaw heads.now n at (definition_of tree.now)) }
-{
-    if n >= 4096 {
-        return Err(over(What::Predicates, at));
-    }
-    if heads.has_among(n, tree.name) {
-        return Err(ill(IllFault::Duplicate, at + 1));
-    }
-    if tree.arity > 8 {
-        return Err(over(What::Arguments, at + 3));
-    }
-    Ok(())
-}
-
-fn cases(
-    heads: &Heads<'_>,
-    most: u8,
-    arity: u32,
-    at: usize,
-    trees: &[HeapTree<'_>],
-) -> Result<usize, Flaw>
-    requires { at + total (heap_span term_span) (map heap_of trees.now) < 2 ^ 64 }
-    ensures { IsWalk result (heaps_flaw (term_flaw (Case arity)) term_span most heads.now Cases at (map heap_of trees.now)) (at + total (heap_span term_span) (map heap_of trees.now)) }
-{
-    walk_heaps(heads, &Scope::Case(arity), most, What::Cases, at, trees)
-}
-
-fn definition(
-    heads: &Heads<'_>,
-    most: u8,
-    n: usize,
-    at: usize,
-    tree: &DefinitionTree<'_>,
-) -> Result<usize, Flaw>
-    requires there { n ≤ length heads.now }
-    requires fits { at + definition_span (definition_of tree.now) < 2 ^ 64 }
-    ensures { IsWalk result (definition_flaw most heads.now n at (definition_of tree.now)) (at + definition_span (definition_of tree.now)) }
-{
-    definition_head(heads, n, at, tree)?;
-    let behind = cases(heads, most, tree.arity, at + 6, &tree.cases)?;
-    Ok(behind + 1)
-}
-
-fn definitions(
-    heads: &Heads<'_>,
-    most: u8,
-    at: usize,
-    trees: &[DefinitionTree<'_>],
-) -> Result<usize, Flaw>
-    requires there { length trees.now ≤ length heads.now }
-    requires fits { at + total definition_span (map definition_of trees.now) < 2 ^ 64 }
-    ensures { IsWalk result (listed_flaw (definition_flaw most heads.now) definition_span 0 at (map definition_of trees.now)) (at + total definition_span (map definition_of trees.now)) }
-{
-    let mut next = at;
-    for (n, tree) in trees.iter().enumerate() {
-        next = definition(heads, most, n, next, tree)?;
-    }
-    Ok(next)
-}
 
 fn entailment(
     heads: &Heads<'_>,
@@ -95,10 +28,10 @@ fn entailment(
     requires { at + entailment_span (entailment_of tree.now) < 2 ^ 64 }
     ensures { IsWalk result (entailment_flaw most heads.now at (entailment_of tree.now)) (at + entailment_span (entailment_of tree.now)) }
 {
-    let right = walk_heap(heads, &Scope::Node, most, at, &tree.antecedent)?;
+    let right = walk_heap(heads, &Scope::Outside, most, at, &tree.antecedent)?;
     walk_heaps(
         heads,
-        &Scope::Node,
+        &Scope::Outside,
         most,
         What::Disjuncts,
         right,
@@ -121,7 +54,7 @@ fn state(
     if line == 0 || line as usize > count {
         return Err(ill(IllFault::NoLine, at + 1));
     }
-    walk_heap(heads, &Scope::Node, most, at + 3, tree)
+    walk_heap(heads, &Scope::Outside, most, at + 3, tree)
 }
 
 fn judgement(
@@ -147,7 +80,7 @@ fn pair(at: usize, tree: PairTree) -> Result<usize, Flaw>
     if tree.variable > 65534 {
         return Err(over(What::Variable, at + 1));
     }
-    Scope::Node.walk(at + 3, tree.value)
+    Scope::Outside.walk(at + 3, tree.value)
 }
 
 fn pairs(at: usize, trees: &[PairTree]) -> Result<usize, Flaw>
@@ -182,20 +115,20 @@ fn link(at: usize, tree: &LinkTree) -> Result<usize, Flaw>
 
 fn instantiate(at: usize, variable: u32, tree: TermTree) -> Result<usize, Flaw>
     requires { at + 3 + term_span tree < 2 ^ 64 }
-    ensures { IsWalk result (or_later (over_if (nat_lt 65534 variable) Variable (at + 2)) (term_flaw Node (at + 3) tree)) (at + 3 + term_span tree) }
+    ensures { IsWalk result (or_later (over_if (nat_lt 65534 variable) Variable (at + 2)) (term_flaw Outside (at + 3) tree)) (at + 3 + term_span tree) }
 {
     if variable > 65534 {
         return Err(over(What::Variable, at + 2));
     }
-    Scope::Node.walk(at + 3, tree)
+    Scope::Outside.walk(at + 3, tree)
 }
 
 fn split(at: usize, left: TermTree, right: TermTree) -> Result<usize, Flaw>
     requires { at + term_span left + term_span right < 2 ^ 64 }
-    ensures { IsWalk result (or_later (term_flaw Node (at + 1) left) (term_flaw Node (at + term_span left) right)) (at + term_span left + term_span right) }
+    ensures { IsWalk result (or_later (term_flaw Outside (at + 1) left) (term_flaw Outside (at + term_span left) right)) (at + term_span left + term_span right) }
 {
-    let behind = Scope::Node.walk(at + 1, left)?;
-    Scope::Node.walk(behind - 1, right)
+    let behind = Scope::Outside.walk(at + 1, left)?;
+    Scope::Outside.walk(behind - 1, right)
 }
 
 fn reason(heads: &Heads<'_>, most: u8, at: usize, tree: &ReasonTree<'_>) -> Result<usize, Flaw>
@@ -215,7 +148,7 @@ fn reason(heads: &Heads<'_>, most: u8, at: usize, tree: &ReasonTree<'_>) -> Resu
         | ReasonTree::UnfoldRight(_, _) => Ok(at + 4),
         ReasonTree::Split(left, right) => split(at, *left, *right),
         ReasonTree::Cut(places, formula) => {
-            walk_heap(heads, &Scope::Node, most, at + 3 + places.len(), formula)
+            walk_heap(heads, &Scope::Outside, most, at + 3 + places.len(), formula)
         }
         ReasonTree::Instantiate(variable, term) => instantiate(at, *variable, *term),
         ReasonTree::Link(tree) => link(at, tree),
@@ -276,7 +209,7 @@ fn statements(heads: &Heads<'_>, tree: &FileTree<'_>) -> Result<usize, Flaw>
     ensures { IsWalk result (first_flaw (file_of tree.now)) (first_node (file_of tree.now) + total node_span (map node_of tree.now.nodes.items)) }
 {
     let most = tree.version.most_spatial();
-    let first_line = definitions(heads, most, 4, &tree.definitions)?;
+    let first_line = walk_definitions(heads, most, 4, &tree.definitions)?;
     let first_node = walk_lines(&ProgramVariables, first_line, &tree.lines)?;
     nodes(heads, most, tree.lines.len(), first_node, &tree.nodes)
 }

@@ -1,13 +1,13 @@
 -- The texts of the grammar are of lexemes, and the end word stands last.
-use Rattle.std.proofs.Common.{◌≡◌, ℕ, Bool, true, false, List, refl, ◌⊎◌}
+use Rattle.std.proofs.Common.{◌≡◌, ℕ, true, false, List, refl, ◌⊎◌}
 use Rattle.std.specs.Prelude.{codes}
 use Rattle.cyc_lex.specs.Word.{is_lexeme}
 use Rattle.cyc_lex.proofs.Letters.{letters-name}
-use Rattle.cyc_grammar.specs.Syntax.{Class, one, is_one, uncons}
+use Rattle.cyc_grammar.specs.Syntax.{one, is_one, uncons}
 use Rattle.cyc_grammar.specs.Classes.{number, keyword_of}
-use Rattle.cyc_grammar.proofs.ClassLaws.{number-lexeme}
 use Rattle.cyc_grammar.proofs.Ends.{Inner, EndsLast, one-inner, seq-inner, after-inner, before-inner, alt-inner, many-inner, shaped-inner, nothing-inner, headed-inner, list1-inner, or_empty-inner, end-once}
-use Rattle.proof_syntax.specs.declared.tree.TermTree.{TermTree}
+use Rattle.pred_syntax.specs.declared.tree.TermTree.{TermTree}
+use Rattle.pred_syntax.proofs.DefinitionEnds.{number-inner, uterm-inner, heap-of, heaps-of, definitions-inner}
 use Rattle.proof_syntax.specs.declared.tree.PairTree.{PairTree}
 use Rattle.proof_syntax.specs.declared.tree.SideTree.{SideTree}
 use Rattle.proof_syntax.specs.declared.tree.SideTree.TheVariants.{Left, Right}
@@ -15,11 +15,10 @@ use Rattle.proof_syntax.specs.declared.reason_word.ReasonWord.{ReasonWord}
 use Rattle.proof_syntax.specs.declared.reason_word.ReasonWord.TheVariants as words
 use Rattle.proof_syntax.specs.ReasonWords.{side_text, sides}
 use Rattle.proof_syntax.specs.Trees.{Heap, Line, Definition, Entailment, Judgement, Reason, Node}
-use Rattle.proof_syntax.specs.Grammar.{Any, nil, pred_word, node_word, from_word, given_word, or_word, by_word, to_word, last_word, cyclist_word, proof_word, version, dollar, query, comma, semicolon, bar, assign, turnstile, opening, closing, opening_brace, closing_brace, opening_bracket, closing_bracket, free_name, to_term, from_term, term, to_uterm, from_uterm, IsUniversal, uterm, terms, terms_of, spatial, heap, cons, IsSome, heaps, to_definition, from_definition, cases, definition, variable, lines, to_entailment, from_entailment, disjuncts, entailment, state, to_judgement, from_judgement, judgement, numbers, bracketed, two_numbers, side, rewrite, split, cut, instantiate, to_pair, from_pair, pair, some_pair, pairs1, pairs, to_link, from_link, link, Parts, parts, to_reason, from_reason, reason_word, reason, to_premises, from_premises, premises, to_node, from_node, node, some_node, definitions, more_nodes, nodes, to_file, from_file, body, file}
+use Rattle.proof_syntax.specs.Grammar.{Any, node_word, from_word, given_word, or_word, by_word, to_word, last_word, cyclist_word, proof_word, version, dollar, query, comma, semicolon, assign, turnstile, opening_brace, closing_brace, opening_bracket, closing_bracket, uterm, terms, heap, cons, IsSome, variable, lines, to_entailment, from_entailment, disjuncts, entailment, state, to_judgement, from_judgement, judgement, numbers, bracketed, two_numbers, side, rewrite, split, cut, instantiate, to_pair, from_pair, pair, some_pair, pairs1, pairs, to_link, from_link, link, Parts, parts, to_reason, from_reason, reason_word, reason, to_premises, from_premises, premises, to_node, from_node, node, some_node, more_nodes, nodes, to_file, from_file, body, file}
 use Rattle.heap_syntax.specs.declared.version.Version.{Version}
-use Rattle.heap_syntax.proofs.WordTexts.{nil-word, pred-word, or-word, last-word, cyclist-word, version-word, syms}
+use Rattle.heap_syntax.proofs.WordTexts.{or-word, last-word, cyclist-word, version-word, syms}
 use Rattle.command_syntax.proofs.CommandLaws.{lines-inner}
-use Rattle.heap_syntax.proofs.HeapEnds.{free_name-inner, spatial-inner, heap-inner, heaps-inner}
 
 -- ---- words
 
@@ -43,39 +42,9 @@ proof-word = letters-name (codes "proof") refl
 
 -- ---- terms
 
-number-inner : Inner (one number)
-number-inner = one-inner number number-lexeme
-
-term-inner : Inner term
-unfolding term
-term-inner = shaped-inner {A = Unit {0} ⊎ (ℕ ⊎ ℕ)} to_term from_term Any _ (alt-inner (is_one nil) (one nil) _ (one-inner nil (λ u f. nil-word)) (alt-inner (is_one dollar) _ _ (after-inner dollar (one number) syms.dollar_word number-inner) (after-inner query (one number) syms.query_word number-inner)))
-
-uterm-inner : Inner uterm
-unfolding uterm
-uterm-inner = shaped-inner {A = Unit {0} ⊎ ℕ} to_uterm from_uterm IsUniversal _ (alt-inner (is_one nil) (one nil) _ (one-inner nil (λ u f. nil-word)) (after-inner dollar (one number) syms.dollar_word number-inner))
-
-terms-inner : (b : Bool) → Inner (terms b)
-unfolding terms
-terms-inner true = uterm-inner
-terms-inner false = term-inner
-
 -- ---- heaps
 
-spatial-of : (b : Bool) → Inner (spatial (terms b))
-spatial-of b = spatial-inner (terms_of (terms b)) (terms-inner b)
-
-heap-of : (b : Bool) → Inner (heap (terms b))
-heap-of b = heap-inner (terms_of (terms b)) (spatial (terms b)) (terms-inner b) (spatial-of b)
-
-heaps-of : (m n : Class (Unit {0})) → is_lexeme (m.word tt) ≡ true → is_lexeme (n.word tt) ≡ true → Inner (heaps m n)
-heaps-of m n h k = heaps-inner m n (terms_of (terms false)) (spatial (terms false)) h k (terms-inner false) (spatial-of false)
-
 -- ---- definitions and judgements
-
-definition-inner : Inner definition
-unfolding definition cases
-definition-inner = shaped-inner {A = List ℕ × (ℕ × List Heap)} to_definition from_definition Any _ (after-inner pred_word _ pred-word (seq-inner (one free_name) _ free_name-inner
-    (after-inner opening _ syms.opening_word (seq-inner (one number) _ number-inner (after-inner closing _ syms.closing_word (after-inner opening_brace _ syms.opening_brace_word (before-inner _ semicolon syms.semicolon_word (heaps-of bar closing_brace syms.bar_word syms.closing_brace_word))))))))
 
 entailment-inner : Inner entailment
 unfolding entailment disjuncts
@@ -180,9 +149,9 @@ unfolding nodes more_nodes
 nodes-inner = shaped-inner {A = Node × List Node} cons (uncons some_node) IsSome _ (seq-inner node _ node-inner (before-inner _ last_word last-word (many-inner (is_one node_word) node node-inner)))
 
 pub body-inner : Inner body
-unfolding body definitions
+unfolding body
 body-inner = shaped-inner {A = Version × (List Definition × (List Line × List Node))} to_file from_file Any _ (after-inner cyclist_word _ cyclist-word (after-inner proof_word _ proof-word (seq-inner (one version) _ (one-inner version version-word) (after-inner semicolon _ syms.semicolon_word
-    (seq-inner _ _ (many-inner (is_one pred_word) definition definition-inner) (seq-inner lines _ (lines-inner variable variable-inner) (before-inner nodes semicolon syms.semicolon_word nodes-inner)))))))
+    (seq-inner _ _ definitions-inner (seq-inner lines _ (lines-inner variable variable-inner) (before-inner nodes semicolon syms.semicolon_word nodes-inner)))))))
 
 pub file-last : EndsLast file
 unfolding file

@@ -2,6 +2,5 @@ pub mod GrammarLaws
 pub mod GrammarEnds
 pub mod OtherTexts
 pub mod ReasonParts
-pub mod WrittenTerms
 pub mod WrittenFiles
 pub mod SeenTrees

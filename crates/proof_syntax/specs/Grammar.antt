@@ -1,25 +1,25 @@
 -- The grammar of proof files.
-use Rattle.std.specs.Prelude.{ℕ, Bool, true, false, List, [], ◌∷◌, ◌⊎◌, codes, Ok}
+use Rattle.std.specs.Prelude.{ℕ, true, false, List, [], ◌∷◌, ◌⊎◌, codes, Ok}
 use Rattle.std.proofs.Common.{inl, inr}
 use Rattle.cyc_lex.specs.Word.{Word}
 use Rattle.cyc_grammar.specs.Syntax.{Reading, ◌>>=◌, Syntax, Class, one, seq, alt, many, shaped, after, before, headed, nothing, is_one, uncons, list1, or_empty}
 use Rattle.cyc_grammar.specs.Classes.{symbol, keyword, the_end, number, keyword_of}
-use Rattle.heap_syntax.specs.Grammar as shared
-use Rattle.heap_syntax.specs.Grammar.{Terms}
 pub use Rattle.heap_syntax.specs.Words.{nil, true_word, emp, pred_word, or_word, last_word, cyclist_word, equal, unequal, comma, colon, semicolon, star, bar, arrow, assign, turnstile, opening, closing, opening_brace, closing_brace, reserved, free_name}
 pub use Rattle.heap_syntax.specs.Versions.{version}
 pub use Rattle.heap_syntax.specs.Grammar.{Any, cons, IsSome, some_heap}
 unfoldable pub use Rattle.heap_syntax.specs.Grammar.{sign, pure}
+pub use Rattle.pred_syntax.specs.Grammar.{dollar, query, to_term, from_term, to_uterm, from_uterm, IsUniversal, terms_of, some_pure, pures1, pures, fields, arguments, spatial, some_spatial, spatials, heap, heaps, to_definition, from_definition}
+unfoldable pub use Rattle.pred_syntax.specs.Grammar.{term, uterm, terms, cases, definition, definitions}
 use Rattle.command_syntax.specs.Grammar as commands
 use Rattle.heap_syntax.specs.declared.version.Version.{Version}
-use Rattle.proof_syntax.specs.declared.tree.TermTree.{TermTree}
-use Rattle.proof_syntax.specs.declared.tree.TermTree.TheVariants.{Nil, Univ, Exist}
+use Rattle.pred_syntax.specs.declared.tree.TermTree.{TermTree}
+use Rattle.pred_syntax.specs.declared.tree.TermTree.TheVariants.{Nil}
 use Rattle.proof_syntax.specs.declared.tree.SideTree.{SideTree}
 use Rattle.proof_syntax.specs.declared.tree.PairTree.{PairTree}
 use Rattle.proof_syntax.specs.declared.reason_word.ReasonWord.{ReasonWord}
 use Rattle.proof_syntax.specs.declared.reason_word.ReasonWord.TheVariants as words
 use Rattle.proof_syntax.specs.ReasonWords.{reason_text, reason_words, side_text, sides}
-use Rattle.proof_syntax.specs.Trees.{PureTree, Spatial, Heap, Line, Definition, Entailment, Judgement, Entails, From, LinkData, Reason, Absurd, Rewrite, Split, Distinct, Weaken, Unfold, Cut, Done, Choose, PureRight, Instantiate, Frame, UnfoldRight, Exec, Drop, Link, Node, File}
+use Rattle.proof_syntax.specs.Trees.{Heap, Line, Definition, Entailment, Judgement, Entails, From, LinkData, Reason, Absurd, Rewrite, Split, Distinct, Weaken, Unfold, Cut, Done, Choose, PureRight, Instantiate, Frame, UnfoldRight, Exec, Drop, Link, Node, File}
 
 -- ---- words
 
@@ -41,105 +41,11 @@ to_word = keyword (codes "to")
 abbrev pub proof_word : Class (Unit {0})
 proof_word = keyword (codes "proof")
 
-abbrev pub dollar : Class (Unit {0})
-dollar = symbol (codes "$")
-
-abbrev pub query : Class (Unit {0})
-query = symbol (codes "?")
-
 abbrev pub opening_bracket : Class (Unit {0})
 opening_bracket = symbol (codes "[")
 
 abbrev pub closing_bracket : Class (Unit {0})
 closing_bracket = symbol (codes "]")
-
--- ---- term = "nil" | "$" number | "?" number
-
-abbrev pub to_term : Unit {0} ⊎ (ℕ ⊎ ℕ) → TermTree
-to_term (inl u) = Nil
-to_term (inr (inl n)) = Univ n
-to_term (inr (inr n)) = Exist n
-
-abbrev pub from_term : TermTree → Unit {0} ⊎ (ℕ ⊎ ℕ)
-from_term Nil = inl tt
-from_term (Univ n) = inr (inl n)
-from_term (Exist n) = inr (inr n)
-
-unfoldable pub term : Syntax TermTree
-term = shaped {A = Unit {0} ⊎ (ℕ ⊎ ℕ)} to_term from_term Any (alt (is_one nil) (one nil) (alt (is_one dollar) (after dollar (one number)) (after query (one number))))
-
--- ---- uterm = "nil" | "$" number
-
-abbrev pub to_uterm : Unit {0} ⊎ ℕ → TermTree
-to_uterm (inl u) = Nil
-to_uterm (inr n) = Univ n
-
-abbrev pub from_uterm : TermTree → Unit {0} ⊎ ℕ
-from_uterm Nil = inl tt
-from_uterm (Univ n) = inr n
-from_uterm (Exist n) = inl tt
-
-abbrev pub IsUniversal : TermTree → Type 0
-IsUniversal Nil = Unit {0}
-IsUniversal (Univ n) = Unit {0}
-IsUniversal (Exist n) = ⊥
-
-unfoldable pub uterm : Syntax TermTree
-uterm = shaped {A = Unit {0} ⊎ ℕ} to_uterm from_uterm IsUniversal (alt (is_one nil) (one nil) (after dollar (one number)))
-
--- the terms of an antecedent, and those of a succedent, a case or a formula
-unfoldable pub terms : Bool → Syntax TermTree
-terms true = uterm
-terms false = term
-
--- ---- heaps over these terms
-
-abbrev pub terms_of : Syntax TermTree → Terms TermTree
-terms_of t = record { some = Nil; syntax = t }
-
-abbrev pub some_pure : PureTree
-some_pure = shared.some_pure (terms_of term)
-
-abbrev pub pures1 : Syntax TermTree → Syntax (List PureTree)
-pures1 t = shared.pures1 (terms_of t)
-
-abbrev pub pures : Syntax TermTree → Syntax (List PureTree)
-pures t = shared.pures (terms_of t)
-
-abbrev pub fields : Syntax TermTree → Syntax (List TermTree)
-fields t = shared.fields (terms_of t)
-
-abbrev pub arguments : Syntax TermTree → Syntax (List TermTree)
-arguments t = shared.arguments (terms_of t)
-
-abbrev pub spatial : Syntax TermTree → Syntax Spatial
-spatial t = shared.spatial (terms_of t)
-
-abbrev pub some_spatial : Spatial
-some_spatial = shared.some_spatial (terms_of term)
-
-abbrev pub spatials : Syntax TermTree → Syntax (List Spatial)
-spatials t = shared.spatials (terms_of t) (spatial t)
-
-abbrev pub heap : Syntax TermTree → Syntax Heap
-heap t = shared.heap (terms_of t) (spatial t)
-
-abbrev pub heaps : Class (Unit {0}) → Class (Unit {0}) → Syntax (List Heap)
-heaps between behind = shared.heaps between behind (heap (terms false))
-
--- ---- pred = "pred" name "(" number ")" "{" heap { "|" heap } "}" ";"
-
-abbrev pub to_definition : List ℕ × (ℕ × List Heap) → Definition
-to_definition p = record { name = p.0; arity = p.1.0; cases = p.1.1 }
-
-abbrev pub from_definition : Definition → List ℕ × (ℕ × List Heap)
-from_definition d = (d.name, (d.arity, d.cases))
-
-unfoldable pub cases : Syntax (List Heap)
-cases = heaps bar closing_brace
-
-unfoldable pub definition : Syntax Definition
-definition = shaped {A = List ℕ × (ℕ × List Heap)} to_definition from_definition Any (after pred_word (seq (one free_name) (after opening (seq (one number) (after closing (after opening_brace (before cases semicolon)))))))
 
 -- ---- the lines of the program, with uvar = "$" number as their variables
 
@@ -391,9 +297,6 @@ node = shaped {A = Judgement × (Reason × List ℕ)} to_node from_node Any (aft
 
 abbrev pub some_node : Node
 some_node = record { judgement = Entails (record { antecedent = some_heap; disjuncts = some_heap ∷ [] }); reason = Done; premises = [] }
-
-unfoldable pub definitions : Syntax (List Definition)
-definitions = many (is_one pred_word) definition
 
 unfoldable pub more_nodes : Syntax (List Node)
 more_nodes = many (is_one node_word) node

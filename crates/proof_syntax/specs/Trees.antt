@@ -1,15 +1,9 @@
 -- Trees without where they lie in memory.
 use Rattle.std.specs.Prelude.{ℕ, List, map}
-use Rattle.proof_syntax.specs.declared.tree.TermTree.{TermTree}
-use Rattle.heap_syntax.specs.declared.tree.PureTree.{PureTree as AnyPureTree}
-use Rattle.heap_syntax.specs.Trees as heaps
-pub use Rattle.heap_syntax.specs.Trees.{Cell, Predicate}
-use Rattle.heap_syntax.specs.declared.tree.SpatialTree.{SpatialTree}
-use Rattle.heap_syntax.specs.declared.tree.SpatialTree.TheVariants as spatials
-use Rattle.heap_syntax.specs.declared.tree.HeapTree.{HeapTree}
+use Rattle.pred_syntax.specs.declared.tree.TermTree.{TermTree}
+pub use Rattle.pred_syntax.specs.Trees.{Cell, Predicate, PureTree, Spatial, Heap, Definition, spatial_of, heap_of, definition_of}
 use Rattle.heap_syntax.specs.declared.version.Version.{Version}
 use Rattle.command_syntax.specs.declared.tree.LineTree.{LineTree}
-use Rattle.proof_syntax.specs.declared.tree.DefinitionTree.{DefinitionTree}
 use Rattle.proof_syntax.specs.declared.tree.EntailmentTree.{EntailmentTree}
 use Rattle.proof_syntax.specs.declared.tree.JudgementTree.{JudgementTree}
 use Rattle.proof_syntax.specs.declared.tree.JudgementTree.TheVariants as judgements
@@ -23,24 +17,9 @@ use Rattle.proof_syntax.specs.declared.reason_word.ReasonWord.TheVariants as wor
 use Rattle.proof_syntax.specs.declared.tree.NodeTree.{NodeTree}
 use Rattle.proof_syntax.specs.declared.tree.FileTree.{FileTree}
 
--- a pure atom, a spatial atom and a heap over the terms of proof files
-abbrev pub PureTree : Type 0
-PureTree = AnyPureTree TermTree
-
-abbrev pub Spatial : Type 0
-Spatial = heaps.Spatial TermTree
-
-abbrev pub Heap : Type 0
-Heap = heaps.Heap TermTree
-
 -- a line of the program, where a variable is its number
 abbrev pub Line : Type 0
 Line = LineTree ℕ
-
-pub record Definition : Type 0 where
-  pub name : List ℕ
-  pub arity : ℕ
-  pub cases : List Heap
 
 pub record Entailment : Type 0 where
   pub antecedent : Heap
@@ -86,16 +65,6 @@ pub record File : Type 0 where
   pub nodes : List Node
 
 -- ---- what a contract sees of the code's trees
-
-abbrev pub spatial_of : SpatialTree TermTree → Spatial
-spatial_of (spatials.Cell address fields) = Cell address fields.items
-spatial_of (spatials.Predicate name args) = Predicate name.now args.items
-
-abbrev pub heap_of : HeapTree TermTree → Heap
-heap_of h = record { pure = h.pure.items; spatial = map spatial_of h.spatial.items }
-
-abbrev pub definition_of : DefinitionTree → Definition
-definition_of d = record { name = d.name.now; arity = d.arity; cases = map heap_of d.cases.items }
 
 abbrev pub entailment_of : EntailmentTree → Entailment
 entailment_of e = record { antecedent = heap_of e.antecedent; disjuncts = map heap_of e.disjuncts.items }

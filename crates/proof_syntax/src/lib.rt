@@ -7,7 +7,6 @@ mod number_list;
 mod read_files;
 mod read_reasons;
 mod reason_word;
-mod term_heaps;
 mod tree;
 mod write_files;
 mod write_reasons;

@@ -6,70 +6,18 @@ ghost use Rattle.cyc_grammar.specs.Syntax.{read_whole};
 ghost use Rattle.cyc_grammar.specs.Classes.{are_tokens};
 ghost use Rattle.cyc_grammar.specs.Faults.{Reads, IsRead};
 ghost use Rattle.cyc_grammar.specs.Giving.{Gives, IsWithin, with_front, words};
-ghost use Rattle.proof_syntax.specs.Grammar.{cases, disjuncts, pred_word, node_word, definition, definitions, entailment, state, judgement, premises, node, more_nodes, nodes, body, file};
+ghost use Rattle.proof_syntax.specs.Grammar.{disjuncts, node_word, definitions, entailment, state, judgement, premises, node, more_nodes, nodes, body, file};
 ghost use Rattle.proof_syntax.specs.Trees.{File, heap_of, definition_of, entailment_of, judgement_of, node_of, file_of};
 
 use crate::line_lists::lines;
 use crate::number_list::more_numbers;
 use crate::read_reasons::reason;
-use crate::term_heaps::{heap, heaps};
-use crate::tree::{DefinitionTree, EntailmentTree, FileTree, HeapTree, JudgementTree, NodeTree};
+use crate::tree::{EntailmentTree, FileTree, HeapTree, JudgementTree, NodeTree};
 use cyc_grammar::{Cursor, Refusal, read_fault};
 use cyc_lex::{ReadFault, Token, Tokens};
-use heap_syntax::{Mark, free_name, read_version};
+use heap_syntax::{Mark, read_version};
+use pred_syntax::{definitions, heap, heaps};
 use std::alloc::Global;
-
-#[tactic(auto, unfolding(crate::specs::Grammar::cases))]
-fn cases<'a>(alloc: Global, cursor: &mut Cursor<'_, 'a>) -> Result<Vec<HeapTree<'a>>, Refusal>
-    ensures { Gives (λ x. (map heap_of x.items, cursor.new)) result (cases.read cursor.old) }
-{
-    heaps(alloc, &Mark::Symbol("|"), &Mark::Symbol("}"), cursor)
-}
-
-#[tactic(auto, unfolding(crate::specs::Grammar::definition))]
-fn definition<'a>(alloc: Global, cursor: &mut Cursor<'_, 'a>) -> Result<DefinitionTree<'a>, Refusal>
-    ensures { Gives (λ x. (definition_of x, cursor.new)) result (definition.read cursor.old) }
-{
-    cursor.keyword("pred")?;
-    let name = free_name(cursor)?;
-    cursor.symbol("(")?;
-    let arity = cursor.number()?;
-    cursor.symbol(")")?;
-    cursor.symbol("{")?;
-    let cases = cases(alloc, cursor)?;
-    cursor.symbol(";")?;
-    Ok(DefinitionTree { name, arity, cases })
-}
-
-/// Reads the definitions behind some.
-#[tactic(auto, unfolding(crate::specs::Grammar::definitions))]
-fn more_definitions<'a>(
-    alloc: Global,
-    mut items: Vec<DefinitionTree<'a>>,
-    cursor: &mut Cursor<'_, 'a>,
-) -> Result<Vec<DefinitionTree<'a>>, Refusal>
-    ensures { Gives (λ x. (map definition_of x.items, cursor.new)) result (with_front (map definition_of items.entry.items) (definitions.read cursor.old)) }
-{
-    for _ in 0..cursor.left() {
-        if !cursor.is_keyword_next("pred") {
-            return Ok(items);
-        }
-        items.push(definition(alloc, cursor)?)?;
-    }
-    if cursor.is_keyword_next("pred") {
-        return Err(Refusal::Dead(cursor.left()));
-    }
-    Ok(items)
-}
-
-fn definitions<'a>(
-    alloc: Global,
-    cursor: &mut Cursor<'_, 'a>,
-) -> Result<Vec<DefinitionTree<'a>>, Refusal>
-    ensures { Gives (λ x. (map definition_of x.items, cursor.new)) result (definitions.read cursor.old) }
-{
-    more_definitions(alloc, Vec::new(alloc), cursor)
-}
 
 #[tactic(auto, unfolding(crate::specs::Grammar::disjuncts))]
 fn disjuncts<'a>(alloc: Global, cursor: &mut Cursor<'_, 'a>) -> Result<Vec<HeapTree<'a>>, Refusal>

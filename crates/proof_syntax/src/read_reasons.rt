@@ -6,12 +6,11 @@ ghost use Rattle.cyc_grammar.specs.Giving.{Gives, with_front};
 ghost use Rattle.proof_syntax.specs.Grammar.{comma, numbers, bracketed, two_numbers, side, rewrite, split, cut, instantiate, pair, pairs1, pairs, link, Parts, parts, to_reason, reason_word, reason, parts_read};
 ghost use Rattle.proof_syntax.specs.Trees.{heap_of, link_of, reason_of};
 
-use crate::form::universal_term;
 use crate::number_list::more_numbers;
 use crate::reason_word::{ReasonWord, side_from_text};
-use crate::term_heaps::heap;
 use crate::tree::{HeapTree, LinkTree, PairTree, ReasonTree, SideTree, TermTree};
 use cyc_grammar::{Cursor, Refusal};
+use pred_syntax::{heap, universal_term};
 use std::alloc::Global;
 
 fn numbers(alloc: Global, cursor: &mut Cursor<'_, '_>) -> Result<Vec<u32>, Refusal>

@@ -1,34 +1,10 @@
 //! Trees of proof files: what a text of the grammar says, with lists of any length and numbers of at most nine digits.
 
 use heap_syntax::Version;
-
-/// A term: `nil`, a universal variable `$n` or an existential variable `?n`; in a case of a definition `$n` is parameter n and `?n` local n.
-#[derive(Clone, Copy, Debug, PartialEq, Eq)]
-pub enum TermTree {
-    Nil,
-    Univ(u32),
-    Exist(u32),
-}
-
-/// A pure atom over these terms.
-pub type PureTree = heap_syntax::PureTree<TermTree>;
-
-/// A spatial atom over these terms.
-pub type SpatialTree<'a> = heap_syntax::SpatialTree<'a, TermTree>;
-
-/// A symbolic heap over these terms.
-pub type HeapTree<'a> = heap_syntax::HeapTree<'a, TermTree>;
+pub use pred_syntax::{DefinitionTree, HeapTree, PureTree, SpatialTree, TermTree};
 
 /// A line of the program; a program variable is the number behind its `$`.
 pub type LineTree = command_syntax::LineTree<u32>;
-
-/// The definition of a predicate, which has at least one case.
-#[derive(Drop)]
-pub struct DefinitionTree<'a> {
-    pub name: &'a str,
-    pub arity: u32,
-    pub cases: Vec<HeapTree<'a>>,
-}
 
 /// An entailment; the antecedent has universal variables alone, and there is at least one disjunct.
 #[derive(Drop)]

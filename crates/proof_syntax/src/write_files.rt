@@ -4,55 +4,18 @@ ghost use Rattle.std.specs.Prelude.{◌≡◌, map, OnOk, IfOk, false};
 ghost use Rattle.cyc_lex.specs.Spacing.{text_of};
 ghost use Rattle.cyc_lex.specs.Spelling.{Spells};
 ghost use Rattle.cyc_lex.specs.Writing.{write, write_all};
-ghost use Rattle.proof_syntax.specs.Grammar.{cases, disjuncts, definition, definitions, entailment, state, judgement, premises, node, more_nodes, nodes, body, file};
+ghost use Rattle.proof_syntax.specs.Grammar.{disjuncts, definitions, entailment, state, judgement, premises, node, more_nodes, nodes, body, file};
 ghost use Rattle.proof_syntax.specs.Trees.{heap_of, definition_of, entailment_of, judgement_of, node_of, file_of};
 
 use crate::line_lists::write_lines;
 use crate::number_list::write_numbers;
-use crate::term_heaps::{write_heap, write_heaps};
-use crate::tree::{DefinitionTree, EntailmentTree, FileTree, HeapTree, JudgementTree, NodeTree};
+use crate::tree::{EntailmentTree, FileTree, HeapTree, JudgementTree, NodeTree};
 use crate::write_reasons::write_reason;
 use cyc_lex::WordWriter;
 use cyc_memory::OutOfMemory;
 use heap_syntax::{Mark, write_version};
+use pred_syntax::{write_definitions, write_heap, write_heaps};
 use std::alloc::Global;
-
-#[tactic(auto, unfolding(crate::specs::Grammar::cases))]
-fn write_cases(trees: &[HeapTree<'_>], writer: &mut WordWriter) -> Result<(), OutOfMemory>
-    requires { cases.fits (map heap_of trees.now) }
-    ensures { OnOk result (writer.new ≡ write_all writer.old (cases.words (map heap_of trees.now))) }
-{
-    write_heaps(&Mark::Symbol("|"), &Mark::Symbol("}"), trees, writer)
-}
-
-#[tactic(auto, using(cyc_lex::proofs::WritingLaws::write_all_on), unfolding(crate::specs::Grammar::definition, cyc_lex::specs::Writing::write_all))]
-fn write_definition(tree: &DefinitionTree<'_>, writer: &mut WordWriter) -> Result<(), OutOfMemory>
-    requires { definition.fits (definition_of tree.now) }
-    ensures { OnOk result (writer.new ≡ write_all writer.old (definition.words (definition_of tree.now))) }
-{
-    writer.name("pred")?;
-    writer.name(tree.name)?;
-    writer.symbol("(")?;
-    writer.number(tree.arity)?;
-    writer.symbol(")")?;
-    writer.symbol("{")?;
-    write_cases(&tree.cases, writer)?;
-    writer.symbol(";")
-}
-
-#[tactic(auto, unfolding(crate::specs::Grammar::definitions))]
-fn write_definitions(
-    trees: &[DefinitionTree<'_>],
-    writer: &mut WordWriter,
-) -> Result<(), OutOfMemory>
-    requires { definitions.fits (map definition_of trees.now) }
-    ensures { OnOk result (writer.new ≡ write_all writer.old (definitions.words (map definition_of trees.now))) }
-{
-    for tree in trees {
-        write_definition(tree, writer)?;
-    }
-    Ok(())
-}
 
 #[tactic(auto, unfolding(crate::specs::Grammar::disjuncts))]
 fn write_disjuncts(trees: &[HeapTree<'_>], writer: &mut WordWriter) -> Result<(), OutOfMemory>

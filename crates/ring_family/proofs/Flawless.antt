@@ -16,7 +16,7 @@ use Rattle.rule_table.specs.Nodes.{Node}
 use Rattle.cyc_lex.specs.declared.fault.What.TheVariants.{Variable}
 use Rattle.heap_reader.specs.Trees.{Heading}
 use Rattle.heap_reader.specs.Flaws.{Found, over_if, or_later, listed_flaw, arity_in, heap_flaw}
-use Rattle.proof_file.specs.declared.scope.Scope.TheVariants.{Node as InNode}
+use Rattle.pred_reader.specs.declared.scope.Scope.TheVariants.{Outside as InNode}
 use Rattle.proof_file.specs.Spans.{term_span, definition_span, node_span}
 use Rattle.heap_syntax.specs.declared.version.Version.TheVariants.{One}
 use Rattle.proof_file.specs.Flaws.{term_flaw, definition_flaw, reason_flaw, node_flaw, file_flaw, first_node}

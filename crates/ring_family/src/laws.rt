@@ -23,8 +23,10 @@ ghost use Rattle.ring_family.specs.Ring.{holds, ring_definitions, ring_nodes, fi
 pub fn ring_is_correct()
     ensures right { (k : ℕ) → 1 ≤ k → k ≤ 2000 → AreRight 16 (ring_definitions k) [] (ring_nodes k) }
     ensures paths { (k : ℕ) → 1 ≤ k → k ≤ 2000 → AllProgress (graph_of 16 (ring_definitions k) [] (ring_nodes k)) }
-    ensures at_most { (k : ℕ) → 1 ≤ k → k ≤ 2000 → HasAtMost (graph_of 16 (ring_definitions k) [] (ring_nodes k)) (8 * k + 1) }
-    ensures at_least { (k : ℕ) → 1 ≤ k → k ≤ 2000 → HasMoreThan (graph_of 16 (ring_definitions k) [] (ring_nodes k)) (8 * k) }
+    ensures at_most { (k : ℕ) → 1 ≤ k → k ≤ 2000
+        → HasAtMost (graph_of 16 (ring_definitions k) [] (ring_nodes k)) (8 * k + 1) }
+    ensures at_least { (k : ℕ) → 1 ≤ k → k ≤ 2000
+        → HasMoreThan (graph_of 16 (ring_definitions k) [] (ring_nodes k)) (8 * k) }
 {}
 
 /// The text of a ring's file is shorter than the greatest input.
@@ -35,13 +37,18 @@ pub fn ring_texts_are_short()
 /// What is told of a ring's proof: the root is an entailment, and of 8 k + 1 nodes one is a link, by any test that tells
 /// links from steps by rules.
 pub fn ring_has_one_link()
-    ensures root { (k : ℕ) (root : FileNode) → slice_get (file_nodes (ring_nodes k)) 0 ≡ Some root → root.judgement ≡ Entail (holds 0 (Univ 0)) (holds k (Univ 0) ∷ []) }
+    ensures root { (k : ℕ) (root : FileNode) → slice_get (file_nodes (ring_nodes k)) 0 ≡ Some root
+        → root.judgement ≡ Entail (holds 0 (Univ 0)) (holds k (Univ 0) ∷ []) }
     ensures size { (k : ℕ) → length (file_nodes (ring_nodes k)) ≡ 8 * k + 1 }
-    ensures links { (is_link : Reason → Bool) → ((rule : Rule) → is_link (Step rule) ≡ false) → ((link : Link) → is_link (Back link) ≡ true) → (k : ℕ) → count_by (λ (n : FileNode). is_link n.reason) (file_nodes (ring_nodes k)) ≡ 1 }
+    ensures links { (is_link : Reason → Bool) → ((rule : Rule) → is_link (Step rule) ≡ false)
+        → ((link : Link) → is_link (Back link) ≡ true) → (k : ℕ)
+        → count_by (λ (n : FileNode). is_link n.reason) (file_nodes (ring_nodes k)) ≡ 1 }
 {}
 
 /// A check can say nothing else of a ring's file, or of a file that says the same, than that it is accepted.
 pub fn ring_is_accepted()
-    ensures same { (k : ℕ) → 1 ≤ k → k ≤ 2000 → (f : ProofFile) → f.defs.most ≡ 16 → f.defs.list ≡ ring_definitions k → f.program ≡ [] → nodes_of f.nodes ≡ ring_nodes k → (v : Verdict) → IsVerdict f v → v ≡ Accepted }
-    ensures correct { (k : ℕ) (f : ProofFile) (v : Verdict) → IsVerdict f v → IsCorrect f → HasAtMost (file_graph f) (8 * k + 1) → k ≤ 2000 → v ≡ Accepted }
+    ensures same { (k : ℕ) → 1 ≤ k → k ≤ 2000 → (f : ProofFile) → f.defs.most ≡ 16 → f.defs.list ≡ ring_definitions k
+        → f.program ≡ [] → nodes_of f.nodes ≡ ring_nodes k → (v : Verdict) → IsVerdict f v → v ≡ Accepted }
+    ensures correct { (k : ℕ) (f : ProofFile) (v : Verdict) → IsVerdict f v → IsCorrect f
+        → HasAtMost (file_graph f) (8 * k + 1) → k ≤ 2000 → v ≡ Accepted }
 {}

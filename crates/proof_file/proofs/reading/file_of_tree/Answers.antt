@@ -7,7 +7,7 @@ use Rattle.goto_lang.specs.Faults.{program_fault}
 use Rattle.heap_reader.specs.Trees.{Heading}
 use Rattle.heap_reader.specs.Values.{line_value}
 use Rattle.heap_reader.proofs.Programs.{lines_are_program}
-use Rattle.proof_syntax.specs.declared.tree.DefinitionTree.{DefinitionTree}
+use Rattle.pred_syntax.specs.declared.tree.DefinitionTree.{DefinitionTree}
 use Rattle.proof_syntax.specs.declared.tree.NodeTree.{NodeTree}
 use Rattle.pred_defs.specs.Book.{DefinitionBook}
 use Rattle.proof_syntax.specs.Grammar.{file}
@@ -32,14 +32,14 @@ lines_size : (ls : List Line) → length (program_value ls) ≡ length ls
 lines_size [] = refl
 lines_size (l ∷ ls) = ap suc (lines_size ls)
 
-pub definitions-requires-clause-small : goal.definitions-requires-clause-small
-definitions-requires-clause-small c =
+pub definition_values-requires-clause-small : goal.definition_values-requires-clause-small
+definition_values-requires-clause-small c =
     let f = file_of c.args.tree.now in
     let small = file_small f (nodes_some f c.requires.fits) c.requires.right in
     subst (λ (ds : List DefinitionTree). Each IsSmallDefinition (map definition_of ds)) (sym c.deref.ensures.value) small.definitions
 
-pub definitions-requires-clause-few : goal.definitions-requires-clause-few
-definitions-requires-clause-few c =
+pub definition_values-requires-clause-few : goal.definition_values-requires-clause-few
+definition_values-requires-clause-few c =
     let f = file_of c.args.tree.now in
     let small = file_small f (nodes_some f c.requires.fits) c.requires.right in
     few_heads c.args.heads.now f c.requires.known small.few

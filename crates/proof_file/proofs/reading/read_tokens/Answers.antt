@@ -3,7 +3,7 @@ use Rattle.std.proofs.lemmas.List.{length-map}
 use Rattle.cyc_lex.specs.Word.{word_of}
 use Rattle.heap_reader.specs.Spans.{total}
 use Rattle.heap_reader.proofs.WithinSpans.{flaw_within}
-use Rattle.proof_syntax.specs.declared.tree.DefinitionTree.{DefinitionTree}
+use Rattle.pred_syntax.specs.declared.tree.DefinitionTree.{DefinitionTree}
 use Rattle.proof_syntax.specs.Trees.{definition_of, file_of}
 use Rattle.proof_file.specs.Spans.{node_span}
 use Rattle.proof_file.specs.Flaws.{headings, first_node, file_flaw}

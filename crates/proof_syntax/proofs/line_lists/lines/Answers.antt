@@ -1,7 +1,8 @@
 use Rattle.std.proofs.Common.{List, ap}
 use Rattle.std.specs.Prelude.{map}
 use Rattle.command_syntax.specs.Trees.{line_of}
-use Rattle.proof_syntax.proofs.SeenTrees.{number_itself, lines-same, gives-same}
+use Rattle.pred_syntax.proofs.SeenTrees.{gives-same}
+use Rattle.proof_syntax.proofs.SeenTrees.{number_itself, lines-same}
 use Rattle.proof_syntax.specs.Trees.{Line}
 use Rattle.proof_syntax.specs.Grammar.{lines}
 use Rattle.proof_syntax.proofs.line_lists.lines.Goals as goal

@@ -1,6 +1,6 @@
 use Rattle.std.proofs.Common.{◌∙◌, List, ap}
 use Rattle.cyc_lex.specs.Writing.{write_all}
-use Rattle.proof_syntax.specs.declared.tree.DefinitionTree.{DefinitionTree}
+use Rattle.pred_syntax.specs.declared.tree.DefinitionTree.{DefinitionTree}
 use Rattle.proof_syntax.specs.declared.tree.NodeTree.{NodeTree}
 use Rattle.proof_syntax.specs.Grammar.{definitions, lines, nodes}
 use Rattle.std.specs.Prelude.{map}

@@ -1,0 +1,6 @@
+pub mod Members
+pub mod Fitting
+pub mod SpanLaws
+pub mod WithinSpans
+pub mod TreesAgain
+pub mod ValuesAgain

@@ -1,0 +1,5 @@
+pub mod Spans
+pub mod Flaws
+pub mod Values
+pub mod Small
+pub mod Written

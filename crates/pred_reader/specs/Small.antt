@@ -1,0 +1,10 @@
+-- Definitions that fit the values' types.
+use Rattle.std.specs.Prelude.{◌≤◌, length}
+use Rattle.heap_formula.specs.Words.{Each}
+use Rattle.heap_reader.specs.Small.{IsSmallHeap}
+use Rattle.pred_syntax.specs.Trees.{Definition}
+use Rattle.pred_reader.specs.Values.{term_value}
+
+pub record IsSmallDefinition (d : Definition) : Type 0 where
+  pub cases : Each (IsSmallHeap term_value) d.cases
+  pub few : length d.cases ≤ 16

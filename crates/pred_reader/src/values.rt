@@ -1,0 +1,44 @@
+// Values of definitions that fit them.
+ghost use Rattle.std.specs.Prelude.{◌≡◌, ◌≤◌, length, map, IfOk};
+ghost use Rattle.heap_formula.specs.Words.{Each};
+ghost use Rattle.pred_syntax.specs.Trees.{definition_of};
+ghost use Rattle.pred_reader.specs.Small.{IsSmallDefinition};
+ghost use Rattle.pred_reader.specs.Values.{definition_value as value_of_definition};
+
+use crate::scope::Scope;
+use cyc_memory::OutOfMemory;
+use heap_formula::Def;
+use heap_reader::{Heads, definition_value};
+use pred_syntax::DefinitionTree;
+use std::alloc::Global;
+
+fn definition(
+    alloc: Global,
+    heads: &Heads<'_>,
+    tree: &DefinitionTree<'_>,
+) -> Result<Def, OutOfMemory>
+    requires small { IsSmallDefinition (definition_of tree.now) }
+    requires few { length heads.now ≤ 4096 }
+    ensures { IfOk result (λ d. d ≡ value_of_definition heads.now (definition_of tree.now)) }
+{
+    let scope = Scope::Case(tree.arity);
+    definition_value(alloc, heads, &scope, tree.name, tree.arity, &tree.cases)
+}
+
+/// The definitions that trees say, in order.
+pub fn definition_values(
+    alloc: Global,
+    heads: &Heads<'_>,
+    trees: &[DefinitionTree<'_>],
+) -> Result<Vec<Def>, OutOfMemory>
+    requires small { Each IsSmallDefinition (map definition_of trees.now) }
+    requires few { length heads.now ≤ 4096 }
+    ensures value { IfOk result (λ v. v.items ≡ map (value_of_definition heads.now) (map definition_of trees.now)) }
+    ensures size { IfOk result (λ v. length v.items ≡ length trees.now) }
+{
+    let mut made = Vec::with_capacity(alloc, trees.len())?;
+    for tree in trees {
+        made.push(definition(alloc, heads, tree)?)?;
+    }
+    Ok(made)
+}

@@ -1,0 +1,4 @@
+pub mod DefinitionLaws
+pub mod DefinitionEnds
+pub mod SeenTrees
+pub mod WrittenTerms

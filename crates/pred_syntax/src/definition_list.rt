@@ -1,0 +1,111 @@
+//! Reading and writing the definitions of predicates.
+
+ghost use Rattle.std.specs.Prelude.{◌≡◌, ◌++◌, ◌∷◌, [], map, OnOk};
+ghost use Rattle.cyc_lex.specs.Writing.{write, write_all};
+ghost use Rattle.cyc_grammar.specs.Giving.{Gives, with_front};
+ghost use Rattle.heap_syntax.specs.Words.{pred_word};
+ghost use Rattle.pred_syntax.specs.Grammar.{cases, definition, definitions};
+ghost use Rattle.pred_syntax.specs.Trees.{heap_of, definition_of};
+
+use crate::term_heaps::{heaps, write_heaps};
+use crate::tree::{DefinitionTree, HeapTree};
+use cyc_grammar::{Cursor, Refusal};
+use cyc_lex::WordWriter;
+use cyc_memory::OutOfMemory;
+use heap_syntax::{Mark, free_name};
+use std::alloc::Global;
+
+#[tactic(auto, unfolding(crate::specs::Grammar::cases))]
+fn cases<'a>(alloc: Global, cursor: &mut Cursor<'_, 'a>) -> Result<Vec<HeapTree<'a>>, Refusal>
+    ensures { Gives (λ x. (map heap_of x.items, cursor.new)) result (cases.read cursor.old) }
+{
+    heaps(alloc, &Mark::Symbol("|"), &Mark::Symbol("}"), cursor)
+}
+
+/// Reads the definition of a predicate.
+#[tactic(auto, unfolding(crate::specs::Grammar::definition))]
+pub fn definition<'a>(
+    alloc: Global,
+    cursor: &mut Cursor<'_, 'a>,
+) -> Result<DefinitionTree<'a>, Refusal>
+    ensures { Gives (λ x. (definition_of x, cursor.new)) result (definition.read cursor.old) }
+{
+    cursor.keyword("pred")?;
+    let name = free_name(cursor)?;
+    cursor.symbol("(")?;
+    let arity = cursor.number()?;
+    cursor.symbol(")")?;
+    cursor.symbol("{")?;
+    let cases = cases(alloc, cursor)?;
+    cursor.symbol(";")?;
+    Ok(DefinitionTree { name, arity, cases })
+}
+
+/// Reads the definitions behind some.
+#[tactic(auto, unfolding(crate::specs::Grammar::definitions))]
+fn more_definitions<'a>(
+    alloc: Global,
+    mut items: Vec<DefinitionTree<'a>>,
+    cursor: &mut Cursor<'_, 'a>,
+) -> Result<Vec<DefinitionTree<'a>>, Refusal>
+    ensures { Gives (λ x. (map definition_of x.items, cursor.new)) result (with_front (map definition_of items.entry.items) (definitions.read cursor.old)) }
+{
+    for _ in 0..cursor.left() {
+        if !cursor.is_keyword_next("pred") {
+            return Ok(items);
+        }
+        items.push(definition(alloc, cursor)?)?;
+    }
+    if cursor.is_keyword_next("pred") {
+        return Err(Refusal::Dead(cursor.left()));
+    }
+    Ok(items)
+}
+
+/// Reads definitions, of which there may be none.
+pub fn definitions<'a>(
+    alloc: Global,
+    cursor: &mut Cursor<'_, 'a>,
+) -> Result<Vec<DefinitionTree<'a>>, Refusal>
+    ensures { Gives (λ x. (map definition_of x.items, cursor.new)) result (definitions.read cursor.old) }
+{
+    more_definitions(alloc, Vec::new(alloc), cursor)
+}
+
+#[tactic(auto, unfolding(crate::specs::Grammar::cases))]
+fn write_cases(trees: &[HeapTree<'_>], writer: &mut WordWriter) -> Result<(), OutOfMemory>
+    requires { cases.fits (map heap_of trees.now) }
+    ensures { OnOk result (writer.new ≡ write_all writer.old (cases.words (map heap_of trees.now))) }
+{
+    write_heaps(&Mark::Symbol("|"), &Mark::Symbol("}"), trees, writer)
+}
+
+#[tactic(auto, using(cyc_lex::proofs::WritingLaws::write_all_on), unfolding(crate::specs::Grammar::definition, cyc_lex::specs::Writing::write_all))]
+fn write_definition(tree: &DefinitionTree<'_>, writer: &mut WordWriter) -> Result<(), OutOfMemory>
+    requires { definition.fits (definition_of tree.now) }
+    ensures { OnOk result (writer.new ≡ write_all writer.old (definition.words (definition_of tree.now))) }
+{
+    writer.name("pred")?;
+    writer.name(tree.name)?;
+    writer.symbol("(")?;
+    writer.number(tree.arity)?;
+    writer.symbol(")")?;
+    writer.symbol("{")?;
+    write_cases(&tree.cases, writer)?;
+    writer.symbol(";")
+}
+
+/// Writes definitions that have a text.
+#[tactic(auto, unfolding(crate::specs::Grammar::definitions))]
+pub fn write_definitions(
+    trees: &[DefinitionTree<'_>],
+    writer: &mut WordWriter,
+) -> Result<(), OutOfMemory>
+    requires { definitions.fits (map definition_of trees.now) }
+    ensures { OnOk result (writer.new ≡ write_all writer.old (definitions.words (map definition_of trees.now))) }
+{
+    for tree in trees {
+        write_definition(tree, writer)?;
+    }
+    Ok(())
+}

@@ -1,0 +1,76 @@
+//! Reading and writing heaps.
+
+ghost use Rattle.std.specs.Prelude.{◌≡◌, map, OnOk};
+ghost use Rattle.cyc_lex.specs.Writing.{write_all};
+ghost use Rattle.cyc_grammar.specs.Giving.{Gives};
+ghost use Rattle.heap_syntax.specs.Words.{marked};
+ghost use Rattle.pred_syntax.specs.Grammar.{terms, heap, heaps};
+ghost use Rattle.pred_syntax.specs.Trees.{heap_of};
+
+use crate::form::NumberedForm;
+use crate::tree::HeapTree;
+use cyc_grammar::{Cursor, Refusal};
+use cyc_lex::WordWriter;
+use cyc_memory::OutOfMemory;
+use heap_syntax::Mark;
+use std::alloc::Global;
+
+/// A heap, without existential variables where `universal` says so.
+pub fn heap<'a>(
+    alloc: Global,
+    universal: bool,
+    cursor: &mut Cursor<'_, 'a>,
+) -> Result<HeapTree<'a>, Refusal>
+    ensures { Gives (λ x. (heap_of x, cursor.new)) result ((heap (terms universal)).read cursor.old) }
+{
+    heap_syntax::heap(alloc, &NumberedForm { universal }, cursor)
+}
+
+/// One heap or more, with a word between neighbours and one behind the last.
+pub fn heaps<'a>(
+    alloc: Global,
+    between: &Mark<'_>,
+    behind: &Mark<'_>,
+    cursor: &mut Cursor<'_, 'a>,
+) -> Result<Vec<HeapTree<'a>>, Refusal>
+    ensures { Gives (λ x. (map heap_of x.items, cursor.new)) result ((heaps (marked between.now) (marked behind.now)).read cursor.old) }
+{
+    heap_syntax::heaps(
+        alloc,
+        &NumberedForm { universal: false },
+        between,
+        behind,
+        cursor,
+    )
+}
+
+/// Writes a heap that has a text, without existential variables where `universal` says so.
+pub fn write_heap(
+    universal: bool,
+    tree: &HeapTree<'_>,
+    writer: &mut WordWriter,
+) -> Result<(), OutOfMemory>
+    requires { (heap (terms universal)).fits (heap_of tree.now) }
+    ensures { OnOk result (writer.new ≡ write_all writer.old ((heap (terms universal)).words (heap_of tree.now))) }
+{
+    heap_syntax::write_heap(&NumberedForm { universal }, tree, writer)
+}
+
+/// Writes one heap or more, with a word between neighbours and one behind the last.
+pub fn write_heaps(
+    between: &Mark<'_>,
+    behind: &Mark<'_>,
+    trees: &[HeapTree<'_>],
+    writer: &mut WordWriter,
+) -> Result<(), OutOfMemory>
+    requires { (heaps (marked between.now) (marked behind.now)).fits (map heap_of trees.now) }
+    ensures { OnOk result (writer.new ≡ write_all writer.old ((heaps (marked between.now) (marked behind.now)).words (map heap_of trees.now))) }
+{
+    heap_syntax::write_heaps(
+        &NumberedForm { universal: false },
+        between,
+        behind,
+        trees,
+        writer,
+    )
+}
