@@ -1,0 +1,3 @@
+mod Stable
+mod DefinitionLaw
+mod Parts

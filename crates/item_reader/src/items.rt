@@ -1,0 +1,137 @@
+// What a part of a text is, as far as the definitions so far tell.
+ghost use Rattle.std.specs.Prelude.{◌≡◌, ◌+◌, ◌<◌, ◌^◌, ◌++◌, ◌∷◌, [], length, map, IfOk};
+ghost use Rattle.heap_reader.specs.Spans.{heap_span};
+ghost use Rattle.heap_reader.specs.Trees.{heading_of};
+ghost use Rattle.pred_reader.specs.Spans.{term_span, definition_span};
+ghost use Rattle.heap_reader.specs.Flaws.{IsName};
+ghost use Rattle.pred_reader.specs.Flaws.{heading, definition_flaw};
+ghost use Rattle.pred_syntax.specs.Trees.{heap_of, definition_of};
+ghost use Rattle.item_reader.specs.Items.{is_unknown, defined_heads, IsItem, heap_found, says_heap, definition_found, says_definition};
+
+use cyc_lex::{IllFault, What};
+use cyc_memory::OutOfMemory;
+use heap_formula::{Def, Heap};
+use heap_reader::{
+    Flaw, Head, Heads, Item as FlawItem, definition_value, heap_value, ill, over, walk_heap,
+};
+use pred_defs::Defs;
+use pred_reader::{Scope, walk_definitions};
+use pred_syntax::{DefinitionTree, HeapTree};
+use std::alloc::Global;
+use std::slice;
+
+/// What a part of a text is, as far as the definitions so far tell. A predicate that they do not have may be defined
+/// behind the part.
+#[derive(Drop)]
+pub enum Item<V, T> {
+    /// The part has no flaw, and says this.
+    Value(V),
+    /// Its first flaw.
+    Flawed(Flaw),
+    /// Its first flaw, unless a definition to come has the predicate's name; what it is then is found in the tree.
+    Open(T, Flaw),
+}
+
+/// Whether a definition to come may mend the flaw.
+fn is_open(flaw: Flaw) -> bool
+    ensures { result ≡ is_unknown flaw.item }
+{
+    match flaw.item {
+        FlawItem::Ill(fault) => matches!(fault, IllFault::Unknown),
+        FlawItem::Over(_) => false,
+    }
+}
+
+/// What uses of the predicates are compared with.
+fn heads<'a>(alloc: Global, defs: &'a [Def]) -> Result<Vec<Head<'a>>, OutOfMemory>
+    ensures { IfOk result (λ v. map heading_of v.items ≡ defined_heads defs.now) }
+{
+    let mut heads = Vec::with_capacity(alloc, defs.len())?;
+    for def in defs {
+        heads.push(Head {
+            name: def.name.as_text(),
+            arity: def.arity,
+        })?;
+    }
+    Ok(heads)
+}
+
+/// The heap that begins at a token.
+pub fn heap_item<'a>(
+    alloc: Global,
+    at: usize,
+    tree: HeapTree<'a>,
+    defs: &Defs,
+) -> Result<Item<Heap, HeapTree<'a>>, OutOfMemory>
+    requires { at + heap_span term_span (heap_of tree) < 2 ^ 64 }
+    ensures { IfOk result (λ item. IsItem (heap_found defs.now at (heap_of tree.entry)) (says_heap defs.now (heap_of tree.entry)) heap_of (heap_of tree.entry) item) }
+{
+    let heads = Heads::new(alloc, heads(alloc, defs.as_slice())?)?;
+    match walk_heap(&heads, &Scope::Outside, defs.most(), at, &tree) {
+        Ok(_) => Ok(Item::Value(heap_value(alloc, &heads, &Scope::Outside, &tree)?)),
+        Err(flaw) if is_open(flaw) => Ok(Item::Open(tree, flaw)),
+        Err(flaw) => Ok(Item::Flawed(flaw)),
+    }
+}
+
+/// Goes over the definition before which n stand, up to its first flaw.
+fn walk_definition(
+    heads: &Heads<'_>,
+    most: u8,
+    n: usize,
+    at: usize,
+    tree: &DefinitionTree<'_>,
+) -> Result<(), Flaw>
+    requires there { n < length heads.now }
+    requires fits { at + definition_span (definition_of tree.now) < 2 ^ 64 }
+    ensures { IsName result (definition_flaw most heads.now n at (definition_of tree.now)) }
+{
+    if n >= 4096 {
+        return Err(over(What::Predicates, at));
+    }
+    if heads.has_among(n, tree.name) {
+        return Err(ill(IllFault::Duplicate, at + 1));
+    }
+    match walk_definitions(heads, most, at, slice::from_ref(tree)) {
+        Ok(_) => Ok(()),
+        Err(flaw) => Err(flaw),
+    }
+}
+
+/// What uses of the predicates and of one more are compared with.
+fn heads_with<'a>(
+    alloc: Global,
+    defs: &'a [Def],
+    name: &'a str,
+    arity: u32,
+) -> Result<Heads<'a>, OutOfMemory>
+    ensures { IfOk result (λ h. h ≡ defined_heads defs.now ++ record { name = name.now; arity = arity } ∷ []) }
+{
+    let mut list = heads(alloc, defs)?;
+    list.push(Head { name, arity })?;
+    Heads::new(alloc, list)
+}
+
+/// The definition that begins at a token, behind those so far.
+pub fn definition_item<'a>(
+    alloc: Global,
+    at: usize,
+    tree: DefinitionTree<'a>,
+    defs: &Defs,
+) -> Result<Item<Def, DefinitionTree<'a>>, OutOfMemory>
+    requires { at + definition_span (definition_of tree) < 2 ^ 64 }
+    ensures { IfOk result (λ item. IsItem (definition_found defs.now at (definition_of tree.entry)) (says_definition defs.now (definition_of tree.entry)) definition_of (definition_of tree.entry) item) }
+{
+    let so_far = defs.as_slice();
+    let heads = heads_with(alloc, so_far, tree.name, tree.arity)?;
+    match walk_definition(&heads, defs.most(), so_far.len(), at, &tree) {
+        Ok(()) => {
+            let scope = Scope::Case(tree.arity);
+            let (name, arity) = (tree.name, tree.arity);
+            let value = definition_value(alloc, &heads, &scope, name, arity, &tree.cases)?;
+            Ok(Item::Value(value))
+        }
+        Err(flaw) if is_open(flaw) => Ok(Item::Open(tree, flaw)),
+        Err(flaw) => Ok(Item::Flawed(flaw)),
+    }
+}

@@ -1,0 +1,9 @@
+mod Parts
+mod Taken
+mod SpanLaws
+mod WithinSpans
+mod SortedCells
+mod EntryCells
+mod Moved
+mod ModelsAgain
+pub mod Readings

@@ -1,0 +1,24 @@
+-- What is written of a model: its values as a tree, predicates by their names, the cells by ascending addresses.
+use Rattle.std.specs.Prelude.{ℕ, List, map}
+use Rattle.std.specs.FinMap.{entries}
+use Rattle.cyc_lex.specs.Spacing.{text_of}
+use Rattle.heap_formula.specs.Cells.{Cells}
+use Rattle.heap_formula.specs.Definitions.{Definition as DefinitionValue}
+use Rattle.heap_formula.specs.Symbolic.{SymbolicHeap}
+use Rattle.pred_reader.specs.Written.{heap_tree, definition_tree}
+use Rattle.model_syntax.specs.Trees.{Cell, Model}
+use Rattle.model_syntax.specs.Grammar.{body}
+
+abbrev pub cell_tree : ℕ × List ℕ → Cell
+cell_tree e = record { address = e.0; fields = e.1 }
+
+-- the cells of a heap, ascending
+abbrev pub cells_tree : Cells → List Cell
+cells_tree h = map cell_tree (entries h)
+
+abbrev pub tree_of : List DefinitionValue → List ℕ → Cells → SymbolicHeap → Model
+tree_of ds stack h ask = record { definitions = map (definition_tree ds) ds; stack = stack; cells = cells_tree h; ask = heap_tree ds ask }
+
+-- their text
+abbrev pub text_of_model : List DefinitionValue → List ℕ → Cells → SymbolicHeap → List ℕ
+text_of_model ds stack h ask = text_of (body.words (tree_of ds stack h ask))

@@ -1,0 +1,24 @@
+// Models as values.
+ghost use Rattle.std.specs.Prelude.{◌≡◌, None};
+ghost use Rattle.model_syntax.specs.Grammar.{model};
+ghost use Rattle.model_file.specs.Flaws.{model_flaw};
+ghost use Rattle.model_file.specs.Fits.{model-fit};
+ghost use Rattle.model_file.specs.Written.{tree_of};
+
+use goto_lang::{Cells, Stack};
+use heap_formula::Heap;
+use pred_defs::Defs;
+
+/// A model file: definitions, a stack, a heap, and a formula of which is asked whether they satisfy it. The value of `$n`
+/// in the formula is entry n of the stack, 0 past its end. The file has a text: its tree, in which the cells ascend, fits
+/// the grammar, and has no flaw.
+#[derive(Drop)]
+pub struct Model {
+    pub defs: Defs,
+    pub stack: Stack,
+    pub heap: Cells,
+    pub ask: Heap,
+    ghost limit: { defs.most ≡ 32 },
+    ghost fits: { model.fits (tree_of defs.list stack heap ask) } by { model-fit (tree_of defs.list stack heap ask) },
+    ghost flawless: { model_flaw (tree_of defs.list stack heap ask) ≡ None },
+}

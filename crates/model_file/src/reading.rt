@@ -1,0 +1,79 @@
+// Reading a model file: its tokens, its tree, the first flaw of the tree, and its value.
+ghost use Rattle.std.specs.Prelude.{◌≡◌, ◌-◌, ◌<◌, ◌^◌, None, length, map, IfOk};
+ghost use Rattle.cyc_lex.specs.Word.{EndsOnce, word_of};
+ghost use Rattle.pred_reader.specs.Flaws.{headings};
+ghost use Rattle.model_syntax.specs.Grammar.{model};
+ghost use Rattle.model_syntax.specs.Trees.{model_of};
+ghost use Rattle.model_file.specs.Flaws.{model_flaw as first_flaw};
+ghost use Rattle.model_file.specs.Reading.{IsModelOf, ReadsFrom, Reads};
+
+use crate::cell_values::{cells, wide_numbers};
+use crate::file::Model;
+use crate::walk::model_flaw;
+use cyc_lex::{LexFault, ReadFault, Tokens, tokens};
+use cyc_memory::OutOfMemory;
+use goto_lang::Stack;
+use heap_reader::{Heads, flaw_fault, heap_value};
+use model_syntax::{ModelTree, read_tree};
+use pred_defs::Defs;
+use pred_reader::{Scope, definition_values, heads};
+use std::alloc::Global;
+
+/// The model that a tree without a flaw says.
+fn model_of_tree(
+    alloc: Global,
+    heads: &Heads<'_>,
+    tree: &ModelTree<'_>,
+) -> Result<Model, OutOfMemory>
+    requires known { heads.now ≡ headings (model_of tree.now).definitions }
+    requires fits { model.fits (model_of tree.now) }
+    requires right { first_flaw (model_of tree.now) ≡ None }
+    ensures { IfOk result (IsModelOf (model_of tree.now)) }
+{
+    let definitions = definition_values(alloc, heads, &tree.definitions)?;
+    let defs = Defs::from_vec(alloc, 32, definitions);
+    let stack = Stack::from_vec(wide_numbers(alloc, &tree.stack)?);
+    let heap = cells(alloc, &tree.cells)?;
+    let ask = heap_value(alloc, heads, &Scope::Outside, &tree.ask)?;
+    Ok(Model {
+        defs,
+        stack,
+        heap,
+        ask,
+    })
+}
+
+fn read_tokens(alloc: Global, tokens: &Tokens<'_>) -> Result<Model, ReadFault>
+    requires few { length tokens.now < 2 ^ 32 }
+    requires words { EndsOnce (map word_of tokens.now) }
+    ensures { ReadsFrom tokens.now result }
+{
+    let tree = match read_tree(alloc, tokens) {
+        Ok(tree) => tree,
+        Err(fault) => return Err(fault),
+    };
+    let heads = match heads(alloc, &tree.definitions) {
+        Ok(heads) => heads,
+        Err(OutOfMemory) => return Err(ReadFault::OutOfMemory),
+    };
+    if let Some(flaw) = model_flaw(&heads, &tree) {
+        return Err(flaw_fault(tokens, flaw));
+    }
+    match model_of_tree(alloc, &heads, &tree) {
+        Ok(model) => Ok(model),
+        Err(OutOfMemory) => Err(ReadFault::OutOfMemory),
+    }
+}
+
+/// The model that the bytes spell, or the first fault of the text: of its tokens, then of its grammar, then of what it
+/// says, each at the first place where it stands.
+pub fn read_model(alloc: Global, bytes: &[u8]) -> Result<Model, ReadFault>
+    requires { length bytes.now < 2 ^ 32 - 1 }
+    ensures { Reads bytes.now result }
+{
+    match tokens(alloc, bytes) {
+        Ok(tokens) => read_tokens(alloc, &tokens),
+        Err(LexFault::OutOfMemory) => Err(ReadFault::OutOfMemory),
+        Err(fault) => Err(ReadFault::Lex(fault)),
+    }
+}

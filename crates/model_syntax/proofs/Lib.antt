@@ -1,0 +1,3 @@
+pub mod ModelLaws
+pub mod ModelEnds
+mod ModelWriting
