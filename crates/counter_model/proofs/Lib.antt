@@ -1,0 +1,10 @@
+pub mod Renaming
+pub mod Tight
+pub mod TightFirst
+pub mod TwoLevels
+pub mod OrderLaws
+pub mod StackSteps
+pub mod Widths
+pub mod Finish
+pub mod OnePlace
+pub mod Refusals

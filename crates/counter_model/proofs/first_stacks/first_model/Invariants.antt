@@ -1,0 +1,13 @@
+use Rattle.std.proofs.Common.{◌⊎◌, drop, List, ℕ}
+use Rattle.heap_formula.specs.Cells.{Cells}
+use Rattle.model_check.specs.Constructive.{Member}
+use Rattle.fitting_heaps.specs.Bounds.{IsWithin}
+use Rattle.counter_model.specs.FirstCounter.{IsCounter}
+use Rattle.counter_model.specs.Leaders.{IsPairFor, IsStackLed}
+use Rattle.counter_model.proofs.first_stacks.first_model.Given as goal
+
+abbrev pub invariant-loop-stack : goal.invariant-loop-stack
+invariant-loop-stack l = record {
+  pair : IsPairFor l.greatest l.count l.defs.list l.antecedent l.disjuncts l.leader;
+  first : (t : List ℕ) (g : Cells) → IsWithin l.greatest g → IsCounter l.defs.list l.antecedent l.disjuncts t g → Member t l.stack-items → IsStackLed l.leader t ⊎ Member t (drop l.stack-index l.stack-items);
+}

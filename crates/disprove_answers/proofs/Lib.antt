@@ -1,0 +1,5 @@
+pub mod FewCells
+pub mod SortedEntries
+pub mod ModelTrees
+pub mod Answered
+pub mod OneAnswer

@@ -1,0 +1,12 @@
+//! The answers of the command `disprove`: the first counter-model of a problem's goal, as a model file.
+#![tactic(auto)]
+
+mod entailments;
+mod laws;
+mod model_files;
+
+pub use entailments::Disprover;
+pub use laws::{
+    answers_end_in_one_way, refuted_goals_do_not_hold, refuted_goals_have_no_proof,
+    written_models_hold,
+};

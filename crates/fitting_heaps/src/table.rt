@@ -1,0 +1,115 @@
+// What is found so far of each question.
+ghost use Rattle.std.specs.Prelude.{◌≡◌, ◌≤◌, [], ◌∷◌, length, false, IfOk, MatchOption, Some, slice_get};
+ghost use Rattle.heap_formula.specs.Cells.{Cells as SomeHeap};
+ghost use Rattle.model_check.specs.Grounding.{IsQuestion};
+ghost use Rattle.fitting_heaps.specs.Bounds.{IsAmong};
+ghost use Rattle.fitting_heaps.specs.Findings.{heaps_in, IsFound, UnlessGrown};
+
+use crate::combining::{Heaps, has_heap};
+use crate::questions::Question;
+use cyc_memory::OutOfMemory;
+use goto_lang::Cells;
+use indexmap::IndexSet;
+use std::alloc::Global;
+use std::marker::Model;
+
+/// The questions asked so far, each once, and the heaps found for each. Want of memory may leave the last question
+/// without a place for heaps.
+#[derive(Drop)]
+pub struct Table {
+    questions: IndexSet<Question>,
+    found: Vec<Heaps>,
+}
+
+impl Model for Table {
+    ghost use Rattle.std.specs.FinMap as map;
+    ghost use Rattle.std.specs.Coded.{codes, coded_ℕ, coded_list};
+    ghost use Rattle.std.specs.Ordering.{nat_cmp};
+    ghost use Rattle.fitting_heaps.specs.Findings.{Findings};
+
+    ghost Value = { Findings };
+
+    ghost coded = { Prim.hlevel (codes, map.code {R = nat_cmp} coded_ℕ (coded_list coded_ℕ)) };
+
+    ghost view = { λ t. record { questions = t.questions.keys; found = t.found.items } };
+}
+
+impl Table {
+    pub fn new(alloc: Global) -> Table {
+        Table {
+            questions: IndexSet::new(alloc),
+            found: Vec::new(alloc),
+        }
+    }
+
+    /// How many questions were asked.
+    pub fn len(&self) -> usize
+        ensures { result ≡ length self.now.questions }
+    {
+        self.questions.len()
+    }
+
+    /// A copy of a question.
+    pub fn question(&self, q: usize) -> Result<Option<Question>, OutOfMemory>
+        ensures { IfOk result (λ o. MatchOption o (length self.now.questions ≤ q) (λ x. slice_get self.now.questions q ≡ Some x)) }
+    {
+        match self.questions.as_slice().get(q) {
+            None => Ok(None),
+            Some(question) => Ok(Some(question.clone()?)),
+        }
+    }
+
+    /// The heaps found for a question.
+    pub fn heaps(&self, q: usize) -> &[Cells]
+        ensures { result.now ≡ heaps_in (slice_get self.now.found q) }
+    {
+        match self.found.get(q) {
+            None => &[],
+            Some(heaps) => heaps.as_slice(),
+        }
+    }
+
+    /// The number of a question, and whether it is asked for the first time.
+    pub fn ask(
+        &mut self,
+        alloc: Global,
+        predicate: u16,
+        values: Vec<u64>,
+    ) -> Result<(usize, bool), OutOfMemory>
+        ensures { IfOk result (λ r. UnlessGrown r.1 self.old self.new (IsQuestion self.old.questions r.0 predicate values.items)) }
+    {
+        let (q, is_new) = self
+            .questions
+            .insert_full(Question::new(predicate, values))?;
+        if is_new {
+            self.found.push(Heaps::new(alloc))?;
+        }
+        Ok((q, is_new))
+    }
+
+    fn push(&mut self, alloc: Global, q: usize, heap: Cells) -> Result<(), OutOfMemory> {
+        if q < self.found.len() {
+            self.found[q].push(heap)
+        } else {
+            self.found.push(Heaps::new(alloc))?;
+            Ok(())
+        }
+    }
+
+    /// Adds a copy of a heap to those found for a question, if it is not there, and says whether it did.
+    pub fn add(
+        &mut self,
+        alloc: Global,
+        greatest: u32,
+        q: usize,
+        heap: &Cells,
+    ) -> Result<bool, OutOfMemory>
+        ensures { IfOk result (λ grown. UnlessGrown grown self.old self.new ((h : SomeHeap) → IsAmong greatest (heap.now ∷ []) h → IsFound greatest self.old q h)) }
+    {
+        if has_heap(greatest, self.heaps(q), heap) {
+            return Ok(false);
+        }
+        self.push(alloc, q, heap.clone()?)?;
+        Ok(true)
+    }
+}
