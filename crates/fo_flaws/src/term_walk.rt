@@ -1,0 +1,140 @@
+//! A walk over the signs of a term in the order of their tokens, up to the first flaw.
+
+ghost use Rattle.std.specs.Prelude.{◌≡◌, ◌+◌, ◌-◌, ◌<◌, ◌≤◌, ◌^◌, length, map, drop, None};
+ghost use Rattle.fo_term_syntax.specs.Trees.{sign_of};
+ghost use Rattle.fo_term_syntax.specs.Grammar.{IsTerm};
+ghost use Rattle.fo_term_syntax.specs.Places.{places_of as places_in, tokens_in};
+ghost use Rattle.fo_term_syntax.proofs.PlaceLaws.{HaveRoom};
+ghost use Rattle.fo_flaws.specs.Flaws.{use_flaw, variable_flaw, terms_flaw, sign_flaw, signs_flaw, term_flaw, IsWalk, IsName};
+
+use crate::flaw::{Arities, FoFlaw, FoIllFault, FoWhat, Reached, Scope, Stop, ill, over};
+use fo_term_syntax::{SignTree, places_of};
+use std::alloc::Global;
+
+/// A name that is known with so many arguments, if it is, is used with others.
+pub fn check_use(known: Option<u32>, arguments: usize, at: usize) -> Result<(), FoFlaw>
+    ensures { IsName result (use_flaw known arguments at) }
+{
+    match known {
+        None => Err(ill(FoIllFault::Unknown, at)),
+        Some(arity) if arity as usize != arguments => Err(ill(FoIllFault::Arity, at)),
+        Some(_) => Ok(()),
+    }
+}
+
+fn check_variable(scope: Scope, at: usize, number: u32) -> Result<(), FoFlaw>
+    ensures { IsName result (variable_flaw scope at number) }
+{
+    match scope {
+        Scope::Node if number > 65534 => Err(over(FoWhat::Variable, at)),
+        Scope::Case(arity) if number >= arity => Err(ill(FoIllFault::Parameter, at)),
+        _ => Ok(()),
+    }
+}
+
+fn check_terms(terms: usize, at: usize) -> Result<(), FoFlaw>
+    ensures { IsName result (terms_flaw terms at) }
+{
+    if terms >= 4096 {
+        return Err(over(FoWhat::Terms, at));
+    }
+    Ok(())
+}
+
+/// A flaw that is known already, or none.
+pub fn check_limit(limit: Option<FoFlaw>) -> Result<(), FoFlaw>
+    ensures { IsName result limit }
+{
+    match limit {
+        Some(flaw) => Err(flaw),
+        None => Ok(()),
+    }
+}
+
+fn check_sign<A: Arities>(
+    names: &A,
+    scope: Scope,
+    terms: usize,
+    at: usize,
+    limit: Option<FoFlaw>,
+    sign: SignTree<'_>,
+) -> Result<(), FoFlaw>
+    requires { at + 1 < 2 ^ 64 }
+    ensures { IsName result (sign_flaw (A.arity names.now) scope terms at limit (sign_of sign.entry)) }
+{
+    match sign {
+        SignTree::Variable(number) => {
+            check_limit(limit)?;
+            check_terms(terms, at)?;
+            check_variable(scope, at + 1, number)
+        }
+        SignTree::Local(number) => {
+            check_limit(limit)?;
+            check_terms(terms, at)?;
+            if number > 15 {
+                return Err(over(FoWhat::Locals, at + 1));
+            }
+            Ok(())
+        }
+        SignTree::Apply(name, arguments) => {
+            check_use(names.arity_of(name), arguments, at)?;
+            check_limit(limit)?;
+            check_terms(terms, at)
+        }
+    }
+}
+
+/// Signs that begin at these places, counted from the token that is reached.
+pub fn walk_signs<A: Arities>(
+    names: &A,
+    scope: Scope,
+    limit: Option<FoFlaw>,
+    from: Reached,
+    signs: &[SignTree<'_>],
+    places: &[usize],
+) -> Result<(), FoFlaw>
+    requires each { length signs.now < length places.now }
+    requires room { HaveRoom (2 ^ 64 - (from.token + 1)) places.now }
+    requires terms { from.terms + length signs.now < 2 ^ 64 }
+    ensures { IsName result (signs_flaw (A.arity names.now) scope from.terms from.token limit (map sign_of signs.now) places.now) }
+{
+    let mut limit = limit;
+    for (n, sign) in signs.iter().enumerate() {
+        let place = places[n];
+        check_sign(
+            names,
+            scope,
+            from.terms + n,
+            from.token + place,
+            limit,
+            *sign,
+        )?;
+        limit = None;
+    }
+    Ok(())
+}
+
+/// A term: its first flaw, or the token behind it and the number of terms with its own. `limit` is what the list that
+/// begins with this term has against it.
+pub fn walk_term<A: Arities>(
+    alloc: Global,
+    names: &A,
+    scope: Scope,
+    limit: Option<FoFlaw>,
+    from: Reached,
+    signs: &[SignTree<'_>],
+) -> Result<Reached, Stop>
+    requires is { IsTerm (map sign_of signs.now) }
+    requires tokens { from.token + tokens_in (map sign_of signs.now) < 2 ^ 64 }
+    requires terms { from.terms + length signs.now < 2 ^ 64 }
+    ensures { IsWalk result (term_flaw (A.arity names.now) scope from.terms from.token limit (map sign_of signs.now)) (from.token + tokens_in (map sign_of signs.now)) (from.terms + length signs.now) }
+{
+    let places = places_of(alloc, signs)?;
+    match walk_signs(names, scope, limit, from, signs, &places) {
+        Ok(()) => Ok(Reached {
+            token: from.token + places[signs.len()],
+            terms: from.terms + signs.len(),
+        }),
+        Err(flaw) => Err(Stop::Flaw(flaw)),
+    }
+}

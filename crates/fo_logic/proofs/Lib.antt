@@ -1,0 +1,2 @@
+mod TestLoops
+mod Tables

@@ -1,0 +1,88 @@
+-- What a tested proof answers as a proof system.
+use Rattle.std.proofs.Common.{◌≡◌, ℕ, zero, suc, ◌<◌, Bool, true, false, List, [], ◌∷◌, get_or, map, take, length, Option, Some, refl, sym, ap, ◌∙◌, subst, arith, Vec}
+use Rattle.std.specs.Prelude.{slice_get, nat_lt}
+use Rattle.std.specs.declared.alloc.Global.{Global}
+use Rattle.std.proofs.lemmas.Bool.{leb-true, leb-false, ltb-true, ltb-false}
+use Rattle.std.proofs.lemmas.Option.{slice_get_within}
+use Rattle.fo_formula.specs.declared.nodes.FoFile.{FoFile}
+use Rattle.fo_formula.specs.declared.nodes.FoNode.{FoNode}
+use Rattle.fo_formula.proofs.ValidityLaws.{holds-at_all}
+use Rattle.fo_table.specs.declared.faults.FoFault.{FoFault}
+use Rattle.fo_table.specs.Nodes.{Edge, edges_of, node_fault}
+use Rattle.trace_pairs.specs.Graph.{Edge as GraphEdge}
+use Rattle.trace_pairs.specs.System.{HasPositions, HasEdges, NoneFaulty, IsLeastFaulty}
+use Rattle.trace_pairs.specs.Walk.{Walk}
+use Rattle.buchi_inclusion.specs.Checked.{IsChecked}
+use Rattle.buchi_inclusion.specs.declared.system.Checked.{Checked}
+use Rattle.buchi_inclusion.specs.declared.system.Checked.TheVariants as answers
+use Rattle.position_sets.proofs.Lists.{at_map, get_within}
+use Rattle.proof_graph.proofs.Joined.{mapped_at}
+use Rattle.fo_nodes.specs.Files.{predicate_places, graph_edge, graph_node, HoldsAtNode}
+use Rattle.fo_logic.specs.Laws.{graph_length}
+use Rattle.fo_logic.specs.Tested.{rows_of, first_rows, EndsBy, is_untested}
+use Rattle.fo_logic.specs.Verdicts.{file_graph, HasRightNodes, IsRightBefore, IsLeastFault, IsVerdict}
+use Rattle.fo_logic.specs.declared.verdict.FoVerdict.TheVariants as verdicts
+use Rattle.fo_logic.proofs.TestLoops.{at_index}
+
+-- ---- the calls
+
+pub positions_at : (f : FoFile) (v : ℕ) (n : FoNode) (ps : List ℕ) → v < length (file_graph f) → n ≡ get_or f.nodes v n → ps ≡ predicate_places 0 n.sequent.left → HasPositions (file_graph f) v ps
+positions_at f v n ps within is e =
+    let node = graph_node f.theory f.nodes in
+    let below : v < length f.nodes = omega (arith, within, graph_length f) in
+    (node n, at_map node f.nodes v n (at_index f.nodes v n n below (sym is)), e)
+
+take_at : {X : Type 0} (xs : List X) (n k : ℕ) (x : X) → slice_get (take n xs) k ≡ Some x → slice_get xs k ≡ Some x
+take_at [] zero k x e = e
+take_at [] (suc n) k x e = e
+take_at (y ∷ xs) zero k x e = cc
+take_at (y ∷ xs) (suc n) zero x e = e
+take_at (y ∷ xs) (suc n) (suc k) x e = take_at xs n k x e
+
+pub edges_at : (f : FoFile) (rows : List (Vec Edge Global)) (v : ℕ) (row : Vec Edge Global) (es : List GraphEdge) → rows_of rows ≡ first_rows f (length rows) → is_untested (length rows) v ≡ false → row ≡ get_or rows v row → es ≡ map graph_edge row.items → HasEdges (file_graph f) v es
+edges_at f rows v row es are tested is e =
+    let node = graph_node f.theory f.nodes in
+    let edges = edges_of f.theory f.nodes in
+    let there = at_map (λ (r : Vec Edge Global). r.items) rows v row (at_index rows v row row (leb-false (length rows) v tested) (sym is)) in
+    let m = mapped_at edges (take (length rows) f.nodes) v row.items (subst (λ rs. slice_get rs v ≡ Some row.items) are there) in
+    (node m.from, at_map node f.nodes v m.from (take_at f.nodes (length rows) v m.from m.at), e ∙ ap (map graph_edge) (sym m.is))
+
+-- ---- the answer
+
+pub named_fault : (f : FoFile) (n v : ℕ) (fault : Option FoFault) (x : FoFault) → IsRightBefore f n → EndsBy f n fault → fault ≡ Some x → IsLeastFaulty (file_graph f) (is_untested n) v → IsLeastFault f v x
+named_fault f n v fault x right ends is least =
+    with_node (get_within f.nodes v (omega (arith, least.node, graph_length f)))
+  where
+    by_test : (b : Bool) → nat_lt n v ≡ b → n ≡ v
+    by_test true t = absurd (let l = leb-false n n (least.least n (ltb-true n v t)) in omega arith)
+    by_test false t = let a = ltb-false n v t in let b = leb-true n v least.is_faulty in omega arith
+
+    same : n ≡ v
+    same = by_test (nat_lt n v) refl
+
+    with_node : (node : FoNode) × (slice_get f.nodes v ≡ Some node) → IsLeastFault f v x
+    with_node at = record {
+      node = at.0;
+      at = at.1;
+      first = subst (λ u. node_fault f.theory f.nodes u at.0 ≡ Some x) same (ends.some x at.0 is (subst (λ u. slice_get f.nodes u ≡ Some at.0) (sym same) at.1));
+      before = subst (IsRightBefore f) same right;
+    }
+
+right_nodes : (f : FoFile) (n : ℕ) → IsRightBefore f n → NoneFaulty (file_graph f) (is_untested n) → HasRightNodes f
+right_nodes f n right none v node at =
+    let l = slice_get_within f.nodes v node at in
+    right v node (leb-false n v (none v (omega (arith, graph_length f)))) at
+
+-- what is said of the proof system is said of the proof
+abbrev pub IsToldOf : FoFile → ℕ → Checked → Type 0
+IsToldOf f n answer = IsChecked (file_graph f) (is_untested n) (HoldsAtNode f.theory f.nodes) 200000 answer
+
+pub is_accepted : (f : FoFile) (n : ℕ) → IsRightBefore f n → IsToldOf f n answers.Accepted → IsVerdict f verdicts.Accepted
+is_accepted f n right told =
+    (record { nodes = right_nodes f n right told.0; paths = told.1 }, told.2, λ root at. (holds-at_all f.theory root.sequent).1 (λ stages. told.3 stages root at))
+
+pub is_refused : (f : FoFile) (n : ℕ) (l : Walk) → IsRightBefore f n → IsToldOf f n (answers.PathRefused l) → IsVerdict f (verdicts.PathRefused l)
+is_refused f n l right told = (right_nodes f n right told.0, told.1, told.2, told.3)
+
+pub has_many_states : (f : FoFile) (n : ℕ) → IsRightBefore f n → IsToldOf f n answers.TooManyStates → IsVerdict f verdicts.TooManyStates
+has_many_states f n right told = (right_nodes f n right told.0, told.1)

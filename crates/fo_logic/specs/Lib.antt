@@ -1,0 +1,3 @@
+pub mod Verdicts
+pub mod Tested
+pub mod Laws

@@ -1,0 +1,12 @@
+//! Verdicts on proofs in first-order logic with inductive definitions: each node by the rule table and the law of links,
+//! each path by the trace condition.
+#![tactic(auto)]
+
+mod checking;
+mod tested;
+mod verdict;
+
+pub use checking::{MOST_STATES, check_fo};
+pub use cyc_memory::OutOfMemory;
+pub use fo_table::FoFault;
+pub use verdict::FoVerdict;

@@ -1,0 +1,5 @@
+pub mod OtherTexts
+pub mod ReasonParts
+pub mod ProofLaws
+pub mod ProofEnds
+pub mod WrittenFiles

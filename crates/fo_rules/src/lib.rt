@@ -1,0 +1,15 @@
+//! The rules of first-order logic with inductive definitions carried out, and the test of links, as the table has them.
+#![tactic(auto)]
+
+mod book;
+mod closing;
+mod linking;
+mod replacing;
+mod right_cases;
+mod splitting;
+mod structural;
+mod unfolding;
+
+pub use book::premises;
+pub use cyc_memory::OutOfMemory;
+pub use linking::{link_fault, premises_by_link};

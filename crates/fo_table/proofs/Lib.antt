@@ -1,0 +1,10 @@
+pub mod Steps
+pub mod Lefts
+pub mod Reflects
+pub mod Agreement
+pub mod Readings
+pub mod RuleLemmas
+pub mod Unfolds
+pub mod Rights
+pub mod AllRules
+pub mod Links

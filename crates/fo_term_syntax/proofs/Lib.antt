@@ -1,0 +1,10 @@
+pub mod StepLaws
+pub mod StepLoops
+pub mod StepWrites
+pub mod BracketLaws
+pub mod CountLaws
+pub mod TermLaws
+pub mod TermEnds
+pub mod TermFits
+pub mod PlaceLaws
+pub mod AtomTexts

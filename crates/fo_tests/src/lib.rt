@@ -1,0 +1,7 @@
+//! Tests of the texts of first-order logic; there is nothing else here.
+#![tactic(auto)]
+
+#[cfg(test)]
+mod fo_problem_syntax_tests;
+#[cfg(test)]
+mod fo_proof_syntax_tests;
