@@ -3,7 +3,7 @@
 set -u
 name=cyclist
 . "$(dirname "${BASH_SOURCE[0]}")/compare.sh"
-usage='usage: cyclist check | prove [--depth N] | ring K | upgrade | sat'
+usage='usage: cyclist check | prove [--depth N] | ring K | upgrade | sat | model | disprove [--cells N]'
 
 run 0 'accepted entailment nodes 1 links 0' check < "$top/examples/first.proof"
 run 0 "$(grep -v '^#' "$top/examples/list-segments.proof")" prove --depth 5 < "$top/examples/list-segments.problem"
@@ -13,7 +13,7 @@ run 0 "$(grep -v '^#' "$top/examples/seventeen-cells.proof")" upgrade < "$top/ex
 run 0 "$(grep -v '^#' "$top/examples/freed-twice.proof" | sed '1s/1/2/')" upgrade < "$top/examples/freed-twice.proof"
 run 1 'refused path stem cycle 0.0' check <<< 'cyclist proof 1; node true : emp |- true : emp by Link 0 { } [] [0]; end;'
 run 1 'refused node 0 NotEmpty' check <<< 'cyclist proof 1; node true : $0 -> (nil) |- true : emp by Done; end;'
-for words in '' '--help' 'help' 'ring' 'ring 0' 'ring 2001' 'prove --depth 41' 'prove --depth' 'check check' 'Check' 'upgrade 2'; do
+for words in '' '--help' 'help' 'ring' 'ring 0' 'ring 2001' 'prove --depth 41' 'prove --depth' 'check check' 'Check' 'upgrade 2' 'model x' 'disprove --cells 5'; do
   # (the words are cut at the spaces)
   # shellcheck disable=SC2086
   run 2 "$usage" $words < /dev/null
@@ -26,6 +26,18 @@ run 0 'satisfiable' sat < "$top/examples/list-walk.problem"
 run 1 'unsatisfiable' sat < "$top/examples/odd-and-even.problem"
 run 1 'unsatisfiable' sat <<< 'cyclist problem 1; goal true : x -> (y) * x -> (z) |- true : emp; end;'
 run 3 'unreadable syntax token 0 line 1 column 1' sat < /dev/null
+run 0 'holds' model < "$top/examples/ring.model"
+run 1 'fails' model < "$top/examples/wrong-link.model"
+run 1 'fails' model <<< 'cyclist model 1; pred q(1) { true : q($0) }; stack; heap; ask true : q($0); end;'
+run 3 'unreadable syntax token 0 line 1 column 1' model < /dev/null
+run 4 'ill-formed address token 7 line 1 column 30' model <<< 'cyclist model 1; stack; heap 0 -> (1); ask true : emp; end;'
+run 4 'ill-formed constructive case 0 1' model <<< 'cyclist model 1; pred r(1) { true : emp | true : r(?0) }; stack; heap; ask true : r($0); end;'
+run 5 'limit input' model < <(all_of ' ' 16777217)
+run 0 "$(grep -v '^#' "$top/examples/acyclic-segments.model")" disprove < "$top/examples/acyclic-segments.problem"
+run 6 'not found cells 1' disprove --cells 1 < "$top/examples/acyclic-segments.problem"
+run 6 'not found cells 2' disprove < "$top/examples/list-segments.problem"
+run 4 'ill-formed judgement from' disprove < "$top/examples/list-walk.problem"
+run 5 'limit universals' disprove <<< 'cyclist problem 1; goal a = b, c = d, e = f, g = h, i = i : emp |- true : emp; end;'
 run 4 'ill-formed unknown token 7 line 2 column 13' prove < <(printf 'cyclist problem 1;\ngoal true : zz(x) |- true : emp;\nend;')
 run 5 'limit variable token 8 line 1 column 31' check <<< 'cyclist proof 1; node true : $65535 -> (nil) |- true : emp by Absurd; end;'
 
@@ -59,7 +71,7 @@ run 0 'accepted entailment nodes 20000 links 19999' check < <(echo 'cyclist proo
 run 6 'not found depth 40' prove --depth 40 < "$top/examples/acyclic-segments.problem"
 run 0 'accepted entailment nodes 9 links 2' check < <(turns 12 4)
 run 5 'limit states' check < <(turns 12 5)
-run 5 'limit derivations' prove < "$top/examples/seek/tree-from-below.problem"
+run 5 'limit derivations' prove <<< 'cyclist problem 1; pred p() { true : p() | true : p() | true : p() | true : p() }; goal true : emp |- true : p(); end;'
 
 # a source that cannot be read, and a sink that cannot be written
 run 7 '' check < "$top"

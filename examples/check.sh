@@ -1,7 +1,8 @@
 #!/usr/bin/env bash
 # examples/check.sh PROGRAM SEEKER: each example is answered as its line in answers.txt says; the proof beside a problem, its
 # comments aside, is what `prove` writes of that problem, or there is none and no proof is found; the free search finds a proof
-# of each of them too, and the proofs in seek/ are what it writes.
+# of each of them too, and the proofs in seek/ are what it writes; the model beside a problem is what `disprove` writes of that
+# problem, and `model` says that it holds.
 set -u
 program=$1
 seeker=$2
@@ -15,7 +16,8 @@ fail() { # MESSAGE
 
 while IFS='|' read -r file status text; do
   case $file in '#'*|'') continue ;; esac
-  got=$("$program" check < "$here/$file")
+  case $file in *.model) command=model ;; *) command=check ;; esac
+  got=$("$program" "$command" < "$here/$file")
   code=$?
   # (a text with a star is a pattern: which path without progress is named, where there are several, is left open)
   # shellcheck disable=SC2053
@@ -50,6 +52,15 @@ for problem in "$here"/*.problem; do
     code=$?
     [ "$code" = 6 ] && [ "$got" = 'not found' ] || fail "examples/$name: seek ends with $code, and '$(echo "$got" | head -n 1)'"
   fi
+done
+
+for model in "$here"/*.model "$here"/refuted/*.model; do
+  problem=${model%.model}.problem
+  [ -f "$problem" ] || continue
+  got=$("$program" disprove < "$problem")
+  code=$?
+  [ "$code" = 0 ] && [ "$got" = "$(grep -v '^#' "$model")" ] || fail "examples: disprove of $(basename "$problem") ends with $code, and does not write the model beside it"
+  [ "$("$program" model <<< "$got")" = holds ] || fail "examples: what disprove writes of $(basename "$problem") does not hold"
 done
 
 for problem in "$here"/seek/*.problem; do

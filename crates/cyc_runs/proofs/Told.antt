@@ -32,3 +32,8 @@ pub long_answers : (answers : Answering) (told read : Option (List ℕ)) (ending
 long_answers answers told read ending text is e ends said =
     let long : IsInput told None = subst (IsInput told) e is in
     (long.0, long.1, inl (long.2, ends, said))
+
+-- the input that was told
+pub told_is : (told : Option (List ℕ)) (input other : List ℕ) → told ≡ Some input → IsTold told other → input ≡ other
+told_is None input other e told = cc
+told_is (Some xs) input other e told = cc

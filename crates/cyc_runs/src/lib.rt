@@ -39,9 +39,10 @@ pub trait Tool {
 /// Writes an answer, whole unless a write fails, and says how the run ends.
 pub fn give<K: Sink>(answer: Answer, out: &mut K) -> Status
     requires { is_answer answer.status ≡ true }
-    ensures whole { is_answer result ≡ true → (result ≡ answer.status) × Appends (K.written out.old) (K.written out.new) answer.text.items }
-    ensures part { result ≡ Status.WriteFault
-        → Rose (K.faults out.old) (K.faults out.new) × AppendsProperPrefix (K.written out.old) (K.written out.new) answer.text.items }
+    ensures whole { is_answer result ≡ true
+        → (result ≡ answer.status) × Appends (K.written out.old) (K.written out.new) answer.text.items }
+    ensures part { result ≡ Status.WriteFault → Rose (K.faults out.old) (K.faults out.new)
+        × AppendsProperPrefix (K.written out.old) (K.written out.new) answer.text.items }
     ensures calm { is_answer result ≡ true → K.faults out.new ≡ K.faults out.old }
     ensures counted { K.faults out.old ≤ K.faults out.new }
     ensures read_fault { result ≢ Status.ReadFault }
@@ -56,9 +57,11 @@ pub fn give<K: Sink>(answer: Answer, out: &mut K) -> Status
 /// Writes an answer on which no input bears, if memory sufficed to make it, and says how the run ends.
 pub fn give_made<K: Sink>(made: Result<Answer, OutOfMemory>, out: &mut K) -> Status
     requires { IfOk made (λ a. is_answer a.status ≡ true) }
-    ensures whole { (status : Status) (text : List ℕ) → IfOk made (λ a. (a.status ≡ status) × (a.text.items ≡ text))
-        → is_answer result ≡ true → (result ≡ status) × Appends (K.written out.old) (K.written out.new) text }
-    ensures part { (status : Status) (text : List ℕ) → IfOk made (λ a. (a.status ≡ status) × (a.text.items ≡ text))
+    ensures whole { (status : Status) (text : List ℕ)
+        → IfOk made (λ a. (a.status ≡ status) × (a.text.items ≡ text)) → is_answer result ≡ true
+        → (result ≡ status) × Appends (K.written out.old) (K.written out.new) text }
+    ensures part { (status : Status) (text : List ℕ)
+        → IfOk made (λ a. (a.status ≡ status) × (a.text.items ≡ text))
         → result ≡ Status.WriteFault → AppendsProperPrefix (K.written out.old) (K.written out.new) text }
     ensures cause { result ≡ Status.WriteFault → Rose (K.faults out.old) (K.faults out.new) }
     ensures read_fault { result ≢ Status.ReadFault }

@@ -3,9 +3,9 @@ use Rattle.std.specs.Prelude.{ℕ, List, codes, Option, Some, None}
 use Rattle.heap_formula.specs.declared.proof_rules.RuleFault.{RuleFault}
 use Rattle.heap_formula.specs.declared.proof_rules.RuleFault.TheVariants.{NoSuchAtom, NotEquation, AtomsDiffer, NotSingle, HasExistential, NotFollowing, NotAbsurd, NotEmpty, NoSuchCase, WrongJudgement, NoCell, LineDiffers, LinkProgramVariable, LinkPure, LinkSpatial, LinkDisjunct, TooManyAtoms, NoFreshVariable, PremiseCount, PremiseDiffers, NoSuchNode}
 use Rattle.cyc_lex.specs.declared.fault.IllFault.{IllFault}
-use Rattle.cyc_lex.specs.declared.fault.IllFault.TheVariants.{Duplicate, Parameter, Unknown, Arity, Numbering, Jump, FallsOff, NoLine}
+use Rattle.cyc_lex.specs.declared.fault.IllFault.TheVariants.{Duplicate, Parameter, Unknown, Arity, Numbering, Jump, FallsOff, NoLine, Address, Constant}
 use Rattle.cyc_lex.specs.declared.fault.What.{What}
-use Rattle.cyc_lex.specs.declared.fault.What.TheVariants.{Predicates, Arguments, Cases, Pure, Spatial, Locals, Disjuncts, Lines, ProgramVariables, Fields, Nodes, Variable}
+use Rattle.cyc_lex.specs.declared.fault.What.TheVariants.{Predicates, Arguments, Cases, Pure, Spatial, Locals, Disjuncts, Lines, ProgramVariables, Fields, Nodes, Variable, Stack, Cells, Constructors, Atoms, Terms}
 
 -- a fault of a node
 abbrev pub fault_name_of : RuleFault → List ℕ
@@ -49,6 +49,8 @@ ill_name_of Numbering = codes "numbering"
 ill_name_of Jump = codes "jump"
 ill_name_of FallsOff = codes "falls-off"
 ill_name_of NoLine = codes "no-line"
+ill_name_of Address = codes "address"
+ill_name_of Constant = codes "constant"
 
 -- what a limit counts
 abbrev pub limit_name_of : What → List ℕ
@@ -64,3 +66,8 @@ limit_name_of ProgramVariables = codes "program-variables"
 limit_name_of Fields = codes "fields"
 limit_name_of Nodes = codes "nodes"
 limit_name_of Variable = codes "variable"
+limit_name_of Stack = codes "stack"
+limit_name_of Cells = codes "cells"
+limit_name_of Constructors = codes "constructors"
+limit_name_of Atoms = codes "atoms"
+limit_name_of Terms = codes "terms"

@@ -60,6 +60,8 @@ pub fn ill_name(fault: IllFault) -> &'static str
         IllFault::Jump => "jump",
         IllFault::FallsOff => "falls-off",
         IllFault::NoLine => "no-line",
+        IllFault::Address => "address",
+        IllFault::Constant => "constant",
     }
 }
 
@@ -80,5 +82,10 @@ pub fn limit_name(what: What) -> &'static str
         What::Fields => "fields",
         What::Nodes => "nodes",
         What::Variable => "variable",
+        What::Stack => "stack",
+        What::Cells => "cells",
+        What::Constructors => "constructors",
+        What::Atoms => "atoms",
+        What::Terms => "terms",
     }
 }

@@ -6,7 +6,7 @@ use itoa::Buffer;
 use std::alloc::Global;
 use std::marker::Model;
 
-/// The bytes of a line so far, its line feed not among them.
+/// A line that is being made, for a program's own answers: its bytes so far, the line feed at its end not among them.
 #[derive(Drop)]
 pub struct Line {
     bytes: Vec<u8>,

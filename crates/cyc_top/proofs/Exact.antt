@@ -21,17 +21,22 @@ use Rattle.proof_search.specs.declared.prover.Proved.TheVariants as answers
 use Rattle.proof_search.specs.Outcomes.{search_for, IsProved}
 use Rattle.cyc_words.specs.Words.{reads_input}
 use Rattle.cyc_words.specs.declared.tasks.Task.{Task}
-use Rattle.cyc_words.specs.declared.tasks.Task.TheVariants.{Check, Prove, Ring, Upgrade, Sat}
+use Rattle.cyc_words.specs.declared.tasks.Task.TheVariants.{Check, Prove, Ring, Upgrade, Sat, Model, Disprove}
 use Rattle.cyc_runs.specs.declared.endings.Status.{Status}
 use Rattle.cyc_runs.specs.declared.endings.Status.TheVariants as status
 use Rattle.cyc_runs.specs.Endings.{is_answer}
 use Rattle.cyc_runs.specs.Runs.{IsTold, input_limit}
-use Rattle.cyc_top.specs.Answers.{Answers, IsAnswer, IsChecked, IsHeadline, IsRefutation, IsReadAnswer, IsSearchAnswer, IsSearched, IsUpgradeAnswer, IsUpgraded, WroteAnswer, WroteProof, derivation_limit, proved_status, proved_text, verdict_status}
-use Rattle.cyc_top.proofs.OneReading.{AreAlike}
-use Rattle.cyc_top.proofs.Readings.{one_file_reading, one_problem_reading}
-use Rattle.cyc_top.proofs.OneVerdict.{one_ending, right_faulty, same_back, same_few, same_progress}
+use Rattle.cyc_runs.proofs.WaysToEnd.{ending_kind, ended_so as run_ended_so, fault_fails, fault_is_no_refusal}
+use Rattle.cyc_runs.proofs.Told.{told_is}
+use Rattle.cyc_top.specs.Answers.{Answers, IsAnswer, IsChecked, IsHeadline, IsRefusal, IsReadAnswer, IsUnrefuted, IsSearchAnswer, IsSearched, IsUpgradeAnswer, IsUpgraded, WroteAnswer, WroteModel, WroteProof, derivation_limit, proved_status, proved_text, verdict_status}
+use Rattle.reading_laws.specs.Alike.{AreAlike}
+use Rattle.reading_laws.proofs.Readings.{one_file_reading, one_problem_reading}
+use Rattle.cyc_top.proofs.OneVerdict.{one_ending, right_faulty, same_back, same_few, same_file, same_progress}
 use Rattle.cyc_top.proofs.OneSearch.{one_search, found_search, goal_holds, proof_accepted}
-use Rattle.cyc_top.proofs.OneSat.{asked_ends, fault_fails, refusal_impossible, success_possible}
+use Rattle.model_answers.specs.Answers.{holds_text}
+use Rattle.model_answers.proofs.OneAnswer.{model_short, modelled_ends, refusal_fails, success_satisfies}
+use Rattle.disprove_answers.proofs.OneAnswer.{disprove_refuses_not, disproved_ends, disproved_short, model_holds, none_found, success_refutes}
+use Rattle.sat_answers.proofs.OneAnswer.{asked_ends, refusal_impossible, success_possible}
 
 -- ---- an input that was read in one way is answered with one status
 
@@ -88,12 +93,15 @@ one_status (Some Sat) input s t xs ys (inl first) (inl second) = first.1 ∙ sym
 one_status (Some Sat) input s t xs ys (inr first) (inr second) = asked_ends input s t xs ys first second
 one_status (Some Sat) input s t xs ys (inl first) (inr second) = absurd (omega (arith, first.0, second.0))
 one_status (Some Sat) input s t xs ys (inr first) (inl second) = absurd (omega (arith, first.0, second.0))
+one_status (Some Model) input s t xs ys (inl first) (inl second) = first.1 ∙ sym second.1
+one_status (Some Model) input s t xs ys (inr first) (inr second) = modelled_ends input s t xs ys first second
+one_status (Some Model) input s t xs ys (inl first) (inr second) = absurd (omega (arith, first.0, model_short input t ys second))
+one_status (Some Model) input s t xs ys (inr first) (inl second) = absurd (omega (arith, model_short input s xs first, second.0))
+one_status (Some (Disprove cells)) input s t xs ys (inl first) (inl second) = first.1 ∙ sym second.1
+one_status (Some (Disprove cells)) input s t xs ys (inr first) (inr second) = disproved_ends cells input s t xs ys first second
+one_status (Some (Disprove cells)) input s t xs ys (inl first) (inr second) = absurd (omega (arith, first.0, disproved_short cells input t ys second))
+one_status (Some (Disprove cells)) input s t xs ys (inr first) (inl second) = absurd (omega (arith, disproved_short cells input s xs first, second.0))
 one_status (Some (Ring k)) input s t xs ys first second = first.0 ∙ sym second.0
-
--- the input that was told
-pub told_is : (told : Option (List ℕ)) (input other : List ℕ) → told ≡ Some input → IsTold told other → input ≡ other
-told_is None input other e told = cc
-told_is (Some xs) input other e told = cc
 
 -- an answer to what was told is one for the told input
 pub answer_for : (task : Option Task) (told : Option (List ℕ)) (input : List ℕ) (s : Status) (xs : List ℕ) → told ≡ Some input → Answers task told s xs → IsAnswer task input s xs
@@ -147,16 +155,62 @@ success_true (Some Upgrade) told input xs is (inl long) = absurd (let e : status
 success_true (Some Upgrade) told input xs is (inr upgraded) = (input, is, upgraded.0, upgrade_reads input upgraded.1 xs upgraded.2 upgraded.3)
 success_true (Some Sat) told input xs is (inl long) = absurd (let e : status.Success ≡ status.Limit = long.1 in cc)
 success_true (Some Sat) told input xs is (inr asked) = (input, is, success_possible input asked.1 xs asked.2 asked.3)
+success_true (Some Model) told input xs is (inl long) = absurd (let e : status.Success ≡ status.Limit = long.1 in cc)
+success_true (Some Model) told input xs is (inr modelled) = (input, is, success_satisfies input xs modelled)
+success_true (Some (Disprove cells)) told input xs is (inl long) = absurd (let e : status.Success ≡ status.Limit = long.1 in cc)
+success_true (Some (Disprove cells)) told input xs is (inr disproved) = (input, is, success_refutes cells input xs disproved)
 success_true (Some (Ring k)) told input xs is answer = tt
 
--- what a refusal of an antecedent says is true
-refused_true : (told : Option (List ℕ)) (input xs : List ℕ) → IsTold told input → IsAnswer (Some Sat) input status.Refused xs → IsRefutation told
-refused_true told input xs is (inl long) = absurd (let e : status.Refused ≡ status.Limit = long.1 in cc)
-refused_true told input xs is (inr asked) = (input, is, refusal_impossible input asked.1 xs asked.2 asked.3)
+-- ---- refusals
 
-pub refusal_true : (task : Option Task) (told : Option (List ℕ)) (s : Status) (xs : List ℕ) → task ≡ Some Sat → Answers task told s xs → s ≡ status.Refused → IsRefutation told
-refusal_true task told s xs is answer e =
-    refused_true told answer.0 xs answer.1 (subst (λ t. IsAnswer t answer.0 status.Refused xs) is (subst (λ s. IsAnswer task answer.0 s xs) e answer.2))
+-- a verdict that ends a check with a refusal is on a file that is not correct
+refusal_incorrect : (file : ProofFile) (v : Verdict) → IsVerdict file v → status.Refused ≡ verdict_status v → ¬ IsCorrect file
+refusal_incorrect file Accepted is e correct = absurd cc
+refusal_incorrect file (RuleRefused node fault) is e correct = right_faulty file file node fault (same_file file) correct.nodes is
+refusal_incorrect file (PathRefused lasso) is e correct = is.2 (correct.paths lasso is.1)
+refusal_incorrect file TooManyStates is e correct = absurd cc
+
+check_refuses : (input : List ℕ) (r : Result ProofFile ReadFault) (xs : List ℕ) → IsRead input r → IsReadAnswer r status.Refused xs → (file : ProofFile) × IsRead input (Ok file) × (¬ IsCorrect file)
+check_refuses input (Ok file) xs is answer = (file, is, refusal_incorrect file answer.0 answer.1 answer.2)
+check_refuses input (Err fault) xs is answer = absurd (fault_is_no_refusal fault answer.0)
+
+-- a search refuses nothing
+search_refuses_not : (a : Proved) → status.Refused ≡ proved_status a → ⊥
+search_refuses_not (Found f) e = cc
+search_refuses_not NotFound e = cc
+search_refuses_not TooManyDerivations e = cc
+search_refuses_not answers.TooManyStates e = cc
+
+searched_refuses_not : (depth : ℕ) (r : Result Problem ReadFault) (xs : List ℕ) → IsSearchAnswer depth r status.Refused xs → ⊥
+searched_refuses_not depth (Ok p) xs answer = search_refuses_not answer.0 answer.2
+searched_refuses_not depth (Err fault) xs answer = fault_is_no_refusal fault answer.0
+
+-- nor does an upgrade
+upgrade_refuses_not : (r : Result ProofFile ReadFault) (xs : List ℕ) → IsUpgradeAnswer r status.Refused xs → ⊥
+upgrade_refuses_not (Ok file) xs answer = let e : status.Refused ≡ status.Success = answer.2 in cc
+upgrade_refuses_not (Err fault) xs answer = fault_is_no_refusal fault answer.0
+
+-- a task that refuses says what it says
+refused_true : (task : Option Task) (told : Option (List ℕ)) (input xs : List ℕ) → IsTold told input → IsAnswer task input status.Refused xs → IsRefusal task told
+refused_true None told input xs is answer = let e : status.Refused ≡ status.Usage = answer.0 in cc
+refused_true (Some Check) told input xs is (inl long) = absurd (let e : status.Refused ≡ status.Limit = long.1 in cc)
+refused_true (Some Check) told input xs is (inr checked) = (input, is, check_refuses input checked.1 xs checked.2 checked.3)
+refused_true (Some (Prove depth)) told input xs is (inl long) = let e : status.Refused ≡ status.Limit = long.1 in cc
+refused_true (Some (Prove depth)) told input xs is (inr searched) = searched_refuses_not depth searched.1 xs searched.3
+refused_true (Some Upgrade) told input xs is (inl long) = let e : status.Refused ≡ status.Limit = long.1 in cc
+refused_true (Some Upgrade) told input xs is (inr upgraded) = upgrade_refuses_not upgraded.1 xs upgraded.3
+refused_true (Some Sat) told input xs is (inl long) = absurd (let e : status.Refused ≡ status.Limit = long.1 in cc)
+refused_true (Some Sat) told input xs is (inr asked) = (input, is, refusal_impossible input asked.1 xs asked.2 asked.3)
+refused_true (Some Model) told input xs is (inl long) = absurd (let e : status.Refused ≡ status.Limit = long.1 in cc)
+refused_true (Some Model) told input xs is (inr modelled) = (input, is, refusal_fails input xs modelled)
+refused_true (Some (Disprove cells)) told input xs is (inl long) = let e : status.Refused ≡ status.Limit = long.1 in cc
+refused_true (Some (Disprove cells)) told input xs is (inr disproved) = disprove_refuses_not cells input xs disproved
+refused_true (Some (Ring k)) told input xs is answer = let e : status.Refused ≡ status.Success = answer.0 in cc
+
+-- an answer of refusal is true
+pub refusal_true : (task : Option Task) (told : Option (List ℕ)) (s : Status) (xs : List ℕ) → Answers task told s xs → s ≡ status.Refused → IsRefusal task told
+refusal_true task told s xs answer e =
+    refused_true task told answer.0 xs answer.1 (subst (λ s. IsAnswer task answer.0 s xs) e answer.2)
 
 -- an answer of success is true
 pub answered_true : (task : Option Task) (told : Option (List ℕ)) (s : Status) (xs : List ℕ) → Answers task told s xs → s ≡ status.Success → IsHeadline task told
@@ -222,6 +276,26 @@ pub correct_succeeds : (task : Option Task) (told : Option (List ℕ)) (input : 
 correct_succeeds task told input g s text is e short read correct few answer =
     task_accepts input g s text short read correct few (subst (λ t. IsAnswer t input s text) is (answer_for task told input s text e answer))
 
+-- ---- counter-models
+
+-- what is written of a counter-model is a model of its formula
+counter_holds : (cells : ℕ) (input text : List ℕ) → IsAnswer (Some (Disprove cells)) input status.Success text → length text ≤ input_limit → (line : List ℕ) × IsAnswer (Some Model) text status.Success line
+counter_holds cells input text (inl long) short = absurd (let e : status.Success ≡ status.Limit = long.1 in cc)
+counter_holds cells input text (inr disproved) short = (holds_text, inr (model_holds cells input text disproved short))
+
+pub wrote_model : (cells : ℕ) (task : Option Task) (told old new : Option (List ℕ)) (s : Status) (text : List ℕ) → task ≡ Some (Disprove cells) → Answers task told s text → s ≡ status.Success → Appends old new text → WroteModel old new
+wrote_model cells task told old new s text is answer e wrote =
+    (text, wrote, counter_holds cells answer.0 text (subst (λ t. IsAnswer t answer.0 status.Success text) is (subst (λ s. IsAnswer task answer.0 s text) e answer.2)))
+
+-- where none is found there is none
+none_there : (cells : ℕ) (told : Option (List ℕ)) (input xs : List ℕ) → IsTold told input → IsAnswer (Some (Disprove cells)) input status.NotFound xs → IsUnrefuted cells told
+none_there cells told input xs is (inl long) = absurd (let e : status.NotFound ≡ status.Limit = long.1 in cc)
+none_there cells told input xs is (inr disproved) = (input, is, none_found cells input xs disproved)
+
+pub unrefuted_true : (cells : ℕ) (task : Option Task) (told : Option (List ℕ)) (s : Status) (xs : List ℕ) → task ≡ Some (Disprove cells) → Answers task told s xs → s ≡ status.NotFound → IsUnrefuted cells told
+unrefuted_true cells task told s xs is answer e =
+    none_there cells told answer.0 xs answer.1 (subst (λ t. IsAnswer t answer.0 status.NotFound xs) is (subst (λ s. IsAnswer task answer.0 s xs) e answer.2))
+
 -- ---- rings
 
 -- a ring is answered with success
@@ -234,19 +308,6 @@ ring_reads_not k task is reads = let e : false ≡ true = ap reads_input (sym is
 
 -- ---- how a run ends, from what it wrote
 
--- a run ends with an answer, or with a fault of the outside, or out of memory
-ending_kind : (s : Status) → (is_answer s ≡ true) ⊎ ((s ≡ status.ReadFault) ⊎ ((s ≡ status.WriteFault) ⊎ (s ≡ status.OutOfMemory)))
-ending_kind status.Success = inl refl
-ending_kind status.Refused = inl refl
-ending_kind status.Usage = inl refl
-ending_kind status.Unreadable = inl refl
-ending_kind status.IllFormed = inl refl
-ending_kind status.Limit = inl refl
-ending_kind status.NotFound = inl refl
-ending_kind status.ReadFault = inr (inl refl)
-ending_kind status.WriteFault = inr (inr (inl refl))
-ending_kind status.OutOfMemory = inr (inr (inr refl))
-
 -- what was written for a task was written for the words that mean it
 pub wrote_as : (task meaning : Option Task) (told old new : Option (List ℕ)) (s : Status) → task ≡ meaning → (is_answer s ≡ true → WroteAnswer task told old new s) → is_answer s ≡ true → WroteAnswer meaning told old new s
 wrote_as task meaning told old new s e wrote = subst (λ t. is_answer s ≡ true → WroteAnswer t told old new s) e wrote
@@ -254,24 +315,28 @@ wrote_as task meaning told old new s e wrote = subst (λ t. is_answer s ≡ true
 module _ (task : Option Task) (told old new : Option (List ℕ)) (s : Status) (wrote : is_answer s ≡ true → WroteAnswer task told old new s) where
   -- what holds of each answer to the words holds of the run's
   pub ended_so : (reads writes : Type 0) (t : Status) → (s ≡ status.ReadFault → reads) → (s ≡ status.WriteFault → writes) → ¬ reads → ¬ writes → ((text : List ℕ) → Answers task told s text → s ≡ t) → (s ≡ t) ⊎ (s ≡ status.OutOfMemory)
-  ended_so reads writes t read write quiet calm says = elim (ending_kind s) [
-    | inl answers ↦ let written = wrote answers in inl (says written.0 written.1)
-    | inr (inl failed) ↦ absurd (quiet (read failed))
-    | inr (inr (inl failed)) ↦ absurd (calm (write failed))
-    | inr (inr (inr memory)) ↦ inr memory
-  ]
+  ended_so reads writes t read write quiet calm says =
+      run_ended_so s reads writes (WroteAnswer task told old new s) (s ≡ t) wrote read write quiet calm (λ written. says written.0 written.1)
 
   -- success is true
   pub success_says : s ≡ status.Success → IsHeadline task told
   success_says e = let written = wrote (ap is_answer e) in answered_true task told s written.0 written.1 e
 
-  -- so is a refusal of an antecedent
-  pub refusal_says : task ≡ Some Sat → s ≡ status.Refused → IsRefutation told
-  refusal_says is e = let written = wrote (ap is_answer e) in refusal_true task told s written.0 is written.1 e
+  -- so is a refusal
+  pub refusal_says : s ≡ status.Refused → IsRefusal task told
+  refusal_says e = let written = wrote (ap is_answer e) in refusal_true task told s written.0 written.1 e
 
   -- a search that ended with success wrote a proof
   pub success_wrote : (depth : ℕ) → task ≡ Some (Prove depth) → s ≡ status.Success → WroteProof old new
   success_wrote depth is e = let written = wrote (ap is_answer e) in wrote_proof depth task told old new s written.0 is written.1 e written.2
+
+  -- a counter-model that was written is a model of its formula
+  pub success_models : (cells : ℕ) → task ≡ Some (Disprove cells) → s ≡ status.Success → WroteModel old new
+  success_models cells is e = let written = wrote (ap is_answer e) in wrote_model cells task told old new s written.0 is written.1 e written.2
+
+  -- where none was found there is none
+  pub none_says : (cells : ℕ) → task ≡ Some (Disprove cells) → s ≡ status.NotFound → IsUnrefuted cells told
+  none_says cells is e = let written = wrote (ap is_answer e) in unrefuted_true cells task told s written.0 is written.1 e
 
   -- a ring reads nothing, and no refusal comes
   pub ring_ends : (k : ℕ) → task ≡ Some (Ring k) → (s ≡ status.ReadFault → reads_input task ≡ true) → (s ≡ status.Success) ⊎ ((s ≡ status.WriteFault) ⊎ (s ≡ status.OutOfMemory))

@@ -1,8 +1,5 @@
-pub mod OneReading
-pub mod Readings
 pub mod OneVerdict
 pub mod OneSearch
-pub mod OneSat
 pub mod Told
 pub mod Exact
 pub mod Upgraded

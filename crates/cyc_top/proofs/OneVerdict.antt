@@ -13,6 +13,9 @@ use Rattle.proof_check.specs.Verdicts.{file_graph, state_limit, HasRightNodes, I
 use Rattle.cyc_top.specs.Answers.{verdict_status}
 use Rattle.proof_check.proofs.OneAnswer.{none_some}
 
+pub same_file : (f : ProofFile) → AreSame f f
+same_file f = record { version = refl; most = refl; definitions = refl; program = refl; nodes = refl }
+
 pub same_back : (f g : ProofFile) → AreSame f g → AreSame g f
 same_back f g same =
     record { version = sym same.version; most = sym same.most; definitions = sym same.definitions; program = sym same.program; nodes = sym same.nodes }

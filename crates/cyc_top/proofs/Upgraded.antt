@@ -21,10 +21,10 @@ use Rattle.cyc_runs.specs.declared.endings.Status.TheVariants as status
 use Rattle.cyc_runs.specs.Endings.{is_answer}
 use Rattle.cyc_runs.specs.Runs.{input_limit}
 use Rattle.cyc_top.specs.Answers.{Answers, IsAcceptedToo, IsAnswer, IsReadAnswer, IsUpgradeAnswer, WroteAnswer, WroteUpgrade, file_text, nodes_text, verdict_status}
-use Rattle.cyc_top.proofs.OneReading.{AreAlike}
+use Rattle.reading_laws.specs.Alike.{AreAlike}
 use Rattle.cyc_top.proofs.OneVerdict.{same_few, same_progress, same_right}
-use Rattle.cyc_top.proofs.Readings.{one_file_reading}
-use Rattle.cyc_top.proofs.OneSat.{fault_fails}
+use Rattle.reading_laws.proofs.Readings.{one_file_reading}
+use Rattle.cyc_runs.proofs.WaysToEnd.{fault_fails}
 use Rattle.cyc_top.proofs.Exact.{answer_for}
 
 -- the root of an upgraded file holds as before

@@ -15,9 +15,13 @@ use Rattle.cyc_runs.specs.Faults.{IsFaultAnswer}
 use Rattle.cyc_runs.specs.Runs.{Answering, AnswersTold, IsAnswerOf, IsTold, input_limit}
 use Rattle.cyc_runs.specs.Runs as runs
 use Rattle.cyc_words.specs.declared.tasks.Task.{Task}
-use Rattle.cyc_words.specs.declared.tasks.Task.TheVariants.{Check, Prove, Ring, Upgrade, Sat}
+use Rattle.cyc_words.specs.declared.tasks.Task.TheVariants.{Check, Prove, Ring, Upgrade, Sat, Model, Disprove}
 use Rattle.cyc_words.specs.Words.{usage_text}
 use Rattle.sat_answers.specs.Answers.{IsAsked, IsPossible}
+use Rattle.model_file.specs.declared.file.Model as formats
+use Rattle.model_file.specs.Reading as models
+use Rattle.model_answers.specs.Answers.{IsModelled, IsSatisfying}
+use Rattle.disprove_answers.specs.Answers.{HasNoCounter, IsDisproved, IsRefuted}
 use Rattle.heap_formula.specs.Judgements.{JudgementHolds}
 use Rattle.derivation_search.specs.System.{search_of}
 use Rattle.formula_reader.specs.declared.problem.Problem.{Problem}
@@ -29,7 +33,7 @@ use Rattle.proof_search.specs.declared.prover.Proved.TheVariants.{Found, NotFoun
 use Rattle.proof_search.specs.declared.prover.Proved.TheVariants as answers
 use Rattle.proof_search.specs.Outcomes.{outcome_of, search_for, IsProved}
 use Rattle.proof_file.specs.Reading.{IsRead}
-use Rattle.proof_check.specs.Verdicts.{IsVerdict, RootHolds}
+use Rattle.proof_check.specs.Verdicts.{IsCorrect, IsVerdict, RootHolds}
 
 -- ---- the verdicts of a check
 
@@ -140,6 +144,8 @@ IsAnswer (Some Check) = IsAnswerOf IsChecked
 IsAnswer (Some (Prove depth)) = IsAnswerOf (IsSearched depth)
 IsAnswer (Some Upgrade) = IsAnswerOf IsUpgraded
 IsAnswer (Some Sat) = IsAnswerOf IsAsked
+IsAnswer (Some Model) = IsAnswerOf IsModelled
+IsAnswer (Some (Disprove cells)) = IsAnswerOf (IsDisproved cells)
 IsAnswer (Some (Ring k)) = λ input ending text. (ending ≡ status.Success) × (text ≡ ring_text k (8 * k + 1) 1)
 IsAnswer None = λ input ending text. (ending ≡ status.Usage) × (text ≡ usage_text)
 
@@ -157,9 +163,13 @@ WroteAnswer task = runs.WroteAnswer (IsAnswer task)
 abbrev pub WrotePart : Option Task → Option (List ℕ) → Option (List ℕ) → Option (List ℕ) → Type 0
 WrotePart task = runs.WrotePart (IsAnswer task)
 
--- some input, which is the one that was told, spells a file whose root holds
-abbrev pub ToldTrue : Option (List ℕ) → Type 0
-ToldTrue told = (input : List ℕ) × IsTold told input × ((file : ProofFile) × IsRead input (Ok file) × RootHolds file)
+-- some input, which is the one that was told, spells a file of which this is true
+abbrev pub ToldFileOf : (ProofFile → Type 0) → Option (List ℕ) → Type 0
+ToldFileOf Has told = (input : List ℕ) × IsTold told input × ((file : ProofFile) × IsRead input (Ok file) × Has file)
+
+-- the same of a model
+abbrev pub ToldModelOf : (formats.Model → Type 0) → Option (List ℕ) → Type 0
+ToldModelOf Has told = (input : List ℕ) × IsTold told input × ((model : formats.Model) × models.IsRead input (Ok model) × Has model)
 
 -- some input, which is the one that was told, spells a problem of which this is true
 abbrev pub ToldOf : (Problem → Type 0) → Option (List ℕ) → Type 0
@@ -169,10 +179,6 @@ ToldOf Has told = (input : List ℕ) × IsTold told input × ((problem : Problem
 abbrev pub ToldProvable : Option (List ℕ) → Type 0
 ToldProvable told = ToldOf (λ problem. JudgementHolds problem.defs.list problem.program problem.goal) told
 
--- no stack and heap satisfy the antecedent of the problem that was told
-abbrev pub IsRefutation : Option (List ℕ) → Type 0
-IsRefutation told = ToldOf (λ problem. ¬ IsPossible problem) told
-
 -- some input, which is the one that was told, spells a file and is not too long
 abbrev pub ToldFile : Option (List ℕ) → Type 0
 ToldFile told =
@@ -180,12 +186,21 @@ ToldFile told =
 
 -- what the success of a task says of the input; a ring has none
 abbrev pub IsHeadline : Option Task → Option (List ℕ) → Type 0
-IsHeadline (Some Check) told = ToldTrue told
+IsHeadline (Some Check) told = ToldFileOf RootHolds told
 IsHeadline (Some (Prove depth)) told = ToldProvable told
 IsHeadline (Some Upgrade) told = ToldFile told
 IsHeadline (Some Sat) told = ToldOf IsPossible told
+IsHeadline (Some Model) told = ToldModelOf IsSatisfying told
+IsHeadline (Some (Disprove cells)) told = ToldOf (IsRefuted cells) told
 IsHeadline (Some (Ring k)) told = Unit {0}
 IsHeadline None told = ⊥
+
+-- what the refusal of a task says of the input; the other tasks refuse nothing
+abbrev pub IsRefusal : Option Task → Option (List ℕ) → Type 0
+IsRefusal (Some Check) told = ToldFileOf (λ file. ¬ IsCorrect file) told
+IsRefusal (Some Sat) told = ToldOf (λ problem. ¬ IsPossible problem) told
+IsRefusal (Some Model) told = ToldModelOf (λ model. ¬ IsSatisfying model) told
+IsRefusal _ told = ⊥
 
 -- a text was written that a check accepts, where it is no longer than an input may be
 abbrev pub WroteProof : Option (List ℕ) → Option (List ℕ) → Type 0
@@ -197,6 +212,15 @@ abbrev pub IsAcceptedToo : List ℕ → List ℕ → Type 0
 IsAcceptedToo input text =
     (line : List ℕ) → IsAnswer (Some Check) input status.Success line → length text ≤ input_limit
     → (other : List ℕ) × IsAnswer (Some Check) text status.Success other
+
+-- a text was written that is a model of its own formula, where it is no longer than an input may be
+abbrev pub WroteModel : Option (List ℕ) → Option (List ℕ) → Type 0
+WroteModel old new =
+    (text : List ℕ) × Appends old new text × (length text ≤ input_limit → (line : List ℕ) × IsAnswer (Some Model) text status.Success line)
+
+-- the entailment that was told has no counter-model of this size
+abbrev pub IsUnrefuted : ℕ → Option (List ℕ) → Type 0
+IsUnrefuted cells told = ToldOf (HasNoCounter cells) told
 
 -- a text was written that a check accepts where it accepts the input, which is the one that was told
 abbrev pub WroteUpgrade : Option (List ℕ) → Option (List ℕ) → Option (List ℕ) → Type 0

@@ -13,10 +13,10 @@ ghost use Rattle.proof_check.specs.Verdicts.{file_graph, state_limit, IsCorrect}
 ghost use Rattle.proof_search.specs.Outcomes.{search_for};
 ghost use Rattle.cyc_io.specs.Causes.{Rose};
 ghost use Rattle.cyc_words.specs.Words.{IsInRange, meaning_of, reads_input};
-ghost use Rattle.cyc_words.specs.declared.tasks.Task.TheVariants.{Check, Prove, Ring, Upgrade, Sat};
+ghost use Rattle.cyc_words.specs.declared.tasks.Task.TheVariants.{Check, Prove, Ring, Upgrade, Disprove};
 ghost use Rattle.cyc_runs.specs.Endings.{is_answer};
 ghost use Rattle.cyc_runs.specs.Runs.{IsReadThrough, input_limit};
-ghost use Rattle.cyc_top.specs.Answers.{IsAnswer, IsHeadline, IsRefutation, WroteAnswer, WrotePart, WroteProof, WroteUpgrade, derivation_limit};
+ghost use Rattle.cyc_top.specs.Answers.{IsAnswer, IsHeadline, IsRefusal, IsUnrefuted, WroteAnswer, WroteModel, WrotePart, WroteProof, WroteUpgrade, derivation_limit};
 
 mod rings;
 mod searches;
@@ -27,6 +27,8 @@ use cyc_io::{Sink, Source};
 pub use cyc_runs::Status;
 use cyc_runs::{fixed_answer, give_made, run_over};
 use cyc_words::{Task, USAGE, task_of};
+use disprove_answers::Disprover;
+use model_answers::ModelChecker;
 use rings::answer_to_ring;
 use sat_answers::Satisfier;
 use searches::Prover;
@@ -42,8 +44,10 @@ fn run_task<S: Source, K: Sink>(
     out: &mut K,
 ) -> Status
     requires { IsInRange task }
-    ensures answered { is_answer result ≡ true → WroteAnswer task (S.left src.old) (K.written out.old) (K.written out.new) result }
-    ensures through { is_answer result ≡ true → reads_input task ≡ true → IsReadThrough (S.left src.old) (S.left src.new) }
+    ensures answered { is_answer result ≡ true
+        → WroteAnswer task (S.left src.old) (K.written out.old) (K.written out.new) result }
+    ensures through { is_answer result ≡ true → reads_input task ≡ true
+        → IsReadThrough (S.left src.old) (S.left src.new) }
     ensures read_fault { result ≡ Status.ReadFault → Rose (S.faults src.old) (S.faults src.new) × (out.new ≡ out.old) }
     // Only a task that needs its input reads.
     ensures asked { result ≡ Status.ReadFault → reads_input task ≡ true }
@@ -60,6 +64,8 @@ fn run_task<S: Source, K: Sink>(
         Some(Task::Prove(depth)) => run_over(alloc, &Prover::new(depth), src, out),
         Some(Task::Upgrade) => run_over(alloc, &Upgrader, src, out),
         Some(Task::Sat) => run_over(alloc, &Satisfier, src, out),
+        Some(Task::Model) => run_over(alloc, &ModelChecker, src, out),
+        Some(Task::Disprove(cells)) => run_over(alloc, &Disprover::new(cells), src, out),
         Some(Task::Ring(k)) => give_made(answer_to_ring(alloc, k), out),
         None => give_made(fixed_answer(alloc, Status::Usage, USAGE), out),
     }
@@ -78,8 +84,8 @@ pub fn run<S: Source, K: Sink>(alloc: Global, words: &[String], src: &mut S, out
         → (result ≡ status) ⊎ (result ≡ Status.OutOfMemory) }
     // What was checked with success is true.
     ensures headline { result ≡ Status.Success → IsHeadline (meaning_of (map string_bytes words.now)) (S.left src.old) }
-    // Where nothing satisfies an antecedent, that is so.
-    ensures unsatisfiable { meaning_of (map string_bytes words.now) ≡ Some Sat → result ≡ Status.Refused → IsRefutation (S.left src.old) }
+    // What was refused is not so: a proof, the satisfiability of an antecedent, or the truth of a formula.
+    ensures refusal { result ≡ Status.Refused → IsRefusal (meaning_of (map string_bytes words.now)) (S.left src.old) }
     // A correct file with few states is accepted.
     ensures accepts { (input : List ℕ) (file : ProofFile) → meaning_of (map string_bytes words.now) ≡ Some Check
         → S.left src.old ≡ Some input → length input ≤ input_limit → files.IsRead input (Ok file)
@@ -87,13 +93,15 @@ pub fn run<S: Source, K: Sink>(alloc: Global, words: &[String], src: &mut S, out
         → ¬ Rose (S.faults src.old) (S.faults src.new) → ¬ Rose (K.faults out.old) (K.faults out.new)
         → (result ≡ Status.Success) ⊎ (result ≡ Status.OutOfMemory) }
     // A search that finds within its limits ends with success.
-    ensures complete { (depth : ℕ) (input : List ℕ) (problem : Problem) (d : List Reason) → meaning_of (map string_bytes words.now) ≡ Some (Prove depth)
+    ensures complete { (depth : ℕ) (input : List ℕ) (problem : Problem) (d : List Reason)
+        → meaning_of (map string_bytes words.now) ≡ Some (Prove depth)
         → S.left src.old ≡ Some input → length input ≤ input_limit → problems.IsRead input (Ok problem)
         → search_of (search_for problem) derivation_limit depth ≡ IsFound d
         → ¬ Rose (S.faults src.old) (S.faults src.new) → ¬ Rose (K.faults out.old) (K.faults out.new)
         → (result ≡ Status.Success) ⊎ (result ≡ Status.OutOfMemory) }
     // What prove writes, check accepts.
-    ensures proof { (depth : ℕ) → meaning_of (map string_bytes words.now) ≡ Some (Prove depth) → result ≡ Status.Success → WroteProof (K.written out.old) (K.written out.new) }
+    ensures proof { (depth : ℕ) → meaning_of (map string_bytes words.now) ≡ Some (Prove depth)
+        → result ≡ Status.Success → WroteProof (K.written out.old) (K.written out.new) }
     // A file is upgraded, correct or not.
     ensures upgrades { (input : List ℕ) (file : ProofFile) → meaning_of (map string_bytes words.now) ≡ Some Upgrade
         → S.left src.old ≡ Some input → length input ≤ input_limit → files.IsRead input (Ok file)
@@ -102,8 +110,15 @@ pub fn run<S: Source, K: Sink>(alloc: Global, words: &[String], src: &mut S, out
     // What upgrade writes, check accepts where it accepts the input.
     ensures upgraded { meaning_of (map string_bytes words.now) ≡ Some Upgrade → result ≡ Status.Success
         → WroteUpgrade (S.left src.old) (K.written out.old) (K.written out.new) }
+    // What disprove writes, model answers with success: stack and heap satisfy the antecedent.
+    ensures refuted { (cells : ℕ) → meaning_of (map string_bytes words.now) ≡ Some (Disprove cells)
+        → result ≡ Status.Success → WroteModel (K.written out.old) (K.written out.new) }
+    // Where disprove finds none of the size, there is none.
+    ensures unrefuted { (cells : ℕ) → meaning_of (map string_bytes words.now) ≡ Some (Disprove cells)
+        → result ≡ Status.NotFound → IsUnrefuted cells (S.left src.old) }
     // A ring's proof is right, so that there is no refusal.
-    ensures ring { (k : ℕ) → meaning_of (map string_bytes words.now) ≡ Some (Ring k) → (result ≡ Status.Success) ⊎ ((result ≡ Status.WriteFault) ⊎ (result ≡ Status.OutOfMemory)) }
+    ensures ring { (k : ℕ) → meaning_of (map string_bytes words.now) ≡ Some (Ring k)
+        → (result ≡ Status.Success) ⊎ ((result ≡ Status.WriteFault) ⊎ (result ≡ Status.OutOfMemory)) }
     // A task that needs its input was answered at the input's end, or after one byte more than may come.
     ensures through { is_answer result ≡ true → reads_input (meaning_of (map string_bytes words.now)) ≡ true
         → IsReadThrough (S.left src.old) (S.left src.new) }

@@ -6,7 +6,7 @@ use Rattle.clap.specs.Words.{Kinds, Row, Text, fault_of, one_of, subcommand_of}
 use Rattle.clap.specs.ValueTests.{is_unsigned_in}
 use Rattle.cyc_words.specs.Command.{cyclist_app}
 use Rattle.cyc_words.specs.declared.tasks.Task.{Task}
-use Rattle.cyc_words.specs.declared.tasks.Task.TheVariants.{Check, Prove, Ring, Upgrade, Sat}
+use Rattle.cyc_words.specs.declared.tasks.Task.TheVariants.{Check, Prove, Ring, Upgrade, Sat, Model, Disprove}
 
 -- the number that a text stands for, where it is in the range
 abbrev pub number_in : ℕ → ℕ → Text → Option ℕ
@@ -24,7 +24,9 @@ subcommand_meaning name rows =
     else (if bytes_eq name (codes "ring") then option_map (λ n. Ring n) (argument_in 1 2000 (codes "K") rows)
     else (if bytes_eq name (codes "upgrade") then Some Upgrade
     else (if bytes_eq name (codes "sat") then Some Sat
-    else None))))
+    else (if bytes_eq name (codes "model") then Some Model
+    else (if bytes_eq name (codes "disprove") then option_map (λ n. Disprove n) (argument_in 1 4 (codes "cells") rows)
+    else None))))))
 
 -- the subcommand that was found, if one was
 abbrev pub found_meaning : Option (Text × List Row) → Option Task
@@ -71,6 +73,8 @@ IsInRange (Some (Prove depth)) = (1 ≤ depth) × (depth ≤ 40)
 IsInRange (Some (Ring size)) = (1 ≤ size) × (size ≤ 2000)
 IsInRange (Some Upgrade) = Unit {0}
 IsInRange (Some Sat) = Unit {0}
+IsInRange (Some Model) = Unit {0}
+IsInRange (Some (Disprove cells)) = (1 ≤ cells) × (cells ≤ 4)
 IsInRange None = Unit {0}
 
 -- the task needs the input
@@ -80,8 +84,10 @@ reads_input (Some (Prove depth)) = true
 reads_input (Some (Ring size)) = false
 reads_input (Some Upgrade) = true
 reads_input (Some Sat) = true
+reads_input (Some Model) = true
+reads_input (Some (Disprove cells)) = true
 reads_input None = false
 
 -- the line that says which words have a meaning
 abbrev pub usage_text : List ℕ
-usage_text = codes "usage: cyclist check | prove [--depth N] | ring K | upgrade | sat\n"
+usage_text = codes "usage: cyclist check | prove [--depth N] | ring K | upgrade | sat | model | disprove [--cells N]\n"

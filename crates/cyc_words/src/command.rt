@@ -1,7 +1,7 @@
 // The command `cyclist`, as clap builds it.
 ghost use Rattle.std.specs.Prelude.{◌≡◌, IfOk, false};
 ghost use Rattle.clap.specs.Words.{rule_of};
-ghost use Rattle.cyc_words.specs.Command.{IsCommand, cyclist_app, depth_rule, prove_app, proving_app, ring_app, size_rule};
+ghost use Rattle.cyc_words.specs.Command.{IsCommand, asking_app, cells_rule, cyclist_app, depth_rule, disprove_app, prove_app, proving_app, ring_app, size_rule};
 
 use clap::{Arg, Command};
 use std::alloc::{AllocError, Global};
@@ -25,6 +25,16 @@ fn size_argument<'a>(alloc: Global) -> Arg<'a>
         .value_parser(clap::value_parser!(u32).range(1..=2000))
 }
 
+fn cells_argument<'a>(alloc: Global) -> Arg<'a>
+    ensures rule { rule_of result ≡ cells_rule }
+    ensures local { result.global ≡ false }
+{
+    Arg::new(alloc, "cells")
+        .long("cells")
+        .value_parser(clap::value_parser!(u32).range(1..=4))
+        .default_value("2")
+}
+
 fn prove_command<'a>(alloc: Global) -> Result<Command<'a>, AllocError>
     ensures { IfOk result (λ command. IsCommand command prove_app) }
 {
@@ -37,6 +47,12 @@ fn ring_command<'a>(alloc: Global) -> Result<Command<'a>, AllocError>
     Command::new(alloc, "ring").arg(size_argument(alloc))
 }
 
+fn disprove_command<'a>(alloc: Global) -> Result<Command<'a>, AllocError>
+    ensures { IfOk result (λ command. IsCommand command disprove_app) }
+{
+    Command::new(alloc, "disprove").arg(cells_argument(alloc))
+}
+
 // The command with the subcommands that make or check a proof.
 fn proving_command<'a>(alloc: Global) -> Result<Command<'a>, AllocError>
     ensures { IfOk result (λ command. IsCommand command proving_app) }
@@ -47,10 +63,18 @@ fn proving_command<'a>(alloc: Global) -> Result<Command<'a>, AllocError>
         .subcommand(ring_command(alloc)?)
 }
 
-pub fn cyclist_command<'a>(alloc: Global) -> Result<Command<'a>, AllocError>
-    ensures { IfOk result (λ command. IsCommand command cyclist_app) }
+// The same with those that ask about a proof file, a problem or a model.
+fn asking_command<'a>(alloc: Global) -> Result<Command<'a>, AllocError>
+    ensures { IfOk result (λ command. IsCommand command asking_app) }
 {
     proving_command(alloc)?
         .subcommand(Command::new(alloc, "upgrade"))?
-        .subcommand(Command::new(alloc, "sat"))
+        .subcommand(Command::new(alloc, "sat"))?
+        .subcommand(Command::new(alloc, "model"))
+}
+
+pub fn cyclist_command<'a>(alloc: Global) -> Result<Command<'a>, AllocError>
+    ensures { IfOk result (λ command. IsCommand command cyclist_app) }
+{
+    asking_command(alloc)?.subcommand(disprove_command(alloc)?)
 }

@@ -28,6 +28,8 @@ fn task_of_subcommand(name: &str, matches: &ArgMatches<'_>) -> Option<Task>
         "ring" => Some(Task::Ring(number_of(matches, "K")?)),
         "upgrade" => Some(Task::Upgrade),
         "sat" => Some(Task::Sat),
+        "model" => Some(Task::Model),
+        "disprove" => Some(Task::Disprove(number_of(matches, "cells")?)),
         _ => None,
     }
 }

@@ -13,7 +13,13 @@ pub enum Task {
     Upgrade,
     /// Say whether some stack and heap satisfy the antecedent of the goal of the problem that the input spells.
     Sat,
+    /// Say whether the stack and the heap of the model that the input spells satisfy its formula.
+    Model,
+    /// Search for a counter-model of the entailment of the problem that the input spells, with addresses and values up to
+    /// this number, 1 to 4.
+    Disprove(u32),
 }
 
 /// The line that says which words have a meaning.
-pub const USAGE: &str = "usage: cyclist check | prove [--depth N] | ring K | upgrade | sat\n";
+pub const USAGE: &str =
+    "usage: cyclist check | prove [--depth N] | ring K | upgrade | sat | model | disprove [--cells N]\n";

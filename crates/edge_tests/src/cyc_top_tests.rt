@@ -10,7 +10,8 @@ static FILE: &[u8] =
 
 static ACCEPTED: &str = "accepted entailment nodes 8 links 1\n";
 
-static USAGE: &str = "usage: cyclist check | prove [--depth N] | ring K | upgrade | sat\n";
+static USAGE: &str =
+    "usage: cyclist check | prove [--depth N] | ring K | upgrade | sat | model | disprove [--cells N]\n";
 
 fn words_of(alloc: Global, line: &str) -> Result<Vec<String>, Fail> {
     let mut words = Vec::new(alloc);

@@ -15,7 +15,7 @@ fn words_of(alloc: Global, line: &[&str]) -> Result<Vec<String>, Fail> {
 fn command_lines(rt: HostRuntime) -> Result<(), Fail> {
     let alloc = rt.alloc();
     let check = Some(Task::Check);
-    let table: [(&[&str], Option<Task>); 37] = [
+    let table: [(&[&str], Option<Task>); 45] = [
         (&["check"], check),
         (&["check", "--"], check),
         (&["check", "x"], None),
@@ -53,6 +53,14 @@ fn command_lines(rt: HostRuntime) -> Result<(), Fail> {
         (&["upgrade", "2"], None),
         (&["Upgrade"], None),
         (&["upgrade", "--depth", "4"], None),
+        (&["sat"], Some(Task::Sat)),
+        (&["model"], Some(Task::Model)),
+        (&["model", "x"], None),
+        (&["disprove"], Some(Task::Disprove(2))),
+        (&["disprove", "--cells", "4"], Some(Task::Disprove(4))),
+        (&["disprove", "--cells=1"], Some(Task::Disprove(1))),
+        (&["disprove", "--cells", "5"], None),
+        (&["disprove", "--cells", "0"], None),
     ];
     for (line, task) in table {
         let words = words_of(alloc, line)?;

@@ -109,5 +109,6 @@ pub fn read_problem(alloc: Global, bytes: &[u8]) -> Result<Problem, ReadFault>
 
 /// Bytes that spell a problem are read as that problem, unless memory runs out. The function does nothing.
 pub fn spelled_problems_are_read()
-    ensures { (p : ProblemValue) (bytes : List ℕ) (answer : Result ProblemValue ReadFaultValue) → IsRead bytes (Ok p) → Reads bytes answer → IsReadAgain p answer }
+    ensures { (p : ProblemValue) (bytes : List ℕ) (answer : Result ProblemValue ReadFaultValue) → IsRead bytes (Ok p)
+        → Reads bytes answer → IsReadAgain p answer }
 {}

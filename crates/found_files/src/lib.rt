@@ -16,5 +16,6 @@ pub use offers::{links_stay_within, rules_stay_within};
 /// The reasons that are found make nodes of which every one is right and every lasso progresses, with at most 200,000
 /// product states; node 0 has the goal.
 pub fn found_is_proof()
-    ensures { (t : Theory) (goal : Judgement) (most depth : ℕ) (d : List Reason) → IsWithinLimits t goal → search_of (search_system t goal) most depth ≡ IsFound d → MakesProof t goal d }
+    ensures { (t : Theory) (goal : Judgement) (most depth : ℕ) (d : List Reason) → IsWithinLimits t goal
+        → search_of (search_system t goal) most depth ≡ IsFound d → MakesProof t goal d }
 {}

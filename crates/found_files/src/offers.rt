@@ -13,11 +13,19 @@ ghost use Rattle.format_limits.specs.Limits.{IsDefinitionWithin, IsJudgementWith
 
 /// The rules that a goal within the limits is offered bring in nothing beyond them.
 pub fn rules_stay_within()
-    ensures { (t : Theory) (nodes : List GraphNode) (goal : ℕ) (j : Judgement) → 0 < t.most → Each (IsDefinitionWithin t.most t.definitions) t.definitions → IsProgram t.lines → IsJudgementWithin t.most t.definitions (length t.lines) j → Each (IsRuleWithin t.most t.definitions) (rules_offered t nodes goal j) }
+    ensures { (t : Theory) (nodes : List GraphNode) (goal : ℕ) (j : Judgement) → 0 < t.most
+        → Each (IsDefinitionWithin t.most t.definitions) t.definitions → IsProgram t.lines
+        → IsJudgementWithin t.most t.definitions (length t.lines) j
+        → Each (IsRuleWithin t.most t.definitions) (rules_offered t nodes goal j) }
 {}
 
 /// So do the links; and each leads to one of the nodes before the goal.
 pub fn links_stay_within()
-    ensures within { (t : Theory) (nodes : List GraphNode) (goal : ℕ) (j : Judgement) → IsJudgementWithin t.most t.definitions (length t.lines) j → ((v : ℕ) (node : GraphNode) → slice_get nodes v ≡ Some node → IsJudgementWithin t.most t.definitions (length t.lines) node.judgement) → Each (λ (link : Link). IsReasonWithin t.most t.definitions (Back link)) (links_offered t nodes goal j) }
-    ensures back { (t : Theory) (nodes : List GraphNode) (goal : ℕ) (j : Judgement) → Each (λ (link : Link). link.target < goal) (links_offered t nodes goal j) }
+    ensures within { (t : Theory) (nodes : List GraphNode) (goal : ℕ) (j : Judgement)
+        → IsJudgementWithin t.most t.definitions (length t.lines) j
+        → ((v : ℕ) (node : GraphNode) → slice_get nodes v ≡ Some node
+        → IsJudgementWithin t.most t.definitions (length t.lines) node.judgement)
+        → Each (λ (link : Link). IsReasonWithin t.most t.definitions (Back link)) (links_offered t nodes goal j) }
+    ensures back { (t : Theory) (nodes : List GraphNode) (goal : ℕ) (j : Judgement)
+        → Each (λ (link : Link). link.target < goal) (links_offered t nodes goal j) }
 {}

@@ -12,35 +12,79 @@ use trace_pairs::{Edge, Node, ProofSystem, TraceGraph, is_graph, is_lasso, lasso
 
 type Edges<'a> = &'a [(u32, &'a [(u8, u8, bool)])];
 
+/// A node with these positions and edges.
+fn node_of(alloc: Global, positions: &[u8], edges: Edges<'_>) -> Result<Node, OutOfMemory> {
+    let mut list = Vec::new(alloc);
+    for (target, pairs) in edges {
+        list.push(Edge::new(*target, pairs.to_vec(alloc)?))?;
+    }
+    Ok(Node::new(positions.to_vec(alloc)?, list))
+}
+
 /// The graph of nodes with positions 0 and 1 and these edges.
 fn graph_of(alloc: Global, nodes: &[Edges<'_>]) -> Result<TraceGraph, OutOfMemory> {
     let mut graph = TraceGraph::new(alloc);
     for edges in nodes {
-        let mut list = Vec::new(alloc);
-        for (target, pairs) in *edges {
-            list.push(Edge::new(*target, pairs.to_vec(alloc)?))?;
-        }
-        graph.push(Node::new(vec![in alloc; 0, 1]?, list))?;
+        graph.push(node_of(alloc, &[0, 1], edges)?)?;
     }
     Ok(graph)
 }
 
 /// What `included` answers. A counter has to be a lasso that doesn't progress.
-fn answer_of(alloc: Global, nodes: &[Edges<'_>], limit: u32) -> Result<&'static str, OutOfMemory> {
-    let graph = graph_of(alloc, nodes)?;
-    if !is_graph(&graph) {
+fn answer_on(alloc: Global, graph: &TraceGraph, limit: u32) -> Result<&'static str, OutOfMemory> {
+    if !is_graph(graph) {
         return Ok("no graph");
     }
-    match included(alloc, &graph, limit)? {
+    match included(alloc, graph, limit)? {
         Inclusion::Included => Ok("included"),
         Inclusion::TooManyStates => Ok("too many states"),
         Inclusion::Counter(lasso) => {
-            if is_lasso(&graph, &lasso) && !lasso_progresses(alloc, &graph, &lasso)? {
+            if is_lasso(graph, &lasso) && !lasso_progresses(alloc, graph, &lasso)? {
                 return Ok("counter");
             }
             Ok("no counter")
         }
     }
+}
+
+/// The same, of nodes with positions 0 and 1.
+fn answer_of(alloc: Global, nodes: &[Edges<'_>], limit: u32) -> Result<&'static str, OutOfMemory> {
+    let graph = graph_of(alloc, nodes)?;
+    answer_on(alloc, &graph, limit)
+}
+
+/// The nodes of the ring's proof for two predicates: an Unfold, whose first case takes four nodes and whose second gives
+/// the predicate's atom the place behind a cell, which a Frame takes away; twice, and then the link to node 0.
+const RING_OF_TWO: [(&[u8], Edges<'static>); 17] = [
+    (&[0], &[(1, &[]), (5, &[(0, 1, true)])]),
+    (&[], &[(2, &[])]),
+    (&[], &[(3, &[])]),
+    (&[], &[(4, &[])]),
+    (&[], &[]),
+    (&[1], &[(6, &[(1, 1, false)])]),
+    (&[1], &[(7, &[(1, 1, false)])]),
+    (&[1], &[(8, &[(1, 0, false)])]),
+    (&[0], &[(9, &[]), (13, &[(0, 1, true)])]),
+    (&[], &[(10, &[])]),
+    (&[], &[(11, &[])]),
+    (&[], &[(12, &[])]),
+    (&[], &[]),
+    (&[1], &[(14, &[(1, 1, false)])]),
+    (&[1], &[(15, &[(1, 1, false)])]),
+    (&[1], &[(16, &[(1, 0, false)])]),
+    (&[0], &[(0, &[(0, 0, false)])]),
+];
+
+#[test]
+fn a_ring_of_seventeen_states(rt: HostRuntime) -> Result<(), Fail> {
+    let alloc = rt.alloc();
+    let mut graph = TraceGraph::new(alloc);
+    for (positions, edges) in RING_OF_TWO {
+        graph.push(node_of(alloc, positions, edges)?)?;
+    }
+    assert_eq!(rt; answer_on(alloc, &graph, 16)?, "too many states");
+    assert_eq!(rt; answer_on(alloc, &graph, 17)?, "included");
+    Ok(())
 }
 
 #[test]

@@ -115,5 +115,6 @@ impl Lexer {
 /// What the clauses of `new`, `feed` and `finish` come to for a whole text, fed in any pieces: the tokens that all calls hand
 /// out are the tokens of the joined bytes, or the fault is the same.
 pub fn feed_law()
-    ensures { (calls : List Call) → (new : Parts) → (last : Result (List Placed) LexFault) → AreCalls fresh calls new → Finishes new last → Tells (answer_of calls last) (told (tokens_of (bytes_of calls))) }
+    ensures { (calls : List Call) → (new : Parts) → (last : Result (List Placed) LexFault) → AreCalls fresh calls new
+        → Finishes new last → Tells (answer_of calls last) (told (tokens_of (bytes_of calls))) }
 {}

@@ -43,7 +43,8 @@ pub fn take_statement(
     requires { HasRoom place (length text.now) }
     ensures taken { Statements (reading place comment text.now) result }
     // Whatever bytes come after the text.
-    ensures law { IfOk result (λ s. (more : List ℕ) → tokens_from place comment (text.now ++ more) ≡ with_tokens (map placed s.tokens.items) (tokens_from s.place s.comment (s.rest.now ++ more))) }
+    ensures law { IfOk result (λ s. (more : List ℕ)
+        → tokens_from place comment (text.now ++ more) ≡ with_tokens (map placed s.tokens.items) (tokens_from s.place s.comment (s.rest.now ++ more))) }
 {
     let mut tokens = Vec::new(alloc);
     let mut place = place;

@@ -129,7 +129,8 @@ pub fn read_problem_tree<'a>(
     // What is read is spelled so; a fault stands at the first dead token.
     ensures exact { Reads problem problem_of tokens.now result }
     // What is spelled so is read, unless memory runs out.
-    ensures again { (t : Problem) → problem.fits t → map word_of tokens.now ≡ problem.words t → IsRead problem_of t result }
+    ensures again { (t : Problem) → problem.fits t → map word_of tokens.now ≡ problem.words t
+        → IsRead problem_of t result }
 {
     match whole_problem(alloc, tokens.as_slice()) {
         Ok(tree) => Ok(tree),

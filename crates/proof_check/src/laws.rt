@@ -17,12 +17,16 @@ ghost use Rattle.proof_check.specs.Verdicts.{file_graph, state_limit, IsCorrect,
 
 /// Where every node is right and every lasso progresses, the judgement of node 0 holds.
 pub fn correct_files_hold()
-    ensures { (most : ℕ) (ds : List Definition) (lines : List Command) (nodes : List Node) (root : Node) → Each IsCommand lines → Each HasFewCases ds → HasSmallHeaps nodes → AreReadable nodes → AreRight most ds lines nodes → slice_get nodes 0 ≡ Some root → AllProgress (graph_of most ds lines nodes) → JudgementHolds ds lines root.judgement }
+    ensures { (most : ℕ) (ds : List Definition) (lines : List Command) (nodes : List Node) (root : Node)
+        → Each IsCommand lines → Each HasFewCases ds → HasSmallHeaps nodes → AreReadable nodes
+        → AreRight most ds lines nodes → slice_get nodes 0 ≡ Some root → AllProgress (graph_of most ds lines nodes)
+        → JudgementHolds ds lines root.judgement }
 {}
 
 /// Of a correct file with few states no check can say anything but that it is accepted.
 pub fn correct_files_are_accepted()
-    ensures { (f : ProofFile) (v : Verdict) → IsVerdict f v → IsCorrect f → HasAtMost (file_graph f) state_limit → v ≡ Accepted }
+    ensures { (f : ProofFile) (v : Verdict) → IsVerdict f v → IsCorrect f → HasAtMost (file_graph f) state_limit
+        → v ≡ Accepted }
 {}
 
 /// A file is correct exactly where the same as a file of version 2 is, and then both have one trace graph, so as many

@@ -4,11 +4,10 @@ use Rattle.std.specs.Prelude.{Result, Ok, Err}
 use Rattle.std.specs.Io.KnownBytes.{Appends}
 use Rattle.cyc_io.specs.Bytes.{AppendsProperPrefix}
 use Rattle.cyc_lex.specs.declared.fault.ReadFault.{ReadFault}
-use Rattle.cyc_lex.specs.declared.fault.ReadFault.TheVariants as faults
 use Rattle.cyc_runs.specs.declared.endings.Status.{Status}
 use Rattle.cyc_runs.specs.declared.endings.Status.TheVariants as status
-use Rattle.cyc_runs.specs.Faults.{fault_status}
 use Rattle.cyc_runs.specs.Runs.{IsAnswerOf, IsTold, WroteAnswer, WrotePart}
+use Rattle.cyc_runs.proofs.WaysToEnd.{fault_fails}
 use Rattle.cyc_runs.proofs.Told.{some_told}
 use Rattle.formula_reader.specs.declared.problem.Problem.{Problem}
 use Rattle.formula_reader.specs.Reading as problems
@@ -17,14 +16,6 @@ use Rattle.proof_file.specs.Reading as files
 use Rattle.proof_file.proofs.Readings.{text_is_read}
 use Rattle.seek_search.specs.Found.{IsSought}
 use Rattle.seek_top.specs.Answers.{IsAnswer, IsReadAnswer, IsSearched, WroteProof, sought_status, sought_text, usage_text}
-
--- a fault ends no run with success
-no_success : (fault : ReadFault) → status.Success ≡ fault_status fault → ⊥
-no_success (faults.Lex fault) e = cc
-no_success (faults.Syntax token line column) e = cc
-no_success (faults.IllFormed fault token line column) e = cc
-no_success (faults.Limit what token line column) e = cc
-no_success faults.OutOfMemory e = cc
 
 -- what was found is what was written
 sought_proof : (told old new : Option (List ℕ)) (input text : List ℕ) (problem : Problem) (sought : Option ProofFile) → IsTold told input → problems.IsRead input (Ok problem) → IsSought problem sought → status.Success ≡ sought_status sought → text ≡ sought_text sought → Appends old new text → WroteProof told old new
@@ -44,7 +35,7 @@ sought_proof told old new input text problem None is read proof ends says wrote 
 read_proof : (told old new : Option (List ℕ)) (input text : List ℕ) (read : Result Problem ReadFault) → IsTold told input → problems.IsRead input read → IsReadAnswer read status.Success text → Appends old new text → WroteProof told old new
 read_proof told old new input text (Ok problem) is read answer wrote =
     sought_proof told old new input text problem answer.0 is read answer.1 answer.2 answer.3 wrote
-read_proof told old new input text (Err fault) is read answer wrote = absurd (no_success fault answer.0)
+read_proof told old new input text (Err fault) is read answer wrote = absurd (fault_fails fault answer.0)
 
 answer_proof : (told old new : Option (List ℕ)) (input text : List ℕ) → IsTold told input → IsAnswerOf IsSearched input status.Success text → Appends old new text → WroteProof told old new
 answer_proof told old new input text is (inl long) wrote = absurd (let h : status.Success ≡ status.Limit = long.1 in cc)

@@ -1,5 +1,5 @@
 -- The answer to a problem and to words, and what is written of it.
-use Rattle.std.specs.Prelude.{◌≡◌, ◌≤◌, ℕ, List, [], ◌∷◌, length, codes, Option, Some, None, Result, Ok, Err}
+use Rattle.std.specs.Prelude.{◌≡◌, ◌≤◌, ◌⊎◌, ℕ, Bool, true, false, List, [], ◌∷◌, length, codes, Option, Some, None, Result, Ok, Err}
 use Rattle.std.specs.Io.KnownBytes.{Appends}
 use Rattle.cyc_lex.specs.declared.fault.ReadFault.{ReadFault}
 use Rattle.cyc_runs.specs.declared.endings.Status.{Status}
@@ -46,6 +46,16 @@ IsSearched input ending text =
 abbrev pub IsAnswer : {X : Type 0} → List X → Answering
 IsAnswer [] = IsAnswerOf IsSearched
 IsAnswer (word ∷ words) = λ input ending text. (ending ≡ status.Usage) × (text ≡ usage_text)
+
+-- a run with this status has searched: it found a proof, or none
+abbrev pub ends_search : Status → Bool
+ends_search status.Success = true
+ends_search status.NotFound = true
+ends_search _ = false
+
+-- two runs end with one status, or both have searched: that a search finds is promised nowhere
+abbrev pub EndAlike : Status → Status → Type 0
+EndAlike s t = (s ≡ t) ⊎ (ends_search s ≡ true) × (ends_search t ≡ true)
 
 -- some input, which is the one that was told, spells a problem; and what was written spells a proof of its goal that a check
 -- accepts, so that the goal holds

@@ -1,11 +1,11 @@
 //! The top call of the free search: words and a source of bytes in, a proof or a line and a status out.
 #![tactic(auto)]
 
-ghost use Rattle.std.specs.Prelude.{◌≡◌, ◌≢◌, ◌≤◌, length, true};
+ghost use Rattle.std.specs.Prelude.{◌≡◌, ◌≢◌, ◌≤◌, ◌⊎◌, ℕ, List, Some, length, true};
 ghost use Rattle.cyc_io.specs.Causes.{Rose};
 ghost use Rattle.cyc_runs.specs.Endings.{is_answer};
 ghost use Rattle.cyc_runs.specs.Runs.{IsReadThrough, WroteAnswer, WrotePart};
-ghost use Rattle.seek_top.specs.Answers.{IsAnswer, WroteProof};
+ghost use Rattle.seek_top.specs.Answers.{EndAlike, IsAnswer, WroteProof};
 
 mod seeker;
 
@@ -24,6 +24,12 @@ pub fn run<S: Source, K: Sink>(alloc: Global, words: &[String], src: &mut S, out
     // The text of the answer to the words and to the bytes that the source told was written, whole.
     ensures answered { is_answer result ≡ true
         → WroteAnswer (IsAnswer words.now) (S.left src.old) (K.written out.old) (K.written out.new) result }
+    // Where the words have this answer for the told bytes, the run ends so, unless a read or a write fails; but of a
+    // search no more is said than that it ends.
+    ensures exact { (input : List ℕ) (status : Status) (text : List ℕ) → S.left src.old ≡ Some input
+        → IsAnswer words.now input status text
+        → ¬ Rose (S.faults src.old) (S.faults src.new) → ¬ Rose (K.faults out.old) (K.faults out.new)
+        → EndAlike result status ⊎ (result ≡ Status.OutOfMemory) }
     // What was written with success is a proof of the problem's goal that a check accepts, and the goal holds.
     ensures found { result ≡ Status.Success → WroteProof (S.left src.old) (K.written out.old) (K.written out.new) }
     ensures through { is_answer result ≡ true → length words.now ≡ 0 → IsReadThrough (S.left src.old) (S.left src.new) }

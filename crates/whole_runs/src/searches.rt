@@ -9,7 +9,8 @@ use std::test::Fail;
 /// Words, an input, and how a run on them ends: its status and what it writes.
 type Run = (&'static str, &'static str, u8, &'static str);
 
-static USAGE: &str = "usage: cyclist check | prove [--depth N] | ring K | upgrade | sat\n";
+static USAGE: &str =
+    "usage: cyclist check | prove [--depth N] | ring K | upgrade | sat | model | disprove [--cells N]\n";
 
 static COMPOSE: &str = "cyclist problem 1;
 pred ls(a, b) { a = b : emp | true : a -> (c) * ls(c, b) };

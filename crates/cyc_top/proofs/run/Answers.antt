@@ -1,7 +1,7 @@
 use Rattle.std.proofs.Common.{◌≡◌, subst, true}
 use Rattle.cyc_words.specs.Words.{reads_input}
 use Rattle.cyc_runs.specs.declared.endings.Status.TheVariants.{Success}
-use Rattle.cyc_top.proofs.Exact.{correct_succeeds, ended_so, found_succeeds, refusal_says, ring_ends, success_says, success_wrote, told_status, wrote_as}
+use Rattle.cyc_top.proofs.Exact.{correct_succeeds, ended_so, found_succeeds, none_says, refusal_says, ring_ends, success_models, success_says, success_wrote, told_status, wrote_as}
 use Rattle.cyc_top.proofs.Upgraded.{success_upgraded, upgrade_succeeds}
 use Rattle.cyc_top.proofs.run.Goals as goal
 
@@ -14,8 +14,8 @@ returns-in-Ok-clause-exact g c =
 pub returns-in-Ok-clause-headline : goal.returns-in-Ok-clause-headline
 returns-in-Ok-clause-headline g c = success_says _ _ _ _ _ (wrote_as _ _ _ _ _ _ c.in-Ok.ensures.meaning c.run_task.ensures.answered)
 
-pub returns-in-Ok-clause-unsatisfiable : goal.returns-in-Ok-clause-unsatisfiable
-returns-in-Ok-clause-unsatisfiable g c = refusal_says _ _ _ _ _ (wrote_as _ _ _ _ _ _ c.in-Ok.ensures.meaning c.run_task.ensures.answered)
+pub returns-in-Ok-clause-refusal : goal.returns-in-Ok-clause-refusal
+returns-in-Ok-clause-refusal g c = refusal_says _ _ _ _ _ (wrote_as _ _ _ _ _ _ c.in-Ok.ensures.meaning c.run_task.ensures.answered)
 
 pub returns-in-Ok-clause-accepts : goal.returns-in-Ok-clause-accepts
 returns-in-Ok-clause-accepts g c =
@@ -40,6 +40,12 @@ returns-in-Ok-clause-upgraded g c = success_upgraded _ _ _ _ _ (wrote_as _ _ _ _
 
 pub returns-in-Ok-clause-proof : goal.returns-in-Ok-clause-proof
 returns-in-Ok-clause-proof g c = λ depth is e. success_wrote _ _ _ _ _ (wrote_as _ _ _ _ _ _ c.in-Ok.ensures.meaning c.run_task.ensures.answered) depth is e
+
+pub returns-in-Ok-clause-refuted : goal.returns-in-Ok-clause-refuted
+returns-in-Ok-clause-refuted g c = λ cells is e. success_models _ _ _ _ _ (wrote_as _ _ _ _ _ _ c.in-Ok.ensures.meaning c.run_task.ensures.answered) cells is e
+
+pub returns-in-Ok-clause-unrefuted : goal.returns-in-Ok-clause-unrefuted
+returns-in-Ok-clause-unrefuted g c = λ cells is e. none_says _ _ _ _ _ (wrote_as _ _ _ _ _ _ c.in-Ok.ensures.meaning c.run_task.ensures.answered) cells is e
 
 pub returns-in-Ok-clause-ring : goal.returns-in-Ok-clause-ring
 returns-in-Ok-clause-ring g c =

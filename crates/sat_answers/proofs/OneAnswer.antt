@@ -7,29 +7,12 @@ use Rattle.pair_family.proofs.Rounds.{not_both}
 use Rattle.formula_reader.specs.declared.problem.Problem.{Problem}
 use Rattle.formula_reader.specs.Reading as problems
 use Rattle.cyc_lex.specs.declared.fault.ReadFault.{ReadFault}
-use Rattle.cyc_lex.specs.declared.fault.ReadFault.TheVariants as faults
-use Rattle.cyc_runs.specs.Faults.{fault_status}
 use Rattle.cyc_runs.specs.declared.endings.Status.{Status}
 use Rattle.cyc_runs.specs.declared.endings.Status.TheVariants.{Success, Refused, Limit}
+use Rattle.cyc_runs.proofs.WaysToEnd.{fault_fails, fault_is_no_refusal}
 use Rattle.sat_answers.specs.Answers.{IsAsked, IsPairsAnswer, IsPossible, IsReadAnswer, IsSaid, pair_limit}
-use Rattle.cyc_top.proofs.OneReading.{AreAlike}
-use Rattle.cyc_top.proofs.Readings.{one_problem_reading}
-
--- no fault of the input ends with success
-pub fault_fails : (fault : ReadFault) → Success ≡ fault_status fault → ⊥
-fault_fails (faults.Lex fault) e = cc
-fault_fails (faults.Syntax token line column) e = cc
-fault_fails (faults.IllFormed fault token line column) e = cc
-fault_fails (faults.Limit what token line column) e = cc
-fault_fails faults.OutOfMemory e = cc
-
--- nor with a refusal
-fault_is_no_refusal : (fault : ReadFault) → Refused ≡ fault_status fault → ⊥
-fault_is_no_refusal (faults.Lex fault) e = cc
-fault_is_no_refusal (faults.Syntax token line column) e = cc
-fault_is_no_refusal (faults.IllFormed fault token line column) e = cc
-fault_is_no_refusal (faults.Limit what token line column) e = cc
-fault_is_no_refusal faults.OutOfMemory e = cc
+use Rattle.reading_laws.specs.Alike.{AreAlike}
+use Rattle.reading_laws.proofs.Readings.{one_problem_reading}
 
 module _ (p q : Problem) (same : problems.AreSame p q) where
   possible : IsPossible p → IsPossible q

@@ -9,7 +9,8 @@ use Rattle.proof_file.proofs.Readings.{one_file}
 use Rattle.formula_reader.specs.declared.problem.Problem.{Problem}
 use Rattle.formula_reader.specs.Reading as problems
 use Rattle.formula_reader.proofs.Readings.{one_problem}
-use Rattle.cyc_top.proofs.OneReading.{AreAlike, one_reading}
+use Rattle.reading_laws.specs.Alike.{AreAlike}
+use Rattle.reading_laws.proofs.OneReading.{one_reading}
 
 pub one_file_reading : (bytes : List ℕ) (r s : Result ProofFile ReadFault) → files.IsRead bytes r → files.IsRead bytes s → AreAlike files.AreSame r s
 one_file_reading = one_reading files.proof_files file-law files.AreSame one_file

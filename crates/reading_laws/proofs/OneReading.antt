@@ -9,14 +9,7 @@ use Rattle.cyc_grammar.proofs.Laws.{Lawful}
 use Rattle.heap_reader.specs.declared.flaw.Item.TheVariants.{Ill, Over}
 use Rattle.heap_reader.specs.Reading.{Format, IsLexFault, IsRead, IsReadFrom}
 use Rattle.heap_reader.proofs.Readings.{no_tokens, ok_tokens, no_syntax_fault, no_flaw, one_flaw, one_value}
-use Rattle.cyc_runs.specs.Faults.{fault_status}
-
--- two readings give the same value, or faults that end a task in the same way
-abbrev pub AreAlike : {V : Type 0} → (V → V → Type 0) → Result V ReadFault → Result V ReadFault → Type 0
-AreAlike same (Ok v) (Ok w) = same v w
-AreAlike same (Err a) (Err b) = fault_status a ≡ fault_status b
-AreAlike same (Ok v) (Err b) = ⊥
-AreAlike same (Err a) (Ok w) = ⊥
+use Rattle.reading_laws.specs.Alike.{AreAlike}
 
 module _ {T V : Type 0} (format : Format T V) (law : Lawful format.syntax) (Same : V → V → Type 0) (says_one : (t : T) (v w : V) → format.Says t v → format.Says t w → Same v w) where
   -- a place without a token, or what the tokens say
