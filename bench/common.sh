@@ -65,3 +65,12 @@ turns() { # ATOMS NODES: so many atoms, and nodes before the two ways part
       print "end;"
     }'
 }
+
+# Runs the program on the file "$work/file" with these words, and prints seconds, memory and the first line of its answer.
+show() { # NAME WORD..
+  local name=$1 spent kilobytes
+  shift
+  /usr/bin/time -q -f '%e %M' -o "$work/time" "$program" "$@" < "$work/file" > "$work/answer"
+  read -r spent kilobytes < "$work/time"
+  printf '%-36s %8.2f s %6d MB  %s\n' "$name" "$spent" "$((kilobytes / 1024))" "$(head -n 1 "$work/answer")"
+}

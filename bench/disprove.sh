@@ -4,17 +4,10 @@
 # it passes and fails nothing.
 . "$(dirname "${BASH_SOURCE[0]}")/common.sh"
 
-show() { # NAME CELLS
-  local spent kilobytes
-  /usr/bin/time -q -f '%e %M' -o "$work/time" "$program" disprove --cells "$2" < "$work/file" > "$work/answer"
-  read -r spent kilobytes < "$work/time"
-  printf '%-32s cells %d %8.2f s %6d MB  %s\n' "$1" "$2" "$spent" "$((kilobytes / 1024))" "$(head -n 1 "$work/answer")"
-}
-
 for problem in "$top"/examples/acyclic-segments.problem "$top"/examples/refuted/*.problem; do
   cp "$problem" "$work/file"
   for cells in 1 2 3 4; do
-    show "$(basename "${problem%.problem}")" "$cells"
+    show "$(basename "${problem%.problem}"), $cells cells" disprove --cells "$cells"
   done
 done
 
@@ -25,9 +18,9 @@ segment='pred ls(a, b) { a = b : emp | true : a -> (c) * ls(c, b) };'
 list='pred list(a) { a = nil : emp | true : a -> (b) * list(b) };'
 tree='pred tree(a) { a = nil : emp | true : a -> (l, r) * tree(l) * tree(r) };'
 
-problem "$segment" 'true : ls(x, y) * ls(y, z) |- true : ls(x, z)'; show 'two segments' 4
-problem "$segment" 'true : ls(x, y) * ls(y, z) * ls(z, w) |- true : ls(x, w)'; show 'three segments' 4
+problem "$segment" 'true : ls(x, y) * ls(y, z) |- true : ls(x, z)'; show 'two segments' disprove --cells 4
+problem "$segment" 'true : ls(x, y) * ls(y, z) * ls(z, w) |- true : ls(x, w)'; show 'three segments' disprove --cells 4
 problem "$list
-$segment" 'true : ls(x, y) * list(y) |- true : list(x)'; show 'a segment and a list' 4
-problem "$tree" 'true : tree(x) |- true : tree(x)'; show 'a tree' 3
-cp "$top/examples/doubly-linked.problem" "$work/file"; show 'two doubly linked segments' 3
+$segment" 'true : ls(x, y) * list(y) |- true : list(x)'; show 'a segment and a list' disprove --cells 4
+problem "$tree" 'true : tree(x) |- true : tree(x)'; show 'a tree' disprove --cells 3
+cp "$top/examples/doubly-linked.problem" "$work/file"; show 'two doubly linked segments' disprove --cells 3

@@ -4,13 +4,6 @@
 # Wants GNU time. Prints figures; it passes and fails nothing.
 . "$(dirname "${BASH_SOURCE[0]}")/common.sh"
 
-show() { # NAME
-  local spent kilobytes
-  /usr/bin/time -q -f '%e %M' -o "$work/time" "$program" model < "$work/file" > "$work/answer"
-  read -r spent kilobytes < "$work/time"
-  printf '%-36s %8.2f s %6d MB  %s\n' "$1" "$spent" "$((kilobytes / 1024))" "$(cat "$work/answer")"
-}
-
 # A list of 16 cells that ends in nil.
 list() {
   awk 'BEGIN {
@@ -42,12 +35,12 @@ woven() { # CELLS
     print ";\nask true : any($0);\nend;" }'
 }
 
-list > "$work/file"; show 'a list of 16 cells'
-tree > "$work/file"; show 'a tree of 15 cells'
+list > "$work/file"; show 'a list of 16 cells' model
+tree > "$work/file"; show 'a tree of 15 cells' model
 for cells in 6 8 10; do
-  woven "$cells" > "$work/file"; show "$cells cells of eight fields"
+  woven "$cells" > "$work/file"; show "$cells cells of eight fields" model
 done
 for model in "$top"/examples/*.model; do
   cp "$model" "$work/file"
-  show "$(basename "$model" .model)"
+  show "$(basename "$model" .model)" model
 done

@@ -4,13 +4,6 @@
 # above the limit. Wants GNU time. Prints figures; it passes and fails nothing.
 . "$(dirname "${BASH_SOURCE[0]}")/common.sh"
 
-show() { # NAME
-  local spent kilobytes
-  /usr/bin/time -q -f '%e %M' -o "$work/time" "$program" sat < "$work/file" > "$work/answer"
-  read -r spent kilobytes < "$work/time"
-  printf '%-36s %8.2f s %6d MB  %s\n' "$1" "$spent" "$((kilobytes / 1024))" "$(cat "$work/answer")"
-}
-
 # The predicates p0 to p(n-1), in the order that is read; each is a cell before the next, the last the empty heap at nil.
 chain() { # COUNT ENDS: the last leads on to p0 where ENDS is ring
   awk -v n="$1" -v ends="$2" '
@@ -39,12 +32,12 @@ family() { # COUNT: of such predicates, each with one disequation more
 
 for problem in "$top"/examples/*.problem; do
   cp "$problem" "$work/file"
-  show "$(basename "$problem" .problem)"
+  show "$(basename "$problem" .problem)" sat
 done
-seq 0 4095 | chain 4096 end > "$work/file"; show '4,096 predicates in a chain'
-seq 4095 -1 0 | chain 4096 end > "$work/file"; show 'the same against the order'
-seq 0 4095 | awk '{ print ($1 * 1597) % 4096 }' | chain 4096 end > "$work/file"; show 'the same mixed'
-seq 0 4095 | awk '{ print ($1 * 1597) % 4096 }' | chain 4096 ring > "$work/file"; show '4,096 predicates in a ring, mixed'
+seq 0 4095 | chain 4096 end > "$work/file"; show '4,096 predicates in a chain' sat
+seq 4095 -1 0 | chain 4096 end > "$work/file"; show 'the same against the order' sat
+seq 0 4095 | awk '{ print ($1 * 1597) % 4096 }' | chain 4096 end > "$work/file"; show 'the same mixed' sat
+seq 0 4095 | awk '{ print ($1 * 1597) % 4096 }' | chain 4096 ring > "$work/file"; show '4,096 predicates in a ring, mixed' sat
 for count in 1 4 16 32 48 64; do
-  family "$count" > "$work/file"; show "$count predicates of eight parameters"
+  family "$count" > "$work/file"; show "$count predicates of eight parameters" sat
 done
