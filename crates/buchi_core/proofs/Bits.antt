@@ -1,14 +1,14 @@
 -- Masks as sets of positions: what they have, and which list they stand for.
-use Rattle.std.proofs.Common.{◌≡◌, ℕ, zero, suc, ◌+◌, ◌-◌, ◌*◌, ◌/◌, ◌%◌, ◌^◌, ◌<◌, ◌≤◌, ◌⊎◌, inl, inr, List, [], ◌∷◌, Bool, true, false, not, ◌&&◌, ◌||◌, cond, min, max, filter, length, drop, get_or, add-one, drop-cons, nat_eq, bit_and, bit_or, arith, sym, refl, ap, ◌∙◌, subst, eqb-true}
+use Rattle.std.proofs.Common.{◌≡◌, ℕ, zero, suc, ◌+◌, ◌-◌, ◌*◌, ◌%◌, ◌^◌, ◌<◌, ◌≤◌, ◌⊎◌, inl, inr, List, [], ◌∷◌, Bool, true, false, not, ◌&&◌, ◌||◌, cond, min, max, filter, length, drop, get_or, add-one, drop-cons, nat_eq, bit_and, bit_or, arith, sym, refl, ap, ◌∙◌, subst, eqb-true}
 use Rattle.std.specs.Prelude.{slice_index}
 use Rattle.std.specs.Int.{bit_at}
 use Rattle.std.specs.List.Sorted.{IsStrictlyIncreasing}
 use Rattle.std.proofs.lemmas.Bool.{cases_Bool, cases_eq, cases_lt, both_ways, or_left, or_right, eq-eqb, ne_eqb, false_from_ne_true}
 use Rattle.std.proofs.lemmas.List.{drop_all}
 use Rattle.std.proofs.lemmas.Nat.{one_shl}
-use Rattle.std.proofs.lemmas.Nat.Bits.{bit_at-lt, bit_at_and, bit_at_or, bit_at_not, bit_at_ones, bit_at-zero, bit_at-pow_same, bit_at-pow_other, shr_and_one, same_from_bits_below}
+use Rattle.std.proofs.lemmas.Nat.Bits.{bit_at-lt, bit_at_and, bit_at_or, bit_at_not, bit_at_ones, bit_at-zero, bit_at-pow_same, bit_at-pow_other, same_from_bits_below}
 use Rattle.std.specs.Int.{w32}
-use Rattle.buchi_core.specs.Forest.{Pair, IsPositionSet, has, places, is_filled, leads, progressing}
+use Rattle.buchi_core.specs.Forest.{IsPositionSet, has, places, is_filled}
 use Rattle.buchi_core.specs.View.{is_one, members}
 
 -- ---- places
@@ -186,9 +186,6 @@ one_zero q = ap (λ x. nat_eq x 1) (bit_at-zero q)
 pub one_all : (q : ℕ) → q < 32 → is_one 4294967295 q ≡ true
 one_all q l = ap (λ x. nat_eq x 1) (bit_at_ones 32 q l)
 
-pub one_shift : (m p : ℕ) → nat_eq (bit_and (m / 2 ^ p) 1) 1 ≡ is_one m p
-one_shift m p = ap (λ x. nat_eq x 1) (shr_and_one m p)
-
 bit_is : (a b q : ℕ) → is_one a q ≡ is_one b q → bit_at a q ≡ bit_at b q
 bit_is a b q e =
     elim (bit_cases (bit_at a q) (bit_at-lt a q)) [
@@ -236,12 +233,12 @@ filled_mask m l =
           n ∙ sym (ap not (eq-eqb m 0 z)))
     ]
 
--- ---- a turn of the loops over positions and pairs
-or_more : (a b x z w : Bool) → x ≡ (a || b) → (a || (b || z)) ≡ w → (x || z) ≡ w
+-- ---- a turn of the loop over positions
+pub or_more : (a b x z w : Bool) → x ≡ (a || b) → (a || (b || z)) ≡ w → (x || z) ≡ w
 or_more true b x z w e h = ap (λ y. y || z) e ∙ h
 or_more false b x z w e h = ap (λ y. y || z) e ∙ h
 
-or_none : (a : Bool) → (a || false) ≡ a
+pub or_none : (a : Bool) → (a || false) ≡ a
 or_none true = refl
 or_none false = refl
 
@@ -257,20 +254,3 @@ position_more ps mask bit i q d l b h =
 pub position_end : (ps : List ℕ) (mask i q : ℕ) → length ps ≤ i → (is_one mask q || has (drop i ps) q) ≡ has ps q → is_one mask q ≡ has ps q
 position_end ps mask i q l h =
     sym (or_none (is_one mask q)) ∙ subst (λ (z : List ℕ). (is_one mask q || has z q) ≡ has ps q) (drop_all i ps l) h
-
-pub pair_more : (ps : List Pair) (set : List ℕ) (mask bit i q : ℕ) (d : Pair) → i < length ps → is_one bit q ≡ (has set (get_or ps i d).0 && nat_eq (get_or ps i d).1 q) →
-    (is_one mask q || leads (drop i ps) set q) ≡ leads ps set q → (is_one (bit_or mask bit) q || leads (drop (i + 1) ps) set q) ≡ leads ps set q
-pair_more ps set mask bit i q d l b h =
-    or_more (is_one mask q) (has set (get_or ps i d).0 && nat_eq (get_or ps i d).1 q) (is_one (bit_or mask bit) q) (leads (drop (i + 1) ps) set q) (leads ps set q)
-    (one_or mask bit q ∙ ap (λ z. is_one mask q || z) b)
-    (subst (λ (z : List Pair). (is_one mask q || leads z set q) ≡ leads ps set q) (drop_step ps i d l) h)
-
-leads_progress : (p : Pair) (rest : List Pair) (set : List ℕ) (q : ℕ) → leads (progressing (p ∷ rest)) set q ≡ ((p.2 && (has set p.0 && nat_eq p.1 q)) || leads (progressing rest) set q)
-leads_progress p rest set q = elim (cases_Bool p.2) [ inl y ↦ rw y refl | inr y ↦ rw y refl ]
-
-pub progress_more : (ps : List Pair) (set : List ℕ) (mask bit i q : ℕ) (d : Pair) → i < length ps → is_one bit q ≡ ((get_or ps i d).2 && (has set (get_or ps i d).0 && nat_eq (get_or ps i d).1 q)) →
-    (is_one mask q || leads (progressing (drop i ps)) set q) ≡ leads (progressing ps) set q → (is_one (bit_or mask bit) q || leads (progressing (drop (i + 1) ps)) set q) ≡ leads (progressing ps) set q
-progress_more ps set mask bit i q d l b h =
-    or_more (is_one mask q) ((get_or ps i d).2 && (has set (get_or ps i d).0 && nat_eq (get_or ps i d).1 q)) (is_one (bit_or mask bit) q) (leads (progressing (drop (i + 1) ps)) set q) (leads (progressing ps) set q)
-    (one_or mask bit q ∙ ap (λ z. is_one mask q || z) b)
-    (ap (λ z. is_one mask q || z) (sym (leads_progress (get_or ps i d) (drop (i + 1) ps) set q)) ∙ subst (λ (z : List Pair). (is_one mask q || leads (progressing z) set q) ≡ leads (progressing ps) set q) (drop_step ps i d l) h)

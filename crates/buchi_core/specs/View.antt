@@ -21,6 +21,10 @@ entry_of e = record { parent = e.parent; set = members e.set }
 abbrev pub entries_of : List Entry → List AgeEntry
 entries_of es = map entry_of es
 
--- the entries of a forest, oldest first
+-- the entries of a forest, oldest first, without the rest of its array
+abbrev pub used : AgeForest → List Entry
+used f = take f.len f.entries
+
+-- their plain data
 abbrev pub forest_of : AgeForest → List AgeEntry
-forest_of f = entries_of (take f.len f.entries)
+forest_of f = entries_of (used f)

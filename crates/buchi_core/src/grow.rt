@@ -2,41 +2,56 @@
 
 ghost use Rattle.std.specs.Prelude.{◌≡◌, ◌+◌, ◌≤◌, length, map};
 ghost use Rattle.arrayvec.specs.ArrayVec.{array_vec_len};
-ghost use Rattle.buchi_core.specs.Forest.{moved, children, scan_from, trimmed, before_drop};
+ghost use Rattle.buchi_core.specs.Forest.{moved, children, progressing, scan_from, trimmed, before_drop};
+ghost use Rattle.buchi_core.specs.Moves.{AreMoves};
 ghost use Rattle.buchi_core.specs.View.{entries_of, members};
 ghost use Rattle.buchi_core.specs.Young.{AreLeft, made};
 
 use crate::entry::Entry;
-use crate::masks::{child_set, moved_set};
+use crate::masks::{moves_of, successors_of};
 use crate::young::{Young, no_entries, push_entry};
 
-/// Appends each entry with the successors of its set.
-fn push_moved(young: &mut Young, pairs: &[(u8, u8, bool)], positions: u32, forest: &[Entry])
+/// Appends each entry with the successors of its set. The masks say where the pairs lead.
+fn push_moved(
+    young: &mut Young,
+    _pairs: &[(u8, u8, bool)],
+    masks: &[u32; 32],
+    positions: u32,
+    forest: &[Entry],
+)
+    requires masks { AreMoves _pairs.now masks.now }
     requires few { length forest.now ≤ 32 }
     requires room { array_vec_len young.old.entries ≤ 32 }
     requires left { AreLeft young.old }
     ensures long { array_vec_len young.new.entries ≡ array_vec_len young.old.entries + length forest.now }
     ensures left { AreLeft young.new }
-    ensures moved { made young.new ≡ scan_from trimmed (made young.old) (map (moved pairs.now (members positions)) (entries_of forest.now)) }
+    ensures moved { made young.new ≡ scan_from trimmed (made young.old) (map (moved _pairs.now (members positions)) (entries_of forest.now)) }
 {
     for entry in forest {
-        let set = moved_set(pairs, positions, entry.set);
+        let set = successors_of(masks, positions, entry.set);
         push_entry(young, entry.parent, set);
     }
 }
 
-/// Appends a youngest child of each entry.
-fn push_children(young: &mut Young, pairs: &[(u8, u8, bool)], positions: u32, forest: &[Entry])
+/// Appends a youngest child of each entry. The masks say where the pairs that progress lead.
+fn push_children(
+    young: &mut Young,
+    _pairs: &[(u8, u8, bool)],
+    masks: &[u32; 32],
+    positions: u32,
+    forest: &[Entry],
+)
+    requires masks { AreMoves (progressing _pairs.now) masks.now }
     requires few { length forest.now ≤ 32 }
     requires room { array_vec_len young.old.entries ≤ 32 }
     requires left { AreLeft young.old }
     ensures long { array_vec_len young.new.entries ≡ array_vec_len young.old.entries + length forest.now }
     ensures left { AreLeft young.new }
-    ensures children { made young.new ≡ scan_from trimmed (made young.old) (children pairs.now (members positions) 0 (entries_of forest.now)) }
+    ensures children { made young.new ≡ scan_from trimmed (made young.old) (children _pairs.now (members positions) 0 (entries_of forest.now)) }
 {
     let mut number: u8 = 0;
     for entry in forest {
-        let set = child_set(pairs, positions, entry.set);
+        let set = successors_of(masks, positions, entry.set);
         push_entry(young, Some(number), set);
         number += 1;
     }
@@ -48,9 +63,10 @@ pub(crate) fn grown(forest: &[Entry], pairs: &[(u8, u8, bool)], positions: u32) 
     ensures left { AreLeft result }
     ensures grown { made result ≡ before_drop pairs.now (members positions) (entries_of forest.now) }
 {
+    let moves = moves_of(pairs);
     let mut young = no_entries();
-    push_moved(&mut young, pairs, positions, forest);
-    push_children(&mut young, pairs, positions, forest);
+    push_moved(&mut young, pairs, &moves.all, positions, forest);
+    push_children(&mut young, pairs, &moves.progress, positions, forest);
     push_entry(&mut young, None, positions);
     young
 }

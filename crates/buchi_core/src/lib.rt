@@ -4,8 +4,10 @@
 
 mod age_forest;
 mod entry;
+mod equality;
 mod event;
 mod grow;
+mod list;
 mod masks;
 mod settle;
 mod stepping;

@@ -1,15 +1,9 @@
 //! Sets of positions as masks, and where pairs lead from them.
 
-ghost use Rattle.std.specs.Prelude.{ℕ, ◌≡◌, ◌<◌, ◌&&◌, nat_eq};
-ghost use Rattle.buchi_core.specs.Forest.{IsPositionSet, has, leads, successors, progressing};
+ghost use Rattle.std.specs.Prelude.{ℕ, ◌≡◌, ◌<◌, ◌&&◌, ◌||◌, List, nat_eq, length, get_or};
+ghost use Rattle.buchi_core.specs.Forest.{IsPositionSet, Pair, leads, successors, progressing};
+ghost use Rattle.buchi_core.specs.Moves.{AreMoves};
 ghost use Rattle.buchi_core.specs.View.{is_one, members};
-
-/// Whether the mask has the position.
-fn has_bit(mask: u32, position: u8) -> bool
-    ensures { result ≡ has (members mask) position }
-{
-    position < 32 && (mask >> position) & 1 == 1
-}
 
 /// The mask of one position, empty if it isn't below 32.
 fn bit_of(position: u8) -> u32
@@ -30,58 +24,63 @@ pub(crate) fn mask_of(positions: &[u8]) -> u32
     mask
 }
 
-/// Where a pair leads from the set, if it leads from there.
-fn target_of(set: u32, old: u8, new: u8) -> u32
-    ensures { (q : ℕ) → q < 32 → is_one result q ≡ (has (members set) old && nat_eq new q) }
-{
-    if has_bit(set, old) { bit_of(new) } else { 0 }
+/// For each position the mask of those that pairs lead to from it, by all pairs and by those that progress.
+#[derive(Drop)]
+pub(crate) struct Moves {
+    pub(crate) all: [u32; 32],
+    pub(crate) progress: [u32; 32],
 }
 
-/// The positions that pairs lead to from the set.
-fn targets_of(pairs: &[(u8, u8, bool)], set: u32) -> u32
-    ensures { (q : ℕ) → q < 32 → is_one result q ≡ leads pairs.now (members set) q }
+/// Adds that a pair leads from one position to another, if both are below 32.
+fn add_move(masks: &mut [u32; 32], old: u8, new: u8)
+    requires long { length masks.old ≡ 32 }
+    ensures long { length masks.new ≡ 32 }
+    ensures added { (p q : ℕ) → p < 32 → q < 32 → is_one (get_or masks.new p 0) q ≡ (is_one (get_or masks.old p 0) q || (nat_eq p old && nat_eq new q)) }
 {
-    let mut targets = 0;
-    for pair in pairs {
-        let (old, new, _) = *pair;
-        targets |= target_of(set, old, new);
-    }
-    targets
-}
-
-/// Where a pair leads from the set, if it leads from there and progresses.
-fn progress_target_of(set: u32, old: u8, new: u8, progress: bool) -> u32
-    ensures { (q : ℕ) → q < 32 → is_one result q ≡ (progress && (has (members set) old && nat_eq new q)) }
-{
-    if progress {
-        target_of(set, old, new)
-    } else {
-        0
+    let place = old as usize;
+    if place < 32 {
+        masks[place] |= bit_of(new);
     }
 }
 
-/// The positions that pairs lead to from the set with progress.
-fn progress_of(pairs: &[(u8, u8, bool)], set: u32) -> u32
-    ensures { (q : ℕ) → q < 32 → is_one result q ≡ leads (progressing pairs.now) (members set) q }
+/// Where these pairs lead.
+pub(crate) fn moves_of(pairs: &[(u8, u8, bool)]) -> Moves
+    ensures all { AreMoves pairs.now result.all }
+    ensures progress { AreMoves (progressing pairs.now) result.progress }
 {
-    let mut targets = 0;
+    let mut moves = Moves {
+        all: [0; 32],
+        progress: [0; 32],
+    };
     for pair in pairs {
         let (old, new, progress) = *pair;
-        targets |= progress_target_of(set, old, new, progress);
+        add_move(&mut moves.all, old, new);
+        if progress {
+            add_move(&mut moves.progress, old, new);
+        }
+    }
+    moves
+}
+
+/// The positions that the moves lead to from the set, one of its positions after another.
+fn targets_of(masks: &[u32; 32], set: u32) -> u32
+    requires long { length masks.now ≡ 32 }
+    ensures { (pairs : List Pair) → AreMoves pairs masks.now → (q : ℕ) → q < 32 → is_one result q ≡ leads pairs (members set) q }
+{
+    let mut targets = 0;
+    let mut rest = set;
+    while rest != 0 {
+        let position = rest.trailing_zeros();
+        targets |= masks[position as usize];
+        rest &= !(1 << position);
     }
     targets
 }
 
 /// The successors of a set among the positions of the new node.
-pub(crate) fn moved_set(pairs: &[(u8, u8, bool)], positions: u32, set: u32) -> u32
-    ensures { members result ≡ successors pairs.now (members positions) (members set) }
+pub(crate) fn successors_of(masks: &[u32; 32], positions: u32, set: u32) -> u32
+    requires long { length masks.now ≡ 32 }
+    ensures { (pairs : List Pair) → AreMoves pairs masks.now → members result ≡ successors pairs (members positions) (members set) }
 {
-    positions & targets_of(pairs, set)
-}
-
-/// The successors of a set by the pairs that progress.
-pub(crate) fn child_set(pairs: &[(u8, u8, bool)], positions: u32, set: u32) -> u32
-    ensures { members result ≡ successors (progressing pairs.now) (members positions) (members set) }
-{
-    positions & progress_of(pairs, set)
+    positions & targets_of(masks, set)
 }

@@ -3,11 +3,13 @@
 ghost use Rattle.std.specs.Prelude.{◌≡◌, ◌≤◌, length, slice_get};
 ghost use Rattle.arrayvec.specs.ArrayVec.{array_vec_len};
 ghost use Rattle.buchi_core.specs.Forest.{is_set, is_full, lost_below, losses, is_kept, rank, renumbered, settle, event_from};
-ghost use Rattle.buchi_core.specs.View.{entries_of};
+ghost use Rattle.buchi_core.specs.View.{entries_of, forest_of};
 ghost use Rattle.buchi_core.specs.Young.{AreLeft, made};
 
+use crate::age_forest::AgeForest;
 use crate::entry::Entry;
 use crate::event::Event;
+use crate::list::{append, empty};
 use crate::young::{Young, left_at};
 use arrayvec::ArrayVec;
 
@@ -93,20 +95,22 @@ fn renumbered_of(entries: &[Entry], lost: &[bool], parent: Option<u8>) -> Option
 }
 
 /// Drops the entries that are empty or have a full ancestor.
-pub(crate) fn settle_all(entries: &[Entry], lost: &[bool]) -> ArrayVec<Entry, 65>
+pub(crate) fn settle_all(entries: &[Entry], lost: &[bool]) -> AgeForest
     requires short { length entries.now ≤ 65 }
+    requires few { length (settle (entries_of entries.now)) ≤ 32 }
     requires lost { lost.now ≡ losses (entries_of entries.now) }
-    ensures { entries_of result.items ≡ settle (entries_of entries.now) }
+    ensures { forest_of result ≡ settle (entries_of entries.now) }
 {
-    let mut next = ArrayVec::new();
+    let mut next = empty();
     let mut place: u8 = 0;
     for entry in entries {
         if is_kept_at(entries, lost, place) {
             let parent = renumbered_of(entries, lost, entry.parent);
-            next.push(Entry {
+            let entry = Entry {
                 parent,
                 set: entry.set,
-            });
+            };
+            append(&mut next, entry);
         }
         place += 1;
     }

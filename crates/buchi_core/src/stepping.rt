@@ -1,6 +1,6 @@
 //! The start of age forests, and their steps.
 
-ghost use Rattle.std.specs.Prelude.{◌≡◌, ◌≤◌, length, take};
+ghost use Rattle.std.specs.Prelude.{◌≡◌, ◌≤◌, length};
 ghost use Rattle.buchi_core.specs.Forest.{IsPositionSet, next_forest, event_of, start as first_forest};
 ghost use Rattle.buchi_core.specs.View.{entries_of, forest_of};
 
@@ -8,44 +8,22 @@ use crate::age_forest::AgeForest;
 use crate::entry::Entry;
 use crate::event::Event;
 use crate::grow::grown;
+use crate::list::{append, empty, entries_in};
 use crate::masks::mask_of;
 use crate::settle::{event_at, losses_of, settle_all};
-
-/// The forest of these entries.
-fn forest_from(list: &[Entry]) -> AgeForest
-    requires { length list.now ≤ 32 }
-    ensures { forest_of result ≡ entries_of list.now }
-{
-    let mut entries = [Entry {
-        parent: None,
-        set: 0,
-    }; 32];
-    for (place, entry) in list.iter().enumerate() {
-        entries[place] = *entry;
-    }
-    AgeForest {
-        entries,
-        len: list.len() as u8,
-    }
-}
-
-/// The entries of a forest.
-fn entries_in(forest: &AgeForest) -> &[Entry]
-    ensures { result.now ≡ take forest.now.len forest.now.entries }
-{
-    &forest.entries[..forest.len as usize]
-}
 
 /// The forest that a search begins with at a node of these positions: one entry with all of them, none if there are none.
 pub fn start(positions: &[u8]) -> AgeForest
     requires { IsPositionSet positions.now }
     ensures { forest_of result ≡ first_forest positions.now }
 {
+    let mut forest = empty();
     if positions.is_empty() {
-        return forest_from(&[]);
+        return forest;
     }
     let set = mask_of(positions);
-    forest_from(&[Entry { parent: None, set }])
+    append(&mut forest, Entry { parent: None, set });
+    forest
 }
 
 /// A step along an edge to a node: the forest after it, and its event.
@@ -66,5 +44,5 @@ pub fn step(forest: &AgeForest, pairs: &[(u8, u8, bool)], positions: &[u8]) -> (
     let lost = losses_of(&young);
     let next = settle_all(young.entries.as_slice(), lost.as_slice());
     let event = event_at(&young, lost.as_slice(), forest.len);
-    (forest_from(next.as_slice()), event)
+    (next, event)
 }

@@ -1,7 +1,11 @@
-use Rattle.std.proofs.Common.{ℕ, ◌≡◌, ◌<◌, ◌||◌, drop}
-use Rattle.buchi_core.specs.Forest.{leads}
+use Rattle.std.proofs.Common.{ℕ, ◌≡◌, ◌<◌, ◌||◌, List}
+use Rattle.buchi_core.specs.Forest.{Pair, leads}
+use Rattle.buchi_core.specs.Moves.{AreMoves}
 use Rattle.buchi_core.specs.View.{is_one, members}
 use Rattle.buchi_core.proofs.masks.targets_of.Given as goal
 
-abbrev pub invariant-loop-pair : goal.invariant-loop-pair
-invariant-loop-pair l = (q : ℕ) → q < 32 → (is_one l.targets q || leads (drop l.pair-index l.pairs) (members l.set) q) ≡ leads l.pairs (members l.set) q
+abbrev pub invariant-loop-rest : goal.invariant-loop-rest
+invariant-loop-rest l = (pairs : List Pair) → AreMoves pairs l.masks → (q : ℕ) → q < 32 → (is_one l.targets q || leads pairs (members l.rest) q) ≡ leads pairs (members l.set) q
+
+abbrev pub decreases-loop-rest : goal.decreases-loop-rest
+decreases-loop-rest l = l.rest

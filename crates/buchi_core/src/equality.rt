@@ -1,0 +1,46 @@
+//! Forests are compared and hashed by the entries that they hold, whatever the rest of the array has.
+
+ghost use Rattle.std.proofs.Common.{rules};
+ghost use Rattle.std.specs.Cmp.{partial_equiv_from_equiv};
+ghost use Rattle.std.specs.Cmp.Rules.{hashing};
+ghost use Rattle.buchi_core.specs.Equality.{entry_writes, forest_alike, forest_eq, forest_equiv, forest_writes};
+
+use crate::age_forest::AgeForest;
+use crate::entry::Entry;
+use crate::list::entries_in;
+use std::hash::{Hash, Hasher};
+
+impl PartialEq for AgeForest {
+    ghost eq = { forest_eq };
+
+    ghost laws = { partial_equiv_from_equiv forest_equiv };
+
+    fn eq(&self, other: &AgeForest) -> bool {
+        entries_in(self) == entries_in(other)
+    }
+}
+
+impl Eq for AgeForest {
+    ghost laws = { forest_equiv };
+}
+
+/// An entry is hashed by its set alone: within a forest, the sets tell the parents.
+impl Hash for Entry {
+    ghost hash_input = { entry_writes };
+
+    ghost respects_eq = { Prim.search (hashing, rules) };
+
+    fn hash<H: Hasher>(&self, state: &mut H) {
+        self.set.hash(state);
+    }
+}
+
+impl Hash for AgeForest {
+    ghost hash_input = { forest_writes };
+
+    ghost respects_eq = { forest_alike.fed };
+
+    fn hash<H: Hasher>(&self, state: &mut H) {
+        entries_in(self).hash(state);
+    }
+}

@@ -1,0 +1,37 @@
+//! Forests as lists of entries.
+
+ghost use Rattle.std.specs.Prelude.{◌≡◌, ◌<◌, [], ◌∷◌, ◌++◌, length};
+ghost use Rattle.buchi_core.specs.View.{used};
+
+use crate::age_forest::AgeForest;
+use crate::entry::Entry;
+
+/// The forest without an entry.
+pub(crate) fn empty() -> AgeForest
+    ensures { used result ≡ [] }
+{
+    AgeForest {
+        entries: [Entry {
+            parent: None,
+            set: 0,
+        }; 32],
+        len: 0,
+    }
+}
+
+/// The entries of a forest, oldest first.
+pub(crate) fn entries_in(forest: &AgeForest) -> &[Entry]
+    ensures { result.now ≡ used forest.now }
+{
+    &forest.entries[..forest.len as usize]
+}
+
+/// Appends a youngest entry.
+pub(crate) fn append(forest: &mut AgeForest, entry: Entry)
+    requires room { length (used forest.old) < 32 }
+    ensures { used forest.new ≡ used forest.old ++ (entry ∷ []) }
+{
+    let place = forest.len as usize;
+    forest.entries[place] = entry;
+    forest.len += 1;
+}
