@@ -1,5 +1,5 @@
 -- Branches without a link, and the branches of the whole.
-use Rattle.std.proofs.Common.{◌≡◌, ◌≢◌, ℕ, suc, ◌<◌, ◌≤◌, Bool, true, false, not, ◌&&◌, cond, List, [], ◌∷◌, ◌++◌, map, length, get_or, drop, Option, Some, None, refl, sym, ap, ◌∙◌, subst, arith, append_assoc, drop-cons, length-append}
+use Rattle.std.proofs.Common.{◌≡◌, ◌≢◌, ℕ, suc, ◌<◌, ◌≤◌, Bool, true, false, ◌&&◌, cond, List, [], ◌∷◌, ◌++◌, map, length, get_or, drop, Option, Some, None, refl, sym, ap, ◌∙◌, subst, arith, append_assoc, drop-cons, length-append}
 use Rattle.std.specs.Prelude.{slice_get}
 use Rattle.std.specs.List.{filter, flat_map, range_with_len}
 use Rattle.std.specs.Option.{is_none}
@@ -12,15 +12,14 @@ use Rattle.heap_formula.specs.declared.proof_rules.Link.{Link}
 use Rattle.heap_formula.specs.declared.proof_rules.RuleFault.{RuleFault}
 use Rattle.heap_formula.specs.Symbolic.{SymbolicHeap}
 use Rattle.heap_formula.specs.Judgements.{antecedent}
-use Rattle.heap_formula.specs.Substitution.{Bindings, apply_spatial, apply_heap}
+use Rattle.heap_formula.specs.Substitution.{Bindings, apply_heap}
 use Rattle.rule_table.specs.Answer.{disjuncts}
-use Rattle.rule_table.specs.Tests.{has_number}
-use Rattle.rule_table.specs.LinkTable.{covers_some, link_fault, disjunct_fault, spatial_fault}
+use Rattle.rule_table.specs.LinkTable.{covers_some, link_fault, disjunct_fault}
 use Rattle.back_links.specs.Listing.{selections, number_choices, value_choices, values_of, universals, maps, substitutions, covers, link_of, candidates, links}
-use Rattle.back_links.specs.Prospects.{could_link, have_values, could_place, are_alike, have_covers}
+use Rattle.back_links.specs.Prospects.{could_send, have_values, could_take, could_place, are_alike, have_covers}
 use Rattle.back_links.specs.Branches.{below, if_right, by_entries, by_pairs, by_places}
 use Rattle.back_links.proofs.Selecting.{IsSelection, each_selection, all_none, filter_none, filter_flat_map, filter_map_one, below_end, below_next}
-use Rattle.back_links.proofs.Possible.{Fits, fits, link_ok, values_ok, not_twice, entry_covers, covers_ok, none_agree, front_agrees}
+use Rattle.back_links.proofs.Possible.{Fits, fits, send_ok, values_ok, take_ok, entry_covers, covers_ok, front_agrees}
 
 abbrev Faulty : Judgement → Judgement → ℕ → ℕ → List ℕ → Bindings → List ℕ → Type 0
 Faulty bud companion target p places s ks = link_fault bud companion (link_of target places s ks) p ≢ None
@@ -65,9 +64,9 @@ module _ (bud companion : Judgement) (target p : ℕ) where
 
   -- ---- values
 
-  pub value_cut : (places : List ℕ) (made : Bindings) (rest : List Bindings) → could_link bud companion p places made ≡ false → by_pairs bud companion target p places made rest ≡ []
-  value_cut places made rest e =
-      pairs_none places made rest (λ r ks i n. true_false (could_link bud companion p places made) e (link_ok bud companion p places [] made (made ++ r) ks (front_agrees made r) (subst (λ (ms : List ℕ). Fits bud companion p ms (made ++ r) ks) (sym (append-nil places)) (fit places (made ++ r) ks n))))
+  pub value_cut : (places : List ℕ) (made : Bindings) (n : ℕ) (rest : List Bindings) → could_send bud companion p places made n ≡ false → by_pairs bud companion target p places made rest ≡ []
+  value_cut places made n rest e =
+      pairs_none places made rest (λ r ks i right. true_false (could_send bud companion p places made n) e (send_ok bud companion p places [] made (made ++ r) n ks (front_agrees made r) (subst (λ (ms : List ℕ). Fits bud companion p ms (made ++ r) ks) (sym (append-nil places)) (fit places (made ++ r) ks right))))
 
   -- ---- places
 
@@ -76,15 +75,11 @@ module _ (bud companion : Judgement) (target p : ℕ) where
     places_none made rest h =
         all_none (λ (r : List ℕ). by_pairs bud companion target p (made ++ r) [] (value_choices values sources)) (selections rest) (each_selection (λ (r : List ℕ). by_pairs bud companion target p (made ++ r) [] (value_choices values sources) ≡ []) rest (λ r i. pairs_none (made ++ r) [] (value_choices values sources) (h r)))
 
-    pub twice_cut : (made : List ℕ) (m : ℕ) (rest : List (List ℕ)) → has_number made m ≡ true → by_places bud companion target p values sources (made ++ m ∷ []) rest ≡ []
-    twice_cut made m rest e =
-        places_none (made ++ m ∷ []) rest (λ r s ks i n. let f = fit ((made ++ m ∷ []) ++ r) s ks n in true_false (has_number made m) (not_twice (antecedent bud).pure (antecedent bud).spatial f.all [] 0 made m r (map (apply_spatial s) (antecedent companion).spatial) (subst (λ (ms : List ℕ). spatial_fault (antecedent bud).pure (antecedent bud).spatial f.all [] 0 ms (map (apply_spatial s) (antecedent companion).spatial) ≡ None) (append_assoc made (m ∷ []) r) f.spatial)) e)
+    take_cut : (made : List ℕ) (m : ℕ) (rest : List (List ℕ)) → could_take bud companion made m ≡ false → by_places bud companion target p values sources (made ++ m ∷ []) rest ≡ []
+    take_cut made m rest e =
+        places_none (made ++ m ∷ []) rest (λ r s ks i n. true_false (could_take bud companion made m) e (take_ok bud companion p made m r s ks (subst (λ (ms : List ℕ). Fits bud companion p ms s ks) (append_assoc made (m ∷ []) r) (fit ((made ++ m ∷ []) ++ r) s ks n))))
 
-    pub place_cut : (made : List ℕ) (rest : List (List ℕ)) → could_link bud companion p made [] ≡ false → by_places bud companion target p values sources made rest ≡ []
-    place_cut made rest e =
-        places_none made rest (λ r s ks i n. true_false (could_link bud companion p made []) e (link_ok bud companion p made r [] s ks (none_agree s) (fit (made ++ r) s ks n)))
-
-    pub domain_cut : (made : List ℕ) (x : Spatial) (rest : List (List ℕ)) → have_values bud companion p values made x sources ≡ false → by_places bud companion target p values sources made rest ≡ []
+    domain_cut : (made : List ℕ) (x : Spatial) (rest : List (List ℕ)) → have_values bud companion p values made x sources ≡ false → by_places bud companion target p values sources made rest ≡ []
     domain_cut made x rest e =
         places_none made rest (λ r s ks i n. true_false (have_values bud companion p values made x sources) e (values_ok bud companion p values sources made r x s ks i (fit (made ++ r) s ks n)))
 
@@ -147,9 +142,8 @@ module _ (bud companion : Judgement) (target p : ℕ) where
         sym (below_next (λ (ms : List ℕ). by_pairs bud companion target p ms [] (value_choices values sources)) made (range_with_len 0 (length (antecedent bud).spatial)) (number_choices (antecedent bud).spatial xs))
 
     pub could_cut : (made : List ℕ) (m : ℕ) (x : Spatial) (rest : List (List ℕ)) → could_place bud companion p values made m x sources ≡ false → by_places bud companion target p values sources (made ++ m ∷ []) rest ≡ []
-    could_cut made m x rest e = first (has_number made m) (could_link bud companion p (made ++ m ∷ []) []) (have_values bud companion p values (made ++ m ∷ []) x sources) e (twice_cut values sources made m rest) (place_cut values sources (made ++ m ∷ []) rest) (domain_cut values sources (made ++ m ∷ []) x rest)
+    could_cut made m x rest e = first (could_take bud companion made m) (have_values bud companion p values (made ++ m ∷ []) x sources) e (take_cut values sources made m rest) (domain_cut values sources (made ++ m ∷ []) x rest)
       where
-        first : {A : Type 0} (a b d : Bool) → not a && (b && d) ≡ false → (a ≡ true → A) → (b ≡ false → A) → (d ≡ false → A) → A
-        first true b d e f g h = f refl
-        first false false d e f g h = g refl
-        first false true d e f g h = h e
+        first : {A : Type 0} (a b : Bool) → a && b ≡ false → (a ≡ false → A) → (b ≡ false → A) → A
+        first false b e f g = f refl
+        first true b e f g = g e

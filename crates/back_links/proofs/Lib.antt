@@ -1,6 +1,7 @@
 mod LinkLoops
 mod DisjunctLoops
 mod Selecting
+mod AlikeShapes
 mod Possible
 mod Cuts
 mod ProspectLoops

@@ -1,9 +1,9 @@
 -- A link without a fault meets what its first choices must.
-use Rattle.std.proofs.Common.{◌≡◌, ℕ, zero, suc, ◌+◌, ◌<◌, Bool, true, false, not, ◌&&◌, ◌||◌, ◌⊎◌, cond, List, [], ◌∷◌, ◌++◌, map, length, get_or, Option, Some, None, refl, sym, ap, ◌∙◌, subst, inl, inr, arith, append_assoc}
+use Rattle.std.proofs.Common.{◌≡◌, ℕ, suc, ◌+◌, ◌<◌, Bool, true, false, not, ◌&&◌, ◌||◌, ◌⊎◌, cond, List, [], ◌∷◌, ◌++◌, map, length, get_or, Option, Some, None, refl, sym, ap, ◌∙◌, subst, inl, inr, arith, append_assoc}
 use Rattle.std.specs.Prelude.{slice_get, nat_eq, nat_le}
 use Rattle.std.specs.List.{list_all}
 use Rattle.std.proofs.lemmas.List.{append-nil}
-use Rattle.std.proofs.lemmas.Bool.{leb-false}
+use Rattle.std.proofs.lemmas.Bool.{leb-true, leb-false}
 use Rattle.std.proofs.lemmas.Bool.Decides.{Decides-eqb}
 use Rattle.std.proofs.lemmas.Option.{slice_get_within}
 use Rattle.heap_formula.specs.declared.terms.Term.{Term}
@@ -23,16 +23,22 @@ use Rattle.heap_formula.specs.Substitution.{Bindings, image, apply_term, apply_p
 use Rattle.rule_table.specs.Answer.{disjuncts}
 use Rattle.rule_table.specs.Tests.{same_term, equated, follows, has_number}
 use Rattle.rule_table.specs.LinkTable.{first_of, fault_unless, keeps_below, pure_fault, all_equated, matches, matches_some, spatial_fault, covers_some, disjunct_fault, parts_fault, link_fault}
-use Rattle.rule_table.proofs.LinkRule.{none_of_two, no_fault}
+use Rattle.rule_table.proofs.LinkRule.{none_of_two, no_fault, parts_are}
 use Rattle.rule_table.proofs.Reflects.{both, and_true as both_true}
-use Rattle.back_links.specs.Listing.{value_choices, stands_in_spatial}
-use Rattle.back_links.specs.Prospects.{lookup, known, could_equal, could_equal_all, could_match, could_match_some, could_match_all, both_known, known_pure, could_follow, could_keep, kept_variables, could_link, has_value, have_values, are_alike, has_cover, have_covers}
+use Rattle.back_links.specs.Listing.{value_choices, stands_in_pure, stands_in_spatial}
+use Rattle.back_links.specs.Shapes.{has_shapes, same_shapes, some_has_shapes}
+use Rattle.back_links.specs.Prospects.{lookup, known, could_equal, could_equal_all, could_match, could_match_some, could_match_those, both_known, known_pure, could_follow, could_follow_those, could_keep, kept_variables, could_send, has_value, have_values, could_stand, could_take, are_alike, has_cover, have_covers}
+use Rattle.back_links.proofs.AlikeShapes.{mapped_shapes, mapped_whole, covered_shapes}
 use Rattle.back_links.proofs.Selecting.{IsSelection, every_true, any_true, any_in_range}
 pub use Rattle.rule_table.proofs.LinkRule.{cond_none, kept_below}
 
 -- the pairs say of a variable what the whole substitution says
 abbrev pub Agrees : Bindings → Bindings → Type 0
 Agrees s whole = (n : ℕ) (v : Term) → lookup s n ≡ Some v → image whole n ≡ v
+
+or_right : (a : Bool) {b : Bool} → b ≡ true → a || b ≡ true
+or_right true e = refl
+or_right false e = e
 
 module _ (s whole : Bindings) (agrees : Agrees s whole) (pures : List Pure) where
   known_is : (t u : Term) → known s t ≡ Some u → apply_term whole t ≡ u
@@ -66,13 +72,13 @@ module _ (s whole : Bindings) (agrees : Agrees s whole) (pures : List Pure) wher
   match_some_ok x None e = e
   match_some_ok x (Some y) e = match_ok x y e
 
-  pub match_all_ok : (atoms : List Spatial) (all : Bool) (seen : List ℕ) (k : ℕ) (ms rest : List ℕ) (xs : List Spatial) → spatial_fault pures atoms all seen k (ms ++ rest) (map (apply_spatial whole) xs) ≡ None → could_match_all pures atoms s ms xs ≡ true
-  match_all_ok atoms all seen k [] rest xs e = refl
-  match_all_ok atoms all seen k (m ∷ ms) rest [] e = refl
-  match_all_ok atoms all seen k (m ∷ ms) rest (x ∷ xs) e =
+  pub match_those_ok : (n : ℕ) (atoms : List Spatial) (all : Bool) (seen : List ℕ) (k : ℕ) (ms rest : List ℕ) (xs : List Spatial) → spatial_fault pures atoms all seen k (ms ++ rest) (map (apply_spatial whole) xs) ≡ None → could_match_those n pures atoms s ms xs ≡ true
+  match_those_ok n atoms all seen k [] rest xs e = refl
+  match_those_ok n atoms all seen k (m ∷ ms) rest [] e = refl
+  match_those_ok n atoms all seen k (m ∷ ms) rest (x ∷ xs) e =
       let c = cond_none (not (has_number seen m) && matches_some pures (apply_spatial whole x) (slice_get atoms m)) (spatial_fault pures atoms all (seen ++ m ∷ []) (suc k) (ms ++ rest) (map (apply_spatial whole) xs)) (LinkSpatial k) e in
       let b = both (not (has_number seen m)) (matches_some pures (apply_spatial whole x) (slice_get atoms m)) c.0 in
-      both_true (could_match_some pures s x (slice_get atoms m)) (could_match_all pures atoms s ms xs) (match_some_ok x (slice_get atoms m) b.1) (match_all_ok atoms all (seen ++ m ∷ []) (suc k) ms rest xs c.1)
+      both_true (not (stands_in_spatial n x) || could_match_some pures s x (slice_get atoms m)) (could_match_those n pures atoms s ms xs) (or_right (not (stands_in_spatial n x)) (match_some_ok x (slice_get atoms m) b.1)) (match_those_ok n atoms all (seen ++ m ∷ []) (suc k) ms rest xs c.1)
 
   both_ok : (f : Term → Term → Pure) (o q : Option Term) (t u : Term) → ((v : Term) → o ≡ Some v → apply_term whole t ≡ v) → ((v : Term) → q ≡ Some v → apply_term whole u ≡ v) → follows pures (f (apply_term whole t) (apply_term whole u)) ≡ true → could_follow pures (both_known f o q) ≡ true
   both_ok f None q t u h k e = refl
@@ -83,25 +89,24 @@ module _ (s whole : Bindings) (agrees : Agrees s whole) (pures : List Pure) wher
   follow_ok (Eq t u) e = both_ok Eq (known s t) (known s u) t u (known_is t) (known_is u) e
   follow_ok (Neq t u) e = both_ok Neq (known s t) (known s u) t u (known_is t) (known_is u) e
 
-  pub follow_all_ok : (k : ℕ) (xs : List Pure) → pure_fault pures k (map (apply_pure whole) xs) ≡ None → list_all (λ x. could_follow pures (known_pure s x)) xs ≡ true
-  follow_all_ok k [] e = refl
-  follow_all_ok k (x ∷ xs) e =
+  pub follow_those_ok : (n k : ℕ) (xs : List Pure) → pure_fault pures k (map (apply_pure whole) xs) ≡ None → could_follow_those n pures s xs ≡ true
+  follow_those_ok n k [] e = refl
+  follow_those_ok n k (x ∷ xs) e =
       let c = cond_none (follows pures (apply_pure whole x)) (pure_fault pures (suc k) (map (apply_pure whole) xs)) (LinkPure k) e in
-      both_true (could_follow pures (known_pure s x)) (list_all (λ y. could_follow pures (known_pure s y)) xs) (follow_ok x c.0) (follow_all_ok (suc k) xs c.1)
+      both_true (not (stands_in_pure n x) || could_follow pures (known_pure s x)) (could_follow_those n pures s xs) (or_right (not (stands_in_pure n x)) (follow_ok x c.0)) (follow_those_ok n (suc k) xs c.1)
 
-  pub keep_ok : (kept : ℕ) → ((v : ℕ) → v < kept → image whole v ≡ Univ v) → (ps : Bindings) → list_all (λ q. nat_le kept q.0 || could_keep (lookup s q.0) q.0) ps ≡ true
-  keep_ok kept h [] = refl
-  keep_ok kept h (q ∷ ps) = both_true (nat_le kept q.0 || could_keep (lookup s q.0) q.0) (list_all (λ r. nat_le kept r.0 || could_keep (lookup s r.0) r.0) ps) (one (nat_le kept q.0) refl) (keep_ok kept h ps)
+  pub keep_ok : (kept n : ℕ) → ((v : ℕ) → v < kept → image whole v ≡ Univ v) → nat_le kept n || could_keep (lookup s n) n ≡ true
+  keep_ok kept n h = one (nat_le kept n) refl
     where
-      stays : (o : Option Term) → lookup s q.0 ≡ o → q.0 < kept → could_keep o q.0 ≡ true
+      stays : (o : Option Term) → lookup s n ≡ o → n < kept → could_keep o n ≡ true
       stays None e lt = refl
       stays (Some v) e lt =
-          let same : v ≡ Univ q.0 = sym (agrees q.0 v e) ∙ h q.0 lt in
-          subst (λ (w : Term). same_term w (Univ q.0) ≡ true) (sym same) ((Decides-eqb q.0 q.0).1 refl)
+          let same : v ≡ Univ n = sym (agrees n v e) ∙ h n lt in
+          subst (λ (w : Term). same_term w (Univ n) ≡ true) (sym same) ((Decides-eqb n n).1 refl)
 
-      one : (b : Bool) → nat_le kept q.0 ≡ b → b || could_keep (lookup s q.0) q.0 ≡ true
+      one : (b : Bool) → nat_le kept n ≡ b → b || could_keep (lookup s n) n ≡ true
       one true e = refl
-      one false e = stays (lookup s q.0) refl (leb-false kept q.0 e)
+      one false e = stays (lookup s n) refl (leb-false kept n e)
 
 -- ---- pairs that agree with a substitution
 
@@ -140,35 +145,30 @@ parts_fit a bs b cs all link e =
     let g = none_of_two (spatial_fault a.pure a.spatial all [] 0 link.map (map (apply_spatial link.subst) b.spatial)) (disjunct_fault bs 0 link.disjuncts (map (apply_heap link.subst) cs)) f.1 in
     (f.0, g.0, g.1)
 
-whole_atoms : (pures : List Pure) (atoms : List Spatial) (all : Bool) (seen : List ℕ) (k : ℕ) (ms : List ℕ) (xs : List Spatial) → spatial_fault pures atoms all seen k ms xs ≡ None → all ≡ true
-whole_atoms pures atoms all seen k [] [] e = no_fault all (LinkSpatial k) e
-whole_atoms pures atoms all seen k (m ∷ ms) [] e = cc
-whole_atoms pures atoms all seen k [] (x ∷ xs) e = cc
-whole_atoms pures atoms all seen k (m ∷ ms) (x ∷ xs) e =
-    let c = cond_none (not (has_number seen m) && matches_some pures x (slice_get atoms m)) (spatial_fault pures atoms all (seen ++ m ∷ []) (suc k) ms xs) (LinkSpatial k) e in
-    whole_atoms pures atoms all (seen ++ m ∷ []) (suc k) ms xs c.1
-
 pub fits : (bud companion : Judgement) (p : ℕ) (link : Link) → link_fault bud companion link p ≡ None → Fits bud companion p link.map link.subst link.disjuncts
 fits (Entail a bs) (Runs i b) p link e = cc
 fits (Runs i a) (Entail b cs) p link e = cc
 fits (Entail a bs) (Entail b cs) p link e =
     let all = nat_le (length a.spatial) (length b.spatial) in
     let f = parts_fit a bs b cs all link e in
-    record { all = all; pure = f.0; spatial = f.1; disjunct = f.2; keeps = λ v lt. absurd (omega arith); alike = whole_atoms a.pure a.spatial all [] 0 link.map (map (apply_spatial link.subst) b.spatial) f.1 }
+    let h = parts_are a bs b cs all link e in
+    let alike = both_true (same_shapes a.spatial b.spatial) (list_all (some_has_shapes bs) cs) (mapped_whole a.pure a.spatial link.map link.subst b.spatial (leb-true _ _ h.2) h.1) (covered_shapes link.subst bs link.disjuncts cs h.3) in
+    record { all = all; pure = f.0; spatial = f.1; disjunct = f.2; keeps = λ v lt. absurd (omega arith); alike = alike }
 fits (Runs i a) (Runs k b) p link e =
     let f = none_of_two (fault_unless (nat_eq i k) LineDiffers) (first_of (fault_unless (keeps_below link.subst p) LinkProgramVariable) (parts_fault a [] b [] true link)) e in
     let g = none_of_two (fault_unless (keeps_below link.subst p) LinkProgramVariable) (parts_fault a [] b [] true link) f.1 in
     let h = parts_fit a [] b [] true link g.1 in
-    record { all = true; pure = h.0; spatial = h.1; disjunct = h.2; keeps = kept_below link.subst p (no_fault (keeps_below link.subst p) LinkProgramVariable g.0); alike = no_fault (nat_eq i k) LineDiffers f.0 }
+    let alike = both_true (nat_eq i k) (has_shapes a.spatial b.spatial) (no_fault (nat_eq i k) LineDiffers f.0) (mapped_shapes a.pure a.spatial link.map link.subst b.spatial (parts_are a [] b [] true link g.1).1) in
+    record { all = true; pure = h.0; spatial = h.1; disjunct = h.2; keeps = kept_below link.subst p (no_fault (keeps_below link.subst p) LinkProgramVariable g.0); alike = alike }
 
 module _ (bud companion : Judgement) (p : ℕ) where
-  pub link_ok : (places rest : List ℕ) (s whole : Bindings) (ks : List ℕ) → Agrees s whole → Fits bud companion p (places ++ rest) whole ks → could_link bud companion p places s ≡ true
-  link_ok places rest s whole ks agrees f =
+  pub send_ok : (places rest : List ℕ) (s whole : Bindings) (n : ℕ) (ks : List ℕ) → Agrees s whole → Fits bud companion p (places ++ rest) whole ks → could_send bud companion p places s n ≡ true
+  send_ok places rest s whole n ks agrees f =
       let a = antecedent bud in
       let b = antecedent companion in
-      both_true (list_all (λ q. nat_le (kept_variables companion p) q.0 || could_keep (lookup s q.0) q.0) s) (could_match_all a.pure a.spatial s places b.spatial && list_all (λ x. could_follow a.pure (known_pure s x)) b.pure)
-      (keep_ok s whole agrees a.pure (kept_variables companion p) f.keeps s)
-      (both_true (could_match_all a.pure a.spatial s places b.spatial) (list_all (λ x. could_follow a.pure (known_pure s x)) b.pure) (match_all_ok s whole agrees a.pure a.spatial f.all [] 0 places rest b.spatial f.spatial) (follow_all_ok s whole agrees a.pure 0 b.pure f.pure))
+      both_true (nat_le (kept_variables companion p) n || could_keep (lookup s n) n) (could_match_those n a.pure a.spatial s places b.spatial && could_follow_those n a.pure s b.pure)
+      (keep_ok s whole agrees a.pure (kept_variables companion p) n f.keeps)
+      (both_true (could_match_those n a.pure a.spatial s places b.spatial) (could_follow_those n a.pure s b.pure) (match_those_ok s whole agrees a.pure n a.spatial f.all [] 0 places rest b.spatial f.spatial) (follow_those_ok s whole agrees a.pure n 0 b.pure f.pure))
 
   module _ (values : List Term) where
     among : (n : ℕ) (m : ℕ) (q : ℕ × Term) (vs : List Term) → OneOf (λ r. r ≡ q) (map (λ v. (m, v)) vs) → (m ≡ q.0) × OneOf (λ v. v ≡ q.1) vs
@@ -189,11 +189,7 @@ module _ (bud companion : Judgement) (p : ℕ) where
 
     pub values_ok : (sources places rest : List ℕ) (x : Spatial) (s : Bindings) (ks : List ℕ) → IsSelection (value_choices values sources) s → Fits bud companion p (places ++ rest) s ks → have_values bud companion p values places x sources ≡ true
     values_ok sources places rest x s ks i f =
-        every_true (λ n. not (stands_in_spatial n x) || has_value bud companion p values places n) sources (λ n o. right (not (stands_in_spatial n x)) (has_value bud companion p values places n) (any_true (λ v. could_link bud companion p places ((n, v) ∷ [])) (image s n) values (sent sources s i n o) (link_ok places rest ((n, image s n) ∷ []) s ks (one_agrees s n) f)))
-      where
-        right : (a b : Bool) → b ≡ true → a || b ≡ true
-        right true b e = refl
-        right false b e = e
+        every_true (λ n. not (stands_in_spatial n x) || has_value bud companion p values places n) sources (λ n o. or_right (not (stands_in_spatial n x)) (any_true (λ v. could_send bud companion p places ((n, v) ∷ []) n) (image s n) values (sent sources s i n o) (send_ok places rest ((n, image s n) ∷ []) s n ks (one_agrees s n) f)))
 
 -- ---- the map's and the list's entries
 
@@ -212,6 +208,26 @@ not_twice pures atoms all seen k [] m rest (x ∷ xs) e =
 not_twice pures atoms all seen k (n ∷ ms) m rest (x ∷ xs) e =
     let c = cond_none (not (has_number seen n) && matches_some pures x (slice_get atoms n)) (spatial_fault pures atoms all (seen ++ n ∷ []) (suc k) (ms ++ m ∷ rest) xs) (LinkSpatial k) e in
     ap (λ (ns : List ℕ). has_number ns m) (sym (append_assoc seen (n ∷ []) ms)) ∙ not_twice pures atoms all (seen ++ n ∷ []) (suc k) ms m rest xs c.1
+
+-- the atom at the next place matches what its entry names
+stand_ok : (whole : Bindings) (pures : List Pure) (atoms : List Spatial) (all : Bool) (seen : List ℕ) (k : ℕ) (ms : List ℕ) (m : ℕ) (rest : List ℕ) (xs : List Spatial) → spatial_fault pures atoms all seen k (ms ++ m ∷ rest) (map (apply_spatial whole) xs) ≡ None → could_stand pures atoms m (slice_get xs (length ms)) ≡ true
+stand_ok whole pures atoms all seen k [] m rest [] e = refl
+stand_ok whole pures atoms all seen k (n ∷ ms) m rest [] e = refl
+stand_ok whole pures atoms all seen k [] m rest (x ∷ xs) e =
+    let c = cond_none (not (has_number seen m) && matches_some pures (apply_spatial whole x) (slice_get atoms m)) (spatial_fault pures atoms all (seen ++ m ∷ []) (suc k) rest (map (apply_spatial whole) xs)) (LinkSpatial k) e in
+    let b = both (not (has_number seen m)) (matches_some pures (apply_spatial whole x) (slice_get atoms m)) c.0 in
+    match_some_ok [] whole (none_agree whole) pures x (slice_get atoms m) b.1
+stand_ok whole pures atoms all seen k (n ∷ ms) m rest (x ∷ xs) e =
+    let c = cond_none (not (has_number seen n) && matches_some pures (apply_spatial whole x) (slice_get atoms n)) (spatial_fault pures atoms all (seen ++ n ∷ []) (suc k) (ms ++ m ∷ rest) (map (apply_spatial whole) xs)) (LinkSpatial k) e in
+    stand_ok whole pures atoms all (seen ++ n ∷ []) (suc k) ms m rest xs c.1
+
+pub take_ok : (bud companion : Judgement) (p : ℕ) (places : List ℕ) (m : ℕ) (rest : List ℕ) (s : Bindings) (ks : List ℕ) → Fits bud companion p (places ++ m ∷ rest) s ks → could_take bud companion places m ≡ true
+take_ok bud companion p places m rest s ks f =
+    let a = antecedent bud in
+    let xs = (antecedent companion).spatial in
+    both_true (not (has_number places m)) (could_stand a.pure a.spatial m (slice_get xs (length places)))
+    (ap not (not_twice a.pure a.spatial f.all [] 0 places m rest (map (apply_spatial s) xs) f.spatial))
+    (stand_ok s a.pure a.spatial f.all [] 0 places m rest xs f.spatial)
 
 pub entry_covers : (bs : List SymbolicHeap) (s : Bindings) (k : ℕ) (ms : List ℕ) (m : ℕ) (rest : List ℕ) (cs : List SymbolicHeap) (c : SymbolicHeap) → length ms < length cs → get_or cs (length ms) c ≡ c → disjunct_fault bs k (ms ++ m ∷ rest) (map (apply_heap s) cs) ≡ None → covers_some (apply_heap s c) (slice_get bs m) ≡ true
 entry_covers bs s k ms m rest [] c lt at e = absurd (omega arith)

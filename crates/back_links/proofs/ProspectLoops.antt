@@ -8,7 +8,7 @@ use Rattle.heap_formula.specs.declared.terms.Term.TheVariants.{Nil}
 use Rattle.heap_formula.specs.declared.atoms.Pure.{Pure}
 use Rattle.heap_formula.specs.declared.atoms.Spatial.{Spatial}
 use Rattle.heap_formula.specs.Substitution.{Bindings}
-use Rattle.back_links.specs.Prospects.{could_equal_all, could_match_all}
+use Rattle.back_links.specs.Prospects.{could_equal_all, could_match_those}
 
 pub second_ends : (pures : List Pure) (s : Bindings) (ts us : List Term) (i : ℕ) → length us ≤ i → i < length ts → could_equal_all pures s (drop i ts) (drop i us) ≡ false
 second_ends pures s ts us i le lt = λ j. could_equal_all pures s (drop-cons ts i Nil lt j) (drop_all i us le j)
@@ -28,5 +28,5 @@ first_ends pures s ts us i le ge within =
         not_same : (length ts ≡ length us → ⊥) → i < length us
         not_same f = omega (arith, f)
 
-pub atoms_end : (pures : List Pure) (atoms : List Spatial) (s : Bindings) (ms : List ℕ) (xs : List Spatial) (i : ℕ) → length xs ≤ i → i < length ms → could_match_all pures atoms s (drop i ms) (drop i xs) ≡ true
-atoms_end pures atoms s ms xs i le lt = λ j. could_match_all pures atoms s (drop-cons ms i 0 lt j) (drop_all i xs le j)
+pub atoms_end : (n : ℕ) (pures : List Pure) (atoms : List Spatial) (s : Bindings) (ms : List ℕ) (xs : List Spatial) (i : ℕ) → length xs ≤ i → i < length ms → could_match_those n pures atoms s (drop i ms) (drop i xs) ≡ true
+atoms_end n pures atoms s ms xs i le lt = λ j. could_match_those n pures atoms s (drop-cons ms i 0 lt j) (drop_all i xs le j)

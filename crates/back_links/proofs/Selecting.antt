@@ -1,6 +1,6 @@
 -- Choices in order, and the first of their links.
 use Rattle.std.proofs.Common.{◌≡◌, ℕ, zero, suc, ◌+◌, ◌-◌, ◌<◌, ◌≤◌, Bool, true, false, ◌&&◌, ◌||◌, cond, List, [], ◌∷◌, ◌++◌, map, length, get_or, take, drop, refl, sym, ap, ◌∙◌, subst, arith, append_assoc, add-one, drop-cons, inl, inr}
-use Rattle.std.proofs.lemmas.List.{append-nil, take_all, drop_all, length-drop}
+use Rattle.std.proofs.lemmas.List.{append-nil, take_all, drop_all, length-append, length-drop, take-append-le}
 use Rattle.std.proofs.lemmas.List.Concat.{flat_map-append}
 use Rattle.std.proofs.lemmas.List.Folds.{flat_map-map}
 use Rattle.std.proofs.lemmas.List.Elements.{filter-append}
@@ -211,3 +211,9 @@ emptied (x ∷ xs) e = absurd (omega arith)
 
 pub tail_is : {X : Type 0} (xs : List X) → take (length xs - 1) (drop 1 xs) ≡ drop 1 xs
 tail_is xs = take_all (length xs - 1) (drop 1 xs) (let l = length-drop 1 xs in omega (arith, l))
+
+-- a list that grew by a member, without its last
+pub last_off : {X : Type 0} (xs ys zs : List X) (x : X) (n : ℕ) → ys ≡ xs ++ x ∷ [] → n ≡ length ys → zs ≡ take (n - 1) ys → zs ≡ xs
+last_off {X} xs ys zs x n grew count off =
+    let one : n - 1 ≡ length xs = let l = ap (λ (ws : List X). length ws) grew in let m = length-append xs (x ∷ []) in omega arith in
+    off ∙ (λ i. take (one i) (grew i)) ∙ take-append-le (length xs) xs (x ∷ []) (omega arith) ∙ take_all (length xs) xs (omega arith)

@@ -1,3 +1,4 @@
 pub mod Listing
+pub mod Shapes
 pub mod Prospects
 pub mod Branches

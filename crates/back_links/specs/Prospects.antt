@@ -14,7 +14,8 @@ use Rattle.heap_formula.specs.Judgements.{antecedent}
 use Rattle.heap_formula.specs.Substitution.{Bindings, apply_heap}
 use Rattle.rule_table.specs.Tests.{same_term, equated, follows, has_number}
 use Rattle.rule_table.specs.LinkTable.{covers_some}
-use Rattle.back_links.specs.Listing.{stands_in_spatial, numbers}
+use Rattle.back_links.specs.Listing.{stands_in_pure, stands_in_spatial, numbers}
+use Rattle.back_links.specs.Shapes.{has_shapes, same_shapes, some_has_shapes}
 
 -- the term of the first pair for a variable, if there is one
 abbrev pub lookup : Bindings → ℕ → Option Term
@@ -48,11 +49,12 @@ abbrev pub could_match_some : List Pure → Bindings → Spatial → Option Spat
 could_match_some pures s x None = false
 could_match_some pures s x (Some y) = could_match pures s x y
 
--- each atom that has a place could match the one there
-abbrev pub could_match_all : List Pure → List Spatial → Bindings → List ℕ → List Spatial → Bool
-could_match_all pures atoms s [] xs = true
-could_match_all pures atoms s (m ∷ ms) [] = true
-could_match_all pures atoms s (m ∷ ms) (x ∷ xs) = could_match_some pures s x (slice_get atoms m) && could_match_all pures atoms s ms xs
+-- each atom with the variable n that has a place could match the one there
+abbrev pub could_match_those : ℕ → List Pure → List Spatial → Bindings → List ℕ → List Spatial → Bool
+could_match_those n pures atoms s [] xs = true
+could_match_those n pures atoms s (m ∷ ms) [] = true
+could_match_those n pures atoms s (m ∷ ms) (x ∷ xs) =
+    (not (stands_in_spatial n x) || could_match_some pures s x (slice_get atoms m)) && could_match_those n pures atoms s ms xs
 
 abbrev pub both_known : (Term → Term → Pure) → Option Term → Option Term → Option Pure
 both_known f None u = None
@@ -77,31 +79,48 @@ abbrev pub kept_variables : Judgement → ℕ → ℕ
 kept_variables (Entail a bs) p = 0
 kept_variables (Runs i a) p = p
 
--- for these places of the companion's first spatial atoms and these pairs of its substitution
-abbrev pub could_link : Judgement → Judgement → ℕ → List ℕ → Bindings → Bool
-could_link bud companion p places s =
-    list_all (λ q. nat_le (kept_variables companion p) q.0 || could_keep (lookup s q.0) q.0) s && (could_match_all (antecedent bud).pure (antecedent bud).spatial s places (antecedent companion).spatial && list_all (λ x. could_follow (antecedent bud).pure (known_pure s x)) (antecedent companion).pure)
+-- each pure atom with the variable n could follow
+abbrev pub could_follow_those : ℕ → List Pure → Bindings → List Pure → Bool
+could_follow_those n pures s xs = list_all (λ x. not (stands_in_pure n x) || could_follow pures (known_pure s x)) xs
+
+-- for these places of the companion's first spatial atoms the pairs, one of which is for n, send n to a term that fits
+abbrev pub could_send : Judgement → Judgement → ℕ → List ℕ → Bindings → ℕ → Bool
+could_send bud companion p places s n =
+    (nat_le (kept_variables companion p) n || could_keep (lookup s n) n)
+    && (could_match_those n (antecedent bud).pure (antecedent bud).spatial s places (antecedent companion).spatial
+    && could_follow_those n (antecedent bud).pure s (antecedent companion).pure)
 
 -- some value for a variable is left
 abbrev pub has_value : Judgement → Judgement → ℕ → List Term → List ℕ → ℕ → Bool
-has_value bud companion p values places n = list_any (λ v. could_link bud companion p places ((n, v) ∷ [])) values
+has_value bud companion p values places n = list_any (λ v. could_send bud companion p places ((n, v) ∷ []) n) values
 
 -- each variable of the atom has a value left
 abbrev pub have_values : Judgement → Judgement → ℕ → List Term → List ℕ → Spatial → List ℕ → Bool
 have_values bud companion p values places x sources =
     list_all (λ n. not (stands_in_spatial n x) || has_value bud companion p values places n) sources
 
--- the companion's next atom x could have place m, where the atoms before it have these
+-- an atom that may be missing could match the one at a place
+abbrev pub could_stand : List Pure → List Spatial → ℕ → Option Spatial → Bool
+could_stand pures atoms m None = true
+could_stand pures atoms m (Some x) = could_match_some pures [] x (slice_get atoms m)
+
+-- place m is free, and fits the companion's next atom
+abbrev pub could_take : Judgement → Judgement → List ℕ → ℕ → Bool
+could_take bud companion places m =
+    not (has_number places m) && could_stand (antecedent bud).pure (antecedent bud).spatial m (slice_get (antecedent companion).spatial (length places))
+
+-- and the variables of the atom x have values left then
 abbrev pub could_place : Judgement → Judgement → ℕ → List Term → List ℕ → ℕ → Spatial → List ℕ → Bool
 could_place bud companion p values places m x sources =
-    not (has_number places m) && (could_link bud companion p (places ++ m ∷ []) [] && have_values bud companion p values (places ++ m ∷ []) x sources)
+    could_take bud companion places m && have_values bud companion p values (places ++ m ∷ []) x sources
 
--- the judgements are of one kind, and of one line or with no atom of the bud left over
+-- the judgements are of one kind, of one line if any, and the bud's atoms have the companion's shapes; those of an entailment
+-- no others, and those of each of its disjuncts stand in some disjunct of the bud
 abbrev pub are_alike : Judgement → Judgement → Bool
-are_alike (Entail a bs) (Entail b cs) = nat_le (length a.spatial) (length b.spatial)
+are_alike (Entail a bs) (Entail b cs) = same_shapes a.spatial b.spatial && list_all (some_has_shapes bs) cs
 are_alike (Entail a bs) (Runs k b) = false
 are_alike (Runs i a) (Entail b cs) = false
-are_alike (Runs i a) (Runs k b) = nat_eq i k
+are_alike (Runs i a) (Runs k b) = nat_eq i k && has_shapes a.spatial b.spatial
 
 -- some disjunct of the bud is covered
 abbrev pub has_cover : List SymbolicHeap → Bindings → SymbolicHeap → Bool

@@ -7,6 +7,7 @@ mod faults;
 mod listing;
 mod matching;
 mod prospects;
+mod shapes;
 mod variables;
 
 pub use faults::link_fault;

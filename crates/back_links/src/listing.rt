@@ -1,5 +1,5 @@
 // All links from a bud to a companion, by depth-first search.
-ghost use Rattle.std.specs.Prelude.{ℕ, ◌≡◌, ◌≤◌, ◌∷◌, [], ◌++◌, drop, length, take, IfOk, OnOk, None};
+ghost use Rattle.std.specs.Prelude.{ℕ, ◌≡◌, ◌≤◌, ◌∷◌, [], ◌++◌, drop, length, take, IfOk, OnOk, None, if◌then◌else◌};
 ghost use Rattle.heap_formula.specs.Judgements.{antecedent as antecedent_of};
 ghost use Rattle.rule_table.specs.Answer.{disjuncts as disjuncts_of};
 ghost use Rattle.back_links.specs.Listing.{links, link_of, number_choices, value_choices, values_of, universals as universals_of, IsMade};
@@ -8,10 +8,11 @@ ghost use Rattle.heap_formula.specs.declared.judgements.Judgement.{Judgement as 
 ghost use Rattle.heap_formula.specs.declared.proof_rules.Link.{Link as LinkParts};
 ghost use Rattle.rule_table.specs.LinkTable.{link_fault as fault_of};
 ghost use Rattle.back_links.specs.Branches.{if_right, by_entries, by_pairs, by_places};
+ghost use Rattle.back_links.specs.Prospects.{could_place, could_send as send_could};
 
 use crate::covering::covers_at;
 use crate::faults::link_fault;
-use crate::prospects::{Search, are_alike, could_link, could_place, have_covers};
+use crate::prospects::{Search, are_alike, could_send, could_take, have_covers, have_values};
 use crate::variables::{universals, values};
 use heap_formula::{Heap, Judgement, Link, OutOfMemory, Positions, Spatial, Subst, Term};
 use rule_table::antecedent;
@@ -36,17 +37,44 @@ fn with_number(alloc: Global, made: &[u32], m: u32) -> Result<Vec<u32>, OutOfMem
     Ok(longer)
 }
 
-fn with_pair(
-    alloc: Global,
-    made: &[(u16, Term)],
+/// Puts the place after those made, if the companion's next atom `x` could have it, and says whether it did.
+fn put_place(
+    search: &Search<'_>,
+    made: &mut Vec<u32>,
+    m: u32,
+    x: &Spatial,
+) -> Result<bool, OutOfMemory>
+    ensures could { IfOk result (λ b. b ≡ could_place search.now.bud.now search.now.companion.now search.now.variables search.now.values.now made.old.items m x.now search.now.sources.now) }
+    ensures made { IfOk result (λ b. made.new.items ≡ (if b then made.old.items ++ m ∷ [] else made.old.items)) }
+{
+    if !could_take(search, made, m) {
+        return Ok(false);
+    }
+    made.push(m)?;
+    if have_values(search, made, x) {
+        return Ok(true);
+    }
+    let _ = made.pop();
+    Ok(false)
+}
+
+/// Puts the pair after those made, if it leaves a link possible, and says whether it did.
+fn put_pair(
+    search: &Search<'_>,
+    places: &[u32],
+    made: &mut Vec<(u16, Term)>,
     n: u16,
     v: Term,
-) -> Result<Vec<(u16, Term)>, OutOfMemory>
-    ensures { IfOk result (λ v'. v'.items ≡ made.now ++ (n, v) ∷ []) }
+) -> Result<bool, OutOfMemory>
+    ensures could { IfOk result (λ b. b ≡ send_could search.now.bud.now search.now.companion.now search.now.variables places.now (made.old.items ++ (n, v) ∷ []) n) }
+    ensures made { IfOk result (λ b. made.new.items ≡ (if b then made.old.items ++ (n, v) ∷ [] else made.old.items)) }
 {
-    let mut longer = Vec::from_slice(alloc, made)?;
-    longer.push((n, v))?;
-    Ok(longer)
+    made.push((n, v))?;
+    if could_send(search, places, made, n) {
+        return Ok(true);
+    }
+    let _ = made.pop();
+    Ok(false)
 }
 
 fn copy_of(alloc: Global, places: &[u32]) -> Result<Positions, OutOfMemory>
@@ -116,8 +144,8 @@ fn choose_entries(
         return add_link(alloc, search, places, subst, made, found);
     }
     for m in 0..bs.len() {
-        let longer = with_number(alloc, made, m as u32)?;
         if covers_at(subst, &cs[made.len()], bs, m as u32) {
+            let longer = with_number(alloc, made, m as u32)?;
             choose_entries(alloc, search, places, subst, &longer, found)?;
         }
     }
@@ -145,12 +173,13 @@ fn choose_values(
     alloc: Global,
     search: &Search<'_>,
     places: &[u32],
-    made: &[(u16, Term)],
+    made: &mut Vec<(u16, Term)>,
     rest: &[u16],
     found: &mut Vec<Link>,
 ) -> Result<(), OutOfMemory>
     requires { length found.old.items ≤ search.now.most }
-    ensures { OnOk result (found.new.items ≡ take search.now.most (found.old.items ++ by_pairs search.now.bud.now search.now.companion.now search.now.target search.now.variables places.now made.now (value_choices search.now.values.now rest.now))) }
+    ensures found { OnOk result (found.new.items ≡ take search.now.most (found.old.items ++ by_pairs search.now.bud.now search.now.companion.now search.now.target search.now.variables places.now made.old.items (value_choices search.now.values.now rest.now))) }
+    ensures made { OnOk result (made.new.items ≡ made.old.items) }
 {
     if found.len() >= search.most {
         return Ok(());
@@ -159,9 +188,10 @@ fn choose_values(
         return choose_covers(alloc, search, places, made, found);
     }
     for v in search.values {
-        let longer = with_pair(alloc, made, rest[0], *v)?;
-        if could_link(search, places, &longer) {
-            choose_values(alloc, search, places, &longer, &rest[1..], found)?;
+        let put = put_pair(search, places, made, rest[0], *v)?;
+        if put {
+            choose_values(alloc, search, places, made, &rest[1..], found)?;
+            let _ = made.pop();
         }
     }
     Ok(())
@@ -170,23 +200,26 @@ fn choose_values(
 fn choose_places(
     alloc: Global,
     search: &Search<'_>,
-    made: &[u32],
+    made: &mut Vec<u32>,
     rest: &[Spatial],
     found: &mut Vec<Link>,
 ) -> Result<(), OutOfMemory>
     requires { length found.old.items ≤ search.now.most }
-    ensures { OnOk result (found.new.items ≡ take search.now.most (found.old.items ++ by_places search.now.bud.now search.now.companion.now search.now.target search.now.variables search.now.values.now search.now.sources.now made.now (number_choices (antecedent_of search.now.bud.now).spatial rest.now))) }
+    ensures found { OnOk result (found.new.items ≡ take search.now.most (found.old.items ++ by_places search.now.bud.now search.now.companion.now search.now.target search.now.variables search.now.values.now search.now.sources.now made.old.items (number_choices (antecedent_of search.now.bud.now).spatial rest.now))) }
+    ensures made { OnOk result (made.new.items ≡ made.old.items) }
 {
     if found.len() >= search.most {
         return Ok(());
     }
     if rest.is_empty() {
-        return choose_values(alloc, search, made, &[], search.sources, found);
+        let mut pairs = Vec::new(alloc);
+        return choose_values(alloc, search, made, &mut pairs, search.sources, found);
     }
     for m in 0..antecedent(search.bud).spatial().len() {
-        let longer = with_number(alloc, made, m as u32)?;
-        if could_place(search, made, m as u32, &longer, &rest[0]) {
-            choose_places(alloc, search, &longer, &rest[1..], found)?;
+        let put = put_place(search, made, m as u32, &rest[0])?;
+        if put {
+            choose_places(alloc, search, made, &rest[1..], found)?;
+            let _ = made.pop();
         }
     }
     Ok(())
@@ -217,10 +250,11 @@ fn first_links(
         values: &values,
         most: most as usize,
     };
+    let mut places = Vec::new(alloc);
     choose_places(
         alloc,
         &search,
-        &[],
+        &mut places,
         antecedent(companion).spatial(),
         &mut found,
     )?;

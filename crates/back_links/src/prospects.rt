@@ -1,12 +1,13 @@
 // Whether the choices that are made so far leave a link possible.
-ghost use Rattle.std.specs.Prelude.{◌≡◌, ◌≤◌, ◌<◌, ◌||◌, ◌∷◌, [], ◌++◌, length, nat_le, not, slice_get, slice_index};
-ghost use Rattle.std.specs.List.{list_any, list_all};
+ghost use Rattle.std.specs.Prelude.{◌≡◌, ◌≤◌, ◌<◌, ◌||◌, length, nat_le, not, slice_get};
+ghost use Rattle.std.specs.Option.{option_copied};
 ghost use Rattle.heap_formula.specs.Judgements.{antecedent as antecedent_of};
-ghost use Rattle.back_links.specs.Prospects.{lookup as looked_up, known as known_term, could_equal as terms_could, could_equal_all as all_could, could_match as atoms_could, could_match_some, could_match_all as places_could, known_pure as pure_known, could_follow as pure_could, could_keep as could_stay, kept_variables as variables_kept, could_link as link_could, has_value as value_left, have_values as values_left, could_place as place_could, are_alike as alike, has_cover as cover_left, have_covers as covers_left};
+ghost use Rattle.back_links.specs.Prospects.{lookup as looked_up, known as known_term, could_equal as terms_could, could_equal_all as all_could, could_match as atoms_could, could_match_some, could_match_those as those_could, known_pure as pure_known, could_follow as pure_could, could_follow_those as those_could_follow, could_keep as could_stay, kept_variables as variables_kept, could_send as send_could, has_value as value_left, have_values as values_left, could_stand as stand_could, could_take as take_could, are_alike as alike, has_cover as cover_left, have_covers as covers_left};
 ghost use Rattle.back_links.specs.Listing.{stands_in_spatial as spatial_has};
 
 use crate::covering::covers_at;
-use crate::variables::stands_in_spatial;
+use crate::shapes::{all_have_shapes, has_shapes, same_shapes};
+use crate::variables::{stands_in_pure, stands_in_spatial};
 use heap_formula::{Heap, Judgement, Pure, Spatial, Subst, Term};
 use rule_table::{antecedent, equated, follows, is_among, same_term};
 
@@ -101,20 +102,35 @@ fn could_match_at(
     }
 }
 
-fn could_match_all(
+/// Whether an atom without the variable, or one that could match the atom at a place.
+fn could_match_with(
+    n: u16,
+    pures: &[Pure],
+    pairs: &[(u16, Term)],
+    x: &Spatial,
+    atoms: &[Spatial],
+    m: u32,
+) -> bool
+    ensures { result ≡ (not (spatial_has n x.now) || could_match_some pures.now pairs.now x.now (slice_get atoms.now m)) }
+{
+    !stands_in_spatial(n, x) || could_match_at(pures, pairs, x, atoms, m)
+}
+
+fn could_match_those(
+    n: u16,
     pures: &[Pure],
     atoms: &[Spatial],
     pairs: &[(u16, Term)],
     places: &[u32],
     xs: &[Spatial],
 ) -> bool
-    ensures { result ≡ places_could pures.now atoms.now pairs.now places.now xs.now }
+    ensures { result ≡ those_could n pures.now atoms.now pairs.now places.now xs.now }
 {
     for (i, m) in places.iter().enumerate() {
         if i >= xs.len() {
             return true;
         }
-        if !could_match_at(pures, pairs, &xs[i], atoms, *m) {
+        if !could_match_with(n, pures, pairs, &xs[i], atoms, *m) {
             return false;
         }
     }
@@ -139,11 +155,11 @@ fn could_follow(pures: &[Pure], atom: Option<Pure>) -> bool
     }
 }
 
-fn could_follow_all(pures: &[Pure], pairs: &[(u16, Term)], xs: &[Pure]) -> bool
-    ensures { result ≡ list_all (λ x. pure_could pures.now (pure_known pairs.now x)) xs.now }
+fn could_follow_those(n: u16, pures: &[Pure], pairs: &[(u16, Term)], xs: &[Pure]) -> bool
+    ensures { result ≡ those_could_follow n pures.now pairs.now xs.now }
 {
     for x in xs {
-        if !could_follow(pures, known_pure(pairs, *x)) {
+        if stands_in_pure(n, *x) && !could_follow(pures, known_pure(pairs, *x)) {
             return false;
         }
     }
@@ -168,40 +184,36 @@ fn kept_variables(companion: &Judgement, p: u16) -> u16
     }
 }
 
-fn could_keep_all(kept: u16, pairs: &[(u16, Term)]) -> bool
-    ensures { result ≡ list_all (λ q. nat_le kept q.0 || could_stay (looked_up pairs.now q.0) q.0) pairs.now }
+fn could_keep_one(kept: u16, pairs: &[(u16, Term)], n: u16) -> bool
+    ensures { result ≡ (nat_le kept n || could_stay (looked_up pairs.now n) n) }
 {
-    for (n, _) in pairs {
-        if *n < kept && !could_keep(lookup(pairs, *n), *n) {
-            return false;
-        }
-    }
-    true
+    kept <= n || could_keep(lookup(pairs, n), n)
 }
 
-/// Whether these places for the companion's first spatial atoms and these pairs leave a link possible.
-pub fn could_link(search: &Search<'_>, places: &[u32], pairs: &[(u16, Term)]) -> bool
-    ensures { result ≡ link_could search.now.bud.now search.now.companion.now search.now.variables places.now pairs.now }
+/// Whether the pairs, for these places of the companion's first spatial atoms, send the variable to a term that fits.
+pub fn could_send(search: &Search<'_>, places: &[u32], pairs: &[(u16, Term)], n: u16) -> bool
+    ensures { result ≡ send_could search.now.bud.now search.now.companion.now search.now.variables places.now pairs.now n }
 {
     let a = antecedent(search.bud);
     let b = antecedent(search.companion);
-    could_keep_all(kept_variables(search.companion, search.variables), pairs)
-        && could_match_all(a.pure(), a.spatial(), pairs, places, b.spatial())
-        && could_follow_all(a.pure(), pairs, b.pure())
+    could_keep_one(kept_variables(search.companion, search.variables), pairs, n)
+        && could_match_those(n, a.pure(), a.spatial(), pairs, places, b.spatial())
+        && could_follow_those(n, a.pure(), pairs, b.pure())
 }
 
 fn has_value(search: &Search<'_>, places: &[u32], n: u16) -> bool
     ensures { result ≡ value_left search.now.bud.now search.now.companion.now search.now.variables search.now.values.now places.now n }
 {
     for v in search.values {
-        if could_link(search, places, &[(n, *v)]) {
+        if could_send(search, places, &[(n, *v)], n) {
             return true;
         }
     }
     false
 }
 
-fn have_values(search: &Search<'_>, places: &[u32], x: &Spatial) -> bool
+/// Whether each variable of the atom has a value left, with these places for the companion's first spatial atoms.
+pub fn have_values(search: &Search<'_>, places: &[u32], x: &Spatial) -> bool
     ensures { result ≡ values_left search.now.bud.now search.now.companion.now search.now.variables search.now.values.now places.now x.now search.now.sources.now }
 {
     for n in search.sources {
@@ -212,24 +224,37 @@ fn have_values(search: &Search<'_>, places: &[u32], x: &Spatial) -> bool
     true
 }
 
-/// Whether the companion's next atom `x` could have place `m`, where the atoms before it have the places `made`; `longer`
-/// is all these places.
-pub fn could_place(search: &Search<'_>, made: &[u32], m: u32, longer: &[u32], x: &Spatial) -> bool
-    requires { longer.now ≡ made.now ++ m ∷ [] }
-    ensures { result ≡ place_could search.now.bud.now search.now.companion.now search.now.variables search.now.values.now made.now m x.now search.now.sources.now }
+fn could_stand(pures: &[Pure], atoms: &[Spatial], m: u32, x: Option<&Spatial>) -> bool
+    ensures { result ≡ stand_could pures.now atoms.now m (option_copied x.entry) }
 {
-    !is_among(made, m as usize) && could_link(search, longer, &[]) && have_values(search, longer, x)
+    match x {
+        Some(x) => could_match_at(pures, &[], x, atoms, m),
+        None => true,
+    }
 }
 
-/// Whether the two are of one kind, and of one line or with no more spatial atoms in the bud than in the companion.
+/// Whether a place is free and fits the companion's next atom, where the atoms before that have these places.
+pub fn could_take(search: &Search<'_>, places: &[u32], m: u32) -> bool
+    ensures { result ≡ take_could search.now.bud.now search.now.companion.now places.now m }
+{
+    let a = antecedent(search.bud);
+    let b = antecedent(search.companion);
+    !is_among(places, m as usize)
+        && could_stand(a.pure(), a.spatial(), m, b.spatial().get(places.len()))
+}
+
+/// Whether the two are of one kind and the bud's spatial atoms have the shapes that a link needs: of an entailment's antecedent
+/// just the companion's, and in some disjunct those of each of the companion's; at one line the companion's and perhaps more.
 pub fn are_alike(bud: &Judgement, companion: &Judgement) -> bool
     ensures { result ≡ alike bud.now companion.now }
 {
     match (bud, companion) {
-        (Judgement::Entail(a, _), Judgement::Entail(b, _)) => {
-            a.spatial().len() <= b.spatial().len()
+        (Judgement::Entail(a, bs), Judgement::Entail(b, cs)) => {
+            same_shapes(a.spatial(), b.spatial()) && all_have_shapes(bs.heaps(), cs.heaps())
         }
-        (Judgement::Term(i, _), Judgement::Term(k, _)) => *i == *k,
+        (Judgement::Term(i, a), Judgement::Term(k, b)) => {
+            *i == *k && has_shapes(a.spatial(), b.spatial())
+        }
         _ => false,
     }
 }

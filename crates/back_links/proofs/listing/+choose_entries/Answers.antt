@@ -8,7 +8,7 @@ use Rattle.rule_table.specs.LinkTable.{covers_some}
 use Rattle.back_links.specs.Listing.{number_choices}
 use Rattle.back_links.proofs.Selecting.{number_next, number_cut, numbers_done}
 use Rattle.back_links.proofs.Cuts.{entries_from, entries_all, entry_cut}
-use Rattle.back_links.proofs.listing.+choose_entries.Goals.{then-covers_at+in_ok-choose_entries, else-covers_at}
+use Rattle.back_links.proofs.listing.+choose_entries.Goals.{then-covers_at+in_ok-longer+in_ok-choose_entries, else-covers_at}
 use Rattle.back_links.proofs.listing.+choose_entries.Goals as goal
 
 pub loop-m-preserved : goal.loop-m-preserved
@@ -18,8 +18,8 @@ loop-m-preserved t c =
     let below : c.loop-m.m < length (disjuncts s.bud.now) = subst (λ (bs : List SymbolicHeap). c.loop-m.m < length bs) c.disjuncts-bs.ensures.value c.loop-m-test.true in
     let within : length c.args.made.now < length (disjuncts s.companion.now) = subst (λ (cs : List SymbolicHeap). length c.args.made.now < length cs) c.disjuncts-cs.ensures.value c.if-made-cs.false in
     elim c.if-covers_at.branch [
-      | then-covers_at+in_ok-choose_entries w ↦
-          let longer : w.deref.result.now ≡ c.args.made.now ++ c.loop-m.m ∷ [] = w.deref.ensures.value ∙ c.in_ok-longer.ensures in
+      | then-covers_at+in_ok-longer+in_ok-choose_entries w ↦
+          let longer : w.deref.result.now ≡ c.args.made.now ++ c.loop-m.m ∷ [] = w.deref.ensures.value ∙ w.in_ok-longer.ensures in
           rw w.found-is (number_next s.most (λ (m : ℕ). from (c.args.made.now ++ m ∷ [])) w.choose_entries.new.found.items c.loop-m.found.items c.loop-m.m (length (disjuncts s.bud.now)) _ below (w.in_ok-choose_entries.ensures ∙ ap (λ (ks : List ℕ). take s.most (c.loop-m.found.items ++ from ks)) longer) c.loop-m.invariant.0)
       | else-covers_at w ↦
           let at = subst (λ (cs : List SymbolicHeap). get_or cs (length c.args.made.now) c.index-cs-made.result ≡ c.index-cs-made.result) c.disjuncts-cs.ensures.value (sym c.index-cs-made.is) in

@@ -1,4 +1,4 @@
-use Rattle.std.proofs.Common.{◌≡◌, [], List, ◌++◌, take, sym, ap, ◌∙◌}
+use Rattle.std.proofs.Common.{◌≡◌, List, ◌++◌, take, sym, ap, ◌∙◌}
 use Rattle.heap_formula.specs.declared.proof_rules.Link.{Link}
 use Rattle.heap_formula.specs.Symbolic.{SymbolicHeap}
 use Rattle.heap_formula.specs.Judgements.{antecedent}
@@ -15,8 +15,8 @@ returns c =
     let sources : c.deref.result.now ≡ universals companion = c.deref.ensures.value ∙ c.in_ok-sources.ensures in
     let values : c.deref-2.result.now ≡ values_of bud = c.deref-2.ensures.value ∙ c.in_ok-values.ensures in
     let atoms : c.spatial.result.now ≡ (antecedent companion).spatial = c.spatial.ensures.value ∙ ap (λ (a : SymbolicHeap). a.spatial) c.antecedent.ensures in
-    c.in_ok-choose_places.ensures
-    ∙ (λ i. take c.args.most (c.new-found.ensures.items i ++ by_places bud companion c.args.target c.args.p (values i) (sources i) [] (number_choices (antecedent bud).spatial (atoms i))))
+    c.in_ok-choose_places.ensures.found
+    ∙ (λ i. take c.args.most (c.new-found.ensures.items i ++ by_places bud companion c.args.target c.args.p (values i) (sources i) (c.new-places.ensures.items i) (number_choices (antecedent bud).spatial (atoms i))))
     ∙ ap (λ (zs : List Link). take c.args.most zs) (links_are bud companion c.args.target c.args.p)
 
 pub returns-then-not-are_alike : goal.returns-then-not-are_alike

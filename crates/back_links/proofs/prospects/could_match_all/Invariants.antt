@@ -1,6 +1,0 @@
-use Rattle.std.proofs.Common.{◌≡◌, ◌≤◌, drop, length}
-use Rattle.back_links.specs.Prospects.{could_match_all}
-use Rattle.back_links.proofs.prospects.could_match_all.Given as goal
-
-abbrev pub invariant-loop-i : goal.invariant-loop-i
-invariant-loop-i l = (could_match_all l.pures l.atoms l.pairs (drop l.i l.places) (drop l.i l.xs) ≡ could_match_all l.pures l.atoms l.pairs l.places l.xs) × (l.i ≤ length l.xs)
