@@ -2,3 +2,4 @@ pub mod TwoLists
 pub mod Climbing
 pub mod LowerNodes
 pub mod FewCases
+mod CaseNumbers

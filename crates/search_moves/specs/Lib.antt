@@ -5,3 +5,4 @@ pub mod Limits
 pub mod States
 pub mod Ways
 pub mod Offering
+pub mod Rooms

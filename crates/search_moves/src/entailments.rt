@@ -3,7 +3,7 @@ ghost use Rattle.std.specs.Prelude.{◌≡◌, ◌≤◌, ◌++◌, ◌∷◌, [
 ghost use Rattle.std.specs.List.{filter};
 ghost use Rattle.heap_formula.specs.Meaning.{cases_of};
 ghost use Rattle.fold_offers.specs.Places.{first_line};
-ghost use Rattle.search_moves.specs.Trying.{goes};
+ghost use Rattle.search_moves.specs.Trying.{goes as goes_at};
 ghost use Rattle.search_moves.specs.Settings.{theory_of};
 ghost use Rattle.search_moves.specs.Entailments.{unfolds as unfolds_of, choices as choices_of, last_line, instance_lines, single_lines, entailment_before, entailment_after};
 
@@ -11,18 +11,20 @@ use crate::distincts::distincts;
 use crate::instances::{argument_instances, equation_instances, field_instances, instance_rules};
 use crate::places::{cell_frames, choices, predicate_frames, pure_rights, rewrites, unfolds};
 use crate::right_cases::right_unfolds;
-use crate::setting::{Setting, first_that_goes, those_that_go};
+use crate::setting::{Setting, first_that_goes, goes, those_that_go};
 use cyc_memory::OutOfMemory;
 use heap_formula::{Heap, Rule};
 use std::alloc::Global;
 
 /// The one rule, if it has no fault.
 pub fn rule_alone(alloc: Global, at: &Setting<'_>, rule: Rule) -> Result<Vec<Rule>, OutOfMemory>
-    ensures { IfOk result (λ v. v.items ≡ filter (goes (theory_of at.now) at.now.judgement.now) (rule ∷ [])) }
+    ensures { IfOk result (λ v. v.items ≡ filter (goes_at (theory_of at.now) at.now.judgement.now) (rule ∷ [])) }
 {
     let mut rules = Vec::new(alloc);
-    rules.push(rule)?;
-    those_that_go(alloc, at, rules)
+    if goes(alloc, at, &rule)? {
+        rules.push(rule)?;
+    }
+    Ok(rules)
 }
 
 /// What goes before links at an entailment.
@@ -129,7 +131,7 @@ fn several_offers(
     heaps: &[Heap],
 ) -> Result<Vec<Rule>, OutOfMemory>
     requires few { length heaps.now ≤ 64 }
-    ensures { IfOk result (λ v. v.items ≡ filter (goes (theory_of at.now) at.now.judgement.now) (choices_of heaps.now ++ unfolds_of left.now.spatial)) }
+    ensures { IfOk result (λ v. v.items ≡ filter (goes_at (theory_of at.now) at.now.judgement.now) (choices_of heaps.now ++ unfolds_of left.now.spatial)) }
 {
     let rules = joined(choices(alloc, heaps)?, unfolds(alloc, left.spatial())?)?;
     those_that_go(alloc, at, rules)

@@ -6,6 +6,7 @@ mod companions;
 mod distincts;
 mod entailments;
 mod equations;
+mod faults;
 mod instances;
 mod offered;
 mod offering;

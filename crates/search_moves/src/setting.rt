@@ -5,6 +5,7 @@ ghost use Rattle.fold_offers.specs.Places.{first_that};
 ghost use Rattle.search_moves.specs.Trying.{goes as goes_at};
 ghost use Rattle.search_moves.specs.Settings.{theory_of};
 
+use crate::faults::{has_room_right, may_choose, may_drop_right, may_frame, may_instantiate};
 use cyc_memory::OutOfMemory;
 use goto_lang::Program;
 use heap_formula::{Judgement, Rule, RuleError};
@@ -22,6 +23,20 @@ pub struct Setting<'a> {
 
 /// Whether the rule has no fault.
 pub fn goes(alloc: Global, at: &Setting<'_>, rule: &Rule) -> Result<bool, OutOfMemory>
+    ensures { IfOk result (λ b. b ≡ goes_at (theory_of at.now) at.now.judgement.now rule.now) }
+{
+    match rule {
+        Rule::Choose(k) => Ok(may_choose(at.judgement, *k)),
+        Rule::PureRight(k) => Ok(may_drop_right(at.judgement, *k)),
+        Rule::Instantiate(_, _) => Ok(may_instantiate(at.judgement)),
+        Rule::Frame(i, k) => Ok(may_frame(at.judgement, *i, *k)),
+        Rule::UnfoldRight(k, c) if has_room_right(at.defs, at.judgement, *k, *c) => Ok(true),
+        _ => has_answer(alloc, at, rule),
+    }
+}
+
+/// Whether the rule has premises, which are made and dropped.
+fn has_answer(alloc: Global, at: &Setting<'_>, rule: &Rule) -> Result<bool, OutOfMemory>
     ensures { IfOk result (λ b. b ≡ goes_at (theory_of at.now) at.now.judgement.now rule.now) }
 {
     match premises(alloc, at.defs, at.program, at.judgement, rule) {
