@@ -3,6 +3,7 @@ use Rattle.std.specs.Prelude.{ℕ, ◌≡◌, ◌<◌, ◌≤◌, ◌⊎◌, Lis
 use Rattle.trace_pairs.specs.Graph.{Node}
 use Rattle.buchi_core.specs.declared.event.Event.{Event}
 use Rattle.buchi_core.specs.declared.event.Event.TheVariants.{Dies, Nothing}
+use Rattle.buchi_inclusion.specs.declared.TheConstants.{MOST_STATES}
 use Rattle.buchi_inclusion.specs.Product.{State, Moves, Run, Each, IsFrom, IsNothing, Reachable}
 
 -- reachable product states, each once
@@ -14,6 +15,10 @@ pub record AreReached (g : List Node) (states : List State) : Type 0 where
 pub record AreAllReached (g : List Node) (states : List State) : Type 0 where
   pub some' : AreReached g states
   pub all' : (s : State) → Reachable g s → (i : ℕ) × (slice_get states i ≡ Some s)
+
+-- the greatest number of product states that a check or a search explores
+abbrev pub state_limit : ℕ
+state_limit = MOST_STATES
 
 -- the number of reachable product states is at most n
 abbrev pub HasAtMost : List Node → ℕ → Type 0

@@ -20,6 +20,9 @@ use std::alloc::Global;
 pub use system::{Checked, check_system};
 use trace_pairs::{Lasso, TraceGraph};
 
+/// The greatest number of product states that a check of a proof, or a search for one, explores.
+pub const MOST_STATES: u32 = 200_000;
+
 /// What is known of a graph: every lasso progresses; a lasso that doesn't; or that there are more product states than
 /// the limit. A product state is a node with an age forest; those count that a path from node 0 leads to.
 #[derive(Drop)]

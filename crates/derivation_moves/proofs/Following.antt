@@ -15,6 +15,7 @@ use Rattle.search_moves.specs.Offering.{links_offered, rules_offered, OffersLink
 use Rattle.proof_graph.specs.Nodes.{open_node, with_reason, without_reason, changed_at}
 use Rattle.proof_graph.specs.Traces.{trace_graph_of}
 use Rattle.search_moves.specs.Trying.{Theory}
+use Rattle.buchi_inclusion.specs.Answers.{state_limit}
 use Rattle.trace_decision.specs.Decide.{number_of}
 use Rattle.derivation_search.specs.System.{System, after}
 use Rattle.derivation_search.specs.Engine.{FaresSo}
@@ -144,12 +145,12 @@ module _ (s : Derivation) (order : IsInOrder s) (complete : (system : System Rea
   whole_graph = made_is_graph (theory_in s) s.root (reasons_in s) (tableau_in s) order.is.problem order.is.replayed some_node
 
 -- whether it has too many states
-pub above_is : (s : Derivation) → IsInOrder s → ((system : System Reason) → IsItsSearch s system → system.complete (reasons_in s) ≡ true) → (traces : List Node) (b : Bool) → traces ≡ trace_graph_of s.graph → nat_lt 200000 (number_of traces) ≡ b → (system : System Reason) → IsItsSearch s system →
+pub above_is : (s : Derivation) → IsInOrder s → ((system : System Reason) → IsItsSearch s system → system.complete (reasons_in s) ≡ true) → (traces : List Node) (b : Bool) → traces ≡ trace_graph_of s.graph → nat_lt state_limit (number_of traces) ≡ b → (system : System Reason) → IsItsSearch s system →
     system.above (reasons_in s) ≡ b
 above_is s order complete traces b is is_b system search =
     subst (λ (y : System Reason). y.above (reasons_in s) ≡ b) (sym search)
-    (ap (on_graph (λ g. nat_lt 200000 (number_of g))) order.is.replayed
-    ∙ (ap (λ g. nat_lt 200000 (number_of g)) (sym (is ∙ traces_then s order complete)) ∙ is_b))
+    (ap (on_graph (λ g. nat_lt state_limit (number_of g))) order.is.replayed
+    ∙ (ap (λ g. nat_lt state_limit (number_of g)) (sym (is ∙ traces_then s order complete)) ∙ is_b))
 
 -- ---- whether a reason fits
 

@@ -5,7 +5,7 @@ use Rattle.std.proofs.lemmas.Bool.{cases_Bool, ltb-true, lt-ltb}
 use Rattle.trace_pairs.specs.Graph.{Node, IsGraph}
 use Rattle.trace_pairs.specs.Lasso.{AllProgress, IsLasso, Progresses}
 use Rattle.trace_pairs.specs.Walk.{Walk}
-use Rattle.buchi_inclusion.specs.Answers.{HasAtMost, HasMoreThan}
+use Rattle.buchi_inclusion.specs.Answers.{HasAtMost, HasMoreThan, state_limit}
 use Rattle.buchi_inclusion.specs.Inclusion.{IsInclusion}
 use Rattle.buchi_inclusion.specs.declared.Inclusion.{Inclusion}
 use Rattle.buchi_inclusion.specs.declared.Inclusion.TheVariants.{Included, Counter}
@@ -17,15 +17,15 @@ use Rattle.trace_decision.specs.Decide.{progresses, number_of}
 use Rattle.trace_decision.proofs.Decide.{progress_decided}
 use Rattle.trace_decision.proofs.Number.{number_counted}
 
-pub few_states : (g : List Node) → IsGraph g → HasAtMost g 200000 → nat_lt 200000 (number_of g) ≡ false
+pub few_states : (g : List Node) → IsGraph g → HasAtMost g state_limit → nat_lt state_limit (number_of g) ≡ false
 few_states g graph few =
-    elim (cases_Bool (nat_lt 200000 (number_of g))) [
-      | inl more ↦ absurd (not_both g 200000 few ((number_counted g 200000 graph).0 (ltb-true 200000 (number_of g) more)))
+    elim (cases_Bool (nat_lt state_limit (number_of g))) [
+      | inl more ↦ absurd (not_both g state_limit few ((number_counted g state_limit graph).0 (ltb-true state_limit (number_of g) more)))
       | inr not' ↦ not'
     ]
 
-pub many_states : (g : List Node) → IsGraph g → HasMoreThan g 200000 → nat_lt 200000 (number_of g) ≡ true
-many_states g graph many = lt-ltb 200000 (number_of g) ((number_counted g 200000 graph).1 many)
+pub many_states : (g : List Node) → IsGraph g → HasMoreThan g state_limit → nat_lt state_limit (number_of g) ≡ true
+many_states g graph many = lt-ltb state_limit (number_of g) ((number_counted g state_limit graph).1 many)
 
 pub all_progress : (g : List Node) → IsGraph g → AllProgress g → progresses g ≡ true
 all_progress g graph all' = (progress_decided g graph).1 all'
@@ -38,13 +38,13 @@ some_fails g graph l lasso fails =
     ]
 
 -- by the inclusion's answer
-pub admitted_by : (g : List Node) (a : Inclusion) → IsGraph g → IsInclusion g 200000 a → a ≡ Included → GraphFares g Admitted
+pub admitted_by : (g : List Node) (a : Inclusion) → IsGraph g → IsInclusion g state_limit a → a ≡ Included → GraphFares g Admitted
 admitted_by g a graph is e =
-    let h = subst (IsInclusion g 200000) e is in (few_states g graph h.1, all_progress g graph h.0)
+    let h = subst (IsInclusion g state_limit) e is in (few_states g graph h.1, all_progress g graph h.0)
 
-pub refused_by : (g : List Node) (a : Inclusion) (l : Walk) → IsGraph g → IsInclusion g 200000 a → a ≡ Counter l → GraphFares g Refused
+pub refused_by : (g : List Node) (a : Inclusion) (l : Walk) → IsGraph g → IsInclusion g state_limit a → a ≡ Counter l → GraphFares g Refused
 refused_by g a l graph is e =
-    let h = subst (IsInclusion g 200000) e is in (few_states g graph h.2, some_fails g graph l h.0 h.1)
+    let h = subst (IsInclusion g state_limit) e is in (few_states g graph h.2, some_fails g graph l h.0 h.1)
 
-pub many_by : (g : List Node) (a : Inclusion) → IsGraph g → IsInclusion g 200000 a → a ≡ answers.TooManyStates → GraphFares g TooManyStates
-many_by g a graph is e = many_states g graph (subst (IsInclusion g 200000) e is)
+pub many_by : (g : List Node) (a : Inclusion) → IsGraph g → IsInclusion g state_limit a → a ≡ answers.TooManyStates → GraphFares g TooManyStates
+many_by g a graph is e = many_states g graph (subst (IsInclusion g state_limit) e is)

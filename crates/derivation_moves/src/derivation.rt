@@ -9,14 +9,8 @@ use cyc_memory::OutOfMemory;
 use goto_lang::Program;
 use heap_formula::{Judgement, Pairs, Premise, Reason};
 use pred_defs::Defs;
-use proof_graph::Graph;
+use proof_graph::{Graph, MOST_NODES};
 use std::alloc::Global;
-
-/// The greatest number of nodes made and goals open together.
-pub const MOST_NODES: usize = 20000;
-
-/// The greatest number of product states of a derivation's trace graph.
-pub const MOST_STATES: u32 = 200000;
 
 /// A partial derivation of a goal over definitions and a program. The goals stand on a stack, the next one on top; it is the
 /// last node of the graph, which else has the nodes made.

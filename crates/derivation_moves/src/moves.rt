@@ -5,12 +5,13 @@ ghost use Rattle.proof_graph.specs.Nodes.{with_reason, without_reason, changed_a
 ghost use Rattle.proof_graph.specs.Traces.{trace_graph_of};
 ghost use Rattle.trace_pairs.specs.Graph.{Node, IsGraph};
 ghost use Rattle.trace_decision.specs.Decide.{number_of};
+ghost use Rattle.buchi_inclusion.specs.Answers.{state_limit};
 ghost use Rattle.derivation_moves.specs.Fares.{GraphFares};
 ghost use Rattle.derivation_moves.specs.Derivations.{IsInOrder, IsItsSearch, reasons_in, about};
 
-use crate::derivation::{Derivation, MOST_STATES, has_room};
+use crate::derivation::{Derivation, has_room};
 use crate::effects::effect_of;
-use buchi_inclusion::{Inclusion, included};
+use buchi_inclusion::{Inclusion, MOST_STATES, included};
 use cyc_memory::OutOfMemory;
 use derivation_search::{Moves, Offers, Tried};
 use goto_lang::Program;
@@ -73,7 +74,7 @@ fn tried(alloc: Global, traces: &TraceGraph) -> Result<Tried, OutOfMemory>
 
 /// Whether there are more product states than the limit.
 fn is_above(tried: Tried) -> bool
-    ensures { (g : List Node) → GraphFares g tried → nat_lt 200000 (number_of g) ≡ result }
+    ensures { (g : List Node) → GraphFares g tried → nat_lt state_limit (number_of g) ≡ result }
 {
     match tried {
         Tried::TooManyStates => true,

@@ -20,7 +20,7 @@ use Rattle.proof_graph.proofs.Joined.{mapped_at}
 use Rattle.fo_nodes.specs.Files.{predicate_places, graph_edge, graph_node, HoldsAtNode}
 use Rattle.fo_logic.specs.Laws.{graph_length}
 use Rattle.fo_logic.specs.Tested.{rows_of, first_rows, EndsBy, is_untested}
-use Rattle.fo_logic.specs.Verdicts.{file_graph, HasRightNodes, IsRightBefore, IsLeastFault, IsVerdict}
+use Rattle.fo_logic.specs.Verdicts.{file_graph, state_limit, HasRightNodes, IsRightBefore, IsLeastFault, IsVerdict}
 use Rattle.fo_logic.specs.declared.verdict.FoVerdict.TheVariants as verdicts
 use Rattle.fo_logic.proofs.TestLoops.{at_index}
 
@@ -75,7 +75,7 @@ right_nodes f n right none v node at =
 
 -- what is said of the proof system is said of the proof
 abbrev pub IsToldOf : FoFile → ℕ → Checked → Type 0
-IsToldOf f n answer = IsChecked (file_graph f) (is_untested n) (HoldsAtNode f.theory f.nodes) 200000 answer
+IsToldOf f n answer = IsChecked (file_graph f) (is_untested n) (HoldsAtNode f.theory f.nodes) state_limit answer
 
 pub is_accepted : (f : FoFile) (n : ℕ) → IsRightBefore f n → IsToldOf f n answers.Accepted → IsVerdict f verdicts.Accepted
 is_accepted f n right told =

@@ -8,13 +8,10 @@ use Rattle.fo_table.specs.Nodes.{node_fault}
 use Rattle.trace_pairs.specs.Graph.{Node as GraphNode}
 use Rattle.trace_pairs.specs.Lasso.{IsLasso, Progresses, AllProgress}
 use Rattle.buchi_inclusion.specs.Answers.{HasAtMost, HasMoreThan}
+pub use Rattle.buchi_inclusion.specs.Answers.{state_limit}
 use Rattle.fo_logic.specs.declared.verdict.FoVerdict.{FoVerdict}
 use Rattle.fo_logic.specs.declared.verdict.FoVerdict.TheVariants.{Accepted, RuleRefused, PathRefused, TooManyStates}
 use Rattle.fo_nodes.specs.Files.{graph_of, AreRight}
-
--- the greatest number of product states
-abbrev pub state_limit : ℕ
-state_limit = 200000
 
 abbrev pub file_graph : FoFile → List GraphNode
 file_graph f = graph_of f.theory f.nodes

@@ -5,13 +5,10 @@ ghost use Rattle.fo_logic.specs.Verdicts.{IsVerdict};
 
 use crate::tested::test_proof;
 use crate::verdict::FoVerdict;
-use buchi_inclusion::{Checked, check_system};
+use buchi_inclusion::{Checked, MOST_STATES, check_system};
 use cyc_memory::OutOfMemory;
 use fo_formula::FoFile;
 use std::alloc::Global;
-
-/// The greatest number of product states that `check_fo` explores.
-pub const MOST_STATES: u32 = 200000;
 
 /// The verdict on a proof: the least node that is not right, with its first fault; else that the product states are too
 /// many; else a lasso that does not progress; else that the proof is correct, and then the sequent of node 0 holds in every

@@ -6,7 +6,7 @@ mod checking;
 mod tested;
 mod verdict;
 
-pub use checking::{MOST_STATES, check_fo};
+pub use checking::check_fo;
 pub use cyc_memory::OutOfMemory;
 pub use fo_table::FoFault;
 pub use verdict::FoVerdict;

@@ -27,7 +27,7 @@ use Rattle.node_reasons.proofs.RightGraphs.{each_at}
 use Rattle.proof_check.specs.Files.{graph_edge, graph_node, HoldsAtNode, node_of, nodes_of}
 use Rattle.proof_check.specs.Laws.{graph_length}
 use Rattle.proof_check.specs.Tested.{rows_of, first_rows, HasFields, IsTested, EndsBy, is_untested}
-use Rattle.proof_check.specs.Verdicts.{file_graph, HasRightNodes, IsRightBefore, IsLeastFault, IsVerdict}
+use Rattle.proof_check.specs.Verdicts.{file_graph, state_limit, HasRightNodes, IsRightBefore, IsLeastFault, IsVerdict}
 use Rattle.proof_check.specs.declared.verdict.Verdict.TheVariants as verdicts
 use Rattle.proof_check.proofs.TestLoops.{at_index, node_at}
 
@@ -86,7 +86,7 @@ right_nodes f n tested none v node at =
 
 -- what is said of the proof system is said of the file
 abbrev pub IsToldOf : ProofFile → ℕ → Checked → Type 0
-IsToldOf f n answer = IsChecked (file_graph f) (is_untested n) (HoldsAtNode f.defs.list f.program (nodes_of f.nodes)) 200000 answer
+IsToldOf f n answer = IsChecked (file_graph f) (is_untested n) (HoldsAtNode f.defs.list f.program (nodes_of f.nodes)) state_limit answer
 
 pub is_accepted : (f : ProofFile) (n : ℕ) → IsTested f n → IsToldOf f n answers.Accepted → IsVerdict f verdicts.Accepted
 is_accepted f n tested told =

@@ -6,14 +6,11 @@ use Rattle.rule_table.specs.Nodes.{Node, node_fault}
 use Rattle.trace_pairs.specs.Graph.{Node as GraphNode}
 use Rattle.trace_pairs.specs.Lasso.{IsLasso, Progresses, AllProgress}
 use Rattle.buchi_inclusion.specs.Answers.{HasAtMost, HasMoreThan}
+pub use Rattle.buchi_inclusion.specs.Answers.{state_limit}
 use Rattle.proof_file.specs.declared.file.ProofFile.{ProofFile}
 use Rattle.proof_check.specs.declared.verdict.Verdict.{Verdict}
 use Rattle.proof_check.specs.declared.verdict.Verdict.TheVariants.{Accepted, RuleRefused, PathRefused, TooManyStates}
 use Rattle.proof_check.specs.Files.{graph_of, AreRight, nodes_of}
-
--- the greatest number of product states
-abbrev pub state_limit : ℕ
-state_limit = 200000
 
 abbrev pub file_graph : ProofFile → List GraphNode
 file_graph f = graph_of f.defs.most f.defs.list f.program (nodes_of f.nodes)

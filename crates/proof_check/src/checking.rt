@@ -4,13 +4,10 @@ ghost use Rattle.proof_check.specs.Verdicts.{IsVerdict};
 
 use crate::tested::test_file;
 use crate::verdict::Verdict;
-use buchi_inclusion::{Checked, check_system};
+use buchi_inclusion::{Checked, MOST_STATES, check_system};
 use cyc_memory::OutOfMemory;
 use proof_file::ProofFile;
 use std::alloc::Global;
-
-/// The greatest number of product states that `check` explores.
-pub const MOST_STATES: u32 = 200000;
 
 /// The verdict on a proof file: the least node that is not right, with its first fault; else that the product states are
 /// too many; else a lasso that does not progress; else that the file is correct, and then node 0 holds (Brotherston,

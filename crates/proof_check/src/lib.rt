@@ -7,6 +7,6 @@ mod node_tests;
 mod tested;
 mod verdict;
 
-pub use checking::{MOST_STATES, check};
+pub use checking::check;
 pub use cyc_memory::OutOfMemory;
 pub use verdict::Verdict;

@@ -6,7 +6,7 @@ use Rattle.std.specs.Prelude.{nat_le}
 use Rattle.heap_formula.specs.declared.judgements.Judgement.{Judgement}
 use Rattle.heap_formula.specs.declared.judgements.Judgement.TheVariants.{Entail, Term as Runs}
 use Rattle.trace_pairs.specs.Lasso.{AllProgress}
-use Rattle.buchi_inclusion.specs.Answers.{HasAtMost}
+use Rattle.buchi_inclusion.specs.Answers.{HasAtMost, state_limit}
 use Rattle.heap_formula.specs.declared.proof_rules.Reason.{Reason}
 use Rattle.heap_formula.specs.Definitions.{Definition}
 use Rattle.heap_formula.specs.Judgements.{antecedent}
@@ -134,7 +134,7 @@ module _ (problem : Problem) (f : ProofFile) (moves : Derivation) (h : HasFound 
     is_root = ap (λ (ns : List FileNode). slice_get ns 0) same_nodes ∙ h.proof.is_root;
     goal = h.proof.proves;
     correct = correct;
-    states = subst (λ g. HasAtMost g 200000) graph_same h.proof.states;
+    states = subst (λ g. HasAtMost g state_limit) graph_same h.proof.states;
     holds = root_holds f (program_commands f.program (subst IsProgram (sym same_program) is_program)) correct.nodes small correct.paths;
   }
 

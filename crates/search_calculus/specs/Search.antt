@@ -4,6 +4,8 @@ use Rattle.heap_formula.specs.declared.judgements.Judgement.{Judgement}
 use Rattle.heap_formula.specs.declared.proof_rules.Reason.{Reason}
 use Rattle.heap_formula.specs.declared.proof_rules.Reason.TheVariants.{Step, Back}
 use Rattle.derivation_search.specs.System.{System}
+use Rattle.buchi_inclusion.specs.Answers.{state_limit}
+use Rattle.proof_graph.specs.declared.graph.TheConstants.{MOST_NODES}
 use Rattle.search_moves.specs.Trying.{Theory}
 use Rattle.search_moves.specs.Offering.{links_offered, rules_offered}
 use Rattle.tableaux.specs.Tableau.{Calculus}
@@ -23,12 +25,9 @@ rules_at t nodes g = map Step (rules_offered t (goal_graph t nodes g) (length no
 abbrev pub calculus_of : Theory → Calculus Judgement Reason
 calculus_of t = record (bare_calculus t) { links = links_at t; rules = rules_at t }
 
--- the greatest numbers of nodes of a derivation and of its product states
+-- the greatest number of nodes of a derivation
 abbrev pub node_limit : ℕ
-node_limit = 20000
-
-abbrev pub state_limit : ℕ
-state_limit = 200000
+node_limit = MOST_NODES
 
 -- the search for a proof of the judgement
 abbrev pub search_system : Theory → Judgement → System Reason
