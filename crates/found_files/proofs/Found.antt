@@ -7,7 +7,7 @@ use Rattle.heap_formula.specs.declared.proof_rules.Reason.{Reason}
 use Rattle.trace_pairs.specs.Graph.{Node, IsGraph}
 use Rattle.trace_pairs.specs.Lasso.{AllProgress}
 use Rattle.buchi_core.proofs.Lists.{get_one}
-use Rattle.buchi_inclusion.specs.Answers.{HasAtMost}
+use Rattle.buchi_inclusion.specs.Answers.{HasAtMost, state_limit}
 use Rattle.trace_decision.specs.Decide.{number_of}
 use Rattle.derivation_search.specs.System.{search_of, IsFound}
 use Rattle.proof_check.specs.Files.{graph_of, nodes_of}
@@ -19,7 +19,7 @@ use Rattle.tableaux.specs.Nodes.{HasRoot, reasons_of, MayStand, AllHaveEdges}
 use Rattle.tableaux.proofs.Found.{nil_is, all_rooted, all_reasoned, all_standing, all_edged, all_graphs, all_progressing}
 use Rattle.search_calculus.specs.Calculus.{MadeNode}
 use Rattle.search_calculus.specs.Graphs.{traces_of}
-use Rattle.search_calculus.specs.Search.{calculus_of, node_limit, state_limit, search_system}
+use Rattle.search_calculus.specs.Search.{calculus_of, node_limit, search_system}
 use Rattle.search_calculus.proofs.TraceGraphs.{replay_traces}
 use Rattle.search_calculus.proofs.MadeRows.{made_row}
 use Rattle.found_files.specs.Files.{file_node, nodes_made}
@@ -70,10 +70,10 @@ module _ (t : Theory) (goal : Judgement) (most depth : ℕ) (d : List Reason) (l
     same : traces_of t b.nodes ≡ graph_of t.most t.definitions t.lines (nodes_of (nodes_made t b.nodes))
     same = sym (graph_same t b.nodes all_made)
 
-    states : HasAtMost b.graph 200000
+    states : HasAtMost b.graph state_limit
     states =
-        few_states b.graph 200000 (at_this (λ j r x. IsGraph x.graph) (all_graphs (calculus_of t) (Occurs t) (Allows t) (within_is_fair t goal limits)))
-        (subst (λ x. on_graph (λ g. nat_lt 200000 (number_of g)) x ≡ false) is_b ends.few)
+        few_states b.graph state_limit (at_this (λ j r x. IsGraph x.graph) (all_graphs (calculus_of t) (Occurs t) (Allows t) (within_is_fair t goal limits)))
+        (subst (λ x. on_graph (λ g. nat_lt state_limit (number_of g)) x ≡ false) is_b ends.few)
 
     is_proof : AreProof t goal (nodes_made t b.nodes)
     is_proof =
@@ -85,7 +85,7 @@ module _ (t : Theory) (goal : Judgement) (most depth : ℕ) (d : List Reason) (l
           proves = root.judgement;
           right = all_right t b.nodes all_made;
           paths = subst AllProgress (traces_same ∙ same) (at_this (λ j r x. AllProgress x.graph) (all_progressing (calculus_of t) (Occurs t) (Allows t) (within_is_fair t goal limits)));
-          states = subst (λ (g : List Node). HasAtMost g 200000) (traces_same ∙ same) states;
+          states = subst (λ (g : List Node). HasAtMost g state_limit) (traces_same ∙ same) states;
           within = all_within t goal limits b.nodes all_made few (at_this (λ j r x. MayStand (Occurs t) (Allows t) x) (all_standing (calculus_of t) (Occurs t) (Allows t) (within_is_fair t goal limits)));
           few = subst (λ n. n ≤ 20000) (sym (length-nodes_made t b.nodes all_made)) few;
         }

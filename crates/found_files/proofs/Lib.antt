@@ -5,6 +5,8 @@ pub mod EntailmentLines
 pub mod Folding
 pub mod RulesWithin
 pub mod LinksWithin
+pub mod RulesGo
+pub mod LinksFit
 pub mod Fair
 pub mod Made
 pub mod Rows

@@ -1,5 +1,5 @@
 -- The links that a goal within the limits is offered are within them, and lead to nodes before the goal.
-use Rattle.std.proofs.Common.{◌≡◌, ℕ, zero, suc, ◌+◌, ◌<◌, ◌≤◌, List, [], ◌∷◌, map, length, take, Some, arith}
+use Rattle.std.proofs.Common.{◌≡◌, ℕ, zero, suc, ◌+◌, ◌<◌, ◌≤◌, List, [], ◌∷◌, map, length, take, Some, refl, sym, subst, arith}
 use Rattle.std.specs.Prelude.{slice_get}
 use Rattle.std.specs.List.{flat_map, range_with_len}
 use Rattle.std.specs.Option.{is_none}
@@ -56,7 +56,7 @@ substitutions_within bud companion b c =
 -- ---- links
 
 -- what holds of each link that a substitution makes holds of each link
-links_each : (P : Link → Type 0) (Q : Bindings → Type 0) (bud companion : Judgement) (target p : ℕ) → Each Q (substitutions bud companion) → ((places : List ℕ) (s : Bindings) (entries : List ℕ) → Q s → P (link_of target places s entries)) → Each P (links bud companion target p)
+pub links_each : (P : Link → Type 0) (Q : Bindings → Type 0) (bud companion : Judgement) (target p : ℕ) → Each Q (substitutions bud companion) → ((places : List ℕ) (s : Bindings) (entries : List ℕ) → Q s → P (link_of target places s entries)) → Each P (links bud companion target p)
 links_each P Q bud companion target p subs h =
     each_filter P (λ (l : Link). is_none (link_fault bud companion l p)) (choices_of bud companion target)
     (each_flat_map P (λ (places : List ℕ). Unit {0}) (λ (places : List ℕ). flat_map (λ (s : Bindings). map (λ (entries : List ℕ). link_of target places s entries) (covers bud companion)) (substitutions bud companion)) (maps bud companion) (each_any (λ (places : List ℕ). Unit {0}) (maps bud companion) (λ places. tt)) (λ places u.
@@ -70,7 +70,7 @@ offered_each P most t nodes goal j h k node e =
     let found = links j node.judgement k (variables_of t.lines j) in
     each_if P (is_companion j node) (take most found) (each_take P most found (h k node there.0 there.1))
 
-all_offered : (P : Link → Type 0) (t : Theory) (nodes : List GraphNode) (goal : ℕ) (j : Judgement) → ((k : ℕ) (node : GraphNode) → k < goal → slice_get nodes k ≡ Some node → Each P (links j node.judgement k (variables_of t.lines j))) → Each P (links_offered t nodes goal j)
+pub all_offered : (P : Link → Type 0) (t : Theory) (nodes : List GraphNode) (goal : ℕ) (j : Judgement) → ((k : ℕ) (node : GraphNode) → k < goal → slice_get nodes k ≡ Some node → Each P (links j node.judgement k (variables_of t.lines j))) → Each P (links_offered t nodes goal j)
 all_offered P t nodes goal j h =
     each_unless_some P (rules_before t j) (candidates t.lines nodes goal j) (each_placed P (links_to 1000000 t.lines j) (take goal nodes) (offered_each P 1000000 t nodes goal j h))
 
@@ -81,9 +81,15 @@ links_within t nodes goal j w ws =
     (substitutions_within j node.judgement (judgement_below t.most t.definitions j w.heaps) (judgement_below t.most t.definitions node.judgement (ws k node e).heaps))
     (λ places s entries q. q))
 
+-- each leads to the node that it was made for
+pub links_target : (bud companion : Judgement) (target p : ℕ) → Each (λ (link : Link). link.target ≡ target) (links bud companion target p)
+links_target bud companion target p =
+    links_each (λ (link : Link). link.target ≡ target) (λ (s : Bindings). Unit {0}) bud companion target p
+    (each_any (λ (s : Bindings). Unit {0}) (substitutions bud companion) (λ s. tt))
+    (λ places s entries q. refl)
+
 pub links_back : (t : Theory) (nodes : List GraphNode) (goal : ℕ) (j : Judgement) → Each (λ (link : Link). link.target < goal) (links_offered t nodes goal j)
 links_back t nodes goal j =
     all_offered (λ (link : Link). link.target < goal) t nodes goal j (λ k node lt e.
-    links_each (λ (link : Link). link.target < goal) (λ (s : Bindings). Unit {0}) j node.judgement k (variables_of t.lines j)
-    (each_any (λ (s : Bindings). Unit {0}) (substitutions j node.judgement) (λ s. tt))
-    (λ places s entries q. lt))
+    each_with (λ (link : Link). link.target ≡ k) (λ (link : Link). link.target < goal) (links j node.judgement k (variables_of t.lines j)) (links_target j node.judgement k (variables_of t.lines j))
+    (λ link same. subst (λ v. v < goal) (sym same) lt))

@@ -30,6 +30,23 @@ take_get (suc n) [] i x e = absurd (cc)
 take_get (suc n) (y ∷ ys) zero x e = (omega arith, e)
 take_get (suc n) (y ∷ ys) (suc i) x e = let r = take_get n ys i x e in (omega arith, r.1)
 
+-- what is kept passes
+kept_passing : {X : Type 0} (test : X → Bool) (x : X) (xs : List X) (b : Bool) → test x ≡ b → Each (λ y. test y ≡ true) xs → Each (λ y. test y ≡ true) (cond b (x ∷ xs) xs)
+kept_passing test x xs true e a = (e, a)
+kept_passing test x xs false e a = a
+
+pub each_passes : {X : Type 0} (test : X → Bool) (xs : List X) → Each (λ y. test y ≡ true) (filter test xs)
+each_passes test [] = tt
+each_passes test (x ∷ xs) = kept_passing test x (filter test xs) (test x) refl (each_passes test xs)
+
+first_passing : {X : Type 0} (test : X → Bool) (x : X) (xs : List X) (b : Bool) → test x ≡ b → Each (λ y. test y ≡ true) xs → Each (λ y. test y ≡ true) (if b then x ∷ [] else xs)
+first_passing test x xs true e a = (e, tt)
+first_passing test x xs false e a = a
+
+pub each_first_passes : {X : Type 0} (test : X → Bool) (xs : List X) → Each (λ y. test y ≡ true) (first_that test xs)
+each_first_passes test [] = tt
+each_first_passes test (x ∷ xs) = first_passing test x (first_that test xs) (test x) refl (each_first_passes test xs)
+
 module _ {X : Type 0} (P : X → Type 0) where
   pub each_append : (xs ys : List X) → Each P xs → Each P ys → Each P (xs ++ ys)
   each_append [] ys a b = b
@@ -111,9 +128,15 @@ module _ {X Y : Type 0} (P : Y → Type 0) where
   pub each_anywhere : (f : ℕ → X → List Y) (xs : List X) → ((i : ℕ) (x : X) → Each P (f i x)) → Each P (each_place f xs)
   each_anywhere f xs h = each_placed f xs (λ i x e. h i x)
 
-  first_from_places : (f : ℕ → X → List Y) (k : ℕ) (xs : List X) → ((i : ℕ) (x : X) → Each P (f i x)) → Each P (first_from f k xs)
-  first_from_places f k [] h = tt
-  first_from_places f k (x ∷ xs) h = each_or_else P (f k x) (first_from f (suc k) xs) (h k x) (first_from_places f (suc k) xs h)
+  first_from_placed : (f : ℕ → X → List Y) (k : ℕ) (xs : List X) → ((i : ℕ) (x : X) → slice_get xs i ≡ Some x → Each P (f (k + i) x)) → Each P (first_from f k xs)
+  first_from_placed f k [] h = tt
+  first_from_placed f k (x ∷ xs) h =
+      let here : k + 0 ≡ k = omega arith in
+      each_or_else P (f k x) (first_from f (suc k) xs) (subst (λ n. Each P (f n x)) here (h 0 x refl)) (first_from_placed f (suc k) xs (λ i y e. let next : k + suc i ≡ suc k + i = omega arith in subst (λ n. Each P (f n y)) next (h (suc i) y e)))
+
+  -- of the first place that gives something
+  pub each_first_placed : (f : ℕ → X → List Y) (xs : List X) → ((i : ℕ) (x : X) → slice_get xs i ≡ Some x → Each P (f i x)) → Each P (first_place f xs)
+  each_first_placed f xs h = first_from_placed f 0 xs (λ i x e. let same : i ≡ 0 + i = omega arith in subst (λ n. Each P (f n x)) same (h i x e))
 
   pub each_first_place : (f : ℕ → X → List Y) (xs : List X) → ((i : ℕ) (x : X) → Each P (f i x)) → Each P (first_place f xs)
-  each_first_place f xs h = first_from_places f 0 xs h
+  each_first_place f xs h = each_first_placed f xs (λ i x e. h i x)

@@ -5,7 +5,7 @@ use Rattle.heap_formula.specs.declared.proof_rules.Reason.{Reason}
 use Rattle.heap_formula.specs.Words.{Each}
 use Rattle.goto_lang.specs.Lines.{IsProgram}
 use Rattle.trace_pairs.specs.Lasso.{AllProgress}
-use Rattle.buchi_inclusion.specs.Answers.{HasAtMost}
+use Rattle.buchi_inclusion.specs.Answers.{HasAtMost, state_limit}
 use Rattle.proof_file.specs.declared.node.FileNode.{FileNode}
 use Rattle.proof_check.specs.Files.{graph_of, AreRight, nodes_of}
 use Rattle.format_limits.specs.Limits.{IsDefinitionWithin, IsJudgementWithin}
@@ -30,7 +30,7 @@ pub record AreProof (t : Theory) (goal : Judgement) (nodes : List FileNode) : Ty
   pub proves : root.judgement ≡ goal
   pub right : AreRight t.most t.definitions t.lines (nodes_of nodes)
   pub paths : AllProgress (graph_of t.most t.definitions t.lines (nodes_of nodes))
-  pub states : HasAtMost (graph_of t.most t.definitions t.lines (nodes_of nodes)) 200000
+  pub states : HasAtMost (graph_of t.most t.definitions t.lines (nodes_of nodes)) state_limit
   pub within : Each (IsNodeWithin t.most t.definitions (length t.lines)) nodes
   pub few : length nodes ≤ 20000
 

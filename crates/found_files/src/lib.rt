@@ -11,7 +11,9 @@ ghost use Rattle.search_moves.specs.Trying.{Theory};
 ghost use Rattle.search_calculus.specs.Search.{search_system};
 ghost use Rattle.found_files.specs.Found.{IsWithinLimits, MakesProof};
 
-pub use offers::{links_stay_within, rules_stay_within};
+pub use offers::{
+    links_stay_within, offered_links_have_no_fault, offered_rules_have_premises, rules_stay_within,
+};
 
 /// The reasons that are found make nodes of which every one is right and every lasso progresses, with at most 200,000
 /// product states; node 0 has the goal.

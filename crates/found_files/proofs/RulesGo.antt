@@ -1,0 +1,161 @@
+-- The rules that a goal is offered have premises.
+use Rattle.std.proofs.Common.{◌≡◌, ℕ, Bool, true, false, List, [], ◌∷◌, ◌++◌, map, Option, Some, None, Ok, refl, sym, subst}
+use Rattle.std.specs.Prelude.{slice_get, ◌&&◌, if◌then◌else◌}
+use Rattle.std.specs.List.{filter}
+use Rattle.heap_formula.specs.declared.terms.Term.{Term}
+use Rattle.heap_formula.specs.declared.terms.Term.TheVariants.{Nil, Univ, Exist}
+use Rattle.heap_formula.specs.declared.atoms.Pure.{Pure}
+use Rattle.heap_formula.specs.declared.atoms.Pure.TheVariants.{Eq, Neq}
+use Rattle.heap_formula.specs.declared.judgements.Judgement.{Judgement}
+use Rattle.heap_formula.specs.declared.judgements.Judgement.TheVariants.{Entail, Term as Runs}
+use Rattle.heap_formula.specs.declared.judgements.Premise.{Premise}
+use Rattle.heap_formula.specs.declared.proof_rules.Rule.TheVariants.{Absurd, Rewrite, Done, Exec}
+use Rattle.heap_formula.specs.declared.proof_rules.RuleFault.TheVariants.{NoSuchAtom}
+use Rattle.heap_formula.specs.declared.proof_rules.Side.{Side}
+use Rattle.heap_formula.specs.declared.proof_rules.Side.TheVariants.{Left, Right}
+use Rattle.heap_formula.specs.Closedness.{InPure, IsUniversal, IsUniversalHeap}
+use Rattle.heap_formula.specs.Judgements.{antecedent}
+use Rattle.heap_formula.specs.Programs.{counted_from_one, program_variables}
+use Rattle.heap_formula.specs.Symbolic.{SymbolicHeap}
+use Rattle.heap_formula.specs.Words.{Each}
+use Rattle.rule_table.specs.Answer.{finds}
+use Rattle.rule_table.specs.ExecTable.{exec_answer}
+use Rattle.rule_table.specs.RuleBook.{variables_of}
+use Rattle.rule_table.specs.Table.{named, unnamed, rewrite_side, rewrite_atom}
+use Rattle.rule_table.specs.Tests.{same_term}
+use Rattle.proof_graph.specs.declared.nodes.GraphNode.{GraphNode}
+use Rattle.search_moves.specs.Trying.{Theory, has_premises, goes}
+use Rattle.search_moves.specs.Entailments.{side_of, rewrite_at, rewrites, choices, unfolds, pure_rights, cell_frames, predicate_frames, distincts, equation_instances, field_instances, argument_instances, instance_rule, right_unfolds, entailment_before, single_lines, entailment_after}
+use Rattle.search_moves.specs.States.{is_logical, occurs_elsewhere, state_rewrite, state_rewrites, stops, stops_that_go, folds_if, misses_cell, unfolds_if, state_before, state_after}
+use Rattle.search_moves.specs.Offering.{rules_before, rules_after, rules_offered}
+use Rattle.found_files.specs.Faultless.{HasPremises}
+use Rattle.found_files.proofs.Members.{each_get, each_or_else, each_first_line, each_first_placed, each_passes, each_first_passes}
+
+abbrev IsVariable : Term → Type 0
+IsVariable Nil = ⊥
+IsVariable (Univ n) = Unit {0}
+IsVariable (Exist n) = ⊥
+
+-- ---- an equation whose named side is a variable, or whose sides are one, can be rewritten by
+
+by_variable : (p : ℕ) (j : Judgement) (k : ℕ) (x : Pure) (b : Bool) (same : List Premise) (v u : Term) → IsVariable v → has_premises (if b then Ok same else rewrite_side p j k x v u) ≡ true
+by_variable p j k x true same v u h = refl
+by_variable p j k x false same Nil u h = absurd h
+by_variable p j k x false same (Univ n) u h = refl
+by_variable p j k x false same (Exist n) u h = absurd h
+
+by_same : (p : ℕ) (j : Judgement) (k : ℕ) (x : Pure) (b : Bool) (same : List Premise) (v u : Term) → b ≡ true → has_premises (if b then Ok same else rewrite_side p j k x v u) ≡ true
+by_same p j k x true same v u e = refl
+by_same p j k x false same v u e = absurd cc
+
+second : (b c : Bool) → b && c ≡ true → c ≡ true
+second true c e = e
+second false c e = absurd cc
+
+logical_variable : (p : ℕ) (u : Term) → is_logical p u ≡ true → IsVariable u
+logical_variable p Nil e = absurd cc
+logical_variable p (Univ n) e = tt
+logical_variable p (Exist n) e = absurd cc
+
+occurring_variable : (a : SymbolicHeap) (k : ℕ) (u : Term) → occurs_elsewhere a k u ≡ true → IsVariable u
+occurring_variable a k Nil e = absurd cc
+occurring_variable a k (Univ n) e = tt
+occurring_variable a k (Exist n) e = absurd cc
+
+module _ (t : Theory) (j : Judgement) (k : ℕ) where
+  abbrev Stands : Pure → Type 0
+  Stands x = slice_get (antecedent j).pure k ≡ Some x
+
+  goes_by : (x : Pure) (side : Side) → Stands x → has_premises (rewrite_atom (variables_of t.lines j) j k side x) ≡ true → HasPremises t j (Rewrite k side)
+  goes_by x side e h =
+      subst (λ (o : Option Pure). has_premises (finds o NoSuchAtom (rewrite_atom (variables_of t.lines j) j k side)) ≡ true) (sym e) h
+
+  variable_goes : (side : Side) (u v : Term) → Stands (Eq u v) → IsVariable (named side u v) → HasPremises t j (Rewrite k side)
+  variable_goes side u v e h =
+      goes_by (Eq u v) side e (by_variable (variables_of t.lines j) j k (Eq u v) (same_term u v) _ (named side u v) (unnamed side u v) h)
+
+  same_goes : (side : Side) (u v : Term) → Stands (Eq u v) → same_term u v ≡ true → HasPremises t j (Rewrite k side)
+  same_goes side u v e h =
+      goes_by (Eq u v) side e (by_same (variables_of t.lines j) j k (Eq u v) (same_term u v) _ (named side u v) (unnamed side u v) h)
+
+  -- at an entailment
+  side_goes : (x : Pure) → Stands x → InPure IsUniversal x → Each (HasPremises t j) (rewrite_at k (side_of x))
+  side_goes (Eq Nil Nil) e h = (same_goes Left Nil Nil e refl, tt)
+  side_goes (Eq Nil (Univ m)) e h = (variable_goes Right Nil (Univ m) e tt, tt)
+  side_goes (Eq Nil (Exist m)) e h = absurd h.1
+  side_goes (Eq (Univ n) u) e h = (variable_goes Left (Univ n) u e tt, tt)
+  side_goes (Eq (Exist n) u) e h = absurd h.0
+  side_goes (Neq u v) e h = tt
+
+  choose : (b : Bool) (side : Side) (rest : Option Side) → (b ≡ true → HasPremises t j (Rewrite k side)) → Each (HasPremises t j) (rewrite_at k rest) → Each (HasPremises t j) (rewrite_at k (if b then Some side else rest))
+  choose true side rest h a = (h refl, tt)
+  choose false side rest h a = a
+
+  -- at a state of a program
+  state_goes : (p : ℕ) (a : SymbolicHeap) (x : Pure) → Stands x → Each (HasPremises t j) (state_rewrite p a k x)
+  state_goes p a (Neq u v) e = tt
+  state_goes p a (Eq u v) e =
+      choose (same_term u v) Left _ (λ s. same_goes Left u v e s)
+      (choose (is_logical p u) Left _ (λ l. variable_goes Left u v e (logical_variable p u l))
+      (choose (is_logical p v) Right _ (λ l. variable_goes Right u v e (logical_variable p v l))
+      (choose (occurs_elsewhere a k u) Left _ (λ o. variable_goes Left u v e (occurring_variable a k u o))
+      (choose (same_term u Nil && occurs_elsewhere a k v) Right None (λ o. variable_goes Right u v e (occurring_variable a k v (second (same_term u Nil) (occurs_elsewhere a k v) o))) tt))))
+
+-- ---- the lines
+
+entailment_before_goes : (t : Theory) (a : SymbolicHeap) (bs : List SymbolicHeap) → IsUniversalHeap a → Each (HasPremises t (Entail a bs)) (entailment_before t (Entail a bs) a)
+entailment_before_goes t a bs u =
+    let j = Entail a bs in
+    each_first_line (HasPremises t j) (filter (goes t j) (Absurd ∷ []) ∷ rewrites a.pure ∷ []) (
+      each_passes (goes t j) (Absurd ∷ []),
+      (each_first_placed (HasPremises t j) (λ k x. rewrite_at k (side_of x)) a.pure (λ k x e. side_goes t j k x e (each_get (InPure IsUniversal) a.pure k x u.0 e)), tt),
+    )
+
+single_lines_go : (t : Theory) (j : Judgement) (a b : SymbolicHeap) → Each (Each (HasPremises t j)) (single_lines t j a b)
+single_lines_go t j a b =
+    let first = each_first_passes (goes t j) in (
+      each_passes (goes t j) (Done ∷ []),
+      (
+        first (pure_rights b.pure),
+        (
+          first (distincts a.spatial b.pure),
+          (
+            first (cell_frames a.spatial b.spatial),
+            (
+              first (map instance_rule (equation_instances b.pure)),
+              (
+                first (map instance_rule (field_instances a.spatial b.spatial)),
+                (
+                  first (predicate_frames a.spatial b.spatial),
+                  (each_passes (goes t j) ((map instance_rule (argument_instances a.spatial b.spatial) ++ right_unfolds t j a b.spatial) ++ unfolds a.spatial), tt),
+                ),
+              ),
+            ),
+          ),
+        ),
+      ),
+    )
+
+entailment_after_goes : (t : Theory) (j : Judgement) (a : SymbolicHeap) (bs : List SymbolicHeap) → Each (HasPremises t j) (entailment_after t j a bs)
+entailment_after_goes t j a [] = tt
+entailment_after_goes t j a (b ∷ []) = each_first_line (HasPremises t j) (single_lines t j a b) (single_lines_go t j a b)
+entailment_after_goes t j a (b ∷ c ∷ bs) = each_passes (goes t j) (choices (b ∷ c ∷ bs) ++ unfolds a.spatial)
+
+state_before_goes : (t : Theory) (i : ℕ) (a : SymbolicHeap) → Each (HasPremises t (Runs i a)) (state_before t (Runs i a) i a)
+state_before_goes t i a =
+    let j = Runs i a in
+    let p = program_variables t.lines in
+    each_first_line (HasPremises t j) (filter (goes t j) (Absurd ∷ []) ∷ stops_that_go t j i ∷ state_rewrites p a ∷ []) (
+      each_passes (goes t j) (Absurd ∷ []),
+      (each_passes (goes t j) (stops (counted_from_one t.lines i)), (each_first_placed (HasPremises t j) (state_rewrite p a) a.pure (λ k x e. state_goes t j k p a x e), tt)),
+    )
+
+state_after_goes : (t : Theory) (nodes : List GraphNode) (goal : ℕ) (j : Judgement) (i : ℕ) (a : SymbolicHeap) → Each (HasPremises t j) (state_after t nodes goal j i a)
+state_after_goes t nodes goal j i a =
+    each_passes (goes t j) (folds_if t nodes goal i a ++ (Exec ∷ unfolds_if (misses_cell (exec_answer t.most t.lines j)) a (counted_from_one t.lines i)))
+
+pub rules_go : (t : Theory) (nodes : List GraphNode) (goal : ℕ) (j : Judgement) → IsUniversalHeap (antecedent j) → Each (HasPremises t j) (rules_offered t nodes goal j)
+rules_go t nodes goal (Entail a bs) u =
+    each_or_else (HasPremises t (Entail a bs)) (rules_before t (Entail a bs)) (rules_after t nodes goal (Entail a bs)) (entailment_before_goes t a bs u) (entailment_after_goes t (Entail a bs) a bs)
+rules_go t nodes goal (Runs i a) u =
+    each_or_else (HasPremises t (Runs i a)) (rules_before t (Runs i a)) (rules_after t nodes goal (Runs i a)) (state_before_goes t i a) (state_after_goes t nodes goal (Runs i a) i a)
