@@ -1,29 +1,30 @@
 -- A walk over signs, one after the other.
 use Rattle.std.proofs.Common.{◌≡◌, ℕ, zero, suc, ◌+◌, ◌-◌, ◌≤◌, List, [], ◌∷◌, ◌++◌, length, length-append, get_or, drop, take, Some, None, refl, sym, ap, subst, ◌∙◌, arith}
-use Rattle.std.specs.Prelude.{Option}
 use Rattle.std.proofs.lemmas.List.{take_all}
+use Rattle.heap_reader.specs.declared.flaw.Flaw.{Flaw}
+use Rattle.heap_reader.specs.Trees.{Heading}
+use Rattle.heap_reader.specs.Flaws.{Found, or_later}
 use Rattle.fo_term_syntax.specs.Trees.{Sign, Variable, Local, Apply, AreTerms}
 use Rattle.fo_term_syntax.specs.declared.bracket.Awaited.TheVariants.{First}
 use Rattle.fo_term_syntax.specs.Brackets.{brackets}
 use Rattle.fo_term_syntax.specs.Grammar.{IsTerm}
 use Rattle.fo_term_syntax.specs.Places.{places_of, tokens_in, marks_at, marks_end}
 use Rattle.fo_term_syntax.proofs.PlaceLaws.{HaveRoom, places-count}
-use Rattle.fo_flaws.specs.declared.flaw.FoFlaw.{FoFlaw}
 use Rattle.fo_flaws.specs.declared.flaw.Scope.{Scope}
-use Rattle.fo_flaws.specs.Flaws.{Found, or_later, sign_flaw, signs_flaw}
+use Rattle.fo_flaws.specs.Flaws.{sign_flaw, signs_flaw}
 
-pub stepped : (cs : List ℕ → Option ℕ) (scope : Scope) (m n k : ℕ) (limit : Found) (s : Sign) (ss whole : List Sign) (p : ℕ) (ps places : List ℕ) (total : Found) → whole ≡ s ∷ ss → places ≡ p ∷ ps → sign_flaw cs scope (m + n) (k + p) limit s ≡ None
+pub stepped : (cs : List Heading) (scope : Scope) (m n k : ℕ) (limit : Found) (s : Sign) (ss whole : List Sign) (p : ℕ) (ps places : List ℕ) (total : Found) → whole ≡ s ∷ ss → places ≡ p ∷ ps → sign_flaw cs scope (m + n) (k + p) limit s ≡ None
     → signs_flaw cs scope (m + n) k limit whole places ≡ total → signs_flaw cs scope (m + (n + 1)) k None ss ps ≡ total
 stepped cs scope m n k limit s ss whole p ps places total is at none so_far =
     let next : m + (n + 1) ≡ (m + n) + 1 = omega arith in
     ap (λ j. signs_flaw cs scope j k None ss ps) next ∙ sym (ap (λ f. or_later f (signs_flaw cs scope ((m + n) + 1) k None ss ps)) none) ∙ sym (ap (λ x. signs_flaw cs scope (m + n) k limit x (p ∷ ps)) is) ∙ sym (ap (signs_flaw cs scope (m + n) k limit whole) at) ∙ so_far
 
-pub faulty : (cs : List ℕ → Option ℕ) (scope : Scope) (m k : ℕ) (limit : Found) (s : Sign) (ss whole : List Sign) (p : ℕ) (ps places : List ℕ) (total : Found) (f : FoFlaw) → whole ≡ s ∷ ss → places ≡ p ∷ ps → sign_flaw cs scope m (k + p) limit s ≡ Some f
+pub faulty : (cs : List Heading) (scope : Scope) (m k : ℕ) (limit : Found) (s : Sign) (ss whole : List Sign) (p : ℕ) (ps places : List ℕ) (total : Found) (f : Flaw) → whole ≡ s ∷ ss → places ≡ p ∷ ps → sign_flaw cs scope m (k + p) limit s ≡ Some f
     → signs_flaw cs scope m k limit whole places ≡ total → total ≡ Some f
 faulty cs scope m k limit s ss whole p ps places total f is at some so_far =
     sym so_far ∙ ap (signs_flaw cs scope m k limit whole) at ∙ ap (λ x. signs_flaw cs scope m k limit x (p ∷ ps)) is ∙ ap (λ g. or_later g (signs_flaw cs scope (m + 1) k None ss ps)) some
 
-pub all-stepped : (cs : List ℕ → Option ℕ) (scope : Scope) (m k : ℕ) (limit : Found) (whole : List Sign) (places : List ℕ) (total : Found) → whole ≡ [] → signs_flaw cs scope m k limit whole places ≡ total → total ≡ None
+pub all-stepped : (cs : List Heading) (scope : Scope) (m k : ℕ) (limit : Found) (whole : List Sign) (places : List ℕ) (total : Found) → whole ≡ [] → signs_flaw cs scope m k limit whole places ≡ total → total ≡ None
 all-stepped cs scope m k limit whole places total none so_far = sym so_far ∙ ap (λ x. signs_flaw cs scope m k limit x places) none
 
 -- ---- room for places

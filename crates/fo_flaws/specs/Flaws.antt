@@ -1,43 +1,19 @@
 -- The first flaw of terms and atoms, in the order of their tokens; at one token the order of the table: unknown, arity,
 -- cases, atoms, terms. A ninth argument needs no place here: where all constructors and predicates have at most eight,
 -- the name before it has another number of arguments than it should.
-use Rattle.std.specs.Prelude.{◌≡◌, ℕ, ◌+◌, Bool, true, false, not, nat_eq, nat_lt, nat_le, List, [], ◌∷◌, length, drop, Option, Some, None, Result, Ok, Err}
+use Rattle.std.specs.Prelude.{◌≡◌, ℕ, ◌+◌, nat_lt, nat_le, List, [], ◌∷◌, length, drop, Some, None, Result, Ok, Err}
+use Rattle.cyc_lex.specs.declared.fault.IllFault.TheVariants.{Parameter}
+use Rattle.cyc_lex.specs.declared.fault.What.TheVariants.{Atoms, Locals, Terms, Variable as VariableLimit}
+use Rattle.heap_reader.specs.Trees.{Heading}
+use Rattle.heap_reader.specs.Flaws.{Found, ill_if, over_if, or_later, arity_in, use_flaw}
 use Rattle.fo_term_syntax.specs.Trees.{Sign, Variable, Local, Apply, Atom, Equation, Predicate}
 use Rattle.fo_term_syntax.specs.Places.{places_of, tokens_in}
-use Rattle.fo_flaws.specs.declared.flaw.FoIllFault.{FoIllFault}
-use Rattle.fo_flaws.specs.declared.flaw.FoIllFault.TheVariants.{Parameter, Unknown, Arity}
-use Rattle.fo_flaws.specs.declared.flaw.FoWhat.{FoWhat}
-use Rattle.fo_flaws.specs.declared.flaw.FoWhat.TheVariants.{Atoms, Locals, Terms, Variable as VariableLimit}
-use Rattle.fo_flaws.specs.declared.flaw.FoItem.TheVariants.{Ill, Over}
-use Rattle.fo_flaws.specs.declared.flaw.FoFlaw.{FoFlaw}
 use Rattle.fo_flaws.specs.declared.flaw.Scope.{Scope}
 use Rattle.fo_flaws.specs.declared.flaw.Scope.TheVariants.{Node, Case}
 use Rattle.fo_flaws.specs.declared.flaw.Reached.{Reached}
 use Rattle.fo_flaws.specs.declared.flaw.Stop.{Stop}
 use Rattle.fo_flaws.specs.declared.flaw.Stop.TheVariants.{Flaw, OutOfMemory}
 use Rattle.fo_flaws.specs.Spans.{atom_span, terms_in}
-
--- a flaw, or none
-abbrev pub Found : Type 0
-Found = Option FoFlaw
-
-abbrev pub ill_if : Bool → FoIllFault → ℕ → Found
-ill_if true fault k = Some (record { item = Ill fault; token = k })
-ill_if false fault k = None
-
-abbrev pub over_if : Bool → FoWhat → ℕ → Found
-over_if true what k = Some (record { item = Over what; token = k })
-over_if false what k = None
-
--- the first of two
-abbrev pub or_later : Found → Found → Found
-or_later (Some flaw) later = Some flaw
-or_later None later = later
-
--- a name that is known with so many arguments, if it is, is used with n
-abbrev pub use_flaw : Option ℕ → ℕ → ℕ → Found
-use_flaw None n k = ill_if true Unknown k
-use_flaw (Some arity) n k = ill_if (not (nat_eq n arity)) Arity k
 
 -- in a case $n is a parameter; elsewhere a number is at most 65,534
 abbrev pub variable_flaw : Scope → ℕ → ℕ → Found
@@ -48,13 +24,13 @@ variable_flaw (Case arity) k n = ill_if (nat_le arity n) Parameter k
 abbrev pub terms_flaw : ℕ → ℕ → Found
 terms_flaw m k = over_if (nat_le 4096 m) Terms k
 
--- Each sign begins at token k, with m terms before it; constructors tells their numbers of arguments; limit is what the
+-- Each sign begins at token k, with m terms before it; limit is what the
 -- case or the list of atoms that begins here has against it.
-module _ (constructors : List ℕ → Option ℕ) (scope : Scope) where
+module _ (constructors : List Heading) (scope : Scope) where
   abbrev pub sign_flaw : ℕ → ℕ → Found → Sign → Found
   sign_flaw m k limit (Variable n) = or_later limit (or_later (terms_flaw m k) (variable_flaw scope (k + 1) n))
   sign_flaw m k limit (Local n) = or_later limit (or_later (terms_flaw m k) (over_if (nat_lt 15 n) Locals (k + 1)))
-  sign_flaw m k limit (Apply name n) = or_later (use_flaw (constructors name) n k) (or_later limit (terms_flaw m k))
+  sign_flaw m k limit (Apply name n) = or_later (use_flaw (arity_in constructors name) n k) (or_later limit (terms_flaw m k))
 
   -- signs at these places, counted from token k on
   abbrev pub signs_flaw : ℕ → ℕ → Found → List Sign → List ℕ → Found
@@ -65,13 +41,12 @@ module _ (constructors : List ℕ → Option ℕ) (scope : Scope) where
   abbrev pub term_flaw : ℕ → ℕ → Found → List Sign → Found
   term_flaw m k limit t = signs_flaw m k limit t (places_of t)
 
-  -- predicates tells their numbers of arguments
-  module _ (predicates : List ℕ → Option ℕ) where
+  module _ (predicates : List Heading) where
     abbrev pub predicate_flaw : ℕ → ℕ → Found → List Sign → Found
     predicate_flaw m k limit [] = None
     predicate_flaw m k limit (Variable n ∷ ss) = None
     predicate_flaw m k limit (Local n ∷ ss) = None
-    predicate_flaw m k limit (Apply name n ∷ ss) = or_later (use_flaw (predicates name) n k) (or_later limit (signs_flaw m k None ss (drop 1 (places_of (Apply name n ∷ ss)))))
+    predicate_flaw m k limit (Apply name n ∷ ss) = or_later (use_flaw (arity_in predicates name) n k) (or_later limit (signs_flaw m k None ss (drop 1 (places_of (Apply name n ∷ ss)))))
 
     abbrev pub atom_flaw : ℕ → ℕ → Found → Atom → Found
     atom_flaw m k limit (Equation t u) = or_later (term_flaw m k limit t) (term_flaw (m + length t) (k + tokens_in t + 1) None u)
@@ -95,8 +70,3 @@ abbrev pub IsWalk : Result Reached Stop → Found → ℕ → ℕ → Type 0
 IsWalk (Ok reached) found token terms = (found ≡ None) × ((reached.token ≡ token) × (reached.terms ≡ terms))
 IsWalk (Err (Flaw flaw)) found token terms = found ≡ Some flaw
 IsWalk (Err OutOfMemory) found token terms = Unit {0}
-
--- there is no flaw, or this one
-abbrev pub IsName : Result (Unit {0}) FoFlaw → Found → Type 0
-IsName (Ok _) found = found ≡ None
-IsName (Err flaw) found = found ≡ Some flaw

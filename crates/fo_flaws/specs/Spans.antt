@@ -1,5 +1,7 @@
 -- How many tokens atoms have, the one token behind a part counted in, and how many terms.
 use Rattle.std.specs.Prelude.{ℕ, ◌+◌, List, [], ◌∷◌, length}
+use Rattle.heap_formula.specs.Words.{Each}
+use Rattle.heap_reader.specs.Spans.{total, total_or}
 use Rattle.fo_term_syntax.specs.Trees.{Sign, Atom, Equation, Predicate}
 use Rattle.fo_term_syntax.specs.Grammar.{IsTerm, IsApplication}
 use Rattle.fo_term_syntax.specs.Places.{tokens_in}
@@ -9,13 +11,11 @@ atom_span (Equation t u) = tokens_in t + 1 + tokens_in u + 1
 atom_span (Predicate t) = tokens_in t + 1
 
 abbrev pub total_span : List Atom → ℕ
-total_span [] = 0
-total_span (a ∷ more) = atom_span a + total_span more
+total_span xs = total atom_span xs
 
 -- one word where there is no atom
 abbrev pub atoms_span : List Atom → ℕ
-atoms_span [] = 2
-atoms_span (a ∷ more) = total_span (a ∷ more)
+atoms_span xs = total_or 2 atom_span xs
 
 -- variables and applications; a predicate is none
 abbrev pub behind_first : List Sign → ℕ
@@ -27,8 +27,7 @@ terms_in (Equation t u) = length t + length u
 terms_in (Predicate t) = behind_first t
 
 abbrev pub total_terms : List Atom → ℕ
-total_terms [] = 0
-total_terms (a ∷ more) = terms_in a + total_terms more
+total_terms xs = total terms_in xs
 
 -- an atom of two terms, or of a predicate's name with its arguments
 abbrev pub IsAtom : Atom → Type 0
@@ -36,5 +35,4 @@ IsAtom (Equation t u) = IsTerm t × IsTerm u
 IsAtom (Predicate t) = IsApplication t
 
 abbrev pub AreAtoms : List Atom → Type 0
-AreAtoms [] = Unit {0}
-AreAtoms (a ∷ more) = IsAtom a × AreAtoms more
+AreAtoms xs = Each IsAtom xs

@@ -5,20 +5,23 @@ ghost use Rattle.fo_term_syntax.specs.Trees.{AreTerms, Apply, Equation, Predicat
 ghost use Rattle.fo_term_syntax.specs.Grammar.{IsTerm, IsApplication};
 ghost use Rattle.fo_term_syntax.specs.Places.{places_of as places_in, tokens_in};
 ghost use Rattle.fo_term_syntax.proofs.PlaceLaws.{HaveRoom};
-ghost use Rattle.fo_flaws.specs.declared.flaw.FoWhat.TheVariants.{Atoms};
+ghost use Rattle.cyc_lex.specs.declared.fault.What.TheVariants.{Atoms};
 ghost use Rattle.fo_flaws.specs.Spans.{atom_span, total_span, atoms_span, behind_first, terms_in, total_terms, IsAtom, AreAtoms};
-ghost use Rattle.fo_flaws.specs.Flaws.{or_later, over_if, use_flaw, signs_flaw, term_flaw, predicate_flaw, atom_flaw, atoms_flaw, side_flaw, IsWalk, IsName};
+ghost use Rattle.heap_reader.specs.Flaws.{or_later, over_if, arity_in, use_flaw, IsName};
+ghost use Rattle.fo_flaws.specs.Flaws.{signs_flaw, term_flaw, predicate_flaw, atom_flaw, atoms_flaw, side_flaw, IsWalk};
 
-use crate::flaw::{Arities, FoFlaw, FoWhat, Reached, Scope, Stop, over};
+use crate::flaw::{Reached, Scope, Stop};
 use crate::term_walk::{check_limit, check_use, walk_signs, walk_term};
+use cyc_lex::What;
 use fo_term_syntax::{AtomTree, SignTree, places_of};
+use heap_reader::{Flaw, Heads, over};
 use std::alloc::Global;
 
-fn walk_equation<A: Arities>(
+fn walk_equation(
     alloc: Global,
-    constructors: &A,
+    constructors: &Heads<'_>,
     scope: Scope,
-    limit: Option<FoFlaw>,
+    limit: Option<Flaw>,
     from: Reached,
     left: &[SignTree<'_>],
     right: &[SignTree<'_>],
@@ -27,7 +30,7 @@ fn walk_equation<A: Arities>(
     requires right { IsTerm (map sign_of right.now) }
     requires tokens { from.token + (tokens_in (map sign_of left.now) + 1 + tokens_in (map sign_of right.now) + 1) < 2 ^ 64 }
     requires terms { from.terms + (length left.now + length right.now) < 2 ^ 64 }
-    ensures { IsWalk result (or_later (term_flaw (A.arity constructors.now) scope from.terms from.token limit (map sign_of left.now)) (term_flaw (A.arity constructors.now) scope (from.terms + length (map sign_of left.now)) (from.token + tokens_in (map sign_of left.now) + 1) None (map sign_of right.now))) (from.token + (tokens_in (map sign_of left.now) + 1 + tokens_in (map sign_of right.now) + 1)) (from.terms + (length left.now + length right.now)) }
+    ensures { IsWalk result (or_later (term_flaw constructors.now scope from.terms from.token limit (map sign_of left.now)) (term_flaw constructors.now scope (from.terms + length (map sign_of left.now)) (from.token + tokens_in (map sign_of left.now) + 1) None (map sign_of right.now))) (from.token + (tokens_in (map sign_of left.now) + 1 + tokens_in (map sign_of right.now) + 1)) (from.terms + (length left.now + length right.now)) }
 {
     let middle = walk_term(alloc, constructors, scope, limit, from, left)?;
     let behind_sign = Reached {
@@ -41,21 +44,21 @@ fn walk_equation<A: Arities>(
     })
 }
 
-fn check_predicate<A: Arities>(
-    constructors: &A,
-    predicates: &A,
+fn check_predicate(
+    constructors: &Heads<'_>,
+    predicates: &Heads<'_>,
     scope: Scope,
-    limit: Option<FoFlaw>,
+    limit: Option<Flaw>,
     from: Reached,
     name: &str,
     arguments: usize,
     signs: &[SignTree<'_>],
     places: &[usize],
-) -> Result<(), FoFlaw>
+) -> Result<(), Flaw>
     requires each { length signs.now < length places.now }
     requires room { HaveRoom (2 ^ 64 - (from.token + 1)) places.now }
     requires terms { from.terms + length signs.now < 2 ^ 64 }
-    ensures { IsName result (or_later (use_flaw (A.arity predicates.now name.now) arguments from.token) (or_later limit (signs_flaw (A.arity constructors.now) scope from.terms from.token None (map sign_of signs.now) places.now))) }
+    ensures { IsName result (or_later (use_flaw (arity_in predicates.now name.now) arguments from.token) (or_later limit (signs_flaw constructors.now scope from.terms from.token None (map sign_of signs.now) places.now))) }
 {
     check_use(predicates.arity_of(name), arguments, from.token)?;
     check_limit(limit)?;
@@ -63,11 +66,11 @@ fn check_predicate<A: Arities>(
 }
 
 /// A predicate's name with its arguments, which have these places, and the token behind them.
-fn walk_use<A: Arities>(
-    constructors: &A,
-    predicates: &A,
+fn walk_use(
+    constructors: &Heads<'_>,
+    predicates: &Heads<'_>,
     scope: Scope,
-    limit: Option<FoFlaw>,
+    limit: Option<Flaw>,
     from: Reached,
     name: &str,
     arguments: usize,
@@ -78,7 +81,7 @@ fn walk_use<A: Arities>(
     requires places { places.now ≡ places_in (Apply name.now arguments ∷ map sign_of others.now) }
     requires tokens { from.token + (tokens_in (Apply name.now arguments ∷ map sign_of others.now) + 1) < 2 ^ 64 }
     requires terms { from.terms + length others.now < 2 ^ 64 }
-    ensures { IsWalk result (predicate_flaw (A.arity constructors.now) scope (A.arity predicates.now) from.terms from.token limit (Apply name.now arguments ∷ map sign_of others.now)) (from.token + (tokens_in (Apply name.now arguments ∷ map sign_of others.now) + 1)) (from.terms + length others.now) }
+    ensures { IsWalk result (predicate_flaw constructors.now scope predicates.now from.terms from.token limit (Apply name.now arguments ∷ map sign_of others.now)) (from.token + (tokens_in (Apply name.now arguments ∷ map sign_of others.now) + 1)) (from.terms + length others.now) }
 {
     let last = places[others.len() + 1];
     let behind_name = &places[1..];
@@ -102,19 +105,19 @@ fn walk_use<A: Arities>(
 }
 
 /// A predicate's name with its arguments, and the token behind them.
-fn walk_predicate<A: Arities>(
+fn walk_predicate(
     alloc: Global,
-    constructors: &A,
-    predicates: &A,
+    constructors: &Heads<'_>,
+    predicates: &Heads<'_>,
     scope: Scope,
-    limit: Option<FoFlaw>,
+    limit: Option<Flaw>,
     from: Reached,
     signs: &[SignTree<'_>],
 ) -> Result<Reached, Stop>
     requires is { IsApplication (map sign_of signs.now) }
     requires tokens { from.token + (tokens_in (map sign_of signs.now) + 1) < 2 ^ 64 }
     requires terms { from.terms + behind_first (map sign_of signs.now) < 2 ^ 64 }
-    ensures { IsWalk result (predicate_flaw (A.arity constructors.now) scope (A.arity predicates.now) from.terms from.token limit (map sign_of signs.now)) (from.token + (tokens_in (map sign_of signs.now) + 1)) (from.terms + behind_first (map sign_of signs.now)) }
+    ensures { IsWalk result (predicate_flaw constructors.now scope predicates.now from.terms from.token limit (map sign_of signs.now)) (from.token + (tokens_in (map sign_of signs.now) + 1)) (from.terms + behind_first (map sign_of signs.now)) }
 {
     let places = places_of(alloc, signs)?;
     match signs {
@@ -137,19 +140,19 @@ fn walk_predicate<A: Arities>(
 
 /// An atom and the token behind it: its first flaw, or how far the walk is. `limit` is what the list that begins with
 /// this atom has against it.
-pub fn walk_atom<A: Arities>(
+pub fn walk_atom(
     alloc: Global,
-    constructors: &A,
-    predicates: &A,
+    constructors: &Heads<'_>,
+    predicates: &Heads<'_>,
     scope: Scope,
-    limit: Option<FoFlaw>,
+    limit: Option<Flaw>,
     from: Reached,
     tree: &AtomTree<'_>,
 ) -> Result<Reached, Stop>
     requires is { IsAtom (atom_of tree.now) }
     requires tokens { from.token + atom_span (atom_of tree.now) < 2 ^ 64 }
     requires terms { from.terms + terms_in (atom_of tree.now) < 2 ^ 64 }
-    ensures { IsWalk result (atom_flaw (A.arity constructors.now) scope (A.arity predicates.now) from.terms from.token limit (atom_of tree.now)) (from.token + atom_span (atom_of tree.now)) (from.terms + terms_in (atom_of tree.now)) }
+    ensures { IsWalk result (atom_flaw constructors.now scope predicates.now from.terms from.token limit (atom_of tree.now)) (from.token + atom_span (atom_of tree.now)) (from.terms + terms_in (atom_of tree.now)) }
 {
     match tree {
         AtomTree::Equation(left, right) => walk_equation(
@@ -174,29 +177,29 @@ pub fn walk_atom<A: Arities>(
 }
 
 /// What a list of at most so many atoms has against the atom before which n of them stand.
-fn limit_at(limit: Option<FoFlaw>, most: usize, n: usize, at: usize) -> Option<FoFlaw>
+fn limit_at(limit: Option<Flaw>, most: usize, n: usize, at: usize) -> Option<Flaw>
     ensures { result ≡ or_later limit (over_if (nat_le most n) Atoms at) }
 {
     match limit {
-        None if n >= most => Some(over(FoWhat::Atoms, at)),
+        None if n >= most => Some(over(What::Atoms, at)),
         _ => limit,
     }
 }
 
-fn walk_some_atoms<A: Arities>(
+fn walk_some_atoms(
     alloc: Global,
-    constructors: &A,
-    predicates: &A,
+    constructors: &Heads<'_>,
+    predicates: &Heads<'_>,
     scope: Scope,
     most: usize,
-    limit: Option<FoFlaw>,
+    limit: Option<Flaw>,
     from: Reached,
     trees: &[AtomTree<'_>],
 ) -> Result<Reached, Stop>
     requires are { AreAtoms (map atom_of trees.now) }
     requires tokens { from.token + total_span (map atom_of trees.now) < 2 ^ 64 }
     requires terms { from.terms + total_terms (map atom_of trees.now) < 2 ^ 64 }
-    ensures { IsWalk result (atoms_flaw (A.arity constructors.now) scope (A.arity predicates.now) most 0 from.terms from.token limit (map atom_of trees.now)) (from.token + total_span (map atom_of trees.now)) (from.terms + total_terms (map atom_of trees.now)) }
+    ensures { IsWalk result (atoms_flaw constructors.now scope predicates.now most 0 from.terms from.token limit (map atom_of trees.now)) (from.token + total_span (map atom_of trees.now)) (from.terms + total_terms (map atom_of trees.now)) }
 {
     let mut reached = from;
     let mut limit = limit;
@@ -210,20 +213,20 @@ fn walk_some_atoms<A: Arities>(
 
 /// A side of a sequent or a case, of at most so many atoms, and the token behind it: its first flaw, or how far the walk
 /// is. `limit` is what stands against it at its first token.
-pub fn walk_atoms<A: Arities>(
+pub fn walk_atoms(
     alloc: Global,
-    constructors: &A,
-    predicates: &A,
+    constructors: &Heads<'_>,
+    predicates: &Heads<'_>,
     scope: Scope,
     most: usize,
-    limit: Option<FoFlaw>,
+    limit: Option<Flaw>,
     from: Reached,
     trees: &[AtomTree<'_>],
 ) -> Result<Reached, Stop>
     requires are { AreAtoms (map atom_of trees.now) }
     requires tokens { from.token + atoms_span (map atom_of trees.now) < 2 ^ 64 }
     requires terms { from.terms + total_terms (map atom_of trees.now) < 2 ^ 64 }
-    ensures { IsWalk result (side_flaw (A.arity constructors.now) scope (A.arity predicates.now) most from.terms from.token limit (map atom_of trees.now)) (from.token + atoms_span (map atom_of trees.now)) (from.terms + total_terms (map atom_of trees.now)) }
+    ensures { IsWalk result (side_flaw constructors.now scope predicates.now most from.terms from.token limit (map atom_of trees.now)) (from.token + atoms_span (map atom_of trees.now)) (from.terms + total_terms (map atom_of trees.now)) }
 {
     if !trees.is_empty() {
         return walk_some_atoms(

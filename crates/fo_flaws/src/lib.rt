@@ -7,5 +7,5 @@ mod flaw;
 mod term_walk;
 
 pub use atom_walk::{walk_atom, walk_atoms};
-pub use flaw::{Arities, FoFlaw, FoIllFault, FoItem, FoWhat, Reached, Scope, Stop};
+pub use flaw::{Reached, Scope, Stop};
 pub use term_walk::walk_term;

@@ -5,44 +5,47 @@ ghost use Rattle.fo_term_syntax.specs.Trees.{sign_of};
 ghost use Rattle.fo_term_syntax.specs.Grammar.{IsTerm};
 ghost use Rattle.fo_term_syntax.specs.Places.{places_of as places_in, tokens_in};
 ghost use Rattle.fo_term_syntax.proofs.PlaceLaws.{HaveRoom};
-ghost use Rattle.fo_flaws.specs.Flaws.{use_flaw, variable_flaw, terms_flaw, sign_flaw, signs_flaw, term_flaw, IsWalk, IsName};
+ghost use Rattle.heap_reader.specs.Flaws.{use_flaw, IsName};
+ghost use Rattle.fo_flaws.specs.Flaws.{variable_flaw, terms_flaw, sign_flaw, signs_flaw, term_flaw, IsWalk};
 
-use crate::flaw::{Arities, FoFlaw, FoIllFault, FoWhat, Reached, Scope, Stop, ill, over};
+use crate::flaw::{Reached, Scope, Stop};
+use cyc_lex::{IllFault, What};
 use fo_term_syntax::{SignTree, places_of};
+use heap_reader::{Flaw, Heads, ill, over};
 use std::alloc::Global;
 
 /// A name that is known with so many arguments, if it is, is used with others.
-pub fn check_use(known: Option<u32>, arguments: usize, at: usize) -> Result<(), FoFlaw>
+pub fn check_use(known: Option<u32>, arguments: usize, at: usize) -> Result<(), Flaw>
     ensures { IsName result (use_flaw known arguments at) }
 {
     match known {
-        None => Err(ill(FoIllFault::Unknown, at)),
-        Some(arity) if arity as usize != arguments => Err(ill(FoIllFault::Arity, at)),
+        None => Err(ill(IllFault::Unknown, at)),
+        Some(arity) if arity as usize != arguments => Err(ill(IllFault::Arity, at)),
         Some(_) => Ok(()),
     }
 }
 
-fn check_variable(scope: Scope, at: usize, number: u32) -> Result<(), FoFlaw>
+fn check_variable(scope: Scope, at: usize, number: u32) -> Result<(), Flaw>
     ensures { IsName result (variable_flaw scope at number) }
 {
     match scope {
-        Scope::Node if number > 65534 => Err(over(FoWhat::Variable, at)),
-        Scope::Case(arity) if number >= arity => Err(ill(FoIllFault::Parameter, at)),
+        Scope::Node if number > 65534 => Err(over(What::Variable, at)),
+        Scope::Case(arity) if number >= arity => Err(ill(IllFault::Parameter, at)),
         _ => Ok(()),
     }
 }
 
-fn check_terms(terms: usize, at: usize) -> Result<(), FoFlaw>
+fn check_terms(terms: usize, at: usize) -> Result<(), Flaw>
     ensures { IsName result (terms_flaw terms at) }
 {
     if terms >= 4096 {
-        return Err(over(FoWhat::Terms, at));
+        return Err(over(What::Terms, at));
     }
     Ok(())
 }
 
 /// A flaw that is known already, or none.
-pub fn check_limit(limit: Option<FoFlaw>) -> Result<(), FoFlaw>
+pub fn check_limit(limit: Option<Flaw>) -> Result<(), Flaw>
     ensures { IsName result limit }
 {
     match limit {
@@ -51,16 +54,16 @@ pub fn check_limit(limit: Option<FoFlaw>) -> Result<(), FoFlaw>
     }
 }
 
-fn check_sign<A: Arities>(
-    names: &A,
+fn check_sign(
+    names: &Heads<'_>,
     scope: Scope,
     terms: usize,
     at: usize,
-    limit: Option<FoFlaw>,
+    limit: Option<Flaw>,
     sign: SignTree<'_>,
-) -> Result<(), FoFlaw>
+) -> Result<(), Flaw>
     requires { at + 1 < 2 ^ 64 }
-    ensures { IsName result (sign_flaw (A.arity names.now) scope terms at limit (sign_of sign.entry)) }
+    ensures { IsName result (sign_flaw names.now scope terms at limit (sign_of sign.entry)) }
 {
     match sign {
         SignTree::Variable(number) => {
@@ -72,7 +75,7 @@ fn check_sign<A: Arities>(
             check_limit(limit)?;
             check_terms(terms, at)?;
             if number > 15 {
-                return Err(over(FoWhat::Locals, at + 1));
+                return Err(over(What::Locals, at + 1));
             }
             Ok(())
         }
@@ -85,18 +88,18 @@ fn check_sign<A: Arities>(
 }
 
 /// Signs that begin at these places, counted from the token that is reached.
-pub fn walk_signs<A: Arities>(
-    names: &A,
+pub fn walk_signs(
+    names: &Heads<'_>,
     scope: Scope,
-    limit: Option<FoFlaw>,
+    limit: Option<Flaw>,
     from: Reached,
     signs: &[SignTree<'_>],
     places: &[usize],
-) -> Result<(), FoFlaw>
+) -> Result<(), Flaw>
     requires each { length signs.now < length places.now }
     requires room { HaveRoom (2 ^ 64 - (from.token + 1)) places.now }
     requires terms { from.terms + length signs.now < 2 ^ 64 }
-    ensures { IsName result (signs_flaw (A.arity names.now) scope from.terms from.token limit (map sign_of signs.now) places.now) }
+    ensures { IsName result (signs_flaw names.now scope from.terms from.token limit (map sign_of signs.now) places.now) }
 {
     let mut limit = limit;
     for (n, sign) in signs.iter().enumerate() {
@@ -116,18 +119,18 @@ pub fn walk_signs<A: Arities>(
 
 /// A term: its first flaw, or the token behind it and the number of terms with its own. `limit` is what the list that
 /// begins with this term has against it.
-pub fn walk_term<A: Arities>(
+pub fn walk_term(
     alloc: Global,
-    names: &A,
+    names: &Heads<'_>,
     scope: Scope,
-    limit: Option<FoFlaw>,
+    limit: Option<Flaw>,
     from: Reached,
     signs: &[SignTree<'_>],
 ) -> Result<Reached, Stop>
     requires is { IsTerm (map sign_of signs.now) }
     requires tokens { from.token + tokens_in (map sign_of signs.now) < 2 ^ 64 }
     requires terms { from.terms + length signs.now < 2 ^ 64 }
-    ensures { IsWalk result (term_flaw (A.arity names.now) scope from.terms from.token limit (map sign_of signs.now)) (from.token + tokens_in (map sign_of signs.now)) (from.terms + length signs.now) }
+    ensures { IsWalk result (term_flaw names.now scope from.terms from.token limit (map sign_of signs.now)) (from.token + tokens_in (map sign_of signs.now)) (from.terms + length signs.now) }
 {
     let places = places_of(alloc, signs)?;
     match walk_signs(names, scope, limit, from, signs, &places) {

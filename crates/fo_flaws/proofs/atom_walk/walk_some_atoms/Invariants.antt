@@ -6,7 +6,7 @@ use Rattle.fo_flaws.specs.Flaws.{atoms_flaw}
 use Rattle.fo_flaws.proofs.atom_walk.walk_some_atoms.Given as goal
 
 abbrev pub invariant-loop-n : goal.invariant-loop-n
-invariant-loop-n g l =
-    (atoms_flaw (g.A.Arities.arity l.fn.constructors) l.fn.scope (g.A.Arities.arity l.fn.predicates) l.fn.most l.n l.reached.terms l.reached.token l.limit (map atom_of (drop l.n l.trees)) ≡ atoms_flaw (g.A.Arities.arity l.fn.constructors) l.fn.scope (g.A.Arities.arity l.fn.predicates) l.fn.most 0 l.fn.from.terms l.fn.from.token l.fn.limit (map atom_of l.trees))
+invariant-loop-n l =
+    (atoms_flaw l.fn.constructors l.fn.scope l.fn.predicates l.fn.most l.n l.reached.terms l.reached.token l.limit (map atom_of (drop l.n l.trees)) ≡ atoms_flaw l.fn.constructors l.fn.scope l.fn.predicates l.fn.most 0 l.fn.from.terms l.fn.from.token l.fn.limit (map atom_of l.trees))
     × ((l.reached.token + total_span (map atom_of (drop l.n l.trees)) ≡ l.fn.from.token + total_span (map atom_of l.trees))
     × ((l.reached.terms + total_terms (map atom_of (drop l.n l.trees)) ≡ l.fn.from.terms + total_terms (map atom_of l.trees)) × AreAtoms (map atom_of (drop l.n l.trees))))

@@ -6,6 +6,6 @@ use Rattle.fo_flaws.specs.Flaws.{signs_flaw}
 use Rattle.fo_flaws.proofs.term_walk.walk_signs.Given as goal
 
 abbrev pub invariant-loop-n : goal.invariant-loop-n
-invariant-loop-n g l =
-    (signs_flaw (g.A.Arities.arity l.fn.names) l.fn.scope (l.fn.from.terms + l.n) l.fn.from.token l.limit (map sign_of (drop l.n l.signs)) (drop l.n l.places) ≡ signs_flaw (g.A.Arities.arity l.fn.names) l.fn.scope l.fn.from.terms l.fn.from.token l.fn.limit (map sign_of l.signs) l.places)
+invariant-loop-n l =
+    (signs_flaw l.fn.names l.fn.scope (l.fn.from.terms + l.n) l.fn.from.token l.limit (map sign_of (drop l.n l.signs)) (drop l.n l.places) ≡ signs_flaw l.fn.names l.fn.scope l.fn.from.terms l.fn.from.token l.fn.limit (map sign_of l.signs) l.places)
     × HaveRoom (18446744073709551616 - (l.fn.from.token + 1)) (drop l.n l.places)

@@ -1,0 +1,60 @@
+-- The parts of a text that fits fit.
+use Rattle.std.proofs.Common.{◌<◌, Bool, false, List, [], ◌∷◌, length, arith}
+use Rattle.heap_formula.specs.Words.{Each}
+use Rattle.cyc_grammar.specs.Syntax.{Class, after}
+use Rattle.heap_syntax.specs.Words.{comma}
+use Rattle.fo_term_syntax.specs.Trees.{Sign, Atom}
+use Rattle.fo_term_syntax.specs.Grammar.{term, atom}
+use Rattle.fo_problem_syntax.specs.Trees.{Definition, Problem}
+use Rattle.fo_problem_syntax.specs.Grammar.{atoms, atoms_or, constructors, definition, definitions, sequent, goal, problem_body, problem}
+use Rattle.fo_proof_syntax.specs.Trees.{Entry, Node, File}
+use Rattle.fo_proof_syntax.specs.Grammar.{terms, entry, entries, node, nodes, body, file}
+use Rattle.fo_file.proofs.Lists.{each-fits}
+
+pub sides-fit : (none : Class (Unit {0})) (b : Bool) (xs : List Atom) → (atoms_or none b).fits xs → Each (atom b).fits xs
+unfolding atoms_or atoms
+sides-fit none b [] f = tt
+sides-fit none b (a ∷ more) f = each-fits (after comma (atom b)) (a ∷ more) f.1.1
+
+pub terms-fit : (ts : List (List Sign)) → terms.fits ts → Each (term false).fits ts
+unfolding terms
+terms-fit [] f = tt
+terms-fit (t ∷ ts) f = each-fits (after comma (term false)) (t ∷ ts) f.1.1
+
+pub entries-fit : (es : List Entry) → entries.fits es → Each entry.fits es
+unfolding entries
+entries-fit [] f = tt
+entries-fit (e ∷ es) f = each-fits (after comma entry) (e ∷ es) f.1.1
+
+pub nodes-fit : (ns : List Node) → nodes.fits ns → Each node.fits ns
+unfolding nodes
+nodes-fit [] f = tt
+nodes-fit (n ∷ ns) f = (f.1.0, each-fits node ns f.1.1)
+
+pub some-node : (ns : List Node) → nodes.fits ns → 0 < length ns
+unfolding nodes
+some-node [] f = let some = f.0 in absurd (omega arith)
+some-node (n ∷ ns) f = omega arith
+
+pub definitions-fit : (ds : List Definition) → definitions.fits ds → Each definition.fits ds
+unfolding definitions
+definitions-fit ds f = each-fits definition ds f
+
+-- ---- texts
+
+pub record FileParts (f : File) : Type 0 where
+  pub constructors : constructors.fits f.constructors
+  pub definitions : definitions.fits f.definitions
+  pub nodes : nodes.fits f.nodes
+
+pub file-parts : (f : File) → file.fits f → FileParts f
+unfolding file body
+file-parts f fits = record { constructors = fits.1.0; definitions = fits.1.1.0; nodes = fits.1.1.1 }
+
+pub record ProblemParts (p : Problem) : Type 0 where
+  pub constructors : constructors.fits p.constructors
+  pub goal : sequent.fits p.goal
+
+pub problem-parts : (p : Problem) → problem.fits p → ProblemParts p
+unfolding problem problem_body goal
+problem-parts p fits = record { constructors = fits.1.0; goal = fits.1.1.1 }

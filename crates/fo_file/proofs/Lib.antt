@@ -1,0 +1,10 @@
+pub mod Lists
+pub mod Fitted
+pub mod Flawless
+pub mod FlawlessParts
+pub mod ArgumentTerms
+pub mod Open
+pub mod Said
+pub mod Readings
+pub mod Places
+pub mod ValuesAgain

@@ -1,0 +1,3 @@
+pub mod OfTerms
+pub mod Reading
+pub mod Questions

@@ -1,0 +1,13 @@
+//! Texts of first-order logic: reading proofs and problems, with the exact place of each fault, and writing a proof that
+//! is read again.
+#![tactic(auto)]
+
+mod problem_reading;
+mod reading;
+mod writing;
+
+pub use fo_formula::FoFile;
+pub use fo_values::FoProblem;
+pub use problem_reading::{bytes_spell_one_problem, read_fo_problem};
+pub use reading::read_fo;
+pub use writing::{bytes_spell_one_file, write_fo, written_files_are_read_again};

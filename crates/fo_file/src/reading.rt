@@ -1,0 +1,76 @@
+//! Reading a proof: its tokens, its tree, the first flaw of the tree, and its value.
+
+ghost use Rattle.std.specs.Prelude.{◌≡◌, ◌-◌, ◌<◌, ◌^◌, None, length, map, IfOk};
+ghost use Rattle.cyc_lex.specs.Word.{EndsOnce, word_of};
+ghost use Rattle.fo_nodes.specs.Files.{IsFoProof};
+ghost use Rattle.fo_proof_syntax.specs.Grammar.{file};
+ghost use Rattle.fo_proof_syntax.specs.Trees.{file_of};
+ghost use Rattle.fo_walk.specs.Flaws.{constructor_heads, predicate_heads, file_flaw as first_flaw};
+ghost use Rattle.fo_file.specs.Reading.{IsFileOf, IsWritable, ReadsFrom, Reads};
+
+use cyc_lex::{LexFault, ReadFault, Tokens, tokens};
+use cyc_memory::OutOfMemory;
+use fo_formula::FoFile;
+use fo_proof_syntax::{FileTree, read_tree};
+use fo_values::file_value;
+use fo_walk::{Names, file_flaw};
+use heap_reader::flaw_fault;
+use std::alloc::Global;
+
+/// The proof that a tree without a flaw says.
+fn file_of_tree(
+    alloc: Global,
+    names: &Names<'_>,
+    tree: &FileTree<'_>,
+) -> Result<FoFile, OutOfMemory>
+    requires constructors { names.now.constructors ≡ constructor_heads (file_of tree.now).constructors }
+    requires predicates { names.now.predicates ≡ predicate_heads (file_of tree.now).definitions }
+    requires fits { file.fits (file_of tree.now) }
+    requires right { first_flaw (file_of tree.now) ≡ None }
+    ensures says { IfOk result (IsFileOf (file_of tree.now)) }
+    ensures proof { IfOk result IsFoProof }
+    ensures writable { IfOk result IsWritable }
+{
+    file_value(alloc, &names.constructors, &names.predicates, tree)
+}
+
+fn read_tokens(alloc: Global, tokens: &Tokens<'_>) -> Result<FoFile, ReadFault>
+    requires few { length tokens.now < 2 ^ 32 }
+    requires words { EndsOnce (map word_of tokens.now) }
+    ensures reads { ReadsFrom tokens.now result }
+    ensures proof { IfOk result IsFoProof }
+    ensures writable { IfOk result IsWritable }
+{
+    let tree = match read_tree(alloc, tokens) {
+        Ok(tree) => tree,
+        Err(fault) => return Err(fault),
+    };
+    let names = match Names::new(alloc, &tree.constructors, &tree.definitions) {
+        Ok(names) => names,
+        Err(OutOfMemory) => return Err(ReadFault::OutOfMemory),
+    };
+    match file_flaw(alloc, &names, &tree) {
+        Ok(None) => {}
+        Ok(Some(flaw)) => return Err(flaw_fault(tokens, flaw)),
+        Err(OutOfMemory) => return Err(ReadFault::OutOfMemory),
+    }
+    match file_of_tree(alloc, &names, &tree) {
+        Ok(file) => Ok(file),
+        Err(OutOfMemory) => Err(ReadFault::OutOfMemory),
+    }
+}
+
+/// The proof that the bytes spell, or the first fault of the text: of its tokens, then of its grammar, then of what it
+/// says, each at the first place where it stands.
+pub fn read_fo(alloc: Global, bytes: &[u8]) -> Result<FoFile, ReadFault>
+    requires { length bytes.now < 2 ^ 32 - 1 }
+    ensures reads { Reads bytes.now result }
+    ensures proof { IfOk result IsFoProof }
+    ensures writable { IfOk result IsWritable }
+{
+    match tokens(alloc, bytes) {
+        Ok(tokens) => read_tokens(alloc, &tokens),
+        Err(LexFault::OutOfMemory) => Err(ReadFault::OutOfMemory),
+        Err(fault) => Err(ReadFault::Lex(fault)),
+    }
+}

@@ -1,0 +1,4 @@
+pub mod Counts
+pub mod Parsed
+pub mod SpanLaws
+pub mod WithinSpans

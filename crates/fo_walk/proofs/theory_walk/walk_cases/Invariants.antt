@@ -1,0 +1,13 @@
+use Rattle.std.proofs.Common.{◌≡◌, ◌+◌, drop, map}
+use Rattle.heap_formula.specs.Words.{Each}
+use Rattle.heap_reader.specs.Spans.{total}
+use Rattle.heap_reader.specs.Flaws.{listed_flaw}
+use Rattle.fo_problem_syntax.specs.Trees.{atoms_of}
+use Rattle.fo_flaws.specs.Spans.{atoms_span, AreAtoms}
+use Rattle.fo_walk.specs.Flaws.{case_flaw}
+use Rattle.fo_walk.proofs.theory_walk.walk_cases.Given as goal
+
+abbrev pub invariant-loop-n : goal.invariant-loop-n
+invariant-loop-n l =
+    (listed_flaw (case_flaw l.names.constructors l.names.predicates l.arity) atoms_span l.n l.next (map atoms_of (drop l.n l.trees)) ≡ listed_flaw (case_flaw l.names.constructors l.names.predicates l.arity) atoms_span 0 l.fn.at (map atoms_of l.trees))
+    × ((l.next + total atoms_span (map atoms_of (drop l.n l.trees)) ≡ l.fn.at + total atoms_span (map atoms_of l.trees)) × Each AreAtoms (map atoms_of (drop l.n l.trees)))

@@ -1,0 +1,4 @@
+pub mod Parts
+pub mod Spans
+pub mod Flaws
+pub mod Answers

@@ -1,0 +1,122 @@
+//! A walk over sequents and nodes in the order of their tokens, up to the first flaw.
+
+ghost use Rattle.std.specs.Prelude.{◌≡◌, ◌+◌, ◌<◌, ◌^◌, map, None};
+ghost use Rattle.heap_formula.specs.Words.{Each};
+ghost use Rattle.heap_reader.specs.Spans.{total};
+ghost use Rattle.fo_term_syntax.specs.Trees.{atom_of};
+ghost use Rattle.fo_problem_syntax.specs.Trees.{sequent_of};
+ghost use Rattle.fo_proof_syntax.specs.Trees.{node_of};
+ghost use Rattle.fo_flaws.specs.declared.flaw.Scope.TheVariants.{Node};
+ghost use Rattle.fo_flaws.specs.Spans.{atoms_span, total_terms, AreAtoms};
+ghost use Rattle.fo_flaws.specs.Flaws.{side_flaw, IsWalk};
+ghost use Rattle.fo_walk.specs.Parts.{IsSequent, IsNode};
+ghost use Rattle.fo_walk.specs.Spans.{sequent_span, sequent_terms, premises_span, node_span};
+ghost use Rattle.fo_walk.specs.Flaws.{sequent_flaw, node_flaw, nodes_flaw};
+ghost use Rattle.fo_walk.specs.Answers.{IsPassed};
+
+use crate::known::Names;
+use crate::reason_walk::walk_reason;
+use cyc_lex::What;
+use fo_flaws::{Reached, Scope, Stop, walk_atoms};
+use fo_problem_syntax::SequentTree;
+use fo_proof_syntax::NodeTree;
+use fo_term_syntax::AtomTree;
+use heap_reader::over;
+use std::alloc::Global;
+
+/// A side of a sequent, of at most so many atoms, and the token behind it.
+fn walk_side(
+    alloc: Global,
+    names: &Names<'_>,
+    most: usize,
+    from: Reached,
+    trees: &[AtomTree<'_>],
+) -> Result<Reached, Stop>
+    requires are { AreAtoms (map atom_of trees.now) }
+    requires tokens { from.token + atoms_span (map atom_of trees.now) < 2 ^ 64 }
+    requires terms { from.terms + total_terms (map atom_of trees.now) < 2 ^ 64 }
+    ensures { IsWalk result (side_flaw names.now.constructors Node names.now.predicates most from.terms from.token None (map atom_of trees.now))
+        (from.token + atoms_span (map atom_of trees.now)) (from.terms + total_terms (map atom_of trees.now)) }
+{
+    walk_atoms(
+        alloc,
+        &names.constructors,
+        &names.predicates,
+        Scope::Node,
+        most,
+        None,
+        from,
+        trees,
+    )
+}
+
+/// A sequent and the token behind it, with the number of its terms.
+pub fn walk_sequent(
+    alloc: Global,
+    names: &Names<'_>,
+    at: usize,
+    tree: &SequentTree<'_>,
+) -> Result<Reached, Stop>
+    requires is { IsSequent (sequent_of tree.now) }
+    requires fits { at + sequent_span (sequent_of tree.now) < 2 ^ 64 }
+    ensures { IsWalk result (sequent_flaw names.now.constructors names.now.predicates at (sequent_of tree.now))
+        (at + sequent_span (sequent_of tree.now)) (sequent_terms (sequent_of tree.now)) }
+{
+    let from = Reached {
+        token: at,
+        terms: 0,
+    };
+    let middle = walk_side(alloc, names, 32, from, &tree.left)?;
+    walk_side(alloc, names, 16, middle, &tree.right)
+}
+
+/// The token behind the premises, which stand behind the token of this number.
+fn behind_premises(at: usize, premises: &[u32]) -> usize
+    requires { at + premises_span premises.now < 2 ^ 64 }
+    ensures { result ≡ at + premises_span premises.now }
+{
+    if premises.is_empty() {
+        return at;
+    }
+    at + premises.len() + 1
+}
+
+/// A node before which n of all stand.
+fn walk_node(
+    alloc: Global,
+    names: &Names<'_>,
+    n: usize,
+    at: usize,
+    tree: &NodeTree<'_>,
+) -> Result<usize, Stop>
+    requires is { IsNode (node_of tree.now) }
+    requires fits { at + node_span (node_of tree.now) < 2 ^ 64 }
+    ensures { IsPassed result (node_flaw names.now.constructors names.now.predicates n at (node_of tree.now))
+        (at + node_span (node_of tree.now)) }
+{
+    if n >= 20000 {
+        return Err(Stop::Flaw(over(What::Nodes, at)));
+    }
+    let reached = walk_sequent(alloc, names, at + 1, &tree.sequent)?;
+    let behind = walk_reason(alloc, names, reached, &tree.reason)?;
+    Ok(behind_premises(behind, &tree.premises))
+}
+
+/// The nodes of a proof, the first of which begins at a token.
+pub fn walk_nodes(
+    alloc: Global,
+    names: &Names<'_>,
+    at: usize,
+    trees: &[NodeTree<'_>],
+) -> Result<usize, Stop>
+    requires are { Each IsNode (map node_of trees.now) }
+    requires fits { at + total node_span (map node_of trees.now) < 2 ^ 64 }
+    ensures { IsPassed result (nodes_flaw names.now.constructors names.now.predicates at (map node_of trees.now))
+        (at + total node_span (map node_of trees.now)) }
+{
+    let mut next = at;
+    for (n, tree) in trees.iter().enumerate() {
+        next = walk_node(alloc, names, n, next, tree)?;
+    }
+    Ok(next)
+}
