@@ -16,7 +16,7 @@ fail() { # MESSAGE
 
 while IFS='|' read -r file status text; do
   case $file in '#'*|'') continue ;; esac
-  case $file in *.model) command=model ;; *) command=check ;; esac
+  case $file in *.model) command=model ;; *.fo) command=fo-check ;; *) command=check ;; esac
   got=$("$program" "$command" < "$here/$file")
   code=$?
   # (a text with a star is a pattern: which path without progress is named, where there are several, is left open)

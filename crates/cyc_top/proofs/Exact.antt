@@ -15,17 +15,20 @@ use Rattle.proof_check.specs.declared.verdict.Verdict.TheVariants.{Accepted, Rul
 use Rattle.proof_check.specs.Verdicts.{file_graph, state_limit, IsCorrect, IsVerdict, RootHolds}
 use Rattle.buchi_inclusion.specs.Answers.{HasAtMost}
 use Rattle.buchi_inclusion.proofs.Exact.{not_both}
+use Rattle.fo_formula.specs.declared.nodes.FoFile.{FoFile}
+use Rattle.fo_file.specs.Reading as first_order
+use Rattle.fo_logic.specs.Verdicts as first_order_verdicts
 use Rattle.proof_search.specs.declared.prover.Proved.{Proved}
 use Rattle.proof_search.specs.declared.prover.Proved.TheVariants.{Found, NotFound, TooManyDerivations}
 use Rattle.proof_search.specs.declared.prover.Proved.TheVariants as answers
 use Rattle.proof_search.specs.Outcomes.{search_for, IsProved}
 use Rattle.cyc_words.specs.Words.{reads_input}
 use Rattle.cyc_words.specs.declared.tasks.Task.{Task}
-use Rattle.cyc_words.specs.declared.tasks.Task.TheVariants.{Check, Prove, Ring, Upgrade, Sat, Model, Disprove}
+use Rattle.cyc_words.specs.declared.tasks.Task.TheVariants.{Check, Prove, Ring, Upgrade, Sat, Model, Disprove, FirstOrderCheck}
 use Rattle.cyc_runs.specs.declared.endings.Status.{Status}
 use Rattle.cyc_runs.specs.declared.endings.Status.TheVariants as status
 use Rattle.cyc_runs.specs.Endings.{is_answer}
-use Rattle.cyc_runs.specs.Runs.{IsTold, input_limit}
+use Rattle.cyc_runs.specs.Runs.{Answering, IsAnswerOf, IsTold, input_limit}
 use Rattle.cyc_runs.proofs.WaysToEnd.{ending_kind, ended_so as run_ended_so, fault_fails, fault_is_no_refusal}
 use Rattle.cyc_runs.proofs.Told.{told_is}
 use Rattle.cyc_top.specs.Answers.{Answers, IsAnswer, IsChecked, IsHeadline, IsRefusal, IsReadAnswer, IsUnrefuted, IsSearchAnswer, IsSearched, IsUpgradeAnswer, IsUpgraded, WroteAnswer, WroteModel, WroteProof, derivation_limit, proved_status, proved_text, verdict_status}
@@ -33,9 +36,13 @@ use Rattle.reading_laws.specs.Alike.{AreAlike}
 use Rattle.reading_laws.proofs.Readings.{one_file_reading, one_problem_reading}
 use Rattle.cyc_top.proofs.OneVerdict.{one_ending, right_faulty, same_back, same_few, same_file, same_progress}
 use Rattle.cyc_top.proofs.OneSearch.{one_search, found_search, goal_holds, proof_accepted}
-use Rattle.model_answers.specs.Answers.{holds_text}
+use Rattle.model_answers.specs.Answers.{IsModelled, holds_text}
+use Rattle.disprove_answers.specs.Answers.{IsDisproved}
+use Rattle.sat_answers.specs.Answers.{IsAsked}
+use Rattle.fo_answers.specs.Answers.{IsFirstOrderChecked}
 use Rattle.model_answers.proofs.OneAnswer.{model_short, modelled_ends, refusal_fails, success_satisfies}
 use Rattle.disprove_answers.proofs.OneAnswer.{disprove_refuses_not, disproved_ends, disproved_short, model_holds, none_found, success_refutes}
+use Rattle.fo_answers.proofs.OneAnswer.{correct_accepted, first_order_ends, first_order_short, refusal_incorrect as first_order_incorrect, success_holds as first_order_holds}
 use Rattle.sat_answers.proofs.OneAnswer.{asked_ends, refusal_impossible, success_possible}
 
 -- ---- an input that was read in one way is answered with one status
@@ -74,33 +81,26 @@ upgraded_ends : (input : List ℕ) (s t : Status) (xs ys : List ℕ) → IsUpgra
 upgraded_ends input s t xs ys first second =
     upgrade_answer_ends first.1 second.1 s t xs ys (one_file_reading input first.1 second.1 first.2 second.2) first.3 second.3
 
+-- what answers each input within the limit with one status does so beside the answer to an input that is too long
+one_of : (answers : Answering) → ((input : List ℕ) (s t : Status) (xs ys : List ℕ) → answers input s xs → answers input t ys → s ≡ t) → ((input : List ℕ) (s : Status) (xs : List ℕ) → answers input s xs → length input ≤ input_limit) → (input : List ℕ) (s t : Status) (xs ys : List ℕ) → IsAnswerOf answers input s xs → IsAnswerOf answers input t ys → s ≡ t
+one_of answers ends short input s t xs ys (inl first) (inl second) = first.1 ∙ sym second.1
+one_of answers ends short input s t xs ys (inr first) (inr second) = ends input s t xs ys first second
+one_of answers ends short input s t xs ys (inl first) (inr second) = absurd (omega (arith, first.0, short input t ys second))
+one_of answers ends short input s t xs ys (inr first) (inl second) = absurd (omega (arith, short input s xs first, second.0))
+
 -- a task is answered for an input with one status
 pub one_status : (task : Option Task) (input : List ℕ) (s t : Status) (xs ys : List ℕ) → IsAnswer task input s xs → IsAnswer task input t ys → s ≡ t
 one_status None input s t xs ys first second = first.0 ∙ sym second.0
-one_status (Some Check) input s t xs ys (inl first) (inl second) = first.1 ∙ sym second.1
-one_status (Some Check) input s t xs ys (inr first) (inr second) = checked_ends input s t xs ys first second
-one_status (Some Check) input s t xs ys (inl first) (inr second) = absurd (omega (arith, first.0, second.0))
-one_status (Some Check) input s t xs ys (inr first) (inl second) = absurd (omega (arith, first.0, second.0))
-one_status (Some (Prove depth)) input s t xs ys (inl first) (inl second) = first.1 ∙ sym second.1
-one_status (Some (Prove depth)) input s t xs ys (inr first) (inr second) = searched_ends depth input s t xs ys first second
-one_status (Some (Prove depth)) input s t xs ys (inl first) (inr second) = absurd (omega (arith, first.0, second.0))
-one_status (Some (Prove depth)) input s t xs ys (inr first) (inl second) = absurd (omega (arith, first.0, second.0))
-one_status (Some Upgrade) input s t xs ys (inl first) (inl second) = first.1 ∙ sym second.1
-one_status (Some Upgrade) input s t xs ys (inr first) (inr second) = upgraded_ends input s t xs ys first second
-one_status (Some Upgrade) input s t xs ys (inl first) (inr second) = absurd (omega (arith, first.0, second.0))
-one_status (Some Upgrade) input s t xs ys (inr first) (inl second) = absurd (omega (arith, first.0, second.0))
-one_status (Some Sat) input s t xs ys (inl first) (inl second) = first.1 ∙ sym second.1
-one_status (Some Sat) input s t xs ys (inr first) (inr second) = asked_ends input s t xs ys first second
-one_status (Some Sat) input s t xs ys (inl first) (inr second) = absurd (omega (arith, first.0, second.0))
-one_status (Some Sat) input s t xs ys (inr first) (inl second) = absurd (omega (arith, first.0, second.0))
-one_status (Some Model) input s t xs ys (inl first) (inl second) = first.1 ∙ sym second.1
-one_status (Some Model) input s t xs ys (inr first) (inr second) = modelled_ends input s t xs ys first second
-one_status (Some Model) input s t xs ys (inl first) (inr second) = absurd (omega (arith, first.0, model_short input t ys second))
-one_status (Some Model) input s t xs ys (inr first) (inl second) = absurd (omega (arith, model_short input s xs first, second.0))
-one_status (Some (Disprove cells)) input s t xs ys (inl first) (inl second) = first.1 ∙ sym second.1
-one_status (Some (Disprove cells)) input s t xs ys (inr first) (inr second) = disproved_ends cells input s t xs ys first second
-one_status (Some (Disprove cells)) input s t xs ys (inl first) (inr second) = absurd (omega (arith, first.0, disproved_short cells input t ys second))
-one_status (Some (Disprove cells)) input s t xs ys (inr first) (inl second) = absurd (omega (arith, disproved_short cells input s xs first, second.0))
+one_status (Some Check) input s t xs ys first second = one_of IsChecked checked_ends (λ i u zs is. is.0) input s t xs ys first second
+one_status (Some (Prove depth)) input s t xs ys first second =
+    one_of (IsSearched depth) (searched_ends depth) (λ i u zs is. is.0) input s t xs ys first second
+one_status (Some Upgrade) input s t xs ys first second = one_of IsUpgraded upgraded_ends (λ i u zs is. is.0) input s t xs ys first second
+one_status (Some Sat) input s t xs ys first second = one_of IsAsked asked_ends (λ i u zs is. is.0) input s t xs ys first second
+one_status (Some Model) input s t xs ys first second = one_of IsModelled modelled_ends model_short input s t xs ys first second
+one_status (Some (Disprove cells)) input s t xs ys first second =
+    one_of (IsDisproved cells) (disproved_ends cells) (disproved_short cells) input s t xs ys first second
+one_status (Some FirstOrderCheck) input s t xs ys first second =
+    one_of IsFirstOrderChecked first_order_ends first_order_short input s t xs ys first second
 one_status (Some (Ring k)) input s t xs ys first second = first.0 ∙ sym second.0
 
 -- an answer to what was told is one for the told input
@@ -159,6 +159,8 @@ success_true (Some Model) told input xs is (inl long) = absurd (let e : status.S
 success_true (Some Model) told input xs is (inr modelled) = (input, is, success_satisfies input xs modelled)
 success_true (Some (Disprove cells)) told input xs is (inl long) = absurd (let e : status.Success ≡ status.Limit = long.1 in cc)
 success_true (Some (Disprove cells)) told input xs is (inr disproved) = (input, is, success_refutes cells input xs disproved)
+success_true (Some FirstOrderCheck) told input xs is (inl long) = absurd (let e : status.Success ≡ status.Limit = long.1 in cc)
+success_true (Some FirstOrderCheck) told input xs is (inr checked) = (input, is, first_order_holds input xs checked)
 success_true (Some (Ring k)) told input xs is answer = tt
 
 -- ---- refusals
@@ -205,6 +207,8 @@ refused_true (Some Model) told input xs is (inl long) = absurd (let e : status.R
 refused_true (Some Model) told input xs is (inr modelled) = (input, is, refusal_fails input xs modelled)
 refused_true (Some (Disprove cells)) told input xs is (inl long) = let e : status.Refused ≡ status.Limit = long.1 in cc
 refused_true (Some (Disprove cells)) told input xs is (inr disproved) = disprove_refuses_not cells input xs disproved
+refused_true (Some FirstOrderCheck) told input xs is (inl long) = absurd (let e : status.Refused ≡ status.Limit = long.1 in cc)
+refused_true (Some FirstOrderCheck) told input xs is (inr checked) = (input, is, first_order_incorrect input xs checked)
 refused_true (Some (Ring k)) told input xs is answer = let e : status.Refused ≡ status.Success = answer.0 in cc
 
 -- an answer of refusal is true
@@ -275,6 +279,15 @@ task_accepts input g s text short is correct few (inr checked) =
 pub correct_succeeds : (task : Option Task) (told : Option (List ℕ)) (input : List ℕ) (g : ProofFile) (s : Status) (text : List ℕ) → task ≡ Some Check → told ≡ Some input → length input ≤ input_limit → IsRead input (Ok g) → IsCorrect g → HasAtMost (file_graph g) state_limit → Answers task told s text → s ≡ status.Success
 correct_succeeds task told input g s text is e short read correct few answer =
     task_accepts input g s text short read correct few (subst (λ t. IsAnswer t input s text) is (answer_for task told input s text e answer))
+
+-- the same of a first-order proof
+first_order_accepts : (input : List ℕ) (g : FoFile) (s : Status) (text : List ℕ) → length input ≤ input_limit → first_order.IsRead input (Ok g) → first_order_verdicts.IsCorrect g → HasAtMost (first_order_verdicts.file_graph g) state_limit → IsAnswer (Some FirstOrderCheck) input s text → s ≡ status.Success
+first_order_accepts input g s text short is correct few (inl long) = absurd (omega (arith, long.0))
+first_order_accepts input g s text short is correct few (inr checked) = correct_accepted input g s text is correct few checked
+
+pub correct_first_order : (task : Option Task) (told : Option (List ℕ)) (input : List ℕ) (g : FoFile) (s : Status) (text : List ℕ) → task ≡ Some FirstOrderCheck → told ≡ Some input → length input ≤ input_limit → first_order.IsRead input (Ok g) → first_order_verdicts.IsCorrect g → HasAtMost (first_order_verdicts.file_graph g) state_limit → Answers task told s text → s ≡ status.Success
+correct_first_order task told input g s text is e short read correct few answer =
+    first_order_accepts input g s text short read correct few (subst (λ t. IsAnswer t input s text) is (answer_for task told input s text e answer))
 
 -- ---- counter-models
 

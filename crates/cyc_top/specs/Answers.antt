@@ -14,14 +14,19 @@ use Rattle.cyc_runs.specs.declared.endings.Status.TheVariants as status
 use Rattle.cyc_runs.specs.Faults.{IsFaultAnswer}
 use Rattle.cyc_runs.specs.Runs.{Answering, AnswersTold, IsAnswerOf, IsTold, input_limit}
 use Rattle.cyc_runs.specs.Runs as runs
+use Rattle.cyc_top.specs.declared.searches.TheConstants.{DERIVATION_LIMIT}
 use Rattle.cyc_words.specs.declared.tasks.Task.{Task}
-use Rattle.cyc_words.specs.declared.tasks.Task.TheVariants.{Check, Prove, Ring, Upgrade, Sat, Model, Disprove}
+use Rattle.cyc_words.specs.declared.tasks.Task.TheVariants.{Check, Prove, Ring, Upgrade, Sat, Model, Disprove, FirstOrderCheck}
 use Rattle.cyc_words.specs.Words.{usage_text}
 use Rattle.sat_answers.specs.Answers.{IsAsked, IsPossible}
 use Rattle.model_file.specs.declared.file.Model as formats
 use Rattle.model_file.specs.Reading as models
 use Rattle.model_answers.specs.Answers.{IsModelled, IsSatisfying}
 use Rattle.disprove_answers.specs.Answers.{HasNoCounter, IsDisproved, IsRefuted}
+use Rattle.fo_formula.specs.declared.nodes.FoFile.{FoFile}
+use Rattle.fo_file.specs.Reading as first_order
+use Rattle.fo_logic.specs.Verdicts as first_order_verdicts
+use Rattle.fo_answers.specs.Answers.{IsFirstOrderChecked}
 use Rattle.heap_formula.specs.Judgements.{JudgementHolds}
 use Rattle.derivation_search.specs.System.{search_of}
 use Rattle.formula_reader.specs.declared.problem.Problem.{Problem}
@@ -92,7 +97,7 @@ IsChecked input ending text =
 
 -- the count of partial derivations at one depth at which a search stops
 abbrev pub derivation_limit : ℕ
-derivation_limit = 1000000
+derivation_limit = DERIVATION_LIMIT
 
 -- how a search with this answer ends
 abbrev pub proved_status : Proved → Status
@@ -146,6 +151,7 @@ IsAnswer (Some Upgrade) = IsAnswerOf IsUpgraded
 IsAnswer (Some Sat) = IsAnswerOf IsAsked
 IsAnswer (Some Model) = IsAnswerOf IsModelled
 IsAnswer (Some (Disprove cells)) = IsAnswerOf (IsDisproved cells)
+IsAnswer (Some FirstOrderCheck) = IsAnswerOf IsFirstOrderChecked
 IsAnswer (Some (Ring k)) = λ input ending text. (ending ≡ status.Success) × (text ≡ ring_text k (8 * k + 1) 1)
 IsAnswer None = λ input ending text. (ending ≡ status.Usage) × (text ≡ usage_text)
 
@@ -171,6 +177,10 @@ ToldFileOf Has told = (input : List ℕ) × IsTold told input × ((file : ProofF
 abbrev pub ToldModelOf : (formats.Model → Type 0) → Option (List ℕ) → Type 0
 ToldModelOf Has told = (input : List ℕ) × IsTold told input × ((model : formats.Model) × models.IsRead input (Ok model) × Has model)
 
+-- the same of a first-order proof
+abbrev pub ToldFirstOrderOf : (FoFile → Type 0) → Option (List ℕ) → Type 0
+ToldFirstOrderOf Has told = (input : List ℕ) × IsTold told input × ((file : FoFile) × first_order.IsRead input (Ok file) × Has file)
+
 -- some input, which is the one that was told, spells a problem of which this is true
 abbrev pub ToldOf : (Problem → Type 0) → Option (List ℕ) → Type 0
 ToldOf Has told = (input : List ℕ) × IsTold told input × ((problem : Problem) × problems.IsRead input (Ok problem) × Has problem)
@@ -192,6 +202,7 @@ IsHeadline (Some Upgrade) told = ToldFile told
 IsHeadline (Some Sat) told = ToldOf IsPossible told
 IsHeadline (Some Model) told = ToldModelOf IsSatisfying told
 IsHeadline (Some (Disprove cells)) told = ToldOf (IsRefuted cells) told
+IsHeadline (Some FirstOrderCheck) told = ToldFirstOrderOf first_order_verdicts.RootHolds told
 IsHeadline (Some (Ring k)) told = Unit {0}
 IsHeadline None told = ⊥
 
@@ -200,6 +211,7 @@ abbrev pub IsRefusal : Option Task → Option (List ℕ) → Type 0
 IsRefusal (Some Check) told = ToldFileOf (λ file. ¬ IsCorrect file) told
 IsRefusal (Some Sat) told = ToldOf (λ problem. ¬ IsPossible problem) told
 IsRefusal (Some Model) told = ToldModelOf (λ model. ¬ IsSatisfying model) told
+IsRefusal (Some FirstOrderCheck) told = ToldFirstOrderOf (λ file. ¬ first_order_verdicts.IsCorrect file) told
 IsRefusal _ told = ⊥
 
 -- a text was written that a check accepts, where it is no longer than an input may be

@@ -11,9 +11,12 @@ ghost use Rattle.proof_file.specs.declared.file.ProofFile.{ProofFile};
 ghost use Rattle.proof_file.specs.Reading as files;
 ghost use Rattle.proof_check.specs.Verdicts.{file_graph, state_limit, IsCorrect};
 ghost use Rattle.proof_search.specs.Outcomes.{search_for};
+ghost use Rattle.fo_formula.specs.declared.nodes.FoFile.{FoFile};
+ghost use Rattle.fo_file.specs.Reading as first_order;
+ghost use Rattle.fo_logic.specs.Verdicts as first_order_verdicts;
 ghost use Rattle.cyc_io.specs.Causes.{Rose};
 ghost use Rattle.cyc_words.specs.Words.{IsInRange, meaning_of, reads_input};
-ghost use Rattle.cyc_words.specs.declared.tasks.Task.TheVariants.{Check, Prove, Ring, Upgrade, Disprove};
+ghost use Rattle.cyc_words.specs.declared.tasks.Task.TheVariants.{Check, Prove, Ring, Upgrade, Disprove, FirstOrderCheck};
 ghost use Rattle.cyc_runs.specs.Endings.{is_answer};
 ghost use Rattle.cyc_runs.specs.Runs.{IsReadThrough, input_limit};
 ghost use Rattle.cyc_top.specs.Answers.{IsAnswer, IsHeadline, IsRefusal, IsUnrefuted, WroteAnswer, WroteModel, WrotePart, WroteProof, WroteUpgrade, derivation_limit};
@@ -28,6 +31,7 @@ pub use cyc_runs::Status;
 use cyc_runs::{fixed_answer, give_made, run_over};
 use cyc_words::{Task, USAGE, task_of};
 use disprove_answers::Disprover;
+use fo_answers::FirstOrderChecker;
 use model_answers::ModelChecker;
 use rings::answer_to_ring;
 use sat_answers::Satisfier;
@@ -66,6 +70,7 @@ fn run_task<S: Source, K: Sink>(
         Some(Task::Sat) => run_over(alloc, &Satisfier, src, out),
         Some(Task::Model) => run_over(alloc, &ModelChecker, src, out),
         Some(Task::Disprove(cells)) => run_over(alloc, &Disprover::new(cells), src, out),
+        Some(Task::FirstOrderCheck) => run_over(alloc, &FirstOrderChecker, src, out),
         Some(Task::Ring(k)) => give_made(answer_to_ring(alloc, k), out),
         None => give_made(fixed_answer(alloc, Status::Usage, USAGE), out),
     }
@@ -90,6 +95,13 @@ pub fn run<S: Source, K: Sink>(alloc: Global, words: &[String], src: &mut S, out
     ensures accepts { (input : List ℕ) (file : ProofFile) → meaning_of (map string_bytes words.now) ≡ Some Check
         → S.left src.old ≡ Some input → length input ≤ input_limit → files.IsRead input (Ok file)
         → IsCorrect file → HasAtMost (file_graph file) state_limit
+        → ¬ Rose (S.faults src.old) (S.faults src.new) → ¬ Rose (K.faults out.old) (K.faults out.new)
+        → (result ≡ Status.Success) ⊎ (result ≡ Status.OutOfMemory) }
+    // So is a correct first-order proof.
+    ensures accepts_first_order { (input : List ℕ) (file : FoFile)
+        → meaning_of (map string_bytes words.now) ≡ Some FirstOrderCheck
+        → S.left src.old ≡ Some input → length input ≤ input_limit → first_order.IsRead input (Ok file)
+        → first_order_verdicts.IsCorrect file → HasAtMost (first_order_verdicts.file_graph file) state_limit
         → ¬ Rose (S.faults src.old) (S.faults src.new) → ¬ Rose (K.faults out.old) (K.faults out.new)
         → (result ≡ Status.Success) ⊎ (result ≡ Status.OutOfMemory) }
     // A search that finds within its limits ends with success.

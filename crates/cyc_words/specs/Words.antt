@@ -6,7 +6,7 @@ use Rattle.clap.specs.Words.{Kinds, Row, Text, fault_of, one_of, subcommand_of}
 use Rattle.clap.specs.ValueTests.{is_unsigned_in}
 use Rattle.cyc_words.specs.Command.{cyclist_app}
 use Rattle.cyc_words.specs.declared.tasks.Task.{Task}
-use Rattle.cyc_words.specs.declared.tasks.Task.TheVariants.{Check, Prove, Ring, Upgrade, Sat, Model, Disprove}
+use Rattle.cyc_words.specs.declared.tasks.Task.TheVariants.{Check, Prove, Ring, Upgrade, Sat, Model, Disprove, FirstOrderCheck}
 
 -- the number that a text stands for, where it is in the range
 abbrev pub number_in : ℕ → ℕ → Text → Option ℕ
@@ -26,7 +26,8 @@ subcommand_meaning name rows =
     else (if bytes_eq name (codes "sat") then Some Sat
     else (if bytes_eq name (codes "model") then Some Model
     else (if bytes_eq name (codes "disprove") then option_map (λ n. Disprove n) (argument_in 1 4 (codes "cells") rows)
-    else None))))))
+    else (if bytes_eq name (codes "fo-check") then Some FirstOrderCheck
+    else None)))))))
 
 -- the subcommand that was found, if one was
 abbrev pub found_meaning : Option (Text × List Row) → Option Task
@@ -75,6 +76,7 @@ IsInRange (Some Upgrade) = Unit {0}
 IsInRange (Some Sat) = Unit {0}
 IsInRange (Some Model) = Unit {0}
 IsInRange (Some (Disprove cells)) = (1 ≤ cells) × (cells ≤ 4)
+IsInRange (Some FirstOrderCheck) = Unit {0}
 IsInRange None = Unit {0}
 
 -- the task needs the input
@@ -86,8 +88,9 @@ reads_input (Some Upgrade) = true
 reads_input (Some Sat) = true
 reads_input (Some Model) = true
 reads_input (Some (Disprove cells)) = true
+reads_input (Some FirstOrderCheck) = true
 reads_input None = false
 
 -- the line that says which words have a meaning
 abbrev pub usage_text : List ℕ
-usage_text = codes "usage: cyclist check | prove [--depth N] | ring K | upgrade | sat | model | disprove [--cells N]\n"
+usage_text = codes "usage: cyclist check | prove [--depth N] | ring K | upgrade | sat | model | disprove [--cells N] | fo-check\n"

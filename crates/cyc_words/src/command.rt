@@ -76,5 +76,7 @@ fn asking_command<'a>(alloc: Global) -> Result<Command<'a>, AllocError>
 pub fn cyclist_command<'a>(alloc: Global) -> Result<Command<'a>, AllocError>
     ensures { IfOk result (λ command. IsCommand command cyclist_app) }
 {
-    asking_command(alloc)?.subcommand(disprove_command(alloc)?)
+    asking_command(alloc)?
+        .subcommand(disprove_command(alloc)?)?
+        .subcommand(Command::new(alloc, "fo-check"))
 }

@@ -18,8 +18,10 @@ pub enum Task {
     /// Search for a counter-model of the entailment of the problem that the input spells, with addresses and values up to
     /// this number, 1 to 4.
     Disprove(u32),
+    /// Check the first-order proof that the input spells.
+    FirstOrderCheck,
 }
 
 /// The line that says which words have a meaning.
 pub const USAGE: &str =
-    "usage: cyclist check | prove [--depth N] | ring K | upgrade | sat | model | disprove [--cells N]\n";
+    "usage: cyclist check | prove [--depth N] | ring K | upgrade | sat | model | disprove [--cells N] | fo-check\n";

@@ -11,7 +11,7 @@ static FILE: &[u8] =
 static ACCEPTED: &str = "accepted entailment nodes 8 links 1\n";
 
 static USAGE: &str =
-    "usage: cyclist check | prove [--depth N] | ring K | upgrade | sat | model | disprove [--cells N]\n";
+    "usage: cyclist check | prove [--depth N] | ring K | upgrade | sat | model | disprove [--cells N] | fo-check\n";
 
 fn words_of(alloc: Global, line: &str) -> Result<Vec<String>, Fail> {
     let mut words = Vec::new(alloc);

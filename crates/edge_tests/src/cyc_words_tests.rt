@@ -15,7 +15,7 @@ fn words_of(alloc: Global, line: &[&str]) -> Result<Vec<String>, Fail> {
 fn command_lines(rt: HostRuntime) -> Result<(), Fail> {
     let alloc = rt.alloc();
     let check = Some(Task::Check);
-    let table: [(&[&str], Option<Task>); 45] = [
+    let table: [(&[&str], Option<Task>); 49] = [
         (&["check"], check),
         (&["check", "--"], check),
         (&["check", "x"], None),
@@ -61,6 +61,10 @@ fn command_lines(rt: HostRuntime) -> Result<(), Fail> {
         (&["disprove", "--cells=1"], Some(Task::Disprove(1))),
         (&["disprove", "--cells", "5"], None),
         (&["disprove", "--cells", "0"], None),
+        (&["fo-check"], Some(Task::FirstOrderCheck)),
+        (&["fo-check", "--"], Some(Task::FirstOrderCheck)),
+        (&["fo-check", "x"], None),
+        (&["fo"], None),
     ];
     for (line, task) in table {
         let words = words_of(alloc, line)?;

@@ -10,7 +10,7 @@ use std::test::Fail;
 type Run = (&'static str, &'static str, u8, &'static str);
 
 static USAGE: &str =
-    "usage: cyclist check | prove [--depth N] | ring K | upgrade | sat | model | disprove [--cells N]\n";
+    "usage: cyclist check | prove [--depth N] | ring K | upgrade | sat | model | disprove [--cells N] | fo-check\n";
 
 static COMPOSE: &str = "cyclist problem 1;
 pred ls(a, b) { a = b : emp | true : a -> (c) * ls(c, b) };

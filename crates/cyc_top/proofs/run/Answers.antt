@@ -1,7 +1,7 @@
 use Rattle.std.proofs.Common.{◌≡◌, subst, true}
 use Rattle.cyc_words.specs.Words.{reads_input}
 use Rattle.cyc_runs.specs.declared.endings.Status.TheVariants.{Success}
-use Rattle.cyc_top.proofs.Exact.{correct_succeeds, ended_so, found_succeeds, none_says, refusal_says, ring_ends, success_models, success_says, success_wrote, told_status, wrote_as}
+use Rattle.cyc_top.proofs.Exact.{correct_first_order, correct_succeeds, ended_so, found_succeeds, none_says, refusal_says, ring_ends, success_models, success_says, success_wrote, told_status, wrote_as}
 use Rattle.cyc_top.proofs.Upgraded.{success_upgraded, upgrade_succeeds}
 use Rattle.cyc_top.proofs.run.Goals as goal
 
@@ -22,6 +22,12 @@ returns-in-Ok-clause-accepts g c =
     λ input file is told short read correct few quiet calm.
     ended_so _ _ _ _ _ (wrote_as _ _ _ _ _ _ c.in-Ok.ensures.meaning c.run_task.ensures.answered) _ _ Success (λ e. (c.run_task.ensures.read_fault e).0) (λ e. (c.run_task.ensures.write_fault e).0) quiet calm
     (λ xs answer. correct_succeeds _ _ input file _ xs is told short read correct few answer)
+
+pub returns-in-Ok-clause-accepts_first_order : goal.returns-in-Ok-clause-accepts_first_order
+returns-in-Ok-clause-accepts_first_order g c =
+    λ input file is told short read correct few quiet calm.
+    ended_so _ _ _ _ _ (wrote_as _ _ _ _ _ _ c.in-Ok.ensures.meaning c.run_task.ensures.answered) _ _ Success (λ e. (c.run_task.ensures.read_fault e).0) (λ e. (c.run_task.ensures.write_fault e).0) quiet calm
+    (λ xs answer. correct_first_order _ _ input file _ xs is told short read correct few answer)
 
 pub returns-in-Ok-clause-complete : goal.returns-in-Ok-clause-complete
 returns-in-Ok-clause-complete g c =

@@ -1,7 +1,7 @@
 use Rattle.std.proofs.Common.{subst, ◌+◌, ◌*◌}
 use Rattle.cyc_texts.specs.Texts.{ring_text}
 use Rattle.cyc_words.specs.Words.{usage_text}
-use Rattle.cyc_words.specs.declared.tasks.Task.TheVariants.{Check, Prove, Ring, Upgrade, Sat, Model, Disprove}
+use Rattle.cyc_words.specs.declared.tasks.Task.TheVariants.{Check, Prove, Ring, Upgrade, Sat, Model, Disprove, FirstOrderCheck}
 use Rattle.cyc_runs.specs.declared.endings.Status.TheVariants.{Success, Usage}
 use Rattle.cyc_runs.specs.Runs.{IsAnswerOf}
 use Rattle.cyc_runs.specs.Runs as runs
@@ -45,6 +45,12 @@ returns-in-Some-Disprove-clause-write_fault g c =
     λ e.
     let wrote = c.run_over-in-Some-Disprove.ensures.write_fault e in
     (wrote.0, part_as _ _ _ _ _ (task_is c.args.task c.in-Some-Disprove.field-0 (Disprove c.in-Some-Disprove.cells) c.in-Some-Disprove.is (rw c.in-Some-Disprove.is at c.in-Some-Disprove.field-0-is)) (subst (λ d. runs.WrotePart (IsAnswerOf (IsDisproved d)) (g.S.Source.left c.args.src.now) (g.K.Sink.written c.args.out.now) (g.K.Sink.written c.run_over-in-Some-Disprove.new.out)) c.new-in-Some-Disprove.ensures wrote.1))
+
+pub returns-in-Some-FirstOrderCheck-clause-write_fault : goal.returns-in-Some-FirstOrderCheck-clause-write_fault
+returns-in-Some-FirstOrderCheck-clause-write_fault g c =
+    λ e.
+    let wrote = c.run_over-in-Some-FirstOrderCheck.ensures.write_fault e in
+    (wrote.0, part_as _ _ _ _ _ (task_is c.args.task c.in-Some-FirstOrderCheck.field-0 FirstOrderCheck c.in-Some-FirstOrderCheck.is (rw c.in-Some-FirstOrderCheck.is at c.in-Some-FirstOrderCheck.field-0-is)) wrote.1)
 
 pub returns-in-Some-Ring-clause-answered : goal.returns-in-Some-Ring-clause-answered
 returns-in-Some-Ring-clause-answered g c =
