@@ -66,6 +66,21 @@ turns() { # ATOMS NODES: so many atoms, and nodes before the two ways part
     }'
 }
 
+# A problem that has no proof by the moves, and many partial ones: lists of even length one after the other make no list of even
+# length where the last is a list of any length.
+even_lists() { # COUNT: so many lists, the last of any length
+  awk -v n="$1" '
+    BEGIN {
+      print "cyclist problem 1;"
+      print "pred ls(a, b) { a = b : emp | true : a -> (c) * ls(c, b) };"
+      print "pred even(a, b) { a = b : emp | true : a -> (c) * odd(c, b) };"
+      print "pred odd(a, b) { true : a -> (c) * even(c, b) };"
+      printf "goal true : "
+      for (i = 0; i < n; i++) printf "%s%s(x%d, x%d)", i ? " * " : "", i < n - 1 ? "even" : "ls", i, i + 1
+      printf " |- true : even(x0, x%d);\nend;\n", n
+    }'
+}
+
 # Runs the program on the file "$work/file" with these words, and prints seconds, memory and the first line of its answer.
 show() { # NAME WORD..
   local name=$1 spent kilobytes

@@ -1,6 +1,6 @@
 #!/usr/bin/env bash
 # bench/search.sh [PROGRAM [SEEKER]]: seconds of `prove` on each problem of examples/, and of the free search on each of them and
-# of examples/seek/, with the answers: the nodes and links of the proof that was written, or its line. Prints figures; it
+# of examples/seek/, with the answers: the nodes and links of the proof that was written, or its line; and of two long searches. Prints figures; it
 # passes and fails nothing.
 . "$(dirname "${BASH_SOURCE[0]}")/common.sh"
 seeker=${2:-$top/crates/cyclist_seek/out/cyclist_seek}
@@ -22,3 +22,9 @@ echo prove
 for problem in "$top"/examples/*.problem; do measure "$problem" "$program" prove; done
 echo seek
 for problem in "$top"/examples/*.problem "$top"/examples/seek/*.problem; do measure "$problem" "$seeker"; done
+echo 'prove, long searches'
+for row in '3 17' '4 14'; do
+  read -r count depth <<< "$row"
+  even_lists "$count" > "$work/$count-even-lists.problem"
+  measure "$work/$count-even-lists.problem" "$program" prove --depth "$depth"
+done
