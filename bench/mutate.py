@@ -1,6 +1,7 @@
 """Tries a program on examples that were changed at random (bench/mutate.sh calls it)."""
 import collections
 import glob
+import os
 import random
 import re
 import subprocess
@@ -9,18 +10,27 @@ import tempfile
 
 PLACE = rb"line \d+ column \d+"
 FAULT = rb"[A-Z][A-Za-z]+( \d+)?"
-WHAT = rb"(predicates|arguments|cases|pure|spatial|locals|disjuncts|lines|program-variables|fields|nodes|variable)"
-ILL = rb"(duplicate|parameter|unknown|arity|numbering|jump|falls-off|no-line)"
+WHAT = rb"(predicates|arguments|cases|pure|spatial|locals|disjuncts|lines|program-variables|fields|nodes|variable|stack|cells|constructors|atoms|terms)"
+ILL = rb"(duplicate|parameter|unknown|arity|numbering|jump|falls-off|no-line|address|constant)"
+ODD = rb"ill-formed (judgement from|constructive (case \d+ \d+|ask \d+))\n"
 STEPS = rb"( \d+\.\d+)*"
 LINES = {
-    0: rb"accepted (entailment|termination) nodes \d+ links \d+\n",
-    1: rb"refused (node \d+ " + FAULT + rb"|path stem" + STEPS + rb" cycle( \d+\.\d+)+)\n",
+    0: rb"accepted (entailment|termination|first-order) nodes \d+ links \d+\n|satisfiable\n|holds\n",
+    1: rb"refused (node \d+ " + FAULT + rb"|path stem" + STEPS + rb" cycle( \d+\.\d+)+)\n|unsatisfiable\n|fails\n",
     2: rb"usage: cyclist check \|.*\n",
     3: rb"unreadable ((byte|utf8|number|name) offset \d+|syntax token \d+) " + PLACE + rb"\n",
-    4: rb"ill-formed " + ILL + rb" token \d+ " + PLACE + rb"\n",
-    5: rb"limit (" + WHAT + rb" token \d+ " + PLACE + rb"|states|derivations|input)\n",
-    6: rb"not found depth \d+\n",
+    4: rb"ill-formed " + ILL + rb" token \d+ " + PLACE + rb"\n|" + ODD,
+    5: rb"limit (" + WHAT + rb" token \d+ " + PLACE + rb"|states|derivations|pairs|universals|input)\n",
+    6: rb"not found (depth|cells) \d+\n",
 }
+# The commands that a file is for, and for those that write a file the one that has to take it, with its answer.
+WORDS = {
+    ".proof": [["check"], ["check"], ["upgrade"]],
+    ".problem": [["prove", "--depth", "5"], ["prove", "--depth", "5"], ["sat"], ["disprove", "--cells", "1"]],
+    ".model": [["model"]],
+    ".fo": [["fo-check"]],
+}
+TAKEN_BY = {"prove": ("check", rb"accepted .*\n"), "upgrade": ("upgrade", None), "disprove": ("model", rb"holds\n")}
 TOKEN = re.compile(rb"[A-Za-z_]\w*|\d+|\|-|->|:=|!=|#[^\n]*|\s+|.", re.S)
 NUMBERS = [b"0", b"1", b"2", b"3", b"7", b"8", b"9", b"15", b"16", b"63", b"64", b"65534", b"65535", b"999999999", b"007"]
 
@@ -31,7 +41,7 @@ def change_byte(chance, text, _texts):
 
 
 def change_token(chance, text, texts):
-    tokens, others = TOKEN.findall(text), TOKEN.findall(chance.choice(texts))
+    tokens, others = TOKEN.findall(text) or [b" "], TOKEN.findall(chance.choice(texts))
     at, other = chance.randrange(len(tokens)), chance.choice(others)
     replaced = chance.choice([[], [other], [tokens[at], b" ", tokens[at]], [tokens[at], b" ", other], [chance.choice(tokens)]])
     return b"".join([*tokens[:at], *replaced, *tokens[at + 1 :]])
@@ -81,10 +91,11 @@ def complaint(chance, program, words, text):
     status, wrote, said = ran
     if status not in LINES or said:
         return status, f"status {status}, and on standard error {said!r}"
-    if words[0] == "prove" and status == 0:
-        checked = run([program, "check"], wrote)
-        if checked is None or checked[0] != 0:
-            return status, f"what was found is not accepted: {checked}"
+    if words[0] in TAKEN_BY and status == 0:
+        command, wanted = TAKEN_BY[words[0]]
+        taken = run([program, command], wrote)
+        if taken is None or taken[0] != 0 or not (taken[1] == wrote if wanted is None else re.fullmatch(wanted, taken[1])):
+            return status, f"what was written is answered by {command}: {taken}"
     elif not re.fullmatch(LINES[status], wrote):
         return status, f"status {status} with {wrote!r}"
     if chance.random() < 0.1 and run_in_pieces(chance, [program, *words], text) != ran:
@@ -94,7 +105,7 @@ def complaint(chance, program, words, text):
 
 def main(count, seed, program, folder):
     chance = random.Random(seed)
-    names = sorted([*glob.glob(f"{folder}/*.proof"), *glob.glob(f"{folder}/*.problem")])
+    names = sorted(it for it in glob.glob(f"{folder}/**/*", recursive=True) if os.path.splitext(it)[1] in WORDS)
     texts = []
     for name in names:
         with open(name, "rb") as it:
@@ -105,7 +116,7 @@ def main(count, seed, program, folder):
         text = texts[at]
         for _ in range(chance.choice([1, 1, 1, 2, 3])):
             text = chance.choice([change_byte, change_token, change_number, change_number])(chance, text, texts)
-        words = ["check"] if names[at].endswith(".proof") else ["prove", "--depth", "5"]
+        words = chance.choice(WORDS[os.path.splitext(names[at])[1]])
         status, wrong = complaint(chance, program, words, text)
         if wrong:
             with tempfile.NamedTemporaryFile(prefix="mutated-", delete=False) as it:
