@@ -1,5 +1,5 @@
 -- Programs over lawful variables are lawful, and their texts are of lexemes.
-use Rattle.std.proofs.Common.{◌≡◌, ℕ, Bool, false, List, [], ◌∷◌, ◌++◌, refl, inl, inr, ◌⊎◌}
+use Rattle.std.proofs.Common.{◌≡◌, ℕ, Bool, true, false, List, [], ◌∷◌, ◌++◌, refl, inl, inr, ◌⊎◌}
 use Rattle.std.specs.Prelude.{codes}
 use Rattle.cyc_lex.specs.Word.{Word}
 use Rattle.cyc_lex.proofs.Letters.{letters-name}
@@ -8,7 +8,8 @@ use Rattle.cyc_grammar.specs.Classes.{number}
 use Rattle.cyc_grammar.proofs.Laws.{Lawful, Begins, BeginsNot, BeginsNot-append, one-law, seq-law, shaped-law, alt-law, many-law, after-law, before-law, Stops-never}
 use Rattle.cyc_grammar.proofs.ClassLaws.{symbol-law, keyword-law, number-law, number-lexeme}
 use Rattle.cyc_grammar.proofs.Ends.{Inner, one-inner, seq-inner, after-inner, before-inner, alt-inner, many-inner, shaped-inner}
-use Rattle.heap_syntax.specs.Words.{nil, colon, semicolon, assign}
+use Rattle.heap_syntax.specs.Words.{nil, colon, semicolon, assign, star}
+use Rattle.heap_syntax.specs.declared.version.Version.{Version}
 use Rattle.heap_syntax.specs.Grammar.{Any, sign}
 use Rattle.heap_syntax.proofs.HeapLaws.{closed-stops, sign-law, sign-closed}
 use Rattle.heap_syntax.proofs.HeapEnds.{sign-inner}
@@ -18,9 +19,9 @@ use Rattle.command_syntax.specs.declared.tree.OperandTree.TheVariants.{Nil, Vari
 use Rattle.command_syntax.specs.declared.tree.ChangeTree.{ChangeTree}
 use Rattle.command_syntax.specs.declared.tree.ChangeTree.TheVariants.{New, Assign, Load, Store}
 use Rattle.command_syntax.specs.declared.tree.CommandTree.{CommandTree}
-use Rattle.command_syntax.specs.declared.tree.CommandTree.TheVariants.{Stop, Goto, Free, If, StoreAtNil, Change}
+use Rattle.command_syntax.specs.declared.tree.CommandTree.TheVariants.{Stop, Goto, Free, IfAny, If, StoreAtNil, Change}
 use Rattle.command_syntax.specs.declared.tree.LineTree.{LineTree}
-use Rattle.command_syntax.specs.Grammar.{line_word, stop_word, goto_word, free_word, if_word, new_word, dot, to_operand, from_operand, operand, last_number, store, field, source, Changes, to_change, from_change, change, branch, update, Commands, to_command, from_command, command, to_line, from_line, line, lines}
+use Rattle.command_syntax.specs.Grammar.{line_word, stop_word, goto_word, free_word, if_word, new_word, dot, to_operand, from_operand, operand, last_number, store, field, source, Changes, to_change, from_change, change, Branch, branch, free_branch, has_free_branches, IsBranch, the_branch, behind_if, update, Commands, to_command, from_command, command, to_line, from_line, line, lines}
 
 -- what programs need of their variables
 pub record VariableLaw {V : Type 0} (v : Syntax V) : Type 0 where
@@ -32,6 +33,7 @@ pub record VariableLaw {V : Type 0} (v : Syntax V) : Type 0 where
   pub not_free : (x : V) → v.fits x → BeginsNot (is_one free_word) (v.words x)
   pub not_if : (x : V) → v.fits x → BeginsNot (is_one if_word) (v.words x)
   pub not_new : (x : V) → v.fits x → BeginsNot (is_one new_word) (v.words x)
+  pub not_star : (x : V) → v.fits x → BeginsNot (is_one star) (v.words x)
 
 -- ---- operands
 
@@ -58,6 +60,11 @@ operand-not-new : {V : Type 0} (v : Syntax V) → VariableLaw v → (t : Operand
 unfolding operand
 operand-not-new v a Nil f = refl
 operand-not-new v a (Variable x) f = a.not_new x f.1
+
+operand-not-star : {V : Type 0} (v : Syntax V) → VariableLaw v → (t : OperandTree V) → (operand v).fits t → BeginsNot (is_one star) ((operand v).words t)
+unfolding operand
+operand-not-star v a Nil f = refl
+operand-not-star v a (Variable x) f = a.not_star x f.1
 
 -- ---- what stands behind a variable
 
@@ -132,9 +139,30 @@ branch-law v a =
     (λ x y r fx fy h. closed-stops sign (λ b d f. sign-closed b d) x fx ((seq (operand v) (after goto_word last_number)).words y ++ r)))
     (λ x y r fx fy h. closed-stops (operand v) (operand-closed v a) x fx ((seq sign (seq (operand v) (after goto_word last_number))).words y ++ r))
 
-branch-closed : {V : Type 0} (v : Syntax V) (p : OperandTree V × (Bool × (OperandTree V × ℕ))) (d : Word) → (branch v).more p d ≡ false
+branch-closed : {V : Type 0} (v : Syntax V) (p : Branch V) (d : Word) → (branch v).more p d ≡ false
 unfolding branch
 branch-closed v p d = last_number-closed p.1.1.1 d
+
+free_branch-law : Lawful free_branch
+unfolding free_branch
+free_branch-law = after-law star _ (symbol-law _) (after-law goto_word last_number (keyword-law _) last_number-law)
+
+behind_if-law : {V : Type 0} (free : Bool) (v : Syntax V) → VariableLaw v → Lawful (behind_if free v)
+unfolding behind_if free_branch branch
+behind_if-law true v a =
+    alt-law (is_one star) free_branch (branch v) (λ n f. refl) (λ p f. BeginsNot-append (is_one star) _ _ (operand-not-star v a p.0 f.0)) free_branch-law (branch-law v a)
+behind_if-law {V = V} false v a =
+    shaped-law {A = Branch V} inr the_branch IsBranch _ (λ x f. (refl, tt)) here (branch-law v a)
+  where
+    here : (x : ℕ ⊎ Branch V) → IsBranch x → inr (the_branch x) ≡ x
+    here (inl n) h = absurd h
+    here (inr p) h = refl
+
+behind_if-closed : {V : Type 0} (free : Bool) (v : Syntax V) (x : ℕ ⊎ Branch V) (d : Word) → (behind_if free v).more x d ≡ false
+unfolding behind_if free_branch
+behind_if-closed true v (inl n) d = last_number-closed n d
+behind_if-closed true v (inr p) d = branch-closed v p d
+behind_if-closed false v x d = branch-closed v (the_branch x) d
 
 update-law : {V : Type 0} (v : Syntax V) → VariableLaw v → Lawful (update v)
 unfolding update
@@ -152,27 +180,27 @@ unfolding update
 update-not v test none h (inl p) f = none
 update-not v test none h (inr p) f = BeginsNot-append test _ _ (h p.0 f.0)
 
-command-law : {V : Type 0} (v : Syntax V) → VariableLaw v → Lawful (command v)
+command-law : {V : Type 0} (version : Version) (v : Syntax V) → VariableLaw v → Lawful (command version v)
 unfolding command
-command-law {V = V} v a =
+command-law {V = V} version v a =
     shaped-law {A = Commands V} to_command from_command Any _ (λ x f. (there x, tt)) (λ c h. here c)
     (alt-law (is_one stop_word) (after stop_word (one semicolon)) _ (λ u f. refl) not_stop (after-law stop_word (one semicolon) (keyword-law _) (one-law semicolon (symbol-law _)))
     (alt-law (is_one goto_word) (after goto_word last_number) _ (λ n f. refl) not_goto (after-law goto_word last_number (keyword-law _) last_number-law)
     (alt-law (is_one free_word) (after free_word (before (operand v) semicolon)) _ (λ t f. refl) not_free (after-law free_word _ (keyword-law _) (ended-law v a))
-    (alt-law (is_one if_word) (after if_word (branch v)) (update v) (λ p f. refl) (update-not v (is_one if_word) refl a.not_if) (after-law if_word (branch v) (keyword-law _) (branch-law v a)) (update-law v a)))))
+    (alt-law (is_one if_word) (after if_word (behind_if (has_free_branches version) v)) (update v) (λ p f. refl) (update-not v (is_one if_word) refl a.not_if) (after-law if_word (behind_if (has_free_branches version) v) (keyword-law _) (behind_if-law (has_free_branches version) v a)) (update-law v a)))))
   where
-    not_free : (y : (OperandTree V × (Bool × (OperandTree V × ℕ))) ⊎ ((ℕ × OperandTree V) ⊎ (V × ChangeTree V))) → (alt (is_one if_word) (after if_word (branch v)) (update v)).fits y → BeginsNot (is_one free_word) ((alt (is_one if_word) (after if_word (branch v)) (update v)).words y)
+    not_free : (y : (ℕ ⊎ Branch V) ⊎ ((ℕ × OperandTree V) ⊎ (V × ChangeTree V))) → (alt (is_one if_word) (after if_word (behind_if (has_free_branches version) v)) (update v)).fits y → BeginsNot (is_one free_word) ((alt (is_one if_word) (after if_word (behind_if (has_free_branches version) v)) (update v)).words y)
     not_free (inl p) f = refl
     not_free (inr x) f = update-not v (is_one free_word) refl a.not_free x f
 
-    not_goto : (y : OperandTree V ⊎ ((OperandTree V × (Bool × (OperandTree V × ℕ))) ⊎ ((ℕ × OperandTree V) ⊎ (V × ChangeTree V)))) → (alt (is_one free_word) (after free_word (before (operand v) semicolon)) (alt (is_one if_word) (after if_word (branch v)) (update v))).fits y
-        → BeginsNot (is_one goto_word) ((alt (is_one free_word) (after free_word (before (operand v) semicolon)) (alt (is_one if_word) (after if_word (branch v)) (update v))).words y)
+    not_goto : (y : OperandTree V ⊎ ((ℕ ⊎ Branch V) ⊎ ((ℕ × OperandTree V) ⊎ (V × ChangeTree V)))) → (alt (is_one free_word) (after free_word (before (operand v) semicolon)) (alt (is_one if_word) (after if_word (behind_if (has_free_branches version) v)) (update v))).fits y
+        → BeginsNot (is_one goto_word) ((alt (is_one free_word) (after free_word (before (operand v) semicolon)) (alt (is_one if_word) (after if_word (behind_if (has_free_branches version) v)) (update v))).words y)
     not_goto (inl t) f = refl
     not_goto (inr (inl p)) f = refl
     not_goto (inr (inr x)) f = update-not v (is_one goto_word) refl a.not_goto x f
 
-    not_stop : (y : ℕ ⊎ (OperandTree V ⊎ ((OperandTree V × (Bool × (OperandTree V × ℕ))) ⊎ ((ℕ × OperandTree V) ⊎ (V × ChangeTree V))))) → (alt (is_one goto_word) (after goto_word last_number) (alt (is_one free_word) (after free_word (before (operand v) semicolon)) (alt (is_one if_word) (after if_word (branch v)) (update v)))).fits y
-        → BeginsNot (is_one stop_word) ((alt (is_one goto_word) (after goto_word last_number) (alt (is_one free_word) (after free_word (before (operand v) semicolon)) (alt (is_one if_word) (after if_word (branch v)) (update v)))).words y)
+    not_stop : (y : ℕ ⊎ (OperandTree V ⊎ ((ℕ ⊎ Branch V) ⊎ ((ℕ × OperandTree V) ⊎ (V × ChangeTree V))))) → (alt (is_one goto_word) (after goto_word last_number) (alt (is_one free_word) (after free_word (before (operand v) semicolon)) (alt (is_one if_word) (after if_word (behind_if (has_free_branches version) v)) (update v)))).fits y
+        → BeginsNot (is_one stop_word) ((alt (is_one goto_word) (after goto_word last_number) (alt (is_one free_word) (after free_word (before (operand v) semicolon)) (alt (is_one if_word) (after if_word (behind_if (has_free_branches version) v)) (update v)))).words y)
     not_stop (inl n) f = refl
     not_stop (inr (inl t)) f = refl
     not_stop (inr (inr (inl p))) f = refl
@@ -182,53 +210,56 @@ command-law {V = V} v a =
     there (inl u) = refl
     there (inr (inl n)) = refl
     there (inr (inr (inl t))) = refl
-    there (inr (inr (inr (inl p)))) = refl
+    there (inr (inr (inr (inl (inl n))))) = refl
+    there (inr (inr (inr (inl (inr p))))) = refl
     there (inr (inr (inr (inr (inl p))))) = refl
     there (inr (inr (inr (inr (inr p))))) = refl
 
     here : (c : CommandTree V) → to_command (from_command c) ≡ c
     here Stop = refl
+    here (IfAny n) = refl
     here (Goto n) = refl
     here (Free t) = refl
     here (If t b u n) = refl
     here (StoreAtNil n t) = refl
     here (Change x c) = refl
 
-command-closed : {V : Type 0} (v : Syntax V) (c : CommandTree V) (d : Word) → (command v).more c d ≡ false
+command-closed : {V : Type 0} (version : Version) (v : Syntax V) (c : CommandTree V) (d : Word) → (command version v).more c d ≡ false
 unfolding command update
-command-closed v Stop d = refl
-command-closed v (Goto n) d = last_number-closed n d
-command-closed v (Free t) d = refl
-command-closed v (If t b u n) d = branch-closed v (t, (b, (u, n))) d
-command-closed v (StoreAtNil n t) d = store-closed v (n, t) d
-command-closed v (Change x c) d = change-closed v c d
+command-closed version v Stop d = refl
+command-closed version v (Goto n) d = last_number-closed n d
+command-closed version v (Free t) d = refl
+command-closed version v (IfAny n) d = behind_if-closed (has_free_branches version) v (inl n) d
+command-closed version v (If t b u n) d = behind_if-closed (has_free_branches version) v (inr (t, (b, (u, n)))) d
+command-closed version v (StoreAtNil n t) d = store-closed v (n, t) d
+command-closed version v (Change x c) d = change-closed v c d
 
 -- ---- lines
 
-line-law : {V : Type 0} (v : Syntax V) → VariableLaw v → Lawful (line v)
+line-law : {V : Type 0} (version : Version) (v : Syntax V) → VariableLaw v → Lawful (line version v)
 unfolding line
-line-law {V = V} v a =
+line-law {V = V} version v a =
     shaped-law {A = ℕ × CommandTree V} to_line from_line Any _ (λ x f. (refl, tt)) (λ l h. refl)
-    (after-law line_word _ (keyword-law _) (seq-law (one number) (after colon (command v)) (one-law number number-law) (after-law colon (command v) (symbol-law _) (command-law v a)) (λ x y r fx fy h. Stops-never ((after colon (command v)).words y ++ r))))
+    (after-law line_word _ (keyword-law _) (seq-law (one number) (after colon (command version v)) (one-law number number-law) (after-law colon (command version v) (symbol-law _) (command-law version v a)) (λ x y r fx fy h. Stops-never ((after colon (command version v)).words y ++ r))))
 
-line-closed : {V : Type 0} (v : Syntax V) (l : LineTree V) (d : Word) → (line v).more l d ≡ false
+line-closed : {V : Type 0} (version : Version) (v : Syntax V) (l : LineTree V) (d : Word) → (line version v).more l d ≡ false
 unfolding line
-line-closed v l d = command-closed v l.command d
+line-closed version v l d = command-closed version v l.command d
 
-line-starts : {V : Type 0} (v : Syntax V) (l : LineTree V) → Begins (is_one line_word) ((line v).words l)
+line-starts : {V : Type 0} (version : Version) (v : Syntax V) (l : LineTree V) → Begins (is_one line_word) ((line version v).words l)
 unfolding line
-line-starts v l = refl
+line-starts version v l = refl
 
-pub lines-law : {V : Type 0} (v : Syntax V) → VariableLaw v → Lawful (lines v)
+pub lines-law : {V : Type 0} (version : Version) (v : Syntax V) → VariableLaw v → Lawful (lines version v)
 unfolding lines
-lines-law v a = many-law (is_one line_word) (line v) (line-law v a) (record { starts = λ l f. line-starts v l; apart = λ l d f h. line-closed v l d })
+lines-law version v a = many-law (is_one line_word) (line version v) (line-law version v a) (record { starts = λ l f. line-starts version v l; apart = λ l d f h. line-closed version v l d })
 
 -- lines go on at the word "line" alone
-pub lines-end : {V : Type 0} (v : Syntax V) (d : Word) → is_one line_word d ≡ false → (ls : List (LineTree V)) → (lines v).more ls d ≡ false
+pub lines-end : {V : Type 0} (version : Version) (v : Syntax V) (d : Word) → is_one line_word d ≡ false → (ls : List (LineTree V)) → (lines version v).more ls d ≡ false
 unfolding lines
-lines-end v d h [] = h
-lines-end v d h (l ∷ []) = rw (h, line-closed v l d) refl
-lines-end v d h (l ∷ m ∷ ls) = lines-end v d h (m ∷ ls)
+lines-end version v d h [] = h
+lines-end version v d h (l ∷ []) = rw (h, line-closed version v l d) refl
+lines-end version v d h (l ∷ m ∷ ls) = lines-end version v d h (m ∷ ls)
 
 -- ---- the texts are of lexemes
 
@@ -257,16 +288,25 @@ branch-inner : {V : Type 0} (v : Syntax V) → Inner v → Inner (branch v)
 unfolding branch
 branch-inner v i = seq-inner (operand v) _ (operand-inner v i) (seq-inner sign _ sign-inner (seq-inner (operand v) _ (operand-inner v i) (after-inner goto_word last_number (letters-name (codes "goto") refl) last_number-inner)))
 
-command-inner : {V : Type 0} (v : Syntax V) → Inner v → Inner (command v)
+free_branch-inner : Inner free_branch
+unfolding free_branch
+free_branch-inner = after-inner star _ syms.star_word (after-inner goto_word last_number (letters-name (codes "goto") refl) last_number-inner)
+
+behind_if-inner : {V : Type 0} (free : Bool) (v : Syntax V) → Inner v → Inner (behind_if free v)
+unfolding behind_if
+behind_if-inner true v i = alt-inner (is_one star) free_branch (branch v) free_branch-inner (branch-inner v i)
+behind_if-inner {V = V} false v i = shaped-inner {A = Branch V} inr the_branch IsBranch _ (branch-inner v i)
+
+command-inner : {V : Type 0} (version : Version) (v : Syntax V) → Inner v → Inner (command version v)
 unfolding command update
-command-inner {V = V} v i = shaped-inner {A = Commands V} to_command from_command Any _
+command-inner {V = V} version v i = shaped-inner {A = Commands V} to_command from_command Any _
     (alt-inner (is_one stop_word) _ _ (after-inner stop_word (one semicolon) (letters-name (codes "stop") refl) (one-inner semicolon (λ u f. syms.semicolon_word)))
     (alt-inner (is_one goto_word) _ _ (after-inner goto_word last_number (letters-name (codes "goto") refl) last_number-inner)
     (alt-inner (is_one free_word) _ _ (after-inner free_word _ (letters-name (codes "free") refl) (before-inner (operand v) semicolon syms.semicolon_word (operand-inner v i)))
-    (alt-inner (is_one if_word) _ _ (after-inner if_word (branch v) (letters-name (codes "if") refl) (branch-inner v i))
+    (alt-inner (is_one if_word) _ _ (after-inner if_word _ (letters-name (codes "if") refl) (behind_if-inner (has_free_branches version) v i))
     (alt-inner (is_one nil) _ _ (after-inner nil (store v) nil-word (store-inner v i)) (seq-inner v (change v) i (change-inner v i)))))))
 
-pub lines-inner : {V : Type 0} (v : Syntax V) → Inner v → Inner (lines v)
+pub lines-inner : {V : Type 0} (version : Version) (v : Syntax V) → Inner v → Inner (lines version v)
 unfolding lines line
-lines-inner {V = V} v i = many-inner (is_one line_word) _ (shaped-inner {A = ℕ × CommandTree V} to_line from_line Any _
-    (after-inner line_word _ (letters-name (codes "line") refl) (seq-inner (one number) _ number-inner (after-inner colon (command v) syms.colon_word (command-inner v i)))))
+lines-inner {V = V} version v i = many-inner (is_one line_word) _ (shaped-inner {A = ℕ × CommandTree V} to_line from_line Any _
+    (after-inner line_word _ (letters-name (codes "line") refl) (seq-inner (one number) _ number-inner (after-inner colon (command version v) syms.colon_word (command-inner version v i)))))

@@ -1,14 +1,16 @@
--- The grammar of programs over variables of any form.
-use Rattle.std.specs.Prelude.{ℕ, Bool, List, ◌⊎◌, codes}
+-- The grammar of programs over variables of any form, in each version of the formats.
+use Rattle.std.specs.Prelude.{ℕ, Bool, true, false, List, ◌⊎◌, codes}
 use Rattle.std.proofs.Common.{inl, inr}
 use Rattle.cyc_grammar.specs.Syntax.{Syntax, Class, one, seq, alt, many, shaped, after, before, is_one}
 use Rattle.cyc_grammar.specs.Classes.{symbol, keyword, number}
-use Rattle.heap_syntax.specs.Words.{nil, colon, semicolon, assign}
+use Rattle.heap_syntax.specs.Words.{nil, colon, semicolon, assign, star}
+use Rattle.heap_syntax.specs.declared.version.Version.{Version}
+use Rattle.heap_syntax.specs.declared.version.Version.TheVariants.{One, Two}
 use Rattle.heap_syntax.specs.Grammar.{Any, sign}
 use Rattle.command_syntax.specs.declared.tree.OperandTree.{OperandTree}
 use Rattle.command_syntax.specs.declared.tree.OperandTree.TheVariants.{Nil, Variable}
 use Rattle.command_syntax.specs.declared.tree.CommandTree.{CommandTree}
-use Rattle.command_syntax.specs.declared.tree.CommandTree.TheVariants.{Stop, Goto, Free, If, StoreAtNil, Change}
+use Rattle.command_syntax.specs.declared.tree.CommandTree.TheVariants.{Stop, Goto, Free, IfAny, If, StoreAtNil, Change}
 use Rattle.command_syntax.specs.declared.tree.ChangeTree.{ChangeTree}
 use Rattle.command_syntax.specs.declared.tree.ChangeTree.TheVariants.{New, Assign, Load, Store}
 use Rattle.command_syntax.specs.declared.tree.LineTree.{LineTree}
@@ -89,21 +91,47 @@ change {V = V} v = shaped {A = Changes V} to_change from_change Any (alt (is_one
 -- ---- command, and the semicolon behind it
 
 -- operand ( "=" | "!=" ) operand "goto" number ";"
-unfoldable pub branch : {V : Type 0} → Syntax V → Syntax (OperandTree V × (Bool × (OperandTree V × ℕ)))
+abbrev pub Branch : Type 0 → Type 0
+Branch V = OperandTree V × (Bool × (OperandTree V × ℕ))
+
+unfoldable pub branch : {V : Type 0} → Syntax V → Syntax (Branch V)
 branch v = seq (operand v) (seq sign (seq (operand v) (after goto_word last_number)))
+
+-- "*" "goto" number ";"
+unfoldable pub free_branch : Syntax ℕ
+free_branch = after star (after goto_word last_number)
+
+-- which versions have free branches
+abbrev pub has_free_branches : Version → Bool
+has_free_branches One = false
+has_free_branches Two = true
+
+-- what stands behind "if": free_branch, where the version has it, or branch
+abbrev pub IsBranch : {V : Type 0} → ℕ ⊎ Branch V → Type 0
+IsBranch (inl n) = ⊥
+IsBranch (inr p) = Unit {0}
+
+abbrev pub the_branch : {V : Type 0} → ℕ ⊎ Branch V → Branch V
+the_branch (inl n) = (Nil, (true, (Nil, n)))
+the_branch (inr p) = p
+
+unfoldable pub behind_if : {V : Type 0} → Bool → Syntax V → Syntax (ℕ ⊎ Branch V)
+behind_if true v = alt (is_one star) free_branch (branch v)
+behind_if {V = V} false v = shaped {A = Branch V} inr the_branch IsBranch (branch v)
 
 -- "nil" store | variable change
 unfoldable pub update : {V : Type 0} → Syntax V → Syntax ((ℕ × OperandTree V) ⊎ (V × ChangeTree V))
 update v = alt (is_one nil) (after nil (store v)) (seq v (change v))
 
 abbrev pub Commands : Type 0 → Type 0
-Commands V = Unit {0} ⊎ (ℕ ⊎ (OperandTree V ⊎ ((OperandTree V × (Bool × (OperandTree V × ℕ))) ⊎ ((ℕ × OperandTree V) ⊎ (V × ChangeTree V)))))
+Commands V = Unit {0} ⊎ (ℕ ⊎ (OperandTree V ⊎ ((ℕ ⊎ Branch V) ⊎ ((ℕ × OperandTree V) ⊎ (V × ChangeTree V)))))
 
 abbrev pub to_command : {V : Type 0} → Commands V → CommandTree V
 to_command (inl u) = Stop
 to_command (inr (inl n)) = Goto n
 to_command (inr (inr (inl t))) = Free t
-to_command (inr (inr (inr (inl p)))) = If p.0 p.1.0 p.1.1.0 p.1.1.1
+to_command (inr (inr (inr (inl (inl n))))) = IfAny n
+to_command (inr (inr (inr (inl (inr p))))) = If p.0 p.1.0 p.1.1.0 p.1.1.1
 to_command (inr (inr (inr (inr (inl p))))) = StoreAtNil p.0 p.1
 to_command (inr (inr (inr (inr (inr p))))) = Change p.0 p.1
 
@@ -111,16 +139,17 @@ abbrev pub from_command : {V : Type 0} → CommandTree V → Commands V
 from_command Stop = inl tt
 from_command (Goto n) = inr (inl n)
 from_command (Free t) = inr (inr (inl t))
-from_command (If t b u n) = inr (inr (inr (inl (t, (b, (u, n))))))
+from_command (IfAny n) = inr (inr (inr (inl (inl n))))
+from_command (If t b u n) = inr (inr (inr (inl (inr (t, (b, (u, n)))))))
 from_command (StoreAtNil n t) = inr (inr (inr (inr (inl (n, t)))))
 from_command (Change v c) = inr (inr (inr (inr (inr (v, c)))))
 
-unfoldable pub command : {V : Type 0} → Syntax V → Syntax (CommandTree V)
-command {V = V} v = shaped {A = Commands V} to_command from_command Any
+unfoldable pub command : {V : Type 0} → Version → Syntax V → Syntax (CommandTree V)
+command {V = V} version v = shaped {A = Commands V} to_command from_command Any
     (alt (is_one stop_word) (after stop_word (one semicolon))
     (alt (is_one goto_word) (after goto_word last_number)
     (alt (is_one free_word) (after free_word (before (operand v) semicolon))
-    (alt (is_one if_word) (after if_word (branch v)) (update v)))))
+    (alt (is_one if_word) (after if_word (behind_if (has_free_branches version) v)) (update v)))))
 
 -- ---- line = "line" number ":" command ";"
 
@@ -130,8 +159,8 @@ to_line p = record { number = p.0; command = p.1 }
 abbrev pub from_line : {V : Type 0} → LineTree V → ℕ × CommandTree V
 from_line l = (l.number, l.command)
 
-unfoldable pub line : {V : Type 0} → Syntax V → Syntax (LineTree V)
-line {V = V} v = shaped {A = ℕ × CommandTree V} to_line from_line Any (after line_word (seq (one number) (after colon (command v))))
+unfoldable pub line : {V : Type 0} → Version → Syntax V → Syntax (LineTree V)
+line {V = V} version v = shaped {A = ℕ × CommandTree V} to_line from_line Any (after line_word (seq (one number) (after colon (command version v))))
 
-unfoldable pub lines : {V : Type 0} → Syntax V → Syntax (List (LineTree V))
-lines v = many (is_one line_word) (line v)
+unfoldable pub lines : {V : Type 0} → Version → Syntax V → Syntax (List (LineTree V))
+lines version v = many (is_one line_word) (line version v)

@@ -2,7 +2,7 @@
 use Rattle.command_syntax.specs.declared.tree.OperandTree.{OperandTree}
 use Rattle.command_syntax.specs.declared.tree.OperandTree.TheVariants.{Nil, Variable}
 use Rattle.command_syntax.specs.declared.tree.CommandTree.{CommandTree}
-use Rattle.command_syntax.specs.declared.tree.CommandTree.TheVariants.{Stop, Goto, Free, If, StoreAtNil, Change}
+use Rattle.command_syntax.specs.declared.tree.CommandTree.TheVariants.{Stop, Goto, Free, IfAny, If, StoreAtNil, Change}
 use Rattle.command_syntax.specs.declared.tree.ChangeTree.{ChangeTree}
 use Rattle.command_syntax.specs.declared.tree.ChangeTree.TheVariants.{New, Assign, Load, Store}
 use Rattle.command_syntax.specs.declared.tree.LineTree.{LineTree}
@@ -21,6 +21,7 @@ change_of seen (Store n t) = Store n (operand_of seen t)
 
 abbrev pub command_of : {V W : Type 0} → (V → W) → CommandTree V → CommandTree W
 command_of seen Stop = Stop
+command_of seen (IfAny n) = IfAny n
 command_of seen (Goto n) = Goto n
 command_of seen (Free t) = Free (operand_of seen t)
 command_of seen (If t b u n) = If (operand_of seen t) b (operand_of seen u) n

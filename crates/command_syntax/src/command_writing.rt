@@ -10,6 +10,7 @@ use crate::form::WrittenVariable;
 use crate::tree::{ChangeTree, CommandTree, OperandTree};
 use cyc_lex::WordWriter;
 use cyc_memory::OutOfMemory;
+use heap_syntax::Version;
 
 #[tactic(auto, unfolding(crate::specs::Grammar::operand, cyc_lex::specs::Writing::write_all))]
 fn write_operand<'a, F: WrittenVariable<'a>>(
@@ -113,14 +114,15 @@ fn write_branch<'a, F: WrittenVariable<'a>>(
 }
 
 /// Writes a command and the semicolon behind it.
-#[tactic(auto, using(cyc_lex::proofs::WritingLaws::write_all_on), unfolding(crate::specs::Grammar::command, crate::specs::Grammar::update, cyc_lex::specs::Writing::write_all))]
+#[tactic(auto, using(cyc_lex::proofs::WritingLaws::write_all_on), unfolding(crate::specs::Grammar::command, crate::specs::Grammar::behind_if, crate::specs::Grammar::free_branch, crate::specs::Grammar::update, cyc_lex::specs::Writing::write_all))]
 pub fn write_command<'a, F: WrittenVariable<'a>>(
     form: &F,
+    version: Version,
     tree: CommandTree<F::Variable>,
     writer: &mut WordWriter,
 ) -> Result<(), OutOfMemory>
-    requires { (command (F.variables form.now)).fits (command_of F.seen tree) }
-    ensures { OnOk result (writer.new ≡ write_all writer.old ((command (F.variables form.now)).words (command_of F.seen tree))) }
+    requires { (command version (F.variables form.now)).fits (command_of F.seen tree) }
+    ensures { OnOk result (writer.new ≡ write_all writer.old ((command version (F.variables form.now)).words (command_of F.seen tree))) }
 {
     match tree {
         CommandTree::Stop => {
@@ -135,6 +137,12 @@ pub fn write_command<'a, F: WrittenVariable<'a>>(
             writer.name("free")?;
             write_operand(form, address, writer)?;
             writer.symbol(";")
+        }
+        CommandTree::IfAny(target) => {
+            writer.name("if")?;
+            writer.symbol("*")?;
+            writer.name("goto")?;
+            write_last_number(target, writer)
         }
         CommandTree::If(left, is_equation, right, target) => {
             writer.name("if")?;

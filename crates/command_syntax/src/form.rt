@@ -37,5 +37,6 @@ pub trait WrittenVariable<'a>: VariableForm<'a> {
         writer: &mut WordWriter,
     ) -> Result<(), OutOfMemory>
         requires { (Self.variables self.now).fits (Self.seen variable) }
-        ensures { OnOk result (writer.new ≡ write_all writer.old ((Self.variables self.now).words (Self.seen variable))) };
+        ensures { OnOk result (writer.new
+            ≡ write_all writer.old ((Self.variables self.now).words (Self.seen variable))) };
 }

@@ -10,34 +10,37 @@ use crate::form::WrittenVariable;
 use crate::tree::LineTree;
 use cyc_lex::WordWriter;
 use cyc_memory::OutOfMemory;
+use heap_syntax::Version;
 
 #[tactic(auto, using(cyc_lex::proofs::WritingLaws::write_all_on), unfolding(crate::specs::Grammar::line, cyc_lex::specs::Writing::write_all))]
 fn write_line<'a, F: WrittenVariable<'a>>(
     form: &F,
+    version: Version,
     tree: LineTree<F::Variable>,
     writer: &mut WordWriter,
 ) -> Result<(), OutOfMemory>
-    requires { (line (F.variables form.now)).fits (line_of F.seen tree) }
-    ensures { OnOk result (writer.new ≡ write_all writer.old ((line (F.variables form.now)).words (line_of F.seen tree))) }
+    requires { (line version (F.variables form.now)).fits (line_of F.seen tree) }
+    ensures { OnOk result (writer.new ≡ write_all writer.old ((line version (F.variables form.now)).words (line_of F.seen tree))) }
 {
     writer.name("line")?;
     writer.number(tree.number)?;
     writer.symbol(":")?;
-    write_command(form, tree.command, writer)
+    write_command(form, version, tree.command, writer)
 }
 
-/// Writes the lines of a program.
+/// Writes the lines of a program of a version.
 #[tactic(auto, unfolding(crate::specs::Grammar::lines))]
 pub fn write_lines<'a, F: WrittenVariable<'a>>(
     form: &F,
+    version: Version,
     trees: &[LineTree<F::Variable>],
     writer: &mut WordWriter,
 ) -> Result<(), OutOfMemory>
-    requires { (lines (F.variables form.now)).fits (map (line_of F.seen) trees.now) }
-    ensures { OnOk result (writer.new ≡ write_all writer.old ((lines (F.variables form.now)).words (map (line_of F.seen) trees.now))) }
+    requires { (lines version (F.variables form.now)).fits (map (line_of F.seen) trees.now) }
+    ensures { OnOk result (writer.new ≡ write_all writer.old ((lines version (F.variables form.now)).words (map (line_of F.seen) trees.now))) }
 {
     for tree in trees {
-        write_line(form, *tree, writer)?;
+        write_line(form, version, *tree, writer)?;
     }
     Ok(())
 }

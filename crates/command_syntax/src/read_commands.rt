@@ -2,13 +2,13 @@
 
 ghost use Rattle.std.specs.Prelude.{◌≡◌};
 ghost use Rattle.cyc_grammar.specs.Giving.{Gives};
-ghost use Rattle.command_syntax.specs.Grammar.{operand, last_number, store, source, change, branch, command};
+ghost use Rattle.command_syntax.specs.Grammar.{operand, last_number, store, source, change, branch, free_branch, has_free_branches as may_be_free, command};
 ghost use Rattle.command_syntax.specs.Trees.{operand_of, change_of, command_of};
 
 use crate::form::VariableForm;
 use crate::tree::{ChangeTree, CommandTree, OperandTree};
 use cyc_grammar::{Cursor, Refusal};
-use heap_syntax::sign;
+use heap_syntax::{Version, sign};
 
 #[tactic(auto, unfolding(crate::specs::Grammar::operand))]
 fn operand<'a, F: VariableForm<'a>>(
@@ -98,13 +98,34 @@ fn branch<'a, F: VariableForm<'a>>(
     Ok((left, is_equation, right, target))
 }
 
+/// Whether files of the version may have free branches.
+fn has_free_branches(version: Version) -> bool
+    ensures { result ≡ may_be_free version }
+{
+    match version {
+        Version::One => false,
+        Version::Two => true,
+    }
+}
+
+/// The line's number.
+#[tactic(auto, unfolding(crate::specs::Grammar::free_branch))]
+fn free_branch(cursor: &mut Cursor<'_, '_>) -> Result<u32, Refusal>
+    ensures { Gives (λ x. (x, cursor.new)) result (free_branch.read cursor.old) }
+{
+    cursor.symbol("*")?;
+    cursor.keyword("goto")?;
+    last_number(cursor)
+}
+
 /// Reads a command and the semicolon behind it.
-#[tactic(auto, unfolding(crate::specs::Grammar::command, crate::specs::Grammar::update))]
+#[tactic(auto, unfolding(crate::specs::Grammar::command, crate::specs::Grammar::behind_if, crate::specs::Grammar::update))]
 pub fn command<'a, F: VariableForm<'a>>(
     form: &F,
+    version: Version,
     cursor: &mut Cursor<'_, 'a>,
 ) -> Result<CommandTree<F::Variable>, Refusal>
-    ensures { Gives (λ x. (command_of F.seen x, cursor.new)) result ((command (F.variables form.now)).read cursor.old) }
+    ensures { Gives (λ x. (command_of F.seen x, cursor.new)) result ((command version (F.variables form.now)).read cursor.old) }
 {
     if cursor.is_keyword_next("stop") {
         cursor.keyword("stop")?;
@@ -123,6 +144,9 @@ pub fn command<'a, F: VariableForm<'a>>(
     }
     if cursor.is_keyword_next("if") {
         cursor.keyword("if")?;
+        if has_free_branches(version) && cursor.is_symbol_next("*") {
+            return Ok(CommandTree::IfAny(free_branch(cursor)?));
+        }
         let (left, is_equation, right, target) = branch(form, cursor)?;
         return Ok(CommandTree::If(left, is_equation, right, target));
     }

@@ -9,19 +9,21 @@ use crate::form::VariableForm;
 use crate::read_commands::command;
 use crate::tree::LineTree;
 use cyc_grammar::{Cursor, Refusal};
+use heap_syntax::Version;
 use std::alloc::Global;
 
 #[tactic(auto, unfolding(crate::specs::Grammar::line))]
 fn line<'a, F: VariableForm<'a>>(
     form: &F,
+    version: Version,
     cursor: &mut Cursor<'_, 'a>,
 ) -> Result<LineTree<F::Variable>, Refusal>
-    ensures { Gives (λ x. (line_of F.seen x, cursor.new)) result ((line (F.variables form.now)).read cursor.old) }
+    ensures { Gives (λ x. (line_of F.seen x, cursor.new)) result ((line version (F.variables form.now)).read cursor.old) }
 {
     cursor.keyword("line")?;
     let number = cursor.number()?;
     cursor.symbol(":")?;
-    let command = command(form, cursor)?;
+    let command = command(form, version, cursor)?;
     Ok(LineTree { number, command })
 }
 
@@ -29,16 +31,17 @@ fn line<'a, F: VariableForm<'a>>(
 #[tactic(auto, unfolding(crate::specs::Grammar::lines))]
 fn more_lines<'a, F: VariableForm<'a>>(
     form: &F,
+    version: Version,
     mut items: Vec<LineTree<F::Variable>>,
     cursor: &mut Cursor<'_, 'a>,
 ) -> Result<Vec<LineTree<F::Variable>>, Refusal>
-    ensures { Gives (λ x. (map (line_of F.seen) x.items, cursor.new)) result (with_front (map (line_of F.seen) items.items) ((lines (F.variables form.now)).read cursor.old)) }
+    ensures { Gives (λ x. (map (line_of F.seen) x.items, cursor.new)) result (with_front (map (line_of F.seen) items.items) ((lines version (F.variables form.now)).read cursor.old)) }
 {
     for _ in 0..cursor.left() {
         if !cursor.is_keyword_next("line") {
             return Ok(items);
         }
-        items.push(line(form, cursor)?)?;
+        items.push(line(form, version, cursor)?)?;
     }
     if cursor.is_keyword_next("line") {
         return Err(Refusal::Dead(cursor.left()));
@@ -46,14 +49,15 @@ fn more_lines<'a, F: VariableForm<'a>>(
     Ok(items)
 }
 
-/// Reads the lines of a program, of which there may be none.
+/// Reads the lines of a program of a version, of which there may be none.
 pub fn lines<'a, F: VariableForm<'a>>(
     alloc: Global,
     form: &F,
+    version: Version,
     cursor: &mut Cursor<'_, 'a>,
 ) -> Result<Vec<LineTree<F::Variable>>, Refusal>
-    ensures { Gives (λ x. (map (line_of F.seen) x.items, cursor.new)) result ((lines (F.variables form.now)).read cursor.old) }
+    ensures { Gives (λ x. (map (line_of F.seen) x.items, cursor.new)) result ((lines version (F.variables form.now)).read cursor.old) }
 {
     let items: Vec<LineTree<F::Variable>> = Vec::new(alloc);
-    more_lines(form, items, cursor)
+    more_lines(form, version, items, cursor)
 }

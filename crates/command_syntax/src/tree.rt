@@ -28,6 +28,8 @@ pub enum CommandTree<V> {
     Free(OperandTree<V>),
     /// Goes to a line if the operands are equal, where the flag is set, or if they differ.
     If(OperandTree<V>, bool, OperandTree<V>, u32),
+    /// Goes to a line or to the next one, whichever is picked.
+    IfAny(u32),
     /// Sets the field with this number of the cell at `nil`.
     StoreAtNil(u32, OperandTree<V>),
     Change(V, ChangeTree<V>),

@@ -9,7 +9,7 @@ use Rattle.heap_formula.specs.declared.atoms.Pure.TheVariants.{Eq, Neq}
 use Rattle.heap_formula.specs.declared.atoms.Spatial.{Spatial}
 use Rattle.heap_formula.specs.declared.atoms.Spatial.TheVariants.{Cell, Pred}
 use Rattle.heap_formula.specs.declared.commands.Command.{Command}
-use Rattle.heap_formula.specs.declared.commands.Command.TheVariants.{Assign, Load, Store, New, Free, IfEq, IfNeq, Goto, Stop}
+use Rattle.heap_formula.specs.declared.commands.Command.TheVariants.{Assign, Load, Store, New, Free, IfEq, IfNeq, IfAny, Goto, Stop}
 use Rattle.heap_formula.specs.declared.judgements.Judgement.{Judgement}
 use Rattle.heap_formula.specs.declared.judgements.Judgement.TheVariants.{Term as Runs}
 use Rattle.heap_formula.specs.declared.judgements.Premise.{Premise}
@@ -98,6 +98,7 @@ right_few most ds a b k c (Pred q ts) =
 
 command_few : (most i : ℕ) (a : SymbolicHeap) (n : ℕ) (c : Command) → HasFew (command_answer most i a n c)
 command_few most i a n Stop = omega arith
+command_few most i a n (IfAny j) = two_few most (at_line j a a) (at_line (i + 1) a a)
 command_few most i a n (Goto j) = one_few most (at_line j a a)
 command_few most i a n (IfEq t u j) = two_few most (at_line j a (with_atom a (Eq t u))) (at_line (i + 1) a (with_atom a (Neq t u)))
 command_few most i a n (IfNeq t u j) = two_few most (at_line j a (with_atom a (Neq t u))) (at_line (i + 1) a (with_atom a (Eq t u)))

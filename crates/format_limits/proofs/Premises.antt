@@ -2,7 +2,7 @@
 use Rattle.std.proofs.Common.{◌≡◌, ℕ, suc, List, [], ◌∷◌, length, Some, refl, subst}
 use Rattle.std.specs.Prelude.{Ok, slice_get}
 use Rattle.heap_formula.specs.declared.commands.Command.{Command}
-use Rattle.heap_formula.specs.declared.commands.Command.TheVariants.{Assign, Load, Store, New, Free, IfEq, IfNeq, Goto, Stop}
+use Rattle.heap_formula.specs.declared.commands.Command.TheVariants.{Assign, Load, Store, New, Free, IfEq, IfNeq, IfAny, Goto, Stop}
 use Rattle.heap_formula.specs.declared.judgements.Judgement.{Judgement}
 use Rattle.heap_formula.specs.declared.judgements.Premise.{Premise}
 use Rattle.heap_formula.specs.declared.proof_rules.Rule.{Rule}
@@ -29,6 +29,7 @@ is_command n i (New x k) m u = m.1.0
 is_command n i (Free t) m u = u
 is_command n i (IfEq t v j) m u = u
 is_command n i (IfNeq t v j) m u = u
+is_command n i (IfAny j) m u = tt
 is_command n i (Goto j) m u = tt
 is_command n i Stop m u = tt
 

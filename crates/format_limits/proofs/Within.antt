@@ -9,7 +9,7 @@ use Rattle.heap_formula.specs.declared.atoms.Pure.TheVariants.{Eq, Neq}
 use Rattle.heap_formula.specs.declared.atoms.Spatial.{Spatial}
 use Rattle.heap_formula.specs.declared.atoms.Spatial.TheVariants.{Cell, Pred}
 use Rattle.heap_formula.specs.declared.commands.Command.{Command}
-use Rattle.heap_formula.specs.declared.commands.Command.TheVariants.{Assign, Load, Store, New, Free, IfEq, IfNeq, Goto, Stop}
+use Rattle.heap_formula.specs.declared.commands.Command.TheVariants.{Assign, Load, Store, New, Free, IfEq, IfNeq, IfAny, Goto, Stop}
 use Rattle.heap_formula.specs.declared.judgements.Judgement.{Judgement}
 use Rattle.heap_formula.specs.declared.judgements.Judgement.TheVariants.{Entail, Term as Runs}
 use Rattle.heap_formula.specs.declared.judgements.Premise.{Premise}
@@ -255,6 +255,8 @@ module _ (most : ℕ) (ds : List Definition) (n : ℕ) where
         limited_nearly most ds n most (two (at_line j a (with_atom a (Eq t u))) (at_line (i + 1) a (with_atom a (Neq t u)))) (state_ready j (with_atom a (Eq t u)) l.1 shaped, (state_ready (i + 1) (with_atom a (Neq t u)) (next l.0) shaped, tt))
     command_nearly (IfNeq t u j) l =
         limited_nearly most ds n most (two (at_line j a (with_atom a (Neq t u))) (at_line (i + 1) a (with_atom a (Eq t u)))) (state_ready j (with_atom a (Neq t u)) l.1 shaped, (state_ready (i + 1) (with_atom a (Eq t u)) (next l.0) shaped, tt))
+    command_nearly (IfAny j) l =
+        limited_nearly most ds n most (two (at_line j a a) (at_line (i + 1) a a)) (state_ready j a l.1 shaped, (state_ready (i + 1) a (next l.0) shaped, tt))
     command_nearly (Assign x t) l =
         limited_nearly most ds n most (one (at_line (i + 1) a (with_atom (renamed x m a) (Eq (Univ x) (renamed_term x m t))))) (state_ready (i + 1) (with_atom (renamed x m a) (Eq (Univ x) (renamed_term x m t))) (next l) (renamed_shaped x), tt)
     command_nearly (Load x t k) l =

@@ -18,13 +18,23 @@ ghost use Rattle.format_limits.specs.Limits.{IsDefinitionWithin, IsJudgementWith
 /// The premises of a rule stay within the limits that its judgement keeps, and are at most sixteen.
 /// What a rule brings in of its own, the terms of a Split or an Instantiate and the formula of a Cut, has to be within them too, and so have the definitions.
 pub fn premises_stay_within()
-    ensures within { (most : ℕ) (ds : List Definition) (lines : List Command) (j : Judgement) (rule : Rule) (ps : List Premise) → Each (IsDefinitionWithin most ds) ds → IsProgram lines → IsJudgementWithin most ds (length lines) j → IsRuleWithin most ds rule → rule_answer most ds lines j rule ≡ Ok ps → Each (IsPremiseWithin most ds (length lines)) ps }
-    ensures few { (most : ℕ) (ds : List Definition) (lines : List Command) (j : Judgement) (rule : Rule) (ps : List Premise) → Each (IsDefinitionWithin most ds) ds → rule_answer most ds lines j rule ≡ Ok ps → length ps ≤ 16 }
+    ensures within { (most : ℕ) (ds : List Definition) (lines : List Command) (j : Judgement) (rule : Rule)
+        (ps : List Premise) → Each (IsDefinitionWithin most ds) ds → IsProgram lines
+        → IsJudgementWithin most ds (length lines) j → IsRuleWithin most ds rule
+        → rule_answer most ds lines j rule ≡ Ok ps → Each (IsPremiseWithin most ds (length lines)) ps }
+    ensures few { (most : ℕ) (ds : List Definition) (lines : List Command) (j : Judgement) (rule : Rule)
+        (ps : List Premise) → Each (IsDefinitionWithin most ds) ds → rule_answer most ds lines j rule ≡ Ok ps
+        → length ps ≤ 16 }
 {}
 
 /// A rule or a link without a fault names small numbers alone: places in lists of at most 64 members, so each fits nine digits.
 /// A link's target is no place in its bud, so no fault bounds it: it is the number of a node, and has to be short by itself.
 pub fn reasons_are_short()
-    ensures rules { (most : ℕ) (ds : List Definition) (lines : List Command) (j : Judgement) (rule : Rule) (ps : List Premise) → most ≤ 32 → Each (IsDefinitionWithin most ds) ds → IsJudgementWithin most ds (length lines) j → rule_answer most ds lines j rule ≡ Ok ps → HasShortNumbers (Step rule) }
-    ensures links { (most : ℕ) (ds : List Definition) (count p : ℕ) (bud companion : Judgement) (link : Link) → most ≤ 32 → IsJudgementWithin most ds count bud → link_fault bud companion link p ≡ None → IsShortNumber link.target → HasShortNumbers (Back link) }
+    ensures rules { (most : ℕ) (ds : List Definition) (lines : List Command) (j : Judgement) (rule : Rule)
+        (ps : List Premise) → most ≤ 32 → Each (IsDefinitionWithin most ds) ds
+        → IsJudgementWithin most ds (length lines) j → rule_answer most ds lines j rule ≡ Ok ps
+        → HasShortNumbers (Step rule) }
+    ensures links { (most : ℕ) (ds : List Definition) (count p : ℕ) (bud companion : Judgement) (link : Link)
+        → most ≤ 32 → IsJudgementWithin most ds count bud → link_fault bud companion link p ≡ None
+        → IsShortNumber link.target → HasShortNumbers (Back link) }
 {}

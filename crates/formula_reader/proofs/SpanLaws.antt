@@ -3,6 +3,7 @@ use Rattle.std.proofs.Common.{◌≡◌, ℕ, ◌+◌, Bool, true, false, List, 
 use Rattle.std.proofs.lemmas.List.{length-map}
 use Rattle.cyc_grammar.specs.Syntax.{Class, one, seq, is_one}
 use Rattle.cyc_grammar.specs.Classes.{the_end}
+use Rattle.heap_syntax.specs.declared.version.Version.{Version}
 use Rattle.heap_syntax.specs.declared.tree.PureTree.{PureTree}
 use Rattle.heap_syntax.specs.Trees.{Cell, Predicate, pure_of}
 use Rattle.heap_syntax.specs.Words.{comma, semicolon, bar, turnstile, closing, opening_brace, closing_brace, pred_word, or_word, last_word, free_name}
@@ -13,7 +14,7 @@ use Rattle.command_syntax.specs.declared.tree.OperandTree.TheVariants.{Nil as Ni
 use Rattle.command_syntax.specs.declared.tree.ChangeTree.{ChangeTree}
 use Rattle.command_syntax.specs.declared.tree.ChangeTree.TheVariants.{New, Assign, Load, Store}
 use Rattle.command_syntax.specs.declared.tree.CommandTree.{CommandTree}
-use Rattle.command_syntax.specs.declared.tree.CommandTree.TheVariants.{Stop, Goto, Free, If, StoreAtNil, Change}
+use Rattle.command_syntax.specs.declared.tree.CommandTree.TheVariants.{Stop, Goto, Free, IfAny, If, StoreAtNil, Change}
 use Rattle.command_syntax.specs.Trees.{operand_of, change_of, command_of}
 use Rattle.problem_syntax.specs.Trees as named
 use Rattle.problem_syntax.specs.Trees.{Named, Nil, Plain, Primed}
@@ -163,6 +164,7 @@ module _ (f : List ℕ → ℕ) where
   command_same : (c : CommandTree (List ℕ)) → command_span variable_span (command_of f c) ≡ command_span text_span c
   unfolding text_span
   command_same Stop = refl
+  command_same (IfAny n) = refl
   command_same (Goto n) = refl
   command_same (Free t) = ap (λ k. 1 + k) (operand_same t)
   command_same (If t b u n) = λ i. 1 + operand_same t i + operand_same u i + 2
@@ -172,10 +174,10 @@ module _ (f : List ℕ → ℕ) where
 line_same : (vs : List Name) (l : named.Line) → line_span variable_span (numbers.line vs l) ≡ line_span text_span l
 line_same vs l = ap (λ k. 3 + k) (command_same (λ s. place_of vs (plain s)) l.command)
 
-lines_counted : (vs : List Name) (ls : List named.Line) → lines.fits ls → length (lines.words ls) ≡ lines_span (map (numbers.line vs) ls)
+lines_counted : (version : Version) (vs : List Name) (ls : List named.Line) → (lines version).fits ls → length ((lines version).words ls) ≡ lines_span (map (numbers.line vs) ls)
 unfolding text_span
-lines_counted vs ls f =
-    lines_words (one free_name) text_span (λ s g. refl) ls f ∙ sym (total_map (line_span variable_span) (line_span text_span) (numbers.line vs) (line_same vs) ls)
+lines_counted version vs ls f =
+    lines_words (one free_name) text_span (λ s g. refl) version ls f ∙ sym (total_map (line_span variable_span) (line_span text_span) (numbers.line vs) (line_same vs) ls)
 
 -- ---- goals
 
@@ -206,14 +208,14 @@ pub problem_words : (p : named.Problem) → problem.fits p → length (problem.w
 unfolding problem body definitions last_part
 problem_words p f =
     let ds = alone (is_one pred_word) definition (λ d. definition_span (numbers.definition d)) definition_words p.definitions f.1.1.0 in
-    let ls = lines_counted (numbers.program_variables p.lines) p.lines f.1.1.1.0 in
+    let ls = lines_counted p.version (numbers.program_variables p.lines) p.lines f.1.1.1.0 in
     let g = goal_words (numbers.universals p) p.goal f.1.1.1.1 in
     let same = total_map definition_span (λ d. definition_span (numbers.definition d)) numbers.definition (λ d. refl) p.definitions in
     let end = last_word.word tt ∷ [] in
     let k = length-append (goal.words p.goal) end in
     let l = length-append (goal.words p.goal ++ end) (semicolon.word tt ∷ []) in
-    let m = length-append (lines.words p.lines) (last_part.words p.goal) in
-    let n = length-append (definitions.words p.definitions) (lines.words p.lines ++ last_part.words p.goal) in
+    let m = length-append ((lines p.version).words p.lines) (last_part.words p.goal) in
+    let n = length-append (definitions.words p.definitions) ((lines p.version).words p.lines ++ last_part.words p.goal) in
     let o = length-append (body.words p) (the_end.word tt ∷ []) in
     omega arith
 

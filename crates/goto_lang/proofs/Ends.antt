@@ -4,7 +4,7 @@ use Rattle.std.specs.Prelude.{◌↔◌, IsSome, replicate}
 use Rattle.std.proofs.Math.ListN.{length-replicate}
 use Rattle.std.proofs.lemmas.Bool.{cases_lt, cases_order}
 use Rattle.heap_formula.specs.declared.commands.Command.{Command}
-use Rattle.heap_formula.specs.declared.commands.Command.TheVariants.{Assign, Load, Store, New, Free, IfEq, IfNeq, Goto, Stop as StopCommand}
+use Rattle.heap_formula.specs.declared.commands.Command.TheVariants.{Assign, Load, Store, New, Free, IfEq, IfNeq, IfAny, Goto, Stop as StopCommand}
 use Rattle.heap_formula.specs.Cells.{Cells, cell_at}
 use Rattle.heap_formula.specs.Programs.{Config as State, Faults, MayPick, command_at, greatest}
 use Rattle.heap_formula.proofs.StepLaws.{may_pick}
@@ -17,7 +17,7 @@ use Rattle.goto_lang.specs.Lines.{IsProgram, MayStandAt}
 use Rattle.goto_lang.specs.States.{state_of, IsStateOf, IsLeastFree}
 use Rattle.goto_lang.specs.Steps.{MayTake, Leads, IsSuccessor}
 use Rattle.goto_lang.specs.Effects.{Makes}
-use Rattle.goto_lang.specs.Endings.{zero_fields, LowestStep, LowestRun, IsEnding, IsLowest}
+use Rattle.goto_lang.specs.Endings.{zero_fields, IsLowestPick, LowestStep, LowestRun, IsEnding, IsLowest}
 use Rattle.goto_lang.proofs.Moves.{goes, leads_same, leads_well, one_command, leads_stay}
 
 -- ---- the least free address
@@ -36,6 +36,18 @@ least_same h a b p q =
       ]
     ]
 
+pick_same : (x : Command) (h : Cells) (a b : ℕ) → IsLowestPick x h a → IsLowestPick x h b → a ≡ b
+pick_same (Assign x t) h a b p q = least_same h a b p q
+pick_same (Load x t k) h a b p q = least_same h a b p q
+pick_same (Store t k u) h a b p q = least_same h a b p q
+pick_same (New x k) h a b p q = least_same h a b p q
+pick_same (Free t) h a b p q = least_same h a b p q
+pick_same (IfEq t u j) h a b p q = least_same h a b p q
+pick_same (IfNeq t u j) h a b p q = least_same h a b p q
+pick_same (IfAny j) h a b p q = p ∙ sym q
+pick_same (Goto j) h a b p q = least_same h a b p q
+pick_same StopCommand h a b p q = least_same h a b p q
+
 -- it is at most one above the greatest number
 least_within : (w : ℕ) (c : State) (a k : ℕ) → 0 < w → IsLeastFree c.heap a → MayPick w c k a (replicate k 0)
 least_within w c a k pos l =
@@ -51,7 +63,7 @@ least_within w c a k pos l =
     within (inl above) m = absurd (none_is_none (cell_at c.heap (suc (greatest c))) m.free (l.least (suc (greatest c)) m.positive above))
     within (inr below) m = omega arith
 
-zero_may : (x : Command) (w : ℕ) (c : State) (a : ℕ) → 0 < w → IsLeastFree c.heap a → MayTake x w a (zero_fields x) c
+zero_may : (x : Command) (w : ℕ) (c : State) (a : ℕ) → 0 < w → IsLowestPick x c.heap a → MayTake x w a (zero_fields x) c
 zero_may (New x k) w c a pos l = least_within w c a k pos l
 zero_may (Assign x t) w c a pos l = tt
 zero_may (Load x t k) w c a pos l = tt
@@ -59,24 +71,26 @@ zero_may (Store t k u) w c a pos l = tt
 zero_may (Free t) w c a pos l = tt
 zero_may (IfEq t u j) w c a pos l = tt
 zero_may (IfNeq t u j) w c a pos l = tt
+zero_may (IfAny j) w c a pos l = omega arith
 zero_may (Goto j) w c a pos l = tt
 zero_may StopCommand w c a pos l = tt
 
 pub lowest_is_step : (lines : List Command) (w : ℕ) → 0 < w → (c d : State) → LowestStep lines c d → IsSuccessor lines w c d
 lowest_is_step lines w pos c d s = (s.0, s.2, goes s.0 w s.1 (zero_fields s.0) c d (zero_may s.0 w c s.1 pos s.3) s.4)
 
-pub zero_takes : (x : Command) (a n i : ℕ) → 0 < a → MayStandAt n i x → (y k : ℕ) → x ≡ New y k → (0 < a) × (0 < length (zero_fields x))
-zero_takes (New x k) a n i pos s y j e = (pos, subst (λ (m : ℕ). 0 < m) (sym (length-replicate k 0)) s.1.0)
-zero_takes (Assign x t) a n i pos s y j e = cc
-zero_takes (Load x t k) a n i pos s y j e = cc
-zero_takes (Store t k u) a n i pos s y j e = cc
-zero_takes (Free t) a n i pos s y j e = cc
-zero_takes (IfEq t u k) a n i pos s y j e = cc
-zero_takes (IfNeq t u k) a n i pos s y j e = cc
-zero_takes (Goto k) a n i pos s y j e = cc
-zero_takes StopCommand a n i pos s y j e = cc
+pub zero_takes : (x : Command) (h : Cells) (a n i : ℕ) → IsLowestPick x h a → MayStandAt n i x → (y k : ℕ) → x ≡ New y k → (0 < a) × (0 < length (zero_fields x))
+zero_takes (New x k) h a n i l s y j e = (l.positive, subst (λ (m : ℕ). 0 < m) (sym (length-replicate k 0)) s.1.0)
+zero_takes (Assign x t) h a n i l s y j e = cc
+zero_takes (Load x t k) h a n i l s y j e = cc
+zero_takes (Store t k u) h a n i l s y j e = cc
+zero_takes (Free t) h a n i l s y j e = cc
+zero_takes (IfEq t u k) h a n i l s y j e = cc
+zero_takes (IfNeq t u k) h a n i l s y j e = cc
+zero_takes (IfAny k) h a n i l s y j e = cc
+zero_takes (Goto k) h a n i l s y j e = cc
+zero_takes StopCommand h a n i l s y j e = cc
 
-pub makes_lowest : (lines : List Command) (c : State) (x : Command) (a : ℕ) (vs : List ℕ) (r : Stepped) → IsProgram lines → IsStateOf lines c → command_at lines c ≡ Some x → IsLeastFree c.heap a → vs ≡ zero_fields x → Makes x a vs c r → IsLowest lines c r
+pub makes_lowest : (lines : List Command) (c : State) (x : Command) (a : ℕ) (vs : List ℕ) (r : Stepped) → IsProgram lines → IsStateOf lines c → command_at lines c ≡ Some x → IsLowestPick x c.heap a → vs ≡ zero_fields x → Makes x a vs c r → IsLowest lines c r
 makes_lowest lines c x a vs Stop program is at l e m = at ∙ ap Some m
 makes_lowest lines c x a vs Fault program is at l e m = (x, at, m)
 makes_lowest lines c x a vs (To d) program is at l e m =
@@ -88,7 +102,7 @@ makes_lowest lines c x a vs BadPick program is at l e m = absurd m
 lowest_same : (lines : List Command) (c d e : State) → LowestStep lines c d → LowestStep lines c e → d ≡ e
 lowest_same lines c d e p q =
     let x = one_command p.0 q.0 p.2 q.2 in
-    let a = least_same c.heap p.1 q.1 p.3 q.3 in
+    let a = pick_same q.0 c.heap p.1 q.1 (subst (λ y. IsLowestPick y c.heap p.1) x p.3) q.3 in
     leads_same q.0 q.1 (zero_fields q.0) c d e (subst (λ b. Leads q.0 b (zero_fields q.0) c d) a (subst (λ y. Leads y p.1 (zero_fields y) c d) x p.4)) q.4
 
 run_same : (lines : List Command) (n : ℕ) (c d e : State) → LowestRun lines n c d → LowestRun lines n c e → d ≡ e

@@ -7,7 +7,7 @@ use Rattle.std.proofs.lemmas.Bool.Decides.{nat_tests}
 use Rattle.heap_formula.specs.declared.terms.Term.{Term}
 use Rattle.heap_formula.specs.declared.terms.Term.TheVariants.{Nil, Univ, Exist}
 use Rattle.heap_formula.specs.declared.commands.Command.{Command}
-use Rattle.heap_formula.specs.declared.commands.Command.TheVariants.{Assign, Load, Store, New, Free, IfEq, IfNeq, Goto, Stop}
+use Rattle.heap_formula.specs.declared.commands.Command.TheVariants.{Assign, Load, Store, New, Free, IfEq, IfNeq, IfAny, Goto, Stop}
 use Rattle.heap_formula.specs.Words.{Each, max_of}
 use Rattle.heap_formula.specs.Programs.{counted_from_one, command_bound, term_bound}
 use Rattle.goto_lang.specs.Faults.{variable_fault, term_fault, field_fault, jump_fault, command_fault, goes_on, line_fault, lines_fault, program_fault}
@@ -86,6 +86,7 @@ stands n i (IfNeq t u j) le l e =
     let s = or_none (term_fault u) (jump_fault n i j) r.1 in
     let v = term_within t r.0 in
     let w = term_within u s.0 in ((not_last n i _ refl l le, target_right n i j s.1), omega arith)
+stands n i (IfAny j) le l e = ((not_last n i _ refl l le, target_right n i j e), omega arith)
 stands n i (Goto j) le l e = (target_right n i j e, omega arith)
 stands n i Stop le l e = (tt, omega arith)
 

@@ -1,10 +1,10 @@
 -- One step: what a command makes of a state, that no two answers fit, and that the state stays one of the program.
-use Rattle.std.proofs.Common.{◌≡◌, ◌≢◌, ℕ, zero, suc, ◌+◌, ◌-◌, ◌<◌, ◌≤◌, ◌^◌, Bool, true, false, not, cond, List, [], ◌∷◌, map, length, Option, Some, None, refl, sym, ap, subst, ◌∙◌, arith}
+use Rattle.std.proofs.Common.{◌≡◌, ◌≢◌, ℕ, zero, suc, ◌+◌, ◌-◌, ◌<◌, ◌≤◌, ◌^◌, Bool, true, false, not, cond, ◌⊎◌, inl, inr, List, [], ◌∷◌, map, length, Option, Some, None, refl, sym, ap, subst, ◌∙◌, arith}
 use Rattle.std.specs.Prelude.{◌↔◌, nat_eq, slice_get, slice_set}
 use Rattle.std.proofs.lemmas.List.{length-set}
 use Rattle.std.specs.FinMap.{insert}
 use Rattle.heap_formula.specs.declared.commands.Command.{Command}
-use Rattle.heap_formula.specs.declared.commands.Command.TheVariants.{Assign, Load, Store, New, Free, IfEq, IfNeq, Goto, Stop as StopCommand}
+use Rattle.heap_formula.specs.declared.commands.Command.TheVariants.{Assign, Load, Store, New, Free, IfEq, IfNeq, IfAny, Goto, Stop as StopCommand}
 use Rattle.heap_formula.specs.Words.{Each, max_of}
 use Rattle.heap_formula.specs.Programs.{Config as State, Goes, Faults, command_at, counted_from_one, command_bound, program_variables, field_of, value_in, greatest, next_line, jump}
 use Rattle.heap_formula.proofs.StepLaws.{step_exists}
@@ -52,6 +52,12 @@ unequal_makes t u j a vs c Fault h = absurd h
 unequal_makes t u j a vs c (To d) h = h ∙ ap (jump c) (turned (nat_eq (value_in c t) (value_in c u)) j (c.line + 1))
 unequal_makes t u j a vs c BadPick h = h
 
+pub any_makes : (j a : ℕ) (vs : List ℕ) (c : State) (r : Stepped) → IsJump (cond (nat_eq a 1) j (c.line + 1)) c r → Makes (IfAny j) a vs c r
+any_makes j a vs c Stop h = absurd h
+any_makes j a vs c Fault h = absurd h
+any_makes j a vs c (To d) h = h
+any_makes j a vs c BadPick h = h
+
 -- ---- fields
 
 pub no_field : (vs : List ℕ) (k : ℕ) → length vs < k → counted_from_one vs k ≡ None
@@ -86,6 +92,7 @@ leads_same (New x k) a vs c d e p q = p ∙ sym q
 leads_same (Free t) a vs c d e p q = p.2 ∙ sym q.2
 leads_same (IfEq t u j) a vs c d e p q = p ∙ sym q
 leads_same (IfNeq t u j) a vs c d e p q = p ∙ sym q
+leads_same (IfAny j) a vs c d e p q = p ∙ sym q
 leads_same (Goto j) a vs c d e p q = p ∙ sym q
 leads_same StopCommand a vs c d e p q = absurd p
 
@@ -98,6 +105,7 @@ leads_well (New x k) a vs c d p f = f
 leads_well (Free t) a vs c d p f = let no : Some p.0 ≡ None = sym p.1 ∙ f in cc
 leads_well (IfEq t u j) a vs c d p f = f
 leads_well (IfNeq t u j) a vs c d p f = f
+leads_well (IfAny j) a vs c d p f = f
 leads_well (Goto j) a vs c d p f = f
 leads_well StopCommand a vs c d p f = f
 
@@ -109,6 +117,7 @@ faults_take (New x k) w a vs c f = absurd f
 faults_take (Free t) w a vs c f = tt
 faults_take (IfEq t u j) w a vs c f = tt
 faults_take (IfNeq t u j) w a vs c f = tt
+faults_take (IfAny j) w a vs c f = absurd f
 faults_take (Goto j) w a vs c f = tt
 faults_take StopCommand w a vs c f = tt
 
@@ -170,8 +179,14 @@ taken (New x k) w c d h g =
 taken (Free t) w c d h g = record { address = 0; fields = []; fits = omega arith; fields_fit = tt; may = tt; leads = g }
 taken (IfEq t u j) w c d h g = record { address = 0; fields = []; fits = omega arith; fields_fit = tt; may = tt; leads = g }
 taken (IfNeq t u j) w c d h g = record { address = 0; fields = []; fits = omega arith; fields_fit = tt; may = tt; leads = g }
+taken (IfAny j) w c d h (inl g) = record { address = 1; fields = []; fits = omega arith; fields_fit = tt; may = omega arith; leads = g }
+taken (IfAny j) w c d h (inr g) = record { address = 0; fields = []; fits = omega arith; fields_fit = tt; may = omega arith; leads = g }
 taken (Goto j) w c d h g = record { address = 0; fields = []; fits = omega arith; fields_fit = tt; may = tt; leads = g }
 taken StopCommand w c d h g = absurd g
+
+one_of_two : (b : Bool) (j k : ℕ) (c d : State) → d ≡ jump c (cond b j k) → (d ≡ jump c j) ⊎ (d ≡ jump c k)
+one_of_two true j k c d e = inl e
+one_of_two false j k c d e = inr e
 
 pub goes : (x : Command) (w a : ℕ) (vs : List ℕ) (c d : State) → MayTake x w a vs c → Leads x a vs c d → Goes x w c d
 goes (Assign x t) w a vs c d may l = l
@@ -181,6 +196,7 @@ goes (New x k) w a vs c d may l = (a, vs, may, l)
 goes (Free t) w a vs c d may l = l
 goes (IfEq t u j) w a vs c d may l = l
 goes (IfNeq t u j) w a vs c d may l = l
+goes (IfAny j) w a vs c d may l = one_of_two (nat_eq a 1) j (c.line + 1) c d l
 goes (Goto j) w a vs c d may l = l
 goes StopCommand w a vs c d may l = l
 
@@ -207,6 +223,8 @@ some_step lines w c x pos at ns nf =
     picked (Free t) at d g = (0, [], made d, (_, at, tt, g))
     picked (IfEq t u j) at d g = (0, [], made d, (_, at, tt, g))
     picked (IfNeq t u j) at d g = (0, [], made d, (_, at, tt, g))
+    picked (IfAny j) at d (inl g) = (1, [], made d, (_, at, omega arith, g))
+    picked (IfAny j) at d (inr g) = (0, [], made d, (_, at, omega arith, g))
     picked (Goto j) at d g = (0, [], made d, (_, at, tt, g))
     picked StopCommand at d g = absurd g
 
@@ -241,6 +259,7 @@ leads_stay lines (New x k) a vs c d is may l = next_stays lines c d _ _ is may.0
 leads_stay lines (Free t) a vs c d is may l = next_stays lines c d _ _ is may refl l.2
 leads_stay lines (IfEq t u j) a vs c d is may l = let lt = may.0 in jump_stays lines c d _ is (either (length lines) _ j (c.line + 1) may.1 (omega arith, omega arith)) l
 leads_stay lines (IfNeq t u j) a vs c d is may l = let lt = may.0 in jump_stays lines c d _ is (either (length lines) _ (c.line + 1) j (omega arith, omega arith) may.1) l
+leads_stay lines (IfAny j) a vs c d is may l = let lt = may.0 in jump_stays lines c d _ is (either (length lines) _ j (c.line + 1) may.1 (omega arith, omega arith)) l
 leads_stay lines (Goto j) a vs c d is may l = jump_stays lines c d j is may l
 leads_stay lines StopCommand a vs c d is may l = absurd l
 
@@ -252,6 +271,7 @@ new_takes (Store t k u) w a vs c n i may s y j e = cc
 new_takes (Free t) w a vs c n i may s y j e = cc
 new_takes (IfEq t u k) w a vs c n i may s y j e = cc
 new_takes (IfNeq t u k) w a vs c n i may s y j e = cc
+new_takes (IfAny k) w a vs c n i may s y j e = cc
 new_takes (Goto k) w a vs c n i may s y j e = cc
 new_takes StopCommand w a vs c n i may s y j e = cc
 

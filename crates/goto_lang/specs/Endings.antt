@@ -1,7 +1,8 @@
--- The run in which `new` takes the least free address and fills with 0.
+-- The run in which `new` takes the least free address and fills with 0, and `if *` goes to the next line.
 use Rattle.std.specs.Prelude.{◌≡◌, ◌≢◌, ℕ, zero, suc, ◌≤◌, List, [], replicate, Some}
 use Rattle.heap_formula.specs.declared.commands.Command.{Command}
-use Rattle.heap_formula.specs.declared.commands.Command.TheVariants.{New, Stop as StopCommand}
+use Rattle.heap_formula.specs.declared.commands.Command.TheVariants.{New, IfAny, Stop as StopCommand}
+use Rattle.heap_formula.specs.Cells.{Cells}
 use Rattle.heap_formula.specs.Programs.{Config as State, Faults, command_at}
 use Rattle.goto_lang.specs.declared.runs.Ran.{Ran}
 use Rattle.goto_lang.specs.declared.runs.Ran.TheVariants.{Stopped, Faulted, Running}
@@ -15,10 +16,15 @@ abbrev pub zero_fields : Command → List ℕ
 zero_fields (New x k) = replicate k 0
 zero_fields x = []
 
+-- what a command takes: `if *` takes 0
+abbrev pub IsLowestPick : Command → Cells → ℕ → Type 0
+IsLowestPick (IfAny j) h a = a ≡ 0
+IsLowestPick x h a = IsLeastFree h a
+
 -- a step from c to d
 abbrev pub LowestStep : List Command → State → State → Type 0
 LowestStep lines c d =
-    (x : Command) × (a : ℕ) × (command_at lines c ≡ Some x) × IsLeastFree c.heap a × Leads x a (zero_fields x) c d
+    (x : Command) × (a : ℕ) × (command_at lines c ≡ Some x) × IsLowestPick x c.heap a × Leads x a (zero_fields x) c d
 
 -- n steps from c to d
 abbrev pub LowestRun : List Command → ℕ → State → State → Type 0
@@ -34,7 +40,7 @@ IsEnding lines steps c (Faulted n) =
 IsEnding lines steps c Running =
     (d : State) × (x : Command) × LowestRun lines steps c d × (command_at lines d ≡ Some x) × (x ≢ StopCommand) × (¬ Faults x d)
 
--- the step from c with the least free address: it is at `stop`, it faults, or it leads to a state of the program
+-- the step from c that picks as above: it is at `stop`, it faults, or it leads to a state of the program
 abbrev pub IsLowest : List Command → State → Stepped → Type 0
 IsLowest lines c Stop = command_at lines c ≡ Some StopCommand
 IsLowest lines c Fault = (x : Command) × (command_at lines c ≡ Some x) × Faults x c

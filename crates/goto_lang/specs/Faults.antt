@@ -4,7 +4,7 @@ use Rattle.std.specs.Option.{option_or}
 use Rattle.heap_formula.specs.declared.terms.Term.{Term}
 use Rattle.heap_formula.specs.declared.terms.Term.TheVariants.{Nil, Univ, Exist}
 use Rattle.heap_formula.specs.declared.commands.Command.{Command}
-use Rattle.heap_formula.specs.declared.commands.Command.TheVariants.{Assign, Load, Store, New, Free, IfEq, IfNeq, Goto, Stop}
+use Rattle.heap_formula.specs.declared.commands.Command.TheVariants.{Assign, Load, Store, New, Free, IfEq, IfNeq, IfAny, Goto, Stop}
 use Rattle.heap_formula.specs.declared.heaps.Count.TheVariants.{Lines, ProgramVariables, Fields}
 use Rattle.goto_lang.specs.declared.faults.ProgramFault.{ProgramFault}
 use Rattle.goto_lang.specs.declared.faults.ProgramFault.TheVariants.{Jump, FallsOff, Numbering, Limit, OutOfMemory}
@@ -34,6 +34,7 @@ command_fault n i (New x k) = option_or (variable_fault x) (field_fault k)
 command_fault n i (Free t) = term_fault t
 command_fault n i (IfEq t u j) = option_or (term_fault t) (option_or (term_fault u) (jump_fault n i j))
 command_fault n i (IfNeq t u j) = option_or (term_fault t) (option_or (term_fault u) (jump_fault n i j))
+command_fault n i (IfAny j) = jump_fault n i j
 command_fault n i (Goto j) = jump_fault n i j
 command_fault n i Stop = None
 

@@ -1,7 +1,7 @@
 -- What the lines of a program keep.
 use Rattle.std.specs.Prelude.{◌≡◌, ℕ, ◌<◌, ◌≤◌, List, map, length, Some}
 use Rattle.heap_formula.specs.declared.commands.Command.{Command}
-use Rattle.heap_formula.specs.declared.commands.Command.TheVariants.{Assign, Load, Store, New, Free, IfEq, IfNeq, Goto, Stop}
+use Rattle.heap_formula.specs.declared.commands.Command.TheVariants.{Assign, Load, Store, New, Free, IfEq, IfNeq, IfAny, Goto, Stop}
 use Rattle.heap_formula.specs.Words.{Each}
 use Rattle.heap_formula.specs.Closedness.{IsUniversal}
 use Rattle.heap_formula.specs.Programs.{counted_from_one, program_variables}
@@ -15,6 +15,7 @@ IsUniversalCommand (New x k) = Unit {0}
 IsUniversalCommand (Free t) = IsUniversal t
 IsUniversalCommand (IfEq t u j) = IsUniversal t × IsUniversal u
 IsUniversalCommand (IfNeq t u j) = IsUniversal t × IsUniversal u
+IsUniversalCommand (IfAny j) = Unit {0}
 IsUniversalCommand (Goto j) = Unit {0}
 IsUniversalCommand Stop = Unit {0}
 
@@ -37,6 +38,7 @@ MayStandAt n i (New x k) = (i < n) × IsFieldNumber k
 MayStandAt n i (Free t) = i < n
 MayStandAt n i (IfEq t u j) = (i < n) × IsLineOf n j
 MayStandAt n i (IfNeq t u j) = (i < n) × IsLineOf n j
+MayStandAt n i (IfAny j) = (i < n) × IsLineOf n j
 MayStandAt n i (Goto j) = IsLineOf n j
 MayStandAt n i Stop = Unit {0}
 

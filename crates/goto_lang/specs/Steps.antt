@@ -1,21 +1,24 @@
 -- One step of a program.
-use Rattle.std.specs.Prelude.{◌≡◌, ℕ, List, Some, slice_set}
+use Rattle.std.specs.Prelude.{◌≡◌, ℕ, ◌+◌, ◌≤◌, List, Some, nat_eq, if◌then◌else◌, slice_set}
 use Rattle.std.specs.FinMap.{insert}
 use Rattle.heap_formula.specs.declared.commands.Command.{Command}
-use Rattle.heap_formula.specs.declared.commands.Command.TheVariants.{New, Stop as StopCommand}
-use Rattle.heap_formula.specs.Programs.{Config as State, Goes, Faults, MayPick, command_at, next_line}
+use Rattle.heap_formula.specs.declared.commands.Command.TheVariants.{New, IfAny, Stop as StopCommand}
+use Rattle.heap_formula.specs.Programs.{Config as State, Goes, Faults, MayPick, command_at, next_line, jump}
 use Rattle.goto_lang.specs.declared.steps.Stepped.{Stepped}
 use Rattle.goto_lang.specs.declared.steps.Stepped.TheVariants.{Stop, Fault, To, BadPick}
 use Rattle.goto_lang.specs.States.{state_of}
 
--- where the command is `new`, it may take this address and these values under headroom w
+-- where the command is `new`, it may take this address and these values under headroom w; `if *` may take 0 and 1
 abbrev pub MayTake : Command → ℕ → ℕ → List ℕ → State → Type 0
 MayTake (New x k) w a vs c = MayPick w c k a vs
+MayTake (IfAny j) w a vs c = a ≤ 1
 MayTake x w a vs c = Unit {0}
 
--- the command leads from c to d, and where it is `new` it takes this address and these values; the headroom matters to `new` alone
+-- the command leads from c to d: `new` takes this address and these values, and `if *` jumps where 1 is picked; the headroom
+-- matters to `new` alone
 abbrev pub Leads : Command → ℕ → List ℕ → State → State → Type 0
 Leads (New x k) a vs c d = d ≡ next_line c (slice_set c.stack x a) (insert c.heap a vs)
+Leads (IfAny j) a vs c d = d ≡ jump c (if nat_eq a 1 then j else c.line + 1)
 Leads x a vs c d = Goes x 0 c d
 
 -- the step from c: it is at `stop`; it faults; it leads to d with an allowed pick; its pick is not allowed

@@ -88,7 +88,8 @@ impl Cells {
 
     /// The fields of the cell at an address.
     pub fn get(&self, address: u64) -> Option<&[u64]>
-        ensures value { MatchOption result (cell_at self.now address ≡ None) (λ f. cell_at self.now address ≡ Some f.now) }
+        ensures value { MatchOption result (cell_at self.now address ≡ None) (λ f. cell_at self.now address
+            ≡ Some f.now) }
         ensures heap { IsHeap self.now }
     {
         match self.cells.get(&address) {

@@ -12,15 +12,19 @@ ghost use Rattle.goto_lang.specs.Endings.{LowestStep};
 
 /// With positive headroom, a state that is not at `stop` and does not fault makes a step with some pick.
 pub fn some_step_is_allowed()
-    ensures { (lines : List Command) (w : ℕ) (c : Config) (x : Command) → 0 < w → command_at lines (state_of c) ≡ Some x → x ≢ StopCommand → (¬ Faults x (state_of c)) → (a : ℕ) × (vs : List ℕ) × (d : Config) × IsStep lines w a vs (state_of c) (To d) }
+    ensures { (lines : List Command) (w : ℕ) (c : Config) (x : Command) → 0 < w
+        → command_at lines (state_of c) ≡ Some x → x ≢ StopCommand → (¬ Faults x (state_of c))
+        → (a : ℕ) × (vs : List ℕ) × (d : Config) × IsStep lines w a vs (state_of c) (To d) }
 {}
 
 /// A state is a successor exactly where some step leads to it, with an address and fields that the machine's words hold.
 pub fn successors_are_steps()
-    ensures { (lines : List Command) (w : ℕ) (c : Config) (d : Config) → greatest (state_of c) + w < 2 ^ 64 → IsSuccessor lines w (state_of c) (state_of d) ↔ ((a : ℕ) × (vs : List ℕ) × (a < 2 ^ 64) × Each (λ v. v < 2 ^ 64) vs × IsStep lines w a vs (state_of c) (To d)) }
+    ensures { (lines : List Command) (w : ℕ) (c : Config) (d : Config) → greatest (state_of c) + w < 2 ^ 64
+        → IsSuccessor lines w (state_of c) (state_of d) ↔ ((a : ℕ) × (vs : List ℕ) × (a < 2 ^ 64)
+        × Each (λ v. v < 2 ^ 64) vs × IsStep lines w a vs (state_of c) (To d)) }
 {}
 
-/// Each step that takes the least free address is one of the machine's, whatever the headroom, if that is positive.
+/// Each step of such a run is one of the machine's, whatever the headroom, if that is positive.
 pub fn lowest_steps_are_steps()
     ensures { (lines : List Command) (w : ℕ) → 0 < w → (c d : State) → LowestStep lines c d → IsSuccessor lines w c d }
 {}

@@ -98,7 +98,7 @@ fn fault_of_command(lines: usize, line: u32, command: Command) -> Option<Program
         Command::IfEq(t, u, j) | Command::IfNeq(t, u, j) => {
             fault_of_term(t).or(fault_of_term(u).or(fault_of_jump(lines, line, j)))
         }
-        Command::Goto(j) => fault_of_jump(lines, line, j),
+        Command::IfAny(j) | Command::Goto(j) => fault_of_jump(lines, line, j),
         Command::Stop => None,
     }
 }
@@ -167,7 +167,7 @@ fn bound_of_command(command: Command) -> u32
         }
         Command::New(x, _) => x as u32 + 1,
         Command::Free(t) => bound_of_term(t),
-        Command::Goto(_) | Command::Stop => 0,
+        Command::IfAny(_) | Command::Goto(_) | Command::Stop => 0,
     }
 }
 

@@ -1,10 +1,11 @@
-// Runs in which `new` takes the least free address.
+// Runs in which `new` takes the least free address and `if *` goes to the next line.
 ghost use Rattle.std.specs.Prelude.{◌≡◌, ◌<◌, ◌↔◌, IfOk};
 ghost use Rattle.heap_formula.specs.Programs.{Config as State};
 ghost use Rattle.goto_lang.specs.declared.configs.Config.{Config};
 ghost use Rattle.goto_lang.specs.States.{state_of, IsStateOf};
-ghost use Rattle.goto_lang.specs.Endings.{zero_fields, LowestRun, IsEnding, IsLowest};
+ghost use Rattle.goto_lang.specs.Endings.{zero_fields, IsLowestPick, LowestRun, IsEnding, IsLowest};
 
+use crate::cells::Cells;
 use crate::configs::Config;
 use crate::programs::Program;
 use crate::steps::{Stepped, perform};
@@ -32,8 +33,26 @@ fn zeros(alloc: Global, command: Command) -> Result<Vec<u64>, OutOfMemory>
         | Command::Free(_)
         | Command::IfEq(_, _, _)
         | Command::IfNeq(_, _, _)
+        | Command::IfAny(_)
         | Command::Goto(_)
         | Command::Stop => Ok(Vec::new(alloc)),
+    }
+}
+
+fn lowest_pick(command: Command, heap: &Cells) -> u64
+    ensures { IsLowestPick command heap.now result }
+{
+    match command {
+        Command::IfAny(_) => 0,
+        Command::New(_, _)
+        | Command::Assign(_, _)
+        | Command::Load(_, _, _)
+        | Command::Store(_, _, _)
+        | Command::Free(_)
+        | Command::IfEq(_, _, _)
+        | Command::IfNeq(_, _, _)
+        | Command::Goto(_)
+        | Command::Stop => heap.least_free(),
     }
 }
 
@@ -43,12 +62,14 @@ fn lowest_step(alloc: Global, program: &Program, config: &Config) -> Result<Step
 {
     let command = program.command(config.line);
     let fill = zeros(alloc, command)?;
-    perform(alloc, command, config, config.heap.least_free(), &fill)
+    let pick = lowest_pick(command, &config.heap);
+    perform(alloc, command, config, pick, &fill)
 }
 
 fn ending(alloc: Global, program: &Program, config: &Config, steps: u64) -> Result<Ran, OutOfMemory>
     requires { IsStateOf program.now (state_of config.now) }
-    ensures { (c : State) → LowestRun program.now steps c (state_of config.now) → IfOk result (λ r. IsEnding program.now steps c r) }
+    ensures { (c : State) → LowestRun program.now steps c (state_of config.now)
+        → IfOk result (λ r. IsEnding program.now steps c r) }
 {
     match lowest_step(alloc, program, config)? {
         Stepped::Stop => Ok(Ran::Stopped(steps)),
@@ -58,9 +79,9 @@ fn ending(alloc: Global, program: &Program, config: &Config, steps: u64) -> Resu
     }
 }
 
-/// Runs the program from a state for at most so many steps; `new` takes the least free address and fills with 0. Each
-/// answer comes exactly where the run ends so, and each of its steps is one of the machine's whatever the headroom, if
-/// that is positive. The caller has a state of the program, as `is_state_of` tests.
+/// Runs the program from a state for at most so many steps; `new` takes the least free address and fills with 0, and
+/// `if *` goes to the next line. Each answer comes exactly where the run ends so, and each of its steps is one of the
+/// machine's whatever the headroom, if that is positive. The caller has a state of the program, as `is_state_of` tests.
 pub fn run_lowest(
     alloc: Global,
     program: &Program,

@@ -17,7 +17,7 @@ use heap_formula::Command;
 use std::alloc::Global;
 
 /// What a step comes to: the run is at `stop`; the command reads, writes or frees what is not there; the next state; or
-/// the command is `new` and what it is to take is not allowed.
+/// the command is `new` and what it is to take is not allowed, or `if *` and the pick is above 1.
 #[derive(Drop)]
 pub enum Stepped {
     Stop,
@@ -58,7 +58,8 @@ fn at_line(config: &Config, line: u32) -> Result<Config, OutOfMemory>
 fn assigned(config: &Config, x: u16, value: u64) -> Result<Config, OutOfMemory>
     requires variable { x < length config.now.stack }
     requires line { config.now.line < 2 ^ 32 - 1 }
-    ensures { IfOk result (λ d. state_of d ≡ next_line (state_of config.now) (slice_set config.now.stack x value) config.now.heap) }
+    ensures { IfOk result (λ d. state_of d
+        ≡ next_line (state_of config.now) (slice_set config.now.stack x value) config.now.heap) }
 {
     let mut next = config.clone()?;
     next.stack.set(x, value);
@@ -81,7 +82,8 @@ fn with_cell(config: &Config, address: u64, fields: Vec<u64>) -> Result<Config, 
     requires positive { 0 < address }
     requires some { 0 < length fields.items }
     requires line { config.now.line < 2 ^ 32 - 1 }
-    ensures { IfOk result (λ d. state_of d ≡ next_line (state_of config.now) config.now.stack (insert config.now.heap address fields.items)) }
+    ensures { IfOk result (λ d. state_of d
+        ≡ next_line (state_of config.now) config.now.stack (insert config.now.heap address fields.items)) }
 {
     let mut next = config.clone()?;
     next.heap.put(address, fields)?;
@@ -131,7 +133,8 @@ fn allocated(
     requires positive { 0 < pick }
     requires some { 0 < length fill.now }
     requires line { config.now.line < 2 ^ 32 - 1 }
-    ensures { IfOk result (λ d. state_of d ≡ next_line (state_of config.now) (slice_set config.now.stack x pick) (insert config.now.heap pick fill.now)) }
+    ensures { IfOk result (λ d. state_of d
+        ≡ next_line (state_of config.now) (slice_set config.now.stack x pick) (insert config.now.heap pick fill.now)) }
 {
     let mut next = config.clone()?;
     next.heap.put(pick, fill.to_vec(alloc)?)?;
@@ -161,7 +164,7 @@ fn branch(config: &Config, holds: bool, line: u32) -> Result<Stepped, OutOfMemor
     Ok(Stepped::To(at_line(config, next)?))
 }
 
-/// What a command makes of a state, where `new` may take this address and these values.
+/// What a command makes of a state, where `new` may take this address and these values, and `if *` this pick.
 pub(crate) fn perform(
     alloc: Global,
     command: Command,
@@ -182,6 +185,7 @@ pub(crate) fn perform(
         Command::Free(t) => freed(config, config.value(t)),
         Command::IfEq(t, u, j) => branch(config, config.value(t) == config.value(u), j),
         Command::IfNeq(t, u, j) => branch(config, config.value(t) != config.value(u), j),
+        Command::IfAny(j) => branch(config, pick == 1, j),
         Command::Goto(j) => Ok(Stepped::To(at_line(config, j)?)),
         Command::Stop => Ok(Stepped::Stop),
     }
@@ -216,6 +220,7 @@ fn may_take(command: Command, config: &Config, w: u64, pick: u64, fill: &[u64]) 
 {
     match command {
         Command::New(_, k) => may_pick(config, w, k, pick, fill),
+        Command::IfAny(_) => pick <= 1,
         Command::Assign(_, _)
         | Command::Load(_, _, _)
         | Command::Store(_, _, _)
@@ -227,9 +232,9 @@ fn may_take(command: Command, config: &Config, w: u64, pick: u64, fill: &[u64]) 
     }
 }
 
-/// One step of the program under headroom w, in which `new` takes the address `pick` and the values `fill`: each answer
-/// comes exactly where the definition of a step says so. The caller has a state of the program, as `is_state_of` tests,
-/// and a headroom that fits, as `greatest` tells.
+/// One step of the program under headroom w, in which `new` takes the address `pick` and the values `fill`, and `if *`
+/// jumps at the pick 1 and goes to the next line at the pick 0: each answer comes exactly where the definition of a step
+/// says so. The caller has a state of the program, as `is_state_of` tests, and a headroom that fits, as `greatest` tells.
 pub fn step(
     alloc: Global,
     program: &Program,
@@ -240,7 +245,8 @@ pub fn step(
 ) -> Result<Stepped, OutOfMemory>
     requires state { IsStateOf program.now (state_of config.now) }
     requires headroom { greatest (state_of config.now) + w < 2 ^ 64 }
-    ensures answer { IfOk result (λ r. (q : Stepped) → (r ≡ q) ↔ IsStep program.now w pick fill.now (state_of config.now) q) }
+    ensures answer { IfOk result (λ r. (q : Stepped)
+        → (r ≡ q) ↔ IsStep program.now w pick fill.now (state_of config.now) q) }
     ensures stays { IfOk result (λ r. (d : Config) → r ≡ Stepped.To d → IsStateOf program.now (state_of d)) }
 {
     let command = program.command(config.line);

@@ -19,7 +19,7 @@ use Rattle.command_syntax.specs.declared.tree.OperandTree.TheVariants.{Nil, Vari
 use Rattle.command_syntax.specs.declared.tree.ChangeTree.{ChangeTree}
 use Rattle.command_syntax.specs.declared.tree.ChangeTree.TheVariants.{New, Assign, Load, Store}
 use Rattle.command_syntax.specs.declared.tree.CommandTree.{CommandTree}
-use Rattle.command_syntax.specs.declared.tree.CommandTree.TheVariants.{Stop, Goto, Free, If, StoreAtNil, Change}
+use Rattle.command_syntax.specs.declared.tree.CommandTree.TheVariants.{Stop, Goto, Free, IfAny, If, StoreAtNil, Change}
 use Rattle.command_syntax.specs.declared.tree.LineTree.{LineTree}
 use Rattle.heap_reader.specs.Spans.{operand_span, line_span}
 use Rattle.heap_reader.specs.Flaws.{Found, ill_if, over_if, or_later, listed_flaw}
@@ -73,6 +73,7 @@ module _ {V : Type 0} (value : V → ℕ) where
 
   command_universal : (c : CommandTree V) → IsUniversalCommand (command_value value c)
   command_universal Stop = tt
+  command_universal (IfAny n) = tt
   command_universal (Goto n) = tt
   command_universal (Free t) = operand_universal t
   command_universal (If t true u n) = (operand_universal t, operand_universal u)
@@ -121,6 +122,7 @@ command_small n i (commands.IfNeq t v j) u e =
     let a = none_of (term_fault t) (option_or (term_fault v) (jump_fault n i j)) e in
     let b = none_of (term_fault v) (jump_fault n i j) a.1 in
     (term_small t u.0 a.0, term_small v u.1 b.0)
+command_small n i (commands.IfAny j) u e = tt
 command_small n i (commands.Goto j) u e = tt
 command_small n i commands.Stop u e = tt
 
@@ -169,6 +171,7 @@ module _ {V : Type 0} (flaw : ℕ → V → Found) (span : V → ℕ) (value : V
 
   command_passes : (count i k : ℕ) (c : CommandTree V) → command_flaw flaw span count k c ≡ None → command_fault count i (command_value value c) ≡ None
   command_passes count i k Stop e = refl
+  command_passes count i k (IfAny n) e = jump_passes count i (k + 3) n e
   command_passes count i k (Goto n) e = jump_passes count i (k + 1) n e
   command_passes count i k (Free t) e = operand_passes (k + 1) t e
   command_passes count i k (If t true u n) e = branch_passes count i (k + 1) t u n e
@@ -188,6 +191,7 @@ module _ {V : Type 0} (flaw : ℕ → V → Found) (span : V → ℕ) (value : V
 
   same_goes_on : (c : CommandTree V) → may_go_on (command_value value c) ≡ goes_on c
   same_goes_on Stop = refl
+  same_goes_on (IfAny n) = refl
   same_goes_on (Goto n) = refl
   same_goes_on (Free t) = refl
   same_goes_on (If t true u n) = refl

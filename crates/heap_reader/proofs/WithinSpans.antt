@@ -12,7 +12,7 @@ use Rattle.command_syntax.specs.declared.tree.OperandTree.TheVariants.{Nil, Vari
 use Rattle.command_syntax.specs.declared.tree.ChangeTree.{ChangeTree}
 use Rattle.command_syntax.specs.declared.tree.ChangeTree.TheVariants.{New, Assign, Load, Store}
 use Rattle.command_syntax.specs.declared.tree.CommandTree.{CommandTree}
-use Rattle.command_syntax.specs.declared.tree.CommandTree.TheVariants.{Stop, Goto, Free, If, StoreAtNil, Change}
+use Rattle.command_syntax.specs.declared.tree.CommandTree.TheVariants.{Stop, Goto, Free, IfAny, If, StoreAtNil, Change}
 use Rattle.command_syntax.specs.declared.tree.LineTree.{LineTree}
 use Rattle.heap_reader.specs.declared.flaw.Flaw.{Flaw}
 use Rattle.heap_reader.specs.Trees.{Heading}
@@ -150,6 +150,7 @@ module _ {V : Type 0} (flaw : ℕ → V → Found) (span : V → ℕ) (variable_
 
   command_before : (count k : ℕ) (c : CommandTree V) → Before (command_flaw flaw span count k c) (k + command_span span c)
   command_before count k Stop = tt
+  command_before count k (IfAny n) = jump_before count (k + 3) n (k + 5) (omega arith)
   command_before count k (Goto n) = jump_before count (k + 1) n (k + 3) (omega arith)
   command_before count k (Free t) = later (operand_flaw flaw span (k + 1) t) (k + 1 + operand_span span t) (k + command_span span (Free t)) (omega arith) (operand_before (k + 1) t)
   command_before count k (If t b u n) = later (branch_flaw flaw span count (k + 1) t u n) (k + 1 + operand_span span t + operand_span span u + 2) (k + command_span span (If t b u n)) (omega arith) (branch_before count (k + 1) t u n)

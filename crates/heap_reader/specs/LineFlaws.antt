@@ -7,7 +7,7 @@ use Rattle.command_syntax.specs.declared.tree.OperandTree.TheVariants.{Nil, Vari
 use Rattle.command_syntax.specs.declared.tree.ChangeTree.{ChangeTree}
 use Rattle.command_syntax.specs.declared.tree.ChangeTree.TheVariants.{New, Assign, Load, Store}
 use Rattle.command_syntax.specs.declared.tree.CommandTree.{CommandTree}
-use Rattle.command_syntax.specs.declared.tree.CommandTree.TheVariants.{Stop, Goto, Free, If, StoreAtNil, Change}
+use Rattle.command_syntax.specs.declared.tree.CommandTree.TheVariants.{Stop, Goto, Free, IfAny, If, StoreAtNil, Change}
 use Rattle.command_syntax.specs.declared.tree.LineTree.{LineTree}
 use Rattle.heap_reader.specs.Spans.{operand_span, line_span}
 use Rattle.heap_reader.specs.Flaws.{Found, ill_if, over_if, or_later, listed_flaw}
@@ -26,6 +26,7 @@ goes_on Stop = false
 goes_on (Goto n) = false
 goes_on (Free t) = true
 goes_on (If t b u n) = true
+goes_on (IfAny n) = true
 goes_on (StoreAtNil n t) = true
 goes_on (Change v c) = true
 
@@ -56,6 +57,7 @@ module _ {V : Type 0} (flaw : ℕ → V → Found) (span : V → ℕ) where
 
     abbrev pub command_flaw : ℕ → CommandTree V → Found
     command_flaw k Stop = None
+    command_flaw k (IfAny n) = jump_flaw count (k + 3) n
     command_flaw k (Goto n) = jump_flaw count (k + 1) n
     command_flaw k (Free t) = operand_flaw (k + 1) t
     command_flaw k (If t b u n) = branch_flaw (k + 1) t u n

@@ -3,7 +3,7 @@ use Rattle.std.specs.Prelude.{ℕ, ◌<◌, ◌≤◌, List, length}
 use Rattle.heap_formula.specs.declared.terms.Term.{Term}
 use Rattle.heap_formula.specs.declared.terms.Term.TheVariants.{Nil, Univ, Exist}
 use Rattle.heap_formula.specs.declared.commands.Command.{Command}
-use Rattle.heap_formula.specs.declared.commands.Command.TheVariants.{Assign, Load, Store, New, Free, IfEq, IfNeq, Goto, Stop}
+use Rattle.heap_formula.specs.declared.commands.Command.TheVariants.{Assign, Load, Store, New, Free, IfEq, IfNeq, IfAny, Goto, Stop}
 use Rattle.heap_formula.specs.Words.{Each}
 use Rattle.heap_syntax.specs.declared.tree.PureTree.{PureTree}
 use Rattle.heap_syntax.specs.Trees.{Spatial, Cell, Predicate, Heap}
@@ -43,6 +43,7 @@ IsSmallCommand (New x k) = (x < 65536) × (k < 256)
 IsSmallCommand (Free t) = IsSmallTerm t
 IsSmallCommand (IfEq t u j) = IsSmallTerm t × IsSmallTerm u
 IsSmallCommand (IfNeq t u j) = IsSmallTerm t × IsSmallTerm u
+IsSmallCommand (IfAny j) = Unit {0}
 IsSmallCommand (Goto j) = Unit {0}
 IsSmallCommand Stop = Unit {0}
 

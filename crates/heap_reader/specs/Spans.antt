@@ -7,7 +7,7 @@ use Rattle.command_syntax.specs.declared.tree.OperandTree.TheVariants.{Nil, Vari
 use Rattle.command_syntax.specs.declared.tree.ChangeTree.{ChangeTree}
 use Rattle.command_syntax.specs.declared.tree.ChangeTree.TheVariants.{New, Assign, Load, Store}
 use Rattle.command_syntax.specs.declared.tree.CommandTree.{CommandTree}
-use Rattle.command_syntax.specs.declared.tree.CommandTree.TheVariants.{Stop, Goto, Free, If, StoreAtNil, Change}
+use Rattle.command_syntax.specs.declared.tree.CommandTree.TheVariants.{Stop, Goto, Free, IfAny, If, StoreAtNil, Change}
 use Rattle.command_syntax.specs.declared.tree.LineTree.{LineTree}
 
 -- the spans of the members together
@@ -59,6 +59,7 @@ change_span span (Store n t) = 2 + operand_span span t
 -- the semicolon stands behind a command
 abbrev pub command_span : {V : Type 0} → (V → ℕ) → CommandTree V → ℕ
 command_span span Stop = 2
+command_span span (IfAny n) = 5
 command_span span (Goto n) = 3
 command_span span (Free t) = 1 + operand_span span t
 command_span span (If t b u n) = 1 + operand_span span t + operand_span span u + 2

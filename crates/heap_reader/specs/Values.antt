@@ -20,7 +20,7 @@ use Rattle.command_syntax.specs.declared.tree.OperandTree.TheVariants.{Nil, Vari
 use Rattle.command_syntax.specs.declared.tree.ChangeTree.{ChangeTree}
 use Rattle.command_syntax.specs.declared.tree.ChangeTree.TheVariants.{New, Assign, Load, Store}
 use Rattle.command_syntax.specs.declared.tree.CommandTree.{CommandTree}
-use Rattle.command_syntax.specs.declared.tree.CommandTree.TheVariants.{Stop, Goto, Free, If, StoreAtNil, Change}
+use Rattle.command_syntax.specs.declared.tree.CommandTree.TheVariants.{Stop, Goto, Free, IfAny, If, StoreAtNil, Change}
 use Rattle.command_syntax.specs.declared.tree.LineTree.{LineTree}
 use Rattle.heap_reader.specs.Trees.{Heading}
 
@@ -63,6 +63,7 @@ change_value value x (Store n t) = commands.Store (Univ x) n (operand_value valu
 
 abbrev pub command_value : {V : Type 0} → (V → ℕ) → CommandTree V → Command
 command_value value Stop = commands.Stop
+command_value value (IfAny n) = commands.IfAny n
 command_value value (Goto n) = commands.Goto n
 command_value value (Free t) = commands.Free (operand_value value t)
 command_value value (If t true u n) = commands.IfEq (operand_value value t) (operand_value value u) n

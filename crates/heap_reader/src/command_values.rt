@@ -64,6 +64,7 @@ fn command<F: VariableReader>(form: &F, tree: CommandTree<F::Variable>) -> Comma
 {
     match tree {
         CommandTree::Stop => Command::Stop,
+        CommandTree::IfAny(target) => Command::IfAny(target),
         CommandTree::Goto(target) => Command::Goto(target),
         CommandTree::Free(address) => Command::Free(operand(form, address)),
         CommandTree::If(left, is_equation, right, target) => {

@@ -125,6 +125,10 @@ fn command<F: VariableReader>(
             jump(count, at + 1, target)?;
             Ok(at + 3)
         }
+        CommandTree::IfAny(target) => {
+            jump(count, at + 3, target)?;
+            Ok(at + 5)
+        }
         CommandTree::Free(address) => operand(form, at + 1, address),
         CommandTree::If(left, _, right, target) => {
             branch(form, count, at + 1, left, right, target)

@@ -29,7 +29,8 @@ pub fn premises_by_reason(
     companion: Option<&Judgement>,
 ) -> Result<Vec<Premise>, RuleError>
     ensures answer { IsAnswer result (reason_answer defs.now.most defs.now.list program.now judgement.now reason.now (option_copied companion.entry)) }
-    ensures sound { IfOk result (λ v. IsReadable judgement.now reason.now → IsLocallySound defs.now.list program.now judgement.now v.items) }
+    ensures sound { IfOk result (λ v. IsReadable judgement.now reason.now
+        → IsLocallySound defs.now.list program.now judgement.now v.items) }
 {
     match reason {
         Reason::Step(rule) => premises(alloc, defs, program, judgement, rule),

@@ -69,7 +69,8 @@ pub(crate) fn premises_by_link(
     link: &Link,
 ) -> Result<Vec<Premise>, RuleError>
     ensures answer { IsAnswer result (link_answer program.now bud.now link.now (Some companion.now)) }
-    ensures sound { IfOk result (λ v. (ds : List Definition) → AreUniversal link.now.subst → IsLocallySound ds program.now bud.now v.items) }
+    ensures sound { IfOk result (λ v. (ds : List Definition) → AreUniversal link.now.subst
+        → IsLocallySound ds program.now bud.now v.items) }
 {
     let _atoms = antecedent(bud).spatial();
     let p = variables_of(program, bud);

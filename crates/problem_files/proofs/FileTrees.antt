@@ -16,16 +16,16 @@ use Rattle.proof_file.specs.Written.{node_tree, tree_of}
 use Rattle.problem_files.specs.Nodes.{IsNodeWithin}
 use Rattle.problem_files.proofs.Lists.{none_later}
 use Rattle.problem_files.proofs.Names.{HaveFreeNames, HaveOwnNames, few_parameters, heads_of}
-use Rattle.problem_files.proofs.ProgramLines.{program_fits, lines_long, program_flawless}
+use Rattle.problem_files.proofs.ProgramLines.{IsCommandOf, program_fits, lines_long, program_flawless}
 use Rattle.problem_files.proofs.DefinitionTrees.{definitions_fit, definitions_flawless}
 use Rattle.problem_files.proofs.NodesFit.{nodes_fit}
 use Rattle.problem_files.proofs.NodesFlawless.{nodes_flawless}
 
-module _ (version : Version) (limit : ℕ) (same : limit ≡ most_spatial version) (ds : List Definition) (cs : List Command) (ns : List FileNode) (w : Each (IsDefinitionWithin limit ds) ds) (program : IsProgram cs) (nodes : Each (IsNodeWithin limit ds (length cs)) ns) where
+module _ (version : Version) (limit : ℕ) (same : limit ≡ most_spatial version) (ds : List Definition) (cs : List Command) (ns : List FileNode) (w : Each (IsDefinitionWithin limit ds) ds) (program : IsProgram cs) (known : Each (IsCommandOf version) cs) (nodes : Each (IsNodeWithin limit ds (length cs)) ns) where
   pub file_fits : HaveFreeNames ds → 0 < length ns → grammar.file.fits (tree_of version ds cs ns)
   unfolding grammar.file grammar.body grammar.definitions
   file_fits free some =
-      (tt, (tt, (definitions_fit limit ds free w, (program_fits cs program, nodes_fit limit ds (length cs) free program.few_lines ns some nodes))))
+      (tt, (tt, (definitions_fit limit ds free w, (program_fits version cs program known, nodes_fit limit ds (length cs) free program.few_lines ns some nodes))))
 
   pub file_flawless : HaveOwnNames ds → length ds ≤ 4096 → length ns ≤ 20000 → file_flaw (tree_of version ds cs ns) ≡ None
   file_flawless own few most =

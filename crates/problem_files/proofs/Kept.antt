@@ -23,15 +23,19 @@ use Rattle.pred_defs.specs.Faults.{case_fault}
 use Rattle.rule_table.specs.Answer.{heaps_of, is_short, has_numbers}
 use Rattle.cyc_grammar.specs.Classes.{is_free_name}
 use Rattle.heap_syntax.specs.Words.{reserved}
+use Rattle.heap_syntax.specs.declared.version.Version.{Version}
+use Rattle.command_syntax.specs.Grammar.{has_free_branches}
 use Rattle.format_limits.specs.Limits.{HasFields, IsHeapWithin, IsFormWithin, IsJudgementWithin, IsCaseWithin, IsDefinitionWithin}
 use Rattle.problem_files.proofs.Names.{HaveFreeNames, HaveOwnNames}
+use Rattle.problem_files.proofs.ProgramLines.{IsCommandOf}
 
--- the definitions, the program and the goal are within the limits of a proof file, and each predicate has a free name of
--- its own
-pub record IsKept (limit : ℕ) (ds : List Definition) (lines : List Command) (goal : Judgement) : Type 0 where
+-- the definitions, the program and the goal are within the limits of a proof file, the version has the program's commands,
+-- and each predicate has a free name of its own
+pub record IsKept (version : Version) (limit : ℕ) (ds : List Definition) (lines : List Command) (goal : Judgement) : Type 0 where
   pub few : length ds ≤ 4096
   pub definitions : Each (IsDefinitionWithin limit ds) ds
   pub program : IsProgram lines
+  pub commands : Each (IsCommandOf version) lines
   pub judgement : IsJudgementWithin limit ds (length lines) goal
   pub free : HaveFreeNames ds
   pub own : HaveOwnNames ds
@@ -76,8 +80,21 @@ command_prop (commands.New x k) = Unit-prop
 command_prop (commands.Free t) = universal_prop t
 command_prop (commands.IfEq t u j) = ×_prop (universal_prop t) (universal_prop u)
 command_prop (commands.IfNeq t u j) = ×_prop (universal_prop t) (universal_prop u)
+command_prop (commands.IfAny j) = Unit-prop
 command_prop (commands.Goto j) = Unit-prop
 command_prop commands.Stop = Unit-prop
+
+of_version_prop : (version : Version) (c : Command) → IsProp (IsCommandOf version c)
+of_version_prop version (commands.Assign x t) = Unit-prop
+of_version_prop version (commands.Load x t k) = Unit-prop
+of_version_prop version (commands.Store t k u) = Unit-prop
+of_version_prop version (commands.New x k) = Unit-prop
+of_version_prop version (commands.Free t) = Unit-prop
+of_version_prop version (commands.IfEq t u j) = Unit-prop
+of_version_prop version (commands.IfNeq t u j) = Unit-prop
+of_version_prop version (commands.IfAny j) = true_prop (has_free_branches version)
+of_version_prop version (commands.Goto j) = Unit-prop
+of_version_prop version commands.Stop = Unit-prop
 
 stands_prop : (n i : ℕ) (c : Command) → IsProp (MayStandAt n i c)
 stands_prop n i (commands.Assign x t) = le_prop
@@ -87,6 +104,7 @@ stands_prop n i (commands.New x k) = ×_prop le_prop (×_prop le_prop le_prop)
 stands_prop n i (commands.Free t) = le_prop
 stands_prop n i (commands.IfEq t u j) = ×_prop le_prop (×_prop le_prop le_prop)
 stands_prop n i (commands.IfNeq t u j) = ×_prop le_prop (×_prop le_prop le_prop)
+stands_prop n i (commands.IfAny j) = ×_prop le_prop (×_prop le_prop le_prop)
 stands_prop n i (commands.Goto j) = ×_prop le_prop le_prop
 stands_prop n i commands.Stop = Unit-prop
 
@@ -130,11 +148,12 @@ module _ (limit : ℕ) (ds : List Definition) where
     cases = each_prop (IsCaseWithin limit ds d.arity) (case_prop d.arity) d.cases p.cases q.cases i;
   }
 
-pub kept_prop : (limit : ℕ) (ds : List Definition) (lines : List Command) (goal : Judgement) → IsProp (IsKept limit ds lines goal)
-kept_prop limit ds lines goal p q = λ i. record {
+pub kept_prop : (version : Version) (limit : ℕ) (ds : List Definition) (lines : List Command) (goal : Judgement) → IsProp (IsKept version limit ds lines goal)
+kept_prop version limit ds lines goal p q = λ i. record {
   few = le_prop p.few q.few i;
   definitions = each_prop (IsDefinitionWithin limit ds) (definition_prop limit ds) ds p.definitions q.definitions i;
   program = program_prop lines p.program q.program i;
+  commands = each_prop (IsCommandOf version) (of_version_prop version) lines p.commands q.commands i;
   judgement = judgement_prop limit ds (length lines) goal p.judgement q.judgement i;
   free = λ n d at. true_prop (is_free_name reserved d.name) (p.free n d at) (q.free n d at) i;
   own = λ m n d e at_m at_n same. Coded-set coded_ℕ m n (p.own m n d e at_m at_n same) (q.own m n d e at_m at_n same) i;

@@ -11,5 +11,6 @@ pub mod ProblemNames
 pub mod Kept
 pub mod ProblemKeeps
 pub mod ProgramLines
+pub mod ProblemLines
 pub mod DefinitionTrees
 pub mod FileTrees

@@ -64,6 +64,7 @@ use Rattle.formula_reader.proofs.Fitting.{definition_small}
 use Rattle.formula_reader.proofs.Keeping.{small_of, is_closed, is_known, has_universal_antecedent, has_its_line}
 use Rattle.problem_files.proofs.ProblemHeaps.{many_parts, behind_parts, heap_keeps, in_heap_each, heap_bounded, heap_open, heap_within}
 use Rattle.problem_files.proofs.ProblemNames.{own_names}
+use Rattle.problem_files.proofs.ProblemLines.{lines_known}
 use Rattle.problem_files.proofs.Kept.{IsKept, kept_prop}
 
 -- ---- lists
@@ -254,7 +255,7 @@ module _ (limit : ℕ) (hs : List Heading) (ds : List DefinitionValue) where
 -- ---- problems
 
 -- what a text keeps
-text_keeps : (names : named.Problem) → problem.fits names → problem_flaw (numbered names) ≡ None → IsKept (most_spatial names.version) (map (definition_value (headings (numbered names).definitions)) (numbered names).definitions) (program_value (numbered names).lines) (goal_value (headings (numbered names).definitions) (numbered names).goal)
+text_keeps : (names : named.Problem) → problem.fits names → problem_flaw (numbered names) ≡ None → IsKept names.version (most_spatial names.version) (map (definition_value (headings (numbered names).definitions)) (numbered names).definitions) (program_value (numbered names).lines) (goal_value (headings (numbered names).definitions) (numbered names).goal)
 unfolding problem body definitions last_part
 text_keeps names fits right =
     let tree = numbered names in
@@ -275,24 +276,25 @@ text_keeps names fits right =
       few = omega arith;
       definitions = definitions_within limit (most_fits names.version) hs ds names.definitions each_fits each_good (each_right (definition_fault ds) ds (is_closed tree text right));
       program = faultless_is_program (map (line_value variable_value) tree.lines) small.program (lines_universal variable_value tree.lines);
+      commands = lines_known names.version (numbers.program_variables names.lines) names.lines fits.1.1.1.0;
       judgement = goal_within limit hs ds (numbers.universals names) (length tree.lines) goal_at names.goal fits.1.1.1.1 b.1 small.goal (is_known tree text right) (has_universal_antecedent tree text right) (length (program_value tree.lines)) (has_its_line tree text right);
       free = λ q d at_q. Each-get (λ (v : DefinitionValue). is_free_name reserved v.name ≡ true) ds q d at_q (definitions_free limit (most_fits names.version) hs names.definitions each_fits);
       own = own_names limit tree.definitions hs a.0;
     }
 
-said_keeps : (tree : Problem) → IsOfText tree → problem_flaw tree ≡ None → IsKept (most_spatial tree.version) (map (definition_value (headings tree.definitions)) tree.definitions) (program_value tree.lines) (goal_value (headings tree.definitions) tree.goal)
+said_keeps : (tree : Problem) → IsOfText tree → problem_flaw tree ≡ None → IsKept tree.version (most_spatial tree.version) (map (definition_value (headings tree.definitions)) tree.definitions) (program_value tree.lines) (goal_value (headings tree.definitions) tree.goal)
 said_keeps tree text right =
-    subst (λ (t : Problem). problem_flaw t ≡ None → IsKept (most_spatial t.version) (map (definition_value (headings t.definitions)) t.definitions) (program_value t.lines) (goal_value (headings t.definitions) t.goal)) text.2 (text_keeps text.0 text.1) right
+    subst (λ (t : Problem). problem_flaw t ≡ None → IsKept t.version (most_spatial t.version) (map (definition_value (headings t.definitions)) t.definitions) (program_value t.lines) (goal_value (headings t.definitions) t.goal)) text.2 (text_keeps text.0 text.1) right
 
-well_formed_keeps : (version : Version) (ds : List DefinitionValue) (lines : List Command) (judgement : Judgement) → IsWellFormed version ds lines judgement → IsKept (most_spatial version) ds lines judgement
+well_formed_keeps : (version : Version) (ds : List DefinitionValue) (lines : List Command) (judgement : Judgement) → IsWellFormed version ds lines judgement → IsKept version (most_spatial version) ds lines judgement
 well_formed_keeps version ds lines judgement w =
     let tree = w.0 in
     let said = w.1 in
     let read = map (definition_value (headings tree.definitions)) tree.definitions in
     let kept = said_keeps tree said.text said.flawless in
-    subst (λ (v : Version). IsKept (most_spatial v) ds lines judgement) (sym said.version_is) (subst (λ (x : List DefinitionValue). IsKept (most_spatial tree.version) x lines judgement) (sym said.definitions) (subst (λ (x : List Command). IsKept (most_spatial tree.version) read x judgement) (sym said.program) (subst (λ (x : Judgement). IsKept (most_spatial tree.version) read (program_value tree.lines) x) (sym said.goal) kept)))
+    subst (λ (v : Version). IsKept v (most_spatial v) ds lines judgement) (sym said.version_is) (subst (λ (x : List DefinitionValue). IsKept tree.version (most_spatial tree.version) x lines judgement) (sym said.definitions) (subst (λ (x : List Command). IsKept tree.version (most_spatial tree.version) read x judgement) (sym said.program) (subst (λ (x : Judgement). IsKept tree.version (most_spatial tree.version) read (program_value tree.lines) x) (sym said.goal) kept)))
 
 -- what a problem keeps
-pub problem_keeps : (p : ProblemValue) → IsKept p.defs.most p.defs.list p.program p.goal
+pub problem_keeps : (p : ProblemValue) → IsKept p.version p.defs.most p.defs.list p.program p.goal
 problem_keeps p =
-    subst (λ (limit : ℕ). IsKept limit p.defs.list p.program p.goal) (sym p.limit) (∥∥₁_elim p.well_formed (kept_prop (most_spatial p.version) p.defs.list p.program p.goal) (well_formed_keeps p.version p.defs.list p.program p.goal))
+    subst (λ (limit : ℕ). IsKept p.version limit p.defs.list p.program p.goal) (sym p.limit) (∥∥₁_elim p.well_formed (kept_prop p.version (most_spatial p.version) p.defs.list p.program p.goal) (well_formed_keeps p.version p.defs.list p.program p.goal))

@@ -1,5 +1,5 @@
 -- The lines of a program, as a proof file has them, fit the grammar and have no flaw.
-use Rattle.std.proofs.Common.{◌≡◌, ℕ, suc, ◌+◌, ◌^◌, ◌<◌, ◌≤◌, Bool, true, false, List, [], ◌∷◌, length, Some, None, refl, sym, ap, subst, arith, eq-eqb}
+use Rattle.std.proofs.Common.{◌≡◌, ℕ, suc, ◌+◌, ◌^◌, ◌<◌, ◌≤◌, Bool, true, false, inl, inr, List, [], ◌∷◌, length, Some, None, refl, sym, ap, subst, arith, eq-eqb}
 use Rattle.std.specs.Prelude.{not, ◌&&◌, ◌||◌, nat_eq, nat_lt, nat_le, slice_get}
 use Rattle.std.proofs.lemmas.Bool.{le-ltb, lt-leb, ne_eqb, and_from, and_left, and_right, or_from}
 use Rattle.heap_formula.specs.declared.terms.Term.{Term}
@@ -17,6 +17,7 @@ use Rattle.cyc_lex.specs.declared.fault.What.{What}
 use Rattle.cyc_lex.specs.declared.fault.What.TheVariants.{Lines, Fields, ProgramVariables}
 use Rattle.cyc_grammar.specs.Syntax.{fits_many}
 use Rattle.heap_syntax.specs.Grammar as shared
+use Rattle.heap_syntax.specs.declared.version.Version.{Version}
 use Rattle.command_syntax.specs.Grammar as syntax
 use Rattle.heap_reader.specs.Spans.{operand_span, line_span}
 use Rattle.heap_reader.specs.Flaws.{ill_if, over_if, or_later, listed_flaw}
@@ -60,7 +61,17 @@ program_lines cs program =
     let here : suc i ≡ 0 + (i + 1) = omega arith in
     subst (λ (m : ℕ). MayStandAt (length cs) m c) here (program.commands (suc i) c e))) (max_each command_bound 64 cs program.few_variables) program.universal
 
+-- the command has a text in the version
+abbrev pub IsCommandOf : Version → Command → Type 0
+IsCommandOf version (commands.IfAny j) = syntax.has_free_branches version ≡ true
+IsCommandOf version c = Unit {0}
+
 -- ---- the lines fit
+
+sign_fits : (equal : Bool) → shared.sign.fits equal
+unfolding shared.sign
+sign_fits true = (tt, tt)
+sign_fits false = (tt, tt)
 
 operand_fits : (t : Term) → IsUniversal t → term_bound t ≤ 64 → (syntax.operand variable).fits (operand_tree t)
 unfolding syntax.operand variable
@@ -68,50 +79,63 @@ operand_fits terms.Nil u b = (tt, tt)
 operand_fits (terms.Univ n) u b = (tt, omega arith)
 operand_fits (terms.Exist n) u b = absurd u
 
-store_fits : (t : Term) (k : ℕ) (u : Term) → k ≤ 8 → IsUniversal t → IsUniversal u → term_bound t ≤ 64 → term_bound u ≤ 64 → (syntax.command variable).fits (command_tree (commands.Store t k u))
+store_fits : (version : Version) (t : Term) (k : ℕ) (u : Term) → k ≤ 8 → IsUniversal t → IsUniversal u → term_bound t ≤ 64 → term_bound u ≤ 64 → (syntax.command version variable).fits (command_tree (commands.Store t k u))
 unfolding syntax.command syntax.update syntax.store syntax.change variable
-store_fits terms.Nil k u h p q b c = (tt, (omega arith, operand_fits u q c))
-store_fits (terms.Univ x) k u h p q b c = (tt, (omega arith, (tt, (omega arith, operand_fits u q c))))
-store_fits (terms.Exist x) k u h p q b c = absurd p
+store_fits version terms.Nil k u h p q b c = (tt, (omega arith, operand_fits u q c))
+store_fits version (terms.Univ x) k u h p q b c = (tt, (omega arith, (tt, (omega arith, operand_fits u q c))))
+store_fits version (terms.Exist x) k u h p q b c = absurd p
+
+test_fits : (free : Bool) (p : syntax.Branch ℕ) → (syntax.branch variable).fits p → (syntax.behind_if free variable).fits (inr p)
+unfolding syntax.behind_if
+test_fits true p f = f
+test_fits false p f = (tt, f)
+
+free_fits : (free : Bool) (j : ℕ) → free ≡ true → j < 10 ^ 9 → (syntax.behind_if free variable).fits (inl j)
+unfolding syntax.behind_if syntax.free_branch syntax.last_number
+free_fits true j known h = h
+free_fits false j known h = cc
+
+branch_fits : (t u : Term) (equal : Bool) (j : ℕ) → IsUniversal t → IsUniversal u → term_bound t ≤ 64 → term_bound u ≤ 64 → j < 10 ^ 9 → (syntax.branch variable).fits (operand_tree t, (equal, (operand_tree u, j)))
+unfolding syntax.branch syntax.last_number
+branch_fits t u equal j p q b c h = (operand_fits t p b, (sign_fits equal, (operand_fits u q c, h)))
 
 module _ (count : ℕ) (most : count ≤ 4096) where
   target_fits : (j : ℕ) → IsLineOf count j → j < 10 ^ 9
   target_fits j line = let last = line.1 in omega arith
 
-  command_fits : (i : ℕ) (c : Command) → IsLineAt count i c → (syntax.command variable).fits (command_tree c)
-  unfolding syntax.command syntax.branch syntax.update syntax.change syntax.source syntax.last_number syntax.field shared.sign variable
-  command_fits i (commands.Assign x t) l =
+  command_fits : (version : Version) (i : ℕ) (c : Command) → IsLineAt count i c → IsCommandOf version c → (syntax.command version variable).fits (command_tree c)
+  unfolding syntax.command syntax.update syntax.change syntax.source syntax.last_number syntax.field variable
+  command_fits version i (commands.Assign x t) l known =
       let b = l.few in (tt, (omega arith, (tt, (operand_fits t l.universal (omega arith), tt))))
-  command_fits i (commands.Load x t k) l =
+  command_fits version i (commands.Load x t k) l known =
       let b = l.few in
       let h = l.stands.1.1 in (tt, (omega arith, (tt, (operand_fits t l.universal (omega arith), omega arith))))
-  command_fits i (commands.Store t k u) l =
-      let b = l.few in store_fits t k u l.stands.1.1 l.universal.0 l.universal.1 (omega arith) (omega arith)
-  command_fits i (commands.New x k) l =
+  command_fits version i (commands.Store t k u) l known =
+      let b = l.few in store_fits version t k u l.stands.1.1 l.universal.0 l.universal.1 (omega arith) (omega arith)
+  command_fits version i (commands.New x k) l known =
       let b = l.few in
       let h = l.stands.1.1 in (tt, (omega arith, (tt, omega arith)))
-  command_fits i (commands.Free t) l = (tt, operand_fits t l.universal l.few)
-  command_fits i (commands.IfEq t u j) l =
-      let b = l.few in (
-        tt,
-        (operand_fits t l.universal.0 (omega arith), ((tt, tt), (operand_fits u l.universal.1 (omega arith), target_fits j l.stands.1))),
-      )
-  command_fits i (commands.IfNeq t u j) l =
-      let b = l.few in (
-        tt,
-        (operand_fits t l.universal.0 (omega arith), ((tt, tt), (operand_fits u l.universal.1 (omega arith), target_fits j l.stands.1))),
-      )
-  command_fits i (commands.Goto j) l = (tt, target_fits j l.stands)
-  command_fits i commands.Stop l = (tt, tt)
+  command_fits version i (commands.Free t) l known = (tt, operand_fits t l.universal l.few)
+  command_fits version i (commands.IfEq t u j) l known =
+      let b = l.few in
+      (tt, test_fits (syntax.has_free_branches version) (operand_tree t, (true, (operand_tree u, j))) (branch_fits t u true j l.universal.0 l.universal.1 (omega arith) (omega arith) (target_fits j l.stands.1)))
+  command_fits version i (commands.IfNeq t u j) l known =
+      let b = l.few in
+      (tt, test_fits (syntax.has_free_branches version) (operand_tree t, (false, (operand_tree u, j))) (branch_fits t u false j l.universal.0 l.universal.1 (omega arith) (omega arith) (target_fits j l.stands.1)))
+  command_fits version i (commands.IfAny j) l known = (tt, free_fits (syntax.has_free_branches version) j known (target_fits j l.stands.1))
+  command_fits version i (commands.Goto j) l known = (tt, target_fits j l.stands)
+  command_fits version i commands.Stop l known = (tt, tt)
 
-  lines_fit : (n : ℕ) (cs : List Command) → n + length cs ≤ count → AreLines count n cs → fits_many (syntax.line variable) (lines_behind n cs)
+  lines_fit : (version : Version) (n : ℕ) (cs : List Command) → n + length cs ≤ count → AreLines count n cs → Each (IsCommandOf version) cs → fits_many (syntax.line version variable) (lines_behind n cs)
   unfolding syntax.line
-  lines_fit n [] within ls = tt
-  lines_fit n (c ∷ cs) within ls = ((tt, (omega arith, command_fits (n + 1) c ls.0)), lines_fit (n + 1) cs (omega arith) ls.1)
+  lines_fit version n [] within ls known = tt
+  lines_fit version n (c ∷ cs) within ls known =
+      ((tt, (omega arith, command_fits version (n + 1) c ls.0 known.0)), lines_fit version (n + 1) cs (omega arith) ls.1 known.1)
 
-pub program_fits : (cs : List Command) → IsProgram cs → grammar.lines.fits (lines_tree cs)
+pub program_fits : (version : Version) (cs : List Command) → IsProgram cs → Each (IsCommandOf version) cs → (grammar.lines version).fits (lines_tree cs)
 unfolding syntax.lines
-program_fits cs program = lines_fit (length cs) program.few_lines 0 cs (omega arith) (program_lines cs program)
+program_fits version cs program known =
+    lines_fit (length cs) program.few_lines version 0 cs (omega arith) (program_lines cs program) known
 
 -- ---- the lines have no flaw
 
@@ -179,6 +203,7 @@ module _ (count : ℕ) (most : count ≤ 4096) where
       let b = l.few in branch_good t u j l.universal.0 l.universal.1 (omega arith) (omega arith) l.stands.1 (k + 1)
   command_good i (commands.IfNeq t u j) l k =
       let b = l.few in branch_good t u j l.universal.0 l.universal.1 (omega arith) (omega arith) l.stands.1 (k + 1)
+  command_good i (commands.IfAny j) l k = jump_good j l.stands.1 (k + 3)
   command_good i (commands.Goto j) l k = jump_good j l.stands (k + 1)
   command_good i commands.Stop l k = refl
 
@@ -194,6 +219,7 @@ module _ (count : ℕ) (most : count ≤ 4096) where
   stays n (commands.Free t) s = before n s _
   stays n (commands.IfEq t u j) s = before n s.0 _
   stays n (commands.IfNeq t u j) s = before n s.0 _
+  stays n (commands.IfAny j) s = before n s.0 _
   stays n (commands.Goto j) s = and_right (nat_eq (suc n) count) false refl
   stays n commands.Stop s = and_right (nat_eq (suc n) count) false refl
 
@@ -233,6 +259,7 @@ command_universal (commands.New x k) u = refl
 command_universal (commands.Free t) u = term_readable t u
 command_universal (commands.IfEq t v j) u = and_from (is_universal t) (is_universal v) (term_readable t u.0) (term_readable v u.1)
 command_universal (commands.IfNeq t v j) u = and_from (is_universal t) (is_universal v) (term_readable t u.0) (term_readable v u.1)
+command_universal (commands.IfAny j) u = refl
 command_universal (commands.Goto j) u = refl
 command_universal commands.Stop u = refl
 

@@ -5,7 +5,7 @@ use Rattle.std.proofs.lemmas.List.{length-map}
 use Rattle.std.proofs.lemmas.Bool.{leb-true, leb-false}
 use Rattle.heap_formula.specs.declared.terms.Term.{Term}
 use Rattle.heap_formula.specs.declared.commands.Command.{Command}
-use Rattle.heap_formula.specs.declared.commands.Command.TheVariants.{Assign, Load, Store, New, Free, IfEq, IfNeq, Goto, Stop}
+use Rattle.heap_formula.specs.declared.commands.Command.TheVariants.{Assign, Load, Store, New, Free, IfEq, IfNeq, IfAny, Goto, Stop}
 use Rattle.heap_formula.specs.declared.proof_rules.Reason.{Reason}
 use Rattle.heap_formula.specs.declared.proof_rules.Reason.TheVariants.{Step, Back}
 use Rattle.heap_formula.specs.Closedness.{IsUniversal, IsUniversalHeap, InPure, InSpatial}
@@ -69,6 +69,7 @@ command_is (New x k) e fields = fields x k refl
 command_is (Free t) e fields = universal_is t e
 command_is (IfEq t u j) e fields = let b = both (is_universal t) (is_universal u) e in (universal_is t b.0, universal_is u b.1)
 command_is (IfNeq t u j) e fields = let b = both (is_universal t) (is_universal u) e in (universal_is t b.0, universal_is u b.1)
+command_is (IfAny j) e fields = tt
 command_is (Goto j) e fields = tt
 command_is Stop e fields = tt
 

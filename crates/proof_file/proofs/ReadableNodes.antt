@@ -13,7 +13,7 @@ use Rattle.command_syntax.specs.declared.tree.OperandTree.{OperandTree}
 use Rattle.command_syntax.specs.declared.tree.OperandTree.TheVariants as operands
 use Rattle.command_syntax.specs.declared.tree.ChangeTree.TheVariants as changes
 use Rattle.command_syntax.specs.declared.tree.CommandTree.{CommandTree}
-use Rattle.command_syntax.specs.declared.tree.CommandTree.TheVariants.{Stop, Goto, Free, If, StoreAtNil, Change}
+use Rattle.command_syntax.specs.declared.tree.CommandTree.TheVariants.{Stop, Goto, Free, IfAny, If, StoreAtNil, Change}
 use Rattle.cyc_lex.specs.declared.fault.IllFault.TheVariants.{NoLine}
 use Rattle.pred_syntax.specs.declared.tree.TermTree.{TermTree}
 use Rattle.pred_syntax.specs.declared.tree.TermTree.TheVariants.{Nil, Univ, Exist}
@@ -158,6 +158,7 @@ universal_both t u =
 
 universal_command : (c : CommandTree ℕ) → is_universal_command (command_value variable_value c) ≡ true
 universal_command Stop = refl
+universal_command (IfAny n) = refl
 universal_command (Goto n) = refl
 universal_command (Free t) = universal_operand t
 universal_command (If t true u n) = universal_both t u

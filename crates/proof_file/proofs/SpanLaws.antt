@@ -137,11 +137,11 @@ pub file_words : (f : File) → file.fits f → length (file.words f) ≡ 4 + to
 unfolding file body definitions
 file_words f fit =
     let d = alone (λ w. true) definition definition_span definition_words f.definitions fit.1.1.0 in
-    let l = lines_words variable variable_span variable_words f.lines fit.1.1.1.0 in
+    let l = lines_words variable variable_span variable_words f.version f.lines fit.1.1.1.0 in
     let n = nodes_words f.nodes fit.1.1.1.1 in
     let a = length-append (nodes.words f.nodes) (semicolon.word tt ∷ []) in
-    let e = length-append (lines.words f.lines) (nodes.words f.nodes ++ semicolon.word tt ∷ []) in
-    let b = length-append (words_many definition f.definitions) (lines.words f.lines ++ (nodes.words f.nodes ++ semicolon.word tt ∷ [])) in
+    let e = length-append ((lines f.version).words f.lines) (nodes.words f.nodes ++ semicolon.word tt ∷ []) in
+    let b = length-append (words_many definition f.definitions) ((lines f.version).words f.lines ++ (nodes.words f.nodes ++ semicolon.word tt ∷ [])) in
     let c = length-append (body.words f) (the_end.word tt ∷ []) in
     omega arith
 

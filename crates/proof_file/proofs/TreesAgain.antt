@@ -6,7 +6,7 @@ use Rattle.command_syntax.specs.declared.tree.OperandTree.{OperandTree}
 use Rattle.command_syntax.specs.declared.tree.OperandTree.TheVariants as operands
 use Rattle.command_syntax.specs.declared.tree.ChangeTree.TheVariants as changes
 use Rattle.command_syntax.specs.declared.tree.CommandTree.{CommandTree}
-use Rattle.command_syntax.specs.declared.tree.CommandTree.TheVariants.{Stop, Goto, Free, If, StoreAtNil, Change}
+use Rattle.command_syntax.specs.declared.tree.CommandTree.TheVariants.{Stop, Goto, Free, IfAny, If, StoreAtNil, Change}
 use Rattle.cyc_lex.specs.declared.fault.IllFault.TheVariants.{FallsOff, Numbering, NoLine}
 use Rattle.cyc_lex.specs.declared.fault.What.TheVariants.{Disjuncts, Lines}
 use Rattle.heap_formula.specs.Definitions.{Definition as DefinitionValue}
@@ -38,6 +38,7 @@ operand_again (operands.Variable n) = refl
 
 command_again : (c : CommandTree ℕ) → command_tree (command_value variable_value c) ≡ c
 command_again Stop = refl
+command_again (IfAny n) = refl
 command_again (Goto n) = refl
 command_again (Free t) = λ i. Free (operand_again t i)
 command_again (If t true u n) = λ i. If (operand_again t i) true (operand_again u i) n

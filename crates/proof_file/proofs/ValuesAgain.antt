@@ -111,6 +111,7 @@ command_known (commands.IfNeq t u j) e =
     let left = operand_known t both.0 in
     let right = operand_known u both.1 in
     λ i. commands.IfNeq (left i) (right i) j
+command_known (commands.IfAny j) e = refl
 command_known (commands.Goto j) e = refl
 command_known commands.Stop e = refl
 

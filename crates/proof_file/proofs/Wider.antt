@@ -1,5 +1,5 @@
 -- A file without a flaw has none as a file of version 2, and each of its judgements is within its version's limit.
-use Rattle.std.proofs.Common.{◌≡◌, ℕ, ◌+◌, ◌≤◌, true, List, [], ◌∷◌, length, map, None, Some, refl, arith}
+use Rattle.std.proofs.Common.{◌≡◌, ℕ, ◌+◌, ◌≤◌, Bool, true, false, ◌⊎◌, inl, inr, List, [], ◌∷◌, length, map, None, Some, refl, arith}
 use Rattle.std.specs.Prelude.{◌||◌, nat_eq, nat_lt, nat_le, slice_get}
 use Rattle.std.proofs.lemmas.Bool.{le-leb}
 use Rattle.std.proofs.lemmas.List.{length-map}
@@ -16,8 +16,11 @@ use Rattle.cyc_lex.specs.declared.fault.What.TheVariants.{Cases, Disjuncts, Node
 use Rattle.heap_syntax.specs.declared.version.Version.{Version}
 use Rattle.heap_syntax.specs.declared.version.Version.TheVariants.{Two}
 use Rattle.heap_syntax.specs.Versions.{most_spatial}
-use Rattle.proof_syntax.specs.Trees.{Heap, Definition, Judgement, Entails, From, Reason, Absurd, Rewrite, Split, Distinct, Weaken, Unfold, Cut, Done, Choose, PureRight, Instantiate, Frame, UnfoldRight, Exec, Drop, Link, Node}
-use Rattle.proof_syntax.specs.Grammar.{body, file}
+use Rattle.command_syntax.specs.declared.tree.CommandTree.{CommandTree}
+use Rattle.command_syntax.specs.declared.tree.CommandTree.TheVariants.{Stop, Goto, Free, IfAny, If, StoreAtNil, Change}
+use Rattle.command_syntax.specs.Grammar as commands
+use Rattle.proof_syntax.specs.Trees.{Heap, Line, Definition, Judgement, Entails, From, Reason, Absurd, Rewrite, Split, Distinct, Weaken, Unfold, Cut, Done, Choose, PureRight, Instantiate, Frame, UnfoldRight, Exec, Drop, Link, Node}
+use Rattle.proof_syntax.specs.Grammar.{variable, lines, body, file}
 use Rattle.heap_reader.specs.Trees.{Heading}
 use Rattle.heap_reader.specs.Spans.{heap_span}
 use Rattle.heap_reader.specs.Flaws.{ill_if, over_if, or_later, listed_flaw, heap_flaw, heaps_flaw}
@@ -29,7 +32,7 @@ use Rattle.proof_file.specs.declared.node.FileNode.{FileNode}
 use Rattle.pred_reader.specs.declared.scope.Scope.TheVariants.{Outside as InNode, Case as InCase}
 use Rattle.proof_file.specs.Spans.{term_span, definition_span, judgement_span, node_span}
 use Rattle.proof_file.specs.Flaws.{headings, term_flaw, program_flaw, head_flaw, definition_flaw, judgement_flaw, reason_flaw, node_flaw, first_line, first_node, file_flaw}
-use Rattle.proof_file.specs.Written.{spatial_tree, heap_tree, judgement_tree, node_tree, tree_of}
+use Rattle.proof_file.specs.Written.{spatial_tree, heap_tree, judgement_tree, node_tree, lines_tree, tree_of}
 use Rattle.proof_file.proofs.Fitting.{node_parts, file_parts}
 use Rattle.proof_file.proofs.ValuesAgain.{get_map, flaw_at}
 
@@ -90,9 +93,32 @@ file_wider version ds cs ns e =
     none_later (listed_flaw (definition_flaw 32 hs) definition_span 0 4 tree.definitions) (or_later (program_flaw (first_line tree) tree.lines) (listed_flaw (node_flaw 32 hs count) node_span 0 (first_node tree) tree.nodes)) definitions (none_later (program_flaw (first_line tree) tree.lines) (listed_flaw (node_flaw 32 hs count) node_span 0 (first_node tree) tree.nodes) parts.1 nodes)
 
 -- the grammar takes the same as a file of version 2
+behind_if_wider : (free : Bool) (x : ℕ ⊎ commands.Branch ℕ) → (commands.behind_if free variable).fits x → (commands.behind_if true variable).fits x
+unfolding commands.behind_if
+behind_if_wider true x f = f
+behind_if_wider false (inl n) f = absurd f.0
+behind_if_wider false (inr p) f = f.1
+
+command_wider : (version : Version) (c : CommandTree ℕ) → (commands.command version variable).fits c → (commands.command Two variable).fits c
+unfolding commands.command
+command_wider version Stop f = f
+command_wider version (Goto n) f = f
+command_wider version (Free t) f = f
+command_wider version (IfAny n) f = (tt, behind_if_wider (commands.has_free_branches version) (inl n) f.1)
+command_wider version (If t b u n) f = (tt, behind_if_wider (commands.has_free_branches version) (inr (t, (b, (u, n)))) f.1)
+command_wider version (StoreAtNil n t) f = f
+command_wider version (Change v c) f = f
+
+lines_wider : (version : Version) (ls : List Line) → (lines version).fits ls → (lines Two).fits ls
+unfolding commands.lines commands.line
+lines_wider version [] f = tt
+lines_wider version (l ∷ ls) f =
+    ((tt, (f.0.1.0, command_wider version l.command f.0.1.1)), lines_wider version ls f.1)
+
 pub fits_wider : (version : Version) (ds : List DefinitionValue) (cs : List Command) (ns : List FileNode) → file.fits (tree_of version ds cs ns) → file.fits (tree_of Two ds cs ns)
 unfolding file body
-fits_wider version ds cs ns e = (tt, (tt, e.1.1))
+fits_wider version ds cs ns e =
+    let f = e.1.1 in (tt, (tt, (f.0, (lines_wider version (lines_tree cs) f.1.0, f.1.1))))
 
 -- ---- how many stand in the heaps of a file's judgements
 

@@ -1,5 +1,6 @@
 -- A tree fits the grammar in one way.
-use Rattle.std.specs.Prelude.{true, false, [], ◌∷◌}
+use Rattle.std.specs.Prelude.{Bool, true, false, [], ◌∷◌}
+use Rattle.std.proofs.Common.{inl, inr}
 use Rattle.std.specs.Coded.{×_prop, Unit-prop, le_prop}
 use Rattle.cyc_grammar.specs.Syntax.{one, uncons}
 use Rattle.cyc_grammar.specs.Classes.{number}
@@ -7,10 +8,10 @@ use Rattle.proof_syntax.specs.declared.reason_word.ReasonWord.{ReasonWord}
 use Rattle.proof_syntax.specs.declared.reason_word.ReasonWord.TheVariants as words
 use Rattle.pred_syntax.specs.Fits.{HasOneFit, many-fit, list-fit, sign-fit, uterm-fit, heap-fit, heaps-fit, definition-fit}
 use Rattle.proof_syntax.specs.Trees.{Entails, From}
-use Rattle.heap_syntax.specs.Grammar as shared
+use Rattle.heap_syntax.specs.declared.version.Version.{Version}
 use Rattle.command_syntax.specs.declared.tree.OperandTree.TheVariants as operands
 use Rattle.command_syntax.specs.declared.tree.ChangeTree.TheVariants as changes
-use Rattle.command_syntax.specs.declared.tree.CommandTree.TheVariants.{Stop, Goto, Free, If, StoreAtNil, Change}
+use Rattle.command_syntax.specs.declared.tree.CommandTree.TheVariants.{Stop, Goto, Free, IfAny, If, StoreAtNil, Change}
 use Rattle.command_syntax.specs.Grammar as commands
 use Rattle.proof_syntax.specs.Grammar.{sign, definition, variable, lines, disjuncts, entailment, state, judgement, numbers, bracketed, two_numbers, side, rewrite, split, cut, instantiate, pair, pairs1, pairs, link, parts, reason, premises, node, definitions, more_nodes, nodes, body, file, from_reason, comma, or_word, by_word, some_pair, some_node}
 
@@ -36,22 +37,34 @@ change-fit (changes.Assign t) = ×_prop Unit-prop (×_prop (operand-fit t) Unit-
 change-fit (changes.Load t n) = ×_prop Unit-prop (×_prop (operand-fit t) le_prop)
 change-fit (changes.Store n t) = ×_prop Unit-prop (×_prop le_prop (operand-fit t))
 
-command-fit : HasOneFit (commands.command variable)
-unfolding commands.command commands.branch commands.update commands.store commands.last_number shared.sign variable
-command-fit Stop = ×_prop Unit-prop Unit-prop
-command-fit (Goto n) = ×_prop Unit-prop le_prop
-command-fit (Free t) = ×_prop Unit-prop (operand-fit t)
-command-fit (If t b u n) = ×_prop Unit-prop (×_prop (operand-fit t) (×_prop (sign-fit b) (×_prop (operand-fit u) le_prop)))
-command-fit (StoreAtNil n t) = ×_prop Unit-prop (×_prop le_prop (operand-fit t))
-command-fit (Change v c) = ×_prop Unit-prop (×_prop le_prop (change-fit c))
+branch-fit : HasOneFit (commands.branch variable)
+unfolding commands.branch commands.last_number
+branch-fit p = ×_prop (operand-fit p.0) (×_prop (sign-fit p.1.0) (×_prop (operand-fit p.1.1.0) le_prop))
 
-line-fit : HasOneFit (commands.line variable)
+behind_if-fit : (free : Bool) → HasOneFit (commands.behind_if free variable)
+unfolding commands.behind_if commands.free_branch commands.last_number
+behind_if-fit true (inl n) = le_prop
+behind_if-fit true (inr p) = branch-fit p
+behind_if-fit false (inl n) = λ f g. absurd f.0
+behind_if-fit false (inr p) = ×_prop Unit-prop (branch-fit p)
+
+command-fit : (version : Version) → HasOneFit (commands.command version variable)
+unfolding commands.command commands.update commands.store commands.last_number variable
+command-fit version Stop = ×_prop Unit-prop Unit-prop
+command-fit version (IfAny n) = ×_prop Unit-prop (behind_if-fit (commands.has_free_branches version) (inl n))
+command-fit version (Goto n) = ×_prop Unit-prop le_prop
+command-fit version (Free t) = ×_prop Unit-prop (operand-fit t)
+command-fit version (If t b u n) = ×_prop Unit-prop (behind_if-fit (commands.has_free_branches version) (inr (t, (b, (u, n)))))
+command-fit version (StoreAtNil n t) = ×_prop Unit-prop (×_prop le_prop (operand-fit t))
+command-fit version (Change v c) = ×_prop Unit-prop (×_prop le_prop (change-fit c))
+
+line-fit : (version : Version) → HasOneFit (commands.line version variable)
 unfolding commands.line
-line-fit l = ×_prop Unit-prop (×_prop le_prop (command-fit l.command))
+line-fit version l = ×_prop Unit-prop (×_prop le_prop (command-fit version l.command))
 
-lines-fit : HasOneFit lines
+lines-fit : (version : Version) → HasOneFit (lines version)
 unfolding commands.lines
-lines-fit ls = many-fit (commands.line variable) line-fit ls
+lines-fit version ls = many-fit (commands.line version variable) (line-fit version) ls
 
 -- ---- reasons
 
@@ -120,4 +133,4 @@ nodes-fit ns =
 pub file-fit : HasOneFit file
 unfolding file body definitions
 file-fit f =
-    ×_prop Unit-prop (×_prop Unit-prop (×_prop (many-fit definition definition-fit f.definitions) (×_prop (lines-fit f.lines) (nodes-fit f.nodes))))
+    ×_prop Unit-prop (×_prop Unit-prop (×_prop (many-fit definition definition-fit f.definitions) (×_prop (lines-fit f.version f.lines) (nodes-fit f.nodes))))

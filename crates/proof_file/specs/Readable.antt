@@ -42,6 +42,7 @@ is_universal_command (commands.New x k) = true
 is_universal_command (commands.Free t) = is_universal t
 is_universal_command (commands.IfEq t u j) = is_universal t && is_universal u
 is_universal_command (commands.IfNeq t u j) = is_universal t && is_universal u
+is_universal_command (commands.IfAny j) = true
 is_universal_command (commands.Goto j) = true
 is_universal_command commands.Stop = true
 

@@ -21,7 +21,7 @@ use Rattle.command_syntax.specs.declared.tree.OperandTree.{OperandTree}
 use Rattle.command_syntax.specs.declared.tree.OperandTree.TheVariants as operands
 use Rattle.command_syntax.specs.declared.tree.ChangeTree.TheVariants as changes
 use Rattle.command_syntax.specs.declared.tree.CommandTree.{CommandTree}
-use Rattle.command_syntax.specs.declared.tree.CommandTree.TheVariants.{Stop, Goto, Free, If, StoreAtNil, Change}
+use Rattle.command_syntax.specs.declared.tree.CommandTree.TheVariants.{Stop, Goto, Free, IfAny, If, StoreAtNil, Change}
 use Rattle.proof_syntax.specs.declared.tree.SideTree.{SideTree}
 use Rattle.proof_syntax.specs.declared.tree.SideTree.TheVariants.{Left, Right}
 use Rattle.proof_syntax.specs.declared.tree.PairTree.{PairTree}
@@ -44,6 +44,7 @@ store_tree (terms.Exist x) k u = StoreAtNil k (operand_tree u)
 
 abbrev pub command_tree : Command → CommandTree ℕ
 command_tree commands.Stop = Stop
+command_tree (commands.IfAny j) = IfAny j
 command_tree (commands.Goto j) = Goto j
 command_tree (commands.Free t) = Free (operand_tree t)
 command_tree (commands.IfEq t u j) = If (operand_tree t) true (operand_tree u) j

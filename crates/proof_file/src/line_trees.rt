@@ -35,6 +35,7 @@ fn command(value: Command) -> CommandTree<u32>
 {
     match value {
         Command::Stop => CommandTree::Stop,
+        Command::IfAny(target) => CommandTree::IfAny(target),
         Command::Goto(target) => CommandTree::Goto(target),
         Command::Free(address) => CommandTree::Free(operand(address)),
         Command::IfEq(left, right, target) => {

@@ -135,7 +135,8 @@ fn nodes<'a>(
 
 /// The tree of a file.
 pub fn file_tree<'a>(alloc: Global, file: &'a ProofFile) -> Result<FileTree<'a>, OutOfMemory>
-    ensures { IfOk result (λ t. file_of t ≡ tree_of file.now.version file.now.defs.list file.now.program file.now.nodes) }
+    ensures { IfOk result (λ t. file_of t
+        ≡ tree_of file.now.version file.now.defs.list file.now.program file.now.nodes) }
 {
     let defs = file.defs.as_slice();
     let definitions = definition_trees(alloc, defs)?;

@@ -15,7 +15,7 @@ use Rattle.proof_syntax.specs.declared.reason_word.ReasonWord.{ReasonWord}
 use Rattle.proof_syntax.specs.declared.reason_word.ReasonWord.TheVariants as words
 use Rattle.proof_syntax.specs.ReasonWords.{side_text, sides}
 use Rattle.proof_syntax.specs.Trees.{Heap, Line, Definition, Entailment, Judgement, Reason, Node}
-use Rattle.proof_syntax.specs.Grammar.{Any, node_word, from_word, given_word, or_word, by_word, to_word, last_word, cyclist_word, proof_word, version, dollar, query, comma, semicolon, assign, turnstile, opening_brace, closing_brace, opening_bracket, closing_bracket, uterm, terms, heap, cons, IsSome, variable, lines, to_entailment, from_entailment, disjuncts, entailment, state, to_judgement, from_judgement, judgement, numbers, bracketed, two_numbers, side, rewrite, split, cut, instantiate, to_pair, from_pair, pair, some_pair, pairs1, pairs, to_link, from_link, link, Parts, parts, to_reason, from_reason, reason_word, reason, to_premises, from_premises, premises, to_node, from_node, node, some_node, more_nodes, nodes, to_file, from_file, body, file}
+use Rattle.proof_syntax.specs.Grammar.{Any, node_word, from_word, given_word, or_word, by_word, to_word, last_word, cyclist_word, proof_word, version, dollar, query, comma, semicolon, assign, turnstile, opening_brace, closing_brace, opening_bracket, closing_bracket, uterm, terms, heap, cons, IsSome, variable, lines, to_entailment, from_entailment, disjuncts, entailment, state, to_judgement, from_judgement, judgement, numbers, bracketed, two_numbers, side, rewrite, split, cut, instantiate, to_pair, from_pair, pair, some_pair, pairs1, pairs, to_link, from_link, link, Parts, parts, to_reason, from_reason, reason_word, reason, to_premises, from_premises, premises, to_node, from_node, node, some_node, more_nodes, nodes, to_file, from_file, contents, body, file}
 use Rattle.heap_syntax.specs.declared.version.Version.{Version}
 use Rattle.heap_syntax.proofs.WordTexts.{or-word, last-word, cyclist-word, version-word, syms}
 use Rattle.command_syntax.proofs.CommandLaws.{lines-inner}
@@ -148,10 +148,14 @@ nodes-inner : Inner nodes
 unfolding nodes more_nodes
 nodes-inner = shaped-inner {A = Node × List Node} cons (uncons some_node) IsSome _ (seq-inner node _ node-inner (before-inner _ last_word last-word (many-inner (is_one node_word) node node-inner)))
 
+contents-inner : (v : Version) → Inner (contents v)
+contents-inner v =
+    after-inner semicolon _ syms.semicolon_word (seq-inner _ _ definitions-inner (seq-inner (lines v) _ (lines-inner v variable variable-inner) (before-inner nodes semicolon syms.semicolon_word nodes-inner)))
+
 pub body-inner : Inner body
 unfolding body
-body-inner = shaped-inner {A = Version × (List Definition × (List Line × List Node))} to_file from_file Any _ (after-inner cyclist_word _ cyclist-word (after-inner proof_word _ proof-word (seq-inner (one version) _ (one-inner version version-word) (after-inner semicolon _ syms.semicolon_word
-    (seq-inner _ _ definitions-inner (seq-inner lines _ (lines-inner variable variable-inner) (before-inner nodes semicolon syms.semicolon_word nodes-inner)))))))
+body-inner = shaped-inner {A = (v : Version) × (List Definition × (List Line × List Node))} to_file from_file Any _
+    (after-inner cyclist_word _ cyclist-word (after-inner proof_word _ proof-word (headed-inner version contents version-word contents-inner)))
 
 pub file-last : EndsLast file
 unfolding file

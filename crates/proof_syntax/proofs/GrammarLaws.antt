@@ -15,7 +15,7 @@ use Rattle.proof_syntax.specs.declared.reason_word.ReasonWord.{ReasonWord}
 use Rattle.proof_syntax.specs.declared.reason_word.ReasonWord.TheVariants as words
 use Rattle.proof_syntax.specs.ReasonWords.{reason_text, reason_words, side_text, sides}
 use Rattle.proof_syntax.specs.Trees.{Heap, Line, Definition, Entailment, Judgement, Entails, From, Reason, Absurd, Rewrite, Split, Distinct, Weaken, Unfold, Cut, Done, Choose, PureRight, Instantiate, Frame, UnfoldRight, Exec, Drop, Link, Node}
-use Rattle.proof_syntax.specs.Grammar.{Any, node_word, from_word, given_word, or_word, by_word, to_word, last_word, dollar, query, comma, semicolon, star, assign, turnstile, opening_brace, closing_brace, opening_bracket, closing_bracket, uterm, terms, terms_of, spatial, heap, some_heap, cons, IsSome, variable, lines, to_entailment, from_entailment, disjuncts, entailment, state, to_judgement, from_judgement, judgement, numbers, bracketed, two_numbers, side, rewrite, split, cut, instantiate, to_pair, from_pair, pair, some_pair, pairs1, pairs, to_link, from_link, link, Parts, parts, made_of, to_reason, from_reason, reason_word, reason, to_premises, from_premises, premises, to_node, from_node, node, some_node, definitions, more_nodes, nodes, to_file, from_file, version, body, file}
+use Rattle.proof_syntax.specs.Grammar.{Any, node_word, from_word, given_word, or_word, by_word, to_word, last_word, dollar, query, comma, semicolon, star, assign, turnstile, opening_brace, closing_brace, opening_bracket, closing_bracket, uterm, terms, terms_of, spatial, heap, some_heap, cons, IsSome, variable, lines, to_entailment, from_entailment, disjuncts, entailment, state, to_judgement, from_judgement, judgement, numbers, bracketed, two_numbers, side, rewrite, split, cut, instantiate, to_pair, from_pair, pair, some_pair, pairs1, pairs, to_link, from_link, link, Parts, parts, made_of, to_reason, from_reason, reason_word, reason, to_premises, from_premises, premises, to_node, from_node, node, some_node, definitions, more_nodes, nodes, to_file, from_file, version, contents, body, file}
 use Rattle.heap_syntax.specs.declared.version.Version.{Version}
 use Rattle.heap_syntax.proofs.WordTexts.{version-law}
 use Rattle.command_syntax.specs.Grammar as commands
@@ -357,28 +357,32 @@ dollar_variables = record {
   not_free = λ n f. refl;
   not_if = λ n f. refl;
   not_new = λ n f. refl;
+  not_star = λ n f. refl;
 }
 
-lines-apart : (ls : List Line) (ns : List Node) (rest : List Word) → Stops (lines.more ls) ((before nodes semicolon).words ns ++ rest)
+lines-apart : (v : Version) (ls : List Line) (ns : List Node) (rest : List Word) → Stops ((lines v).more ls) ((before nodes semicolon).words ns ++ rest)
 unfolding nodes node
-lines-apart ls ns rest = lines-end variable (node_word.word tt) refl ls
+lines-apart v ls ns rest = lines-end v variable (node_word.word tt) refl ls
 
-definitions-apart : (ds : List Definition) (ls : List Line) (ns : List Node) (rest : List Word) → Stops (definitions.more ds) ((seq lines (before nodes semicolon)).words (ls, ns) ++ rest)
+definitions-apart : (v : Version) (ds : List Definition) (ls : List Line) (ns : List Node) (rest : List Word) → Stops (definitions.more ds) ((seq (lines v) (before nodes semicolon)).words (ls, ns) ++ rest)
 unfolding nodes node commands.lines commands.line
-definitions-apart ds [] ns rest = definitions-end (node_word.word tt) refl ds
-definitions-apart ds (l ∷ ls) ns rest = definitions-end (commands.line_word.word tt) refl ds
+definitions-apart v ds [] ns rest = definitions-end (node_word.word tt) refl ds
+definitions-apart v ds (l ∷ ls) ns rest = definitions-end (commands.line_word.word tt) refl ds
 
 -- ---- files
+
+contents-law : (v : Version) → Lawful (contents v)
+contents-law v =
+    after-law semicolon _ (symbol-law _)
+    (seq-law definitions (seq (lines v) (before nodes semicolon)) definitions-law
+    (seq-law (lines v) (before nodes semicolon) (lines-law v variable dollar_variables) (before-law nodes semicolon (symbol-law _) nodes-law (λ ns f. nodes-closed ns (semicolon.word tt))) (λ ls ns r fls fns h. lines-apart v ls ns r))
+    (λ ds p r fx fy h. definitions-apart v ds p.0 p.1 r))
 
 body-law : Lawful body
 unfolding body
 body-law =
-    shaped-law {A = Version × (List Definition × (List Line × List Node))} to_file from_file Any _ (λ x f. (refl, tt)) (λ n h. refl)
-    (after-law _ _ (keyword-law _) (after-law _ _ (keyword-law _) (seq-law (one version) (after semicolon (seq definitions (seq lines (before nodes semicolon)))) (one-law version version-law) (after-law semicolon _ (symbol-law _)
-    (seq-law definitions (seq lines (before nodes semicolon)) definitions-law
-    (seq-law lines (before nodes semicolon) (lines-law variable dollar_variables) (before-law nodes semicolon (symbol-law _) nodes-law (λ ns f. nodes-closed ns (semicolon.word tt))) (λ ls ns r fls fns h. lines-apart ls ns r))
-    (λ ds p r fx fy h. definitions-apart ds p.0 p.1 r)))
-    (λ x y r fx fy h. Stops-never ((after semicolon (seq definitions (seq lines (before nodes semicolon)))).words y ++ r)))))
+    shaped-law {A = (v : Version) × (List Definition × (List Line × List Node))} to_file from_file Any _ (λ x f. (refl, tt)) (λ n h. refl)
+    (after-law _ _ (keyword-law _) (after-law _ _ (keyword-law _) (headed-law version contents version-law contents-law)))
 
 pub file-law : Lawful file
 unfolding file body

@@ -6,7 +6,7 @@ use Rattle.command_syntax.specs.declared.tree.OperandTree.TheVariants.{Nil, Vari
 use Rattle.command_syntax.specs.declared.tree.ChangeTree.{ChangeTree}
 use Rattle.command_syntax.specs.declared.tree.ChangeTree.TheVariants.{New, Assign, Load, Store}
 use Rattle.command_syntax.specs.declared.tree.CommandTree.{CommandTree}
-use Rattle.command_syntax.specs.declared.tree.CommandTree.TheVariants.{Stop, Goto, Free, If, StoreAtNil, Change}
+use Rattle.command_syntax.specs.declared.tree.CommandTree.TheVariants.{Stop, Goto, Free, IfAny, If, StoreAtNil, Change}
 use Rattle.command_syntax.specs.Trees.{operand_of, change_of, command_of, line_of}
 use Rattle.proof_syntax.specs.Trees.{Line}
 
@@ -25,6 +25,7 @@ change-same (Store n t) = ap (λ u. Store n u) (operand-same t)
 
 command-same : (c : CommandTree ℕ) → command_of number_itself c ≡ c
 command-same Stop = refl
+command-same (IfAny n) = refl
 command-same (Goto n) = refl
 command-same (Free t) = ap (λ u. Free u) (operand-same t)
 command-same (If t b u n) = rw (operand-same t, operand-same u) refl

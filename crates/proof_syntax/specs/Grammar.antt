@@ -52,8 +52,8 @@ closing_bracket = symbol (codes "]")
 unfoldable pub variable : Syntax ℕ
 variable = after dollar (one number)
 
-abbrev pub lines : Syntax (List Line)
-lines = commands.lines variable
+abbrev pub lines : Version → Syntax (List Line)
+lines v = commands.lines v variable
 
 -- ---- judgement = uheap "|-" heap { "or" heap } | "from" number "given" uheap, and "by" behind it
 
@@ -305,14 +305,18 @@ more_nodes = many (is_one node_word) node
 unfoldable pub nodes : Syntax (List Node)
 nodes = shaped {A = Node × List Node} cons (uncons some_node) IsSome (seq node (before more_nodes last_word))
 
-abbrev pub to_file : Version × (List Definition × (List Line × List Node)) → File
+abbrev pub to_file : (v : Version) × (List Definition × (List Line × List Node)) → File
 to_file p = record { version = p.0; definitions = p.1.0; lines = p.1.1.0; nodes = p.1.1.1 }
 
-abbrev pub from_file : File → Version × (List Definition × (List Line × List Node))
+abbrev pub from_file : File → (v : Version) × (List Definition × (List Line × List Node))
 from_file f = (f.version, (f.definitions, (f.lines, f.nodes)))
 
+-- what stands behind the version
+abbrev pub contents : Version → Syntax (List Definition × (List Line × List Node))
+contents v = after semicolon (seq definitions (seq (lines v) (before nodes semicolon)))
+
 unfoldable pub body : Syntax File
-body = shaped {A = Version × (List Definition × (List Line × List Node))} to_file from_file Any (after cyclist_word (after proof_word (seq (one version) (after semicolon (seq definitions (seq lines (before nodes semicolon)))))))
+body = shaped {A = (v : Version) × (List Definition × (List Line × List Node))} to_file from_file Any (after cyclist_word (after proof_word (headed version contents)))
 
 unfoldable pub file : Syntax File
 file = before body the_end

@@ -10,19 +10,28 @@ use crate::tree::LineTree;
 use cyc_grammar::{Cursor, Refusal};
 use cyc_lex::WordWriter;
 use cyc_memory::OutOfMemory;
+use heap_syntax::Version;
 use std::alloc::Global;
 
 /// Reads the lines of the program, of which there may be none.
-pub fn lines(alloc: Global, cursor: &mut Cursor<'_, '_>) -> Result<Vec<LineTree>, Refusal>
-    ensures { Gives (λ x. (x.items, cursor.new)) result (lines.read cursor.old) }
+pub fn lines(
+    alloc: Global,
+    version: Version,
+    cursor: &mut Cursor<'_, '_>,
+) -> Result<Vec<LineTree>, Refusal>
+    ensures { Gives (λ x. (x.items, cursor.new)) result ((lines version).read cursor.old) }
 {
-    command_syntax::lines(alloc, &DollarVariables, cursor)
+    command_syntax::lines(alloc, &DollarVariables, version, cursor)
 }
 
 /// Writes the lines of the program.
-pub fn write_lines(trees: &[LineTree], writer: &mut WordWriter) -> Result<(), OutOfMemory>
-    requires { lines.fits trees.now }
-    ensures { OnOk result (writer.new ≡ write_all writer.old (lines.words trees.now)) }
+pub fn write_lines(
+    version: Version,
+    trees: &[LineTree],
+    writer: &mut WordWriter,
+) -> Result<(), OutOfMemory>
+    requires { (lines version).fits trees.now }
+    ensures { OnOk result (writer.new ≡ write_all writer.old ((lines version).words trees.now)) }
 {
-    command_syntax::write_lines(&DollarVariables, trees, writer)
+    command_syntax::write_lines(&DollarVariables, version, trees, writer)
 }

@@ -135,7 +135,7 @@ fn body<'a>(alloc: Global, cursor: &mut Cursor<'_, 'a>) -> Result<FileTree<'a>, 
     let version = read_version(cursor)?;
     cursor.symbol(";")?;
     let definitions = definitions(alloc, cursor)?;
-    let lines = lines(alloc, cursor)?;
+    let lines = lines(alloc, version, cursor)?;
     let nodes = nodes(alloc, cursor)?;
     cursor.symbol(";")?;
     Ok(FileTree {

@@ -121,7 +121,7 @@ fn write_body(tree: &FileTree<'_>, writer: &mut WordWriter) -> Result<(), OutOfM
     write_version(tree.version, writer)?;
     writer.symbol(";")?;
     write_definitions(&tree.definitions, writer)?;
-    write_lines(&tree.lines, writer)?;
+    write_lines(tree.version, &tree.lines, writer)?;
     write_nodes(&tree.nodes, writer)?;
     writer.symbol(";")
 }

@@ -8,7 +8,7 @@ use Rattle.heap_formula.specs.declared.atoms.Pure.TheVariants.{Eq, Neq}
 use Rattle.heap_formula.specs.declared.atoms.Spatial.{Spatial}
 use Rattle.heap_formula.specs.declared.atoms.Spatial.TheVariants.{Cell, Pred}
 use Rattle.heap_formula.specs.declared.commands.Command.{Command}
-use Rattle.heap_formula.specs.declared.commands.Command.TheVariants.{Assign, Load, Store, New, Free, IfEq, IfNeq, Goto, Stop}
+use Rattle.heap_formula.specs.declared.commands.Command.TheVariants.{Assign, Load, Store, New, Free, IfEq, IfNeq, IfAny, Goto, Stop}
 use Rattle.heap_formula.specs.declared.judgements.Judgement.{Judgement}
 use Rattle.heap_formula.specs.declared.judgements.Judgement.TheVariants.{Entail, Term as Runs}
 use Rattle.heap_formula.specs.declared.judgements.Pair.{Pair}
@@ -122,6 +122,8 @@ command_fits most i a n (IfEq t u j) =
     limited_on (PremiseFits (Runs i a)) most (two (at_line j a (with_atom a (Eq t u))) (at_line (i + 1) a (with_atom a (Neq t u)))) (same_fit a.spatial a.spatial (λ k p. p), (same_fit a.spatial a.spatial (λ k p. p), tt))
 command_fits most i a n (IfNeq t u j) =
     limited_on (PremiseFits (Runs i a)) most (two (at_line j a (with_atom a (Neq t u))) (at_line (i + 1) a (with_atom a (Eq t u)))) (same_fit a.spatial a.spatial (λ k p. p), (same_fit a.spatial a.spatial (λ k p. p), tt))
+command_fits most i a n (IfAny j) =
+    limited_on (PremiseFits (Runs i a)) most (two (at_line j a a) (at_line (i + 1) a a)) (same_fit a.spatial a.spatial (λ k p. p), (same_fit a.spatial a.spatial (λ k p. p), tt))
 command_fits most i a n (Assign x t) =
     limited_on (PremiseFits (Runs i a)) most (one (at_line (i + 1) a (with_atom (renamed x n a) (Eq (Univ x) (renamed_term x n t))))) (same_fit a.spatial (renamed x n a).spatial (λ k p. renamed_pred x n a k p), tt)
 command_fits most i a n (Load x t k) =

@@ -13,7 +13,7 @@ use Rattle.heap_formula.specs.declared.atoms.Pure.TheVariants.{Eq, Neq}
 use Rattle.heap_formula.specs.declared.atoms.Spatial.{Spatial}
 use Rattle.heap_formula.specs.declared.atoms.Spatial.TheVariants.{Cell, Pred}
 use Rattle.heap_formula.specs.declared.commands.Command.{Command}
-use Rattle.heap_formula.specs.declared.commands.Command.TheVariants.{Assign, Load, Store, New, Free, IfEq, IfNeq, Goto, Stop}
+use Rattle.heap_formula.specs.declared.commands.Command.TheVariants.{Assign, Load, Store, New, Free, IfEq, IfNeq, IfAny, Goto, Stop}
 use Rattle.heap_formula.specs.declared.judgements.Judgement.{Judgement}
 use Rattle.heap_formula.specs.declared.judgements.Judgement.TheVariants.{Entail, Term as Runs}
 use Rattle.heap_formula.specs.declared.proof_rules.RuleFault.TheVariants.{NoCell, WrongJudgement}
@@ -36,7 +36,7 @@ use Rattle.rule_table.proofs.Frames.{take_out, pairs_follow}
 use Rattle.rule_table.proofs.Rewrites.{Each-get}
 use Rattle.rule_table.proofs.Appends.{Each-append}
 use Rattle.rule_table.proofs.Links.{equated_value}
-use Rattle.rule_table.proofs.Runs.{one_way}
+use Rattle.rule_table.proofs.Runs.{one_way, two_ways}
 use Rattle.rule_table.proofs.ExecNew.{after_new, after_at_x, renamed as renamed_is, first_set, joins_put, same_address, exec_new_sound}
 use Rattle.rule_table.specs.Answer.{one, two}
 use Rattle.rule_table.specs.Tests.{equated}
@@ -249,6 +249,11 @@ module _ (ds : List Definition) (lines : List Command) (i : ℕ) (a : SymbolicHe
   goto_sound j at stages premises s part o w pos h is =
       one_way lines w (Goto j) (start_at lines i s h) (jump (start_at lines i s h) j) at (λ bad. bad) (λ e g. g) (premises.0 stages (pairs_follow (λ k. k) stages 0 a.spatial) s part o w pos h is)
 
+  if_any_sound : (j : ℕ) → counted_from_one lines i ≡ Some (IfAny j) → IsLocallySound ds lines (Runs i a) (two (at_line j a a) (at_line (i + 1) a a))
+  if_any_sound j at stages premises s part o w pos h is =
+      let c = start_at lines i s h in
+      two_ways lines w (IfAny j) c (jump c j) (jump c (i + 1)) at (λ bad. bad) (λ e g. g) (premises.0 stages (pairs_follow (λ k. k) stages 0 a.spatial) s part o w pos h is) (premises.1.0 stages (pairs_follow (λ k. k) stages 0 a.spatial) s part o w pos h is)
+
   stop_sound : counted_from_one lines i ≡ Some Stop → IsLocallySound ds lines (Runs i a) []
   stop_sound at stages none s part o w pos h is = (0, at)
 
@@ -346,6 +351,8 @@ module _ (ds : List Definition) (lines : List Command) (i : ℕ) (a : SymbolicHe
       limited_sound ds lines most (Runs i a) (two (at_line j a (with_atom a (Eq t u))) (at_line (i + 1) a (with_atom a (Neq t u)))) (if_eq_sound t u j at good)
   command_sound most (IfNeq t u j) at good =
       limited_sound ds lines most (Runs i a) (two (at_line j a (with_atom a (Neq t u))) (at_line (i + 1) a (with_atom a (Eq t u)))) (if_neq_sound t u j at good)
+  command_sound most (IfAny j) at good =
+      limited_sound ds lines most (Runs i a) (two (at_line j a a) (at_line (i + 1) a a)) (if_any_sound j at)
   command_sound most (Assign x t) at good =
       limited_sound ds lines most (Runs i a) (one (at_line (i + 1) a (with_atom (renamed x n a) (Eq (Univ x) (renamed_term x n t))))) (assign_sound x t at good)
   command_sound most (Load x t k) at good =

@@ -8,7 +8,7 @@ use Rattle.heap_formula.specs.declared.atoms.Pure.TheVariants.{Eq, Neq}
 use Rattle.heap_formula.specs.declared.atoms.Spatial.{Spatial}
 use Rattle.heap_formula.specs.declared.atoms.Spatial.TheVariants.{Cell, Pred}
 use Rattle.heap_formula.specs.declared.commands.Command.{Command}
-use Rattle.heap_formula.specs.declared.commands.Command.TheVariants.{Assign, Load, Store, New, Free, IfEq, IfNeq, Goto, Stop}
+use Rattle.heap_formula.specs.declared.commands.Command.TheVariants.{Assign, Load, Store, New, Free, IfEq, IfNeq, IfAny, Goto, Stop}
 use Rattle.heap_formula.specs.declared.judgements.Judgement.{Judgement}
 use Rattle.heap_formula.specs.declared.judgements.Judgement.TheVariants.{Entail, Term as Runs}
 use Rattle.heap_formula.specs.declared.judgements.Premise.{Premise}
@@ -179,6 +179,7 @@ module _ (i : ℕ) (a : SymbolicHeap) (n : ℕ) (h : IsUniversalHeap a) where
       limited_on IsUniversalPremise most (two (at_line j a (with_atom a (Eq t u))) (at_line (i + 1) a (with_atom a (Neq t u)))) (atom_universal a (Eq t u) h good, (atom_universal a (Neq t u) h good, tt))
   command_universal most (IfNeq t u j) good =
       limited_on IsUniversalPremise most (two (at_line j a (with_atom a (Neq t u))) (at_line (i + 1) a (with_atom a (Eq t u)))) (atom_universal a (Neq t u) h good, (atom_universal a (Eq t u) h good, tt))
+  command_universal most (IfAny j) good = limited_on IsUniversalPremise most (two (at_line j a a) (at_line (i + 1) a a)) (h, (h, tt))
   command_universal most (Assign x t) good =
       limited_on IsUniversalPremise most (one (at_line (i + 1) a (with_atom (renamed x n a) (Eq (Univ x) (renamed_term x n t))))) (set_universal x t good, tt)
   command_universal most (Load x t k) good =

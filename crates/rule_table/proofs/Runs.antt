@@ -1,5 +1,5 @@
 -- Runs that halt, and the premise of Exec at `new`.
-use Rattle.std.proofs.Common.{◌≡◌, ℕ, zero, suc, ◌+◌, ◌<◌, ◌≤◌, List, length, Option, Some, None, refl, sym, subst, arith, inl, inr}
+use Rattle.std.proofs.Common.{◌≡◌, ℕ, zero, suc, ◌+◌, ◌<◌, ◌≤◌, ◌⊎◌, List, length, Option, Some, None, refl, sym, subst, arith, inl, inr}
 use Rattle.std.specs.Prelude.{slice_set}
 use Rattle.std.specs.FinMap.{insert}
 use Rattle.std.proofs.Math.ListN.{set}
@@ -25,6 +25,16 @@ module _ (lines : List Command) (w : ℕ) where
   -- a command that leads to one state
   pub one_way : (x : Command) (c d : Config) → command_at lines c ≡ Some x → (¬ Faults x c) → ((e : Config) → Goes x w c e → e ≡ d) → (n : ℕ) × Halts lines w n d → (n : ℕ) × Halts lines w n c
   one_way x c d at nf only r = (suc r.0, inr (x, at, nf, λ e g. subst (Halts lines w r.0) (sym (only e g)) r.1))
+
+  -- a command that leads to two states
+  pub two_ways : (x : Command) (c d e : Config) → command_at lines c ≡ Some x → (¬ Faults x c) → ((f : Config) → Goes x w c f → (f ≡ d) ⊎ (f ≡ e)) → (n : ℕ) × Halts lines w n d → (n : ℕ) × Halts lines w n e → (n : ℕ) × Halts lines w n c
+  two_ways x c d e at nf only p q = (suc (p.0 + q.0), inr (x, at, nf, λ f g. halts f (only f g)))
+    where
+      halts : (f : Config) → (f ≡ d) ⊎ (f ≡ e) → Halts lines w (p.0 + q.0) f
+      halts f (inl same) = subst (Halts lines w (p.0 + q.0)) (sym same) (halts_more p.0 q.0 d p.1)
+      halts f (inr same) =
+          let either : q.0 + p.0 ≡ p.0 + q.0 = omega arith in
+          subst (Halts lines w (p.0 + q.0)) (sym same) (subst (λ n. Halts lines w n e) either (halts_more q.0 p.0 e q.1))
 
   -- where `new` leads
   abbrev picked : ℕ → Config → ℕ → List ℕ → Config

@@ -7,7 +7,7 @@ use Rattle.heap_formula.specs.declared.atoms.Pure.TheVariants.{Eq, Neq}
 use Rattle.heap_formula.specs.declared.atoms.Spatial.{Spatial}
 use Rattle.heap_formula.specs.declared.atoms.Spatial.TheVariants.{Cell, Pred}
 use Rattle.heap_formula.specs.declared.commands.Command.{Command}
-use Rattle.heap_formula.specs.declared.commands.Command.TheVariants.{Assign, Load, Store, New, Free, IfEq, IfNeq, Goto, Stop}
+use Rattle.heap_formula.specs.declared.commands.Command.TheVariants.{Assign, Load, Store, New, Free, IfEq, IfNeq, IfAny, Goto, Stop}
 use Rattle.heap_formula.specs.declared.judgements.Judgement.{Judgement}
 use Rattle.heap_formula.specs.declared.judgements.Judgement.TheVariants.{Term as Runs}
 use Rattle.heap_formula.specs.declared.judgements.Premise.{Premise}
@@ -72,6 +72,7 @@ at_line i a b = record { judgement = Runs i b; pairs = same_pairs a.spatial }
 -- the command at line i, from a, n being fresh
 abbrev pub command_answer : ℕ → ℕ → SymbolicHeap → ℕ → Command → Answer
 command_answer most i a n Stop = Ok []
+command_answer most i a n (IfAny j) = limited most (two (at_line j a a) (at_line (i + 1) a a))
 command_answer most i a n (Goto j) = limited most (one (at_line j a a))
 command_answer most i a n (IfEq t u j) =
     limited most (two (at_line j a (with_atom a (Eq t u))) (at_line (i + 1) a (with_atom a (Neq t u))))

@@ -3,7 +3,7 @@ use Rattle.std.specs.Prelude.{ℕ, ◌≤◌, ◌<◌, List, Ok, Err}
 use Rattle.heap_formula.specs.declared.commands.Command.{Command}
 use Rattle.heap_formula.specs.declared.judgements.Judgement.{Judgement}
 use Rattle.heap_formula.specs.declared.judgements.Judgement.TheVariants.{Entail, Term as Runs}
-use Rattle.heap_formula.specs.declared.commands.Command.TheVariants.{Assign, Load, Store, New, Free, IfEq, IfNeq, Goto, Stop}
+use Rattle.heap_formula.specs.declared.commands.Command.TheVariants.{Assign, Load, Store, New, Free, IfEq, IfNeq, IfAny, Goto, Stop}
 use Rattle.heap_formula.specs.Closedness.{IsUniversal, IsUniversalHeap}
 use Rattle.heap_formula.specs.Judgements.{antecedent}
 use Rattle.heap_formula.specs.declared.judgements.Premise.{Premise}
@@ -35,6 +35,7 @@ IsCommand (New x k) = 0 < k
 IsCommand (Free t) = IsUniversal t
 IsCommand (IfEq t u j) = IsUniversal t × IsUniversal u
 IsCommand (IfNeq t u j) = IsUniversal t × IsUniversal u
+IsCommand (IfAny j) = Unit {0}
 IsCommand (Goto j) = Unit {0}
 IsCommand Stop = Unit {0}
 

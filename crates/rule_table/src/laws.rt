@@ -14,10 +14,14 @@ ghost use Rattle.rule_table.specs.Soundness.{IsSound, IsCommand, AreUniversal, H
 
 /// Every rule is locally sound where no existential stands in the antecedent, and the program's commands are as programs have them.
 pub fn rules_are_sound()
-    ensures { (most : ℕ) (ds : List Definition) (lines : List Command) (j : Judgement) (rule : Rule) → IsUniversalHeap (antecedent j) → Each IsCommand lines → IsSound ds lines j (rule_answer most ds lines j rule) }
+    ensures { (most : ℕ) (ds : List Definition) (lines : List Command) (j : Judgement) (rule : Rule)
+        → IsUniversalHeap (antecedent j) → Each IsCommand lines
+        → IsSound ds lines j (rule_answer most ds lines j rule) }
 {}
 
 /// A link without a fault is locally sound where the substitution has no existential.
 pub fn links_are_sound()
-    ensures { (ds : List Definition) (lines : List Command) (bud companion : Judgement) (link : Link) (p : ℕ) → AreUniversal link.subst → HasVariables lines p bud → link_fault bud companion link p ≡ None → IsLocallySound ds lines bud (link_premise companion link ∷ []) }
+    ensures { (ds : List Definition) (lines : List Command) (bud companion : Judgement) (link : Link) (p : ℕ)
+        → AreUniversal link.subst → HasVariables lines p bud → link_fault bud companion link p ≡ None
+        → IsLocallySound ds lines bud (link_premise companion link ∷ []) }
 {}

@@ -8,7 +8,7 @@ use Rattle.heap_formula.specs.declared.atoms.Pure.TheVariants.{Eq, Neq}
 use Rattle.heap_formula.specs.declared.atoms.Spatial.{Spatial}
 use Rattle.heap_formula.specs.declared.atoms.Spatial.TheVariants.{Cell, Pred}
 use Rattle.heap_formula.specs.declared.commands.Command.{Command}
-use Rattle.heap_formula.specs.declared.commands.Command.TheVariants.{Assign, Load, Store, New, Free, IfEq, IfNeq, Goto, Stop}
+use Rattle.heap_formula.specs.declared.commands.Command.TheVariants.{Assign, Load, Store, New, Free, IfEq, IfNeq, IfAny, Goto, Stop}
 use Rattle.heap_formula.specs.declared.judgements.Judgement.{Judgement}
 use Rattle.heap_formula.specs.declared.judgements.Judgement.TheVariants.{Entail, Term as Runs}
 use Rattle.heap_formula.specs.declared.proof_rules.Side.{Side}
@@ -81,6 +81,7 @@ is_stop (Some (New x k)) = false
 is_stop (Some (Free t)) = false
 is_stop (Some (IfEq t u i)) = false
 is_stop (Some (IfNeq t u i)) = false
+is_stop (Some (IfAny i)) = false
 is_stop (Some (Goto i)) = false
 is_stop None = false
 
@@ -96,6 +97,7 @@ wanted_cell (Some (Assign x t)) = None
 wanted_cell (Some (New x k)) = None
 wanted_cell (Some (IfEq t u i)) = None
 wanted_cell (Some (IfNeq t u i)) = None
+wanted_cell (Some (IfAny i)) = None
 wanted_cell (Some (Goto i)) = None
 wanted_cell (Some Stop) = None
 wanted_cell None = None

@@ -42,7 +42,8 @@ fn links_to(
     judgement: &Judgement,
 ) -> Result<Vec<Link>, OutOfMemory>
     requires { v < length graph.now }
-    ensures { IfOk result (λ found. (node : GraphNode) → slice_get graph.now v ≡ Some node → found.items ≡ links_to_node MOST_LINKS program.now judgement.now v node) }
+    ensures { IfOk result (λ found. (node : GraphNode) → slice_get graph.now v ≡ Some node
+        → found.items ≡ links_to_node MOST_LINKS program.now judgement.now v node) }
 {
     if !is_companion(graph, v, judgement) {
         return Ok(Vec::new(alloc));

@@ -5,7 +5,10 @@ use heap_formula::Command;
 /// Where a command may jump to.
 fn target(command: Command) -> Option<u32> {
     match command {
-        Command::IfEq(_, _, line) | Command::IfNeq(_, _, line) | Command::Goto(line) => Some(line),
+        Command::IfEq(_, _, line)
+        | Command::IfNeq(_, _, line)
+        | Command::IfAny(line)
+        | Command::Goto(line) => Some(line),
         _ => None,
     }
 }

@@ -6,7 +6,7 @@ use Rattle.std.proofs.lemmas.Option.{slice_get_within}
 use Rattle.heap_formula.specs.declared.atoms.Pure.TheVariants.{Eq, Neq}
 use Rattle.heap_formula.specs.declared.terms.Term.TheVariants.{Univ}
 use Rattle.heap_formula.specs.declared.commands.Command.{Command}
-use Rattle.heap_formula.specs.declared.commands.Command.TheVariants.{Assign, Load, Store, New, Free, IfEq, IfNeq, Goto, Stop}
+use Rattle.heap_formula.specs.declared.commands.Command.TheVariants.{Assign, Load, Store, New, Free, IfEq, IfNeq, IfAny, Goto, Stop}
 use Rattle.heap_formula.specs.declared.judgements.Judgement.{Judgement}
 use Rattle.heap_formula.specs.declared.judgements.Judgement.TheVariants.{Entail, Term as Runs}
 use Rattle.heap_formula.specs.declared.judgements.Premise.{Premise}
@@ -46,6 +46,7 @@ has_fields n i (New x k) m = m.1.0
 has_fields n i (Free t) m = tt
 has_fields n i (IfEq t u j) m = tt
 has_fields n i (IfNeq t u j) m = tt
+has_fields n i (IfAny j) m = tt
 has_fields n i (Goto j) m = tt
 has_fields n i Stop m = tt
 
@@ -57,6 +58,7 @@ is_command (New x k) f u = f
 is_command (Free t) f u = u
 is_command (IfEq t v j) f u = u
 is_command (IfNeq t v j) f u = u
+is_command (IfAny j) f u = tt
 is_command (Goto j) f u = tt
 is_command Stop f u = tt
 
@@ -84,6 +86,7 @@ few_new n i (New x k) m = m.1.1
 few_new n i (Free t) m = omega arith
 few_new n i (IfEq t u j) m = omega arith
 few_new n i (IfNeq t u j) m = omega arith
+few_new n i (IfAny j) m = omega arith
 few_new n i (Goto j) m = omega arith
 few_new n i Stop m = omega arith
 
@@ -113,6 +116,8 @@ module _ (n i : ℕ) (a : SymbolicHeap) (m : ℕ) where
       limited_on (IsPremiseAtLine n) most (two (at_line j a (with_atom a (Eq t u))) (at_line (i + 1) a (with_atom a (Neq t u)))) (h.1, (next h.0, tt))
   command_lines most (IfNeq t u j) h =
       limited_on (IsPremiseAtLine n) most (two (at_line j a (with_atom a (Neq t u))) (at_line (i + 1) a (with_atom a (Eq t u)))) (h.1, (next h.0, tt))
+  command_lines most (IfAny j) h =
+      limited_on (IsPremiseAtLine n) most (two (at_line j a a) (at_line (i + 1) a a)) (h.1, (next h.0, tt))
   command_lines most (Assign x t) h =
       limited_on (IsPremiseAtLine n) most (one (at_line (i + 1) a (with_atom (renamed x m a) (Eq (Univ x) (renamed_term x m t))))) (next h, tt)
   command_lines most (Load x t k) h =

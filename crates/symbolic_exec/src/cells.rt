@@ -17,7 +17,8 @@ pub struct FoundCell {
 
 // The atom, if it is a cell whose address is t or is equated with it.
 fn own_cell_at(pures: &[Pure], t: Term, place: usize, atom: &Spatial) -> Option<FoundCell>
-    ensures { MatchOption result (own_cell place pures.now t atom.now ≡ None) (λ c. own_cell place pures.now t atom.now ≡ Some (found_of c)) }
+    ensures { MatchOption result (own_cell place pures.now t atom.now
+        ≡ None) (λ c. own_cell place pures.now t atom.now ≡ Some (found_of c)) }
 {
     match atom {
         Spatial::Cell(u, fields) => {
@@ -36,7 +37,8 @@ fn own_cell_at(pures: &[Pure], t: Term, place: usize, atom: &Spatial) -> Option<
 }
 
 fn first_cell(pures: &[Pure], t: Term, atoms: &[Spatial]) -> Option<FoundCell>
-    ensures { MatchOption result (cell_from 0 pures.now t atoms.now ≡ None) (λ c. cell_from 0 pures.now t atoms.now ≡ Some (found_of c)) }
+    ensures { MatchOption result (cell_from 0 pures.now t atoms.now ≡ None) (λ c. cell_from 0 pures.now t atoms.now
+        ≡ Some (found_of c)) }
 {
     for (place, atom) in atoms.iter().enumerate() {
         if let Some(cell) = own_cell_at(pures, t, place, atom) {
@@ -48,7 +50,8 @@ fn first_cell(pures: &[Pure], t: Term, atoms: &[Spatial]) -> Option<FoundCell>
 
 /// The first cell whose address is `t`, or stands with it in one equation.
 pub fn cell_at(a: &Heap, t: Term) -> Option<FoundCell>
-    ensures { MatchOption result (cell_of a.now.pure t a.now.spatial ≡ None) (λ c. cell_of a.now.pure t a.now.spatial ≡ Some (found_of c)) }
+    ensures { MatchOption result (cell_of a.now.pure t a.now.spatial
+        ≡ None) (λ c. cell_of a.now.pure t a.now.spatial ≡ Some (found_of c)) }
 {
     first_cell(a.pure(), t, a.spatial())
 }

@@ -1,7 +1,7 @@
 // The premises at each command.
 ghost use Rattle.std.specs.Prelude.{◌≡◌, ◌≤◌, ◌<◌, ◌+◌, IfOk, length};
 ghost use Rattle.heap_formula.specs.declared.atoms.Pure.TheVariants.{Eq};
-ghost use Rattle.heap_formula.specs.declared.commands.Command.TheVariants.{Load, Store, New, Free, Goto};
+ghost use Rattle.heap_formula.specs.declared.commands.Command.TheVariants.{Load, Store, New, Free, IfAny, Goto};
 ghost use Rattle.heap_formula.specs.declared.judgements.Judgement.TheVariants.{Term as Runs};
 ghost use Rattle.heap_formula.specs.declared.terms.Term.TheVariants.{Univ};
 ghost use Rattle.heap_formula.specs.Positions.{before, pairs_from};
@@ -193,6 +193,18 @@ fn goto(alloc: Global, at: Setting, a: &Heap, target: u32) -> Result<Vec<Premise
     numbered(only_at_line(alloc, target, a, a.clone()?)?)
 }
 
+fn any(alloc: Global, at: Setting, a: &Heap, target: u32) -> Result<Vec<Premise>, RuleError>
+    requires { IsSetting at }
+    ensures { IsAnswer result (command_answer at.most at.line a.now at.fresh (IfAny target)) }
+{
+    if !is_short(at.most, a) {
+        return Err(RuleError::Fault(RuleFault::TooManyAtoms));
+    }
+    let jumps = at_line(alloc, target, a, a.clone()?)?;
+    let goes_on = at_line(alloc, at.line + 1, a, a.clone()?)?;
+    numbered(two_premises(alloc, jumps, goes_on)?)
+}
+
 /// The premises of a command at a symbolic state.
 pub fn command_premises(
     alloc: Global,
@@ -212,6 +224,7 @@ pub fn command_premises(
         Command::Free(t) => free(alloc, at, a, t),
         Command::IfEq(t, u, j) => test(alloc, at, a, j, Pure::Eq(t, u), Pure::Neq(t, u)),
         Command::IfNeq(t, u, j) => test(alloc, at, a, j, Pure::Neq(t, u), Pure::Eq(t, u)),
+        Command::IfAny(j) => any(alloc, at, a, j),
         Command::Goto(j) => goto(alloc, at, a, j),
         Command::Stop => Ok(Vec::new(alloc)),
     }

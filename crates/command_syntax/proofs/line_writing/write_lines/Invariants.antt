@@ -8,5 +8,5 @@ use Rattle.command_syntax.proofs.line_writing.write_lines.Given as goal
 
 abbrev pub invariant-loop-tree : goal.invariant-loop-tree
 invariant-loop-tree g l =
-    (write_all l.writer (words_many (line (g.F.VariableForm.variables l.form)) (map (line_of g.F.VariableForm.seen) (drop l.tree-index l.trees))) ≡ write_all l.fn.writer (words_many (line (g.F.VariableForm.variables l.form)) (map (line_of g.F.VariableForm.seen) l.trees)))
-    × fits_many (line (g.F.VariableForm.variables l.form)) (map (line_of g.F.VariableForm.seen) (drop l.tree-index l.trees))
+    (write_all l.writer (words_many (line l.version (g.F.VariableForm.variables l.form)) (map (line_of g.F.VariableForm.seen) (drop l.tree-index l.trees))) ≡ write_all l.fn.writer (words_many (line l.version (g.F.VariableForm.variables l.form)) (map (line_of g.F.VariableForm.seen) l.trees)))
+    × fits_many (line l.version (g.F.VariableForm.variables l.form)) (map (line_of g.F.VariableForm.seen) (drop l.tree-index l.trees))

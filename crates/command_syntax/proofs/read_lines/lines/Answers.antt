@@ -10,6 +10,6 @@ use Rattle.command_syntax.proofs.read_lines.lines.Goals as goal
 
 pub returns : goal.returns
 returns g c =
-    let read = (lines (g.F.VariableForm.variables c.args.form.now)).read c.args.cursor.now in
+    let read = (lines c.args.version (g.F.VariableForm.variables c.args.form.now)).read c.args.cursor.now in
     let same : with_front (map (line_of g.F.VariableForm.seen) c.new-items.result.items) read ≡ read = ap (λ (front : List (LineTree _)). with_front front read) (ap (map (line_of g.F.VariableForm.seen)) c.new-items.ensures.items) ∙ with_front-nil read in
     subst (λ (r : Reading (List (LineTree _))). Gives (λ x. (map (line_of g.F.VariableForm.seen) x.items, c.more_lines.new.cursor)) c.more_lines.result r) same c.more_lines.ensures

@@ -8,5 +8,5 @@ use Rattle.command_syntax.proofs.read_lines.more_lines.Given as goal
 
 abbrev pub invariant-loop : goal.invariant-loop
 invariant-loop g l =
-    with_front (map (line_of g.F.VariableForm.seen) l.items.items) (read_many (is_one line_word) (line (g.F.VariableForm.variables l.form)) (length l.fn.cursor - l.counter) l.cursor)
-    ≡ with_front (map (line_of g.F.VariableForm.seen) l.fn.items.items) (read_many (is_one line_word) (line (g.F.VariableForm.variables l.form)) (length l.fn.cursor) l.fn.cursor)
+    with_front (map (line_of g.F.VariableForm.seen) l.items.items) (read_many (is_one line_word) (line l.version (g.F.VariableForm.variables l.form)) (length l.fn.cursor - l.counter) l.cursor)
+    ≡ with_front (map (line_of g.F.VariableForm.seen) l.fn.items.items) (read_many (is_one line_word) (line l.version (g.F.VariableForm.variables l.form)) (length l.fn.cursor) l.fn.cursor)

@@ -41,10 +41,10 @@ pub invariant_of-result-clause-fits : goal.invariant_of-result-clause-fits
 invariant_of-result-clause-fits c =
     let p = c.args.problem.now in
     let kept = problem_keeps p in
-    copied (λ book lines. file.fits (tree_of p.version book.list lines c.args.nodes)) p.defs c.in_ok-defs.defs p.program c.in_ok-program.program c.in_ok-defs.ensures.cases c.in_ok-program.ensures.cases (file_fits p.version p.defs.most p.limit p.defs.list p.program c.args.nodes kept.definitions kept.program c.requires.within kept.free c.requires.some_node)
+    copied (λ book lines. file.fits (tree_of p.version book.list lines c.args.nodes)) p.defs c.in_ok-defs.defs p.program c.in_ok-program.program c.in_ok-defs.ensures.cases c.in_ok-program.ensures.cases (file_fits p.version p.defs.most p.limit p.defs.list p.program c.args.nodes kept.definitions kept.program kept.commands c.requires.within kept.free c.requires.some_node)
 
 pub invariant_of-result-clause-flawless : goal.invariant_of-result-clause-flawless
 invariant_of-result-clause-flawless c =
     let p = c.args.problem.now in
     let kept = problem_keeps p in
-    copied (λ book lines. file_flaw (tree_of p.version book.list lines c.args.nodes) ≡ None) p.defs c.in_ok-defs.defs p.program c.in_ok-program.program c.in_ok-defs.ensures.cases c.in_ok-program.ensures.cases (file_flawless p.version p.defs.most p.limit p.defs.list p.program c.args.nodes kept.definitions kept.program c.requires.within kept.own kept.few c.requires.few)
+    copied (λ book lines. file_flaw (tree_of p.version book.list lines c.args.nodes) ≡ None) p.defs c.in_ok-defs.defs p.program c.in_ok-program.program c.in_ok-defs.ensures.cases c.in_ok-program.ensures.cases (file_flawless p.version p.defs.most p.limit p.defs.list p.program c.args.nodes kept.definitions kept.program kept.commands c.requires.within kept.own kept.few c.requires.few)

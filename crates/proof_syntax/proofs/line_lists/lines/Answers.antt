@@ -8,4 +8,4 @@ use Rattle.proof_syntax.specs.Grammar.{lines}
 use Rattle.proof_syntax.proofs.line_lists.lines.Goals as goal
 
 pub returns : goal.returns
-returns c = gives-same (λ x. (map (line_of number_itself) x.items, c.lines.new.cursor)) (λ x. (x.items, c.lines.new.cursor)) (λ x. ap (λ (ls : List Line). (ls, c.lines.new.cursor)) (lines-same x.items)) c.lines.result (lines.read c.args.cursor.now) c.lines.ensures
+returns c = gives-same (λ x. (map (line_of number_itself) x.items, c.lines.new.cursor)) (λ x. (x.items, c.lines.new.cursor)) (λ x. ap (λ (ls : List Line). (ls, c.lines.new.cursor)) (lines-same x.items)) c.lines.result ((lines c.args.version).read c.args.cursor.now) c.lines.ensures

@@ -7,7 +7,7 @@ use Rattle.proof_syntax.specs.Grammar.{lines}
 use Rattle.proof_syntax.proofs.line_lists.write_lines.Goals as goal
 
 pub write_lines-requires : goal.write_lines-requires
-write_lines-requires c = λ k. ((refl, tt), subst (λ (ls : List Line). lines.fits ls) (sym (lines-same c.args.trees.now)) c.requires)
+write_lines-requires c = λ k. ((refl, tt), subst (λ (ls : List Line). (lines c.args.version).fits ls) (sym (lines-same c.args.trees.now)) c.requires)
 
 pub returns : goal.returns
-returns c = subst (λ (ls : List Line). OnOk c.write_lines.result (c.write_lines.new.writer ≡ write_all c.args.writer.now (lines.words ls))) (lines-same c.args.trees.now) c.write_lines.ensures
+returns c = subst (λ (ls : List Line). OnOk c.write_lines.result (c.write_lines.new.writer ≡ write_all c.args.writer.now ((lines c.args.version).words ls))) (lines-same c.args.trees.now) c.write_lines.ensures
