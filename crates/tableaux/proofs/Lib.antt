@@ -1,4 +1,5 @@
 pub mod Grown
+pub mod Leaves
 pub mod Waiting
 pub mod Rows
 pub mod Graphs

@@ -85,7 +85,7 @@ next_parents v depth ps g rest old k h at =
     ]
 
 -- the goals after the next one belong to nodes
-parent_made : {J R : Type 0} {c : Calculus J R} {Occurs : J → Type 0} {Allows : R → Type 0} {j : J} (nodes : List (Made J R)) (graph : List Node) (g : Goal J) (rest : List (Goal J)) → InOrder c Occurs Allows j (record { nodes = nodes; goals = g ∷ rest; graph = graph }) →
+pub parent_made : {J R : Type 0} {c : Calculus J R} {Occurs : J → Type 0} {Allows : R → Type 0} {j : J} (nodes : List (Made J R)) (graph : List Node) (g : Goal J) (rest : List (Goal J)) → InOrder c Occurs Allows j (record { nodes = nodes; goals = g ∷ rest; graph = graph }) →
     (k : ℕ) (x : Goal J) → slice_get rest k ≡ Some x → x.parent < length nodes
 parent_made nodes graph g rest ok k x at = elim (ok.parents (suc k) x at) [ inl less ↦ less | inr first ↦ absurd (let e = first.1 in omega (arith, e)) ]
 

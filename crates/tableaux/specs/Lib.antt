@@ -3,3 +3,4 @@ pub mod Room
 pub mod Search
 pub mod Fair
 pub mod Nodes
+pub mod Leaves

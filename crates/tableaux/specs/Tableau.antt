@@ -1,25 +1,23 @@
 -- What a list of reasons makes of a judgement: nodes in preorder, the open goals, and the trace graph so far.
 use Rattle.std.specs.Prelude.{ℕ, ◌+◌, List, [], ◌∷◌, ◌++◌, Option, Some, None, length, fold}
-use Rattle.trace_pairs.specs.Graph.{Node, Edge, Pair}
+use Rattle.trace_pairs.specs.Graph.{Node, Edge}
 use Rattle.trace_decision.specs.Leaf.{add_edge, with_leaf}
+use Rattle.tableaux.specs.declared.goals.Premise.{Premise as PremiseOfCode}
+use Rattle.tableaux.specs.declared.goals.OpenGoal.{OpenGoal}
+use Rattle.tableaux.specs.declared.goals.MadeNode.{MadeNode}
 
 -- a judgement, and the pairs that lead to it
-pub record Premise (J : Type 0) : Type 0 where
-  pub judgement : J
-  pub pairs : List Pair
+abbrev pub Premise : Type 0 → Type 0
+Premise J = PremiseOfCode J
 
 -- a premise that a node is to be made for: the one at a place of node `parent`. The first goal has depth 1, and a premise
 -- is one deeper than what it is a premise of
-pub record Goal (J : Type 0) : Type 0 where
-  pub parent : ℕ
-  pub place : ℕ
-  pub depth : ℕ
-  pub premise : Premise J
+abbrev pub Goal : Type 0 → Type 0
+Goal J = OpenGoal J
 
 -- a node: the goal that it was made for, and why it holds
-pub record Made (J R : Type 0) : Type 0 where
-  pub goal : Goal J
-  pub reason : R
+abbrev pub Made : Type 0 → Type 0 → Type 0
+Made J R = MadeNode J R
 
 -- the nodes made, the open goals, the next one first, and the trace graph
 pub record Tableau (J R : Type 0) : Type 0 where

@@ -1,7 +1,10 @@
 //! What a list of reasons makes of a judgement, over any calculus of rules and links back: nodes in preorder, the open
 //! goals, and a trace graph. And what a search finds is a proof whose every lasso progresses (Brotherston, Gorogiannis and
-//! Petersen 2012). The functions here do nothing; their clauses are laws.
+//! Petersen 2012). The functions of this page do nothing; their clauses are laws.
 #![tactic(auto)]
+
+mod goals;
+mod traces;
 
 ghost use Rattle.std.specs.Prelude.{List, ◌≡◌};
 ghost use Rattle.trace_pairs.specs.Graph.{IsGraph};
@@ -11,13 +14,17 @@ ghost use Rattle.tableaux.specs.Search.{EachReplayed, EachFound};
 ghost use Rattle.tableaux.specs.Fair.{IsFair};
 ghost use Rattle.tableaux.specs.Nodes.{HasRoot, reasons_of, MayStand, AllHavePremises, StandApart, AllHaveEdges};
 
+pub use cyc_memory::OutOfMemory;
+pub use goals::{MadeNode, OpenGoal, Premise, TracePairs};
+pub use traces::GrowingTraces;
+
 /// A calculus, and the judgements and reasons that its derivations may have.
 pub trait Rules {
     /// What a node states.
-    type Judgement;
+    type Judgement: Drop;
 
     /// Why a node holds: a rule or a link.
-    type Reason;
+    type Reason: Drop;
 
     /// The calculus.
     ghost calculus: { Self → Calculus Self.Judgement Self.Reason };

@@ -5,11 +5,11 @@ use Rattle.derivation_moves.proofs.moves.DerivationMoves.follow.Goals as goal
 pub returns-then-not-has_room-clause-fits : goal.returns-then-not-has_room-clause-fits
 returns-then-not-has_room-clause-fits c system is_its =
     let has = with_effect c.args.self.now c.args.reason c.in-Some-2.effect c.deref.result.now c.in-Some.goal.now c.deref-2.result.now c.in_ok-effect.field-0 c.deref.ensures.value c.in-Some.ensures.value c.deref-2.ensures.value c.in-Some-2.is c.in_ok-effect.ensures in
-    fits_is c.args.self.now c.args.reason c.in-Some-2.effect c.requires has c.args.bound c.in-Some.goal.now.depth c.len.result _ c.len-2.result c.has_room.result refl (c.len.ensures ∙ c.args.self.now.made.ok.0)
+    fits_is c.args.self.now c.args.reason c.in-Some-2.effect c.requires.order has c.args.bound c.in-Some.goal.now.depth c.len.result _ c.len-2.result c.has_room.result refl (c.len.ensures ∙ c.args.self.now.made.ok.0)
     (others_are c.args.self.now c.args.reason c.in-Some-2.effect has c.len-others.result (c.len-others.ensures ∙ c.args.self.now.goals.ok.0)) (c.len-2.ensures ∙ c.in-Some-2.effect.premises.ok.0) c.has_room.ensures.fits system is_its ∙ c.if-not-has_room.true
 
 pub returns-clause-fits : goal.returns-clause-fits
 returns-clause-fits c system is_its =
     let has = with_effect c.args.self.now c.args.reason c.in-Some-2.effect c.deref.result.now c.in-Some.goal.now c.deref-2.result.now c.in_ok-effect.field-0 c.deref.ensures.value c.in-Some.ensures.value c.deref-2.ensures.value c.in-Some-2.is c.in_ok-effect.ensures in
-    fits_is c.args.self.now c.args.reason c.in-Some-2.effect c.requires has c.args.bound c.in-Some.goal.now.depth c.len.result _ c.len-2.result c.has_room.result refl (c.len.ensures ∙ c.args.self.now.made.ok.0)
+    fits_is c.args.self.now c.args.reason c.in-Some-2.effect c.requires.order has c.args.bound c.in-Some.goal.now.depth c.len.result _ c.len-2.result c.has_room.result refl (c.len.ensures ∙ c.args.self.now.made.ok.0)
     (others_are c.args.self.now c.args.reason c.in-Some-2.effect has c.len-others.result (c.len-others.ensures ∙ c.args.self.now.goals.ok.0)) (c.len-2.ensures ∙ c.in-Some-2.effect.premises.ok.0) c.has_room.ensures.fits system is_its ∙ c.if-not-has_room.false

@@ -1,0 +1,121 @@
+-- Goals on a stack, the next one last.
+use Rattle.std.proofs.Common.{◌≡◌, ℕ, ◌+◌, ◌-◌, ◌<◌, ◌⊎◌, inl, inr, true, false, eqb-true, List, [], ◌∷◌, ◌++◌, Option, None, Some, length, length-append, slice_get, reverse, arith, refl, sym, ap, subst, ◌∙◌}
+use Rattle.std.specs.Prelude.{nat_eq}
+use Rattle.std.specs.Option.{option_to_list}
+use Rattle.std.proofs.lemmas.List.{append_assoc, append-nil, reverse-append, length-reverse}
+use Rattle.std.proofs.lemmas.Bool.{cases_Bool}
+use Rattle.tableaux.specs.Tableau.{Premise, Goal, goals_of}
+use Rattle.tableaux.specs.Room.{is_nil}
+use Rattle.derivations.specs.Goals.{begins_with, others_of}
+
+-- the goal of a premise
+abbrev pub goal_at : {J : Type 0} → ℕ → ℕ → ℕ → Premise J → Goal J
+goal_at node depth k p = record { parent = node; place = k; depth = depth; premise = p }
+
+opened_push : {J : Type 0} (node depth k n : ℕ) (ps : List (Premise J)) (p : Premise J) → n ≡ k + length ps → goals_of node depth k (ps ++ p ∷ []) ≡ goals_of node depth k ps ++ goal_at node depth n p ∷ []
+opened_push node depth k n [] p e = let same : k ≡ n = omega (arith, e) in ap (λ i. goal_at node depth i p ∷ []) same
+opened_push node depth k n (q ∷ ps) p e = ap (λ gs. goal_at node depth k q ∷ gs) (opened_push node depth (k + 1) n ps p (omega (arith, e)))
+
+-- the last premise becomes the top of the stack
+pub pushed_goal : {J : Type 0} (node depth k : ℕ) (old new : List (Premise J)) (p : Premise J) (goals more : List (Goal J)) → old ≡ new ++ p ∷ [] → k ≡ length new → more ≡ goals ++ goal_at node depth k p ∷ [] →
+    goals_of node depth 0 new ++ reverse more ≡ goals_of node depth 0 old ++ reverse goals
+pushed_goal node depth k old new p goals more e place pushed =
+    ap (λ gs. goals_of node depth 0 new ++ reverse gs) pushed
+    ∙ (ap (λ gs. goals_of node depth 0 new ++ gs) (reverse-append goals (goal_at node depth k p ∷ []))
+    ∙ (sym (append_assoc (goals_of node depth 0 new) (goal_at node depth k p ∷ []) (reverse goals))
+    ∙ ap (λ gs. gs ++ reverse goals) (sym (ap (goals_of node depth 0) e ∙ opened_push node depth 0 k new p (omega (arith, place))))))
+
+-- one premise is popped from the others, so there was one
+pub popped_fewer : {J : Type 0} (old new : List (Premise J)) (p : Premise J) → old ≡ new ++ p ∷ [] → length old ≡ length new + 1
+popped_fewer old new p e = ap length e ∙ length-append new (p ∷ [])
+
+-- ---- the last of a list
+
+pub record HasLast {X : Type 0} (xs : List X) (x : X) : Type 0 where
+  pub rest : List X
+  pub are : xs ≡ rest ++ x ∷ []
+
+pub get_end : {X : Type 0} (xs : List X) (x : X) → slice_get (xs ++ x ∷ []) (length xs) ≡ Some x
+get_end [] x = refl
+get_end (y ∷ xs) x = get_end xs x
+
+pub split_last : {X : Type 0} (xs : List X) → (xs ≡ []) ⊎ ((ys : List X) × (y : X) × (xs ≡ ys ++ y ∷ []))
+split_last [] = inl refl
+split_last {X} (x ∷ xs) =
+    elim (split_last xs) [
+      | inl none ↦ inr ([], x, ap (λ (zs : List X). x ∷ zs) none)
+      | inr some ↦ inr (x ∷ some.0, some.1, ap (λ (zs : List X). x ∷ zs) some.2)
+    ]
+
+pub last_of : {X : Type 0} (xs : List X) (x : X) → Some x ≡ slice_get xs (length xs - 1) → HasLast xs x
+last_of {X} xs x h =
+    elim (split_last xs) [
+      | inl none ↦ absurd (let e : Some x ≡ None = subst (λ (ys : List X). Some x ≡ slice_get ys (length ys - 1)) none h in cc)
+      | inr some ↦
+          (let n : length (some.0 ++ some.1 ∷ []) - 1 ≡ length some.0 = omega (arith, length-append some.0 (some.1 ∷ [])) in
+          let e : Some x ≡ Some some.1 =
+          subst (λ (ys : List X). Some x ≡ slice_get ys (length ys - 1)) some.2 h ∙ (ap (slice_get (some.0 ++ some.1 ∷ [])) n ∙ get_end some.0 some.1) in
+          let same : some.1 ≡ x = cc in
+          record { rest = some.0; are = some.2 ∙ ap (λ (y : X). some.0 ++ y ∷ []) same })
+    ]
+
+-- the next goal is the last of the stack
+pub next_of : {X : Type 0} (xs : List X) (x : X) (rest : List X) → xs ≡ rest ++ x ∷ [] → reverse xs ≡ x ∷ reverse rest
+next_of xs x rest e = ap reverse e ∙ reverse-append rest (x ∷ [])
+
+-- whether the next goal is a premise of the node
+pub begins_last : {J : Type 0} (node : ℕ) (goals : List (Goal J)) (g : Goal J) → Some g ≡ slice_get goals (length goals - 1) → begins_with node (reverse goals) ≡ nat_eq g.parent node
+begins_last node goals g h = let last = last_of goals g h in ap (begins_with node) (next_of goals g last.rest last.are)
+
+-- a premise of the node is taken off
+pub one_dropped : {J : Type 0} (node : ℕ) (old new : List (Goal J)) (popped : Option (Goal J)) → begins_with node (reverse old) ≡ true → old ≡ new ++ option_to_list popped → others_of node (reverse new) ≡ others_of node (reverse old)
+one_dropped node old new None begins e = ap (λ gs. others_of node (reverse gs)) (sym (e ∙ append-nil new))
+one_dropped {J} node old new (Some g) begins e =
+    let at : reverse old ≡ g ∷ reverse new = next_of old g new e in
+    let yes' : nat_eq g.parent node ≡ true = ap (begins_with node) (sym at) ∙ begins in
+    sym (ap (others_of node) at ∙ (rw yes' refl))
+
+-- none is left
+pub none_dropped : {J : Type 0} (node : ℕ) (goals : List (Goal J)) → begins_with node goals ≡ false → others_of node goals ≡ goals
+none_dropped node [] h = refl
+none_dropped node (g ∷ goals) h = rw h refl
+
+-- ---- what the code sees of the top of the stack
+
+-- the goal that is seen there is the next one
+pub top_next : {X : Type 0} (goals xs : List X) (x : X) → xs ≡ goals → Some x ≡ slice_get xs (length xs - 1) → (rest : List X) × (reverse goals ≡ x ∷ rest)
+top_next {X} goals xs x same h =
+    let last = last_of goals x (subst (λ (ys : List X). Some x ≡ slice_get ys (length ys - 1)) same h) in
+    (reverse last.rest, next_of goals x last.rest last.are)
+
+pub no_top : {X : Type 0} (goals xs : List X) → xs ≡ goals → None ≡ slice_get xs (length xs - 1) → reverse goals ≡ []
+no_top {X} goals xs same h =
+    elim (split_last goals) [
+      | inl none ↦ ap reverse none
+      | inr some ↦
+          absurd (
+          let h' : None ≡ slice_get goals (length goals - 1) = subst (λ (ys : List X). None ≡ slice_get ys (length ys - 1)) same h in
+          let n : length (some.0 ++ some.1 ∷ []) - 1 ≡ length some.0 = omega (arith, length-append some.0 (some.1 ∷ [])) in
+          let e : None ≡ Some some.1 = subst (λ (ys : List X). None ≡ slice_get ys (length ys - 1)) some.2 h' ∙ (ap (slice_get (some.0 ++ some.1 ∷ [])) n ∙ get_end some.0 some.1) in
+          cc)
+    ]
+
+-- where the stack is not empty there is a next goal
+pub some_next : {X : Type 0} (goals : List X) → 0 < length goals → (x : X) × (rest : List X) × (reverse goals ≡ x ∷ rest)
+some_next goals some' =
+    elim (split_last goals) [
+      | inl none ↦ absurd (omega (arith, some', ap length none))
+      | inr last ↦ (last.1, reverse last.0, next_of goals last.1 last.0 last.2)
+    ]
+
+-- no goal is open where the stack is empty
+pub closed_is : {X : Type 0} (goals : List X) (n : ℕ) → n ≡ length goals → nat_eq n 0 ≡ is_nil (reverse goals)
+closed_is {X} goals n number = by_list (reverse goals) (number ∙ sym (length-reverse goals))
+  where
+    by_list : (xs : List X) → n ≡ length xs → nat_eq n 0 ≡ is_nil xs
+    by_list [] e = ap (λ k. nat_eq k 0) e
+    by_list (x ∷ xs) e =
+        elim (cases_Bool (nat_eq n 0)) [
+          | inl yes' ↦ absurd (let z = eqb-true n 0 yes' in omega (arith, z, e))
+          | inr no' ↦ no'
+        ]

@@ -1,0 +1,4 @@
+pub mod Goals
+pub mod Effects
+pub mod Fares
+pub mod Derivations

@@ -1,0 +1,13 @@
+//! Partial derivations that are extended and taken back in place, in any logic of rules and links back: the moves of the
+//! search for cyclic proofs (Brotherston, Gorogiannis and Petersen 2012).
+#![tactic(auto)]
+
+mod derivation;
+mod goals;
+mod logic;
+mod moves;
+mod trials;
+
+pub use cyc_memory::OutOfMemory;
+pub use derivation::Derivation;
+pub use logic::{Effect, Logic, Strategy};
