@@ -98,7 +98,7 @@ module _ (s : FoSequent) where
 
 -- ---- few cases
 
-cases_few : (ds : List FoDefinition) → Each IsSmallDefinition ds → (p : ℕ) → length (cases_of ds p) ≤ 16
+pub cases_few : (ds : List FoDefinition) → Each IsSmallDefinition ds → (p : ℕ) → length (cases_of ds p) ≤ 16
 cases_few [] h p = omega arith
 cases_few (d ∷ ds) h zero = let a = h.0.cases in omega arith
 cases_few (d ∷ ds) h (suc p) = cases_few ds h.1 p
@@ -169,7 +169,7 @@ names_at f atoms (m ∷ ms) (x ∷ xs) zero h p =
     let q = pred_mapped f (x ∷ []) 0 p in (q.0, q.1, h.0 ∙ q.2)
 names_at f atoms (m ∷ ms) (x ∷ xs) (suc k) h p = names_at f atoms ms xs k h.1 p
 
-link_fine : (bud companion : FoSequent) (link : FoLink) → IsFine bud (unless_fault (link_fault bud companion link) (link_premise companion link))
+pub link_fine : (bud companion : FoSequent) (link : FoLink) → IsFine bud (unless_fault (link_fault bud companion link) (link_premise companion link))
 link_fine bud companion link = by_fault (link_fault bud companion link) refl
   where
     by_fault : (o : Option FoFault) → link_fault bud companion link ≡ o → IsFine bud (unless_fault o (link_premise companion link))

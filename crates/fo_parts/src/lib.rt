@@ -21,6 +21,6 @@ pub use sizes::{
     size_of_terms,
 };
 pub use tests::{
-    atom_at, have_one_constructor, is_absurd, is_one_atom, is_one_sequent, is_one_term,
-    only_variable,
+    atom_at, has_variable, have_one_constructor, is_absurd, is_one_atom, is_one_sequent,
+    is_one_term, only_variable,
 };

@@ -35,7 +35,8 @@ pub fn only_variable(word: &[Sign]) -> Option<u16>
     Some(*n)
 }
 
-fn has_variable(n: u16, word: &[Sign]) -> bool
+/// Whether the word has the variable.
+pub fn has_variable(n: u16, word: &[Sign]) -> bool
     ensures { result ≡ has_the_variable n word.now }
 {
     for sign in word {

@@ -13,3 +13,5 @@ mod unfolding;
 pub use book::premises;
 pub use cyc_memory::OutOfMemory;
 pub use linking::{link_fault, premises_by_link};
+pub use right_cases::cases;
+pub use splitting::first_of;

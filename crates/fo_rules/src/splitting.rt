@@ -37,7 +37,8 @@ fn end_of_first(word: &[Sign]) -> usize
     word.len()
 }
 
-fn first_of(word: &[Sign]) -> &[Sign]
+/// The signs of the first term of a word.
+pub fn first_of(word: &[Sign]) -> &[Sign]
     ensures { result.now ≡ first_term word.now }
 {
     &word[..end_of_first(word)]

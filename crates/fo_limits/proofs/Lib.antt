@@ -1,0 +1,4 @@
+pub mod Lists
+pub mod Filled
+pub mod Premises
+pub mod Open

@@ -1,0 +1,27 @@
+//! The limits of a file of first-order logic, and that rules keep to them. The functions here do nothing; their clauses are
+//! laws.
+#![tactic(auto)]
+
+ghost use Rattle.std.specs.Prelude.{◌≡◌, List, Ok};
+ghost use Rattle.heap_formula.specs.Words.{Each};
+ghost use Rattle.fo_formula.specs.declared.nodes.FoReason.{FoReason};
+ghost use Rattle.fo_formula.specs.declared.nodes.FoRule.{FoRule};
+ghost use Rattle.fo_formula.specs.declared.sequents.FoSequent.{FoSequent};
+ghost use Rattle.fo_formula.specs.declared.theory.FoTheory.{FoTheory};
+ghost use Rattle.fo_formula.specs.Shapes.{IsOpenSequent};
+ghost use Rattle.fo_table.specs.declared.premises.FoPremise.{FoPremise};
+ghost use Rattle.fo_table.specs.Soundness.{HasOpenReason};
+ghost use Rattle.fo_table.specs.Table.{rule_answer};
+ghost use Rattle.fo_limits.specs.Limits.{IsTheoryWithin, IsSequentWithin, HasAtomsWithin, IsRuleWithin, IsReasonWithin};
+
+/// The premises of a rule are within the limits where the theory, the sequent and the rule are.
+pub fn premises_stay_within()
+    ensures { (t : FoTheory) (s : FoSequent) (rule : FoRule) (ps : List FoPremise) → IsTheoryWithin t → IsSequentWithin t s → IsRuleWithin t rule
+        → rule_answer t s rule ≡ Ok ps → Each (λ (p : FoPremise). IsSequentWithin t p.sequent) ps }
+{}
+
+/// What is within the limits is of terms over the constructors.
+pub fn within_is_open()
+    ensures sequents { (t : FoTheory) (s : FoSequent) → HasAtomsWithin t s → IsOpenSequent t.constructors s }
+    ensures reasons { (t : FoTheory) (r : FoReason) → IsReasonWithin t r → HasOpenReason t.constructors r }
+{}

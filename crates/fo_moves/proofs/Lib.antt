@@ -1,0 +1,10 @@
+pub mod Selecting
+pub mod Onces
+pub mod Settled
+pub mod Cutting
+pub mod Choices
+pub mod Lists
+pub mod OpenTerms
+pub mod Offered
+pub mod Listed
+pub mod Pairing

@@ -1,0 +1,6 @@
+pub mod Trying
+pub mod Subterms
+pub mod Before
+pub mod Links
+pub mod After
+pub mod Choosing

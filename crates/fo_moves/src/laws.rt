@@ -1,0 +1,43 @@
+// What is offered has no fault, and is built over the constructors where the sequents are. The functions do nothing.
+ghost use Rattle.std.specs.Prelude.{◌≡◌, ◌≤◌, ◌+◌, ℕ, List, true, None, is_ok};
+ghost use Rattle.heap_formula.specs.Words.{Each};
+ghost use Rattle.fo_formula.specs.declared.nodes.FoLink.{FoLink};
+ghost use Rattle.fo_formula.specs.declared.nodes.FoReason.TheVariants.{Rule, Link};
+ghost use Rattle.fo_formula.specs.declared.nodes.FoRule.{FoRule};
+ghost use Rattle.fo_formula.specs.declared.sequents.FoSequent.{FoSequent};
+ghost use Rattle.fo_formula.specs.declared.theory.Constructor.{Constructor};
+ghost use Rattle.fo_formula.specs.declared.theory.FoTheory.{FoTheory};
+ghost use Rattle.fo_formula.specs.Shapes.{IsOpenSequent};
+ghost use Rattle.fo_formula.specs.Sizes.{sequent_size, reason_size};
+ghost use Rattle.fo_table.specs.LinkTable.{link_fault};
+ghost use Rattle.fo_table.specs.Soundness.{HasOpenTerms, HasOpenValues};
+ghost use Rattle.fo_table.specs.Table.{rule_answer};
+ghost use Rattle.fo_moves.specs.Before.{rules_before};
+ghost use Rattle.fo_moves.specs.Links.{links_to};
+ghost use Rattle.fo_moves.specs.After.{rules_after};
+
+/// Each rule that is offered has premises.
+pub fn offered_rules_have_premises()
+    ensures before { (t : FoTheory) (s : FoSequent) → Each (λ (rule : FoRule). is_ok (rule_answer t s rule) ≡ true) (rules_before t s) }
+    ensures after { (t : FoTheory) (s : FoSequent) → Each (λ (rule : FoRule). is_ok (rule_answer t s rule) ≡ true) (rules_after t s) }
+{}
+
+/// Each link that is offered leads to the companion, and has no fault.
+pub fn offered_links_have_no_fault()
+    ensures target { (most number : ℕ) (bud companion : FoSequent) → Each (λ (link : FoLink). link.to ≡ number) (links_to most bud companion number) }
+    ensures fault { (most number : ℕ) (bud companion : FoSequent) → Each (λ (link : FoLink). link_fault bud companion link ≡ None) (links_to most bud companion number) }
+{}
+
+/// A sequent of at most 4,096 terms has no more with the reason that is offered to it.
+pub fn offered_reasons_are_small()
+    ensures before { (t : FoTheory) (s : FoSequent) → sequent_size s ≤ 4096 → Each (λ (rule : FoRule). sequent_size s + reason_size (Rule rule) ≤ 4096) (rules_before t s) }
+    ensures links { (most number : ℕ) (bud companion : FoSequent) → Each (λ (link : FoLink). sequent_size bud + reason_size (Link link) ≤ 4096) (links_to most bud companion number) }
+    ensures after { (t : FoTheory) (s : FoSequent) → sequent_size s ≤ 4096 → Each (λ (rule : FoRule). sequent_size s + reason_size (Rule rule) ≤ 4096) (rules_after t s) }
+{}
+
+/// The terms of what is offered are terms over the constructors where the sequent's are.
+pub fn offered_terms_are_open()
+    ensures before { (t : FoTheory) (s : FoSequent) → Each (HasOpenTerms t.constructors) (rules_before t s) }
+    ensures links { (cs : List Constructor) (most number : ℕ) (bud companion : FoSequent) → IsOpenSequent cs bud → Each (HasOpenValues cs) (links_to most bud companion number) }
+    ensures after { (t : FoTheory) (s : FoSequent) → IsOpenSequent t.constructors s → Each (HasOpenTerms t.constructors) (rules_after t s) }
+{}

@@ -1,0 +1,20 @@
+//! What a goal of first-order logic is offered in the search for a proof: rules that go before links, links to a
+//! companion, and rules that come where no link is admitted.
+#![tactic(auto)]
+
+mod after;
+mod before;
+mod choosing;
+pub mod laws;
+mod linking;
+mod links;
+mod settling;
+mod subterms;
+mod trying;
+mod variables;
+mod wanted;
+
+pub use after::rules_after;
+pub use before::rules_before;
+pub use cyc_memory::OutOfMemory;
+pub use links::links_to;

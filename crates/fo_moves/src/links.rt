@@ -1,0 +1,67 @@
+// The links from a bud to a companion.
+ghost use Rattle.std.specs.Prelude.{◌≡◌, ◌≤◌, IfOk, length, map};
+ghost use Rattle.std.specs.List.{zip};
+ghost use Rattle.fo_formula.specs.Sizes.{sequent_size};
+ghost use Rattle.fo_moves.specs.Links.{link_by as link_by_pairs, links_to as first_links};
+
+use crate::choosing::{Search, choices};
+use crate::linking::{link_by, paired};
+use crate::subterms::subterms;
+use crate::variables::variables;
+use crate::wanted::{LinkValues, Wanted};
+use cyc_memory::OutOfMemory;
+use fo_formula::{FoLink, FoSequent, Terms};
+use std::alloc::Global;
+
+fn links_by(
+    alloc: Global,
+    goal: &LinkValues<'_>,
+    choices: &[Terms],
+) -> Result<Vec<FoLink>, OutOfMemory>
+    requires left_fits { length goal.now.bud.now.left ≤ 32 }
+    requires right_fits { length goal.now.bud.now.right ≤ 16 }
+    ensures { IfOk result (λ v. v.items ≡ map (λ ts. link_by_pairs goal.now.bud.now goal.now.companion.now goal.now.number (zip goal.now.sources.now ts)) choices.now) }
+{
+    let mut links = Vec::new(alloc);
+    for terms in choices {
+        let substitution = paired(alloc, goal.sources, terms.as_slice())?;
+        links.push(link_by(alloc, goal.bud, goal.companion, goal.number, substitution)?)?;
+    }
+    Ok(links)
+}
+
+/// The first `most` links from the bud to the companion, the node of this number, that have no fault and with which the
+/// bud has at most 4,096 terms. The sources are the companion's variables in ascending order, the values subterms of the
+/// bud, in lexicographic order by first occurrence, and each entry of a map is the least that fits. Both sequents have at
+/// most 32 atoms on the left, 16 on the right and 4,096 terms.
+pub fn links_to(
+    alloc: Global,
+    bud: &FoSequent,
+    companion: &FoSequent,
+    number: u32,
+    most: u32,
+) -> Result<Vec<FoLink>, OutOfMemory>
+    requires bud_left { length bud.now.left ≤ 32 }
+    requires bud_right { length bud.now.right ≤ 16 }
+    requires bud_small { sequent_size bud.now ≤ 4096 }
+    requires companion_left { length companion.now.left ≤ 32 }
+    requires companion_right { length companion.now.right ≤ 16 }
+    requires companion_small { sequent_size companion.now ≤ 4096 }
+    ensures { IfOk result (λ v. v.items ≡ first_links most bud.now companion.now number) }
+{
+    let sources = variables(alloc, companion)?;
+    let values = subterms(alloc, bud)?;
+    let goal = LinkValues {
+        bud,
+        companion,
+        number,
+        sources: &sources,
+    };
+    let search = Search {
+        wanted: Wanted::Values(goal),
+        values: &values,
+        most: most as u128,
+    };
+    let choices = choices(alloc, &search, sources.len())?;
+    links_by(alloc, &goal, &choices)
+}

@@ -1,0 +1,70 @@
+// Which rules have no fault.
+ghost use Rattle.std.specs.Prelude.{◌≡◌, ◌≤◌, IfOk, length};
+ghost use Rattle.std.specs.List.{filter};
+ghost use Rattle.fold_offers.specs.Places.{first_that};
+ghost use Rattle.fo_moves.specs.Trying.{goes as goes_at};
+
+use cyc_memory::OutOfMemory;
+use fo_formula::{FoRule, FoSequent, FoTheory};
+use fo_rules::premises;
+use fo_table::FoRuleError;
+use std::alloc::Global;
+
+/// Whether the rule has no fault; its premises are made and dropped.
+fn goes(
+    alloc: Global,
+    theory: &FoTheory,
+    sequent: &FoSequent,
+    rule: &FoRule,
+) -> Result<bool, OutOfMemory>
+    requires left_fits { length sequent.now.left ≤ 32 }
+    requires right_fits { length sequent.now.right ≤ 16 }
+    ensures { IfOk result (λ b. b ≡ goes_at theory.now sequent.now rule.now) }
+{
+    match premises(alloc, theory, sequent, rule) {
+        Ok(_) => Ok(true),
+        Err(FoRuleError::Fault(_)) => Ok(false),
+        Err(FoRuleError::OutOfMemory) => Err(OutOfMemory),
+    }
+}
+
+/// The rules without a fault.
+pub fn those_that_go(
+    alloc: Global,
+    theory: &FoTheory,
+    sequent: &FoSequent,
+    rules: Vec<FoRule>,
+) -> Result<Vec<FoRule>, OutOfMemory>
+    requires left_fits { length sequent.now.left ≤ 32 }
+    requires right_fits { length sequent.now.right ≤ 16 }
+    ensures { IfOk result (λ v. v.items ≡ filter (goes_at theory.now sequent.now) rules.items) }
+{
+    let mut kept = Vec::new(alloc);
+    for rule in rules {
+        if goes(alloc, theory, sequent, &rule)? {
+            kept.push(rule)?;
+        }
+    }
+    Ok(kept)
+}
+
+/// The first rule without a fault.
+pub fn first_that_goes(
+    alloc: Global,
+    theory: &FoTheory,
+    sequent: &FoSequent,
+    rules: Vec<FoRule>,
+) -> Result<Vec<FoRule>, OutOfMemory>
+    requires left_fits { length sequent.now.left ≤ 32 }
+    requires right_fits { length sequent.now.right ≤ 16 }
+    ensures { IfOk result (λ v. v.items ≡ first_that (goes_at theory.now sequent.now) rules.items) }
+{
+    let mut kept = Vec::new(alloc);
+    for rule in rules {
+        if goes(alloc, theory, sequent, &rule)? {
+            kept.push(rule)?;
+            return Ok(kept);
+        }
+    }
+    Ok(kept)
+}
