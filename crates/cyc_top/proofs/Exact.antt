@@ -1,5 +1,5 @@
--- Each task has one way to end for each input.
-use Rattle.std.proofs.Common.{◌≡◌, ◌⊎◌, ℕ, ◌≤◌, List, true, false, refl, ap, sym, ◌∙◌, arith, subst, inl, inr, length, Option, Some, None}
+-- How each run ends, and what its end says.
+use Rattle.std.proofs.Common.{◌≡◌, ◌⊎◌, ℕ, ◌≤◌, List, true, false, ap, sym, ◌∙◌, arith, subst, inl, inr, length, Option, Some, None}
 use Rattle.std.specs.Prelude.{Result, Ok, Err}
 use Rattle.std.specs.Io.KnownBytes.{Appends}
 use Rattle.heap_formula.specs.declared.proof_rules.Reason.{Reason}
@@ -14,7 +14,6 @@ use Rattle.proof_check.specs.declared.verdict.Verdict.{Verdict}
 use Rattle.proof_check.specs.declared.verdict.Verdict.TheVariants.{Accepted, RuleRefused, PathRefused, TooManyStates}
 use Rattle.proof_check.specs.Verdicts.{file_graph, state_limit, IsCorrect, IsVerdict, RootHolds}
 use Rattle.buchi_inclusion.specs.Answers.{HasAtMost}
-use Rattle.buchi_inclusion.proofs.Exact.{not_both}
 use Rattle.fo_formula.specs.declared.nodes.FoFile.{FoFile}
 use Rattle.fo_file.specs.Reading as first_order
 use Rattle.fo_logic.specs.Verdicts as first_order_verdicts
@@ -28,80 +27,23 @@ use Rattle.cyc_words.specs.declared.tasks.Task.TheVariants.{Check, Prove, Ring, 
 use Rattle.cyc_runs.specs.declared.endings.Status.{Status}
 use Rattle.cyc_runs.specs.declared.endings.Status.TheVariants as status
 use Rattle.cyc_runs.specs.Endings.{is_answer}
-use Rattle.cyc_runs.specs.Runs.{Answering, IsAnswerOf, IsTold, input_limit}
+use Rattle.cyc_runs.specs.Runs.{IsTold, input_limit}
 use Rattle.cyc_runs.proofs.WaysToEnd.{ending_kind, ended_so as run_ended_so, fault_fails, fault_is_no_refusal}
 use Rattle.cyc_runs.proofs.Told.{told_is}
-use Rattle.cyc_top.specs.Answers.{Answers, IsAnswer, IsChecked, IsHeadline, IsRefusal, IsReadAnswer, IsUnrefuted, IsSearchAnswer, IsSearched, IsUpgradeAnswer, IsUpgraded, WroteAnswer, WroteModel, WroteProof, derivation_limit, proved_status, proved_text, verdict_status}
+use Rattle.cyc_top.specs.Answers.{Answers, IsAnswer, IsHeadline, IsRefusal, IsReadAnswer, IsUnrefuted, IsSearchAnswer, IsUpgradeAnswer, WroteAnswer, WroteModel, WroteProof, derivation_limit, proved_status, proved_text, verdict_status}
 use Rattle.reading_laws.specs.Alike.{AreAlike}
 use Rattle.reading_laws.proofs.Readings.{one_file_reading, one_problem_reading}
-use Rattle.cyc_top.proofs.OneVerdict.{one_ending, right_faulty, same_back, same_few, same_file, same_progress}
-use Rattle.cyc_top.proofs.OneSearch.{one_search, found_search, goal_holds, proof_accepted}
-use Rattle.model_answers.specs.Answers.{IsModelled, holds_text}
-use Rattle.disprove_answers.specs.Answers.{IsDisproved}
-use Rattle.sat_answers.specs.Answers.{IsAsked}
-use Rattle.fo_answers.specs.Answers.{IsFirstOrderChecked}
-use Rattle.model_answers.proofs.OneAnswer.{model_short, modelled_ends, refusal_fails, success_satisfies}
-use Rattle.disprove_answers.proofs.OneAnswer.{disprove_refuses_not, disproved_ends, disproved_short, model_holds, none_found, success_refutes}
-use Rattle.fo_answers.proofs.OneAnswer.{correct_accepted, first_order_ends, first_order_short, refusal_incorrect as first_order_incorrect, success_holds as first_order_holds}
-use Rattle.sat_answers.proofs.OneAnswer.{asked_ends, refusal_impossible, success_possible}
+use Rattle.proof_check.proofs.OneAnswer.{correct_is_accepted}
+use Rattle.cyc_top.proofs.OneAnswer.{one_answer}
+use Rattle.cyc_top.proofs.OneVerdict.{right_faulty, same_verdict}
+use Rattle.cyc_top.proofs.OneSearch.{found_search, goal_holds, proof_accepted}
+use Rattle.model_answers.specs.Answers.{holds_text}
+use Rattle.model_answers.proofs.OneAnswer.{refusal_fails, success_satisfies}
+use Rattle.disprove_answers.proofs.OneAnswer.{disprove_refuses_not, model_holds, none_found, success_refutes}
+use Rattle.fo_answers.proofs.OneAnswer.{correct_accepted, refusal_incorrect as first_order_incorrect, success_holds as first_order_holds}
+use Rattle.sat_answers.proofs.OneAnswer.{refusal_impossible, success_possible}
 
--- ---- an input that was read in one way is answered with one status
-
-pub read_answer_ends : (r q : Result ProofFile ReadFault) (s t : Status) (xs ys : List ℕ) → AreAlike AreSame r q → IsReadAnswer r s xs → IsReadAnswer q t ys → s ≡ t
-read_answer_ends (Ok f) (Ok g) s t xs ys same first second = first.2 ∙ one_ending f g same first.0 second.0 first.1 second.1 ∙ sym second.2
-read_answer_ends (Err a) (Err b) s t xs ys same first second = first.0 ∙ same ∙ sym second.0
-read_answer_ends (Ok f) (Err b) s t xs ys same first second = absurd same
-read_answer_ends (Err a) (Ok g) s t xs ys same first second = absurd same
-
--- a checked input is answered with one status
-pub checked_ends : (input : List ℕ) (s t : Status) (xs ys : List ℕ) → IsChecked input s xs → IsChecked input t ys → s ≡ t
-checked_ends input s t xs ys first second =
-    read_answer_ends first.1 second.1 s t xs ys (one_file_reading input first.1 second.1 first.2 second.2) first.3 second.3
-
-search_answer_ends : (depth : ℕ) (r q : Result Problem ReadFault) (s t : Status) (xs ys : List ℕ) → AreAlike problems.AreSame r q → IsSearchAnswer depth r s xs → IsSearchAnswer depth q t ys → s ≡ t
-search_answer_ends depth (Ok p) (Ok q) s t xs ys same first second =
-    first.2 ∙ one_search depth p q first.0 second.0 same first.1.0 second.1.0 ∙ sym second.2
-search_answer_ends depth (Err a) (Err b) s t xs ys same first second = first.0 ∙ same ∙ sym second.0
-search_answer_ends depth (Ok p) (Err b) s t xs ys same first second = absurd same
-search_answer_ends depth (Err a) (Ok q) s t xs ys same first second = absurd same
-
--- so is a searched one
-searched_ends : (depth : ℕ) (input : List ℕ) (s t : Status) (xs ys : List ℕ) → IsSearched depth input s xs → IsSearched depth input t ys → s ≡ t
-searched_ends depth input s t xs ys first second =
-    search_answer_ends depth first.1 second.1 s t xs ys (one_problem_reading input first.1 second.1 first.2 second.2) first.3 second.3
-
--- so is an upgraded one
-upgrade_answer_ends : (r q : Result ProofFile ReadFault) (s t : Status) (xs ys : List ℕ) → AreAlike AreSame r q → IsUpgradeAnswer r s xs → IsUpgradeAnswer q t ys → s ≡ t
-upgrade_answer_ends (Ok f) (Ok g) s t xs ys same first second = first.2 ∙ sym second.2
-upgrade_answer_ends (Err a) (Err b) s t xs ys same first second = first.0 ∙ same ∙ sym second.0
-upgrade_answer_ends (Ok f) (Err b) s t xs ys same first second = absurd same
-upgrade_answer_ends (Err a) (Ok g) s t xs ys same first second = absurd same
-
-upgraded_ends : (input : List ℕ) (s t : Status) (xs ys : List ℕ) → IsUpgraded input s xs → IsUpgraded input t ys → s ≡ t
-upgraded_ends input s t xs ys first second =
-    upgrade_answer_ends first.1 second.1 s t xs ys (one_file_reading input first.1 second.1 first.2 second.2) first.3 second.3
-
--- what answers each input within the limit with one status does so beside the answer to an input that is too long
-one_of : (answers : Answering) → ((input : List ℕ) (s t : Status) (xs ys : List ℕ) → answers input s xs → answers input t ys → s ≡ t) → ((input : List ℕ) (s : Status) (xs : List ℕ) → answers input s xs → length input ≤ input_limit) → (input : List ℕ) (s t : Status) (xs ys : List ℕ) → IsAnswerOf answers input s xs → IsAnswerOf answers input t ys → s ≡ t
-one_of answers ends short input s t xs ys (inl first) (inl second) = first.1 ∙ sym second.1
-one_of answers ends short input s t xs ys (inr first) (inr second) = ends input s t xs ys first second
-one_of answers ends short input s t xs ys (inl first) (inr second) = absurd (omega (arith, first.0, short input t ys second))
-one_of answers ends short input s t xs ys (inr first) (inl second) = absurd (omega (arith, short input s xs first, second.0))
-
--- a task is answered for an input with one status
-pub one_status : (task : Option Task) (input : List ℕ) (s t : Status) (xs ys : List ℕ) → IsAnswer task input s xs → IsAnswer task input t ys → s ≡ t
-one_status None input s t xs ys first second = first.0 ∙ sym second.0
-one_status (Some Check) input s t xs ys first second = one_of IsChecked checked_ends (λ i u zs is. is.0) input s t xs ys first second
-one_status (Some (Prove depth)) input s t xs ys first second =
-    one_of (IsSearched depth) (searched_ends depth) (λ i u zs is. is.0) input s t xs ys first second
-one_status (Some Upgrade) input s t xs ys first second = one_of IsUpgraded upgraded_ends (λ i u zs is. is.0) input s t xs ys first second
-one_status (Some Sat) input s t xs ys first second = one_of IsAsked asked_ends (λ i u zs is. is.0) input s t xs ys first second
-one_status (Some Model) input s t xs ys first second = one_of IsModelled modelled_ends model_short input s t xs ys first second
-one_status (Some (Disprove cells)) input s t xs ys first second =
-    one_of (IsDisproved cells) (disproved_ends cells) (disproved_short cells) input s t xs ys first second
-one_status (Some FirstOrderCheck) input s t xs ys first second =
-    one_of IsFirstOrderChecked first_order_ends first_order_short input s t xs ys first second
-one_status (Some (Ring k)) input s t xs ys first second = first.0 ∙ sym second.0
+-- ---- what was told
 
 -- an answer to what was told is one for the told input
 pub answer_for : (task : Option Task) (told : Option (List ℕ)) (input : List ℕ) (s : Status) (xs : List ℕ) → told ≡ Some input → Answers task told s xs → IsAnswer task input s xs
@@ -111,7 +53,7 @@ answer_for task told input s xs e answer =
 -- an answer to what was told is the one that the told input has
 pub told_status : (task : Option Task) (told : Option (List ℕ)) (input : List ℕ) (s t : Status) (xs ys : List ℕ) → told ≡ Some input → IsAnswer task input t ys → Answers task told s xs → s ≡ t
 told_status task told input s t xs ys e expected answer =
-    one_status task input s t xs ys (answer_for task told input s xs e answer) expected
+    (one_answer task input s t xs ys (answer_for task told input s xs e answer) expected).0
 
 -- ---- success
 
@@ -168,7 +110,7 @@ success_true (Some (Ring k)) told input xs is answer = tt
 -- a verdict that ends a check with a refusal is on a file that is not correct
 refusal_incorrect : (file : ProofFile) (v : Verdict) → IsVerdict file v → status.Refused ≡ verdict_status v → ¬ IsCorrect file
 refusal_incorrect file Accepted is e correct = absurd cc
-refusal_incorrect file (RuleRefused node fault) is e correct = right_faulty file file node fault (same_file file) correct.nodes is
+refusal_incorrect file (RuleRefused node fault) is e correct = right_faulty file node fault correct.nodes is
 refusal_incorrect file (PathRefused lasso) is e correct = is.2 (correct.paths lasso is.1)
 refusal_incorrect file TooManyStates is e correct = absurd cc
 
@@ -261,10 +203,7 @@ found_succeeds depth task told input q d s text is e short read found answer =
 
 -- the verdict on a correct file with few states ends a check with success
 accepted_ends : (f g : ProofFile) (v : Verdict) → AreSame f g → IsVerdict f v → IsCorrect g → HasAtMost (file_graph g) state_limit → verdict_status v ≡ status.Success
-accepted_ends f g Accepted same is correct few = refl
-accepted_ends f g (RuleRefused n fault) same is correct few = absurd (right_faulty g f n fault (same_back f g same) correct.nodes is)
-accepted_ends f g (PathRefused l) same is correct few = absurd (is.2 (same_progress g f (same_back f g same) correct.paths l is.1))
-accepted_ends f g TooManyStates same is correct few = absurd (not_both (file_graph f) state_limit (same_few g f (same_back f g same) few) is.1)
+accepted_ends f g v same is correct few = ap verdict_status (correct_is_accepted g v (same_verdict f g same v is) correct few)
 
 check_accepts : (r : Result ProofFile ReadFault) (g : ProofFile) (s : Status) (text : List ℕ) → AreAlike AreSame r (Ok g) → IsCorrect g → HasAtMost (file_graph g) state_limit → IsReadAnswer r s text → s ≡ status.Success
 check_accepts (Ok f) g s text same correct few answer = answer.2 ∙ accepted_ends f g answer.0 same answer.1 correct few

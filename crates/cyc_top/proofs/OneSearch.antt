@@ -1,29 +1,34 @@
--- The searches for one problem end in one way, and what they find is a proof.
+-- The searches for one problem have one answer, and what they find is a proof.
 use Rattle.std.proofs.Common.{◌≡◌, ℕ, ◌≤◌, List, Ok, Some, inr, refl, sym, ap, subst, ◌∙◌, length}
 use Rattle.heap_formula.specs.declared.commands.Command.{Command}
-use Rattle.heap_formula.specs.declared.judgements.Judgement.{Judgement}
 use Rattle.heap_formula.specs.declared.proof_rules.Reason.{Reason}
 use Rattle.heap_formula.specs.Definitions.{Definition}
 use Rattle.heap_formula.specs.Judgements.{JudgementHolds}
 use Rattle.pred_defs.specs.Book.{DefinitionBook}
-use Rattle.derivation_search.specs.System.{System, Outcome, IsFound, IsNotFound, HasTooManyDerivations, HasTooManyStates, search_of}
+use Rattle.derivation_search.specs.System.{Outcome, IsFound, IsNotFound, HasTooManyDerivations, HasTooManyStates, search_of}
 use Rattle.buchi_inclusion.proofs.Tables.{at_map}
 use Rattle.formula_reader.specs.declared.problem.Problem.{Problem}
 use Rattle.formula_reader.specs.Reading.{AreSame}
 use Rattle.proof_file.specs.declared.file.ProofFile.{ProofFile}
 use Rattle.proof_file.specs.Reading.{IsRead}
+use Rattle.proof_file.specs.Written.{text_of_file}
 use Rattle.proof_file.proofs.Readings.{text_is_read}
 use Rattle.proof_check.specs.declared.verdict.Verdict.TheVariants.{Accepted}
 use Rattle.proof_check.specs.Files.{node_of}
-use Rattle.search_calculus.specs.Search.{search_system}
+use Rattle.tableaux.specs.Tableau.{replay}
+use Rattle.search_moves.specs.Settings.{theory}
+use Rattle.search_moves.specs.Trying.{Theory}
+use Rattle.search_calculus.specs.Search.{calculus_of, search_system}
+use Rattle.found_files.specs.Files.{nodes_made}
+use Rattle.reading_laws.proofs.OneCheck.{one_some}
 use Rattle.proof_search.specs.declared.prover.Proved.{Proved}
 use Rattle.proof_search.specs.declared.prover.Proved.TheVariants.{Found, NotFound, TooManyDerivations, TooManyStates}
-use Rattle.proof_search.specs.Outcomes.{outcome_of, search_for, IsProofFor}
+use Rattle.proof_search.specs.Outcomes.{outcome_of, reasons_of, search_for, IsProofFor, IsProved}
 use Rattle.cyc_words.specs.declared.tasks.Task.TheVariants.{Check}
 use Rattle.cyc_runs.specs.declared.endings.Status.{Status}
 use Rattle.cyc_runs.specs.declared.endings.Status.TheVariants as status
 use Rattle.cyc_runs.specs.Runs.{input_limit}
-use Rattle.cyc_top.specs.Answers.{IsAnswer, derivation_limit, file_text, nodes_text, proved_status}
+use Rattle.cyc_top.specs.Answers.{IsAnswer, IsSearch, derivation_limit, file_text, nodes_text, proved_status, proved_text}
 
 -- how a search with this outcome ends
 abbrev outcome_status : Outcome Reason → Status
@@ -38,31 +43,73 @@ by_outcome NotFound = refl
 by_outcome TooManyDerivations = refl
 by_outcome TooManyStates = refl
 
--- the search of these definitions, this program and this goal
-abbrev search_at : ℕ → List Definition → List Command → Judgement → System Reason
-search_at most ds lines j = search_system (record { most = most; definitions = ds; lines = lines }) j
+-- the theory of these definitions and this program
+abbrev theory_at : ℕ → List Definition → List Command → Theory
+theory_at most ds lines = record { most = most; definitions = ds; lines = lines }
 
--- a search is told by the definitions, the program and the goal
+-- problems that say the same are searched in one theory
+same_theory : (p q : Problem) → AreSame p q → theory p.defs p.program ≡ theory q.defs q.program
+same_theory p q same =
+    ap (λ most. theory_at most p.defs.list p.program) same.most
+    ∙ ap (λ ds. theory_at q.defs.most ds p.program) same.definitions
+    ∙ ap (λ lines. theory_at q.defs.most q.defs.list lines) same.program
+
+-- and by one search
 same_search : (p q : Problem) → AreSame p q → search_for p ≡ search_for q
 same_search p q same =
-    ap (λ most. search_at most p.defs.list p.program p.goal) same.most
-    ∙ ap (λ ds. search_at q.defs.most ds p.program p.goal) same.definitions
-    ∙ ap (λ lines. search_at q.defs.most q.defs.list lines p.goal) same.program
-    ∙ ap (λ j. search_at q.defs.most q.defs.list q.program j) same.goal
-
--- a search is answered as it comes out
-pub searched_status : (depth : ℕ) (p q : Problem) (a : Proved) (o : Outcome Reason) → AreSame p q → outcome_of a ≡ search_of (search_for p) derivation_limit depth → search_of (search_for q) derivation_limit depth ≡ o → proved_status a ≡ outcome_status o
-searched_status depth p q a o same is comes =
-    by_outcome a ∙ ap outcome_status (is ∙ ap (λ s. search_of s derivation_limit depth) (same_search p q same) ∙ comes)
-
--- the searches for one problem end in one way
-pub one_search : (depth : ℕ) (p q : Problem) (a b : Proved) → AreSame p q → outcome_of a ≡ search_of (search_for p) derivation_limit depth → outcome_of b ≡ search_of (search_for q) derivation_limit depth → proved_status a ≡ proved_status b
-one_search depth p q a b same first second =
-    searched_status depth p q a (outcome_of b) same first (sym second) ∙ sym (by_outcome b)
+    ap (λ t. search_system t p.goal) (same_theory p q same) ∙ ap (λ j. search_system (theory q.defs q.program) j) same.goal
 
 -- a search that finds ends with success
 pub found_search : (depth : ℕ) (p q : Problem) (a : Proved) (d : List Reason) → AreSame p q → outcome_of a ≡ search_of (search_for p) derivation_limit depth → search_of (search_for q) derivation_limit depth ≡ IsFound d → proved_status a ≡ status.Success
-found_search depth p q a d same is found = searched_status depth p q a (IsFound d) same is found
+found_search depth p q a d same is found =
+    by_outcome a ∙ ap outcome_status (is ∙ ap (λ s. search_of s derivation_limit depth) (same_search p q same) ∙ found)
+
+-- ---- a search has one answer
+
+found_reasons : (d e : List Reason) → IsFound d ≡ IsFound e → d ≡ e
+found_reasons d e same = cc
+
+-- the reasons of a proof make its nodes
+same_nodes : (p q : Problem) (f g : ProofFile) → AreSame p q → IsProofFor p f → IsProofFor q g → reasons_of f ≡ reasons_of g → f.nodes ≡ g.nodes
+same_nodes p q f g same first second reasons =
+    let with_reasons = subst (λ rs. replay (calculus_of (theory p.defs p.program)) p.goal rs ≡ Some first.tableau) reasons first.made in
+    let with_goal = subst (λ j. replay (calculus_of (theory p.defs p.program)) j (reasons_of g) ≡ Some first.tableau) same.goal with_reasons in
+    let made = subst (λ t. replay (calculus_of t) q.goal (reasons_of g) ≡ Some first.tableau) (same_theory p q same) with_goal in
+    let tableau = one_some first.tableau second.tableau (replay (calculus_of (theory q.defs q.program)) q.goal (reasons_of g)) made second.made in
+    first.nodes ∙ (λ i. nodes_made (same_theory p q same i) (tableau i).nodes) ∙ sym second.nodes
+
+-- so the file that is found is one
+same_file : (p q : Problem) (f g : ProofFile) → AreSame p q → IsProofFor p f → IsProofFor q g → reasons_of f ≡ reasons_of g → file_text f ≡ file_text g
+same_file p q f g same first second reasons =
+    let version = first.version ∙ same.version ∙ sym second.version in
+    let definitions = ap (λ (book : DefinitionBook). book.list) first.definitions ∙ same.definitions ∙ sym (ap (λ (book : DefinitionBook). book.list) second.definitions) in
+    let program = first.program ∙ same.program ∙ sym second.program in
+    let nodes = same_nodes p q f g same first second reasons in
+    λ i. text_of_file (version i) (definitions i) (program i) (nodes i)
+
+one_text : (depth : ℕ) (p q : Problem) (a b : Proved) → AreSame p q → IsProved p a → IsProved q b → outcome_of a ≡ outcome_of b → proved_text depth a ≡ proved_text depth b
+one_text depth p q (Found f) (Found g) same first second e = same_file p q f g same first second (found_reasons _ _ e)
+one_text depth p q (Found f) NotFound same first second e = absurd cc
+one_text depth p q (Found f) TooManyDerivations same first second e = absurd cc
+one_text depth p q (Found f) TooManyStates same first second e = absurd cc
+one_text depth p q NotFound (Found g) same first second e = absurd cc
+one_text depth p q NotFound NotFound same first second e = refl
+one_text depth p q NotFound TooManyDerivations same first second e = absurd cc
+one_text depth p q NotFound TooManyStates same first second e = absurd cc
+one_text depth p q TooManyDerivations (Found g) same first second e = absurd cc
+one_text depth p q TooManyDerivations NotFound same first second e = absurd cc
+one_text depth p q TooManyDerivations TooManyDerivations same first second e = refl
+one_text depth p q TooManyDerivations TooManyStates same first second e = absurd cc
+one_text depth p q TooManyStates (Found g) same first second e = absurd cc
+one_text depth p q TooManyStates NotFound same first second e = absurd cc
+one_text depth p q TooManyStates TooManyDerivations same first second e = absurd cc
+one_text depth p q TooManyStates TooManyStates same first second e = refl
+
+-- the searches for one problem have one answer
+pub one_search : (depth : ℕ) (p q : Problem) (a b : Proved) → AreSame p q → IsSearch depth p a → IsSearch depth q b → (proved_status a ≡ proved_status b) × (proved_text depth a ≡ proved_text depth b)
+one_search depth p q a b same first second =
+    let outcome = first.0 ∙ ap (λ s. search_of s derivation_limit depth) (same_search p q same) ∙ sym second.0 in
+    (by_outcome a ∙ ap outcome_status outcome ∙ sym (by_outcome b), one_text depth p q a b same first.1 second.1 outcome)
 
 -- ---- what is found
 

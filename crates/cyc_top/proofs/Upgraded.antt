@@ -22,7 +22,7 @@ use Rattle.cyc_runs.specs.Endings.{is_answer}
 use Rattle.cyc_runs.specs.Runs.{input_limit}
 use Rattle.cyc_top.specs.Answers.{Answers, IsAcceptedToo, IsAnswer, IsReadAnswer, IsUpgradeAnswer, WroteAnswer, WroteUpgrade, file_text, nodes_text, verdict_status}
 use Rattle.reading_laws.specs.Alike.{AreAlike}
-use Rattle.cyc_top.proofs.OneVerdict.{same_few, same_progress, same_right}
+use Rattle.cyc_top.proofs.OneVerdict.{same_verdict}
 use Rattle.reading_laws.proofs.Readings.{one_file_reading}
 use Rattle.cyc_runs.proofs.WaysToEnd.{fault_fails}
 use Rattle.cyc_top.proofs.Exact.{answer_for}
@@ -39,17 +39,6 @@ accepted_again : (f g : ProofFile) → IsUpgrade f g → IsVerdict f Accepted �
 accepted_again f g up is =
     (correct_again f g up is.0, subst (λ graph. HasAtMost graph state_limit) (sym (same_graph f g up is.0)) is.1, root_again f g up is.2)
 
-same_root : (f g : ProofFile) → AreSame f g → RootHolds f → RootHolds g
-same_root f g same holds root at =
-    subst (λ ds. JudgementHolds ds g.program root.judgement) same.definitions
-    (subst (λ lines. JudgementHolds f.defs.list lines root.judgement) same.program
-    (holds root (subst (λ nodes. slice_get (nodes_of nodes) 0 ≡ Some root) (sym same.nodes) at)))
-
--- so is what the same bytes say
-accepted_same : (f g : ProofFile) → AreSame f g → IsVerdict f Accepted → IsVerdict g Accepted
-accepted_same f g same is =
-    (record { nodes = same_right f g same is.0.nodes; paths = same_progress f g same is.0.paths }, same_few f g same is.1, same_root f g same is.2)
-
 -- a check that ends with success accepts
 accepted : (f : ProofFile) (v : Verdict) → IsVerdict f v → status.Success ≡ verdict_status v → IsVerdict f Accepted
 accepted f Accepted is e = is
@@ -64,7 +53,7 @@ text_accepted g text is e short =
 
 check_accepts : (r : Result ProofFile ReadFault) (f g : ProofFile) (line text : List ℕ) → AreAlike AreSame r (Ok f) → IsReadAnswer r status.Success line → IsUpgrade f g → text ≡ file_text g → length text ≤ input_limit → (other : List ℕ) × IsAnswer (Some Check) text status.Success other
 check_accepts (Ok e) f g line text same answer up is short =
-    text_accepted g text (accepted_again f g up (accepted_same e f same (accepted e answer.0 answer.1 answer.2))) is short
+    text_accepted g text (accepted_again f g up (same_verdict e f same Accepted (accepted e answer.0 answer.1 answer.2))) is short
 check_accepts (Err fault) f g line text same answer up is short = absurd same
 
 checked_too : (input text : List ℕ) (r : Result ProofFile ReadFault) → IsRead input r → IsUpgradeAnswer r status.Success text → IsAcceptedToo input text

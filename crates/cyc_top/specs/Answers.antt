@@ -14,6 +14,7 @@ use Rattle.cyc_runs.specs.declared.endings.Status.TheVariants as status
 use Rattle.cyc_runs.specs.Faults.{IsFaultAnswer}
 use Rattle.cyc_runs.specs.Runs.{Answering, AnswersTold, IsAnswerOf, IsTold, input_limit}
 use Rattle.cyc_runs.specs.Runs as runs
+use Rattle.reading_laws.specs.Alike.{AreOneCheck}
 use Rattle.cyc_top.specs.declared.searches.TheConstants.{DERIVATION_LIMIT}
 use Rattle.cyc_words.specs.declared.tasks.Task.{Task}
 use Rattle.cyc_words.specs.declared.tasks.Task.TheVariants.{Check, Prove, Ring, Upgrade, Sat, Model, Disprove, FirstOrderCheck}
@@ -154,6 +155,12 @@ IsAnswer (Some (Disprove cells)) = IsAnswerOf (IsDisproved cells)
 IsAnswer (Some FirstOrderCheck) = IsAnswerOf IsFirstOrderChecked
 IsAnswer (Some (Ring k)) = λ input ending text. (ending ≡ status.Success) × (text ≡ ring_text k (8 * k + 1) 1)
 IsAnswer None = λ input ending text. (ending ≡ status.Usage) × (text ≡ usage_text)
+
+-- the texts are one; of two checks each may name another path that is refused
+abbrev pub AreOneText : Option Task → List ℕ → List ℕ → Type 0
+AreOneText (Some Check) text other = AreOneCheck text other
+AreOneText (Some FirstOrderCheck) text other = AreOneCheck text other
+AreOneText _ text other = text ≡ other
 
 -- ---- answers over what a source tells
 

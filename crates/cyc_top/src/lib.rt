@@ -21,6 +21,7 @@ ghost use Rattle.cyc_runs.specs.Endings.{is_answer};
 ghost use Rattle.cyc_runs.specs.Runs.{IsReadThrough, input_limit};
 ghost use Rattle.cyc_top.specs.Answers.{IsAnswer, IsHeadline, IsRefusal, IsUnrefuted, WroteAnswer, WroteModel, WrotePart, WroteProof, WroteUpgrade, derivation_limit};
 
+mod laws;
 mod rings;
 mod searches;
 mod upgrades;
@@ -32,6 +33,7 @@ use cyc_runs::{fixed_answer, give_made, run_over};
 use cyc_words::{Task, USAGE, task_of};
 use disprove_answers::Disprover;
 use fo_answers::FirstOrderChecker;
+pub use laws::an_input_has_one_answer;
 use model_answers::ModelChecker;
 use rings::answer_to_ring;
 use sat_answers::Satisfier;

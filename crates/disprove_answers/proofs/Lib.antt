@@ -2,4 +2,5 @@ pub mod FewCells
 pub mod SortedEntries
 pub mod ModelTrees
 pub mod Answered
+pub mod OneCounter
 pub mod OneAnswer

@@ -1,5 +1,5 @@
 -- The question whether a goal has a counter-model has one answer.
-use Rattle.std.proofs.Common.{◌≡◌, ◌≤◌, ◌<◌, ◌∙◌, ℕ, List, length, refl, sym, subst, inl, inr, Result, Ok, Err, arith}
+use Rattle.std.proofs.Common.{◌≡◌, ◌≤◌, ◌<◌, ◌∙◌, ℕ, List, length, refl, sym, ap, subst, inl, inr, Result, Ok, Err, arith}
 use Rattle.heap_formula.specs.declared.judgements.Judgement.{Judgement}
 use Rattle.heap_formula.specs.declared.judgements.Judgement.TheVariants.{Entail, Term as Runs}
 use Rattle.heap_formula.specs.Definitions.{Definition}
@@ -8,7 +8,7 @@ use Rattle.heap_formula.specs.Fresh.{judgement_bound}
 use Rattle.model_check.proofs.OnlyLocals.{universal_constructive}
 use Rattle.counter_model.specs.FirstCounter.{IsFirstCounter}
 use Rattle.heap_formula.specs.Cells.{Cells}
-use Rattle.counter_model.proofs.OnePlace.{no_place}
+use Rattle.counter_model.proofs.OnePlace.{no_place, one_place}
 use Rattle.formula_reader.specs.declared.problem.Problem.{Problem}
 use Rattle.formula_reader.specs.Reading as problems
 use Rattle.cyc_lex.specs.declared.fault.ReadFault.{ReadFault}
@@ -17,19 +17,22 @@ use Rattle.problem_files.proofs.ProblemKeeps.{problem_keeps}
 use Rattle.model_file.specs.declared.file.Model.{Model}
 use Rattle.model_file.specs.Reading as models
 use Rattle.model_file.proofs.Readings.{text_is_read}
-use Rattle.model_answers.specs.Answers.{IsModelled, holds_text}
+use Rattle.model_file.specs.Written.{text_of_model}
+use Rattle.model_answers.specs.Answers.{IsModelled, holds_text, place_text}
 use Rattle.cyc_runs.specs.declared.endings.Status.{Status}
 use Rattle.cyc_runs.specs.declared.endings.Status.TheVariants.{Success, Refused, IllFormed, Limit, NotFound}
 use Rattle.cyc_runs.specs.Faults.{fault_status}
 use Rattle.cyc_runs.specs.Runs.{input_limit}
 use Rattle.cyc_runs.proofs.WaysToEnd.{fault_fails, fault_is_no_refusal}
 use Rattle.reading_laws.specs.Alike.{AreAlike}
+use Rattle.reading_laws.proofs.OneFault.{one_fault_answer}
 use Rattle.reading_laws.proofs.Readings.{one_problem_reading}
 use Rattle.disprove_answers.specs.Answers.{IsSearched, HasNone, IsWideAnswer, IsPlaceAnswer, IsNoneAnswer, IsModelFile, IsEntailmentAnswer, IsGoalAnswer, IsReadAnswer, IsDisproved, IsRefuted, HasNoCounter, OnEntailment}
 use Rattle.disprove_answers.proofs.Answered.{goal_universal}
+use Rattle.disprove_answers.proofs.OneCounter.{one_counter}
 use Rattle.disprove_answers.proofs.ModelTrees.{file_fits, file_flawless}
 
--- ---- one status
+-- ---- one status and one text
 
 module _ (n : ℕ) (ds : List Definition) (a : SymbolicHeap) (bs : List SymbolicHeap) where
   wide_searched : (s t : Status) (xs ys : List ℕ) → IsWideAnswer a bs s xs → IsSearched ds a bs → ⊥
@@ -50,42 +53,51 @@ module _ (n : ℕ) (ds : List Definition) (a : SymbolicHeap) (bs : List Symbolic
   none_first : (s t : Status) (xs ys : List ℕ) → IsNoneAnswer n ds a bs s xs → IsModelFile n ds a bs t ys → ⊥
   none_first s t xs ys none first = none.1 first.0 first.1 first.3.size first.3.counter
 
-  entailment_ends : (s t : Status) (xs ys : List ℕ) → IsEntailmentAnswer n ds a bs s xs → IsEntailmentAnswer n ds a bs t ys → s ≡ t
-  entailment_ends s t xs ys (inl p) (inl q) = p.1 ∙ sym q.1
-  entailment_ends s t xs ys (inl p) (inr (inl q)) = absurd (wide_placed s t xs ys p q)
-  entailment_ends s t xs ys (inl p) (inr (inr (inl q))) = absurd (wide_searched s t xs ys p q.0)
-  entailment_ends s t xs ys (inl p) (inr (inr (inr q))) = absurd (wide_searched s t xs ys p q.2)
-  entailment_ends s t xs ys (inr (inl p)) (inl q) = absurd (wide_placed t s ys xs q p)
-  entailment_ends s t xs ys (inr (inl p)) (inr (inl q)) = p.3 ∙ sym q.3
-  entailment_ends s t xs ys (inr (inl p)) (inr (inr (inl q))) = absurd (placed_searched s xs p q.0)
-  entailment_ends s t xs ys (inr (inl p)) (inr (inr (inr q))) = absurd (placed_searched s xs p q.2)
-  entailment_ends s t xs ys (inr (inr (inl p))) (inl q) = absurd (wide_searched t s ys xs q p.0)
-  entailment_ends s t xs ys (inr (inr (inl p))) (inr (inl q)) = absurd (placed_searched t ys q p.0)
-  entailment_ends s t xs ys (inr (inr (inl p))) (inr (inr (inl q))) = p.2 ∙ sym q.2
-  entailment_ends s t xs ys (inr (inr (inl p))) (inr (inr (inr q))) = absurd (none_first s t xs ys p q)
-  entailment_ends s t xs ys (inr (inr (inr p))) (inl q) = absurd (wide_searched t s ys xs q p.2)
-  entailment_ends s t xs ys (inr (inr (inr p))) (inr (inl q)) = absurd (placed_searched t ys q p.2)
-  entailment_ends s t xs ys (inr (inr (inr p))) (inr (inr (inl q))) = absurd (none_first t s ys xs q p)
-  entailment_ends s t xs ys (inr (inr (inr p))) (inr (inr (inr q))) = p.4 ∙ sym q.4
+  one_place_answer : (s t : Status) (xs ys : List ℕ) → IsPlaceAnswer ds a bs s xs → IsPlaceAnswer ds a bs t ys → (s ≡ t) × (xs ≡ ys)
+  one_place_answer s t xs ys p q = (p.3 ∙ sym q.3, p.4 ∙ ap place_text (one_place ds bs p.0 q.0 p.2 q.2) ∙ sym q.4)
 
-goal_ends : (n : ℕ) (ds : List Definition) (g : Judgement) (s t : Status) (xs ys : List ℕ) → IsGoalAnswer n ds g s xs → IsGoalAnswer n ds g t ys → s ≡ t
-goal_ends n ds (Entail a bs) s t xs ys p q = entailment_ends n ds a bs s t xs ys p q
-goal_ends n ds (Runs i a) s t xs ys p q = p.0 ∙ sym q.0
+  one_file : (s t : Status) (xs ys : List ℕ) → IsModelFile n ds a bs s xs → IsModelFile n ds a bs t ys → (s ≡ t) × (xs ≡ ys)
+  one_file s t xs ys p q =
+      let same = one_counter ds a bs n p.0 q.0 p.1 q.1 p.3 q.3 in
+      (p.4 ∙ sym q.4, p.5 ∙ (λ i. text_of_model ds (same.0 i) (same.1 i) a) ∙ sym q.5)
+
+  one_entailment_answer : (s t : Status) (xs ys : List ℕ) → IsEntailmentAnswer n ds a bs s xs → IsEntailmentAnswer n ds a bs t ys → (s ≡ t) × (xs ≡ ys)
+  one_entailment_answer s t xs ys (inl p) (inl q) = (p.1 ∙ sym q.1, p.2 ∙ sym q.2)
+  one_entailment_answer s t xs ys (inl p) (inr (inl q)) = absurd (wide_placed s t xs ys p q)
+  one_entailment_answer s t xs ys (inl p) (inr (inr (inl q))) = absurd (wide_searched s t xs ys p q.0)
+  one_entailment_answer s t xs ys (inl p) (inr (inr (inr q))) = absurd (wide_searched s t xs ys p q.2)
+  one_entailment_answer s t xs ys (inr (inl p)) (inl q) = absurd (wide_placed t s ys xs q p)
+  one_entailment_answer s t xs ys (inr (inl p)) (inr (inl q)) = one_place_answer s t xs ys p q
+  one_entailment_answer s t xs ys (inr (inl p)) (inr (inr (inl q))) = absurd (placed_searched s xs p q.0)
+  one_entailment_answer s t xs ys (inr (inl p)) (inr (inr (inr q))) = absurd (placed_searched s xs p q.2)
+  one_entailment_answer s t xs ys (inr (inr (inl p))) (inl q) = absurd (wide_searched t s ys xs q p.0)
+  one_entailment_answer s t xs ys (inr (inr (inl p))) (inr (inl q)) = absurd (placed_searched t ys q p.0)
+  one_entailment_answer s t xs ys (inr (inr (inl p))) (inr (inr (inl q))) = (p.2 ∙ sym q.2, p.3 ∙ sym q.3)
+  one_entailment_answer s t xs ys (inr (inr (inl p))) (inr (inr (inr q))) = absurd (none_first s t xs ys p q)
+  one_entailment_answer s t xs ys (inr (inr (inr p))) (inl q) = absurd (wide_searched t s ys xs q p.2)
+  one_entailment_answer s t xs ys (inr (inr (inr p))) (inr (inl q)) = absurd (placed_searched t ys q p.2)
+  one_entailment_answer s t xs ys (inr (inr (inr p))) (inr (inr (inl q))) = absurd (none_first t s ys xs q p)
+  one_entailment_answer s t xs ys (inr (inr (inr p))) (inr (inr (inr q))) = one_file s t xs ys p q
+
+one_goal_answer : (n : ℕ) (ds : List Definition) (g : Judgement) (s t : Status) (xs ys : List ℕ) → IsGoalAnswer n ds g s xs → IsGoalAnswer n ds g t ys → (s ≡ t) × (xs ≡ ys)
+one_goal_answer n ds (Entail a bs) s t xs ys p q = one_entailment_answer n ds a bs s t xs ys p q
+one_goal_answer n ds (Runs i a) s t xs ys p q = (p.0 ∙ sym q.0, p.1 ∙ sym q.1)
 
 same_answer : (n : ℕ) (p q : Problem) → problems.AreSame p q → (s : Status) (xs : List ℕ) → IsGoalAnswer n p.defs.list p.goal s xs → IsGoalAnswer n q.defs.list q.goal s xs
 same_answer n p q same s xs is =
     subst (λ (g : Judgement). IsGoalAnswer n q.defs.list g s xs) same.goal (subst (λ (ds : List Definition). IsGoalAnswer n ds p.goal s xs) same.definitions is)
 
-read_ends : (n : ℕ) (r q : Result Problem ReadFault) (s t : Status) (xs ys : List ℕ) → AreAlike problems.AreSame r q → IsReadAnswer n r s xs → IsReadAnswer n q t ys → s ≡ t
-read_ends n (Ok p) (Ok q) s t xs ys same first second = goal_ends n q.defs.list q.goal s t xs ys (same_answer n p q same s xs first) second
-read_ends n (Err a) (Err b) s t xs ys same first second = first.0 ∙ same ∙ sym second.0
-read_ends n (Ok p) (Err b) s t xs ys same first second = absurd same
-read_ends n (Err a) (Ok q) s t xs ys same first second = absurd same
+one_read_answer : (n : ℕ) (r q : Result Problem ReadFault) (s t : Status) (xs ys : List ℕ) → AreAlike problems.AreSame r q → IsReadAnswer n r s xs → IsReadAnswer n q t ys → (s ≡ t) × (xs ≡ ys)
+one_read_answer n (Ok p) (Ok q) s t xs ys same first second =
+    one_goal_answer n q.defs.list q.goal s t xs ys (same_answer n p q same s xs first) second
+one_read_answer n (Err a) (Err b) s t xs ys same first second = one_fault_answer a b s t xs ys same first second
+one_read_answer n (Ok p) (Err b) s t xs ys same first second = absurd same
+one_read_answer n (Err a) (Ok q) s t xs ys same first second = absurd same
 
--- an input is answered with one status
-pub disproved_ends : (n : ℕ) (input : List ℕ) (s t : Status) (xs ys : List ℕ) → IsDisproved n input s xs → IsDisproved n input t ys → s ≡ t
-disproved_ends n input s t xs ys first second =
-    read_ends n first.1 second.1 s t xs ys (one_problem_reading input first.1 second.1 first.2 second.2) first.3 second.3
+-- an input has one answer
+pub one_answer : (n : ℕ) (input : List ℕ) (s t : Status) (xs ys : List ℕ) → IsDisproved n input s xs → IsDisproved n input t ys → (s ≡ t) × (xs ≡ ys)
+one_answer n input s t xs ys first second =
+    one_read_answer n first.1 second.1 s t xs ys (one_problem_reading input first.1 second.1 first.2 second.2) first.3 second.3
 
 -- and is within the limit
 pub disproved_short : (n : ℕ) (input : List ℕ) (s : Status) (xs : List ℕ) → IsDisproved n input s xs → length input ≤ input_limit

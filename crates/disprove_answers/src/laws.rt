@@ -28,7 +28,7 @@ pub fn written_models_hold()
     ensures { (n : ℕ) (input : List ℕ) (bytes : List ℕ) → IsDisproved n input Status.Success bytes → length bytes ≤ input_limit → IsModelled bytes Status.Success holds_text }
 {}
 
-/// An input is answered with one status.
-pub fn answers_end_in_one_way()
-    ensures { (n : ℕ) (input : List ℕ) (s t : Status) (xs ys : List ℕ) → IsDisproved n input s xs → IsDisproved n input t ys → s ≡ t }
+/// An input has one answer: one status and one text.
+pub fn inputs_have_one_answer()
+    ensures { (n : ℕ) (input : List ℕ) (s t : Status) (xs ys : List ℕ) → IsDisproved n input s xs → IsDisproved n input t ys → (s ≡ t) × (xs ≡ ys) }
 {}

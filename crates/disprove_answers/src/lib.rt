@@ -7,6 +7,6 @@ mod model_files;
 
 pub use entailments::Disprover;
 pub use laws::{
-    answers_end_in_one_way, refuted_goals_do_not_hold, refuted_goals_have_no_proof,
+    inputs_have_one_answer, refuted_goals_do_not_hold, refuted_goals_have_no_proof,
     written_models_hold,
 };

@@ -1,5 +1,5 @@
 -- The question whether a first-order proof is correct has one answer, and what the answers say.
-use Rattle.std.proofs.Common.{◌≡◌, ◌≤◌, ◌∙◌, ℕ, List, length, Option, None, Some, refl, sym, subst, Result, Ok, Err}
+use Rattle.std.proofs.Common.{◌≡◌, ◌≤◌, ◌∙◌, ℕ, List, length, refl, sym, ap, subst, inl, inr, Result, Ok, Err}
 use Rattle.buchi_inclusion.specs.Answers.{HasAtMost}
 use Rattle.buchi_inclusion.proofs.Exact.{not_both}
 use Rattle.cyc_lex.specs.declared.fault.ReadFault.{ReadFault}
@@ -9,66 +9,65 @@ use Rattle.cyc_runs.specs.Runs.{input_limit}
 use Rattle.cyc_runs.proofs.WaysToEnd.{fault_fails, fault_is_no_refusal}
 use Rattle.fo_formula.specs.declared.nodes.FoFile.{FoFile}
 use Rattle.fo_table.specs.declared.faults.FoFault.{FoFault}
+use Rattle.fo_table.specs.Nodes.{node_fault}
 use Rattle.fo_logic.specs.declared.verdict.FoVerdict.{FoVerdict}
 use Rattle.fo_logic.specs.declared.verdict.FoVerdict.TheVariants.{Accepted, RuleRefused, PathRefused, TooManyStates}
 use Rattle.fo_logic.specs.Verdicts.{file_graph, state_limit, HasRightNodes, IsCorrect, IsLeastFault, IsVerdict, RootHolds}
-use Rattle.fo_proof_syntax.specs.Trees.{File}
-use Rattle.fo_proof_syntax.proofs.ProofLaws.{file-law}
-use Rattle.fo_file.specs.Reading.{IsFileOf, IsRead, fo_files}
-use Rattle.reading_laws.specs.Alike.{AreAlike}
-use Rattle.reading_laws.proofs.OneReading.{one_reading}
-use Rattle.fo_answers.specs.Answers.{IsFirstOrderChecked, IsReadAnswer, IsSaid, verdict_status}
+use Rattle.fo_file.specs.Reading.{IsRead}
+use Rattle.reading_laws.specs.Alike.{AreAlike, AreOneCheck}
+use Rattle.reading_laws.proofs.OneCheck.{none_some, one_node, one_node_fault, said_one}
+use Rattle.reading_laws.proofs.OneFault.{one_fault_answer}
+use Rattle.reading_laws.proofs.Readings.{one_proof_reading}
+use Rattle.fo_answers.specs.Answers.{IsFirstOrderChecked, IsReadAnswer, IsSaid, node_refused_text, verdict_status, verdict_text}
 
--- ---- bytes are read in one way
-
-one_value : (t : File) (f g : FoFile) → IsFileOf t f → IsFileOf t g → f ≡ g
-one_value t f g first second = first ∙ sym second
-
-one_proof_reading : (bytes : List ℕ) (r q : Result FoFile ReadFault) → IsRead bytes r → IsRead bytes q → AreAlike (λ f g. f ≡ g) r q
-one_proof_reading = one_reading fo_files file-law (λ f g. f ≡ g) one_value
-
--- ---- the verdicts on a proof end a check in one way
-
-none_some : (x : FoFault) (fault : Option FoFault) → fault ≡ None → fault ≡ Some x → ⊥
-none_some x None none some = cc
-none_some x (Some y) none some = cc
+-- ---- the verdicts on a proof are one, but for the lasso that is named
 
 -- where all nodes are right none is faulty
 right_faulty : (f : FoFile) (v : ℕ) (fault : FoFault) → HasRightNodes f → IsLeastFault f v fault → ⊥
 right_faulty f v fault right least = none_some fault _ (right v least.node least.at) least.first
 
-one_ending : (f : FoFile) (v w : FoVerdict) → IsVerdict f v → IsVerdict f w → verdict_status v ≡ verdict_status w
-one_ending f Accepted Accepted a b = refl
-one_ending f Accepted (RuleRefused n fault) a b = absurd (right_faulty f n fault a.0.nodes b)
-one_ending f Accepted (PathRefused l) a b = absurd (b.2 (a.0.paths l b.1))
-one_ending f Accepted TooManyStates a b = absurd (not_both (file_graph f) state_limit a.1 b.1)
-one_ending f (RuleRefused n fault) Accepted a b = absurd (right_faulty f n fault b.0.nodes a)
-one_ending f (RuleRefused n fault) (RuleRefused m other) a b = refl
-one_ending f (RuleRefused n fault) (PathRefused l) a b = refl
-one_ending f (RuleRefused n fault) TooManyStates a b = absurd (right_faulty f n fault b.0 a)
-one_ending f (PathRefused l) Accepted a b = absurd (a.2 (b.0.paths l a.1))
-one_ending f (PathRefused l) (RuleRefused m other) a b = refl
-one_ending f (PathRefused l) (PathRefused k) a b = refl
-one_ending f (PathRefused l) TooManyStates a b = absurd (not_both (file_graph f) state_limit a.3 b.1)
-one_ending f TooManyStates Accepted a b = absurd (not_both (file_graph f) state_limit b.1 a.1)
-one_ending f TooManyStates (RuleRefused m other) a b = absurd (right_faulty f m other a.0 b)
-one_ending f TooManyStates (PathRefused l) a b = absurd (not_both (file_graph f) state_limit b.3 a.1)
-one_ending f TooManyStates TooManyStates a b = refl
+-- the least faulty node is one, and so is its line
+one_refusal : (f : FoFile) (v w : ℕ) (x y : FoFault) → IsLeastFault f v x → IsLeastFault f w y → node_refused_text v x ≡ node_refused_text w y
+one_refusal f v w x y a b =
+    let node = one_node f.nodes (node_fault f.theory f.nodes) v w a.node b.node x y a.at b.at a.first b.first a.before b.before in
+    let fault = one_node_fault f.nodes (node_fault f.theory f.nodes) v w a.node b.node x y a.at b.at a.first b.first a.before b.before in
+    λ i. node_refused_text (node i) (fault i)
 
-said_ends : (f g : FoFile) (s t : Status) (xs ys : List ℕ) → f ≡ g → IsSaid f s xs → IsSaid g t ys → s ≡ t
-said_ends f g s t xs ys same first second =
-    first.2 ∙ one_ending g first.0 second.0 (subst (λ h. IsVerdict h first.0) same first.1) second.1 ∙ sym second.2
+-- the verdicts on a proof end a check in one way, and say the same but for the lasso
+one_verdict : (f : FoFile) (v w : FoVerdict) → IsVerdict f v → IsVerdict f w → (verdict_status v ≡ verdict_status w) × AreOneCheck (verdict_text f.nodes v) (verdict_text f.nodes w)
+one_verdict f Accepted Accepted a b = (refl, inl refl)
+one_verdict f Accepted (RuleRefused n fault) a b = absurd (right_faulty f n fault a.0.nodes b)
+one_verdict f Accepted (PathRefused l) a b = absurd (b.2 (a.0.paths l b.1))
+one_verdict f Accepted TooManyStates a b = absurd (not_both (file_graph f) state_limit a.1 b.1)
+one_verdict f (RuleRefused n fault) Accepted a b = absurd (right_faulty f n fault b.0.nodes a)
+one_verdict f (RuleRefused n fault) (RuleRefused m other) a b = (refl, inl (one_refusal f n m fault other a b))
+one_verdict f (RuleRefused n fault) (PathRefused l) a b = absurd (right_faulty f n fault b.0 a)
+one_verdict f (RuleRefused n fault) TooManyStates a b = absurd (right_faulty f n fault b.0 a)
+one_verdict f (PathRefused l) Accepted a b = absurd (a.2 (b.0.paths l a.1))
+one_verdict f (PathRefused l) (RuleRefused m other) a b = absurd (right_faulty f m other a.0 b)
+one_verdict f (PathRefused l) (PathRefused k) a b = (refl, inr ((l, refl), (k, refl)))
+one_verdict f (PathRefused l) TooManyStates a b = absurd (not_both (file_graph f) state_limit a.3 b.1)
+one_verdict f TooManyStates Accepted a b = absurd (not_both (file_graph f) state_limit b.1 a.1)
+one_verdict f TooManyStates (RuleRefused m other) a b = absurd (right_faulty f m other a.0 b)
+one_verdict f TooManyStates (PathRefused l) a b = absurd (not_both (file_graph f) state_limit b.3 a.1)
+one_verdict f TooManyStates TooManyStates a b = (refl, inl refl)
 
-read_ends : (r q : Result FoFile ReadFault) (s t : Status) (xs ys : List ℕ) → AreAlike (λ f g. f ≡ g) r q → IsReadAnswer r s xs → IsReadAnswer q t ys → s ≡ t
-read_ends (Ok f) (Ok g) s t xs ys same first second = said_ends f g s t xs ys same first second
-read_ends (Err a) (Err b) s t xs ys same first second = first.0 ∙ same ∙ sym second.0
-read_ends (Ok f) (Err b) s t xs ys same first second = absurd same
-read_ends (Err a) (Ok g) s t xs ys same first second = absurd same
+one_said : (f g : FoFile) (s t : Status) (xs ys : List ℕ) → f ≡ g → IsSaid f s xs → IsSaid g t ys → (s ≡ t) × AreOneCheck xs ys
+one_said f g s t xs ys same first second =
+    let one = one_verdict g first.0 second.0 (subst (λ h. IsVerdict h first.0) same first.1) second.1 in
+    let said = first.3 ∙ ap (λ (h : FoFile). verdict_text h.nodes first.0) same in
+    (first.2 ∙ one.0 ∙ sym second.2, said_one xs ys _ _ said second.3 one.1)
 
--- an input is answered with one status
-pub first_order_ends : (input : List ℕ) (s t : Status) (xs ys : List ℕ) → IsFirstOrderChecked input s xs → IsFirstOrderChecked input t ys → s ≡ t
-first_order_ends input s t xs ys first second =
-    read_ends first.1 second.1 s t xs ys (one_proof_reading input first.1 second.1 first.2 second.2) first.3 second.3
+one_read_answer : (r q : Result FoFile ReadFault) (s t : Status) (xs ys : List ℕ) → AreAlike (λ f g. f ≡ g) r q → IsReadAnswer r s xs → IsReadAnswer q t ys → (s ≡ t) × AreOneCheck xs ys
+one_read_answer (Ok f) (Ok g) s t xs ys same first second = one_said f g s t xs ys same first second
+one_read_answer (Err a) (Err b) s t xs ys same first second = let one = one_fault_answer a b s t xs ys same first second in (one.0, inl one.1)
+one_read_answer (Ok f) (Err b) s t xs ys same first second = absurd same
+one_read_answer (Err a) (Ok g) s t xs ys same first second = absurd same
+
+-- an input has one answer, but for the lasso
+pub one_answer : (input : List ℕ) (s t : Status) (xs ys : List ℕ) → IsFirstOrderChecked input s xs → IsFirstOrderChecked input t ys → (s ≡ t) × AreOneCheck xs ys
+one_answer input s t xs ys first second =
+    one_read_answer first.1 second.1 s t xs ys (one_proof_reading input first.1 second.1 first.2 second.2) first.3 second.3
 
 -- and is within the limit
 pub first_order_short : (input : List ℕ) (s : Status) (xs : List ℕ) → IsFirstOrderChecked input s xs → length input ≤ input_limit

@@ -1,43 +1,22 @@
 -- The question whether a stack and a heap satisfy a formula has one answer.
-use Rattle.std.proofs.Common.{◌≡◌, ◌≤◌, ◌∙◌, ℕ, zero, suc, List, [], ◌∷◌, length, None, Some, sym, subst, inl, inr, Result, Ok, Err}
-use Rattle.heap_formula.specs.Words.{Each}
+use Rattle.std.proofs.Common.{◌≡◌, ◌≤◌, ◌∙◌, ℕ, List, [], ◌∷◌, length, None, Some, sym, ap, subst, inl, inr, Result, Ok, Err}
 use Rattle.heap_formula.specs.Cells.{Cells}
 use Rattle.heap_formula.specs.Definitions.{Definition}
 use Rattle.heap_formula.specs.Symbolic.{SymbolicHeap}
 use Rattle.heap_formula.specs.Meaning.{Satisfies}
 use Rattle.cyc_lex.specs.declared.fault.ReadFault.{ReadFault}
-use Rattle.cyc_lex.specs.declared.fault.ReadFault.TheVariants as faults
-use Rattle.model_check.specs.declared.places.Place.{Place}
-use Rattle.model_check.specs.declared.places.Place.TheVariants.{Case, Ask}
-use Rattle.model_check.specs.Constructive.{IsConstructive, AreConstructive}
-use Rattle.model_check.specs.FirstPlaces.{IsFirstBad, IsFirstBadCase, IsFirstPlace}
-use Rattle.model_syntax.proofs.ModelLaws.{model-law}
+use Rattle.model_check.specs.FirstPlaces.{IsFirstPlace}
+use Rattle.counter_model.proofs.OnePlace.{no_place, one_place}
 use Rattle.model_file.specs.declared.file.Model.{Model}
 use Rattle.model_file.specs.Reading as models
-use Rattle.model_file.proofs.Readings.{one_model}
 use Rattle.cyc_runs.specs.declared.endings.Status.{Status}
 use Rattle.cyc_runs.specs.declared.endings.Status.TheVariants.{Success, Refused, IllFormed}
-use Rattle.cyc_runs.specs.Faults.{fault_status}
 use Rattle.cyc_runs.specs.Runs.{input_limit}
+use Rattle.cyc_runs.proofs.WaysToEnd.{fault_fails, fault_is_no_refusal}
 use Rattle.reading_laws.specs.Alike.{AreAlike}
-use Rattle.reading_laws.proofs.OneReading.{one_reading}
-use Rattle.model_answers.specs.Answers.{IsSatisfying, IsSaid, IsModelAnswer, IsReadAnswer, IsModelled}
-
--- ---- there is a first place, or none
-
-no_bad : (xs : List SymbolicHeap) (i : ℕ) → Each IsConstructive xs → IsFirstBad xs i → ⊥
-no_bad [] i all bad = bad
-no_bad (x ∷ xs) zero all bad = bad all.0
-no_bad (x ∷ xs) (suc i) all bad = no_bad xs i all.1 bad.1
-
-no_bad_case : (ds : List Definition) (p c : ℕ) → AreConstructive ds → IsFirstBadCase ds p c → ⊥
-no_bad_case [] p c all bad = bad
-no_bad_case (d ∷ ds) zero c all bad = no_bad d.cases c all.0 bad
-no_bad_case (d ∷ ds) (suc p) c all bad = no_bad_case ds p c all.1 bad.1
-
-not_both : (ds : List Definition) (asks : List SymbolicHeap) (place : Place) → IsFirstPlace ds asks None → IsFirstPlace ds asks (Some place) → ⊥
-not_both ds asks (Case p c) all bad = no_bad_case ds p c all.0 bad
-not_both ds asks (Ask d) all bad = no_bad asks d all.1 bad.1
+use Rattle.reading_laws.proofs.OneFault.{one_fault_answer}
+use Rattle.reading_laws.proofs.Readings.{one_model_reading}
+use Rattle.model_answers.specs.Answers.{IsSatisfying, IsSaid, IsModelAnswer, IsReadAnswer, IsModelled, place_text}
 
 -- ---- models that say the same are answered in the same way
 
@@ -62,50 +41,39 @@ turned m n same = record {
   ask = sym same.ask;
 }
 
-said_ends : (m n : Model) → models.AreSame m n → (s t : Status) (xs ys : List ℕ) → IsSaid m s xs → IsSaid n t ys → s ≡ t
-said_ends m n same s t xs ys (inl first) (inl second) = first.1 ∙ sym second.1
-said_ends m n same s t xs ys (inr first) (inr second) = first.1 ∙ sym second.1
-said_ends m n same s t xs ys (inl first) (inr second) = absurd (second.0 (satisfying m n same first.0))
-said_ends m n same s t xs ys (inr first) (inl second) = absurd (first.0 (satisfying n m (turned m n same) second.0))
+one_said : (m n : Model) → models.AreSame m n → (s t : Status) (xs ys : List ℕ) → IsSaid m s xs → IsSaid n t ys → (s ≡ t) × (xs ≡ ys)
+one_said m n same s t xs ys (inl first) (inl second) = (first.1 ∙ sym second.1, first.2 ∙ sym second.2)
+one_said m n same s t xs ys (inr first) (inr second) = (first.1 ∙ sym second.1, first.2 ∙ sym second.2)
+one_said m n same s t xs ys (inl first) (inr second) = absurd (second.0 (satisfying m n same first.0))
+one_said m n same s t xs ys (inr first) (inl second) = absurd (first.0 (satisfying n m (turned m n same) second.0))
 
-model_ends : (m n : Model) → models.AreSame m n → (s t : Status) (xs ys : List ℕ) → IsModelAnswer m s xs → IsModelAnswer n t ys → s ≡ t
-model_ends m n same s t xs ys (inl first) (inl second) = first.2 ∙ sym second.2
-model_ends m n same s t xs ys (inr first) (inr second) = said_ends m n same s t xs ys first.1 second.1
-model_ends m n same s t xs ys (inl first) (inr second) =
-    absurd (not_both n.defs.list (n.ask ∷ []) first.0 second.0 (first_place m n same (Some first.0) first.1))
-model_ends m n same s t xs ys (inr first) (inl second) =
-    absurd (not_both n.defs.list (n.ask ∷ []) second.0 (first_place m n same None first.0) second.1)
+one_model_answer : (m n : Model) → models.AreSame m n → (s t : Status) (xs ys : List ℕ) → IsModelAnswer m s xs → IsModelAnswer n t ys → (s ≡ t) × (xs ≡ ys)
+one_model_answer m n same s t xs ys (inl first) (inl second) =
+    let place = one_place n.defs.list (n.ask ∷ []) first.0 second.0 (first_place m n same (Some first.0) first.1) second.1 in
+    (first.2 ∙ sym second.2, first.3 ∙ ap place_text place ∙ sym second.3)
+one_model_answer m n same s t xs ys (inr first) (inr second) = one_said m n same s t xs ys first.1 second.1
+one_model_answer m n same s t xs ys (inl first) (inr second) =
+    absurd (no_place n.defs.list (n.ask ∷ []) first.0 second.0.0 second.0.1 (first_place m n same (Some first.0) first.1))
+one_model_answer m n same s t xs ys (inr first) (inl second) =
+    let none = first_place m n same None first.0 in
+    absurd (no_place n.defs.list (n.ask ∷ []) second.0 none.0 none.1 second.1)
 
-read_ends : (r q : Result Model ReadFault) (s t : Status) (xs ys : List ℕ) → AreAlike models.AreSame r q → IsReadAnswer r s xs → IsReadAnswer q t ys → s ≡ t
-read_ends (Ok m) (Ok n) s t xs ys same first second = model_ends m n same s t xs ys first second
-read_ends (Err a) (Err b) s t xs ys same first second = first.0 ∙ same ∙ sym second.0
-read_ends (Ok m) (Err b) s t xs ys same first second = absurd same
-read_ends (Err a) (Ok n) s t xs ys same first second = absurd same
+one_read_answer : (r q : Result Model ReadFault) (s t : Status) (xs ys : List ℕ) → AreAlike models.AreSame r q → IsReadAnswer r s xs → IsReadAnswer q t ys → (s ≡ t) × (xs ≡ ys)
+one_read_answer (Ok m) (Ok n) s t xs ys same first second = one_model_answer m n same s t xs ys first second
+one_read_answer (Err a) (Err b) s t xs ys same first second = one_fault_answer a b s t xs ys same first second
+one_read_answer (Ok m) (Err b) s t xs ys same first second = absurd same
+one_read_answer (Err a) (Ok n) s t xs ys same first second = absurd same
 
--- an input is answered with one status
-pub modelled_ends : (input : List ℕ) (s t : Status) (xs ys : List ℕ) → IsModelled input s xs → IsModelled input t ys → s ≡ t
-modelled_ends input s t xs ys first second =
-    read_ends first.1 second.1 s t xs ys (one_reading models.model_files model-law models.AreSame one_model input first.1 second.1 first.2 second.2) first.3 second.3
+-- an input has one answer
+pub one_answer : (input : List ℕ) (s t : Status) (xs ys : List ℕ) → IsModelled input s xs → IsModelled input t ys → (s ≡ t) × (xs ≡ ys)
+one_answer input s t xs ys first second =
+    one_read_answer first.1 second.1 s t xs ys (one_model_reading input first.1 second.1 first.2 second.2) first.3 second.3
 
 -- and is within the limit
 pub model_short : (input : List ℕ) (s : Status) (xs : List ℕ) → IsModelled input s xs → length input ≤ input_limit
 model_short input s xs is = is.0
 
 -- ---- what the answers say
-
-fault_fails : (fault : ReadFault) → Success ≡ fault_status fault → ⊥
-fault_fails (faults.Lex fault) e = cc
-fault_fails (faults.Syntax token line column) e = cc
-fault_fails (faults.IllFormed fault token line column) e = cc
-fault_fails (faults.Limit what token line column) e = cc
-fault_fails faults.OutOfMemory e = cc
-
-fault_is_no_refusal : (fault : ReadFault) → Refused ≡ fault_status fault → ⊥
-fault_is_no_refusal (faults.Lex fault) e = cc
-fault_is_no_refusal (faults.Syntax token line column) e = cc
-fault_is_no_refusal (faults.IllFormed fault token line column) e = cc
-fault_is_no_refusal (faults.Limit what token line column) e = cc
-fault_is_no_refusal faults.OutOfMemory e = cc
 
 model_satisfies : (m : Model) (xs : List ℕ) → IsModelAnswer m Success xs → IsSatisfying m
 model_satisfies m xs (inl place) = absurd (let e : Success ≡ IllFormed = place.2 in cc)

@@ -1,2 +1,4 @@
+pub mod OneCheck
+pub mod OneFault
 pub mod OneReading
 pub mod Readings

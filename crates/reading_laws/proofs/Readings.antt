@@ -1,14 +1,22 @@
--- Proof files and problem files are read in one way.
-use Rattle.std.proofs.Common.{ℕ, List, Result}
+-- Each format is read in one way.
+use Rattle.std.proofs.Common.{◌≡◌, ◌∙◌, ℕ, List, Result, sym}
 use Rattle.cyc_lex.specs.declared.fault.ReadFault.{ReadFault}
 use Rattle.proof_syntax.proofs.GrammarLaws.{file-law}
 use Rattle.problem_syntax.proofs.ProblemLaws.{problem-law}
+use Rattle.model_syntax.proofs.ModelLaws.{model-law}
+use Rattle.fo_proof_syntax.specs.Trees.{File}
+use Rattle.fo_proof_syntax.proofs.ProofLaws as first_order_laws
 use Rattle.proof_file.specs.declared.file.ProofFile.{ProofFile}
 use Rattle.proof_file.specs.Reading as files
 use Rattle.proof_file.proofs.Readings.{one_file}
 use Rattle.formula_reader.specs.declared.problem.Problem.{Problem}
 use Rattle.formula_reader.specs.Reading as problems
 use Rattle.formula_reader.proofs.Readings.{one_problem}
+use Rattle.model_file.specs.declared.file.Model.{Model}
+use Rattle.model_file.specs.Reading as models
+use Rattle.model_file.proofs.Readings.{one_model}
+use Rattle.fo_formula.specs.declared.nodes.FoFile.{FoFile}
+use Rattle.fo_file.specs.Reading as first_order
 use Rattle.reading_laws.specs.Alike.{AreAlike}
 use Rattle.reading_laws.proofs.OneReading.{one_reading}
 
@@ -17,3 +25,13 @@ one_file_reading = one_reading files.proof_files file-law files.AreSame one_file
 
 pub one_problem_reading : (bytes : List ℕ) (r s : Result Problem ReadFault) → problems.IsRead bytes r → problems.IsRead bytes s → AreAlike problems.AreSame r s
 one_problem_reading = one_reading problems.problems problem-law problems.AreSame one_problem
+
+pub one_model_reading : (bytes : List ℕ) (r s : Result Model ReadFault) → models.IsRead bytes r → models.IsRead bytes s → AreAlike models.AreSame r s
+one_model_reading = one_reading models.model_files model-law models.AreSame one_model
+
+-- a tree says one first-order proof
+one_proof : (t : File) (f g : FoFile) → first_order.IsFileOf t f → first_order.IsFileOf t g → f ≡ g
+one_proof t f g first second = first ∙ sym second
+
+pub one_proof_reading : (bytes : List ℕ) (r s : Result FoFile ReadFault) → first_order.IsRead bytes r → first_order.IsRead bytes s → AreAlike (λ f g. f ≡ g) r s
+one_proof_reading = one_reading first_order.fo_files first_order_laws.file-law (λ f g. f ≡ g) one_proof

@@ -12,6 +12,7 @@ use Rattle.cyc_runs.specs.declared.endings.Status.TheVariants.{Success, Refused,
 use Rattle.cyc_runs.proofs.WaysToEnd.{fault_fails, fault_is_no_refusal}
 use Rattle.sat_answers.specs.Answers.{IsAsked, IsPairsAnswer, IsPossible, IsReadAnswer, IsSaid, pair_limit}
 use Rattle.reading_laws.specs.Alike.{AreAlike}
+use Rattle.reading_laws.proofs.OneFault.{one_fault_answer}
 use Rattle.reading_laws.proofs.Readings.{one_problem_reading}
 
 module _ (p q : Problem) (same : problems.AreSame p q) where
@@ -31,28 +32,28 @@ module _ (p q : Problem) (same : problems.AreSame p q) where
   both_back : HasMoreThan p.defs.list pair_limit → HasAtMost q.defs.list pair_limit → ⊥
   both_back many few = not_both q.defs.list pair_limit few (subst (λ ds. HasMoreThan ds pair_limit) same.definitions many)
 
-  said_ends : (s t : Status) (xs ys : List ℕ) → IsSaid p s xs → IsSaid q t ys → s ≡ t
-  said_ends s t xs ys (inl first) (inl second) = first.1 ∙ sym second.1
-  said_ends s t xs ys (inr first) (inr second) = first.1 ∙ sym second.1
-  said_ends s t xs ys (inl first) (inr second) = absurd (second.0 (possible first.0))
-  said_ends s t xs ys (inr first) (inl second) = absurd (first.0 (possible_back second.0))
+  one_said : (s t : Status) (xs ys : List ℕ) → IsSaid p s xs → IsSaid q t ys → (s ≡ t) × (xs ≡ ys)
+  one_said s t xs ys (inl first) (inl second) = (first.1 ∙ sym second.1, first.2 ∙ sym second.2)
+  one_said s t xs ys (inr first) (inr second) = (first.1 ∙ sym second.1, first.2 ∙ sym second.2)
+  one_said s t xs ys (inl first) (inr second) = absurd (second.0 (possible first.0))
+  one_said s t xs ys (inr first) (inl second) = absurd (first.0 (possible_back second.0))
 
-  pairs_end : (s t : Status) (xs ys : List ℕ) → IsPairsAnswer p s xs → IsPairsAnswer q t ys → s ≡ t
-  pairs_end s t xs ys (inl first) (inl second) = first.1 ∙ sym second.1
-  pairs_end s t xs ys (inr first) (inr second) = said_ends s t xs ys first.1 second.1
-  pairs_end s t xs ys (inl first) (inr second) = absurd (both_back first.0 second.0)
-  pairs_end s t xs ys (inr first) (inl second) = absurd (both first.0 second.0)
+  one_pairs_answer : (s t : Status) (xs ys : List ℕ) → IsPairsAnswer p s xs → IsPairsAnswer q t ys → (s ≡ t) × (xs ≡ ys)
+  one_pairs_answer s t xs ys (inl first) (inl second) = (first.1 ∙ sym second.1, first.2 ∙ sym second.2)
+  one_pairs_answer s t xs ys (inr first) (inr second) = one_said s t xs ys first.1 second.1
+  one_pairs_answer s t xs ys (inl first) (inr second) = absurd (both_back first.0 second.0)
+  one_pairs_answer s t xs ys (inr first) (inl second) = absurd (both first.0 second.0)
 
-read_ends : (r q : Result Problem ReadFault) (s t : Status) (xs ys : List ℕ) → AreAlike problems.AreSame r q → IsReadAnswer r s xs → IsReadAnswer q t ys → s ≡ t
-read_ends (Ok p) (Ok q) s t xs ys same first second = pairs_end p q same s t xs ys first second
-read_ends (Err a) (Err b) s t xs ys same first second = first.0 ∙ same ∙ sym second.0
-read_ends (Ok p) (Err b) s t xs ys same first second = absurd same
-read_ends (Err a) (Ok q) s t xs ys same first second = absurd same
+one_read_answer : (r q : Result Problem ReadFault) (s t : Status) (xs ys : List ℕ) → AreAlike problems.AreSame r q → IsReadAnswer r s xs → IsReadAnswer q t ys → (s ≡ t) × (xs ≡ ys)
+one_read_answer (Ok p) (Ok q) s t xs ys same first second = one_pairs_answer p q same s t xs ys first second
+one_read_answer (Err a) (Err b) s t xs ys same first second = one_fault_answer a b s t xs ys same first second
+one_read_answer (Ok p) (Err b) s t xs ys same first second = absurd same
+one_read_answer (Err a) (Ok q) s t xs ys same first second = absurd same
 
--- an input is answered with one status
-pub asked_ends : (input : List ℕ) (s t : Status) (xs ys : List ℕ) → IsAsked input s xs → IsAsked input t ys → s ≡ t
-asked_ends input s t xs ys first second =
-    read_ends first.1 second.1 s t xs ys (one_problem_reading input first.1 second.1 first.2 second.2) first.3 second.3
+-- an input has one answer
+pub one_answer : (input : List ℕ) (s t : Status) (xs ys : List ℕ) → IsAsked input s xs → IsAsked input t ys → (s ≡ t) × (xs ≡ ys)
+one_answer input s t xs ys first second =
+    one_read_answer first.1 second.1 s t xs ys (one_problem_reading input first.1 second.1 first.2 second.2) first.3 second.3
 
 -- ---- what the answers say
 

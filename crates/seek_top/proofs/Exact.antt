@@ -10,6 +10,7 @@ use Rattle.formula_reader.specs.declared.problem.Problem.{Problem}
 use Rattle.formula_reader.specs.Reading as problems
 use Rattle.proof_file.specs.declared.file.ProofFile.{ProofFile}
 use Rattle.reading_laws.specs.Alike.{AreAlike}
+use Rattle.reading_laws.proofs.OneFault.{one_fault_answer}
 use Rattle.reading_laws.proofs.Readings.{one_problem_reading}
 use Rattle.seek_top.specs.Answers.{EndAlike, IsAnswer, IsReadAnswer, IsSearched, ends_search, sought_status}
 
@@ -20,7 +21,7 @@ sought_searched None = refl
 read_alike : (r q : Result Problem ReadFault) (s t : Status) (xs ys : List ℕ) → AreAlike problems.AreSame r q → IsReadAnswer r s xs → IsReadAnswer q t ys → EndAlike s t
 read_alike (Ok p) (Ok q) s t xs ys same first second =
     inr (ap ends_search first.2 ∙ sought_searched first.0, ap ends_search second.2 ∙ sought_searched second.0)
-read_alike (Err a) (Err b) s t xs ys same first second = inl (first.0 ∙ same ∙ sym second.0)
+read_alike (Err a) (Err b) s t xs ys same first second = inl (one_fault_answer a b s t xs ys same first second).0
 read_alike (Ok p) (Err b) s t xs ys same first second = absurd same
 read_alike (Err a) (Ok q) s t xs ys same first second = absurd same
 

@@ -1,0 +1,110 @@
+-- A task has one answer for each input: one status, and one text but for the lasso that a check names.
+use Rattle.std.proofs.Common.{◌≡◌, ℕ, ◌≤◌, List, ap, sym, ◌∙◌, arith, inl, inr, length, Option, Some, None}
+use Rattle.std.specs.Prelude.{Result, Ok, Err}
+use Rattle.cyc_lex.specs.declared.fault.ReadFault.{ReadFault}
+use Rattle.formula_reader.specs.declared.problem.Problem.{Problem}
+use Rattle.formula_reader.specs.Reading as problems
+use Rattle.proof_file.specs.declared.file.ProofFile.{ProofFile}
+use Rattle.proof_file.specs.Reading.{AreSame}
+use Rattle.proof_file.specs.Upgrades.{IsUpgrade}
+use Rattle.proof_file.specs.Written.{text_of_file}
+use Rattle.cyc_words.specs.declared.tasks.Task.{Task}
+use Rattle.cyc_words.specs.declared.tasks.Task.TheVariants.{Check, Prove, Ring, Upgrade, Sat, Model, Disprove, FirstOrderCheck}
+use Rattle.cyc_runs.specs.declared.endings.Status.{Status}
+use Rattle.cyc_runs.specs.Runs.{Answering, IsAnswerOf, input_limit}
+use Rattle.reading_laws.specs.Alike.{AreAlike, AreOneCheck}
+use Rattle.reading_laws.proofs.OneCheck.{said_one}
+use Rattle.reading_laws.proofs.OneFault.{one_fault_answer}
+use Rattle.reading_laws.proofs.Readings.{one_file_reading, one_problem_reading}
+use Rattle.sat_answers.specs.Answers.{IsAsked}
+use Rattle.sat_answers.proofs.OneAnswer as sat
+use Rattle.model_answers.specs.Answers.{IsModelled}
+use Rattle.model_answers.proofs.OneAnswer as models
+use Rattle.disprove_answers.specs.Answers.{IsDisproved}
+use Rattle.disprove_answers.proofs.OneAnswer as disproofs
+use Rattle.fo_answers.specs.Answers.{IsFirstOrderChecked}
+use Rattle.fo_answers.proofs.OneAnswer as first_order
+use Rattle.cyc_top.specs.Answers.{AreOneText, IsAnswer, IsChecked, IsReadAnswer, IsSearchAnswer, IsSearched, IsUpgradeAnswer, IsUpgraded, file_text, verdict_text}
+use Rattle.cyc_top.proofs.OneVerdict.{one_verdict, same_verdict}
+use Rattle.cyc_top.proofs.OneSearch.{one_search}
+
+-- ---- checks
+
+one_read_check : (r q : Result ProofFile ReadFault) (s t : Status) (xs ys : List ℕ) → AreAlike AreSame r q → IsReadAnswer r s xs → IsReadAnswer q t ys → (s ≡ t) × AreOneCheck xs ys
+one_read_check (Ok f) (Ok g) s t xs ys same first second =
+    let one = one_verdict g first.0 second.0 (same_verdict f g same first.0 first.1) second.1 in
+    let said = first.3 ∙ ap (λ nodes. verdict_text nodes first.0) same.nodes in
+    (first.2 ∙ one.0 ∙ sym second.2, said_one xs ys (verdict_text g.nodes first.0) (verdict_text g.nodes second.0) said second.3 one.1)
+one_read_check (Err a) (Err b) s t xs ys same first second =
+    let one = one_fault_answer a b s t xs ys same first second in (one.0, inl one.1)
+one_read_check (Ok f) (Err b) s t xs ys same first second = absurd same
+one_read_check (Err a) (Ok g) s t xs ys same first second = absurd same
+
+one_check : (input : List ℕ) (s t : Status) (xs ys : List ℕ) → IsChecked input s xs → IsChecked input t ys → (s ≡ t) × AreOneCheck xs ys
+one_check input s t xs ys first second =
+    one_read_check first.1 second.1 s t xs ys (one_file_reading input first.1 second.1 first.2 second.2) first.3 second.3
+
+-- ---- searches
+
+one_read_search : (depth : ℕ) (r q : Result Problem ReadFault) (s t : Status) (xs ys : List ℕ) → AreAlike problems.AreSame r q → IsSearchAnswer depth r s xs → IsSearchAnswer depth q t ys → (s ≡ t) × (xs ≡ ys)
+one_read_search depth (Ok p) (Ok q) s t xs ys same first second =
+    let one = one_search depth p q first.0 second.0 same first.1 second.1 in
+    (first.2 ∙ one.0 ∙ sym second.2, first.3 ∙ one.1 ∙ sym second.3)
+one_read_search depth (Err a) (Err b) s t xs ys same first second = one_fault_answer a b s t xs ys same first second
+one_read_search depth (Ok p) (Err b) s t xs ys same first second = absurd same
+one_read_search depth (Err a) (Ok q) s t xs ys same first second = absurd same
+
+one_searched : (depth : ℕ) (input : List ℕ) (s t : Status) (xs ys : List ℕ) → IsSearched depth input s xs → IsSearched depth input t ys → (s ≡ t) × (xs ≡ ys)
+one_searched depth input s t xs ys first second =
+    one_read_search depth first.1 second.1 s t xs ys (one_problem_reading input first.1 second.1 first.2 second.2) first.3 second.3
+
+-- ---- upgrades
+
+-- the upgrades of what was read are one
+one_upgrade : (f g u v : ProofFile) → AreSame f g → IsUpgrade f u → IsUpgrade g v → file_text u ≡ file_text v
+one_upgrade f g u v same first second =
+    let version : u.version ≡ v.version = first.version ∙ sym second.version in
+    let definitions = first.definitions ∙ same.definitions ∙ sym second.definitions in
+    let program = first.program ∙ same.program ∙ sym second.program in
+    let nodes = first.nodes ∙ same.nodes ∙ sym second.nodes in
+    λ i. text_of_file (version i) (definitions i) (program i) (nodes i)
+
+one_read_upgrade : (r q : Result ProofFile ReadFault) (s t : Status) (xs ys : List ℕ) → AreAlike AreSame r q → IsUpgradeAnswer r s xs → IsUpgradeAnswer q t ys → (s ≡ t) × (xs ≡ ys)
+one_read_upgrade (Ok f) (Ok g) s t xs ys same first second =
+    (first.2 ∙ sym second.2, first.3 ∙ one_upgrade f g first.0 second.0 same first.1 second.1 ∙ sym second.3)
+one_read_upgrade (Err a) (Err b) s t xs ys same first second = one_fault_answer a b s t xs ys same first second
+one_read_upgrade (Ok f) (Err b) s t xs ys same first second = absurd same
+one_read_upgrade (Err a) (Ok g) s t xs ys same first second = absurd same
+
+one_upgraded : (input : List ℕ) (s t : Status) (xs ys : List ℕ) → IsUpgraded input s xs → IsUpgraded input t ys → (s ≡ t) × (xs ≡ ys)
+one_upgraded input s t xs ys first second =
+    one_read_upgrade first.1 second.1 s t xs ys (one_file_reading input first.1 second.1 first.2 second.2) first.3 second.3
+
+-- ---- tasks
+
+-- what has one answer for each input within the limit has one beside the answer to an input that is too long
+one_of : (answers : Answering) (AreOne : List ℕ → List ℕ → Type 0) → ((xs ys : List ℕ) → xs ≡ ys → AreOne xs ys) → ((input : List ℕ) (s t : Status) (xs ys : List ℕ) → answers input s xs → answers input t ys → (s ≡ t) × AreOne xs ys) → ((input : List ℕ) (s : Status) (xs : List ℕ) → answers input s xs → length input ≤ input_limit) → (input : List ℕ) (s t : Status) (xs ys : List ℕ) → IsAnswerOf answers input s xs → IsAnswerOf answers input t ys → (s ≡ t) × AreOne xs ys
+one_of answers AreOne same one short input s t xs ys (inl first) (inl second) =
+    (first.1 ∙ sym second.1, same xs ys (first.2 ∙ sym second.2))
+one_of answers AreOne same one short input s t xs ys (inr first) (inr second) = one input s t xs ys first second
+one_of answers AreOne same one short input s t xs ys (inl first) (inr second) = absurd (omega (arith, first.0, short input t ys second))
+one_of answers AreOne same one short input s t xs ys (inr first) (inl second) = absurd (omega (arith, short input s xs first, second.0))
+
+-- a task has one answer for an input
+pub one_answer : (task : Option Task) (input : List ℕ) (s t : Status) (xs ys : List ℕ) → IsAnswer task input s xs → IsAnswer task input t ys → (s ≡ t) × AreOneText task xs ys
+one_answer None input s t xs ys first second = (first.0 ∙ sym second.0, first.1 ∙ sym second.1)
+one_answer (Some Check) input s t xs ys first second =
+    one_of IsChecked AreOneCheck (λ zs us e. inl e) one_check (λ i u zs is. is.0) input s t xs ys first second
+one_answer (Some (Prove depth)) input s t xs ys first second =
+    one_of (IsSearched depth) (λ zs us. zs ≡ us) (λ zs us e. e) (one_searched depth) (λ i u zs is. is.0) input s t xs ys first second
+one_answer (Some Upgrade) input s t xs ys first second =
+    one_of IsUpgraded (λ zs us. zs ≡ us) (λ zs us e. e) one_upgraded (λ i u zs is. is.0) input s t xs ys first second
+one_answer (Some Sat) input s t xs ys first second =
+    one_of IsAsked (λ zs us. zs ≡ us) (λ zs us e. e) sat.one_answer (λ i u zs is. is.0) input s t xs ys first second
+one_answer (Some Model) input s t xs ys first second =
+    one_of IsModelled (λ zs us. zs ≡ us) (λ zs us e. e) models.one_answer models.model_short input s t xs ys first second
+one_answer (Some (Disprove cells)) input s t xs ys first second =
+    one_of (IsDisproved cells) (λ zs us. zs ≡ us) (λ zs us e. e) (disproofs.one_answer cells) (disproofs.disproved_short cells) input s t xs ys first second
+one_answer (Some FirstOrderCheck) input s t xs ys first second =
+    one_of IsFirstOrderChecked AreOneCheck (λ zs us e. inl e) first_order.one_answer first_order.first_order_short input s t xs ys first second
+one_answer (Some (Ring k)) input s t xs ys first second = (first.0 ∙ sym second.0, first.1 ∙ sym second.1)
