@@ -5,12 +5,12 @@ use std::alloc::Global;
 use std::test::Fail;
 
 // The proof that two list segments compose.
-static FILE: &[u8] =
+const FILE: &[u8] =
     b"cyclist proof 1;\npred ls(2) { $0 = $1 : emp | true : $0 -> (?0) * ls(?0, $1) };\nnode true : ls($0, $1) * ls($1, $2) |- true : ls($0, $2) by Unfold 0 to 1 4;\nnode $0 = $1 : ls($1, $2) |- true : ls($0, $2) by Rewrite 0 left to 2;\nnode true : ls($1, $2) |- true : ls($1, $2) by Frame 0 0 to 3;\nnode true : emp |- true : emp by Done;\nnode true : ls($1, $2) * $0 -> ($3) * ls($3, $1) |- true : ls($0, $2) by UnfoldRight 0 1 to 5;\nnode true : ls($1, $2) * $0 -> ($3) * ls($3, $1) |- true : $0 -> (?0) * ls(?0, $2) by Instantiate ?0 $3 to 6;\nnode true : ls($1, $2) * $0 -> ($3) * ls($3, $1) |- true : $0 -> ($3) * ls($3, $2) by Frame 1 0 to 7;\nnode true : ls($1, $2) * ls($3, $1) |- true : ls($3, $2) by Link 0 { $0 := $3, $1 := $1, $2 := $2 } [1 0] [0];\nend;\n";
 
-static ACCEPTED: &str = "accepted entailment nodes 8 links 1\n";
+const ACCEPTED: &str = "accepted entailment nodes 8 links 1\n";
 
-static USAGE: &str =
+const USAGE: &str =
     "usage: cyclist check | prove [--depth N] | ring K | upgrade | sat | model | disprove [--cells N] | fo-check\n";
 
 fn words_of(alloc: Global, line: &str) -> Result<Vec<String>, Fail> {
@@ -74,44 +74,59 @@ fn a_source_of_single_bytes(rt: HostRuntime) -> Result<(), Fail> {
     Ok(())
 }
 
+/// A command line, an input, the status, and what is printed.
+static RUNS: &[(&str, &[u8], u8, &str)] = &[
+    ("check", FILE, 0, ACCEPTED),
+    ("", FILE, 2, USAGE),
+    ("check check", FILE, 2, USAGE),
+    ("Check", FILE, 2, USAGE),
+    ("--help", FILE, 2, USAGE),
+    ("prove --depth 41", FILE, 2, USAGE),
+    ("ring 0", FILE, 2, USAGE),
+    ("ring 2001", FILE, 2, USAGE),
+    ("ring 1", FILE, 0, "ring 1 accepted nodes 9 links 1\n"),
+    (
+        "check",
+        b"",
+        3,
+        "unreadable syntax token 0 line 1 column 1\n",
+    ),
+    (
+        "prove",
+        b"",
+        3,
+        "unreadable syntax token 0 line 1 column 1\n",
+    ),
+];
+
+/// Whether a run ends with this status and prints this text.
+fn is_run(alloc: Global, line: &str, input: &[u8], code: u8, text: &str) -> Result<bool, Fail> {
+    let words = words_of(alloc, line)?;
+    let mut src = StdSource::new(input);
+    let mut written: Vec<u8> = Vec::new(alloc);
+    let mut out = StdSink::new(&mut written);
+    let status = run(alloc, words.as_slice(), &mut src, &mut out);
+    Ok(status.code() == code && written.as_slice() == text.as_bytes())
+}
+
 #[test]
 fn words_and_inputs(rt: HostRuntime) -> Result<(), Fail> {
     let alloc = rt.alloc();
+    for (line, input, code, text) in RUNS {
+        assert!(rt; is_run(alloc, line, input, *code, text)?, "at {line}");
+    }
+    Ok(())
+}
+
+#[test]
+fn inputs_that_are_too_long(rt: HostRuntime) -> Result<(), Fail> {
+    let alloc = rt.alloc();
     let long: Vec<u8> = vec![in alloc; 32u8; 16_777_217]?;
-    let empty: &[u8] = b"";
-    for (line, input, code, text) in [
-        ("check", FILE, 0, ACCEPTED),
-        ("", FILE, 2, USAGE),
-        ("check check", FILE, 2, USAGE),
-        ("Check", FILE, 2, USAGE),
-        ("--help", FILE, 2, USAGE),
-        ("prove --depth 41", FILE, 2, USAGE),
-        ("ring 0", FILE, 2, USAGE),
-        ("ring 2001", FILE, 2, USAGE),
-        ("ring 1", FILE, 0, "ring 1 accepted nodes 9 links 1\n"),
-        (
-            "check",
-            empty,
-            3,
-            "unreadable syntax token 0 line 1 column 1\n",
-        ),
-        (
-            "prove",
-            empty,
-            3,
-            "unreadable syntax token 0 line 1 column 1\n",
-        ),
-        ("check", long.as_slice(), 5, "limit input\n"),
-        ("prove", long.as_slice(), 5, "limit input\n"),
-        ("upgrade", long.as_slice(), 5, "limit input\n"),
-    ] {
-        let words = words_of(alloc, line)?;
-        let mut src = StdSource::new(input);
-        let mut written: Vec<u8> = Vec::new(alloc);
-        let mut out = StdSink::new(&mut written);
-        let status = run(alloc, words.as_slice(), &mut src, &mut out);
-        assert_eq!(rt; status.code(), code, "at {line}");
-        assert!(rt; written.as_slice() == text.as_bytes(), "at {line}");
+    for line in ["check", "prove", "upgrade"] {
+        assert!(rt;
+            is_run(alloc, line, &long, 5, "limit input\n")?,
+            "at {line}"
+        );
     }
     Ok(())
 }

@@ -2,6 +2,8 @@
 #![tactic(auto)]
 
 #[cfg(test)]
+mod fo_moves_tests;
+#[cfg(test)]
 mod fo_problem_syntax_tests;
 #[cfg(test)]
 mod fo_proof_syntax_tests;

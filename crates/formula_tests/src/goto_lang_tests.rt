@@ -56,7 +56,15 @@ fn each_fault_is_told(rt: HostRuntime) -> Result<(), Fail> {
         Some(ProgramFault::Jump(1))
     );
     assert_eq!(rt;
+        fault(alloc, &[(1, Command::IfAny(0)), (2, Command::Stop)]),
+        Some(ProgramFault::Jump(1))
+    );
+    assert_eq!(rt;
         fault(alloc, &[(1, Command::Free(X))]),
+        Some(ProgramFault::FallsOff)
+    );
+    assert_eq!(rt;
+        fault(alloc, &[(1, Command::IfAny(1))]),
         Some(ProgramFault::FallsOff)
     );
     assert_eq!(rt;
@@ -244,6 +252,26 @@ fn commands_fault_or_stop(rt: HostRuntime) -> Result<(), Fail> {
     Ok(())
 }
 
+/// `if * goto 3` at line 1 with this pick; the fields are not looked at.
+fn free_branch(alloc: Global, pick: u64) -> Result<Stepped, OutOfMemory> {
+    let lines = [
+        (1, Command::IfAny(3)),
+        (2, Command::Free(X)),
+        (3, Command::Stop),
+    ];
+    step_from(alloc, &lines, state(alloc, 1, &[4], 1, &[5])?, pick, &[9])
+}
+
+#[test]
+fn free_branches_take_0_and_1(rt: HostRuntime) -> Result<(), Fail> {
+    let alloc = rt.alloc();
+    assert!(rt; leads(free_branch(alloc, 0), 2, &[4], 1, &[5]));
+    assert!(rt; leads(free_branch(alloc, 1), 3, &[4], 1, &[5]));
+    assert!(rt; matches!(free_branch(alloc, 2), Ok(Stepped::BadPick)));
+    assert!(rt; matches!(free_branch(alloc, u64::MAX), Ok(Stepped::BadPick)));
+    Ok(())
+}
+
 fn run_from(
     alloc: Global,
     lines: &[(u32, Command)],
@@ -262,6 +290,15 @@ fn run_from(
         }
         Err(_) => Err(OutOfMemory),
     }
+}
+
+#[test]
+fn a_run_goes_past_free_branches(rt: HostRuntime) -> Result<(), Fail> {
+    let alloc = rt.alloc();
+    let lines = [(1, Command::IfAny(1)), (2, Command::Stop)];
+    let start = state(alloc, 1, &[], 0, &[])?;
+    assert_eq!(rt; run_from(alloc, &lines, start, 9), Ok(Ran::Stopped(1)));
+    Ok(())
 }
 
 /// Walks the list at x.

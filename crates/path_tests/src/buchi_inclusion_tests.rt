@@ -10,10 +10,11 @@ use std::alloc::Global;
 use std::test::Fail;
 use trace_pairs::{Edge, Node, ProofSystem, TraceGraph, is_graph, is_lasso, lasso_progresses};
 
-type Edges<'a> = &'a [(u32, &'a [(u8, u8, bool)])];
+/// For each edge of a node its target and its pairs.
+type Edges = &'static [(u32, &'static [(u8, u8, bool)])];
 
 /// A node with these positions and edges.
-fn node_of(alloc: Global, positions: &[u8], edges: Edges<'_>) -> Result<Node, OutOfMemory> {
+fn node_of(alloc: Global, positions: &[u8], edges: Edges) -> Result<Node, OutOfMemory> {
     let mut list = Vec::new(alloc);
     for (target, pairs) in edges {
         list.push(Edge::new(*target, pairs.to_vec(alloc)?))?;
@@ -22,7 +23,7 @@ fn node_of(alloc: Global, positions: &[u8], edges: Edges<'_>) -> Result<Node, Ou
 }
 
 /// The graph of nodes with positions 0 and 1 and these edges.
-fn graph_of(alloc: Global, nodes: &[Edges<'_>]) -> Result<TraceGraph, OutOfMemory> {
+fn graph_of(alloc: Global, nodes: &[Edges]) -> Result<TraceGraph, OutOfMemory> {
     let mut graph = TraceGraph::new(alloc);
     for edges in nodes {
         graph.push(node_of(alloc, &[0, 1], edges)?)?;
@@ -48,14 +49,14 @@ fn answer_on(alloc: Global, graph: &TraceGraph, limit: u32) -> Result<&'static s
 }
 
 /// The same, of nodes with positions 0 and 1.
-fn answer_of(alloc: Global, nodes: &[Edges<'_>], limit: u32) -> Result<&'static str, OutOfMemory> {
+fn answer_of(alloc: Global, nodes: &[Edges], limit: u32) -> Result<&'static str, OutOfMemory> {
     let graph = graph_of(alloc, nodes)?;
     answer_on(alloc, &graph, limit)
 }
 
 /// The nodes of the ring's proof for two predicates: an Unfold, whose first case takes four nodes and whose second gives
 /// the predicate's atom the place behind a cell, which a Frame takes away; twice, and then the link to node 0.
-const RING_OF_TWO: [(&[u8], Edges<'static>); 17] = [
+static RING_OF_TWO: &[(&[u8], Edges)] = &[
     (&[0], &[(1, &[]), (5, &[(0, 1, true)])]),
     (&[], &[(2, &[])]),
     (&[], &[(3, &[])]),
@@ -87,23 +88,34 @@ fn a_ring_of_seventeen_states(rt: HostRuntime) -> Result<(), Fail> {
     Ok(())
 }
 
+const PROGRESS: &[Edges] = &[&[(0, &[(0, 0, true)])]];
+
+const NO_PROGRESS: &[Edges] = &[&[(1, &[(0, 1, false)])], &[(0, &[(1, 0, false)])]];
+
+const EACH_ALONE: &[Edges] = &[&[(0, &[(0, 0, true)]), (0, &[(1, 1, true)])]];
+
+const IN_TURN: &[Edges] = &[&[
+    (0, &[(0, 0, true), (1, 1, false)]),
+    (0, &[(0, 0, false), (1, 1, true)]),
+]];
+
+/// Graphs of nodes with positions 0 and 1, limits on states, and what is answered.
+static ANSWERS: &[(&[Edges], u32, &str)] = &[
+    (PROGRESS, 0, "too many states"),
+    (PROGRESS, 1, "too many states"),
+    (PROGRESS, 2, "included"),
+    (NO_PROGRESS, 0, "too many states"),
+    (NO_PROGRESS, 100, "counter"),
+    (EACH_ALONE, 100, "counter"),
+    (IN_TURN, 100, "included"),
+];
+
 #[test]
 fn answers(rt: HostRuntime) -> Result<(), Fail> {
     let alloc = rt.alloc();
-    let progress: [Edges<'_>; 1] = [&[(0, &[(0, 0, true)])]];
-    assert_eq!(rt; answer_of(alloc, &progress, 0)?, "too many states");
-    assert_eq!(rt; answer_of(alloc, &progress, 1)?, "too many states");
-    assert_eq!(rt; answer_of(alloc, &progress, 2)?, "included");
-    let no_progress: [Edges<'_>; 2] = [&[(1, &[(0, 1, false)])], &[(0, &[(1, 0, false)])]];
-    assert_eq!(rt; answer_of(alloc, &no_progress, 0)?, "too many states");
-    assert_eq!(rt; answer_of(alloc, &no_progress, 100)?, "counter");
-    let each_alone: [Edges<'_>; 1] = [&[(0, &[(0, 0, true)]), (0, &[(1, 1, true)])]];
-    assert_eq!(rt; answer_of(alloc, &each_alone, 100)?, "counter");
-    let in_turn: [Edges<'_>; 1] = [&[
-        (0, &[(0, 0, true), (1, 1, false)]),
-        (0, &[(0, 0, false), (1, 1, true)]),
-    ]];
-    assert_eq!(rt; answer_of(alloc, &in_turn, 100)?, "included");
+    for (nodes, limit, wanted) in ANSWERS {
+        assert_eq!(rt; answer_of(alloc, nodes, *limit)?, *wanted);
+    }
     Ok(())
 }
 
@@ -179,7 +191,7 @@ impl ProofSystem for Plain {
 /// What `check_system` answers of a graph of two nodes.
 fn check_of(
     alloc: Global,
-    nodes: &[Edges<'_>],
+    nodes: &[Edges],
     faulty: u32,
     limit: u32,
 ) -> Result<&'static str, OutOfMemory> {
@@ -200,14 +212,21 @@ fn check_of(
     }
 }
 
+const FORTH_AND_BACK: &[Edges] = &[&[(1, &[(0, 0, true)])], &[(0, &[(0, 0, false)])]];
+
+/// Graphs of two nodes, the node that is said to be faulty, limits on states, and what is answered.
+static CHECKS: &[(&[Edges], u32, u32, &str)] = &[
+    (FORTH_AND_BACK, 2, 100, "accepted"),
+    (FORTH_AND_BACK, 1, 100, "faulty 1"),
+    (FORTH_AND_BACK, 2, 1, "too many states"),
+    (NO_PROGRESS, 2, 100, "path refused"),
+];
+
 #[test]
 fn proof_systems(rt: HostRuntime) -> Result<(), Fail> {
     let alloc = rt.alloc();
-    let progress: [Edges<'_>; 2] = [&[(1, &[(0, 0, true)])], &[(0, &[(0, 0, false)])]];
-    assert_eq!(rt; check_of(alloc, &progress, 2, 100)?, "accepted");
-    assert_eq!(rt; check_of(alloc, &progress, 1, 100)?, "faulty 1");
-    assert_eq!(rt; check_of(alloc, &progress, 2, 1)?, "too many states");
-    let no_progress: [Edges<'_>; 2] = [&[(1, &[(0, 1, false)])], &[(0, &[(1, 0, false)])]];
-    assert_eq!(rt; check_of(alloc, &no_progress, 2, 100)?, "path refused");
+    for (nodes, faulty, limit, wanted) in CHECKS {
+        assert_eq!(rt; check_of(alloc, nodes, *faulty, *limit)?, *wanted);
+    }
     Ok(())
 }

@@ -1,431 +1,312 @@
 // Each cause of a fault, and the links of small judgements.
-ghost use Rattle.std.specs.Prelude.{◌≤◌, ◌<◌, length};
-
+use crate::texts::file;
 use back_links::{all_links, link_fault};
-use heap_formula::{
-    Args, Disjuncts, Heap, Judgement, Link, OutOfMemory, Positions, Pure, RuleFault, Spatial,
-    Subst, Term,
-};
+use cyc_memory::OutOfMemory;
+use heap_formula::{Link, Reason, RuleFault};
+use proof_file::{FileNode, ProofFile};
 use std::alloc::Global;
 use std::test::Fail;
 
-const V0: Term = Term::Univ(0);
+/// What judgements name: two predicates, and four lines.
+const NAMES: &[u8] = b"cyclist proof 1;
+pred p(1) { true : emp };
+pred q(2) { true : emp };
+line 1 : stop;
+line 2 : stop;
+line 3 : stop;
+line 4 : stop;
+";
 
-const V1: Term = Term::Univ(1);
-
-const V2: Term = Term::Univ(2);
-
-const V3: Term = Term::Univ(3);
-
-const V4: Term = Term::Univ(4);
-
-const NIL: Term = Term::Nil;
-
-/// The parts of a link.
-#[derive(Clone, Copy)]
-struct LinkParts<'a> {
-    places: &'a [u32],
-    pairs: &'a [(u16, Term)],
-    entries: &'a [u32],
+/// The file whose node 0 is the companion; node 1 and those behind it are the bud, by these links from node 2 on.
+fn file_of(alloc: Global, ends: Ends, links: &[&[u8]]) -> Result<ProofFile, Fail> {
+    let (bud, companion) = ends;
+    let mut text = Vec::from_slice(alloc, NAMES)?;
+    push_node(&mut text, companion, b"Done", b"")?;
+    push_node(&mut text, bud, b"Done", b"")?;
+    for link in links {
+        push_node(&mut text, bud, b"Link 7 ", link)?;
+    }
+    text.extend_from_slice(b"end;\n")?;
+    file(alloc, &text)
 }
 
-fn parts<'a>(places: &'a [u32], pairs: &'a [(u16, Term)], entries: &'a [u32]) -> LinkParts<'a> {
-    LinkParts {
-        places,
-        pairs,
-        entries,
+fn push_node(
+    text: &mut Vec<u8>,
+    judgement: &[u8],
+    reason: &[u8],
+    link: &[u8],
+) -> Result<(), OutOfMemory> {
+    for part in [b"node ", judgement, b" by ", reason, link, b";\n"] {
+        text.extend_from_slice(part)?;
+    }
+    Ok(())
+}
+
+/// A bud and its companion.
+type Ends = (&'static [u8], &'static [u8]);
+
+const MIXED: Ends = (
+    b"$2 != $3, $3 = $4 : p($2) * $4 -> (nil) |- $3 = $2 : p($2) or true : p($2) * p($2) or $2 = nil : p($2) or nil = nil : p($2)",
+    b"$0 != $1 : p($0) * $1 -> (nil) |- $0 = $1 : p($0)",
+);
+
+const TWICE: &[u8] = b"true : p($0) * p($0) |- true : emp";
+
+const ONCE: &[u8] = b"true : p($0) |- true : emp";
+
+const FROM_1: &[u8] = b"from 1 given true : p($0)";
+
+const FROM_2: &[u8] = b"from 2 given true : p($0)";
+
+const PURE_0: Option<RuleFault> = Some(RuleFault::LinkPure(0));
+
+const SPATIAL_0: Option<RuleFault> = Some(RuleFault::LinkSpatial(0));
+
+const SPATIAL_1: Option<RuleFault> = Some(RuleFault::LinkSpatial(1));
+
+const SPATIAL_2: Option<RuleFault> = Some(RuleFault::LinkSpatial(2));
+
+const DISJUNCT_0: Option<RuleFault> = Some(RuleFault::LinkDisjunct(0));
+
+const DISJUNCT_1: Option<RuleFault> = Some(RuleFault::LinkDisjunct(1));
+
+/// A bud and its companion, a link, and its fault, where there is one program variable.
+static FAULTS: &[(Ends, &[u8], Option<RuleFault>)] = &[
+    // pure and spatial atoms
+    (MIXED, b"{ $0 := $2, $1 := $3 } [0 1] [0]", None),
+    (MIXED, b"{ $0 := $2, $1 := $3, $1 := nil } [0 1] [0]", None),
+    (
+        MIXED,
+        b"{ $0 := $2, $1 := nil, $1 := $3 } [0 1] [0]",
+        PURE_0,
+    ),
+    (MIXED, b"{ $0 := $2, $1 := $2 } [0 1] [0]", PURE_0),
+    (MIXED, b"{ $0 := $2, $1 := $3 } [] [0]", SPATIAL_0),
+    (MIXED, b"{ $0 := $2, $1 := $3 } [0] [0]", SPATIAL_1),
+    (MIXED, b"{ $0 := $2, $1 := $3 } [0 2] [0]", SPATIAL_1),
+    (MIXED, b"{ $0 := $2, $1 := $3 } [1 0] [0]", SPATIAL_0),
+    (MIXED, b"{ $0 := $2, $1 := $3 } [0 1 1] [0]", SPATIAL_2),
+    // disjuncts
+    (MIXED, b"{ $0 := $2, $1 := $3 } [0 1] [3]", None),
+    (MIXED, b"{ $0 := $2, $1 := $3 } [0 1] []", DISJUNCT_0),
+    (MIXED, b"{ $0 := $2, $1 := $3 } [0 1] [4]", DISJUNCT_0),
+    (MIXED, b"{ $0 := $2, $1 := $3 } [0 1] [1]", DISJUNCT_0),
+    (MIXED, b"{ $0 := $2, $1 := $3 } [0 1] [2]", DISJUNCT_0),
+    (MIXED, b"{ $0 := $2, $1 := $3 } [0 1] [0 0]", DISJUNCT_1),
+    // an atom that is left
+    ((TWICE, TWICE), b"{ $0 := $0 } [0 0] [0]", SPATIAL_1),
+    ((TWICE, ONCE), b"{ $0 := $0 } [0] [0]", SPATIAL_1),
+    // claims of termination
+    (
+        (ONCE, FROM_1),
+        b"{ $0 := $0 } [0] []",
+        Some(RuleFault::WrongJudgement),
+    ),
+    (
+        (FROM_1, ONCE),
+        b"{ $0 := $0 } [0] [0]",
+        Some(RuleFault::WrongJudgement),
+    ),
+    (
+        (FROM_1, FROM_2),
+        b"{ $0 := $0 } [0] []",
+        Some(RuleFault::LineDiffers),
+    ),
+    (
+        (FROM_1, FROM_1),
+        b"{ $0 := nil } [0] []",
+        Some(RuleFault::LinkProgramVariable),
+    ),
+    ((FROM_1, FROM_1), b"{ $0 := $0 } [0] [0]", DISJUNCT_0),
+    ((FROM_1, FROM_1), b"{ $0 := $0 } [0] []", None),
+];
+
+fn fault(alloc: Global, ends: Ends, link: &[u8]) -> Result<Option<RuleFault>, Fail> {
+    let file = file_of(alloc, ends, &[link])?;
+    let [companion, _, bud] = file.nodes.as_slice() else {
+        return Err(Fail::from("not three nodes"));
+    };
+    match &bud.reason {
+        Reason::Back(link) => Ok(link_fault(&bud.judgement, &companion.judgement, link, 1)),
+        Reason::Step(_) => Err(Fail::from("no link")),
     }
 }
 
-fn one(t: Term) -> Spatial {
-    Spatial::Pred(0, Args::from_slice(&[t]))
+#[test]
+fn faults_of_links(rt: HostRuntime) -> Result<(), Fail> {
+    let alloc = rt.alloc();
+    for (ends, link, wanted) in FAULTS {
+        assert_eq!(rt; fault(alloc, *ends, link)?, *wanted);
+    }
+    Ok(())
 }
 
-fn two(t: Term, u: Term) -> Spatial {
-    Spatial::Pred(1, Args::from_slice(&[t, u]))
+const CELL: Ends = (
+    b"$1 = $2 : $1 -> (nil) |- true : emp",
+    b"true : $0 -> (nil) |- true : emp",
+);
+
+const FREE: Ends = (
+    b"true : emp |- true : emp or $1 = $1 : emp",
+    b"true : emp |- $0 = $0 : emp",
+);
+
+const RUN: &[u8] = b"from 3 given true : p($0) * p($1)";
+
+const RING: &[u8] = b"true : q($0, $1) * q($1, $0) |- true : emp";
+
+/// A bud and its companion, the number of program variables, how many links are wanted at most, and the links in order.
+static LINKS: &[(Ends, u16, u32, &[&[u8]])] = &[
+    (
+        (TWICE, TWICE),
+        1,
+        9,
+        &[b"{ $0 := $0 } [0 1] [0]", b"{ $0 := $0 } [1 0] [0]"],
+    ),
+    (
+        (b"true : $1 -> (nil) * p($0) |- true : emp", TWICE),
+        1,
+        9,
+        &[],
+    ),
+    (
+        CELL,
+        1,
+        2,
+        &[b"{ $0 := $1 } [0] [0]", b"{ $0 := $2 } [0] [0]"],
+    ),
+    (CELL, 1, 1, &[b"{ $0 := $1 } [0] [0]"]),
+    (CELL, 1, 0, &[]),
+    // by value and then by disjunct, without atoms on the left
+    (
+        FREE,
+        1,
+        9,
+        &[
+            b"{ $0 := nil } [] [0]",
+            b"{ $0 := nil } [] [1]",
+            b"{ $0 := $1 } [] [0]",
+            b"{ $0 := $1 } [] [1]",
+        ],
+    ),
+    (
+        FREE,
+        1,
+        3,
+        &[
+            b"{ $0 := nil } [] [0]",
+            b"{ $0 := nil } [] [1]",
+            b"{ $0 := $1 } [] [0]",
+        ],
+    ),
+    // `$0` is a program variable
+    (
+        (b"from 3 given true : p($1) * p($0)", RUN),
+        1,
+        9,
+        &[b"{ $0 := $0, $1 := $1 } [1 0] []"],
+    ),
+    (
+        (b"from 3 given true : p($1) * p($0) * p($2)", RUN),
+        1,
+        9,
+        &[
+            b"{ $0 := $0, $1 := $1 } [1 0] []",
+            b"{ $0 := $0, $1 := $2 } [1 2] []",
+        ],
+    ),
+    ((b"from 3 given true : p($1) * p($2)", RUN), 1, 9, &[]),
+    ((b"from 4 given true : p($1) * p($0)", RUN), 1, 9, &[]),
+    // those of the 72 with values among nil, `$2` and `$3` that have no fault
+    (
+        (
+            b"$2 = $3 : q($2, $3) * q($3, $2) |- true : emp or true : emp",
+            RING,
+        ),
+        0,
+        99,
+        &[
+            b"{ $0 := $2, $1 := $2 } [0 1] [0]",
+            b"{ $0 := $2, $1 := $2 } [0 1] [1]",
+            b"{ $0 := $2, $1 := $3 } [0 1] [0]",
+            b"{ $0 := $2, $1 := $3 } [0 1] [1]",
+            b"{ $0 := $3, $1 := $2 } [0 1] [0]",
+            b"{ $0 := $3, $1 := $2 } [0 1] [1]",
+            b"{ $0 := $3, $1 := $3 } [0 1] [0]",
+            b"{ $0 := $3, $1 := $3 } [0 1] [1]",
+            b"{ $0 := $2, $1 := $2 } [1 0] [0]",
+            b"{ $0 := $2, $1 := $2 } [1 0] [1]",
+            b"{ $0 := $2, $1 := $3 } [1 0] [0]",
+            b"{ $0 := $2, $1 := $3 } [1 0] [1]",
+            b"{ $0 := $3, $1 := $2 } [1 0] [0]",
+            b"{ $0 := $3, $1 := $2 } [1 0] [1]",
+            b"{ $0 := $3, $1 := $3 } [1 0] [0]",
+            b"{ $0 := $3, $1 := $3 } [1 0] [1]",
+        ],
+    ),
+    (
+        (
+            b"true : q($2, $3) * q($3, $2) |- true : emp or true : emp",
+            RING,
+        ),
+        0,
+        99,
+        &[
+            b"{ $0 := $2, $1 := $3 } [0 1] [0]",
+            b"{ $0 := $2, $1 := $3 } [0 1] [1]",
+            b"{ $0 := $3, $1 := $2 } [1 0] [0]",
+            b"{ $0 := $3, $1 := $2 } [1 0] [1]",
+        ],
+    ),
+];
+
+fn is_link(reason: &Reason, link: &Link) -> bool {
+    match reason {
+        Reason::Back(other) => {
+            other.target == link.target
+                && other.map.as_slice() == link.map.as_slice()
+                && other.subst.pairs() == link.subst.pairs()
+                && other.disjuncts.as_slice() == link.disjuncts.as_slice()
+        }
+        Reason::Step(_) => false,
+    }
 }
 
-fn cell(t: Term) -> Spatial {
-    Spatial::Cell(t, Args::from_slice(&[NIL]))
-}
-
-fn places(alloc: Global, numbers: &[u32]) -> Result<Positions, OutOfMemory> {
-    let mut all = Vec::new(alloc);
-    all.extend_from_slice(numbers)?;
-    Ok(Positions::from_vec(all))
-}
-
-fn link(alloc: Global, row: LinkParts<'_>) -> Result<Link, OutOfMemory> {
-    let mut pairs = Vec::new(alloc);
-    pairs.extend_from_slice(row.pairs)?;
-    Ok(Link {
-        target: 7,
-        subst: Subst::from_vec(pairs),
-        map: places(alloc, row.places)?,
-        disjuncts: places(alloc, row.entries)?,
-    })
-}
-
-fn is_made_of(link: &Link, row: LinkParts<'_>) -> bool {
-    link.target == 7
-        && link.map.as_slice() == row.places
-        && link.subst.pairs() == row.pairs
-        && link.disjuncts.as_slice() == row.entries
-}
-
-fn are_made_of(links: &[Link], rows: &[LinkParts<'_>]) -> bool {
-    if links.len() != rows.len() {
+fn are_links(nodes: &[FileNode], links: &[Link]) -> bool {
+    if nodes.len() != links.len() {
         return false;
     }
-    for (i, link) in links.iter().enumerate() {
-        if !is_made_of(link, rows[i]) {
+    for (i, node) in nodes.iter().enumerate() {
+        if !is_link(&node.reason, &links[i]) {
             return false;
         }
     }
     true
 }
 
-fn are_same(links: &[Link], others: &[Link]) -> bool {
-    if links.len() != others.len() {
-        return false;
-    }
-    for (i, link) in links.iter().enumerate() {
-        let other = &others[i];
-        let whole = parts(
-            other.map.as_slice(),
-            other.subst.pairs(),
-            other.disjuncts.as_slice(),
-        );
-        if !is_made_of(link, whole) {
-            return false;
-        }
-    }
-    true
-}
-
-fn faults(
-    alloc: Global,
-    bud: &Judgement,
-    companion: &Judgement,
-    rows: &[LinkParts<'_>],
-) -> Result<Vec<Option<RuleFault>>, OutOfMemory> {
-    let mut all = Vec::new(alloc);
-    for row in rows {
-        all.push(link_fault(bud, companion, &link(alloc, *row)?, 1))?;
-    }
-    Ok(all)
-}
-
-/// `$2 != $3, $3 = $4 : P0($2) * $4 -> (nil) |- $3 = $2 : P0($2) | P0($2) * P0($2) | $2 = nil : P0($2) | nil = nil : P0($2)`
-fn mixed_bud(alloc: Global) -> Result<Judgement, OutOfMemory> {
-    let a = Heap::from_slices(
-        alloc,
-        &[Pure::Neq(V2, V3), Pure::Eq(V3, V4)],
-        &[one(V2), cell(V4)],
-    )?;
-    let mut all = Vec::new(alloc);
-    all.push(Heap::from_slices(alloc, &[Pure::Eq(V3, V2)], &[one(V2)])?)?;
-    all.push(Heap::from_slices(alloc, &[], &[one(V2), one(V2)])?)?;
-    all.push(Heap::from_slices(alloc, &[Pure::Eq(V2, NIL)], &[one(V2)])?)?;
-    all.push(Heap::from_slices(alloc, &[Pure::Eq(NIL, NIL)], &[one(V2)])?)?;
-    Ok(Judgement::Entail(a, Disjuncts::from_slice(alloc, &all[..])?))
-}
-
-/// `$0 != $1 : P0($0) * $1 -> (nil) |- $0 = $1 : P0($0)`
-fn mixed_companion(alloc: Global) -> Result<Judgement, OutOfMemory> {
-    let a = Heap::from_slices(alloc, &[Pure::Neq(V0, V1)], &[one(V0), cell(V1)])?;
-    let b = Heap::from_slices(alloc, &[Pure::Eq(V0, V1)], &[one(V0)])?;
-    Ok(Judgement::Entail(a, Disjuncts::single(alloc, b)?))
-}
-
-/// The atoms entail the empty heap.
-fn to_empty(alloc: Global, pure: &[Pure], atoms: &[Spatial]) -> Result<Judgement, OutOfMemory>
-    requires pure_fits { length pure.now ≤ 64 }
-    requires atoms_fit { length atoms.now ≤ 32 }
-{
-    Ok(Judgement::Entail(
-        Heap::from_slices(alloc, pure, atoms)?,
-        Disjuncts::single(alloc, Heap::new(alloc))?,
-    ))
-}
-
-fn from(alloc: Global, line: u32, atoms: &[Spatial]) -> Result<Judgement, OutOfMemory>
-    requires { length atoms.now ≤ 32 }
-{
-    Ok(Judgement::Term(line, Heap::from_slices(alloc, &[], atoms)?))
-}
-
-#[test]
-fn faults_of_atoms(rt: HostRuntime) -> Result<(), Fail> {
-    let alloc = rt.alloc();
-    let right = [(0, V2), (1, V3)];
-    let rows = [
-        parts(&[0, 1], &right, &[0]),
-        parts(&[0, 1], &[(0, V2), (1, V3), (1, NIL)], &[0]),
-        parts(&[0, 1], &[(0, V2), (1, NIL), (1, V3)], &[0]),
-        parts(&[0, 1], &[(0, V2), (1, V2)], &[0]),
-        parts(&[], &right, &[0]),
-        parts(&[0], &right, &[0]),
-        parts(&[0, 2], &right, &[0]),
-        parts(&[1, 0], &right, &[0]),
-        parts(&[0, 1, 1], &right, &[0]),
-    ];
-    let wanted = [
-        None,
-        None,
-        Some(RuleFault::LinkPure(0)),
-        Some(RuleFault::LinkPure(0)),
-        Some(RuleFault::LinkSpatial(0)),
-        Some(RuleFault::LinkSpatial(1)),
-        Some(RuleFault::LinkSpatial(1)),
-        Some(RuleFault::LinkSpatial(0)),
-        Some(RuleFault::LinkSpatial(2)),
-    ];
-    let found = faults(alloc, &mixed_bud(alloc)?, &mixed_companion(alloc)?, &rows)?;
-    assert_eq!(rt; found.as_slice(), wanted.as_slice());
-    Ok(())
-}
-
-#[test]
-fn faults_of_disjuncts(rt: HostRuntime) -> Result<(), Fail> {
-    let alloc = rt.alloc();
-    let right = [(0, V2), (1, V3)];
-    let rows = [
-        parts(&[0, 1], &right, &[3]),
-        parts(&[0, 1], &right, &[]),
-        parts(&[0, 1], &right, &[4]),
-        parts(&[0, 1], &right, &[1]),
-        parts(&[0, 1], &right, &[2]),
-        parts(&[0, 1], &right, &[0, 0]),
-    ];
-    let wanted = [
-        None,
-        Some(RuleFault::LinkDisjunct(0)),
-        Some(RuleFault::LinkDisjunct(0)),
-        Some(RuleFault::LinkDisjunct(0)),
-        Some(RuleFault::LinkDisjunct(0)),
-        Some(RuleFault::LinkDisjunct(1)),
-    ];
-    let found = faults(alloc, &mixed_bud(alloc)?, &mixed_companion(alloc)?, &rows)?;
-    assert_eq!(rt; found.as_slice(), wanted.as_slice());
-    Ok(())
-}
-
-fn fault_of(
-    alloc: Global,
-    bud: &Judgement,
-    companion: &Judgement,
-    whole: LinkParts<'_>,
-) -> Result<Option<RuleFault>, OutOfMemory> {
-    Ok(link_fault(bud, companion, &link(alloc, whole)?, 1))
-}
-
-#[test]
-fn faults_of_left_atoms(rt: HostRuntime) -> Result<(), Fail> {
-    let alloc = rt.alloc();
-    let like = to_empty(alloc, &[], &[one(V0), one(V0)])?;
-    let less = to_empty(alloc, &[], &[one(V0)])?;
-    let twice = parts(&[0, 0], &[(0, V0)], &[0]);
-    let first = parts(&[0], &[(0, V0)], &[0]);
-    let left = Some(RuleFault::LinkSpatial(1));
-    assert_eq!(rt; fault_of(alloc, &like, &like, twice), Ok(left));
-    assert_eq!(rt; fault_of(alloc, &like, &less, first), Ok(left));
-    Ok(())
-}
-
-#[test]
-fn faults_of_runs(rt: HostRuntime) -> Result<(), Fail> {
-    let alloc = rt.alloc();
-    let less = to_empty(alloc, &[], &[one(V0)])?;
-    let runs = from(alloc, 1, &[one(V0)])?;
-    let later = from(alloc, 2, &[one(V0)])?;
-    let first = parts(&[0], &[(0, V0)], &[0]);
-    let alone = parts(&[0], &[(0, V0)], &[]);
-    let moved = parts(&[0], &[(0, NIL)], &[]);
-    let wrong = Some(RuleFault::WrongJudgement);
-    let sent = Some(RuleFault::LinkProgramVariable);
-    let long = Some(RuleFault::LinkDisjunct(0));
-    assert_eq!(rt; fault_of(alloc, &less, &runs, alone), Ok(wrong));
-    assert_eq!(rt; fault_of(alloc, &runs, &less, first), Ok(wrong));
-    assert_eq!(rt;
-        fault_of(alloc, &runs, &later, alone),
-        Ok(Some(RuleFault::LineDiffers))
-    );
-    assert_eq!(rt; fault_of(alloc, &runs, &runs, moved), Ok(sent));
-    assert_eq!(rt; fault_of(alloc, &runs, &runs, first), Ok(long));
-    assert_eq!(rt; fault_of(alloc, &runs, &runs, alone), Ok(None));
-    Ok(())
-}
-
+/// Whether these are the links of a bud to its companion.
 fn has_links(
     alloc: Global,
-    bud: &Judgement,
-    companion: &Judgement,
+    ends: Ends,
+    variables: u16,
     most: u32,
-    rows: &[LinkParts<'_>],
-) -> Result<bool, OutOfMemory> {
-    Ok(are_made_of(&all_links(alloc, bud, companion, 7, 1, most)?, rows))
-}
-
-#[test]
-fn links_of_like_atoms(rt: HostRuntime) -> Result<(), Fail> {
-    let alloc = rt.alloc();
-    let like = to_empty(alloc, &[], &[one(V0), one(V0)])?;
-    let swapped = [
-        parts(&[0, 1], &[(0, V0)], &[0]),
-        parts(&[1, 0], &[(0, V0)], &[0]),
-    ];
-    assert_eq!(rt; has_links(alloc, &like, &like, 9, &swapped), Ok(true));
-    let bud = to_empty(alloc, &[], &[cell(V1), one(V0)])?;
-    assert_eq!(rt; has_links(alloc, &bud, &like, 9, &[]), Ok(true));
-    Ok(())
-}
-
-#[test]
-fn links_of_a_cell(rt: HostRuntime) -> Result<(), Fail> {
-    let alloc = rt.alloc();
-    let bud = to_empty(alloc, &[Pure::Eq(V1, V2)], &[cell(V1)])?;
-    let companion = to_empty(alloc, &[], &[cell(V0)])?;
-    let equated = [parts(&[0], &[(0, V1)], &[0]), parts(&[0], &[(0, V2)], &[0])];
-    assert_eq!(rt; has_links(alloc, &bud, &companion, 2, &equated), Ok(true));
-    assert_eq!(rt;
-        has_links(alloc, &bud, &companion, 1, &equated[..1]),
-        Ok(true)
-    );
-    assert_eq!(rt; has_links(alloc, &bud, &companion, 0, &[]), Ok(true));
-    Ok(())
-}
-
-/// `|- true : emp | $1 = $1 : emp`, without atoms on the left
-fn free_bud(alloc: Global) -> Result<Judgement, OutOfMemory> {
-    let mut all = Vec::new(alloc);
-    all.push(Heap::new(alloc))?;
-    all.push(Heap::from_slices(alloc, &[Pure::Eq(V1, V1)], &[])?)?;
-    Ok(Judgement::Entail(Heap::new(alloc), Disjuncts::from_slice(alloc, &all[..])?))
-}
-
-#[test]
-fn links_by_value_then_by_disjunct(rt: HostRuntime) -> Result<(), Fail> {
-    let alloc = rt.alloc();
-    let bud = free_bud(alloc)?;
-    let right = Heap::from_slices(alloc, &[Pure::Eq(V0, V0)], &[])?;
-    let companion = Judgement::Entail(Heap::new(alloc), Disjuncts::single(alloc, right)?);
-    let rows = [
-        parts(&[], &[(0, NIL)], &[0]),
-        parts(&[], &[(0, NIL)], &[1]),
-        parts(&[], &[(0, V1)], &[0]),
-        parts(&[], &[(0, V1)], &[1]),
-    ];
-    assert_eq!(rt; has_links(alloc, &bud, &companion, 9, &rows), Ok(true));
-    assert_eq!(rt; has_links(alloc, &bud, &companion, 3, &rows[..3]), Ok(true));
-    Ok(())
-}
-
-/// Whether these are the links to `from 3 given true : P0($0) * P0($1)`, where `$0` is a program variable.
-fn has_run_links(
-    alloc: Global,
-    line: u32,
-    atoms: &[Spatial],
-    rows: &[LinkParts<'_>],
-) -> Result<bool, OutOfMemory>
-    requires { length atoms.now ≤ 32 }
-{
-    let companion = from(alloc, 3, &[one(V0), one(V1)])?;
-    has_links(alloc, &from(alloc, line, atoms)?, &companion, 9, rows)
-}
-
-#[test]
-fn links_of_runs(rt: HostRuntime) -> Result<(), Fail> {
-    let alloc = rt.alloc();
-    let turned = [one(V1), one(V0)];
-    let lacking = [one(V1), one(V2)];
-    let longer = [one(V1), one(V0), one(V2)];
-    let rows = [
-        parts(&[1, 0], &[(0, V0), (1, V1)], &[]),
-        parts(&[1, 2], &[(0, V0), (1, V2)], &[]),
-    ];
-    assert_eq!(rt; has_run_links(alloc, 3, &turned, &rows[..1]), Ok(true));
-    assert_eq!(rt; has_run_links(alloc, 3, &longer, &rows), Ok(true));
-    assert_eq!(rt; has_run_links(alloc, 3, &lacking, &[]), Ok(true));
-    assert_eq!(rt; has_run_links(alloc, 4, &turned, &[]), Ok(true));
-    Ok(())
-}
-
-fn add_right(
-    alloc: Global,
-    bud: &Judgement,
-    companion: &Judgement,
-    row: LinkParts<'_>,
-    all: &mut Vec<Link>,
-) -> Result<(), OutOfMemory> {
-    let link = link(alloc, row)?;
-    if link_fault(bud, companion, &link, 0).is_none() {
-        all.push(link)?;
+    wanted: &[&[u8]],
+) -> Result<bool, Fail> {
+    let file = file_of(alloc, ends, wanted)?;
+    let nodes = file.nodes.as_slice();
+    if nodes.len() < 2 {
+        return Err(Fail::from("no bud"));
     }
-    Ok(())
-}
-
-fn add_of_map(
-    alloc: Global,
-    bud: &Judgement,
-    companion: &Judgement,
-    places: &[u32],
-    all: &mut Vec<Link>,
-) -> Result<(), OutOfMemory> {
-    let values = [NIL, V2, V3];
-    for v in values {
-        for w in values {
-            for m in 0..2 {
-                add_right(
-                    alloc,
-                    bud,
-                    companion,
-                    parts(places, &[(0, v), (1, w)], &[m]),
-                    all,
-                )?;
-            }
-        }
-    }
-    Ok(())
-}
-
-/// All links of a bud with two atoms and two disjuncts, in which variables 2 and 3 stand, to a companion with two atoms
-/// and one disjunct, in which 0 and 1 stand: every candidate is tried.
-fn every_link(
-    alloc: Global,
-    bud: &Judgement,
-    companion: &Judgement,
-) -> Result<Vec<Link>, OutOfMemory> {
-    let mut all = Vec::new(alloc);
-    for m in 0..2 {
-        for k in 0..2 {
-            add_of_map(alloc, bud, companion, &[m, k], &mut all)?;
-        }
-    }
-    Ok(all)
-}
-
-/// Whether all links are those that trying every candidate finds, and are so many.
-fn is_complete(alloc: Global, pure: &[Pure], count: usize) -> Result<bool, OutOfMemory>
-    requires { length pure.now ≤ 64 }
-{
-    let companion = to_empty(alloc, &[], &[two(V0, V1), two(V1, V0)])?;
-    let mut empty = Vec::new(alloc);
-    empty.push(Heap::new(alloc))?;
-    empty.push(Heap::new(alloc))?;
-    let bud = Judgement::Entail(
-        Heap::from_slices(alloc, pure, &[two(V2, V3), two(V3, V2)])?,
-        Disjuncts::from_slice(alloc, &empty[..])?,
-    );
-    let found = all_links(alloc, &bud, &companion, 7, 0, 99)?;
-    let tried = every_link(alloc, &bud, &companion)?;
-    Ok(found.len() == count && are_same(&found, &tried))
+    let (bud, companion) = (&nodes[1].judgement, &nodes[0].judgement);
+    let links = all_links(alloc, bud, companion, 7, variables, most)?;
+    Ok(are_links(&nodes[2..], &links))
 }
 
 #[test]
-fn links_are_those_of_trying_all(rt: HostRuntime) -> Result<(), Fail> {
+fn all_links_in_order(rt: HostRuntime) -> Result<(), Fail> {
     let alloc = rt.alloc();
-    assert_eq!(rt; is_complete(alloc, &[Pure::Eq(V2, V3)], 16), Ok(true));
-    assert_eq!(rt; is_complete(alloc, &[], 4), Ok(true));
+    for (ends, variables, most, wanted) in LINKS {
+        assert!(rt; has_links(alloc, *ends, *variables, *most, wanted)?);
+    }
     Ok(())
 }

@@ -15,3 +15,5 @@ mod proof_file_tests;
 mod proof_graph_tests;
 #[cfg(test)]
 mod ring_family_tests;
+#[cfg(test)]
+mod texts;

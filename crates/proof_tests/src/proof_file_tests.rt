@@ -1,20 +1,9 @@
-use cyc_lex::{IllFault, ReadFault, What, WordWriter};
+use crate::texts::{fault_line, file};
 use cyc_memory::OutOfMemory;
-use heap_reader::Item;
-use proof_file::{read_file, upgrade, write_file};
+use cyc_texts::Line;
+use proof_file::{upgrade, write_file};
 use std::alloc::Global;
 use std::test::Fail;
-
-/// What is written of the file that a text spells.
-fn again(alloc: Global, bytes: &[u8]) -> Result<Vec<u8>, &'static str> {
-    if bytes.len() > 10000 {
-        return Err("long");
-    }
-    match read_file(alloc, bytes) {
-        Err(_) => Err("not read"),
-        Ok(file) => write_file(alloc, &file).map_err(|_| "no memory"),
-    }
-}
 
 const NO_DEFINITION: &[u8] = b"cyclist proof 1;
 node true : emp |- true : emp by Done;
@@ -91,50 +80,12 @@ node from 1 given true : list($0) by Exec;
 end;
 ";
 
-/// A text in the written form is written as it stands.
-#[test]
-fn writes_what_it_reads(rt: HostRuntime) -> Result<(), Fail> {
-    for text in [
-        NO_DEFINITION,
-        PREDICATES,
-        REASONS,
-        LIST,
-        COMMANDS,
-        SECOND_VERSION,
-    ] {
-        let written = again(rt.alloc(), text)?;
-        assert_eq!(rt; written.as_slice(), text);
-    }
-    Ok(())
-}
-
-/// What is written of the file that a text spells, as one of version 2.
-fn upgraded(alloc: Global, bytes: &[u8]) -> Result<Vec<u8>, &'static str> {
-    if bytes.len() > 10000 {
-        return Err("long");
-    }
-    match read_file(alloc, bytes) {
-        Err(_) => Err("not read"),
-        Ok(file) => write_file(alloc, &upgrade(file)).map_err(|_| "no memory"),
-    }
-}
-
 const FIRST_VERSION: &[u8] = b"cyclist proof 1;
 pred list(1) { $0 = nil : emp | true : $0 -> (?0) * list(?0) };
 line 1 : stop;
 node from 1 given true : list($0) by Exec;
 end;
 ";
-
-/// A file of either version is upgraded to version 2, with the same statements behind the first.
-#[test]
-fn upgrades_files(rt: HostRuntime) -> Result<(), Fail> {
-    for text in [FIRST_VERSION, SECOND_VERSION] {
-        let written = upgraded(rt.alloc(), text)?;
-        assert_eq!(rt; written.as_slice(), SECOND_VERSION);
-    }
-    Ok(())
-}
 
 const SPACED: &[u8] = b"# a proof
 cyclist   proof 1 ;pred flag ( 0 ){true:emp};
@@ -152,198 +103,177 @@ node true : emp |- true : emp by Instantiate ?3 $2;
 end;
 ";
 
-/// Spaces and comments are not kept.
+/// Texts, whether the file is upgraded, and what is written of it: a text in the written form as it stands, other spaces
+/// and comments not, and an upgraded file with version 2 and the same statements behind the first.
+static WRITTEN_TEXTS: &[(&[u8], bool, &[u8])] = &[
+    (NO_DEFINITION, false, NO_DEFINITION),
+    (PREDICATES, false, PREDICATES),
+    (REASONS, false, REASONS),
+    (LIST, false, LIST),
+    (COMMANDS, false, COMMANDS),
+    (SECOND_VERSION, false, SECOND_VERSION),
+    (SPACED, false, WRITTEN),
+    (FIRST_VERSION, true, SECOND_VERSION),
+    (SECOND_VERSION, true, SECOND_VERSION),
+];
+
+fn written(alloc: Global, bytes: &[u8], upgrades: bool) -> Result<Vec<u8>, Fail> {
+    let file = file(alloc, bytes)?;
+    if upgrades {
+        Ok(write_file(alloc, &upgrade(file))?)
+    } else {
+        Ok(write_file(alloc, &file)?)
+    }
+}
+
 #[test]
-fn writes_in_one_form(rt: HostRuntime) -> Result<(), Fail> {
-    let written = again(rt.alloc(), SPACED)?;
-    assert_eq!(rt; written.as_slice(), WRITTEN);
+fn files_are_written(rt: HostRuntime) -> Result<(), Fail> {
+    let alloc = rt.alloc();
+    for (text, upgrades, wanted) in WRITTEN_TEXTS {
+        let text = written(alloc, text, *upgrades)?;
+        assert_eq!(rt; text.as_slice(), *wanted);
+    }
     Ok(())
 }
 
-/// The number, line and column of a token.
-type Place = (u32, u32, u32);
-
-/// What is ill-formed or over a limit, and where.
-fn flaw(alloc: Global, bytes: &[u8]) -> Result<Option<(Item, Place)>, &'static str> {
-    if bytes.len() > 1000000 {
-        return Err("long");
-    }
-    match read_file(alloc, bytes) {
-        Ok(_) => Ok(None),
-        Err(
-            ReadFault::IllFormed {
-                fault,
-                token,
-                line,
-                column,
-            },
-        ) => Ok(Some((Item::Ill(fault), (token, line, column)))),
-        Err(
-            ReadFault::Limit {
-                what,
-                token,
-                line,
-                column,
-            },
-        ) => Ok(Some((Item::Over(what), (token, line, column)))),
-        Err(_) => Err("another fault"),
-    }
-}
-
-static FLAWS: &[(&[u8], Item, Place)] = &[
+/// Texts, and the line that tells their first flaw.
+static FLAWS: &[(&[u8], &[u8])] = &[
     (
         b"cyclist proof 1;\nline 2 : stop;\nnode true : emp |- true : emp by Done;\nend;",
-        Item::Ill(IllFault::Numbering),
-        (5, 2, 6),
+        b"ill-formed numbering token 5 line 2 column 6\n",
     ),
     (
         b"cyclist proof 1;\nline 1 : goto 2;\nline 1 : stop;\nnode true : emp |- true : emp by Done;\nend;",
-        Item::Ill(IllFault::Numbering),
-        (11, 3, 6),
+        b"ill-formed numbering token 11 line 3 column 6\n",
     ),
     (
         b"cyclist proof 1;\nline 1 : goto 0;\nnode true : emp |- true : emp by Done;\nend;",
-        Item::Ill(IllFault::Jump),
-        (8, 2, 15),
+        b"ill-formed jump token 8 line 2 column 15\n",
     ),
     (
         b"cyclist proof 1;\nline 1 : goto 2;\nnode true : emp |- true : emp by Done;\nend;",
-        Item::Ill(IllFault::Jump),
-        (8, 2, 15),
+        b"ill-formed jump token 8 line 2 column 15\n",
     ),
     (
         b"cyclist proof 1;\nline 1 : if $0 = nil goto 3;\nline 2 : stop;\nnode true : emp |- true : emp by Done;\nend;",
-        Item::Ill(IllFault::Jump),
-        (13, 2, 27),
+        b"ill-formed jump token 13 line 2 column 27\n",
     ),
     (
         b"cyclist proof 1;\nline 1 : $0 := nil;\nnode true : emp |- true : emp by Done;\nend;",
-        Item::Ill(IllFault::FallsOff),
-        (4, 2, 1),
+        b"ill-formed falls-off token 4 line 2 column 1\n",
     ),
     (
         b"cyclist proof 1;\nline 7 : free $64;\nnode true : emp |- true : emp by Done;\nend;",
-        Item::Ill(IllFault::FallsOff),
-        (4, 2, 1),
+        b"ill-formed falls-off token 4 line 2 column 1\n",
     ),
     (
         b"cyclist proof 1;\nline 1 : free $64;\nline 2 : stop;\nnode true : emp |- true : emp by Done;\nend;",
-        Item::Over(What::ProgramVariables),
-        (9, 2, 16),
+        b"limit program-variables token 9 line 2 column 16\n",
     ),
     (
         b"cyclist proof 1;\nline 1 : $63.8 := $64;\nline 2 : stop;\nnode true : emp |- true : emp by Done;\nend;",
-        Item::Over(What::ProgramVariables),
-        (13, 2, 20),
+        b"limit program-variables token 13 line 2 column 20\n",
     ),
     (
         b"cyclist proof 1;\nline 1 : $0 := new 0;\nline 2 : stop;\nnode true : emp |- true : emp by Done;\nend;",
-        Item::Over(What::Fields),
-        (11, 2, 20),
+        b"limit fields token 11 line 2 column 20\n",
     ),
     (
         b"cyclist proof 1;\nline 1 : $0 := $1.9;\nline 2 : stop;\nnode true : emp |- true : emp by Done;\nend;",
-        Item::Over(What::Fields),
-        (13, 2, 19),
+        b"limit fields token 13 line 2 column 19\n",
     ),
     (
         b"cyclist proof 1;\nline 1 : nil.9 := $64;\nline 2 : stop;\nnode true : emp |- true : emp by Done;\nend;",
-        Item::Over(What::Fields),
-        (9, 2, 14),
+        b"limit fields token 9 line 2 column 14\n",
     ),
     (
         b"cyclist proof 1;\nnode from 0 given true : emp by Exec;\nend;",
-        Item::Ill(IllFault::NoLine),
-        (6, 2, 11),
+        b"ill-formed no-line token 6 line 2 column 11\n",
     ),
     (
         b"cyclist proof 1;\nline 1 : stop;\nnode from 2 given true : p() by Exec;\nend;",
-        Item::Ill(IllFault::NoLine),
-        (11, 3, 11),
+        b"ill-formed no-line token 11 line 3 column 11\n",
     ),
     (
         b"cyclist proof 1;\nline 1 : stop;\nnode from 1 given true : p() by Exec;\nend;",
-        Item::Ill(IllFault::Unknown),
-        (15, 3, 26),
+        b"ill-formed unknown token 15 line 3 column 26\n",
     ),
     (
         b"cyclist proof 1;\nline 1 : stop;\nnode from 1 given $65535 = nil : emp by Exec;\nend;",
-        Item::Over(What::Variable),
-        (14, 3, 20),
+        b"limit variable token 14 line 3 column 20\n",
+    ),
+    // definitions, and what nodes say
+    (
+        b"cyclist proof 1;\npred p(1){$1=nil:emp};node true:emp|-true:emp by Done;\nend;\n",
+        b"ill-formed parameter token 11 line 2 column 12\n",
+    ),
+    (
+        b"cyclist proof 1;\npred p(1){?16=nil:emp};node true:emp|-true:emp by Done;\nend;\n",
+        b"limit locals token 11 line 2 column 12\n",
+    ),
+    (
+        b"cyclist proof 1;\npred p(9){true:emp};node true:emp|-true:emp by Done;\nend;\n",
+        b"limit arguments token 7 line 2 column 8\n",
+    ),
+    (
+        b"cyclist proof 1;\npred p(1){true:emp};node true:p()|-true:emp by Done;\nend;\n",
+        b"ill-formed arity token 18 line 2 column 31\n",
+    ),
+    (
+        b"cyclist proof 1;\nnode $65535=nil:emp|-true:emp by Done;\nend;\n",
+        b"limit variable token 6 line 2 column 7\n",
+    ),
+    (
+        b"cyclist proof 1;\nnode true:emp|-true:emp by Link 0{$65535:=nil}[][];\nend;\n",
+        b"limit variable token 17 line 2 column 36\n",
+    ),
+    (
+        b"cyclist proof 1;\nnode true:emp|-true:emp by Instantiate ?65535 nil;\nend;\n",
+        b"limit variable token 15 line 2 column 41\n",
     ),
 ];
 
-/// The first flaw of lines, and of judgements that start from a line.
+/// The first flaw of lines, of judgements that start from a line, and of definitions and nodes.
 #[test]
-fn finds_flaws_of_programs(rt: HostRuntime) -> Result<(), Fail> {
+fn finds_flaws(rt: HostRuntime) -> Result<(), Fail> {
     let alloc = rt.alloc();
-    for (text, item, place) in FLAWS {
-        assert_eq!(rt; flaw(alloc, text)?, Some((*item, *place)));
+    for (text, wanted) in FLAWS {
+        let line = fault_line(alloc, text)?;
+        assert_eq!(rt; line.as_slice(), *wanted);
     }
     Ok(())
 }
 
-fn numbered(writer: &mut WordWriter, number: u32) -> Result<(), OutOfMemory> {
-    writer.name("line")?;
-    writer.number(number)?;
-    writer.symbol(":")
-}
-
-/// The one node, at a line that is not there, and the end of the file.
-fn last_node(writer: &mut WordWriter) -> Result<(), OutOfMemory> {
-    writer.name("node")?;
-    writer.name("from")?;
-    writer.number(4098)?;
-    writer.name("given")?;
-    writer.name("true")?;
-    writer.symbol(":")?;
-    writer.name("emp")?;
-    writer.name("by")?;
-    writer.name("Exec")?;
-    writer.symbol(";")?;
-    writer.name("end")?;
-    writer.symbol(";")
-}
-
-/// A file of 4,097 lines, the last of which stops or frees a cell.
-fn many_lines(alloc: Global, stops: bool) -> Result<Vec<u8>, OutOfMemory> {
-    let mut writer = WordWriter::new(alloc);
-    writer.name("cyclist")?;
-    writer.name("proof")?;
-    writer.number(1)?;
-    writer.symbol(";")?;
-    for number in 1..4097 {
-        numbered(&mut writer, number)?;
-        writer.name("goto")?;
-        writer.number(4097)?;
-        writer.symbol(";")?;
+/// A file of 4,097 lines, the last of which is this command, and a node at a line that is not there.
+fn many_lines(alloc: Global, last: &str) -> Result<Vec<u8>, OutOfMemory> {
+    let mut text = Line::new(alloc);
+    text.text("cyclist proof 1;\n")?;
+    for number in 1..4097u64 {
+        text.text("line ")?;
+        text.number(number)?;
+        text.text(" : goto 4097;\n")?;
     }
-    numbered(&mut writer, 4097)?;
-    if stops {
-        writer.name("stop")?;
-    } else {
-        writer.name("free")?;
-        writer.name("nil")?;
-    }
-    writer.symbol(";")?;
-    last_node(&mut writer)?;
-    Ok(writer.finish())
+    text.text("line 4097 : ")?;
+    text.text(last)?;
+    text.text(";\nnode from 4098 given true : emp by Exec;\nend;")?;
+    text.end()
 }
 
 /// The line that is one too many; where it falls off too, that goes first. Jumps count it.
+static LAST_COMMANDS: &[(&str, &[u8])] = &[
+    ("stop", b"limit lines token 24580 line 4098 column 1\n"),
+    (
+        "free nil",
+        b"ill-formed falls-off token 24580 line 4098 column 1\n",
+    ),
+];
+
 #[test]
 fn counts_lines(rt: HostRuntime) -> Result<(), Fail> {
     let alloc = rt.alloc();
-    let place = (24580, 4098, 1);
-    let stops = many_lines(alloc, true)?;
-    assert_eq!(rt;
-        flaw(alloc, &stops)?,
-        Some((Item::Over(What::Lines), place))
-    );
-    let falls = many_lines(alloc, false)?;
-    assert_eq!(rt;
-        flaw(alloc, &falls)?,
-        Some((Item::Ill(IllFault::FallsOff), place))
-    );
+    for (last, wanted) in LAST_COMMANDS {
+        let line = fault_line(alloc, &many_lines(alloc, last)?)?;
+        assert_eq!(rt; line.as_slice(), *wanted);
+    }
     Ok(())
 }

@@ -2,6 +2,7 @@
 
 ghost use Rattle.std.specs.Prelude.{◌<◌};
 
+use cyc_texts::Line;
 use heap_formula::{
     Args, Disjuncts, Heap, Judgement, Link, Pair, Pairs, Positions, Reason, Rule, Spatial, Subst,
     Term, is_same_judgement,
@@ -12,6 +13,7 @@ use proof_graph::{
 };
 use std::alloc::Global;
 use std::test::Fail;
+use trace_pairs::Edge;
 
 /// The judgement of one heap: predicate 0 of nil, a cell, predicate 0 of nil.
 fn judgement_of(alloc: Global) -> Result<Judgement, OutOfMemory> {
@@ -37,27 +39,21 @@ fn pairs_of(alloc: Global) -> Result<PremisePairs, OutOfMemory> {
     Ok(PremisePairs::from_vec(vec![in alloc; Pairs::new(alloc), second]?))
 }
 
-/// Fills a slot, if there is one.
-fn fill(graph: &mut Graph, node: u32, i: u32, child: u32) -> Result<(), OutOfMemory> {
-    if node as usize >= graph.len() || child as usize >= graph.len() {
-        return Ok(());
-    }
-    if i as usize >= graph.node(node).premises.len() {
-        return Ok(());
-    }
-    graph.set_premise(node, i, child)
-}
-
-/// The targets of the edges of a node in the trace graph, and how many pairs each has.
-fn edges_of(alloc: Global, graph: &Graph, node: usize) -> Result<Vec<(u32, usize)>, OutOfMemory> {
-    let traces = graph.trace_graph()?;
-    let mut edges = Vec::new(alloc);
-    if let Some(node) = traces.node(node) {
-        for edge in node.edges() {
-            edges.push((edge.target(), edge.pairs().len()))?;
-        }
-    }
-    Ok(edges)
+/// A change of a graph.
+#[derive(Clone, Copy)]
+enum Change {
+    /// A node more.
+    Push,
+    /// The node holds by a rule with two premises.
+    Step(u32),
+    /// The node is linked to node 0.
+    Link(u32),
+    /// A slot of the node gets a node.
+    Fill(u32, u32, u32),
+    /// The node has no reason.
+    Clear(u32),
+    /// So many nodes are left.
+    Truncate(u32),
 }
 
 /// Gives a node a reason, if there is such a node.
@@ -68,46 +64,15 @@ fn give(graph: &mut Graph, node: u32, reason: &Reason, pairs: &PremisePairs) -> 
     Ok(())
 }
 
-/// Two nodes of one judgement; the first has two premises, and no node for either.
-fn two_nodes(alloc: Global) -> Result<Graph, Fail> {
-    let judgement = judgement_of(alloc)?;
-    let mut graph = Graph::new(alloc);
-    graph.push_node(&judgement)?;
-    graph.push_node(&judgement)?;
-    let reason = Reason::Step(Rule::Unfold(0));
-    give(&mut graph, 0, &reason, &pairs_of(alloc)?)?;
-    Ok(graph)
-}
-
-/// The same with both nodes as premises of the first.
-fn two_nodes_and_edges(alloc: Global) -> Result<Graph, Fail> {
-    let mut graph = two_nodes(alloc)?;
-    fill(&mut graph, 0, 1, 1)?;
-    fill(&mut graph, 0, 0, 0)?;
-    Ok(graph)
-}
-
-/// Whether these are the edges of a node.
-fn has_edges(
-    alloc: Global,
-    graph: &Graph,
-    node: usize,
-    edges: &[(u32, usize)],
-) -> Result<bool, Fail> {
-    Ok(edges_of(alloc, graph, node)?.as_slice() == edges)
-}
-
-#[test]
-fn filled_slots_are_edges(rt: HostRuntime) -> Result<(), Fail> {
-    let alloc = rt.alloc();
-    let mut graph = two_nodes(alloc)?;
-    assert!(rt; graph.len() == 2);
-    assert!(rt; has_edges(alloc, &graph, 0, &[])?);
-    fill(&mut graph, 0, 1, 1)?;
-    assert!(rt; has_edges(alloc, &graph, 0, &[(1, 1)])?);
-    fill(&mut graph, 0, 0, 0)?;
-    assert!(rt; has_edges(alloc, &graph, 0, &[(0, 0), (1, 1)])?);
-    Ok(())
+/// Fills a slot, if there is one.
+fn fill(graph: &mut Graph, node: u32, i: u32, child: u32) -> Result<(), OutOfMemory> {
+    if node as usize >= graph.len() || child as usize >= graph.len() {
+        return Ok(());
+    }
+    if i as usize >= graph.node(node).premises.len() {
+        return Ok(());
+    }
+    graph.set_premise(node, i, child)
 }
 
 /// A link to the first node, with one premise without pairs.
@@ -122,43 +87,88 @@ fn link(alloc: Global, graph: &mut Graph, node: u32) -> Result<(), Fail> {
     give(graph, node, &Reason::Back(link), &one)
 }
 
-#[test]
-fn a_link_is_an_edge(rt: HostRuntime) -> Result<(), Fail> {
-    let alloc = rt.alloc();
-    let mut graph = two_nodes(alloc)?;
-    assert!(rt; has_edges(alloc, &graph, 1, &[])?);
-    link(alloc, &mut graph, 1)?;
-    assert!(rt; has_edges(alloc, &graph, 1, &[(0, 0)])?);
-    assert!(rt; graph.len() == 2);
-    graph.clear_reason(1);
-    assert!(rt; graph.len() == 2);
-    assert!(rt; graph.node(1).reason.is_none() && graph.node(1).premises.is_empty());
-    assert!(rt; has_edges(alloc, &graph, 1, &[])?);
+fn make(alloc: Global, graph: &mut Graph, change: Change) -> Result<(), Fail> {
+    match change {
+        Change::Push => {
+            graph.push_node(&judgement_of(alloc)?)?;
+        }
+        Change::Step(node) => {
+            let reason = Reason::Step(Rule::Unfold(0));
+            give(graph, node, &reason, &pairs_of(alloc)?)?;
+        }
+        Change::Link(node) => link(alloc, graph, node)?,
+        Change::Fill(node, i, child) => fill(graph, node, i, child)?,
+        Change::Clear(node) => {
+            if (node as usize) < graph.len() {
+                graph.clear_reason(node);
+            }
+        }
+        Change::Truncate(n) => graph.truncate(n),
+    }
     Ok(())
 }
 
+fn push_edges(text: &mut Line, edges: &[Edge]) -> Result<(), OutOfMemory> {
+    for edge in edges {
+        text.text(" ")?;
+        text.number(edge.target() as u64)?;
+        text.text("/")?;
+        text.number(edge.pairs().len() as u64)?;
+    }
+    Ok(())
+}
+
+/// For each node whether it has a reason, how many premises, and for each of its edges the target and the number of pairs.
+fn shown(alloc: Global, graph: &Graph) -> Result<Vec<u8>, OutOfMemory> {
+    let mut text = Line::new(alloc);
+    let traces = graph.trace_graph()?;
+    let nodes = graph.copy_out()?;
+    for (i, node) in nodes.iter().enumerate() {
+        text.text(if node.reason.is_some() {
+            "reason "
+        } else {
+            "open "
+        })?;
+        text.number(node.premises.as_slice().len() as u64)?;
+        if let Some(node) = traces.node(i) {
+            push_edges(&mut text, node.edges())?;
+        }
+        text.text(";")?;
+    }
+    text.end()
+}
+
+/// Changes one after the other, and the graph after each.
+static CHANGES: &[(Change, &[u8])] = &[
+    (Change::Push, b"open 0;\n"),
+    (Change::Push, b"open 0;open 0;\n"),
+    // filled slots are edges
+    (Change::Step(0), b"reason 2;open 0;\n"),
+    (Change::Fill(0, 1, 1), b"reason 2 1/1;open 0;\n"),
+    (Change::Fill(0, 0, 0), b"reason 2 0/0 1/1;open 0;\n"),
+    // another reason has other edges
+    (Change::Step(0), b"reason 2;open 0;\n"),
+    // a link is an edge
+    (Change::Link(1), b"reason 2;reason 1 0/0;\n"),
+    (Change::Clear(1), b"reason 2;open 0;\n"),
+    // no edge leads to a node that is cut off
+    (Change::Fill(0, 1, 1), b"reason 2 1/1;open 0;\n"),
+    (Change::Fill(0, 0, 0), b"reason 2 0/0 1/1;open 0;\n"),
+    (Change::Truncate(1), b"reason 2 0/0;\n"),
+];
+
 #[test]
-fn a_graph_is_cut_back(rt: HostRuntime) -> Result<(), Fail> {
+fn a_graph_is_changed(rt: HostRuntime) -> Result<(), Fail> {
     let alloc = rt.alloc();
-    let mut graph = two_nodes_and_edges(alloc)?;
-    assert!(rt; graph.len() == 2);
-    graph.truncate(1);
-    assert!(rt; graph.len() == 1);
-    assert!(rt; has_edges(alloc, &graph, 0, &[(0, 0)])?);
+    let mut graph = Graph::new(alloc);
+    for (change, wanted) in CHANGES {
+        make(alloc, &mut graph, *change)?;
+        assert_eq!(rt; shown(alloc, &graph)?.as_slice(), *wanted);
+    }
     let copies = graph.copy_out()?;
     assert!(rt; copies.len() == 1 && copies[0].reason.is_some());
     assert!(rt; graph.len() == 1);
     assert!(rt; is_same_judgement(&graph.judgement(0)?, &copies[0].judgement));
-    Ok(())
-}
-
-#[test]
-fn another_reason_has_other_edges(rt: HostRuntime) -> Result<(), Fail> {
-    let alloc = rt.alloc();
-    let mut graph = two_nodes_and_edges(alloc)?;
-    let reason = Reason::Step(Rule::Unfold(0));
-    give(&mut graph, 0, &reason, &pairs_of(alloc)?)?;
-    assert!(rt; has_edges(alloc, &graph, 0, &[])?);
     Ok(())
 }
 
@@ -170,10 +180,15 @@ fn the_limit(rt: HostRuntime) -> Result<(), Fail> {
     for number in 0..20000 {
         assert_eq!(rt; graph.push_node(&judgement)?, number);
     }
-    assert_eq!(rt; graph.push_node(&judgement), Err(GraphFault::TooManyNodes));
+    let full = graph.push_node(&judgement);
     graph.truncate(19999);
-    assert_eq!(rt; graph.push_node(&judgement)?, 19999);
-    assert_eq!(rt; graph.push_node(&judgement), Err(GraphFault::TooManyNodes));
+    let answers = [
+        full,
+        graph.push_node(&judgement),
+        graph.push_node(&judgement),
+    ];
+    let many = Err(GraphFault::TooManyNodes);
+    assert_eq!(rt; answers, [many, Ok(19999), many]);
     Ok(())
 }
 
@@ -181,11 +196,9 @@ fn the_limit(rt: HostRuntime) -> Result<(), Fail> {
 #[test]
 fn parts_of_a_trace_graph(rt: HostRuntime) -> Result<(), Fail> {
     let alloc = rt.alloc();
-    let entails = judgement_of(alloc)?;
-    let positions = predicate_positions(alloc, &entails)?;
-    assert_eq!(rt; positions.as_slice(), [0, 2].as_slice());
-    let runs = Judgement::Term(1, Heap::new(alloc));
-    assert!(rt; predicate_positions(alloc, &runs)?.is_empty());
+    let positions = predicate_positions(alloc, &judgement_of(alloc)?)?;
+    let runs = predicate_positions(alloc, &Judgement::Term(1, Heap::new(alloc)))?;
+    assert!(rt; positions.as_slice() == [0, 2].as_slice() && runs.is_empty());
     let pairs = [
         Pair {
             old: 0,
@@ -199,7 +212,7 @@ fn parts_of_a_trace_graph(rt: HostRuntime) -> Result<(), Fail> {
         },
     ];
     let edge = trace_edge(alloc, 7, &pairs)?;
-    assert_eq!(rt; edge.target(), 7);
+    assert!(rt; edge.target() == 7);
     assert_eq!(rt; edge.pairs(), [(0, 2, true), (2, 1, false)].as_slice());
     Ok(())
 }
@@ -209,24 +222,22 @@ fn parts_of_a_trace_graph(rt: HostRuntime) -> Result<(), Fail> {
 fn parts_of_a_graph(rt: HostRuntime) -> Result<(), Fail> {
     let alloc = rt.alloc();
     let mut graph = Graph::new(alloc);
-    assert!(rt; graph.is_empty());
-    assert_eq!(rt; graph.push_node(&judgement_of(alloc)?)?, 0);
-    assert!(rt; !graph.is_empty());
+    let was_empty = graph.is_empty();
+    let number = graph.push_node(&judgement_of(alloc)?)?;
+    assert!(rt; was_empty && number == 0 && !graph.is_empty());
     let lists = pairs_of(alloc)?;
-    match lists.as_slice() {
-        [first, second] => {
-            assert_eq!(rt; (first.as_slice().len(), second.as_slice().len()), (0, 1));
-        }
-        _ => return Err(Fail::from("not two lists")),
-    }
+    let [first, second] = lists.as_slice() else {
+        return Err(Fail::from("not two lists"));
+    };
+    assert!(rt; first.as_slice().is_empty() && second.as_slice().len() == 1);
     let premise = GraphPremise {
         pairs: Pairs::new(alloc),
         slot: Some(3),
     };
     let premises = GraphPremises::from_vec(vec![in alloc; premise]?);
-    match premises.as_slice() {
-        [only] => assert_eq!(rt; only.slot, Some(3)),
-        _ => return Err(Fail::from("not one premise")),
-    }
+    let [only] = premises.as_slice() else {
+        return Err(Fail::from("not one premise"));
+    };
+    assert!(rt; only.slot == Some(3));
     Ok(())
 }

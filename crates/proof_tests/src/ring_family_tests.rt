@@ -1,8 +1,5 @@
-ghost use Rattle.std.specs.Prelude.{◌≤◌};
-
-use cyc_memory::OutOfMemory;
 use proof_check::{Verdict, check};
-use proof_file::write_file;
+use proof_file::{ProofFile, write_file};
 use ring_family::ring_file;
 use std::alloc::Global;
 use std::test::Fail;
@@ -46,38 +43,31 @@ node true : p0($2) |- true : q($2) by Link 0 { $0 := $2 } [0] [0];
 end;
 ";
 
-fn text(alloc: Global, k: u32) -> Result<Vec<u8>, OutOfMemory>
-    requires from_one { 1 ≤ k }
-    requires most { k ≤ 2000 }
-{
-    let file = ring_file(alloc, k)?;
-    write_file(alloc, &file)
+/// The ring of so many predicates, of which there are 1 to 2,000.
+fn ring(alloc: Global, k: u32) -> Result<ProofFile, Fail> {
+    if k < 1 || k > 2000 {
+        return Err(Fail::from("no such ring"));
+    }
+    Ok(ring_file(alloc, k)?)
 }
 
 #[test]
 fn texts(rt: HostRuntime) -> Result<(), Fail> {
     let alloc = rt.alloc();
-    assert_eq!(rt; text(alloc, 1)?.as_slice(), ONE);
-    assert_eq!(rt; text(alloc, 2)?.as_slice(), TWO);
-    assert!(rt; text(alloc, 2000)?.len() < 16_777_216);
+    for (k, wanted) in [(1, ONE), (2, TWO)] {
+        let text = write_file(alloc, &ring(alloc, k)?)?;
+        assert_eq!(rt; text.as_slice(), wanted);
+    }
+    assert!(rt; write_file(alloc, &ring(alloc, 2000)?)?.len() < 16_777_216);
     Ok(())
-}
-
-fn is_accepted(alloc: Global, k: u32) -> Result<bool, OutOfMemory>
-    requires from_one { 1 ≤ k }
-    requires most { k ≤ 2000 }
-{
-    let file = ring_file(alloc, k)?;
-    let verdict = check(alloc, &file)?;
-    Ok(matches!(&verdict, Verdict::Accepted))
 }
 
 #[test]
 fn verdicts(rt: HostRuntime) -> Result<(), Fail> {
     let alloc = rt.alloc();
-    assert_eq!(rt; is_accepted(alloc, 1)?, true);
-    assert_eq!(rt; is_accepted(alloc, 2)?, true);
-    assert_eq!(rt; is_accepted(alloc, 11)?, true);
-    assert_eq!(rt; is_accepted(alloc, 2000)?, true);
+    for k in [1, 2, 11, 2000] {
+        let verdict = check(alloc, &ring(alloc, k)?)?;
+        assert!(rt; matches!(&verdict, Verdict::Accepted), "{k}");
+    }
     Ok(())
 }

@@ -9,7 +9,7 @@ use Rattle.command_syntax.specs.declared.tree.OperandTree.TheVariants.{Nil, Vari
 use Rattle.command_syntax.specs.declared.tree.ChangeTree.{ChangeTree}
 use Rattle.command_syntax.specs.declared.tree.ChangeTree.TheVariants.{New, Assign, Load, Store}
 use Rattle.command_syntax.specs.declared.tree.CommandTree.{CommandTree}
-use Rattle.command_syntax.specs.declared.tree.CommandTree.TheVariants.{Stop, Goto, Free, If, StoreAtNil, Change}
+use Rattle.command_syntax.specs.declared.tree.CommandTree.TheVariants.{Stop, Goto, Free, IfAny, If, StoreAtNil, Change}
 use Rattle.command_syntax.specs.declared.tree.LineTree.{LineTree}
 use Rattle.heap_reader.specs.Spans.{total, heap_span, operand_span, change_span, command_span, line_span}
 use Rattle.heap_reader.specs.Flaws.{Found, over_if}
@@ -33,6 +33,7 @@ change_short (Store n t) = let a = operand_short t in omega arith
 
 command_short : (c : CommandTree ℕ) → command_span three c ≤ 9
 command_short Stop = omega arith
+command_short (IfAny n) = omega arith
 command_short (Goto n) = omega arith
 command_short (Free t) = let a = operand_short t in omega arith
 command_short (If t b u n) = let a = operand_short t in let c = operand_short u in omega arith

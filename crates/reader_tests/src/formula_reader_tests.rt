@@ -301,6 +301,7 @@ fn command_text(alloc: Global, command: Command) -> Result<String, AllocError> {
         }
         Command::IfEq(left, right, target) => test_text(alloc, left, "=", right, target),
         Command::IfNeq(left, right, target) => test_text(alloc, left, "!=", right, target),
+        Command::IfAny(target) => format!(in alloc; "if * goto {target}"),
         Command::Goto(target) => format!(in alloc; "goto {target}"),
         Command::Stop => String::from_str(alloc, "stop"),
     }
@@ -427,6 +428,10 @@ static RIGHT: &[(&'static [u8], &'static str)] = &[
     (
         b"cyclist problem 1;\ngoal b = a : emp |- a = b : emp;\nend;",
         "goal $0 = $1 : emp |- $1 = $0 : emp",
+    ),
+    (
+        b"cyclist problem 2;\nline 1 : if * goto 2;\nline 2 : stop;\ngoal from 1 given true : emp;\nend;",
+        "if * goto 2; stop; goal from 1 given true : emp",
     ),
 ];
 

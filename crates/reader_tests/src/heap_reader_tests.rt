@@ -197,6 +197,12 @@ static PROGRAMS: &[(&[Row], Option<(IllFault, usize)>)] = &[
     ),
     (&[(1, CommandTree::If(X, true, NIL, 2)), (2, STOP)], None),
     (
+        &[(1, CommandTree::IfAny(0)), (2, STOP)],
+        Some((IllFault::Jump, 10)),
+    ),
+    (&[(1, CommandTree::IfAny(2)), (2, STOP)], None),
+    (&[(1, CommandTree::IfAny(1))], Some((IllFault::FallsOff, 4))),
+    (
         &[(2, CommandTree::Free(WIDE))],
         Some((IllFault::FallsOff, 4)),
     ),
@@ -270,7 +276,8 @@ const EVERY_COMMAND: &[Row] = &[
     (7, CommandTree::StoreAtNil(3, X)),
     (8, CommandTree::Free(X)),
     (9, CommandTree::Goto(10)),
-    (10, STOP),
+    (10, CommandTree::IfAny(1)),
+    (11, STOP),
 ];
 
 /// What each command says.
@@ -289,7 +296,8 @@ fn commands_are_what_lines_say(rt: HostRuntime) -> Result<(), Fail> {
         (7, Command::Store(Term::Nil, 3, x)),
         (8, Command::Free(x)),
         (9, Command::Goto(10)),
-        (10, Command::Stop),
+        (10, Command::IfAny(1)),
+        (11, Command::Stop),
     ];
     assert_eq!(rt; made.as_slice(), expected.as_slice());
     Ok(())

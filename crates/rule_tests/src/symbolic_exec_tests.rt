@@ -158,6 +158,14 @@ static COMMANDS: &[Row] = &[
     ),
     // stop
     Row(Said::From(11, STATE), CLOSES),
+    // if * goto 2
+    Row(
+        Said::From(12, STATE),
+        Wanted::Gives(&[
+            After(Said::From(2, STATE), SECOND_STAYS),
+            After(Said::From(13, STATE), SECOND_STAYS),
+        ]),
+    ),
 ];
 
 const SEVENTEEN: &[Shape] = &[Shape::List(X); 17];
@@ -177,7 +185,7 @@ const NO_NUMBER: Wanted = Wanted::Fails(RuleFault::NoFreshVariable);
 static FAULTS: &[Row] = &[
     Row(Said::Entails(EMPTY, &[EMPTY]), WRONG),
     Row(Said::From(0, EMPTY), WRONG),
-    Row(Said::From(12, EMPTY), WRONG),
+    Row(Said::From(14, EMPTY), WRONG),
     // no cell: none at all; a field past the end; a longer cell after one that is too short; two equations
     Row(Said::From(6, HeapRow(FULL, &[Shape::List(Y)])), NO_CELL),
     Row(Said::From(4, HeapRow(FULL, &[Shape::At(Y, &[X])])), NO_CELL),
@@ -203,6 +211,7 @@ static FAULTS: &[Row] = &[
     Row(Said::From(7, HeapRow(FULL, &[])), MANY),
     Row(Said::From(5, HeapRow(&[Pure::Eq(LAST, X)], SIXTEEN)), MANY),
     Row(Said::From(9, HeapRow(&[], SEVENTEEN)), MANY),
+    Row(Said::From(12, HeapRow(&[], SEVENTEEN)), MANY),
     // no number
     Row(Said::From(1, HeapRow(&[Pure::Eq(LAST, Y)], &[])), NO_NUMBER),
     Row(Said::From(5, HeapRow(&[Pure::Eq(LAST, Y)], &[])), NO_NUMBER),
@@ -234,6 +243,8 @@ fn program(alloc: Global) -> Result<Program, ProgramFault> {
             (9, Command::Goto(11)),
             (10, Command::Assign(0, NIL)),
             (11, Command::Stop),
+            (12, Command::IfAny(2)),
+            (13, Command::Stop),
         ],
     )
 }

@@ -17,7 +17,7 @@ use std::alloc::Global;
 use std::test::Fail;
 
 /// A reason: a link to a node, by the first atom and the first disjunct, or a rule at the first atom.
-#[derive(Clone, Copy, Debug, PartialEq, Eq)]
+#[derive(Clone, Copy, PartialEq, Eq)]
 enum Move {
     Link(u32),
     Rewrite,
@@ -97,14 +97,6 @@ fn offered(alloc: Global, moves: &Derivation) -> Result<Vec<Move>, OutOfMemory>
     Ok(list)
 }
 
-/// Whether the move is made within the depth.
-fn made(alloc: Global, moves: &mut Derivation, bound: u32, of: Move) -> Result<bool, OutOfMemory>
-    requires { IsInOrder moves.old }
-    ensures { OnOk result (IsInOrder moves.new) }
-{
-    moves.follow(alloc, bound, reason_of(alloc, of)?)
-}
-
 /// Whether a link to this node is admitted.
 fn is_admitted(alloc: Global, moves: &mut Derivation, target: u32) -> Result<bool, OutOfMemory>
     requires { IsInOrder moves.old }
@@ -117,50 +109,77 @@ fn is_admitted(alloc: Global, moves: &mut Derivation, target: u32) -> Result<boo
     }
 }
 
+/// A call, with its answer: the moves that are offered, a move within a depth and whether it is made, a link to a node and
+/// whether it is admitted, one move taken back, whether the derivation is complete, and whether it has too many states.
+#[derive(Clone, Copy)]
+enum Call {
+    Offers(&'static [Move]),
+    Follow(u32, Move, bool),
+    Try(u32, bool),
+    Undo,
+    IsComplete(bool),
+    HasTooManyStates(bool),
+}
+
+fn is_right(alloc: Global, moves: &mut Derivation, call: Call) -> Result<bool, OutOfMemory>
+    requires { IsInOrder moves.old }
+    ensures { OnOk result (IsInOrder moves.new) }
+{
+    Ok(match call {
+        Call::Offers(wanted) => offered(alloc, moves)?.as_slice() == wanted,
+        Call::Follow(bound, of, wanted) => {
+            moves.follow(alloc, bound, reason_of(alloc, of)?)? == wanted
+        }
+        Call::Try(target, wanted) => is_admitted(alloc, moves, target)? == wanted,
+        Call::Undo => {
+            moves.undo(alloc)?;
+            true
+        }
+        Call::IsComplete(wanted) => moves.is_complete() == wanted,
+        Call::HasTooManyStates(wanted) => {
+            if !moves.is_complete() {
+                return Ok(false);
+            }
+            moves.has_too_many_states(alloc)? == wanted
+        }
+    })
+}
+
 // Links are offered to nodes with Unfold alone, and a link is admitted where it closes a cycle with one.
+static CALLS: &[Call] = &[
+    Call::Offers(&[Move::Rewrite]),
+    Call::Follow(9, Move::Done, false),
+    Call::Follow(1, Move::Rewrite, false),
+    Call::Follow(2, Move::Rewrite, true),
+    Call::Offers(&[Move::Unfold]),
+    Call::Try(0, false),
+    Call::Follow(2, Move::Unfold, false),
+    Call::Follow(3, Move::Unfold, true),
+    Call::Offers(&[Move::Link(1), Move::Unfold]),
+    Call::Try(0, true),
+    Call::Try(1, true),
+    Call::Try(2, false),
+    Call::IsComplete(false),
+    Call::Follow(3, Move::Link(1), true),
+    Call::IsComplete(true),
+    Call::HasTooManyStates(false),
+    Call::Offers(&[]),
+    Call::Undo,
+    Call::IsComplete(false),
+    Call::Undo,
+    Call::Offers(&[Move::Unfold]),
+    Call::Undo,
+    Call::Undo,
+    Call::Offers(&[Move::Rewrite]),
+];
+
 #[test]
 fn a_derivation(rt: HostRuntime) -> Result<(), Fail> {
     let alloc = rt.alloc();
     let program = Program::new(alloc, &[])?;
     let mut moves = Derivation::new(alloc, &definitions(alloc)?, &program, &goal(alloc)?)?;
-    assert_eq!(rt;
-        offered(alloc, &moves)?.as_slice(),
-        [Move::Rewrite].as_slice()
-    );
-    assert!(rt; !made(alloc, &mut moves, 9, Move::Done)?);
-    assert!(rt; !made(alloc, &mut moves, 1, Move::Rewrite)?);
-    assert!(rt; made(alloc, &mut moves, 2, Move::Rewrite)?);
-    assert_eq!(rt;
-        offered(alloc, &moves)?.as_slice(),
-        [Move::Unfold].as_slice()
-    );
-    assert!(rt; !is_admitted(alloc, &mut moves, 0)?);
-    assert!(rt; !made(alloc, &mut moves, 2, Move::Unfold)?);
-    assert!(rt; made(alloc, &mut moves, 3, Move::Unfold)?);
-    assert_eq!(rt;
-        offered(alloc, &moves)?.as_slice(),
-        [Move::Link(1), Move::Unfold].as_slice()
-    );
-    assert!(rt; is_admitted(alloc, &mut moves, 0)?);
-    assert!(rt; is_admitted(alloc, &mut moves, 1)?);
-    assert!(rt; !is_admitted(alloc, &mut moves, 2)?);
-    assert!(rt; !moves.is_complete());
-    assert!(rt; made(alloc, &mut moves, 3, Move::Link(1))?);
-    assert!(rt; moves.is_complete());
-    assert!(rt; !moves.has_too_many_states(alloc)?);
-    assert_eq!(rt; offered(alloc, &moves)?.len(), 0);
-    moves.undo(alloc)?;
-    assert!(rt; !moves.is_complete());
-    moves.undo(alloc)?;
-    assert_eq!(rt;
-        offered(alloc, &moves)?.as_slice(),
-        [Move::Unfold].as_slice()
-    );
-    moves.undo(alloc)?;
-    moves.undo(alloc)?;
-    assert_eq!(rt;
-        offered(alloc, &moves)?.as_slice(),
-        [Move::Rewrite].as_slice()
-    );
+    for call in CALLS {
+        assert!(rt; is_right(alloc, &mut moves, *call)?);
+    }
     Ok(())
 }

@@ -1,5 +1,5 @@
 //! A search over words of two letters. The links are tried before the first letter alone.
-ghost use Rattle.std.specs.Prelude.{ℕ, List, [], ◌∷◌, ◌≡◌, ◌<◌, ◌&&◌, length, nat_eq, nat_le, nat_lt, if◌then◌else◌};
+ghost use Rattle.std.specs.Prelude.{ℕ, List, [], ◌∷◌, ◌≡◌, ◌&&◌, length, nat_eq, nat_le, nat_lt, if◌then◌else◌};
 ghost use Rattle.derivation_search.specs.System.{System};
 
 use cyc_memory::OutOfMemory;
@@ -99,9 +99,10 @@ fn searched(
     longest: usize,
     bound: u32,
     most: u32,
-) -> Result<(Option<Stop>, Vec<Letter>), OutOfMemory>
-    requires { 0 < most }
-{
+) -> Result<(Option<Stop>, Vec<Letter>), Fail> {
+    if most == 0 {
+        return Err("no derivation".into());
+    }
     let mut word = Word {
         made: Vec::new(alloc),
         admits,
@@ -111,36 +112,44 @@ fn searched(
     Ok((stop, word.made))
 }
 
-// Each row: whether the link is admitted, the longest word without too many states, the depth, the count at which the search
-// stops, how it ends, and the word that is left. Where the link is refused, depth 1 counts the empty word, the link, a and
-// b, and depth 2 the empty word, the link, a and aa, which is complete. Where it is admitted, no rule is followed at the
-// empty word.
+/// Whether the link is admitted, the longest word without too many states, the depth, the count at which the search stops,
+/// how it ends, and the word that is left.
+type Row = (bool, usize, u32, u32, Option<Stop>, &'static [Letter]);
+
+const A: Letter = Letter::A;
+
+const LINK: Letter = Letter::Link;
+
+const FOUND: Option<Stop> = Some(Stop::Found);
+
+const MANY: Option<Stop> = Some(Stop::TooManyDerivations);
+
+const STATES: Option<Stop> = Some(Stop::TooManyStates);
+
+// Where the link is refused, depth 1 counts the empty word, the link, a and b, and depth 2 the empty word, the link, a and
+// aa, which is complete. Where it is admitted, no rule is followed at the empty word.
+static ROWS: &[Row] = &[
+    (false, 2, 0, 3, None, &[]),
+    (false, 2, 1, 5, None, &[]),
+    (false, 2, 1, 4, MANY, &[Letter::B]),
+    (false, 2, 1, 3, MANY, &[A]),
+    (false, 2, 1, 2, MANY, &[]),
+    (false, 2, 1, 1, MANY, &[]),
+    (false, 2, 2, 5, FOUND, &[A, A]),
+    (false, 2, 2, 4, MANY, &[A, A]),
+    (true, 2, 1, 3, None, &[]),
+    (true, 2, 1, 2, MANY, &[LINK]),
+    (true, 2, 2, 4, FOUND, &[LINK, A]),
+    (true, 1, 2, 4, STATES, &[LINK, A]),
+    (true, 0, 2, 4, STATES, &[]),
+];
+
 #[test]
 fn searches(rt: HostRuntime) -> Result<(), Fail> {
     let alloc = rt.alloc();
-    let a = Letter::A;
-    let link = Letter::Link;
-    for (admits, longest, bound, most, stop, left) in [
-        (false, 2, 0, 3, None, [].as_slice()),
-        (false, 2, 1, 5, None, &[]),
-        (false, 2, 1, 4, Some(Stop::TooManyDerivations), &[Letter::B]),
-        (false, 2, 1, 3, Some(Stop::TooManyDerivations), &[a]),
-        (false, 2, 1, 2, Some(Stop::TooManyDerivations), &[]),
-        (false, 2, 1, 1, Some(Stop::TooManyDerivations), &[]),
-        (false, 2, 2, 5, Some(Stop::Found), &[a, a]),
-        (false, 2, 2, 4, Some(Stop::TooManyDerivations), &[a, a]),
-        (true, 2, 1, 3, None, &[]),
-        (true, 2, 1, 2, Some(Stop::TooManyDerivations), &[link]),
-        (true, 2, 2, 4, Some(Stop::Found), &[link, a]),
-        (true, 1, 2, 4, Some(Stop::TooManyStates), &[link, a]),
-        (true, 0, 2, 4, Some(Stop::TooManyStates), &[]),
-    ] {
-        assert!(rt; most > 0);
-        let (told, word) = searched(alloc, admits, longest, bound, most)?;
-        assert!(rt;
-            told == stop && word.as_slice() == left,
-            "{admits} {longest} {bound} {most}: {told:?} {word:?}"
-        );
+    for (admits, longest, bound, most, stop, left) in ROWS {
+        let (told, word) = searched(alloc, *admits, *longest, *bound, *most)?;
+        assert_eq!(rt; (told, word.as_slice()), (*stop, *left));
     }
     Ok(())
 }

@@ -1,5 +1,5 @@
 // The folds of small states into a list segment.
-ghost use Rattle.std.specs.Prelude.{◌≡◌, IfOk};
+ghost use Rattle.std.specs.Prelude.{◌≡◌, ◌≤◌, IfOk, length};
 
 use cyc_memory::OutOfMemory;
 use fold_offers::{folds, is_cell, is_predicate};
@@ -45,29 +45,31 @@ fn is_only(rules: &[Rule], places: &[u32], formula: &Heap) -> bool {
     }
 }
 
+fn folded(alloc: Global, pure: &[Pure], atoms: &[Spatial]) -> Result<Vec<Rule>, OutOfMemory>
+    requires pure_fits { length pure.now ≤ 64 }
+    requires atoms_fit { length atoms.now ≤ 32 }
+{
+    let state = Heap::from_slices(alloc, pure, atoms)?;
+    folds(alloc, &state, &[definition(alloc)?])
+}
+
 // A cell is folded with the segment that begins at its field, where the case's disequation follows, and else not.
 #[test]
 fn cells_fold_into_segments(rt: HostRuntime) -> Result<(), Fail> {
     let alloc = rt.alloc();
-    let kinds = [
-        is_cell(&cell(X, Y)),
-        is_predicate(&segment(X, Y)),
-        !is_cell(&segment(X, Y)),
-        !is_predicate(&cell(X, Y)),
-    ];
-    assert_eq!(rt; kinds, [true; 4]);
+    assert!(rt;
+        is_cell(&cell(X, Y))
+            && is_predicate(&segment(X, Y))
+            && !is_cell(&segment(X, Y))
+            && !is_predicate(&cell(X, Y))
+    );
     let (a, b, c) = (Term::Univ(5), Term::Univ(6), Term::Univ(7));
     let apart = [Pure::Neq(c, a)];
-    let defs = [definition(alloc)?];
-    let state = Heap::from_slices(alloc, &apart, &[segment(b, c), cell(a, b)])?;
+    let joined = [segment(b, c), cell(a, b)];
     let whole = Heap::from_slices(alloc, &[], &[segment(a, c)])?;
-    assert!(rt; is_only(&folds(alloc, &state, &defs)?, &[0, 1], &whole));
-    for other in [
-        Heap::from_slices(alloc, &[], &[segment(b, c), cell(a, b)])?,
-        Heap::from_slices(alloc, &apart, &[segment(c, b), cell(a, b)])?,
-        Heap::from_slices(alloc, &apart, &[segment(b, c)])?,
-    ] {
-        assert_eq!(rt; folds(alloc, &other, &defs)?.len(), 0);
-    }
+    assert!(rt; is_only(&folded(alloc, &apart, &joined)?, &[0, 1], &whole));
+    assert!(rt; folded(alloc, &[], &joined)?.is_empty());
+    assert!(rt; folded(alloc, &apart, &[segment(c, b), cell(a, b)])?.is_empty());
+    assert!(rt; folded(alloc, &apart, &[segment(b, c)])?.is_empty());
     Ok(())
 }

@@ -69,10 +69,9 @@ fn text_of_file(alloc: Global, bytes: &[u8]) -> Result<Vec<u8>, &'static str> {
 
 #[test]
 fn texts(rt: HostRuntime) -> Result<(), Fail> {
-    assert_eq!(rt; text_of_file(rt.alloc(), PROBLEM)?.as_slice(), FILE);
-    assert_eq!(rt;
-        text_of_file(rt.alloc(), SECOND_PROBLEM)?.as_slice(),
-        SECOND_FILE
-    );
+    let alloc = rt.alloc();
+    for (problem, file) in [(PROBLEM, FILE), (SECOND_PROBLEM, SECOND_FILE)] {
+        assert_eq!(rt; text_of_file(alloc, problem)?.as_slice(), file);
+    }
     Ok(())
 }

@@ -5,13 +5,13 @@ use proof_search::{Proved, offers, prove};
 use std::alloc::Global;
 use std::test::Fail;
 
-static COMPOSE: &str = "cyclist problem 1;
+const COMPOSE: &str = "cyclist problem 1;
 pred ls(a, b) { a = b : emp | true : a -> (c) * ls(c, b) };
 goal true : ls(x, y) * ls(y, z) |- true : ls(x, z);
 end;
 ";
 
-static ALLOCATE: &str = "cyclist problem 1;
+const ALLOCATE: &str = "cyclist problem 1;
 line 1 : x := new 1;
 line 2 : goto 1;
 goal from 1 given true : emp;
@@ -38,21 +38,25 @@ fn found(
     })
 }
 
+/// A problem, a depth, the count at which the search stops, and what is found.
+type Row = (&'static str, u32, u32, Result<usize, &'static str>);
+
 // The empty derivation is the first that is counted, so one is too many where `most` is 1; at depth 1 its goal is the only
 // other that the search of two segments comes to, since its rules have premises.
+static ROWS: &[Row] = &[
+    (COMPOSE, 5, 1000000, Ok(8)),
+    (COMPOSE, 4, 1000000, Err("not found")),
+    (COMPOSE, 0, 1000000, Err("not found")),
+    (COMPOSE, 16, 1, Err("derivations")),
+    (COMPOSE, 1, 2, Err("not found")),
+    (ALLOCATE, 16, 1000000, Err("not found")),
+];
+
 #[test]
 fn searches(rt: HostRuntime) -> Result<(), Fail> {
     let alloc = rt.alloc();
-    for (text, depth, most, wanted) in [
-        (COMPOSE, 5, 1000000, Ok(8)),
-        (COMPOSE, 4, 1000000, Err("not found")),
-        (COMPOSE, 0, 1000000, Err("not found")),
-        (COMPOSE, 16, 1, Err("derivations")),
-        (COMPOSE, 1, 2, Err("not found")),
-        (ALLOCATE, 16, 1000000, Err("not found")),
-    ] {
-        let answer = found(alloc, text, depth, most)?;
-        assert!(rt; answer == wanted, "{text} {depth} {most}");
+    for (text, depth, most, wanted) in ROWS {
+        assert_eq!(rt; found(alloc, text, *depth, *most)?, *wanted);
     }
     Ok(())
 }
@@ -67,7 +71,6 @@ fn a_goal_is_offered(rt: HostRuntime) -> Result<(), Fail> {
     let mut graph = Graph::new(alloc);
     let goal = graph.push_node(&problem.goal)?;
     let offered = offers(alloc, &problem, &graph, goal)?;
-    assert_eq!(rt; offered.links.len(), 0);
-    assert_eq!(rt; offered.rules.len(), 2);
+    assert!(rt; offered.links.is_empty() && offered.rules.len() == 2);
     Ok(())
 }

@@ -1,11 +1,13 @@
 // Lines whose program variables are numbers.
-use crate::texts::{cut, start};
+use crate::texts::{cut, dead, start};
 use command_syntax::{
-    ChangeTree, CommandTree, OperandTree, VariableForm, WrittenVariable, lines, write_lines,
+    ChangeTree, CommandTree, LineTree, OperandTree, VariableForm, WrittenVariable, lines,
+    write_lines,
 };
 use cyc_grammar::{Cursor, Refusal};
 use cyc_lex::WordWriter;
 use cyc_memory::OutOfMemory;
+use heap_syntax::Version;
 use std::alloc::Global;
 use std::test::Fail;
 
@@ -40,11 +42,11 @@ impl<'a> WrittenVariable<'a> for Numbers {
 /// What is written of the lines at the start of a text.
 fn again(alloc: Global, bytes: &[u8]) -> Result<Vec<u8>, &'static str> {
     let list = cut(alloc, bytes)?;
-    match lines(alloc, &Numbers, &mut start(&list)) {
+    match lines(alloc, &Numbers, Version::Two, &mut start(&list)) {
         Err(_) => Err("not read"),
         Ok(trees) => {
             let mut writer = WordWriter::new(alloc);
-            match write_lines(&Numbers, &trees, &mut writer) {
+            match write_lines(&Numbers, Version::Two, &trees, &mut writer) {
                 Ok(()) => Ok(writer.finish()),
                 Err(OutOfMemory) => Err("no memory"),
             }
@@ -65,22 +67,41 @@ line 9 : 1 := nil;
 line 10 : 1 := 2;
 line 11 : 1 := 2.3;
 line 12 : 1.2 := 3;
+line 13 : if * goto 4;
 ";
 
-/// Each command is written as it stands, and other spaces are not kept.
+/// Texts, and what is written of the lines at their start: each command as it stands, and other spaces are not kept.
+static WRITTEN: &[(&[u8], &[u8])] = &[
+    (EACH_COMMAND, EACH_COMMAND),
+    (
+        b"line 7:if 1!=2\ngoto 3 ;line 7: 4 .5:=nil; end",
+        b"line 7 : if 1 != 2 goto 3;\nline 7 : 4.5 := nil;\n",
+    ),
+    (b"stop;", b""),
+];
+
 #[test]
 fn lines_are_written(rt: HostRuntime) -> Result<(), Fail> {
     let alloc = rt.alloc();
-    let text = again(alloc, EACH_COMMAND)?;
-    assert_eq!(rt; text.as_slice(), EACH_COMMAND);
-    let text = again(alloc, b"line 7:if 1!=2\ngoto 3 ;line 7: 4 .5:=nil; end")?;
-    assert_eq!(rt;
-        text.as_slice(),
-        b"line 7 : if 1 != 2 goto 3;\nline 7 : 4.5 := nil;\n".as_slice()
-    );
-    let text = again(alloc, b"stop;")?;
-    assert!(rt; text.is_empty());
+    for (text, wanted) in WRITTEN {
+        assert_eq!(rt; again(alloc, text)?.as_slice(), *wanted);
+    }
     Ok(())
+}
+
+/// Whether these are the lines `line 8 : if 1 != nil goto 3; line 9 : 4.5 := 6;`.
+fn are_test_and_store(trees: &[LineTree<u32>]) -> bool {
+    let [first, second] = trees else {
+        return false;
+    };
+    matches!(
+        first.command,
+        CommandTree::If(OperandTree::Variable(1), false, OperandTree::Nil, 3)
+    ) && matches!(
+        second.command,
+        CommandTree::Change(4, ChangeTree::Store(5, OperandTree::Variable(6)))
+    ) && first.number == 8
+        && second.number == 9
 }
 
 /// What two lines say.
@@ -90,23 +111,9 @@ fn lines_are_read(rt: HostRuntime) -> Result<(), Fail> {
         rt.alloc(),
         b"line 8 : if 1 != nil goto 3; line 9 : 4.5 := 6;",
     )?;
-    let Ok(trees) = lines(rt.alloc(), &Numbers, &mut start(&list)) else {
-        return Err(Fail::from("no lines"));
-    };
-    let [first, second] = trees.as_slice() else {
-        return Err(Fail::from("not two lines"));
-    };
-    match first.command {
-        CommandTree::If(OperandTree::Variable(left), is_equation, OperandTree::Nil, target) => {
-            assert_eq!(rt; (first.number, left, is_equation, target), (8, 1, false, 3));
-        }
-        _ => return Err(Fail::from("no test")),
-    }
-    match second.command {
-        CommandTree::Change(address, ChangeTree::Store(field, OperandTree::Variable(value))) => {
-            assert_eq!(rt; (second.number, address, field, value), (9, 4, 5, 6));
-        }
-        _ => return Err(Fail::from("no store")),
+    match lines(rt.alloc(), &Numbers, Version::One, &mut start(&list)) {
+        Ok(trees) => assert!(rt; are_test_and_store(&trees)),
+        Err(_) => return Err(Fail::from("no lines")),
     }
     Ok(())
 }
@@ -124,6 +131,7 @@ static DEAD: &[(&[u8], usize)] = &[
     (b"line 1 : if 2 goto 3;", 4),
     (b"line 1 : goto 2", 1),
     (b"line 1 : stop; line 2 : halt;", 3),
+    (b"line 1 : if * goto 4;", 5),
 ];
 
 /// The dead token of small texts.
@@ -132,10 +140,8 @@ fn finds_dead_tokens(rt: HostRuntime) -> Result<(), Fail> {
     let alloc = rt.alloc();
     for (text, left) in DEAD {
         let list = cut(alloc, text)?;
-        match lines(alloc, &Numbers, &mut start(&list)) {
-            Err(Refusal::Dead(found)) => assert_eq!(rt; found, *left),
-            _ => return Err(Fail::from("no dead token")),
-        }
+        let answer = lines(alloc, &Numbers, Version::One, &mut start(&list));
+        assert_eq!(rt; dead(answer), Some(*left));
     }
     Ok(())
 }

@@ -1,136 +1,135 @@
-use cyc_lex::{Kind, LexFault, WordWriter, tokens};
+use cyc_lex::{Kind, Token, WordWriter, tokens};
 use cyc_memory::OutOfMemory;
+use cyc_texts::{Line, lexical_line};
 use std::alloc::Global;
 use std::test::Fail;
 
-fn fault(alloc: Global, bytes: &[u8]) -> Option<LexFault> {
+/// Small texts, and their tokens with kind, text, line and column, or else the line that tells the first bad place: the
+/// kind, the bytes before it, and its line and column.
+static TEXTS: &[(&[u8], &[u8])] = &[
+    (b"12ab", b"number 12 1:1;name ab 1:3;end  1:5;\n"),
+    (b"", b"end  1:1;\n"),
+    (
+        b"a |-b != ->:= # !",
+        b"name a 1:1;symbol |- 1:3;name b 1:5;symbol != 1:7;symbol -> 1:10;symbol := 1:12;end  1:18;\n",
+    ),
+    (b"a!", b"unreadable byte offset 1 line 1 column 2\n"),
+    (b"\xff", b"unreadable utf8 offset 0 line 1 column 1\n"),
+    (
+        b"1234567890",
+        b"unreadable number offset 0 line 1 column 1\n",
+    ),
+    (
+        b"aaaaaaaaaaaaaaaaaaaaaaaaaaaaaaaaaaaaaaaaaaaaaaaaaaaaaaaaaaaaaaaaa",
+        b"unreadable name offset 0 line 1 column 1\n",
+    ),
+    (
+        b"aaaaaaaaaaaaaaaaaaaaaaaaaaaaaaaaaaaaaaaaaaaaaaaaaaaaaaaaaaaaaaaa\xff",
+        b"unreadable utf8 offset 64 line 1 column 65\n",
+    ),
+    (
+        b"aaaaaaaaaaaaaaaaaaaaaaaaaaaaaaaaaaaaaaaaaaaaaaaaaaaaaaaaaaaaaaaaa\xff",
+        b"unreadable name offset 0 line 1 column 1\n",
+    ),
+    (
+        b"\xef\xbb\xbfa",
+        b"unreadable byte offset 0 line 1 column 1\n",
+    ),
+    (b"a \0", b"unreadable byte offset 2 line 1 column 3\n"),
+    (b"\r\n\x0b", b"unreadable byte offset 2 line 2 column 1\n"),
+    (b"\r-", b"unreadable byte offset 1 line 1 column 2\n"),
+    (
+        b"# \xc3\xa9\n\xc3\xa9 ! =",
+        b"unreadable byte offset 8 line 2 column 3\n",
+    ),
+    (b"# \xc3", b"unreadable utf8 offset 2 line 1 column 3\n"),
+];
+
+fn kind_name(kind: Kind) -> &'static str {
+    match kind {
+        Kind::Name => "name ",
+        Kind::Number => "number ",
+        Kind::Symbol => "symbol ",
+        Kind::End => "end ",
+    }
+}
+
+fn push_token(text: &mut Line, token: Token<'_>) -> Result<(), OutOfMemory> {
+    text.text(kind_name(token.kind))?;
+    text.text(token.text)?;
+    text.text(" ")?;
+    text.number(token.line as u64)?;
+    text.text(":")?;
+    text.number(token.column as u64)?;
+    text.text(";")
+}
+
+fn answer(alloc: Global, bytes: &[u8]) -> Result<Vec<u8>, Fail> {
     if bytes.len() > 1000 {
-        return None;
+        return Err(Fail::from("long"));
     }
-    match tokens(alloc, bytes) {
-        Ok(_) => None,
-        Err(fault) => Some(fault),
+    let list = match tokens(alloc, bytes) {
+        Ok(list) => list,
+        Err(fault) => return Ok(lexical_line(alloc, fault)?),
+    };
+    let mut text = Line::new(alloc);
+    for token in list.as_slice() {
+        push_token(&mut text, *token)?;
     }
+    Ok(text.end()?)
 }
 
-fn bad_byte(offset: u32, line: u32, column: u32) -> Option<LexFault> {
-    Some(LexFault::BadByte {
-        offset,
-        line,
-        column,
-    })
-}
-
-fn bad_utf8(offset: u32, line: u32, column: u32) -> Option<LexFault> {
-    Some(LexFault::BadUtf8 {
-        offset,
-        line,
-        column,
-    })
-}
-
-/// The first bad place of small texts: the kind, the bytes before it, and its line and column.
-#[test]
-fn finds_first_bad_place(rt: HostRuntime) {
-    let alloc = rt.alloc();
-    let long_name = Some(LexFault::LongName {
-        offset: 0,
-        line: 1,
-        column: 1,
-    });
-    let long_number = Some(LexFault::LongNumber {
-        offset: 0,
-        line: 1,
-        column: 1,
-    });
-    assert_eq!(rt; fault(alloc, b"a!"), bad_byte(1, 1, 2));
-    assert_eq!(rt; fault(alloc, b"\xff"), bad_utf8(0, 1, 1));
-    assert_eq!(rt; fault(alloc, b"1234567890"), long_number);
-    assert_eq!(rt;
-        fault(
-            alloc,
-            b"aaaaaaaaaaaaaaaaaaaaaaaaaaaaaaaaaaaaaaaaaaaaaaaaaaaaaaaaaaaaaaaaa"
-        ),
-        long_name
-    );
-    assert_eq!(rt;
-        fault(
-            alloc,
-            b"aaaaaaaaaaaaaaaaaaaaaaaaaaaaaaaaaaaaaaaaaaaaaaaaaaaaaaaaaaaaaaaa\xff"
-        ),
-        bad_utf8(64, 1, 65)
-    );
-    assert_eq!(rt;
-        fault(
-            alloc,
-            b"aaaaaaaaaaaaaaaaaaaaaaaaaaaaaaaaaaaaaaaaaaaaaaaaaaaaaaaaaaaaaaaaa\xff"
-        ),
-        long_name
-    );
-    assert_eq!(rt; fault(alloc, b"\xef\xbb\xbfa"), bad_byte(0, 1, 1));
-    assert_eq!(rt; fault(alloc, b"a \0"), bad_byte(2, 1, 3));
-    assert_eq!(rt; fault(alloc, b"\r\n\x0b"), bad_byte(2, 2, 1));
-    assert_eq!(rt; fault(alloc, b"\r-"), bad_byte(1, 1, 2));
-    assert_eq!(rt;
-        fault(alloc, b"# \xc3\xa9\n\xc3\xa9 ! ="),
-        bad_byte(8, 2, 3)
-    );
-    assert_eq!(rt; fault(alloc, b"# \xc3"), bad_utf8(2, 1, 3));
-    assert_eq!(rt; fault(alloc, b"a |-b != ->:= # !"), None);
-}
-
-/// A text of two tokens, and the empty text.
 #[test]
 fn cuts_small_texts(rt: HostRuntime) -> Result<(), Fail> {
     let alloc = rt.alloc();
-    match tokens(alloc, b"12ab") {
-        Err(_) => return Err(Fail::from("refused")),
-        Ok(list) => match list.as_slice() {
-            [number, name, end] => {
-                assert_eq!(rt;
-                    (number.kind, number.text, number.column),
-                    (Kind::Number, "12", 1)
-                );
-                assert_eq!(rt; (name.kind, name.text, name.column), (Kind::Name, "ab", 3));
-                assert_eq!(rt; (end.kind, end.text, end.column), (Kind::End, "", 5));
-            }
-            _ => return Err(Fail::from("not three tokens")),
-        },
-    }
-    match tokens(alloc, b"") {
-        Err(_) => return Err(Fail::from("refused")),
-        Ok(list) => match list.as_slice() {
-            [end] => assert_eq!(rt; (end.kind, end.line, end.column), (Kind::End, 1, 1)),
-            _ => return Err(Fail::from("not one token")),
-        },
+    for (text, wanted) in TEXTS {
+        assert_eq!(rt; answer(alloc, text)?.as_slice(), *wanted);
     }
     Ok(())
 }
 
-fn written(alloc: Global) -> Result<Vec<u8>, OutOfMemory> {
+/// A word of a text.
+#[derive(Clone, Copy)]
+enum Piece {
+    Name(&'static str),
+    Number(u32),
+    Symbol(&'static str),
+}
+
+static WORDS: &[Piece] = &[
+    Piece::Name("p"),
+    Piece::Symbol("("),
+    Piece::Symbol("$"),
+    Piece::Number(10),
+    Piece::Symbol(","),
+    Piece::Name("nil"),
+    Piece::Symbol(")"),
+    Piece::Symbol("->"),
+    Piece::Symbol("("),
+    Piece::Symbol("?"),
+    Piece::Number(0),
+    Piece::Symbol(")"),
+    Piece::Symbol(";"),
+    Piece::Name("end"),
+    Piece::Symbol(";"),
+];
+
+fn written(alloc: Global, words: &[Piece]) -> Result<Vec<u8>, OutOfMemory> {
     let mut writer = WordWriter::new(alloc);
-    writer.name("p")?;
-    writer.symbol("(")?;
-    writer.symbol("$")?;
-    writer.number(10)?;
-    writer.symbol(",")?;
-    writer.name("nil")?;
-    writer.symbol(")")?;
-    writer.symbol("->")?;
-    writer.symbol("(")?;
-    writer.symbol("?")?;
-    writer.number(0)?;
-    writer.symbol(")")?;
-    writer.symbol(";")?;
-    writer.name("end")?;
-    writer.symbol(";")?;
+    for word in words {
+        match *word {
+            Piece::Name(name) => writer.name(name)?,
+            Piece::Number(number) => writer.number(number)?,
+            Piece::Symbol(symbol) => writer.symbol(symbol)?,
+        }
+    }
     Ok(writer.finish())
 }
 
 /// The spaces and line feeds of a written text.
 #[test]
 fn writes_with_gaps(rt: HostRuntime) -> Result<(), Fail> {
-    let text = written(rt.alloc())?;
+    let text = written(rt.alloc(), WORDS)?;
     assert_eq!(rt; text.as_slice(), b"p($10, nil) -> (?0);\nend;\n".as_slice());
     Ok(())
 }

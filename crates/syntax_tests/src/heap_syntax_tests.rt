@@ -3,6 +3,7 @@ use crate::texts::{cut, dead, start};
 use cyc_grammar::{Cursor, Refusal};
 use cyc_lex::WordWriter;
 use cyc_memory::OutOfMemory;
+use cyc_texts::Line;
 use heap_syntax::{
     AtomForm, Mark, PureTree, SpatialTree, TermForm, WrittenForm, arguments, fields, free_name,
     heap, heaps, reserved_words, sign, spatial, write_heap, write_heaps,
@@ -51,37 +52,102 @@ impl<'a> WrittenForm<'a> for Numbers {
     }
 }
 
-/// Each reader of a part takes its tokens and no others.
+/// A part of a heap.
+#[derive(Clone, Copy)]
+enum Part {
+    Sign,
+    Fields,
+    Arguments,
+    Spatial,
+    FreeName,
+}
+
+/// The parts of `= != 1, 2) ) p(4) 5 -> (6) ls nil` that are read one after the other, and what is read: each reader takes
+/// its tokens and no others.
+static PARTS: &[(Part, &[u8])] = &[
+    (Part::Sign, b"=\n"),
+    (Part::Sign, b"!=\n"),
+    (Part::Sign, b"dead 17\n"),
+    (Part::Fields, b" 1 2\n"),
+    (Part::Arguments, b"\n"),
+    (Part::Spatial, b"p 4\n"),
+    (Part::Spatial, b"5 -> 6\n"),
+    (Part::FreeName, b"ls\n"),
+    (Part::FreeName, b"dead 2\n"),
+];
+
+fn push_terms(text: &mut Line, terms: &[u32]) -> Result<(), OutOfMemory> {
+    for term in terms {
+        text.text(" ")?;
+        text.number(*term as u64)?;
+    }
+    Ok(())
+}
+
+fn push_spatial(text: &mut Line, atom: &SpatialTree<'_, u32>) -> Result<(), OutOfMemory> {
+    match atom {
+        SpatialTree::Predicate(name, terms) => {
+            text.text(name)?;
+            push_terms(text, terms)
+        }
+        SpatialTree::Cell(address, terms) => {
+            text.number(*address as u64)?;
+            text.text(" ->")?;
+            push_terms(text, terms)
+        }
+    }
+}
+
+fn push_refusal(text: &mut Line, refusal: Refusal) -> Result<(), OutOfMemory> {
+    match refusal {
+        Refusal::OutOfMemory => Err(OutOfMemory),
+        Refusal::Dead(left) => {
+            text.text("dead ")?;
+            text.number(left as u64)
+        }
+    }
+}
+
+fn read_part(
+    alloc: Global,
+    cursor: &mut Cursor<'_, '_>,
+    part: Part,
+) -> Result<Vec<u8>, OutOfMemory> {
+    let mut text = Line::new(alloc);
+    match part {
+        Part::Sign => match sign(cursor) {
+            Ok(is_equation) => text.text(if is_equation { "=" } else { "!=" })?,
+            Err(refusal) => push_refusal(&mut text, refusal)?,
+        },
+        Part::Fields => match fields(alloc, &Numbers, cursor) {
+            Ok(terms) => push_terms(&mut text, &terms)?,
+            Err(refusal) => push_refusal(&mut text, refusal)?,
+        },
+        Part::Arguments => match arguments(alloc, &Numbers, cursor) {
+            Ok(terms) => push_terms(&mut text, &terms)?,
+            Err(refusal) => push_refusal(&mut text, refusal)?,
+        },
+        Part::Spatial => match spatial(alloc, &Numbers, cursor) {
+            Ok(atom) => push_spatial(&mut text, &atom)?,
+            Err(refusal) => push_refusal(&mut text, refusal)?,
+        },
+        Part::FreeName => match free_name(cursor) {
+            Ok(name) => text.text(name)?,
+            Err(refusal) => push_refusal(&mut text, refusal)?,
+        },
+    }
+    text.end()
+}
+
 #[test]
 fn reads_parts_of_heaps(rt: HostRuntime) -> Result<(), Fail> {
     let alloc = rt.alloc();
     let list = cut(alloc, b"= != 1, 2) ) p(4) 5 -> (6) ls nil")?;
     let mut cursor = start(&list);
-    assert_eq!(rt; sign(&mut cursor).ok(), Some(true));
-    assert_eq!(rt; sign(&mut cursor).ok(), Some(false));
-    assert_eq!(rt; dead(sign(&mut cursor)), Some(17));
-    match fields(alloc, &Numbers, &mut cursor) {
-        Ok(terms) => assert_eq!(rt; terms.as_slice(), [1, 2].as_slice()),
-        Err(_) => return Err(Fail::from("no fields")),
+    for (part, wanted) in PARTS {
+        let text = read_part(alloc, &mut cursor, *part)?;
+        assert_eq!(rt; text.as_slice(), *wanted);
     }
-    match arguments(alloc, &Numbers, &mut cursor) {
-        Ok(terms) => assert!(rt; terms.is_empty()),
-        Err(_) => return Err(Fail::from("no arguments")),
-    }
-    match spatial(alloc, &Numbers, &mut cursor) {
-        Ok(SpatialTree::Predicate(name, terms)) => {
-            assert_eq!(rt; (name, terms.as_slice()), ("p", [4].as_slice()));
-        }
-        _ => return Err(Fail::from("no predicate")),
-    }
-    match spatial(alloc, &Numbers, &mut cursor) {
-        Ok(SpatialTree::Cell(address, terms)) => {
-            assert_eq!(rt; (address, terms.as_slice()), (5, [6].as_slice()));
-        }
-        _ => return Err(Fail::from("no cell")),
-    }
-    assert_eq!(rt; free_name(&mut cursor).ok(), Some("ls"));
-    assert_eq!(rt; dead(free_name(&mut cursor)), Some(2));
     Ok(())
 }
 
@@ -89,18 +155,32 @@ fn reads_parts_of_heaps(rt: HostRuntime) -> Result<(), Fail> {
 #[test]
 fn reserves_words(rt: HostRuntime) {
     let words = reserved_words();
-    assert_eq!(rt; words.len(), 18);
-    assert!(rt; words.contains(&"nil") && words.contains(&"stop") && !words.contains(&"ls"));
+    assert!(rt;
+        words.len() == 18
+            && words.contains(&"nil")
+            && words.contains(&"stop")
+            && !words.contains(&"ls")
+    );
 }
 
 /// What marks write.
 fn written_marks(alloc: Global) -> Result<Vec<u8>, OutOfMemory> {
     let mut writer = WordWriter::new(alloc);
-    Mark::Symbol("|-").write(&mut writer)?;
-    Mark::Keyword("or").write(&mut writer)?;
-    Mark::Symbol(";").write(&mut writer)?;
+    for mark in [Mark::Symbol("|-"), Mark::Keyword("or"), Mark::Symbol(";")] {
+        mark.write(&mut writer)?;
+    }
     Ok(writer.finish())
 }
+
+/// Marks that are taken one after the other from `| or`, whether each is next, and how many tokens are left where it is
+/// refused.
+static MARKS: &[(Mark<'static>, bool, Option<usize>)] = &[
+    (Mark::Keyword("or"), false, Some(3)),
+    (Mark::Symbol("|"), true, None),
+    (Mark::Symbol("or"), false, Some(2)),
+    (Mark::Keyword("or"), true, None),
+    (Mark::Keyword("or"), false, Some(1)),
+];
 
 /// A mark is a symbol or a keyword, and is taken only where it is next.
 #[test]
@@ -108,12 +188,10 @@ fn marks_are_seen_taken_and_written(rt: HostRuntime) -> Result<(), Fail> {
     let alloc = rt.alloc();
     let list = cut(alloc, b"| or")?;
     let mut cursor = start(&list);
-    let (bar, word) = (Mark::Symbol("|"), Mark::Keyword("or"));
-    assert!(rt; bar.is_next(&cursor) && !word.is_next(&cursor));
-    assert_eq!(rt; dead(word.take(&mut cursor)), Some(3));
-    assert!(rt; bar.take(&mut cursor).is_ok());
-    assert!(rt; word.is_next(&cursor) && !Mark::Symbol("or").is_next(&cursor));
-    assert!(rt; word.take(&mut cursor).is_ok() && cursor.left() == 1);
+    for (mark, is_next, left) in MARKS {
+        let found = (mark.is_next(&cursor), dead(mark.take(&mut cursor)));
+        assert_eq!(rt; found, (*is_next, *left));
+    }
     assert_eq!(rt; written_marks(alloc)?.as_slice(), b"|- or;\n".as_slice());
     Ok(())
 }
@@ -149,22 +227,32 @@ fn heaps_again(alloc: Global, bytes: &[u8]) -> Result<Vec<u8>, &'static str> {
     }
 }
 
-/// Heaps are written with single spaces.
+/// A text, whether more than one heap is read, and what is written of them: they have single spaces.
+static WRITTEN: &[(&[u8], bool, &[u8])] = &[
+    (
+        b" 1=2,3 != 4: 5->(6,7)*ls( 8 ) * flag() )",
+        false,
+        b"1 = 2, 3 != 4 : 5 -> (6, 7) * ls(8) * flag()",
+    ),
+    (b"true:emp", false, b"true : emp"),
+    (
+        b"true:emp or 1=2:p() or\n3!=3:4->(5);",
+        true,
+        b"true : emp or 1 = 2 : p() or 3 != 3 : 4 -> (5);\n",
+    ),
+];
+
 #[test]
 fn heaps_are_written(rt: HostRuntime) -> Result<(), Fail> {
     let alloc = rt.alloc();
-    let text = heap_again(alloc, b" 1=2,3 != 4: 5->(6,7)*ls( 8 ) * flag() )")?;
-    assert_eq!(rt;
-        text.as_slice(),
-        b"1 = 2, 3 != 4 : 5 -> (6, 7) * ls(8) * flag()".as_slice()
-    );
-    let text = heap_again(alloc, b"true:emp")?;
-    assert_eq!(rt; text.as_slice(), b"true : emp".as_slice());
-    let text = heaps_again(alloc, b"true:emp or 1=2:p() or\n3!=3:4->(5);")?;
-    assert_eq!(rt;
-        text.as_slice(),
-        b"true : emp or 1 = 2 : p() or 3 != 3 : 4 -> (5);\n".as_slice()
-    );
+    for (text, several, wanted) in WRITTEN {
+        let text = if *several {
+            heaps_again(alloc, text)?
+        } else {
+            heap_again(alloc, text)?
+        };
+        assert_eq!(rt; text.as_slice(), *wanted);
+    }
     Ok(())
 }
 

@@ -1,65 +1,17 @@
-use cyc_lex::{Kind, LexFault, Token, tokens};
+use cyc_lex::{LexFault, Token, tokens};
 use piecewise_lex::{Lexer, OwnedToken, take_statement};
 use std::alloc::Global;
 use std::test::Fail;
 
-// What is seen of a token: its kind, the bytes of its text, its line and its column.
-#[derive(Debug, PartialEq, Drop)]
-struct Seen {
-    kind: Kind,
-    text: Vec<u8>,
-    line: u32,
-    column: u32,
-}
-
-fn see(alloc: Global, token: &Token<'_>) -> Result<Seen, Fail> {
-    let mut text = Vec::new(alloc);
-    text.extend_from_slice(token.text.as_bytes())?;
-    Ok(Seen {
-        kind: token.kind,
-        text,
-        line: token.line,
-        column: token.column,
-    })
-}
-
-fn see_own(alloc: Global, token: &OwnedToken) -> Result<Seen, Fail> {
-    let mut text = Vec::new(alloc);
-    text.extend_from_slice(token.text.as_bytes())?;
-    Ok(Seen {
-        kind: token.kind,
-        text,
-        line: token.line,
-        column: token.column,
-    })
-}
-
-fn see_all(alloc: Global, all: &mut Vec<Seen>, list: &[OwnedToken]) -> Result<(), Fail> {
+fn push_all(all: &mut Vec<OwnedToken>, list: Vec<OwnedToken>) -> Result<(), Fail> {
     for token in list {
-        all.push(see_own(alloc, token)?)?;
+        all.push(token)?;
     }
     Ok(())
 }
 
-// The tokens of a whole text, or its fault.
-fn of_whole(alloc: Global, bytes: &[u8]) -> Result<Result<Vec<Seen>, LexFault>, Fail> {
-    if bytes.len() > 1000 {
-        return Err(Fail::from("long text"));
-    }
-    match tokens(alloc, bytes) {
-        Err(fault) => Ok(Err(fault)),
-        Ok(list) => {
-            let mut all = Vec::new(alloc);
-            for token in list.as_slice() {
-                all.push(see(alloc, token)?)?;
-            }
-            Ok(Ok(all))
-        }
-    }
-}
-
 // The tokens of a text that is fed in these pieces, or its fault.
-fn of_pieces(alloc: Global, pieces: &[&[u8]]) -> Result<Result<Vec<Seen>, LexFault>, Fail> {
+fn of_pieces(alloc: Global, pieces: &[&[u8]]) -> Result<Result<Vec<OwnedToken>, LexFault>, Fail> {
     let mut lexer = Lexer::new(alloc);
     let mut all = Vec::new(alloc);
     let mut fed = 0usize;
@@ -69,15 +21,46 @@ fn of_pieces(alloc: Global, pieces: &[&[u8]]) -> Result<Result<Vec<Seen>, LexFau
         }
         fed += piece.len();
         match lexer.feed(piece) {
-            Ok(list) => see_all(alloc, &mut all, &list)?,
+            Ok(list) => push_all(&mut all, list)?,
             Err(fault) => return Ok(Err(fault)),
         }
     }
     match lexer.finish() {
-        Ok(list) => see_all(alloc, &mut all, &list)?,
+        Ok(list) => push_all(&mut all, list)?,
         Err(fault) => return Ok(Err(fault)),
     }
     Ok(Ok(all))
+}
+
+fn is_same(own: &OwnedToken, token: &Token<'_>) -> bool {
+    own.kind == token.kind
+        && own.text.as_bytes() == token.text.as_bytes()
+        && own.line == token.line
+        && own.column == token.column
+}
+
+fn are_same(list: &[OwnedToken], tokens: &[Token<'_>]) -> bool {
+    if list.len() != tokens.len() {
+        return false;
+    }
+    for (i, token) in tokens.iter().enumerate() {
+        if !is_same(&list[i], token) {
+            return false;
+        }
+    }
+    true
+}
+
+// Whether the pieces have the tokens or the fault of the whole.
+fn is_right(alloc: Global, text: &[u8], pieces: &[&[u8]]) -> Result<bool, Fail> {
+    if text.len() > 1000 {
+        return Err(Fail::from("long text"));
+    }
+    Ok(match (of_pieces(alloc, pieces)?, tokens(alloc, text)) {
+        (Ok(list), Ok(whole)) => are_same(&list, whole.as_slice()),
+        (Err(found), Err(fault)) => found == fault,
+        _ => false,
+    })
 }
 
 // How many tokens each call hands out, finish last; none where it answers a fault.
@@ -102,11 +85,8 @@ fn counts(alloc: Global, pieces: &[&[u8]]) -> Result<Vec<Option<usize>>, Fail> {
     Ok(all)
 }
 
-const LETTERS: &[u8; 70] =
-    b"abcdefghijklmnopqrstuvwxyzabcdefghijklmnopqrstuvwxyzabcdefghijklmnopqr";
-
 // Those of the lexer's own tests, and texts with characters of two, three and four bytes.
-const TEXTS: [&[u8]; 20] = [
+static TEXTS: &[&[u8]] = &[
     b"",
     b"12ab",
     b"a!",
@@ -129,76 +109,84 @@ const TEXTS: [&[u8]; 20] = [
     b"abcdefghijklmnopqrstuvwxyz_0123456789 := - 123456789",
 ];
 
-/// Each text, cut at each byte, has the tokens or the fault of the whole.
+// Whether each cut changes nothing.
+fn may_be_cut(alloc: Global, text: &[u8]) -> Result<bool, Fail> {
+    for at in 0..text.len() {
+        let (front, back) = text.split_at(at);
+        if !is_right(alloc, text, &[front, back])? {
+            return Ok(false);
+        }
+    }
+    Ok(true)
+}
+
+// Whether nothing changes in pieces of this size.
+fn may_have_pieces(alloc: Global, text: &[u8], size: usize) -> Result<bool, Fail> {
+    if size == 0 {
+        return Err(Fail::from("no size"));
+    }
+    let mut pieces: Vec<&[u8]> = Vec::new(alloc);
+    for piece in text.chunks(size) {
+        pieces.push(piece)?;
+    }
+    is_right(alloc, text, &pieces)
+}
+
+/// Each text, cut at each byte and in pieces of 1, 2, 3 and 7 bytes, has the tokens or the fault of the whole.
 #[test]
-fn cuts_change_nothing(rt: HostRuntime) -> Result<(), Fail> {
+fn pieces_change_nothing(rt: HostRuntime) -> Result<(), Fail> {
     let alloc = rt.alloc();
     for text in TEXTS {
-        let want = of_whole(alloc, text)?;
-        for at in 0..text.len() {
-            let (front, back) = text.split_at(at);
-            let found = of_pieces(alloc, &[front, back])?;
-            assert!(rt; found == want, "cut at {at}");
-        }
+        assert!(rt; may_be_cut(alloc, text)?);
+        assert!(rt;
+            may_have_pieces(alloc, text, 1)?
+                && may_have_pieces(alloc, text, 2)?
+                && may_have_pieces(alloc, text, 3)?
+                && may_have_pieces(alloc, text, 7)?
+        );
     }
     Ok(())
 }
 
-/// So has each text in pieces of 1, 2, 3 and 7 bytes.
-#[test]
-fn small_pieces_change_nothing(rt: HostRuntime) -> Result<(), Fail> {
-    let alloc = rt.alloc();
-    for text in TEXTS {
-        let want = of_whole(alloc, text)?;
-        for size in [1usize, 2, 3, 7] {
-            let mut pieces: Vec<&[u8]> = Vec::new(alloc);
-            for piece in text.chunks(size) {
-                pieces.push(piece)?;
-            }
-            let found = of_pieces(alloc, &pieces)?;
-            assert!(rt; found == want, "pieces of {size}");
-        }
-    }
-    Ok(())
-}
+/// Pieces, and how many tokens each call hands out, finish last, and so what waits; none where it answers a fault.
+static HANDED_OUT: &[(&[&[u8]], &[Option<usize>])] = &[
+    // a token that touches the end waits
+    (&[b"ab", b" "], &[Some(0), Some(1), Some(1)]),
+    (&[b"ab ", b""], &[Some(1), Some(0), Some(1)]),
+    (&[b"a|", b"-"], &[Some(1), Some(0), Some(2)]),
+    (&[b"(", b")"], &[Some(0), Some(1), Some(2)]),
+    // so do '!' and '-'
+    (&[b"a !", b"="], &[Some(1), Some(0), Some(2)]),
+    (&[b"a -", b"> b"], &[Some(1), Some(1), Some(2)]),
+    (&[b"a -", b""], &[Some(1), Some(0), None]),
+    (&[b"a -", b" "], &[Some(1), None, None]),
+    // a character that is cut waits, with the token before it, in a comment too
+    (&[b"x \xc3", b"\xa9;"], &[Some(1), Some(1), Some(2)]),
+    (&[b"x\xc3", b"\xa9;"], &[Some(0), Some(1), Some(2)]),
+    (
+        &[b"# \xe2", b"\x82", b"\xac\nb "],
+        &[Some(0), Some(0), Some(1), Some(1)],
+    ),
+    // a name is a token, however long it is
+    (
+        &[
+            b"abcdefghijklmnopqrstuvwxyzabcd",
+            b"efghijklmnopqrstuvwxyzabcdefgh",
+            b"ijklmnopqr",
+            b" ",
+        ],
+        &[Some(0), Some(0), Some(0), None, None],
+    ),
+    // a fault is told where its bytes are taken, and by every later call
+    (&[b"a ! ", b"b ", b"c"], &[None, None, None, None]),
+    (&[b"a \xff", b"b ", b"c"], &[None, None, None, None]),
+];
 
-/// What each call hands out, and so what waits.
 #[test]
 fn hands_out_what_cannot_change(rt: HostRuntime) -> Result<(), Fail> {
     let alloc = rt.alloc();
-    let name = LETTERS.as_slice();
-    let (first, rest) = name.split_at(30);
-    let (second, third) = rest.split_at(30);
-    let table: [(&[&[u8]], &[Option<usize>]); 14] = [
-        // a token that touches the end waits
-        (&[b"ab", b" "], &[Some(0), Some(1), Some(1)]),
-        (&[b"ab ", b""], &[Some(1), Some(0), Some(1)]),
-        (&[b"a|", b"-"], &[Some(1), Some(0), Some(2)]),
-        (&[b"(", b")"], &[Some(0), Some(1), Some(2)]),
-        // so do '!' and '-'
-        (&[b"a !", b"="], &[Some(1), Some(0), Some(2)]),
-        (&[b"a -", b"> b"], &[Some(1), Some(1), Some(2)]),
-        (&[b"a -", b""], &[Some(1), Some(0), None]),
-        (&[b"a -", b" "], &[Some(1), None, None]),
-        // a character that is cut waits, with the token before it, in a comment too
-        (&[b"x \xc3", b"\xa9;"], &[Some(1), Some(1), Some(2)]),
-        (&[b"x\xc3", b"\xa9;"], &[Some(0), Some(1), Some(2)]),
-        (
-            &[b"# \xe2", b"\x82", b"\xac\nb "],
-            &[Some(0), Some(0), Some(1), Some(1)],
-        ),
-        // a name is a token, however long it is
-        (
-            &[first, second, third, b" "],
-            &[Some(0), Some(0), Some(0), None, None],
-        ),
-        // a fault is told where its bytes are taken, and by every later call
-        (&[b"a ! ", b"b ", b"c"], &[None, None, None, None]),
-        (&[b"a \xff", b"b ", b"c"], &[None, None, None, None]),
-    ];
-    for (pieces, want) in table {
-        let found = counts(alloc, pieces)?;
-        assert!(rt; found.as_slice() == want, "{found:?} {want:?}");
+    for (pieces, wanted) in HANDED_OUT {
+        assert_eq!(rt; counts(alloc, pieces)?.as_slice(), *wanted);
     }
     Ok(())
 }
@@ -212,10 +200,13 @@ fn keeps_the_first_fault(rt: HostRuntime) {
         line: 2,
         column: 2,
     });
-    assert_eq!(rt; lexer.feed(b"a\n 1234567").err(), None);
-    assert_eq!(rt; lexer.feed(b"890 ").err(), first);
-    assert_eq!(rt; lexer.feed(b"\xff").err(), first);
-    assert_eq!(rt; lexer.finish().err(), first);
+    let faults = [
+        lexer.feed(b"a\n 1234567").err(),
+        lexer.feed(b"890 ").err(),
+        lexer.feed(b"\xff").err(),
+        lexer.finish().err(),
+    ];
+    assert_eq!(rt; faults, [None, first, first, first]);
 }
 
 /// The statements of a text, and what is left after the last `;`.

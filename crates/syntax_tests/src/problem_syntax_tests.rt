@@ -1,25 +1,19 @@
-use cyc_lex::{ReadFault, tokens};
+use cyc_lex::tokens;
+use cyc_runs::answer_to_fault;
 use problem_syntax::read_problem_tree;
 use std::alloc::Global;
 use std::test::Fail;
 
-/// The number, line and column of the dead token; none where the text is read.
-fn dead(alloc: Global, bytes: &[u8]) -> Result<Option<(u32, u32, u32)>, &'static str> {
+/// The line that tells the fault of a text; empty where it is read.
+fn fault_line(alloc: Global, bytes: &[u8]) -> Result<Vec<u8>, Fail> {
     if bytes.len() > 10000 {
-        return Err("long");
+        return Err(Fail::from("long"));
     }
     match tokens(alloc, bytes) {
-        Err(_) => Err("no tokens"),
+        Err(_) => Err(Fail::from("no tokens")),
         Ok(list) => match read_problem_tree(alloc, &list) {
-            Ok(_) => Ok(None),
-            Err(
-                ReadFault::Syntax {
-                    token,
-                    line,
-                    column,
-                },
-            ) => Ok(Some((token, line, column))),
-            Err(_) => Err("another fault"),
+            Ok(_) => Ok(Vec::new(alloc)),
+            Err(fault) => Ok(answer_to_fault(alloc, fault)?.text),
         },
     }
 }
@@ -41,50 +35,64 @@ goal from 1 given x' = y : ls(x, x') * x' -> (y', y);
 end;
 ";
 
-/// A problem with every form of line and atom is read.
-#[test]
-fn reads_all_forms(rt: HostRuntime) -> Result<(), Fail> {
-    assert_eq!(rt; dead(rt.alloc(), ALL_FORMS)?, None);
-    Ok(())
-}
+/// A problem with every form of line and atom, which is read, and small texts with their first dead token.
+static TEXTS: &[(&[u8], &[u8])] = &[
+    (ALL_FORMS, b""),
+    (
+        b"cyclist proof 1;",
+        b"unreadable syntax token 1 line 1 column 9\n",
+    ),
+    (
+        b"cyclist problem 2;",
+        b"unreadable syntax token 4 line 1 column 19\n",
+    ),
+    (
+        b"cyclist problem 3;",
+        b"unreadable syntax token 2 line 1 column 17\n",
+    ),
+    (
+        b"cyclist problem 02;",
+        b"unreadable syntax token 2 line 1 column 17\n",
+    ),
+    (
+        b"cyclist problem 1;\npred p(x,) {",
+        b"unreadable syntax token 9 line 2 column 10\n",
+    ),
+    (
+        b"cyclist problem 1;\npred p() { true : x' -> (x) };",
+        b"unreadable syntax token 12 line 2 column 20\n",
+    ),
+    (
+        b"cyclist problem 1;\nline 1 : x' := y;",
+        b"unreadable syntax token 8 line 2 column 11\n",
+    ),
+    (
+        b"cyclist problem 1;\nline 1 : nil := y;",
+        b"unreadable syntax token 8 line 2 column 14\n",
+    ),
+    (
+        b"cyclist problem 1;\ngoal true : x |- true : emp;\nend;",
+        b"unreadable syntax token 8 line 2 column 15\n",
+    ),
+    (
+        b"cyclist problem 1;\ngoal x' = y : emp |- true : p(x') or true : emp;\nend; end",
+        b"unreadable syntax token 26 line 3 column 6\n",
+    ),
+    (
+        b"cyclist problem 1;\nline 1 : if * goto 1;",
+        b"unreadable syntax token 8 line 2 column 13\n",
+    ),
+    (
+        b"cyclist problem 2;\nline 1 : if * goto 1;",
+        b"unreadable syntax token 12 line 2 column 22\n",
+    ),
+];
 
-/// The first dead token of small texts.
 #[test]
 fn finds_first_dead_token(rt: HostRuntime) -> Result<(), Fail> {
     let alloc = rt.alloc();
-    assert_eq!(rt; dead(alloc, b"cyclist proof 1;")?, Some((1, 1, 9)));
-    assert_eq!(rt; dead(alloc, b"cyclist problem 2;")?, Some((4, 1, 19)));
-    assert_eq!(rt; dead(alloc, b"cyclist problem 3;")?, Some((2, 1, 17)));
-    assert_eq!(rt; dead(alloc, b"cyclist problem 02;")?, Some((2, 1, 17)));
-    assert_eq!(rt;
-        dead(alloc, b"cyclist problem 1;\npred p(x,) {")?,
-        Some((9, 2, 10))
-    );
-    assert_eq!(rt;
-        dead(alloc, b"cyclist problem 1;\npred p() { true : x' -> (x) };")?,
-        Some((12, 2, 20))
-    );
-    assert_eq!(rt;
-        dead(alloc, b"cyclist problem 1;\nline 1 : x' := y;")?,
-        Some((8, 2, 11))
-    );
-    assert_eq!(rt;
-        dead(alloc, b"cyclist problem 1;\nline 1 : nil := y;")?,
-        Some((8, 2, 14))
-    );
-    assert_eq!(rt;
-        dead(
-            alloc,
-            b"cyclist problem 1;\ngoal true : x |- true : emp;\nend;"
-        )?,
-        Some((8, 2, 15))
-    );
-    assert_eq!(rt;
-        dead(
-            alloc,
-            b"cyclist problem 1;\ngoal x' = y : emp |- true : p(x') or true : emp;\nend; end"
-        )?,
-        Some((26, 3, 6))
-    );
+    for (text, wanted) in TEXTS {
+        assert_eq!(rt; fault_line(alloc, text)?.as_slice(), *wanted);
+    }
     Ok(())
 }

@@ -1,152 +1,21 @@
-use cyc_lex::{ReadFault, tokens};
+use cyc_lex::tokens;
+use cyc_runs::answer_to_fault;
 use proof_syntax::{read_tree, write_tree};
 use std::alloc::Global;
 use std::test::Fail;
 
-/// The number, line and column of the dead token; none where the text is read.
-fn dead(alloc: Global, bytes: &[u8]) -> Result<Option<(u32, u32, u32)>, &'static str> {
+/// What is written of the tree that a text spells, or the line that tells its fault.
+fn answer(alloc: Global, bytes: &[u8]) -> Result<Vec<u8>, Fail> {
     if bytes.len() > 10000 {
-        return Err("long");
+        return Err(Fail::from("long"));
     }
     match tokens(alloc, bytes) {
-        Err(_) => Err("no tokens"),
+        Err(_) => Err(Fail::from("no tokens")),
         Ok(list) => match read_tree(alloc, &list) {
-            Ok(_) => Ok(None),
-            Err(
-                ReadFault::Syntax {
-                    token,
-                    line,
-                    column,
-                },
-            ) => Ok(Some((token, line, column))),
-            Err(_) => Err("another fault"),
+            Ok(tree) => Ok(write_tree(alloc, &tree)?),
+            Err(fault) => Ok(answer_to_fault(alloc, fault)?.text),
         },
     }
-}
-
-/// What is written of the tree that a text spells.
-fn again(alloc: Global, bytes: &[u8]) -> Result<Vec<u8>, &'static str> {
-    if bytes.len() > 10000 {
-        return Err("long");
-    }
-    match tokens(alloc, bytes) {
-        Err(_) => Err("no tokens"),
-        Ok(list) => match read_tree(alloc, &list) {
-            Err(_) => Err("not read"),
-            Ok(tree) => write_tree(alloc, &tree).map_err(|_| "no memory"),
-        },
-    }
-}
-
-/// First statements with no version's number.
-static VERSIONS: &[&[u8]] = &[
-    b"cyclist proof 01;",
-    b"cyclist proof 02;",
-    b"cyclist proof 3;",
-    b"cyclist proof 0;",
-    b"cyclist proof 12;",
-    b"cyclist proof two;",
-    b"cyclist proof ;",
-];
-
-/// The first dead token of small texts.
-#[test]
-fn finds_first_dead_token(rt: HostRuntime) -> Result<(), Fail> {
-    let alloc = rt.alloc();
-    assert_eq!(rt; dead(alloc, b"")?, Some((0, 1, 1)));
-    assert_eq!(rt; dead(alloc, b"cyclist proof 1;")?, Some((4, 1, 17)));
-    assert_eq!(rt; dead(alloc, b"cyclist proof 2;")?, Some((4, 1, 17)));
-    for text in VERSIONS {
-        assert_eq!(rt; dead(alloc, text)?, Some((2, 1, 15)));
-    }
-    assert_eq!(rt;
-        dead(
-            alloc,
-            b"cyclist proof 1;\nnode true : emp |- true : emp by Done to 0;\nend; end;\n"
-        )?,
-        Some((19, 3, 6))
-    );
-    assert_eq!(rt;
-        dead(
-            alloc,
-            b"cyclist proof 1;\nnode true : emp |- true : emp by Done to 0;\nend"
-        )?,
-        Some((18, 3, 4))
-    );
-    assert_eq!(rt;
-        dead(
-            alloc,
-            b"cyclist proof 1;\nnode $0 = $01 : emp |- true : emp by Done;\nend;"
-        )?,
-        Some((9, 2, 12))
-    );
-    assert_eq!(rt;
-        dead(
-            alloc,
-            b"cyclist proof 1;\nnode true : ?0 -> (nil) |- true : emp by Done;\nend;"
-        )?,
-        Some((7, 2, 13))
-    );
-    assert_eq!(rt;
-        dead(alloc, b"cyclist proof 1;\npred node(1) { true : emp };")?,
-        Some((5, 2, 6))
-    );
-    assert_eq!(rt;
-        dead(alloc, b"cyclist proof 1;\npred p(1) { true : $0 -> () };")?,
-        Some((16, 2, 27))
-    );
-    assert_eq!(rt;
-        dead(
-            alloc,
-            b"cyclist proof 1;\nnode true : emp |- true : emp by done;"
-        )?,
-        Some((13, 2, 34))
-    );
-    assert_eq!(rt;
-        dead(
-            alloc,
-            b"cyclist proof 1;\nnode true : emp |- true : emp by Done to;"
-        )?,
-        Some((15, 2, 41))
-    );
-    Ok(())
-}
-
-/// Texts with their first dead token.
-static DEAD: &[(&[u8], (u32, u32, u32))] = &[
-    (b"cyclist proof 1;\nline 1 : $0 := new;", (11, 2, 19)),
-    (b"cyclist proof 1;\nline 1 : if $0 goto 2;", (10, 2, 16)),
-    (b"cyclist proof 1;\nline 1 : ?0 := nil;", (7, 2, 10)),
-    (
-        b"cyclist proof 1;\nnode true : emp |- true : emp by Done;\nline 1 : stop;\nend;",
-        (15, 3, 1),
-    ),
-    (
-        b"cyclist proof 1;\nnode from 1 true : emp by Exec;\nend;",
-        (7, 2, 13),
-    ),
-    (
-        b"cyclist proof 1;\nnode from 1 given ?0 = nil : emp by Exec;\nend;",
-        (8, 2, 19),
-    ),
-    (
-        b"cyclist proof 1;\nnode from 1 given true : emp |- true : emp by Exec;\nend;",
-        (11, 2, 30),
-    ),
-    (
-        b"cyclist proof 1;\nnode from 1 given true : emp by Drop;\nend;",
-        (13, 2, 37),
-    ),
-];
-
-/// The first dead token of lines and of judgements that start from a line.
-#[test]
-fn finds_dead_tokens_of_programs(rt: HostRuntime) -> Result<(), Fail> {
-    let alloc = rt.alloc();
-    for (text, place) in DEAD {
-        assert_eq!(rt; dead(alloc, text)?, Some(*place));
-    }
-    Ok(())
 }
 
 const ALL_REASONS: &[u8] = b"cyclist proof 1;
@@ -184,10 +53,130 @@ node true : emp |- true : emp by Link 12 { $0 := nil, $3 := $1 } [1 0] [0 0 3];
 end;
 ";
 
-/// A text in the written form, with every kind of atom, every command and every reason, is written as it stands.
+/// A text in the written form, with every kind of atom, every command and every reason, which is written as it stands, and
+/// small texts with their first dead token.
+static TEXTS: &[(&[u8], &[u8])] = &[
+    (ALL_REASONS, ALL_REASONS),
+    // no version's number
+    (
+        b"cyclist proof 01;",
+        b"unreadable syntax token 2 line 1 column 15\n",
+    ),
+    (
+        b"cyclist proof 02;",
+        b"unreadable syntax token 2 line 1 column 15\n",
+    ),
+    (
+        b"cyclist proof 3;",
+        b"unreadable syntax token 2 line 1 column 15\n",
+    ),
+    (
+        b"cyclist proof 0;",
+        b"unreadable syntax token 2 line 1 column 15\n",
+    ),
+    (
+        b"cyclist proof 12;",
+        b"unreadable syntax token 2 line 1 column 15\n",
+    ),
+    (
+        b"cyclist proof two;",
+        b"unreadable syntax token 2 line 1 column 15\n",
+    ),
+    (
+        b"cyclist proof ;",
+        b"unreadable syntax token 2 line 1 column 15\n",
+    ),
+    // no text of the grammar
+    (b"", b"unreadable syntax token 0 line 1 column 1\n"),
+    (
+        b"cyclist proof 1;",
+        b"unreadable syntax token 4 line 1 column 17\n",
+    ),
+    (
+        b"cyclist proof 2;",
+        b"unreadable syntax token 4 line 1 column 17\n",
+    ),
+    (
+        b"cyclist proof 1;\nnode true : emp |- true : emp by Done to 0;\nend; end;\n",
+        b"unreadable syntax token 19 line 3 column 6\n",
+    ),
+    (
+        b"cyclist proof 1;\nnode true : emp |- true : emp by Done to 0;\nend",
+        b"unreadable syntax token 18 line 3 column 4\n",
+    ),
+    (
+        b"cyclist proof 1;\nnode $0 = $01 : emp |- true : emp by Done;\nend;",
+        b"unreadable syntax token 9 line 2 column 12\n",
+    ),
+    (
+        b"cyclist proof 1;\nnode true : ?0 -> (nil) |- true : emp by Done;\nend;",
+        b"unreadable syntax token 7 line 2 column 13\n",
+    ),
+    (
+        b"cyclist proof 1;\npred node(1) { true : emp };",
+        b"unreadable syntax token 5 line 2 column 6\n",
+    ),
+    (
+        b"cyclist proof 1;\npred p(1) { true : $0 -> () };",
+        b"unreadable syntax token 16 line 2 column 27\n",
+    ),
+    (
+        b"cyclist proof 1;\nnode true : emp |- true : emp by done;",
+        b"unreadable syntax token 13 line 2 column 34\n",
+    ),
+    (
+        b"cyclist proof 1;\nnode true : emp |- true : emp by Done to;",
+        b"unreadable syntax token 15 line 2 column 41\n",
+    ),
+    // lines, and judgements that start from a line
+    (
+        b"cyclist proof 1;\nline 1 : $0 := new;",
+        b"unreadable syntax token 11 line 2 column 19\n",
+    ),
+    (
+        b"cyclist proof 1;\nline 1 : if $0 goto 2;",
+        b"unreadable syntax token 10 line 2 column 16\n",
+    ),
+    (
+        b"cyclist proof 1;\nline 1 : ?0 := nil;",
+        b"unreadable syntax token 7 line 2 column 10\n",
+    ),
+    (
+        b"cyclist proof 1;\nnode true : emp |- true : emp by Done;\nline 1 : stop;\nend;",
+        b"unreadable syntax token 15 line 3 column 1\n",
+    ),
+    (
+        b"cyclist proof 1;\nnode from 1 true : emp by Exec;\nend;",
+        b"unreadable syntax token 7 line 2 column 13\n",
+    ),
+    (
+        b"cyclist proof 1;\nnode from 1 given ?0 = nil : emp by Exec;\nend;",
+        b"unreadable syntax token 8 line 2 column 19\n",
+    ),
+    (
+        b"cyclist proof 1;\nnode from 1 given true : emp |- true : emp by Exec;\nend;",
+        b"unreadable syntax token 11 line 2 column 30\n",
+    ),
+    (
+        b"cyclist proof 1;\nnode from 1 given true : emp by Drop;\nend;",
+        b"unreadable syntax token 13 line 2 column 37\n",
+    ),
+    // a free branch
+    (
+        b"cyclist proof 1;\nline 1 : if * goto 1;",
+        b"unreadable syntax token 8 line 2 column 13\n",
+    ),
+    (
+        b"cyclist proof 2;\nline 1 : if * goto 1;",
+        b"unreadable syntax token 12 line 2 column 22\n",
+    ),
+];
+
 #[test]
-fn writes_what_it_reads(rt: HostRuntime) -> Result<(), Fail> {
-    let text = again(rt.alloc(), ALL_REASONS)?;
-    assert_eq!(rt; text.as_slice(), ALL_REASONS);
+fn reads_writes_and_finds_dead_tokens(rt: HostRuntime) -> Result<(), Fail> {
+    let alloc = rt.alloc();
+    for (text, wanted) in TEXTS {
+        assert_eq!(rt; answer(alloc, text)?.as_slice(), *wanted);
+    }
     Ok(())
 }

@@ -88,6 +88,13 @@ node true : $0 -> (nil) * $1 -> (nil) * $2 -> (nil) * $3 -> (nil) * $4 -> (nil) 
 end;
 ";
 
+static FOR_EVER: &str = "cyclist problem 2;
+line 1 : if * goto 1;
+line 2 : stop;
+goal from 1 given true : emp;
+end;
+";
+
 static REFUSED: &str =
     "cyclist proof 1; line 1:free $0; line 2 : stop; node from 1 given true:emp by Exec; end;";
 
@@ -124,7 +131,7 @@ fn ending(alloc: Global, line: &str, input: &[u8]) -> Result<(u8, Vec<u8>), Fail
 #[test]
 fn searches_and_rings(rt: HostRuntime) -> Result<(), Fail> {
     let alloc = rt.alloc();
-    let runs: [Run; 22] = [
+    let runs: [Run; 23] = [
         ("prove", COMPOSE, 0, COMPOSED),
         ("prove --depth 5", COMPOSE, 0, COMPOSED),
         ("prove --depth 4", COMPOSE, 6, "not found depth 4\n"),
@@ -133,6 +140,7 @@ fn searches_and_rings(rt: HostRuntime) -> Result<(), Fail> {
         ("prove --depth 0", COMPOSE, 2, USAGE),
         ("prove --help", COMPOSE, 2, USAGE),
         ("prove", WALK, 0, WALKED),
+        ("prove", FOR_EVER, 6, "not found depth 16\n"),
         ("prove --depth 1", SEVENTEEN, 0, ABSURD),
         ("upgrade", ABSURD, 0, ABSURD),
         ("upgrade", REFUSED, 0, REFUSED_AGAIN),

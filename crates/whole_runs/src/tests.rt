@@ -539,6 +539,21 @@ static PROGRAMS: &[Text] = &[
         1,
         "refused node 1 NoCell",
     ),
+    (
+        b"cyclist proof 2;\npred list(1) { $0 = nil : emp | true : $0 -> (?0) * list(?0) };\nline 1 : if $0 = nil goto 5;\nline 2 : if * goto 5;\nline 3 : $0 := $0.1;\nline 4 : goto 1;\nline 5 : stop;\nnode from 1 given true : list($0) by Exec to 1 2;\nnode from 5 given $0 = nil : list($0) by Exec;\nnode from 2 given $0 != nil : list($0) by Exec to 3 4;\nnode from 5 given $0 != nil : list($0) by Exec;\nnode from 3 given $0 != nil : list($0) by Unfold 0 to 5 7;\nnode from 3 given $0 != nil, $0 = nil : emp by Rewrite 1 left to 6;\nnode from 3 given nil != nil, $0 = nil : emp by Absurd;\nnode from 3 given $0 != nil : $0 -> ($1) * list($1) by Exec to 8;\nnode from 4 given $2 != nil, $0 = $1 : $2 -> ($1) * list($1) by Rewrite 1 right to 9;\nnode from 4 given $2 != nil : $2 -> ($0) * list($0) by Exec to 10;\nnode from 1 given $2 != nil : $2 -> ($0) * list($0) by Link 0 { $0 := $0 } [1] [];\nend;\n",
+        0,
+        "accepted termination nodes 11 links 1",
+    ),
+    (
+        b"cyclist proof 2;\nline 1 : if * goto 1;\nline 2 : stop;\nnode from 1 given true : emp by Exec to 1 2;\nnode from 1 given true : emp by Link 0 { } [] [];\nnode from 2 given true : emp by Exec;\nend;\n",
+        1,
+        "refused path stem cycle 0.0 1.0",
+    ),
+    (
+        b"cyclist proof 2;\nline 1 : if * goto 2;\nline 2 : stop;\nnode from 1 given true : emp by Exec to 1;\nnode from 2 given true : emp by Exec;\nend;\n",
+        1,
+        "refused node 0 PremiseCount",
+    ),
 ];
 
 // Programs that are no programs.
@@ -557,6 +572,21 @@ static ILL_PROGRAMS: &[Text] = &[
         b"cyclist proof 1;\nline 2 : stop;\nnode true : emp |- true : emp by Done;\nend;\n",
         4,
         "ill-formed numbering token 5 line 2 column 6",
+    ),
+    (
+        b"cyclist proof 2;\nline 1 : if * goto 0;\nline 2 : stop;\nnode true : emp |- true : emp by Done;\nend;\n",
+        4,
+        "ill-formed jump token 10 line 2 column 20",
+    ),
+    (
+        b"cyclist proof 2;\nline 1 : if * goto 1;\nnode true : emp |- true : emp by Done;\nend;\n",
+        4,
+        "ill-formed falls-off token 4 line 2 column 1",
+    ),
+    (
+        b"cyclist proof 1;\nline 1 : if * goto 1;\nline 2 : stop;\nnode true : emp |- true : emp by Done;\nend;\n",
+        3,
+        "unreadable syntax token 8 line 2 column 13",
     ),
 ];
 
