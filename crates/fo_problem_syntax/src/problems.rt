@@ -72,7 +72,8 @@ pub fn read_problem_tree<'a>(
     // What is read is spelled so; a fault stands at the first dead token.
     ensures exact { Reads problem_syntax problem_of tokens.now result }
     // What is spelled so is read, unless memory runs out.
-    ensures again { (t : Problem) → problem_syntax.fits t → map word_of tokens.now ≡ problem_syntax.words t → IsRead problem_of t result }
+    ensures again { (t : Problem) → problem_syntax.fits t → map word_of tokens.now ≡ problem_syntax.words t
+        → IsRead problem_of t result }
 {
     match whole_problem(alloc, tokens.as_slice()) {
         Ok(tree) => Ok(tree),

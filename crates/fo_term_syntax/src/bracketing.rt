@@ -31,7 +31,8 @@ fn put<'a>(
     marks: &mut Vec<Mark<'a>>,
     waits: &mut Stack,
 ) -> Result<(), AllocError>
-    ensures marks { OnOk result (map mark_seen marks.new.items ≡ map mark_seen marks.old.items ++ mark_of (sign_of sign.entry) ∷ []) }
+    ensures marks { OnOk result (map mark_seen marks.new.items
+        ≡ map mark_seen marks.old.items ++ mark_of (sign_of sign.entry) ∷ []) }
     ensures waits { OnOk result (waits.new ≡ opened (sign_of sign.entry) waits.old) }
 {
     match sign {

@@ -30,7 +30,8 @@ fn count<'a>(
 ) -> Result<(), AllocError>
     requires inner { innermost counts.old + 1 < 2 ^ 64 }
     requires next { innermost (outer counts.old) + 1 < 2 ^ 64 }
-    ensures { OnOk result ((reverse (map sign_of signs.new.items), counts.new) ≡ count (mark_seen mark.entry) (reverse (map sign_of signs.old.items), counts.old)) }
+    ensures { OnOk result ((reverse (map sign_of signs.new.items), counts.new)
+        ≡ count (mark_seen mark.entry) (reverse (map sign_of signs.old.items), counts.old)) }
 {
     match mark {
         Mark::Leaf(sign) => {

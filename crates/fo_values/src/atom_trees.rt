@@ -29,7 +29,8 @@ fn push_terms<'a>(
     values: &[Term],
     signs: &mut Vec<SignTree<'a>>,
 ) -> Result<(), OutOfMemory>
-    ensures { OnOk result (map sign_of signs.new.items ≡ map sign_of signs.old.items ++ flat_map (term_tree theory.now) values.now) }
+    ensures { OnOk result (map sign_of signs.new.items
+        ≡ map sign_of signs.old.items ++ flat_map (term_tree theory.now) values.now) }
 {
     for value in values {
         push_signs(theory, value.as_slice(), signs)?;

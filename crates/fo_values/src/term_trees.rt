@@ -39,7 +39,8 @@ pub fn push_signs<'a>(
     values: &[Sign],
     signs: &mut Vec<SignTree<'a>>,
 ) -> Result<(), OutOfMemory>
-    ensures { OnOk result (map sign_of signs.new.items ≡ map sign_of signs.old.items ++ term_tree theory.now values.now) }
+    ensures { OnOk result (map sign_of signs.new.items
+        ≡ map sign_of signs.old.items ++ term_tree theory.now values.now) }
 {
     for value in values {
         signs.push(sign(theory, *value))?;

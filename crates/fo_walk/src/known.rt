@@ -55,7 +55,8 @@ impl<'a> Names<'a> {
         constructors: &[ConstructorTree<'a>],
         definitions: &[DefinitionTree<'a>],
     ) -> Result<Names<'a>, OutOfMemory>
-        ensures constructors { IfOk result (λ n. n.constructors ≡ constructors_of (map constructor_of constructors.now)) }
+        ensures constructors { IfOk result (λ n. n.constructors
+            ≡ constructors_of (map constructor_of constructors.now)) }
         ensures predicates { IfOk result (λ n. n.predicates ≡ predicates_of (map definition_of definitions.now)) }
     {
         let constructors = constructor_heads(alloc, constructors)?;

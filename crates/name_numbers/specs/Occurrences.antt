@@ -8,7 +8,7 @@ use Rattle.command_syntax.specs.declared.tree.OperandTree.TheVariants.{Nil as Ni
 use Rattle.command_syntax.specs.declared.tree.ChangeTree.{ChangeTree}
 use Rattle.command_syntax.specs.declared.tree.ChangeTree.TheVariants.{New, Assign, Load, Store}
 use Rattle.command_syntax.specs.declared.tree.CommandTree.{CommandTree}
-use Rattle.command_syntax.specs.declared.tree.CommandTree.TheVariants.{Stop, Goto, Free, If, StoreAtNil, Change}
+use Rattle.command_syntax.specs.declared.tree.CommandTree.TheVariants.{Stop, Goto, Free, IfAny, If, StoreAtNil, Change}
 use Rattle.problem_syntax.specs.Trees.{Named, Nil, Plain, Primed, Spatial, Heap, Line, Goal, Entailment, From}
 use Rattle.name_numbers.specs.Names.{Name}
 
@@ -56,6 +56,7 @@ change_names (Store n t) = operand_names t
 
 abbrev pub command_names : CommandTree (List ℕ) → List Name
 command_names Stop = []
+command_names (IfAny n) = []
 command_names (Goto n) = []
 command_names (Free t) = operand_names t
 command_names (If t b u n) = operand_names t ++ operand_names u

@@ -48,7 +48,8 @@ fn cases<'a>(
     parameters: &Names<'a>,
     trees: &[HeapTree<'a>],
 ) -> Result<Vec<NumberedHeap<'a>>, OutOfMemory>
-    ensures { IfOk result (λ v. map heap_of v.items ≡ map (case_number (names_of parameters.now)) (map named.heap_of trees.now)) }
+    ensures { IfOk result (λ v. map heap_of v.items
+        ≡ map (case_number (names_of parameters.now)) (map named.heap_of trees.now)) }
 {
     let mut cases = Vec::with_capacity(alloc, trees.len())?;
     for tree in trees {

@@ -52,7 +52,8 @@ fn spatial_atom<'a>(
     scope: &Scope<'_, 'a>,
     tree: &SpatialTree<'a, NameTree<'a>>,
 ) -> Result<SpatialTree<'a, NumberedTerm>, OutOfMemory>
-    ensures { IfOk result (λ t. spatial_of t ≡ spatial_number (scope_of scope.now) (spatial_tree_of named_of tree.now)) }
+    ensures { IfOk result (λ t. spatial_of t
+        ≡ spatial_number (scope_of scope.now) (spatial_tree_of named_of tree.now)) }
 {
     match tree {
         SpatialTree::Cell(address, fields) => {
@@ -71,7 +72,8 @@ fn spatial_atoms<'a>(
     scope: &Scope<'_, 'a>,
     trees: &[SpatialTree<'a, NameTree<'a>>],
 ) -> Result<Vec<SpatialTree<'a, NumberedTerm>>, OutOfMemory>
-    ensures { IfOk result (λ v. map spatial_of v.items ≡ map (spatial_number (scope_of scope.now)) (map (spatial_tree_of named_of) trees.now)) }
+    ensures { IfOk result (λ v. map spatial_of v.items
+        ≡ map (spatial_number (scope_of scope.now)) (map (spatial_tree_of named_of) trees.now)) }
 {
     let mut atoms = Vec::with_capacity(alloc, trees.len())?;
     for tree in trees {

@@ -22,7 +22,8 @@ fn term_names<'a>(
     mut names: Vec<NameUse<'a>>,
     term: NameTree<'a>,
 ) -> Result<Vec<NameUse<'a>>, OutOfMemory>
-    ensures { IfOk result (λ v. map name_of v.items ≡ map name_of names.entry.items ++ names_of_term (named_of term.entry)) }
+    ensures { IfOk result (λ v. map name_of v.items
+        ≡ map name_of names.entry.items ++ names_of_term (named_of term.entry)) }
 {
     let name = match term {
         NameTree::Nil => return Ok(names),
@@ -40,7 +41,8 @@ fn terms_names<'a>(
     mut names: Vec<NameUse<'a>>,
     terms: &[NameTree<'a>],
 ) -> Result<Vec<NameUse<'a>>, OutOfMemory>
-    ensures { IfOk result (λ v. map name_of v.items ≡ map name_of names.entry.items ++ flat_map names_of_term (map named_of terms.now)) }
+    ensures { IfOk result (λ v. map name_of v.items
+        ≡ map name_of names.entry.items ++ flat_map names_of_term (map named_of terms.now)) }
 {
     for term in terms {
         names = term_names(names, *term)?;
@@ -52,7 +54,8 @@ fn pure_names<'a>(
     mut names: Vec<NameUse<'a>>,
     atoms: &[PureTree<NameTree<'a>>],
 ) -> Result<Vec<NameUse<'a>>, OutOfMemory>
-    ensures { IfOk result (λ v. map name_of v.items ≡ map name_of names.entry.items ++ flat_map names_of_pure (map (pure_of named_of) atoms.now)) }
+    ensures { IfOk result (λ v. map name_of v.items
+        ≡ map name_of names.entry.items ++ flat_map names_of_pure (map (pure_of named_of) atoms.now)) }
 {
     for atom in atoms {
         let left = term_names(names, atom.left)?;
@@ -65,7 +68,8 @@ fn spatial_atom_names<'a>(
     names: Vec<NameUse<'a>>,
     atom: &SpatialTree<'a, NameTree<'a>>,
 ) -> Result<Vec<NameUse<'a>>, OutOfMemory>
-    ensures { IfOk result (λ v. map name_of v.items ≡ map name_of names.entry.items ++ names_of_spatial (heaps.spatial_of named_of atom.now)) }
+    ensures { IfOk result (λ v. map name_of v.items
+        ≡ map name_of names.entry.items ++ names_of_spatial (heaps.spatial_of named_of atom.now)) }
 {
     match atom {
         SpatialTree::Cell(address, fields) => terms_names(term_names(names, *address)?, fields),
@@ -77,7 +81,8 @@ fn spatial_names<'a>(
     mut names: Vec<NameUse<'a>>,
     atoms: &[SpatialTree<'a, NameTree<'a>>],
 ) -> Result<Vec<NameUse<'a>>, OutOfMemory>
-    ensures { IfOk result (λ v. map name_of v.items ≡ map name_of names.entry.items ++ flat_map names_of_spatial (map (heaps.spatial_of named_of) atoms.now)) }
+    ensures { IfOk result (λ v. map name_of v.items
+        ≡ map name_of names.entry.items ++ flat_map names_of_spatial (map (heaps.spatial_of named_of) atoms.now)) }
 {
     for atom in atoms {
         names = spatial_atom_names(names, atom)?;
@@ -90,7 +95,8 @@ pub fn with_heap_names<'a>(
     names: Vec<NameUse<'a>>,
     heap: &HeapTree<'a>,
 ) -> Result<Vec<NameUse<'a>>, OutOfMemory>
-    ensures { IfOk result (λ v. map name_of v.items ≡ map name_of names.entry.items ++ names_of_heap (heap_of heap.now)) }
+    ensures { IfOk result (λ v. map name_of v.items
+        ≡ map name_of names.entry.items ++ names_of_heap (heap_of heap.now)) }
 {
     spatial_names(pure_names(names, &heap.pure)?, &heap.spatial)
 }
@@ -108,7 +114,8 @@ pub fn local_names<'a>(
     parameters: &Names<'a>,
     uses: &[NameUse<'a>],
 ) -> Result<Vec<NameUse<'a>>, OutOfMemory>
-    ensures { IfOk result (λ v. map name_of v.items ≡ filter (λ n. not (has (names_of parameters.now) n)) (map name_of uses.now)) }
+    ensures { IfOk result (λ v. map name_of v.items
+        ≡ filter (λ n. not (has (names_of parameters.now) n)) (map name_of uses.now)) }
 {
     let mut names = Vec::new(alloc);
     for name in uses {
@@ -140,7 +147,8 @@ pub fn with_plain_names<'a>(
     mut names: Vec<NameUse<'a>>,
     uses: &[NameUse<'a>],
 ) -> Result<Vec<NameUse<'a>>, OutOfMemory>
-    ensures { IfOk result (λ v. map name_of v.items ≡ map name_of names.entry.items ++ filter (λ n. not n.primed) (map name_of uses.now)) }
+    ensures { IfOk result (λ v. map name_of v.items
+        ≡ map name_of names.entry.items ++ filter (λ n. not n.primed) (map name_of uses.now)) }
 {
     for name in uses {
         if !name.primed {
@@ -167,7 +175,8 @@ fn operand_names<'a>(
     names: Vec<NameUse<'a>>,
     operand: OperandTree<&'a str>,
 ) -> Result<Vec<NameUse<'a>>, OutOfMemory>
-    ensures { IfOk result (λ v. map name_of v.items ≡ map name_of names.entry.items ++ names_of_operand (programs.operand_of text_of operand.entry)) }
+    ensures { IfOk result (λ v. map name_of v.items
+        ≡ map name_of names.entry.items ++ names_of_operand (programs.operand_of text_of operand.entry)) }
 {
     match operand {
         OperandTree::Nil => Ok(names),
@@ -179,7 +188,8 @@ fn change_names<'a>(
     names: Vec<NameUse<'a>>,
     change: ChangeTree<&'a str>,
 ) -> Result<Vec<NameUse<'a>>, OutOfMemory>
-    ensures { IfOk result (λ v. map name_of v.items ≡ map name_of names.entry.items ++ names_of_change (programs.change_of text_of change.entry)) }
+    ensures { IfOk result (λ v. map name_of v.items
+        ≡ map name_of names.entry.items ++ names_of_change (programs.change_of text_of change.entry)) }
 {
     match change {
         ChangeTree::New(_) => Ok(names),
@@ -193,10 +203,11 @@ fn command_names<'a>(
     names: Vec<NameUse<'a>>,
     command: CommandTree<&'a str>,
 ) -> Result<Vec<NameUse<'a>>, OutOfMemory>
-    ensures { IfOk result (λ v. map name_of v.items ≡ map name_of names.entry.items ++ names_of_command (programs.command_of text_of command.entry)) }
+    ensures { IfOk result (λ v. map name_of v.items
+        ≡ map name_of names.entry.items ++ names_of_command (programs.command_of text_of command.entry)) }
 {
     match command {
-        CommandTree::Stop | CommandTree::Goto(_) => Ok(names),
+        CommandTree::Stop | CommandTree::Goto(_) | CommandTree::IfAny(_) => Ok(names),
         CommandTree::Free(operand) | CommandTree::StoreAtNil(_, operand) => {
             operand_names(names, operand)
         }

@@ -28,7 +28,8 @@ fn with_disjunct_names<'a>(
     mut names: Vec<NameUse<'a>>,
     trees: &[HeapTree<'a>],
 ) -> Result<Vec<NameUse<'a>>, OutOfMemory>
-    ensures { IfOk result (λ v. map name_of v.items ≡ map name_of names.entry.items ++ flat_map plain_names (map named.heap_of trees.now)) }
+    ensures { IfOk result (λ v. map name_of v.items
+        ≡ map name_of names.entry.items ++ flat_map plain_names (map named.heap_of trees.now)) }
 {
     for tree in trees {
         names = with_plain_names(names, &heap_names(alloc, tree)?)?;
@@ -42,7 +43,8 @@ fn with_goal_names<'a>(
     names: Vec<NameUse<'a>>,
     goal: &GoalTree<'a>,
 ) -> Result<Vec<NameUse<'a>>, OutOfMemory>
-    ensures { IfOk result (λ v. map name_of v.items ≡ map name_of names.entry.items ++ names_of_goal (named.goal_of goal.now)) }
+    ensures { IfOk result (λ v. map name_of v.items
+        ≡ map name_of names.entry.items ++ names_of_goal (named.goal_of goal.now)) }
 {
     match goal {
         GoalTree::Entailment(antecedent, disjuncts) => {
@@ -70,7 +72,8 @@ fn disjuncts<'a>(
     universals: &Names<'a>,
     trees: &[HeapTree<'a>],
 ) -> Result<Vec<NumberedHeap<'a>>, OutOfMemory>
-    ensures { IfOk result (λ v. map heap_of v.items ≡ map (disjunct_number (names_of universals.now)) (map named.heap_of trees.now)) }
+    ensures { IfOk result (λ v. map heap_of v.items
+        ≡ map (disjunct_number (names_of universals.now)) (map named.heap_of trees.now)) }
 {
     let mut heaps = Vec::with_capacity(alloc, trees.len())?;
     for tree in trees {

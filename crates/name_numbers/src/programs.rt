@@ -49,6 +49,7 @@ fn command<'a>(variables: &Names<'a>, tree: CommandTree<&'a str>) -> CommandTree
     match tree {
         CommandTree::Stop => CommandTree::Stop,
         CommandTree::Goto(target) => CommandTree::Goto(target),
+        CommandTree::IfAny(target) => CommandTree::IfAny(target),
         CommandTree::Free(cell) => CommandTree::Free(operand(variables, cell)),
         CommandTree::If(left, is_equal, right, target) => {
             let left = operand(variables, left);

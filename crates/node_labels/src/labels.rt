@@ -80,7 +80,8 @@ fn labels_of_trees(
     flags: &VecDeque<Vec<bool>>,
 ) -> Result<Vec<Label>, OutOfMemory>
     requires { AllFit (map node_of nodes.items) }
-    ensures { IfOk result (λ v. map pieces_of v.items ≡ labels_of (map flag_list flags.now.items) 0 (map node_of nodes.entry.items)) }
+    ensures { IfOk result (λ v. map pieces_of v.items
+        ≡ labels_of (map flag_list flags.now.items) 0 (map node_of nodes.entry.items)) }
 {
     let mut labels = Vec::new(alloc);
     for node in nodes {

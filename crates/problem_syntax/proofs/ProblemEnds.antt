@@ -3,10 +3,10 @@ use Rattle.std.proofs.Common.{◌≡◌, ℕ, Bool, true, false, List, [], refl,
 use Rattle.std.specs.Prelude.{codes}
 use Rattle.cyc_lex.specs.Word.{are_lexemes}
 use Rattle.cyc_lex.proofs.Letters.{letters-name}
-use Rattle.cyc_grammar.specs.Syntax.{one, seq, is_one}
+use Rattle.cyc_grammar.specs.Syntax.{one, is_one}
 use Rattle.cyc_grammar.specs.Classes.{number}
 use Rattle.cyc_grammar.proofs.ClassLaws.{number-lexeme}
-use Rattle.cyc_grammar.proofs.Ends.{Inner, EndsLast, one-inner, seq-inner, after-inner, before-inner, alt-inner, many-inner, shaped-inner, nothing-inner, or_empty-inner, end-once}
+use Rattle.cyc_grammar.proofs.Ends.{Inner, EndsLast, one-inner, seq-inner, after-inner, before-inner, alt-inner, many-inner, shaped-inner, nothing-inner, headed-inner, or_empty-inner, end-once}
 use Rattle.heap_syntax.specs.Words.{nil, pred_word, or_word, last_word, cyclist_word, comma, semicolon, bar, arrow, turnstile, opening, closing, opening_brace, closing_brace, prime, free_name}
 use Rattle.heap_syntax.specs.declared.version.Version.{Version}
 use Rattle.heap_syntax.specs.Versions.{version}
@@ -15,7 +15,7 @@ use Rattle.heap_syntax.proofs.WordTexts.{nil-word, pred-word, or-word, last-word
 use Rattle.heap_syntax.proofs.HeapEnds.{listed-inner, fields-inner, arguments-inner, free_name-inner, heap-inner, heaps-inner}
 use Rattle.command_syntax.proofs.CommandLaws.{lines-inner}
 use Rattle.problem_syntax.specs.Trees.{Heap, Line, Definition, Goal}
-use Rattle.problem_syntax.specs.Grammar.{problem_word, goal_word, from_word, given_word, option_words, option, is_false, no_prime, forget, primes, to_named, from_named, term, terms, Atoms, to_spatial, from_spatial, behind_address, behind_name, spatial, heap, parameters, cases, to_definition, from_definition, definition, to_goal, from_goal, disjuncts, state, entailment, goal, definitions, lines, to_problem, from_problem, last_part, body, problem}
+use Rattle.problem_syntax.specs.Grammar.{problem_word, goal_word, from_word, given_word, option_words, option, is_false, no_prime, forget, primes, to_named, from_named, term, terms, Atoms, to_spatial, from_spatial, behind_address, behind_name, spatial, heap, parameters, cases, to_definition, from_definition, definition, to_goal, from_goal, disjuncts, state, entailment, goal, definitions, lines, to_problem, from_problem, last_part, contents, body, problem}
 
 -- ---- terms and spatial atoms
 
@@ -67,10 +67,15 @@ last_part-inner : Inner last_part
 unfolding last_part
 last_part-inner = after-inner goal_word _ (letters-name (codes "goal") refl) (before-inner _ semicolon syms.semicolon_word (before-inner goal last_word last-word goal-inner))
 
+contents-inner : (v : Version) → Inner (contents v)
+unfolding definitions
+contents-inner v =
+    after-inner semicolon _ syms.semicolon_word (seq-inner _ _ (many-inner (is_one pred_word) definition definition-inner) (seq-inner (lines v) last_part (lines-inner v (one free_name) free_name-inner) last_part-inner))
+
 body-inner : Inner body
-unfolding body definitions
-body-inner = shaped-inner {A = Version × (List Definition × (List Line × Goal))} to_problem from_problem Any _ (after-inner cyclist_word _ cyclist-word (after-inner problem_word _ (letters-name (codes "problem") refl) (seq-inner (one version) _ (one-inner version version-word) (after-inner semicolon _ syms.semicolon_word
-    (seq-inner _ _ (many-inner (is_one pred_word) definition definition-inner) (seq-inner lines last_part (lines-inner (one free_name) free_name-inner) last_part-inner))))))
+unfolding body
+body-inner = shaped-inner {A = (v : Version) × (List Definition × (List Line × Goal))} to_problem from_problem Any _
+    (after-inner cyclist_word _ cyclist-word (after-inner problem_word _ (letters-name (codes "problem") refl) (headed-inner version contents version-word contents-inner)))
 
 pub problem-last : EndsLast problem
 unfolding problem

@@ -1,11 +1,11 @@
 -- The grammar is lawful: what is read is spelled so, what is spelled is read, and a fault is exact.
-use Rattle.std.proofs.Common.{◌≡◌, ℕ, Bool, true, false, cond, List, [], ◌∷◌, ◌++◌, length, Option, Some, None, is_some, Ok, Err, refl, sym, subst, inl, inr, ◌⊎◌}
+use Rattle.std.proofs.Common.{◌≡◌, ℕ, Bool, true, false, cond, List, [], ◌∷◌, ◌++◌, Option, Some, None, is_some, Ok, Err, refl, sym, subst, inl, inr, ◌⊎◌}
 use Rattle.std.specs.Prelude.{codes}
 use Rattle.cyc_lex.specs.Word.{Word}
 use Rattle.cyc_lex.proofs.Letters.{letters-name}
-use Rattle.cyc_grammar.specs.Syntax.{Syntax, ◌>>=◌, read_one, Class, one, seq, alt, after, before, is_one}
+use Rattle.cyc_grammar.specs.Syntax.{◌>>=◌, read_one, Class, one, seq, after, before, is_one}
 use Rattle.cyc_grammar.specs.Classes.{the_end, number, is_free_name}
-use Rattle.cyc_grammar.proofs.Laws.{Lawful, Faults, Stops, Begins, BeginsNot, BeginsNot-append, ClassLaw, ok_is, differ, one-law, seq-law, shaped-law, alt-law, many-law, after-law, before-law, nothing-law, or_empty-law, Stops-never}
+use Rattle.cyc_grammar.proofs.Laws.{Lawful, Faults, Stops, Begins, BeginsNot, BeginsNot-append, ClassLaw, ok_is, differ, one-law, seq-law, shaped-law, alt-law, many-law, after-law, before-law, nothing-law, headed-law, or_empty-law, Stops-never}
 use Rattle.cyc_grammar.proofs.ClassLaws.{symbol-law, keyword-law, the_end-law, number-law}
 use Rattle.heap_syntax.specs.Words.{nil, true_word, emp, pred_word, or_word, last_word, comma, semicolon, bar, arrow, turnstile, opening, closing, opening_brace, closing_brace, prime, reserved, free_name}
 use Rattle.heap_syntax.specs.Grammar.{Any, listed, fields, arguments, some_heap}
@@ -17,7 +17,7 @@ use Rattle.problem_syntax.specs.Trees.{Named, Nil, Plain, Primed, Spatial, Heap,
 use Rattle.heap_syntax.specs.declared.version.Version.{Version}
 use Rattle.heap_syntax.specs.Versions.{version}
 use Rattle.heap_syntax.proofs.WordTexts.{version-law}
-use Rattle.problem_syntax.specs.Grammar.{problem_word, goal_word, from_word, given_word, option_words, option_more, read_option, option, is_false, no_prime, forget, primes, named, to_named, from_named, term, terms, Atoms, to_spatial, from_spatial, behind_address, behind_name, spatial, heap, parameters, cases, to_definition, from_definition, definition, to_goal, from_goal, disjuncts, state, entailment, goal, definitions, lines, to_problem, from_problem, last_part, body, problem}
+use Rattle.problem_syntax.specs.Grammar.{goal_word, from_word, given_word, option_words, option_more, option, is_false, no_prime, forget, primes, to_named, from_named, term, terms, Atoms, to_spatial, from_spatial, behind_address, behind_name, spatial, heap, parameters, cases, to_definition, from_definition, definition, to_goal, from_goal, disjuncts, state, entailment, goal, definitions, lines, to_problem, from_problem, last_part, contents, body, problem}
 
 -- ---- a word or nothing
 
@@ -253,6 +253,7 @@ free_variables = record {
   not_free = free-no (codes "free") free-reserved;
   not_if = free-no (codes "if") if-reserved;
   not_new = free-no (codes "new") new-reserved;
+  not_star = λ s f. refl;
 }
 
 -- ---- goals
@@ -305,24 +306,27 @@ last_part-law = after-law goal_word _ (keyword-law _) (before-law (before goal l
 
 -- ---- problems
 
-rest-apart : (ls : List Line) (g : Goal) (r : List Word) → Stops (lines.more ls) (last_part.words g ++ r)
+rest-apart : (v : Version) (ls : List Line) (g : Goal) (r : List Word) → Stops ((lines v).more ls) (last_part.words g ++ r)
 unfolding last_part
-rest-apart ls g r = lines-end (one free_name) (goal_word.word tt) refl ls
+rest-apart v ls g r = lines-end v (one free_name) (goal_word.word tt) refl ls
 
-definitions-apart : (ds : List Definition) (ls : List Line) (g : Goal) (r : List Word) → Stops (definitions.more ds) ((seq lines last_part).words (ls, g) ++ r)
+definitions-apart : (v : Version) (ds : List Definition) (ls : List Line) (g : Goal) (r : List Word) → Stops (definitions.more ds) ((seq (lines v) last_part).words (ls, g) ++ r)
 unfolding last_part commands.lines commands.line
-definitions-apart ds [] g r = definitions-end (goal_word.word tt) refl ds
-definitions-apart ds (l ∷ ls) g r = definitions-end (commands.line_word.word tt) refl ds
+definitions-apart v ds [] g r = definitions-end (goal_word.word tt) refl ds
+definitions-apart v ds (l ∷ ls) g r = definitions-end (commands.line_word.word tt) refl ds
+
+contents-law : (v : Version) → Lawful (contents v)
+contents-law v =
+    after-law semicolon _ (symbol-law _)
+    (seq-law definitions (seq (lines v) last_part) definitions-law
+    (seq-law (lines v) last_part (lines-law v (one free_name) free_variables) last_part-law (λ ls g r fls fg h. rest-apart v ls g r))
+    (λ ds p r fx fy h. definitions-apart v ds p.0 p.1 r))
 
 body-law : Lawful body
 unfolding body
 body-law =
-    shaped-law {A = Version × (List Definition × (List Line × Goal))} to_problem from_problem Any _ (λ x f. (refl, tt)) (λ p h. refl)
-    (after-law _ _ (keyword-law _) (after-law _ _ (keyword-law _) (seq-law (one version) (after semicolon (seq definitions (seq lines last_part))) (one-law version version-law) (after-law semicolon _ (symbol-law _)
-    (seq-law definitions (seq lines last_part) definitions-law
-    (seq-law lines last_part (lines-law (one free_name) free_variables) last_part-law (λ ls g r fls fg h. rest-apart ls g r))
-    (λ ds p r fx fy h. definitions-apart ds p.0 p.1 r)))
-    (λ x y r fx fy h. Stops-never ((after semicolon (seq definitions (seq lines last_part))).words y ++ r)))))
+    shaped-law {A = (v : Version) × (List Definition × (List Line × Goal))} to_problem from_problem Any _ (λ x f. (refl, tt)) (λ p h. refl)
+    (after-law _ _ (keyword-law _) (after-law _ _ (keyword-law _) (headed-law version contents version-law contents-law)))
 
 pub problem-law : Lawful problem
 unfolding problem body last_part

@@ -2,14 +2,13 @@
 use Rattle.std.specs.Prelude.{◌≡◌, ℕ, Bool, true, false, cond, List, [], ◌∷◌, ◌⊎◌, codes, Ok}
 use Rattle.std.proofs.Common.{inl, inr}
 use Rattle.cyc_lex.specs.Word.{Word}
-use Rattle.cyc_grammar.specs.Syntax.{Reading, ◌>>=◌, Syntax, Class, begins, read_class, never, one, seq, alt, many, shaped, after, before, nothing, is_one, or_empty}
+use Rattle.cyc_grammar.specs.Syntax.{Reading, ◌>>=◌, Syntax, Class, begins, read_class, one, seq, alt, many, shaped, after, before, headed, nothing, is_one, or_empty}
 use Rattle.cyc_grammar.specs.Classes.{keyword, number, the_end}
 use Rattle.heap_syntax.specs.Words.{nil, pred_word, or_word, last_word, cyclist_word, comma, semicolon, bar, arrow, turnstile, opening, closing, opening_brace, closing_brace, prime, free_name}
 use Rattle.heap_syntax.specs.declared.version.Version.{Version}
 use Rattle.heap_syntax.specs.Versions.{version}
 use Rattle.heap_syntax.specs.Grammar as shared
 use Rattle.heap_syntax.specs.Grammar.{Any, Terms, listed, fields, arguments}
-use Rattle.heap_syntax.specs.Trees as heaps
 use Rattle.heap_syntax.specs.Trees.{Cell, Predicate}
 use Rattle.command_syntax.specs.Grammar as commands
 use Rattle.problem_syntax.specs.Trees.{Named, Nil, Plain, Primed, Spatial, Heap, Line, Definition, Goal, Entailment, From, Problem}
@@ -155,22 +154,26 @@ goal = shaped {A = (ℕ × Heap) ⊎ (Heap × List Heap)} to_goal from_goal Any 
 unfoldable pub definitions : Syntax (List Definition)
 definitions = many (is_one pred_word) definition
 
-abbrev pub lines : Syntax (List Line)
-lines = commands.lines (one free_name)
+abbrev pub lines : Version → Syntax (List Line)
+lines v = commands.lines v (one free_name)
 
-abbrev pub to_problem : Version × (List Definition × (List Line × Goal)) → Problem
+abbrev pub to_problem : (v : Version) × (List Definition × (List Line × Goal)) → Problem
 to_problem p = record { version = p.0; definitions = p.1.0; lines = p.1.1.0; goal = p.1.1.1 }
 
-abbrev pub from_problem : Problem → Version × (List Definition × (List Line × Goal))
+abbrev pub from_problem : Problem → (v : Version) × (List Definition × (List Line × Goal))
 from_problem p = (p.version, (p.definitions, (p.lines, p.goal)))
 
 -- the goal statement and the last one
 unfoldable pub last_part : Syntax Goal
 last_part = after goal_word (before (before goal last_word) semicolon)
 
+-- what stands behind the version
+abbrev pub contents : Version → Syntax (List Definition × (List Line × Goal))
+contents v = after semicolon (seq definitions (seq (lines v) last_part))
+
 unfoldable pub body : Syntax Problem
-body = shaped {A = Version × (List Definition × (List Line × Goal))} to_problem from_problem Any
-    (after cyclist_word (after problem_word (seq (one version) (after semicolon (seq definitions (seq lines last_part))))))
+body = shaped {A = (v : Version) × (List Definition × (List Line × Goal))} to_problem from_problem Any
+    (after cyclist_word (after problem_word (headed version contents)))
 
 unfoldable pub problem : Syntax Problem
 problem = before body the_end

@@ -14,7 +14,7 @@ use crate::read_definitions::definitions;
 use crate::tree::{GoalTree, HeapTree, LineTree, ProblemTree};
 use cyc_grammar::{Cursor, Refusal, read_fault};
 use cyc_lex::{ReadFault, Token, Tokens};
-use heap_syntax::{Mark, heaps, read_version};
+use heap_syntax::{Mark, Version, heaps, read_version};
 use std::alloc::Global;
 
 fn goal_heap<'a>(alloc: Global, cursor: &mut Cursor<'_, 'a>) -> Result<HeapTree<'a>, Refusal>
@@ -80,10 +80,14 @@ fn last_part<'a>(alloc: Global, cursor: &mut Cursor<'_, 'a>) -> Result<GoalTree<
     Ok(goal)
 }
 
-fn lines<'a>(alloc: Global, cursor: &mut Cursor<'_, 'a>) -> Result<Vec<LineTree<'a>>, Refusal>
-    ensures { Gives (λ x. (map line_of x.items, cursor.new)) result (lines.read cursor.old) }
+fn lines<'a>(
+    alloc: Global,
+    version: Version,
+    cursor: &mut Cursor<'_, 'a>,
+) -> Result<Vec<LineTree<'a>>, Refusal>
+    ensures { Gives (λ x. (map line_of x.items, cursor.new)) result ((lines version).read cursor.old) }
 {
-    command_syntax::lines(alloc, &NameVariables, cursor)
+    command_syntax::lines(alloc, &NameVariables, version, cursor)
 }
 
 #[tactic(auto, unfolding(crate::specs::Grammar::body))]
@@ -95,7 +99,7 @@ fn body<'a>(alloc: Global, cursor: &mut Cursor<'_, 'a>) -> Result<ProblemTree<'a
     let version = read_version(cursor)?;
     cursor.symbol(";")?;
     let definitions = definitions(alloc, cursor)?;
-    let lines = lines(alloc, cursor)?;
+    let lines = lines(alloc, version, cursor)?;
     let goal = last_part(alloc, cursor)?;
     Ok(ProblemTree {
         version,
