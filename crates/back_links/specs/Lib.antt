@@ -2,3 +2,4 @@ pub mod Listing
 pub mod Shapes
 pub mod Prospects
 pub mod Branches
+pub mod Searching

@@ -114,8 +114,8 @@ abbrev pub could_place : Judgement → Judgement → ℕ → List Term → List 
 could_place bud companion p values places m x sources =
     could_take bud companion places m && have_values bud companion p values (places ++ m ∷ []) x sources
 
--- the judgements are of one kind, of one line if any, and the bud's atoms have the companion's shapes; those of an entailment
--- no others, and those of each of its disjuncts stand in some disjunct of the bud
+-- two entailments have the same shapes on the left, and each disjunct of the companion has those of some disjunct of the bud;
+-- two judgements on runs are of one line, and the bud has the companion's shapes
 abbrev pub are_alike : Judgement → Judgement → Bool
 are_alike (Entail a bs) (Entail b cs) = same_shapes a.spatial b.spatial && list_all (some_has_shapes bs) cs
 are_alike (Entail a bs) (Runs k b) = false

@@ -77,7 +77,8 @@ fn first_fault(bud: &Judgement, companion: &Judgement, link: &Link, p: u16) -> O
 /// and 0 for entailments. That the link's target is a node is the caller's to see.
 pub fn link_fault(bud: &Judgement, companion: &Judgement, link: &Link, p: u16) -> Option<RuleFault>
     ensures fault { result ≡ first_link_fault bud.now companion.now link.now p }
-    ensures sound { result ≡ None → AreUniversal link.now.subst → (ds : List Definition) (lines : List Command) → HasVariables lines p bud.now → IsLocallySound ds lines bud.now (link_premise companion.now link.now ∷ []) }
+    ensures sound { result ≡ None → AreUniversal link.now.subst → (ds : List Definition) (lines : List Command)
+        → HasVariables lines p bud.now → IsLocallySound ds lines bud.now (link_premise companion.now link.now ∷ []) }
 {
     first_fault(bud, companion, link, p)
 }

@@ -1,14 +1,12 @@
 // All links from a bud to a companion, by depth-first search.
-ghost use Rattle.std.specs.Prelude.{ℕ, ◌≡◌, ◌≤◌, ◌∷◌, [], ◌++◌, drop, length, take, IfOk, OnOk, None, if◌then◌else◌};
-ghost use Rattle.heap_formula.specs.Judgements.{antecedent as antecedent_of};
+ghost use Rattle.std.specs.Prelude.{ℕ, ◌≡◌, ◌≤◌, ◌∷◌, [], ◌++◌, length, take, IfOk, OnOk, None};
 ghost use Rattle.rule_table.specs.Answer.{disjuncts as disjuncts_of};
-ghost use Rattle.back_links.specs.Listing.{links, link_of, number_choices, value_choices, values_of, universals as universals_of, IsMade};
+ghost use Rattle.back_links.specs.Listing.{links, link_of, values_of, universals as universals_of, IsMade};
 ghost use Rattle.heap_formula.specs.Words.{OneOf};
 ghost use Rattle.heap_formula.specs.declared.judgements.Judgement.{Judgement as JudgementParts};
 ghost use Rattle.heap_formula.specs.declared.proof_rules.Link.{Link as LinkParts};
 ghost use Rattle.rule_table.specs.LinkTable.{link_fault as fault_of};
-ghost use Rattle.back_links.specs.Branches.{if_right, by_entries, by_pairs, by_places};
-ghost use Rattle.back_links.specs.Prospects.{could_place, could_send as send_could};
+ghost use Rattle.back_links.specs.Searching.{may_place, may_send, with_choice, found_with, link_if_right, links_by_entries, links_by_pairs, links_by_places};
 
 use crate::covering::covers_at;
 use crate::faults::link_fault;
@@ -44,8 +42,8 @@ fn put_place(
     m: u32,
     x: &Spatial,
 ) -> Result<bool, OutOfMemory>
-    ensures could { IfOk result (λ b. b ≡ could_place search.now.bud.now search.now.companion.now search.now.variables search.now.values.now made.old.items m x.now search.now.sources.now) }
-    ensures made { IfOk result (λ b. made.new.items ≡ (if b then made.old.items ++ m ∷ [] else made.old.items)) }
+    ensures could { IfOk result (λ b. b ≡ may_place search.now made.old.items m x.now) }
+    ensures made { IfOk result (λ b. made.new.items ≡ with_choice b made.old.items m) }
 {
     if !could_take(search, made, m) {
         return Ok(false);
@@ -66,8 +64,8 @@ fn put_pair(
     n: u16,
     v: Term,
 ) -> Result<bool, OutOfMemory>
-    ensures could { IfOk result (λ b. b ≡ send_could search.now.bud.now search.now.companion.now search.now.variables places.now (made.old.items ++ (n, v) ∷ []) n) }
-    ensures made { IfOk result (λ b. made.new.items ≡ (if b then made.old.items ++ (n, v) ∷ [] else made.old.items)) }
+    ensures could { IfOk result (λ b. b ≡ may_send search.now places.now (made.old.items ++ (n, v) ∷ []) n) }
+    ensures made { IfOk result (λ b. made.new.items ≡ with_choice b made.old.items (n, v)) }
 {
     made.push((n, v))?;
     if could_send(search, places, made, n) {
@@ -109,7 +107,8 @@ fn add_link(
     found: &mut Vec<Link>,
 ) -> Result<(), OutOfMemory>
     requires { length found.old.items ≤ search.now.most }
-    ensures { OnOk result (found.new.items ≡ take search.now.most (found.old.items ++ if_right search.now.bud.now search.now.companion.now search.now.variables (link_of search.now.target places.now subst.now entries.now))) }
+    ensures { OnOk result (found.new.items
+        ≡ found_with search.now found.old.items (link_if_right search.now places.now subst.now entries.now)) }
 {
     if found.len() >= search.most {
         return Ok(());
@@ -133,7 +132,8 @@ fn choose_entries(
     found: &mut Vec<Link>,
 ) -> Result<(), OutOfMemory>
     requires { length found.old.items ≤ search.now.most }
-    ensures { OnOk result (found.new.items ≡ take search.now.most (found.old.items ++ by_entries search.now.bud.now search.now.companion.now search.now.target search.now.variables places.now subst.now made.now (number_choices (disjuncts_of search.now.bud.now) (drop (length made.now) (disjuncts_of search.now.companion.now))))) }
+    ensures { OnOk result (found.new.items
+        ≡ found_with search.now found.old.items (links_by_entries search.now places.now subst.now made.now)) }
 {
     if found.len() >= search.most {
         return Ok(());
@@ -160,7 +160,8 @@ fn choose_covers(
     found: &mut Vec<Link>,
 ) -> Result<(), OutOfMemory>
     requires { length found.old.items ≤ search.now.most }
-    ensures { OnOk result (found.new.items ≡ take search.now.most (found.old.items ++ by_entries search.now.bud.now search.now.companion.now search.now.target search.now.variables places.now pairs.now [] (number_choices (disjuncts_of search.now.bud.now) (disjuncts_of search.now.companion.now)))) }
+    ensures { OnOk result (found.new.items
+        ≡ found_with search.now found.old.items (links_by_entries search.now places.now pairs.now [])) }
 {
     let subst = Subst::from_vec(Vec::from_slice(alloc, pairs)?);
     if !have_covers(&subst, disjuncts(search.companion), disjuncts(search.bud)) {
@@ -178,7 +179,8 @@ fn choose_values(
     found: &mut Vec<Link>,
 ) -> Result<(), OutOfMemory>
     requires { length found.old.items ≤ search.now.most }
-    ensures found { OnOk result (found.new.items ≡ take search.now.most (found.old.items ++ by_pairs search.now.bud.now search.now.companion.now search.now.target search.now.variables places.now made.old.items (value_choices search.now.values.now rest.now))) }
+    ensures found { OnOk result (found.new.items
+        ≡ found_with search.now found.old.items (links_by_pairs search.now places.now made.old.items rest.now)) }
     ensures made { OnOk result (made.new.items ≡ made.old.items) }
 {
     if found.len() >= search.most {
@@ -205,7 +207,8 @@ fn choose_places(
     found: &mut Vec<Link>,
 ) -> Result<(), OutOfMemory>
     requires { length found.old.items ≤ search.now.most }
-    ensures found { OnOk result (found.new.items ≡ take search.now.most (found.old.items ++ by_places search.now.bud.now search.now.companion.now search.now.target search.now.variables search.now.values.now search.now.sources.now made.old.items (number_choices (antecedent_of search.now.bud.now).spatial rest.now))) }
+    ensures found { OnOk result (found.new.items
+        ≡ found_with search.now found.old.items (links_by_places search.now made.old.items rest.now)) }
     ensures made { OnOk result (made.new.items ≡ made.old.items) }
 {
     if found.len() >= search.most {
@@ -281,5 +284,7 @@ pub fn all_links(
 /// No link is left out of the list that `all_links` begins: each link without a fault, whose substitution sends the
 /// companion's universal variables in ascending order to `nil` or to those of the bud, is in it. The function does nothing.
 pub fn no_link_is_left_out()
-    ensures { (bud companion : JudgementParts) (target p : ℕ) (link : LinkParts) → link.target ≡ target → IsMade (values_of bud) (universals_of companion) link.subst → fault_of bud companion link p ≡ None → OneOf (λ l. l ≡ link) (links bud companion target p) }
+    ensures { (bud companion : JudgementParts) (target p : ℕ) (link : LinkParts) → link.target ≡ target
+        → IsMade (values_of bud) (universals_of companion) link.subst → fault_of bud companion link p ≡ None
+        → OneOf (λ l. l ≡ link) (links bud companion target p) }
 {}

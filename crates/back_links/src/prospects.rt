@@ -1,9 +1,9 @@
 // Whether the choices that are made so far leave a link possible.
-ghost use Rattle.std.specs.Prelude.{◌≡◌, ◌≤◌, ◌<◌, ◌||◌, length, nat_le, not, slice_get};
+ghost use Rattle.std.specs.Prelude.{◌≡◌, ◌≤◌, ◌<◌, ◌||◌, length, nat_le, slice_get};
 ghost use Rattle.std.specs.Option.{option_copied};
 ghost use Rattle.heap_formula.specs.Judgements.{antecedent as antecedent_of};
-ghost use Rattle.back_links.specs.Prospects.{lookup as looked_up, known as known_term, could_equal as terms_could, could_equal_all as all_could, could_match as atoms_could, could_match_some, could_match_those as those_could, known_pure as pure_known, could_follow as pure_could, could_follow_those as those_could_follow, could_keep as could_stay, kept_variables as variables_kept, could_send as send_could, has_value as value_left, have_values as values_left, could_stand as stand_could, could_take as take_could, are_alike as alike, has_cover as cover_left, have_covers as covers_left};
-ghost use Rattle.back_links.specs.Listing.{stands_in_spatial as spatial_has};
+ghost use Rattle.back_links.specs.Prospects.{lookup as looked_up, known as known_term, could_equal as terms_could, could_equal_all as all_could, could_match as atoms_could, could_match_some, could_match_those as those_could, known_pure as pure_known, could_follow as pure_could, could_follow_those as those_could_follow, could_keep as could_stay, kept_variables as variables_kept, could_stand as stand_could, could_take as take_could, are_alike as alike, has_cover as cover_left, have_covers as covers_left};
+ghost use Rattle.back_links.specs.Searching.{could_match_with as could_match_atom, may_send, value_is_left, values_are_left};
 
 use crate::covering::covers_at;
 use crate::shapes::{all_have_shapes, has_shapes, same_shapes};
@@ -111,7 +111,7 @@ fn could_match_with(
     atoms: &[Spatial],
     m: u32,
 ) -> bool
-    ensures { result ≡ (not (spatial_has n x.now) || could_match_some pures.now pairs.now x.now (slice_get atoms.now m)) }
+    ensures { result ≡ could_match_atom n pures.now pairs.now x.now (slice_get atoms.now m) }
 {
     !stands_in_spatial(n, x) || could_match_at(pures, pairs, x, atoms, m)
 }
@@ -192,7 +192,7 @@ fn could_keep_one(kept: u16, pairs: &[(u16, Term)], n: u16) -> bool
 
 /// Whether the pairs, for these places of the companion's first spatial atoms, send the variable to a term that fits.
 pub fn could_send(search: &Search<'_>, places: &[u32], pairs: &[(u16, Term)], n: u16) -> bool
-    ensures { result ≡ send_could search.now.bud.now search.now.companion.now search.now.variables places.now pairs.now n }
+    ensures { result ≡ may_send search.now places.now pairs.now n }
 {
     let a = antecedent(search.bud);
     let b = antecedent(search.companion);
@@ -202,7 +202,7 @@ pub fn could_send(search: &Search<'_>, places: &[u32], pairs: &[(u16, Term)], n:
 }
 
 fn has_value(search: &Search<'_>, places: &[u32], n: u16) -> bool
-    ensures { result ≡ value_left search.now.bud.now search.now.companion.now search.now.variables search.now.values.now places.now n }
+    ensures { result ≡ value_is_left search.now places.now n }
 {
     for v in search.values {
         if could_send(search, places, &[(n, *v)], n) {
@@ -214,7 +214,7 @@ fn has_value(search: &Search<'_>, places: &[u32], n: u16) -> bool
 
 /// Whether each variable of the atom has a value left, with these places for the companion's first spatial atoms.
 pub fn have_values(search: &Search<'_>, places: &[u32], x: &Spatial) -> bool
-    ensures { result ≡ values_left search.now.bud.now search.now.companion.now search.now.variables search.now.values.now places.now x.now search.now.sources.now }
+    ensures { result ≡ values_are_left search.now places.now x.now }
 {
     for n in search.sources {
         if stands_in_spatial(*n, x) && !has_value(search, places, *n) {

@@ -1,0 +1,59 @@
+-- The links that a search adds to those that it has found, from the choices that it has made.
+use Rattle.std.specs.Prelude.{ℕ, List, [], ◌∷◌, ◌++◌, length, take, drop, Bool, ◌||◌, not, if◌then◌else◌, Option}
+use Rattle.heap_formula.specs.declared.terms.Term.{Term}
+use Rattle.heap_formula.specs.declared.atoms.Pure.{Pure}
+use Rattle.heap_formula.specs.declared.atoms.Spatial.{Spatial}
+use Rattle.heap_formula.specs.declared.proof_rules.Link.{Link}
+use Rattle.heap_formula.specs.Judgements.{antecedent}
+use Rattle.heap_formula.specs.Substitution.{Bindings}
+use Rattle.rule_table.specs.Answer.{disjuncts}
+use Rattle.back_links.specs.declared.prospects.Search.{Search}
+use Rattle.back_links.specs.Branches.{if_right, by_entries, by_pairs, by_places}
+use Rattle.back_links.specs.Listing.{link_of, number_choices, value_choices, stands_in_spatial}
+use Rattle.back_links.specs.Prospects.{could_match_some, could_place, could_send, has_value, have_values}
+
+-- an atom without the variable, or one that could match the other
+abbrev pub could_match_with : ℕ → List Pure → Bindings → Spatial → Option Spatial → Bool
+could_match_with n pures s x other = not (stands_in_spatial n x) || could_match_some pures s x other
+
+-- the choices so far, with one more where it is possible
+abbrev pub with_choice : {X : Type 0} → Bool → List X → X → List X
+with_choice possible made x = if possible then made ++ x ∷ [] else made
+
+-- ---- what is still possible
+
+abbrev pub may_send : Search → List ℕ → Bindings → ℕ → Bool
+may_send s places pairs n = could_send s.bud.now s.companion.now s.variables places pairs n
+
+abbrev pub may_place : Search → List ℕ → ℕ → Spatial → Bool
+may_place s places m x = could_place s.bud.now s.companion.now s.variables s.values.now places m x s.sources.now
+
+abbrev pub value_is_left : Search → List ℕ → ℕ → Bool
+value_is_left s places n = has_value s.bud.now s.companion.now s.variables s.values.now places n
+
+abbrev pub values_are_left : Search → List ℕ → Spatial → Bool
+values_are_left s places x = have_values s.bud.now s.companion.now s.variables s.values.now places x s.sources.now
+
+-- ---- the links that the choices lead to
+
+abbrev pub link_if_right : Search → List ℕ → Bindings → List ℕ → List Link
+link_if_right s places subst entries = if_right s.bud.now s.companion.now s.variables (link_of s.target places subst entries)
+
+-- with entries for the other disjuncts of the companion
+abbrev pub links_by_entries : Search → List ℕ → Bindings → List ℕ → List Link
+links_by_entries s places subst entries =
+    by_entries s.bud.now s.companion.now s.target s.variables places subst entries (number_choices (disjuncts s.bud.now) (drop (length entries) (disjuncts s.companion.now)))
+
+-- with values for the other sources
+abbrev pub links_by_pairs : Search → List ℕ → Bindings → List ℕ → List Link
+links_by_pairs s places pairs sources =
+    by_pairs s.bud.now s.companion.now s.target s.variables places pairs (value_choices s.values.now sources)
+
+-- with places for the companion's other spatial atoms
+abbrev pub links_by_places : Search → List ℕ → List Spatial → List Link
+links_by_places s places atoms =
+    by_places s.bud.now s.companion.now s.target s.variables s.values.now s.sources.now places (number_choices (antecedent s.bud.now).spatial atoms)
+
+-- the links found, and then these, no more than are wanted
+abbrev pub found_with : Search → List Link → List Link → List Link
+found_with s found more = take s.most (found ++ more)
