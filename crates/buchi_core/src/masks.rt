@@ -35,7 +35,8 @@ pub(crate) struct Moves {
 fn add_move(masks: &mut [u32; 32], old: u8, new: u8)
     requires long { length masks.old ≡ 32 }
     ensures long { length masks.new ≡ 32 }
-    ensures added { (p q : ℕ) → p < 32 → q < 32 → is_one (get_or masks.new p 0) q ≡ (is_one (get_or masks.old p 0) q || (nat_eq p old && nat_eq new q)) }
+    ensures added { (p q : ℕ) → p < 32 → q < 32
+        → is_one (get_or masks.new p 0) q ≡ (is_one (get_or masks.old p 0) q || (nat_eq p old && nat_eq new q)) }
 {
     let place = old as usize;
     if place < 32 {
@@ -65,7 +66,8 @@ pub(crate) fn moves_of(pairs: &[(u8, u8, bool)]) -> Moves
 /// The positions that the moves lead to from the set, one of its positions after another.
 fn targets_of(masks: &[u32; 32], set: u32) -> u32
     requires long { length masks.now ≡ 32 }
-    ensures { (pairs : List Pair) → AreMoves pairs masks.now → (q : ℕ) → q < 32 → is_one result q ≡ leads pairs (members set) q }
+    ensures { (pairs : List Pair) → AreMoves pairs masks.now → (q : ℕ) → q < 32
+        → is_one result q ≡ leads pairs (members set) q }
 {
     let mut targets = 0;
     let mut rest = set;
@@ -80,7 +82,8 @@ fn targets_of(masks: &[u32; 32], set: u32) -> u32
 /// The successors of a set among the positions of the new node.
 pub(crate) fn successors_of(masks: &[u32; 32], positions: u32, set: u32) -> u32
     requires long { length masks.now ≡ 32 }
-    ensures { (pairs : List Pair) → AreMoves pairs masks.now → members result ≡ successors pairs (members positions) (members set) }
+    ensures { (pairs : List Pair) → AreMoves pairs masks.now
+        → members result ≡ successors pairs (members positions) (members set) }
 {
     positions & targets_of(masks, set)
 }

@@ -48,7 +48,9 @@ fn give(young: &mut Young, parent: Option<u8>, set: u32)
     requires long { length young.old.left ≡ 65 }
     ensures entries { young.new.entries ≡ young.old.entries }
     ensures long { length young.new.left ≡ 65 }
-    ensures left { (o : Option ℕ) (q : ℕ) → q < 32 → is_one (left_of young.new o) q ≡ (is_one (left_of young.old o) q && not (same_parent parent o && is_one set q)) }
+    ensures left { (o : Option ℕ) (q : ℕ) → q < 32
+        → is_one (left_of young.new o) q
+        ≡ (is_one (left_of young.old o) q && not (same_parent parent o && is_one set q)) }
 {
     match parent {
         None => young.top &= !set,

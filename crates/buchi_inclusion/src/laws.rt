@@ -13,7 +13,8 @@ use trace_pairs::ProofSystem;
 /// Two answers that are true of one graph and limit are of one kind. So each answer of `included` comes exactly where
 /// what it says is true.
 pub fn answers_agree()
-    ensures { (g : List Node) (limit : ℕ) (a b : Inclusion) → IsInclusion g limit a → IsInclusion g limit b → IsSameKind a b }
+    ensures { (g : List Node) (limit : ℕ) (a b : Inclusion) → IsInclusion g limit a → IsInclusion g limit b
+        → IsSameKind a b }
 {}
 
 /// Every lasso of a graph in order progresses exactly where no cycle of the product with age forests is bad: none that

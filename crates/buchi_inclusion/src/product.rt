@@ -31,7 +31,8 @@ pub fn intern(states: &mut IndexSet<Product>, state: Product) -> Result<(usize, 
 pub fn count_of(states: &IndexSet<Product>) -> usize
     ensures long { result ≡ length (states_of states.now) }
     ensures small { result < 2 ^ 63 }
-    ensures apart { (i j : ℕ) (s : State) → slice_get (states_of states.now) i ≡ Some s → slice_get (states_of states.now) j ≡ Some s → i ≡ j }
+    ensures apart { (i j : ℕ) (s : State) → slice_get (states_of states.now) i ≡ Some s
+        → slice_get (states_of states.now) j ≡ Some s → i ≡ j }
 {
     states.len()
 }

@@ -84,7 +84,9 @@ fn leading(
     requires leader { IsHeapFor greatest defs.now.list antecedent.now disjuncts.now stack.now leader }
     requires heap { IsWithin greatest heap.now }
     ensures counter { IfOk result (λ o. IsHeapFor greatest defs.now.list antecedent.now disjuncts.now stack.now o) }
-    ensures first { IfOk result (λ o. (g : SomeHeap) → IsCounter defs.now.list antecedent.now disjuncts.now stack.now g → (IsLed greatest leader g ⊎ (heap.now ≡ g)) → IsLed greatest o g) }
+    ensures first { IfOk result (λ o. (g : SomeHeap)
+        → IsCounter defs.now.list antecedent.now disjuncts.now stack.now g
+        → (IsLed greatest leader g ⊎ (heap.now ≡ g)) → IsLed greatest o g) }
 {
     if is_led(greatest, &leader, heap) {
         return Ok(leader);

@@ -52,8 +52,12 @@ fn leading(
     requires universal { IsUniversalHeap antecedent.now }
     requires disjuncts { Each IsConstructive disjuncts.now }
     requires stack { AreAtMost greatest stack.now }
-    ensures pair { IfOk result (λ o. (long : ℕ) → IsStack greatest long stack.now → IsPairFor greatest long defs.now.list antecedent.now disjuncts.now leader → IsPairFor greatest long defs.now.list antecedent.now disjuncts.now o) }
-    ensures first { IfOk result (λ o. (t : List ℕ) (g : SomeHeap) → IsWithin greatest g → IsCounter defs.now.list antecedent.now disjuncts.now t g → (IsStackLed leader t ⊎ (stack.now ≡ t)) → IsStackLed o t) }
+    ensures pair { IfOk result (λ o. (long : ℕ) → IsStack greatest long stack.now
+        → IsPairFor greatest long defs.now.list antecedent.now disjuncts.now leader
+        → IsPairFor greatest long defs.now.list antecedent.now disjuncts.now o) }
+    ensures first { IfOk result (λ o. (t : List ℕ) (g : SomeHeap) → IsWithin greatest g
+        → IsCounter defs.now.list antecedent.now disjuncts.now t g → (IsStackLed leader t ⊎ (stack.now ≡ t))
+        → IsStackLed o t) }
 {
     if is_led(&leader, stack) {
         return Ok(leader);

@@ -9,5 +9,6 @@ ghost use Rattle.counter_model.specs.FirstCounter.{IsCounter};
 
 /// An entailment that has a counter-model does not hold.
 pub fn counter_models_refute()
-    ensures { (ds : List Definition) (a : SymbolicHeap) (bs : List SymbolicHeap) (s : Stack) (h : Cells) → IsCounter ds a bs s h → ¬ EntailmentHolds ds a bs }
+    ensures { (ds : List Definition) (a : SymbolicHeap) (bs : List SymbolicHeap) (s : Stack) (h : Cells)
+        → IsCounter ds a bs s h → ¬ EntailmentHolds ds a bs }
 {}

@@ -51,10 +51,15 @@ pub fn refute(
     cells: u32,
 ) -> Result<Refuted, OutOfMemory>
     requires { IsUniversalHeap antecedent.now }
-    ensures found { IfOk result (λ r. (s : List ℕ) (h : SomeHeap) → r ≡ Refuted.Found s h → IsFirstCounter defs.now.list antecedent.now disjuncts.now cells s h) }
-    ensures not_found { IfOk result (λ r. r ≡ Refuted.NotFound → (s : List ℕ) (h : SomeHeap) → HasSize defs.now.list antecedent.now disjuncts.now cells s h → ¬ IsCounter defs.now.list antecedent.now disjuncts.now s h) }
-    ensures found_searched { IfOk result (λ r. (s : List ℕ) (h : SomeHeap) → r ≡ Refuted.Found s h → IsFirstPlace defs.now.list disjuncts.now None) }
-    ensures not_found_searched { IfOk result (λ r. r ≡ Refuted.NotFound → IsFirstPlace defs.now.list disjuncts.now None) }
+    ensures found { IfOk result (λ r. (s : List ℕ) (h : SomeHeap) → r ≡ Refuted.Found s h
+        → IsFirstCounter defs.now.list antecedent.now disjuncts.now cells s h) }
+    ensures not_found { IfOk result (λ r. r ≡ Refuted.NotFound → (s : List ℕ) (h : SomeHeap)
+        → HasSize defs.now.list antecedent.now disjuncts.now cells s h
+        → ¬ IsCounter defs.now.list antecedent.now disjuncts.now s h) }
+    ensures found_searched { IfOk result (λ r. (s : List ℕ) (h : SomeHeap) → r ≡ Refuted.Found s h
+        → IsFirstPlace defs.now.list disjuncts.now None) }
+    ensures not_found_searched { IfOk result (λ r. r ≡ Refuted.NotFound
+        → IsFirstPlace defs.now.list disjuncts.now None) }
     ensures not_constructive { IfOk result (λ r. (place : _) → (r ≡ Refuted.NotConstructive place) ↔ ((judgement_bound (Judgement.Entail antecedent.now disjuncts.now) ≤ 8) × IsPlace defs.now.list disjuncts.now place)) }
     ensures too_many { IfOk result (λ r. (r ≡ Refuted.TooManyUniversals) ↔ (8 < judgement_bound (Judgement.Entail antecedent.now disjuncts.now))) }
 {

@@ -34,8 +34,10 @@ fn add_steps(
     stack: &[u64],
 ) -> Result<(), OutOfMemory>
     requires { IsStack greatest (length stack.now) stack.now }
-    ensures complete { IfOk result (λ _. (e : List ℕ) → (Member e out.old.items ⊎ IsStep greatest stack.now e) → Member e out.new.items) }
-    ensures sound { IfOk result (λ _. Each (IsStack greatest (length stack.now + 1)) out.old.items → Each (IsStack greatest (length stack.now + 1)) out.new.items) }
+    ensures complete { IfOk result (λ _. (e : List ℕ) → (Member e out.old.items ⊎ IsStep greatest stack.now e)
+        → Member e out.new.items) }
+    ensures sound { IfOk result (λ _. Each (IsStack greatest (length stack.now + 1)) out.old.items
+        → Each (IsStack greatest (length stack.now + 1)) out.new.items) }
 {
     let last = greatest_entry(stack).saturating_add(1).min(greatest as u64);
     for value in 0..last + 1 {
@@ -51,7 +53,8 @@ fn all_steps(
     shorter: &[Stack],
 ) -> Result<Vec<Stack>, OutOfMemory>
     requires { Each (IsStack greatest count) shorter.now }
-    ensures complete { IfOk result (λ v. (e : List ℕ) → OneOf (λ l. IsStep greatest l e) shorter.now → Member e v.items) }
+    ensures complete { IfOk result (λ v. (e : List ℕ) → OneOf (λ l. IsStep greatest l e) shorter.now
+        → Member e v.items) }
     ensures sound { IfOk result (λ v. Each (IsStack greatest (count + 1)) v.items) }
 {
     let mut out = Vec::new(alloc);

@@ -203,7 +203,8 @@ impl Sink for MemSink {
         ensures fails { IsErr result ↔ OutputFails self.old piece.now }
         ensures raised { OnErr result (self.new.faults ≡ risen self.old.faults) }
         ensures calm { OnOk result (self.new.faults ≡ self.old.faults) }
-        ensures count { IfOk result (λ n. n ≡ min (min (length piece.now) self.old.piece) (self.old.room - length self.old.written)) }
+        ensures count { IfOk result (λ n. n
+            ≡ min (min (length piece.now) self.old.piece) (self.old.room - length self.old.written)) }
         ensures calls { self.new.calls ≡ risen self.old.calls }
         ensures same { SameOutput self.old self.new }
     {

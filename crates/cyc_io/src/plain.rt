@@ -153,7 +153,8 @@ impl Sink for PlainSink {
         ensures fails { IsErr result ↔ ((0 < length piece.now) × (self.old.room ≤ length self.old.written)) }
         ensures raised { OnErr result (self.new.faults ≡ risen self.old.faults) }
         ensures calm { OnOk result (self.new.faults ≡ self.old.faults) }
-        ensures count { IfOk result (λ n. n ≡ min (min (length piece.now) self.old.piece) (self.old.room - length self.old.written)) }
+        ensures count { IfOk result (λ n. n
+            ≡ min (min (length piece.now) self.old.piece) (self.old.room - length self.old.written)) }
         ensures same { (self.new.room ≡ self.old.room) × (self.new.piece ≡ self.old.piece) }
     {
         let room = self.bytes.len() - self.len;

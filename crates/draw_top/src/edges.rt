@@ -87,7 +87,8 @@ pub fn add_edges(
     from: u32,
     arrows: &[Arrow],
 ) -> Result<(), OutOfMemory>
-    ensures { OnOk result (map edge_of edges.new.items ≡ map edge_of edges.old.items ++ arrow_edges from (map drawn_of arrows.now)) }
+    ensures { OnOk result (map edge_of edges.new.items
+        ≡ map edge_of edges.old.items ++ arrow_edges from (map drawn_of arrows.now)) }
 {
     for arrow in arrows {
         edges.push(Edge {

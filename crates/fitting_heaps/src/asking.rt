@@ -69,7 +69,9 @@ pub fn unions(
     locals: &[u64],
     atoms: &[Spatial],
 ) -> Result<(Heaps, bool), OutOfMemory>
-    ensures { IfOk result (λ r. UnlessGrown r.1 table.old table.new ((h : SomeHeap) → SpatialHolds (λ _. found_if_asked greatest table.old) stack.now locals.now atoms.now h → IsAmong greatest r.0 h)) }
+    ensures { IfOk result (λ r. UnlessGrown r.1 table.old table.new ((h : SomeHeap)
+        → SpatialHolds (λ _. found_if_asked greatest table.old) stack.now locals.now atoms.now h
+        → IsAmong greatest r.0 h)) }
 {
     let mut heaps = empty_heap(alloc)?;
     let mut asked = false;

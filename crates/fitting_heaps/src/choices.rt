@@ -27,7 +27,8 @@ fn add_longer(
     locals: &[u64],
     value: u64,
 ) -> Result<(), OutOfMemory>
-    ensures { IfOk result (λ _. (e : List ℕ) → (Member e out.old.items ⊎ IsNext stack.now pure.now locals.now value e) → Member e out.new.items) }
+    ensures { IfOk result (λ _. (e : List ℕ)
+        → (Member e out.old.items ⊎ IsNext stack.now pure.now locals.now value e) → Member e out.new.items) }
 {
     let longer = extended(alloc, locals, value)?;
     if may_all_hold(stack, &longer, pure) {
@@ -45,7 +46,8 @@ fn add_all_longer(
     pure: &[Pure],
     locals: &[u64],
 ) -> Result<(), OutOfMemory>
-    ensures { IfOk result (λ _. (e : List ℕ) → (Member e out.old.items ⊎ IsLonger greatest stack.now pure.now locals.now e) → Member e out.new.items) }
+    ensures { IfOk result (λ _. (e : List ℕ)
+        → (Member e out.old.items ⊎ IsLonger greatest stack.now pure.now locals.now e) → Member e out.new.items) }
 {
     for value in 0..greatest as u64 + 1 {
         add_longer(alloc, out, stack, pure, locals, value)?;
@@ -60,7 +62,8 @@ fn all_longer(
     pure: &[Pure],
     shorter: &[Stack],
 ) -> Result<Vec<Stack>, OutOfMemory>
-    ensures { IfOk result (λ v. (e : List ℕ) → OneOf (λ l. IsLonger greatest stack.now pure.now l e) shorter.now → Member e v.items) }
+    ensures { IfOk result (λ v. (e : List ℕ) → OneOf (λ l. IsLonger greatest stack.now pure.now l e) shorter.now
+        → Member e v.items) }
 {
     let mut out = Vec::new(alloc);
     for locals in shorter {

@@ -72,7 +72,8 @@ fn add_union(
     part: &Cells,
     rest: &Cells,
 ) -> Result<(), OutOfMemory>
-    ensures { IfOk result (λ _. (h : SomeHeap) → (IsAmong greatest out.old h ⊎ Unites greatest part.now rest.now h) → IsAmong greatest out.new h) }
+    ensures { IfOk result (λ _. (h : SomeHeap) → (IsAmong greatest out.old h ⊎ Unites greatest part.now rest.now h)
+        → IsAmong greatest out.new h) }
 {
     if are_apart(greatest, part, rest) {
         out.push(with_cells(alloc, greatest, part, rest)?)?;
@@ -87,7 +88,9 @@ fn add_unions(
     part: &Cells,
     others: &[Cells],
 ) -> Result<(), OutOfMemory>
-    ensures { IfOk result (λ _. (h : SomeHeap) → (IsAmong greatest out.old h ⊎ OneOf (λ r. Unites greatest part.now r h) others.now) → IsAmong greatest out.new h) }
+    ensures { IfOk result (λ _. (h : SomeHeap)
+        → (IsAmong greatest out.old h ⊎ OneOf (λ r. Unites greatest part.now r h) others.now)
+        → IsAmong greatest out.new h) }
 {
     for rest in others {
         add_union(alloc, greatest, out, part, rest)?;
@@ -102,7 +105,8 @@ pub fn combine(
     parts: &[Cells],
     others: &[Cells],
 ) -> Result<Heaps, OutOfMemory>
-    ensures { IfOk result (λ out. (h : SomeHeap) → Star (IsAmong greatest parts.now) (IsAmong greatest others.now) h → IsAmong greatest out h) }
+    ensures { IfOk result (λ out. (h : SomeHeap) → Star (IsAmong greatest parts.now) (IsAmong greatest others.now) h
+        → IsAmong greatest out h) }
 {
     let mut out = Heaps::new(alloc);
     for part in parts {

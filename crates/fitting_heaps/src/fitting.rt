@@ -37,7 +37,8 @@ fn fitting(
     requires definitions { AreConstructive defs.now.list }
     requires universal { IsUniversalHeap ask.now }
     requires stack { AreAtMost greatest stack.now }
-    ensures { IfOk result (λ hs. (h : SomeHeap) → IsWithin greatest h → Satisfies defs.now.list stack.now h ask.now → IsAmong greatest hs h) }
+    ensures { IfOk result (λ hs. (h : SomeHeap) → IsWithin greatest h → Satisfies defs.now.list stack.now h ask.now
+        → IsAmong greatest hs h) }
 {
     if !may_all_hold(stack, &[], ask.pure()) {
         return Ok(Heaps::new(alloc));
@@ -60,8 +61,10 @@ fn push_small(
     out: &mut Vec<Cells>,
     heap: &Cells,
 ) -> Result<(), OutOfMemory>
-    ensures complete { IfOk result (λ _. (h : SomeHeap) → IsWithin greatest h → (Member h out.old.items ⊎ SameUpTo greatest heap.now h) → Member h out.new.items) }
-    ensures within { IfOk result (λ _. Each (IsWithin greatest) out.old.items → Each (IsWithin greatest) out.new.items) }
+    ensures complete { IfOk result (λ _. (h : SomeHeap) → IsWithin greatest h
+        → (Member h out.old.items ⊎ SameUpTo greatest heap.now h) → Member h out.new.items) }
+    ensures within { IfOk result (λ _. Each (IsWithin greatest) out.old.items
+        → Each (IsWithin greatest) out.new.items) }
 {
     let none = Cells::new(alloc);
     let small = with_cells(alloc, greatest, &none, heap)?;
@@ -84,7 +87,8 @@ pub fn fitting_heaps(
     requires definitions { AreConstructive defs.now.list }
     requires universal { IsUniversalHeap ask.now }
     requires stack { AreAtMost greatest stack.now }
-    ensures complete { IfOk result (λ v. (h : SomeHeap) → IsWithin greatest h → Satisfies defs.now.list stack.now h ask.now → Member h v.items) }
+    ensures complete { IfOk result (λ v. (h : SomeHeap) → IsWithin greatest h
+        → Satisfies defs.now.list stack.now h ask.now → Member h v.items) }
     ensures within { IfOk result (λ v. Each (IsWithin greatest) v.items) }
 {
     let heaps = fitting(alloc, defs, stack.as_slice(), ask, greatest)?;

@@ -23,7 +23,8 @@ fn add_all(
     q: usize,
     heaps: &[Cells],
 ) -> Result<bool, OutOfMemory>
-    ensures { IfOk result (λ grown. UnlessGrown grown table.old table.new ((h : SomeHeap) → IsAmong greatest heaps.now h → IsFound greatest table.old q h)) }
+    ensures { IfOk result (λ grown. UnlessGrown grown table.old table.new ((h : SomeHeap)
+        → IsAmong greatest heaps.now h → IsFound greatest table.old q h)) }
 {
     let mut grown = false;
     for heap in heaps {
@@ -43,7 +44,9 @@ fn refresh_at(
     locals: &[u64],
     case: &Heap,
 ) -> Result<bool, OutOfMemory>
-    ensures { IfOk result (λ grown. UnlessGrown grown table.old table.new ((h : SomeHeap) → SpatialHolds (λ _. found_if_asked greatest table.old) values.now locals.now case.now.spatial h → IsFound greatest table.old q h)) }
+    ensures { IfOk result (λ grown. UnlessGrown grown table.old table.new ((h : SomeHeap)
+        → SpatialHolds (λ _. found_if_asked greatest table.old) values.now locals.now case.now.spatial h
+        → IsFound greatest table.old q h)) }
 {
     let (heaps, is_new) = unions(alloc, greatest, table, values, locals, case.spatial())?;
     let grown = add_all(alloc, greatest, table, q, heaps.as_slice())?;
@@ -59,7 +62,9 @@ fn refresh_case(
     values: &[u64],
     case: &Heap,
 ) -> Result<bool, OutOfMemory>
-    ensures { IfOk result (λ grown. UnlessGrown grown table.old table.new ((h : SomeHeap) → FitsCase greatest (found_if_asked greatest table.old) values.now h case.now → IsFound greatest table.old q h)) }
+    ensures { IfOk result (λ grown. UnlessGrown grown table.old table.new ((h : SomeHeap)
+        → FitsCase greatest (found_if_asked greatest table.old) values.now h case.now
+        → IsFound greatest table.old q h)) }
 {
     let all = choices(alloc, greatest, exists_in_heap(case), values, case.pure())?;
     let mut grown = false;
@@ -113,7 +118,8 @@ pub fn refresh_all(
     greatest: u32,
     table: &mut Table,
 ) -> Result<bool, OutOfMemory>
-    ensures { IfOk result (λ grown. UnlessGrown grown table.old table.new ((q : ℕ) → IsSettled defs.now.list greatest table.old q)) }
+    ensures { IfOk result (λ grown. UnlessGrown grown table.old table.new ((q : ℕ)
+        → IsSettled defs.now.list greatest table.old q)) }
 {
     let mut grown = false;
     for q in 0..table.len() {

@@ -48,7 +48,8 @@ pub fn with_cells(
     part: &Cells,
     rest: &Cells,
 ) -> Result<Cells, OutOfMemory>
-    ensures below { IfOk result (λ h. (a : ℕ) → a ≤ greatest → cell_at h a ≡ either (cell_at rest.now a) (cell_at part.now a)) }
+    ensures below { IfOk result (λ h. (a : ℕ) → a ≤ greatest
+        → cell_at h a ≡ either (cell_at rest.now a) (cell_at part.now a)) }
     ensures above { IfOk result (λ h. (a : ℕ) → greatest < a → cell_at h a ≡ cell_at part.now a) }
 {
     let mut whole = part.clone()?;
@@ -116,7 +117,8 @@ fn has_small_cell(greatest: u32, heap: &Cells, address: u64) -> bool
 
 /// Whether the fields of the cells up to the greatest address are not above it.
 pub fn has_small_fields(greatest: u32, heap: &Cells) -> bool
-    ensures { IsTrue result ↔ ((a : ℕ) (vs : List ℕ) → a ≤ greatest → cell_at heap.now a ≡ Some vs → AreAtMost greatest vs) }
+    ensures { IsTrue result ↔ ((a : ℕ) (vs : List ℕ) → a ≤ greatest → cell_at heap.now a ≡ Some vs
+        → AreAtMost greatest vs) }
 {
     for address in 0..greatest as u64 + 1 {
         if !has_small_cell(greatest, heap, address) {

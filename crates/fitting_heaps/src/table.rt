@@ -13,8 +13,8 @@ use indexmap::IndexSet;
 use std::alloc::Global;
 use std::marker::Model;
 
-/// The questions asked so far, each once, and the heaps found for each. Want of memory may leave the last question
-/// without a place for heaps.
+/// The questions asked so far, each once, and the heaps found for each. Running out of memory may leave the last
+/// question without a place for heaps.
 #[derive(Drop)]
 pub struct Table {
     questions: IndexSet<Question>,
@@ -104,7 +104,8 @@ impl Table {
         q: usize,
         heap: &Cells,
     ) -> Result<bool, OutOfMemory>
-        ensures { IfOk result (λ grown. UnlessGrown grown self.old self.new ((h : SomeHeap) → IsAmong greatest (heap.now ∷ []) h → IsFound greatest self.old q h)) }
+        ensures { IfOk result (λ grown. UnlessGrown grown self.old self.new ((h : SomeHeap)
+            → IsAmong greatest (heap.now ∷ []) h → IsFound greatest self.old q h)) }
     {
         if has_heap(greatest, self.heaps(q), heap) {
             return Ok(false);

@@ -11,7 +11,8 @@ ghost use Rattle.fo_facts.specs.Samples.{numbers, even_is_nat, first_faults, unc
 /// Every node of the proof that even numbers are numbers is right: the even numbers are unfolded, the case of zero and that
 /// of a number two above an even one are shown on the right, and what is left links back.
 pub fn nodes_of_a_proof_are_right()
-    ensures { first_faults numbers even_is_nat ≡ None ∷ None ∷ None ∷ None ∷ None ∷ None ∷ None ∷ None ∷ None ∷ None ∷ [] }
+    ensures { first_faults numbers even_is_nat
+        ≡ None ∷ None ∷ None ∷ None ∷ None ∷ None ∷ None ∷ None ∷ None ∷ None ∷ [] }
 {}
 
 /// With a substitution that leaves the companion's variable as it is, the link's first left atom has no match.

@@ -21,7 +21,8 @@ pub fn stages_rise()
 
 /// A predicate holds exactly where one of its cases does.
 pub fn cases_close()
-    ensures { (t : FoTheory) (p : ℕ) (vs : List Word) → least t p vs ↔ OneOf (CaseHolds t (least t) vs) (cases_of t.definitions p) }
+    ensures { (t : FoTheory) (p : ℕ) (vs : List Word)
+        → least t p vs ↔ OneOf (CaseHolds t (least t) vs) (cases_of t.definitions p) }
 {}
 
 /// A sequent holds exactly where it holds at all stages.

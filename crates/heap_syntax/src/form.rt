@@ -51,5 +51,6 @@ pub trait WrittenForm<'a>: TermForm<'a> {
     /// Writes a term.
     fn write_term(&self, tree: Self::Term, writer: &mut WordWriter) -> Result<(), OutOfMemory>
         requires { (Self.terms self.now).syntax.fits (Self.seen tree) }
-        ensures { OnOk result (writer.new ≡ write_all writer.old ((Self.terms self.now).syntax.words (Self.seen tree))) };
+        ensures { OnOk result (writer.new
+            ≡ write_all writer.old ((Self.terms self.now).syntax.words (Self.seen tree))) };
 }

@@ -27,7 +27,8 @@ fn done(alloc: Global, judgement: &Judgement) -> Result<Vec<Premise>, RuleError>
 /// No premise, where neither side has a spatial atom and the one disjunct has no pure atom either.
 pub fn premises_done(alloc: Global, judgement: &Judgement) -> Result<Vec<Premise>, RuleError>
     ensures answer { IsAnswer result (done_answer judgement.now) }
-    ensures sound { IfOk result (λ v. (ds : List Definition) (lines : List Command) → IsLocallySound ds lines judgement.now v.items) }
+    ensures sound { IfOk result (λ v. (ds : List Definition) (lines : List Command)
+        → IsLocallySound ds lines judgement.now v.items) }
 {
     done(alloc, judgement)
 }

@@ -70,7 +70,8 @@ pub fn premises_frame(
     k: u32,
 ) -> Result<Vec<Premise>, RuleError>
     ensures answer { IsAnswer result (frame_answer judgement.now i k) }
-    ensures sound { IfOk result (λ v. (ds : List Definition) (lines : List Command) → IsLocallySound ds lines judgement.now v.items) }
+    ensures sound { IfOk result (λ v. (ds : List Definition) (lines : List Command)
+        → IsLocallySound ds lines judgement.now v.items) }
 {
     frame(alloc, judgement, i, k)
 }

@@ -45,7 +45,8 @@ pub fn premises_instantiate(
     t: Term,
 ) -> Result<Vec<Premise>, RuleError>
     ensures answer { IsAnswer result (instantiate_answer judgement.now v t) }
-    ensures sound { IfOk result (λ p. (ds : List Definition) (lines : List Command) → IsLocallySound ds lines judgement.now p.items) }
+    ensures sound { IfOk result (λ p. (ds : List Definition) (lines : List Command)
+        → IsLocallySound ds lines judgement.now p.items) }
 {
     instantiate(alloc, judgement, v, t)
 }

@@ -53,7 +53,8 @@ pub fn premises_pure_right(
     k: u32,
 ) -> Result<Vec<Premise>, RuleError>
     ensures answer { IsAnswer result (pure_right_answer judgement.now k) }
-    ensures sound { IfOk result (λ v. (ds : List Definition) (lines : List Command) → IsLocallySound ds lines judgement.now v.items) }
+    ensures sound { IfOk result (λ v. (ds : List Definition) (lines : List Command)
+        → IsLocallySound ds lines judgement.now v.items) }
 {
     pure_right(alloc, judgement, k)
 }

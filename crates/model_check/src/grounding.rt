@@ -39,7 +39,8 @@ fn piece_of(
     atom: &Spatial,
 ) -> Result<Piece, OutOfMemory>
     requires listed { IsListed places.now.keys stack.now (stack_of locals.now) atom.now }
-    ensures { OnOk result ((y : Piece) → result ≡ Ok y → AskedPiece places.now.keys questions.old.keys questions.new.keys stack.now (stack_of locals.now) atom.now y) }
+    ensures { OnOk result ((y : Piece) → result ≡ Ok y
+        → AskedPiece places.now.keys questions.old.keys questions.new.keys stack.now (stack_of locals.now) atom.now y) }
 {
     match atom {
         Spatial::Cell(t, _) => Ok(Piece::Here(place_of(places, term_in(stack, locals, *t)))),

@@ -133,7 +133,8 @@ fn follow(
     locals: &mut Vec<Local>,
     step: &Step,
 ) -> Result<bool, OutOfMemory>
-    ensures { OnOk result ((b : Bool) → result ≡ Ok b → Follows cells.now stack.now step.now locals.old.items locals.new.items b) }
+    ensures { OnOk result ((b : Bool) → result ≡ Ok b
+        → Follows cells.now stack.now step.now locals.old.items locals.new.items b) }
 {
     match target_value(stack, cells, locals, step) {
         Forced::Unknown => Ok(true),
@@ -153,7 +154,8 @@ fn follow_all(
     steps: &[Step],
 ) -> Result<bool, OutOfMemory>
     requires { AreForced cells.now stack.now steps.now locals.old.items }
-    ensures { OnOk result ((b : Bool) → result ≡ Ok b → Passes cells.now stack.now steps.now (vec_len locals.old) (vec_len locals.new) locals.new.items b) }
+    ensures { OnOk result ((b : Bool) → result ≡ Ok b
+        → Passes cells.now stack.now steps.now (vec_len locals.old) (vec_len locals.new) locals.new.items b) }
 {
     for step in steps {
         if !follow(stack, cells, locals, step)? {
@@ -324,7 +326,8 @@ pub fn locals_of(
     heap: &Heap,
 ) -> Result<Option<Vec<Local>>, OutOfMemory>
     requires { IsConstructive heap.now }
-    ensures { IfOk result (λ o. MatchOption o ((e : Stack) → Fits cells.now stack.now e heap.now → ⊥) (λ v. IsOnly cells.now stack.now (stack_of v.items) heap.now)) }
+    ensures { IfOk result (λ o. MatchOption o ((e : Stack) → Fits cells.now stack.now e heap.now
+        → ⊥) (λ v. IsOnly cells.now stack.now (stack_of v.items) heap.now)) }
 {
     match evaluate_heap(alloc, stack, cells, heap)? {
         None => Ok(None),

@@ -141,7 +141,8 @@ fn refresh_rule(
     ensures rows { OnOk result (vec_len table.new ≡ vec_len table.old) }
     ensures longer { OnOk result (vec_len log.old ≤ vec_len log.new) }
     ensures same { OnOk result (vec_len log.new ≡ vec_len log.old → table.new.items ≡ table.old.items) }
-    ensures closed { OnOk result (vec_len log.new ≡ vec_len log.old → (r : GroundRule) → slice_get rules.now i ≡ Some r → IsClosed table.new.items r) }
+    ensures closed { OnOk result (vec_len log.new ≡ vec_len log.old → (r : GroundRule)
+        → slice_get rules.now i ≡ Some r → IsClosed table.new.items r) }
     ensures settled { OnOk result (AreSettled table.new.items grown.new.items applied.new.items rules.now) }
     ensures before { OnOk result (AreBefore applied.new.items (vec_len log.new)) }
     ensures applied_length { OnOk result (vec_len applied.new ≡ vec_len applied.old) }

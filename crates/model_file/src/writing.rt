@@ -14,7 +14,8 @@ use std::alloc::Global;
 /// The text of a model in the written form: its tokens, the cells by ascending addresses, with one space between
 /// neighbours but where the format has none, and a line feed after each `;`.
 pub fn write_model(alloc: Global, model: &Model) -> Result<Vec<u8>, OutOfMemory>
-    ensures text { IfOk result (λ bytes. bytes.items ≡ text_of_model model.now.defs.list model.now.stack model.now.heap model.now.ask) }
+    ensures text { IfOk result (λ bytes. bytes.items
+        ≡ text_of_model model.now.defs.list model.now.stack model.now.heap model.now.ask) }
     ensures spells { IfOk result (λ bytes. IsRead bytes.items (Ok model.now)) }
 {
     let tree = model_tree(alloc, model)?;

@@ -94,7 +94,8 @@ pub fn premises_absurd(
     _p: u16,
 ) -> Result<Vec<Premise>, RuleError>
     ensures answer { IsAnswer result (absurd_answer judgement.now) }
-    ensures sound { IfOk result (λ v. (ds : List Definition) (lines : List Command) → IsLocallySound ds lines judgement.now v.items) }
+    ensures sound { IfOk result (λ v. (ds : List Definition) (lines : List Command)
+        → IsLocallySound ds lines judgement.now v.items) }
 {
     absurd(alloc, judgement)
 }

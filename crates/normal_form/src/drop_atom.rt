@@ -49,7 +49,8 @@ pub fn premises_drop(
     k: u32,
 ) -> Result<Vec<Premise>, RuleError>
     ensures answer { IsAnswer result (drop_answer judgement.now k) }
-    ensures sound { IfOk result (λ v. (ds : List Definition) (lines : List Command) → IsLocallySound ds lines judgement.now v.items) }
+    ensures sound { IfOk result (λ v. (ds : List Definition) (lines : List Command)
+        → IsLocallySound ds lines judgement.now v.items) }
 {
     drop_atom(alloc, judgement, k)
 }

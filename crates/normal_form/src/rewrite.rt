@@ -178,7 +178,8 @@ pub fn premises_rewrite(
     side: Side,
 ) -> Result<Vec<Premise>, RuleError>
     ensures answer { IsAnswer result (rewrite_answer p judgement.now k side) }
-    ensures sound { IfOk result (λ v. (ds : List Definition) (lines : List Command) → IsUniversalHeap (antecedent_of judgement.now) → IsLocallySound ds lines judgement.now v.items) }
+    ensures sound { IfOk result (λ v. (ds : List Definition) (lines : List Command)
+        → IsUniversalHeap (antecedent_of judgement.now) → IsLocallySound ds lines judgement.now v.items) }
 {
     rewrite(alloc, judgement, p, k, side)
 }

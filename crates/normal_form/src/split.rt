@@ -45,7 +45,8 @@ pub fn premises_split(
     u: Term,
 ) -> Result<Vec<Premise>, RuleError>
     ensures answer { IsAnswer result (split_answer judgement.now t u) }
-    ensures sound { IfOk result (λ v. (ds : List Definition) (lines : List Command) → IsLocallySound ds lines judgement.now v.items) }
+    ensures sound { IfOk result (λ v. (ds : List Definition) (lines : List Command)
+        → IsLocallySound ds lines judgement.now v.items) }
 {
     split(alloc, judgement, t, u)
 }

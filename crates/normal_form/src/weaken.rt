@@ -39,7 +39,8 @@ pub fn premises_weaken(
     k: u32,
 ) -> Result<Vec<Premise>, RuleError>
     ensures answer { IsAnswer result (weaken_answer judgement.now k) }
-    ensures sound { IfOk result (λ v. (ds : List Definition) (lines : List Command) → IsLocallySound ds lines judgement.now v.items) }
+    ensures sound { IfOk result (λ v. (ds : List Definition) (lines : List Command)
+        → IsLocallySound ds lines judgement.now v.items) }
 {
     weaken(alloc, judgement, k)
 }

@@ -97,7 +97,8 @@ fn push_differing(
     j: usize,
 ) -> Result<(), AllocError>
     requires { j < length labels.now }
-    ensures { IfOk result (λ _. pairs.new.items ≡ pairs.old.items ++ filter (has_difference labels.now differences.now) (row j j)) }
+    ensures { IfOk result (λ _. pairs.new.items
+        ≡ pairs.old.items ++ filter (has_difference labels.now differences.now) (row j j)) }
 {
     let near = neighbours_of(alloc, differences, labels[j])?;
     for i in 0..j {

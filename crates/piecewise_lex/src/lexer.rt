@@ -68,7 +68,8 @@ impl Lexer {
         ensures law { KeepsLaw self.old piece.now self.new (seen result) }
         // So that a caller knows how much it may still feed, after a fault too.
         ensures within { self.new.place.offset + length self.new.waiting ≤ self.old.place.offset + (length self.old.waiting + length piece.now) }
-        ensures count { OnOk result (self.new.place.offset + length self.new.waiting ≡ self.old.place.offset + (length self.old.waiting + length piece.now)) }
+        ensures count { OnOk result (self.new.place.offset + length self.new.waiting
+            ≡ self.old.place.offset + (length self.old.waiting + length piece.now)) }
     {
         match self.met {
             Some(fault) => return Err(fault),

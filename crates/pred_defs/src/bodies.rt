@@ -147,8 +147,10 @@ pub fn case_body(
     fresh: Fresh,
 ) -> Result<Heap, OutOfMemory>
     requires there { case < length (cases_of defs.now.list pred) }
-    requires numbers { (whole : SymbolicHeap) → slice_get (cases_of defs.now.list pred) case ≡ Some whole → first_fresh fresh + heap_exists whole ≤ 65536 }
-    ensures { (whole : SymbolicHeap) → slice_get (cases_of defs.now.list pred) case ≡ Some whole → IfOk result (λ b. b ≡ body_of args.now fresh whole) }
+    requires numbers { (whole : SymbolicHeap) → slice_get (cases_of defs.now.list pred) case ≡ Some whole
+        → first_fresh fresh + heap_exists whole ≤ 65536 }
+    ensures { (whole : SymbolicHeap) → slice_get (cases_of defs.now.list pred) case ≡ Some whole
+        → IfOk result (λ b. b ≡ body_of args.now fresh whole) }
 {
     body(alloc, args, fresh, case_at(defs.cases(pred), case))
 }

@@ -23,5 +23,6 @@ pub trait ClosedFamily {
 
 /// Every meaning that is closed under every case contains the least one (Brotherston and Simpson 2011).
 pub fn least_is_below<F: ClosedFamily>(_family: &F)
-    ensures { (p : ℕ) (vs : List ℕ) (h : Cells) → least (F.definitions _family.now) p vs h → F.means _family.now p vs h }
+    ensures { (p : ℕ) (vs : List ℕ) (h : Cells) → least (F.definitions _family.now) p vs h
+        → F.means _family.now p vs h }
 {}

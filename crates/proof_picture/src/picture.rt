@@ -60,7 +60,8 @@ fn boxes(
     labels: Vec<Label>,
     rows: Vec<Row>,
 ) -> Result<Vec<NodeBox>, OutOfMemory>
-    ensures { IfOk result (λ v. map box_of v.items ≡ boxes_from verdict.now 0 (map pieces_of labels.items) (map row_of rows.items)) }
+    ensures { IfOk result (λ v. map box_of v.items
+        ≡ boxes_from verdict.now 0 (map pieces_of labels.items) (map row_of rows.items)) }
 {
     let mut labels = VecDeque::from_vec(labels);
     let mut boxes = Vec::new(alloc);

@@ -23,7 +23,8 @@ pub struct RefusedSteps {
 
 /// Adds the steps of a path.
 fn add_steps(steps: &mut IndexSet<Taken>, path: &[Step]) -> Result<(), OutOfMemory>
-    ensures { OnOk result ((v i : ℕ) → step_in steps.new.keys v i ≡ (step_in steps.old.keys v i || has_step path.now v i)) }
+    ensures { OnOk result ((v i : ℕ) → step_in steps.new.keys v i
+        ≡ (step_in steps.old.keys v i || has_step path.now v i)) }
 {
     for step in path {
         steps.insert(Taken {

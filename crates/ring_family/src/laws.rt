@@ -31,7 +31,8 @@ pub fn ring_is_correct()
 
 /// The text of a ring's file is shorter than the greatest input.
 pub fn ring_texts_are_short()
-    ensures { (k : ℕ) → 1 ≤ k → k ≤ 2000 → length (text_of_file One (ring_definitions k) [] (file_nodes (ring_nodes k))) < 16777216 }
+    ensures { (k : ℕ) → 1 ≤ k → k ≤ 2000
+        → length (text_of_file One (ring_definitions k) [] (file_nodes (ring_nodes k))) < 16777216 }
 {}
 
 /// What is told of a ring's proof: the root is an entailment, and of 8 k + 1 nodes one is a link, by any test that tells

@@ -83,10 +83,15 @@ pub fn premises(
     rule: &Rule,
 ) -> Result<Vec<Premise>, RuleError>
     ensures answer { IsAnswer result (rule_answer defs.now.most defs.now.list program.now judgement.now rule.now) }
-    ensures sound { IfOk result (λ v. IsUniversalHeap (antecedent judgement.now) → IsLocallySound defs.now.list program.now judgement.now v.items) }
-    ensures sound_elsewhere { IfOk result (λ v. (lines : List Command) → rule.now ≢ Exec → HasVariables lines (program_variables_of program.now judgement.now) judgement.now → IsUniversalHeap (antecedent judgement.now) → IsLocallySound defs.now.list lines judgement.now v.items) }
-    ensures keeps { IfOk result (λ v. IsUniversalHeap (antecedent judgement.now) → HasUniversalTerms rule.now → Each IsUniversalPremise v.items) }
-    ensures lines { IfOk result (λ v. IsWithinLines (length program.now) judgement.now → Each (IsPremiseWithin (length program.now)) v.items) }
+    ensures sound { IfOk result (λ v. IsUniversalHeap (antecedent judgement.now)
+        → IsLocallySound defs.now.list program.now judgement.now v.items) }
+    ensures sound_elsewhere { IfOk result (λ v. (lines : List Command) → rule.now ≢ Exec
+        → HasVariables lines (program_variables_of program.now judgement.now) judgement.now
+        → IsUniversalHeap (antecedent judgement.now) → IsLocallySound defs.now.list lines judgement.now v.items) }
+    ensures keeps { IfOk result (λ v. IsUniversalHeap (antecedent judgement.now) → HasUniversalTerms rule.now
+        → Each IsUniversalPremise v.items) }
+    ensures lines { IfOk result (λ v. IsWithinLines (length program.now) judgement.now
+        → Each (IsPremiseWithin (length program.now)) v.items) }
 {
     let _lines = program.lines();
     answer(alloc, defs, program, judgement, rule)

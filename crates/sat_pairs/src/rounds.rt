@@ -137,7 +137,8 @@ fn sweep(
     requires count { count ≡ total table.old }
     ensures part { IfOk result (λ n. IsPartOf defs.now.list most table.new × (n ≡ total table.new)) }
     ensures grown { IfOk result (λ _. IsGrown table.old table.new) }
-    ensures taken { IfOk result (λ _. (p : ℕ) → p < length defs.now.list → HasAllGiven table.old table.new p (arity_of defs.now.list p) (cases_of defs.now.list p)) }
+    ensures taken { IfOk result (λ _. (p : ℕ) → p < length defs.now.list
+        → HasAllGiven table.old table.new p (arity_of defs.now.list p) (cases_of defs.now.list p)) }
     ensures many { (result ≡ Err PairFault.TooManyPairs) → HasMoreThan defs.now.list most }
 {
     let mut now = count;

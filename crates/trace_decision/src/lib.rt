@@ -22,5 +22,6 @@ pub fn number_is_counted()
 
 /// A new node without edges, and an edge to it, bring no lasso that doesn't progress.
 pub fn leaf_keeps_progress()
-    ensures { (g : List Node) (p : ℕ) (pairs : List Pair) (positions : List ℕ) → AllProgress g → AllProgress (with_leaf g p pairs positions) }
+    ensures { (g : List Node) (p : ℕ) (pairs : List Pair) (positions : List ℕ) → AllProgress g
+        → AllProgress (with_leaf g p pairs positions) }
 {}

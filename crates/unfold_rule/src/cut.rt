@@ -162,7 +162,8 @@ pub fn premises_cut(
 ) -> Result<Vec<Premise>, RuleError>
     requires { most ≤ 32 }
     ensures answer { IsAnswer result (cut_answer most p judgement.now positions.now formula.now) }
-    ensures sound { IfOk result (λ v. (ds : List Definition) (lines : List Command) → HasVariables lines p judgement.now → IsLocallySound ds lines judgement.now v.items) }
+    ensures sound { IfOk result (λ v. (ds : List Definition) (lines : List Command)
+        → HasVariables lines p judgement.now → IsLocallySound ds lines judgement.now v.items) }
 {
     cut(alloc, judgement, p, positions.as_slice(), formula, most)
 }

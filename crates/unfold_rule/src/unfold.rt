@@ -182,7 +182,8 @@ pub fn premises_unfold(
     k: u32,
 ) -> Result<Vec<Premise>, RuleError>
     ensures answer { IsAnswer result (unfold_answer defs.now.most defs.now.list p judgement.now k) }
-    ensures sound { IfOk result (λ v. (lines : List Command) → HasVariables lines p judgement.now → IsLocallySound defs.now.list lines judgement.now v.items) }
+    ensures sound { IfOk result (λ v. (lines : List Command) → HasVariables lines p judgement.now
+        → IsLocallySound defs.now.list lines judgement.now v.items) }
 {
     unfold(alloc, defs, judgement, p, k)
 }

@@ -129,7 +129,8 @@ pub fn premises_unfold_right(
     c: u32,
 ) -> Result<Vec<Premise>, RuleError>
     ensures answer { IsAnswer result (unfold_right_answer defs.now.most defs.now.list judgement.now k c) }
-    ensures sound { IfOk result (λ v. (lines : List Command) → IsLocallySound defs.now.list lines judgement.now v.items) }
+    ensures sound { IfOk result (λ v. (lines : List Command)
+        → IsLocallySound defs.now.list lines judgement.now v.items) }
 {
     unfold_right(alloc, defs, judgement, k, c)
 }
