@@ -84,7 +84,7 @@ goal_has P t nodes g each here v node at =
 -- ---- the calculus
 
 module _ (t : Theory) (goal : Judgement) (limits : IsWithinLimits t goal) where
-  pub is_small : IsSmallProblem t goal
+  is_small : IsSmallProblem t goal
   is_small = record { most = limits.most; cases = are_few t.most t.definitions t.definitions limits.definitions; short = short_within t goal limits.goal_within }
 
   small_fair : IsFair (calculus_of t) (IsShort t.most) (λ r. Unit {0})

@@ -1,5 +1,5 @@
 -- The trace graph of the file is that of the nodes made.
-use Rattle.std.proofs.Common.{◌≡◌, ℕ, suc, List, [], ◌∷◌, map, Some, slice_get, length, refl, sym, ap, ◌∙◌, arith}
+use Rattle.std.proofs.Common.{◌≡◌, ℕ, List, [], ◌∷◌, map, Some, slice_get, length, refl, sym, ap, ◌∙◌, arith}
 use Rattle.std.proofs.lemmas.List.{length-map}
 use Rattle.std.proofs.lemmas.Option.{slice_get_within}
 use Rattle.heap_formula.specs.declared.judgements.Judgement.{Judgement}
@@ -13,36 +13,39 @@ use Rattle.buchi_inclusion.proofs.Tables.{at_map}
 use Rattle.proof_check.specs.Files.{graph_edge, graph_node, graph_of, node_of, nodes_of}
 use Rattle.proof_graph.specs.Traces.{trace_pairs_of}
 use Rattle.search_moves.specs.Trying.{Theory}
-use Rattle.search_calculus.specs.Calculus.{MadeNode, judgement_of}
+use Rattle.tableaux.proofs.Joined.{same_lists}
+use Rattle.tableaux.proofs.Made.{AllLead}
+use Rattle.search_calculus.specs.Calculus.{MadeNode, judgement_of, traced}
 use Rattle.search_calculus.specs.Graphs.{traces_of}
 use Rattle.search_calculus.proofs.TraceGraphs.{length-traces_of}
-use Rattle.search_calculus.proofs.MadeRows.{same_lists}
 use Rattle.found_files.specs.Files.{numbers_of, file_node, nodes_made}
-use Rattle.found_files.proofs.Made.{LeadsToPremise, IsBy, IsMade, AllMade}
+use Rattle.found_files.proofs.Made.{IsBy, IsMade, AllMade}
 use Rattle.found_files.proofs.Rows.{length-nodes_made, node_at}
 
 -- the edges to the premises' nodes are those of the trace graph
-edges_same : (nodes : List MadeNode) (v : ℕ) (ps : List Premise) (es : List Edge) → length es ≡ length ps → ((k : ℕ) (p : Premise) (e : Edge) → slice_get ps k ≡ Some p → slice_get es k ≡ Some e → LeadsToPremise nodes v p e) →
+edges_same : (nodes : List MadeNode) (v : ℕ) (ps : List Premise) (es : List Edge) → AllLead nodes v (map traced ps) es →
     map graph_edge (edges_to ps (map (λ (e : Edge). e.target) es)) ≡ es
-edges_same nodes v [] [] size each = refl
-edges_same nodes v [] (e ∷ es) size each = absurd (omega (arith, size))
-edges_same nodes v (p ∷ ps) [] size each = absurd (omega (arith, size))
-edges_same nodes v (p ∷ ps) (e ∷ es) size each =
-    let first : trace_pairs_of p.pairs ≡ e.pairs = sym (each 0 p e refl refl).pairs in
-    let rest = edges_same nodes v ps es (omega (arith, size)) (λ k q x a b. each (suc k) q x a b) in λ i. record { target = e.target; pairs = first i } ∷ rest i
+edges_same nodes v [] [] led = refl
+edges_same nodes v [] (e ∷ es) led = absurd led
+edges_same nodes v (p ∷ ps) [] led = absurd led
+edges_same nodes v (p ∷ ps) (e ∷ es) led =
+    let first : trace_pairs_of p.pairs ≡ e.pairs = sym led.0.pairs in
+    let rest = edges_same nodes v ps es led.1 in λ i. record { target = e.target; pairs = first i } ∷ rest i
 
 module _ (t : Theory) (nodes : List MadeNode) (all' : AllMade t nodes) where
   abbrev rows : List RuleNode
   rows = nodes_of (nodes_made t nodes)
 
-  reason_same : (v : ℕ) (j : Judgement) (r : Reason) (es : List Edge) → IsBy t nodes v j r es → map graph_edge (reason_edges t.most t.definitions t.lines rows j (numbers_of r es) r) ≡ es
+  reason_same : (v : ℕ) (j : Judgement) (r : Reason) (es : List Edge) → IsBy t nodes v j r es →
+      map graph_edge (reason_edges t.most t.definitions t.lines rows j (numbers_of r es) r) ≡ es
   reason_same v j (Step rule) es by =
-      ap (λ a. map graph_edge (answer_edges (map (λ (e : Edge). e.target) es) a)) by.is_answer ∙ edges_same nodes v by.premises es by.edges.as_many by.edges.each
+      ap (λ a. map graph_edge (answer_edges (map (λ (e : Edge). e.target) es) a)) by.is_answer ∙ edges_same nodes v by.premises es by.edges
   reason_same v j (Back link) es by =
       let made = all' link.target by.companion by.is_companion in
       ap (λ o. map graph_edge (link_edges link o)) (node_at t nodes all' link.target by.companion made by.is_companion) ∙ sym by.edge
 
-  node_same : (v : ℕ) (m : MadeNode) (made : IsMade t nodes v m) → graph_node t.most t.definitions t.lines rows (node_of (file_node made.traces m)) ≡ made.traces
+  node_same : (v : ℕ) (m : MadeNode) (made : IsMade t nodes v m) →
+      graph_node t.most t.definitions t.lines rows (node_of (file_node made.traces m)) ≡ made.traces
   node_same v m made =
       let edges = reason_same v (judgement_of m) m.reason made.traces.edges made.by in λ i. record { positions = sym made.positions i; edges = edges i }
 
@@ -54,7 +57,8 @@ module _ (t : Theory) (nodes : List MadeNode) (all' : AllMade t nodes) where
           length-map rows (graph_node t.most t.definitions t.lines rows)
           ∙ (length-map (nodes_made t nodes) node_of ∙ (length-nodes_made t nodes all' ∙ sym (length-traces_of t nodes)))
 
-      each : (v : ℕ) (x y : Node) → slice_get (graph_of t.most t.definitions t.lines rows) v ≡ Some x → slice_get (traces_of t nodes) v ≡ Some y → x ≡ y
+      each : (v : ℕ) (x y : Node) → slice_get (graph_of t.most t.definitions t.lines rows) v ≡ Some x →
+          slice_get (traces_of t nodes) v ≡ Some y → x ≡ y
       each v x y at at' =
           let less = slice_get_within (traces_of t nodes) v y at' in
           let m = get_within nodes v (omega (arith, less, length-traces_of t nodes)) in

@@ -13,5 +13,4 @@ pub mod Rows
 pub mod Right
 pub mod Graph
 pub mod Within
-pub mod Few
 pub mod Found

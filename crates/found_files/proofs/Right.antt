@@ -1,5 +1,5 @@
 -- No node of the file has a fault.
-use Rattle.std.proofs.Common.{◌≡◌, ℕ, suc, ◌<◌, true, List, [], ◌∷◌, map, Some, None, slice_get, length, refl, sym, ap, subst, ◌∙◌, arith}
+use Rattle.std.proofs.Common.{◌≡◌, ℕ, suc, ◌<◌, true, List, [], ◌∷◌, map, Some, None, slice_get, length, refl, sym, ap, subst, ◌∙◌}
 use Rattle.std.specs.Prelude.{nat_eq}
 use Rattle.std.proofs.lemmas.Bool.{eq-eqb, lt-ltb}
 use Rattle.std.proofs.lemmas.List.{length-map}
@@ -16,9 +16,10 @@ use Rattle.buchi_inclusion.proofs.Tables.{map_at}
 use Rattle.proof_check.specs.Files.{AreRight, node_of, nodes_of}
 use Rattle.proof_check.proofs.SameJudgements.{decided_judgement}
 use Rattle.search_moves.specs.Trying.{Theory}
-use Rattle.search_calculus.specs.Calculus.{MadeNode, judgement_of}
+use Rattle.tableaux.proofs.Made.{AllLead, lead_count}
+use Rattle.search_calculus.specs.Calculus.{MadeNode, judgement_of, traced}
 use Rattle.found_files.specs.Files.{numbers_of, file_node, nodes_made}
-use Rattle.found_files.proofs.Made.{LeadsToPremise, IsBy, AllMade}
+use Rattle.found_files.proofs.Made.{IsBy, AllMade}
 use Rattle.found_files.proofs.Rows.{file_node_at, node_at}
 
 same_self : (j : Judgement) → same_judgement j j ≡ true
@@ -28,31 +29,35 @@ module _ (t : Theory) (nodes : List MadeNode) (all' : AllMade t nodes) where
   abbrev rows : List RuleNode
   rows = nodes_of (nodes_made t nodes)
 
-  premise_right : (v i u : ℕ) (p : Premise) (ps : List Premise) (us : List ℕ) (node : RuleNode) → v < u → slice_get rows u ≡ Some node → p.judgement ≡ node.judgement → premises_fault rows v (suc i) ps us ≡ None → premises_fault rows v i (p ∷ ps) (u ∷ us) ≡ None
+  premise_right : (v i u : ℕ) (p : Premise) (ps : List Premise) (us : List ℕ) (node : RuleNode) → v < u →
+      slice_get rows u ≡ Some node → p.judgement ≡ node.judgement → premises_fault rows v (suc i) ps us ≡ None →
+      premises_fault rows v i (p ∷ ps) (u ∷ us) ≡ None
   premise_right v i u p ps us node later at is rest =
       let same : same_judgement p.judgement node.judgement ≡ true = subst (λ (x : Judgement). same_judgement p.judgement x ≡ true) is (same_self p.judgement) in
       ap (λ b. first_of (fault_unless b NoSuchNode) (first_of (differs rows i u p (slice_get rows u)) (premises_fault rows v (suc i) ps us))) (lt-ltb v u later)
       ∙ (ap (λ o. first_of (differs rows i u p o) (premises_fault rows v (suc i) ps us)) at
       ∙ (ap (λ b. first_of (fault_unless b (PremiseDiffers i)) (premises_fault rows v (suc i) ps us)) same ∙ rest))
 
-  premises_right : (v i : ℕ) (ps : List Premise) (es : List Edge) → length es ≡ length ps → ((k : ℕ) (p : Premise) (e : Edge) → slice_get ps k ≡ Some p → slice_get es k ≡ Some e → LeadsToPremise nodes v p e) →
+  premises_right : (v i : ℕ) (ps : List Premise) (es : List Edge) → AllLead nodes v (map traced ps) es →
       premises_fault rows v i ps (map (λ (e : Edge). e.target) es) ≡ None
-  premises_right v i [] [] size each = refl
-  premises_right v i [] (e ∷ es) size each = absurd (omega (arith, size))
-  premises_right v i (p ∷ ps) [] size each = absurd (omega (arith, size))
-  premises_right v i (p ∷ ps) (e ∷ es) size each =
-      let h = each 0 p e refl refl in
+  premises_right v i [] [] led = refl
+  premises_right v i [] (e ∷ es) led = absurd led
+  premises_right v i (p ∷ ps) [] led = absurd led
+  premises_right v i (p ∷ ps) (e ∷ es) led =
+      let h = led.0 in
       let made = all' e.target h.node h.is_node in
       premise_right v i e.target p ps (map (λ (e : Edge). e.target) es) (node_of (file_node made.traces h.node)) h.later (node_at t nodes all' e.target h.node made h.is_node) h.judgement
-      (premises_right v (suc i) ps es (omega (arith, size)) (λ k q x a b. each (suc k) q x a b))
+      (premises_right v (suc i) ps es led.1)
 
-  reason_right : (v : ℕ) (j : Judgement) (r : Reason) (es : List Edge) → IsBy t nodes v j r es → reason_fault t.most t.definitions t.lines rows v j (numbers_of r es) r ≡ None
+  reason_right : (v : ℕ) (j : Judgement) (r : Reason) (es : List Edge) → IsBy t nodes v j r es →
+      reason_fault t.most t.definitions t.lines rows v j (numbers_of r es) r ≡ None
   reason_right v j (Step rule) es by =
       let us : List ℕ = map (λ (e : Edge). e.target) es in
-      let count : length by.premises ≡ length us = sym (length-map es (λ (e : Edge). e.target) ∙ by.edges.as_many) in
+      let count : length by.premises ≡ length us =
+      sym (length-map es (λ (e : Edge). e.target) ∙ (lead_count nodes v (map traced by.premises) es by.edges ∙ length-map by.premises traced)) in
       ap (answer_fault rows v us) by.is_answer
       ∙ (ap (λ b. first_of (fault_unless b PremiseCount) (premises_fault rows v 0 by.premises us)) (eq-eqb (length by.premises) (length us) count)
-      ∙ premises_right v 0 by.premises es by.edges.as_many by.edges.each)
+      ∙ premises_right v 0 by.premises es by.edges)
   reason_right v j (Back link) es by =
       let made = all' link.target by.companion by.is_companion in
       ap (λ o. first_of (target_fault j link (variables_of t.lines j) o) (fault_unless (nat_eq 0 0) PremiseCount)) (node_at t nodes all' link.target by.companion made by.is_companion)

@@ -1,5 +1,5 @@
 -- The calculus of a small problem is in order: heaps stay short, premises are few, and trace pairs join predicate atoms.
-use Rattle.std.proofs.Common.{◌≡◌, ℕ, zero, suc, ◌≤◌, true, List, [], ◌∷◌, map, length, Option, Some, None, slice_get, refl, sym, ap, subst, ◌∙◌, arith}
+use Rattle.std.proofs.Common.{◌≡◌, ℕ, zero, suc, ◌≤◌, true, List, [], ◌∷◌, map, length, Option, Some, None, slice_get, refl, sym, subst, arith}
 use Rattle.std.proofs.lemmas.List.{length-map}
 use Rattle.std.specs.Prelude.{Ok, Err}
 use Rattle.heap_formula.specs.declared.atoms.Spatial.{Spatial}

@@ -1,5 +1,5 @@
 -- What reasons make of a small problem is in order, and each made node's edges are those of its first slots.
-use Rattle.std.proofs.Common.{◌≡◌, ℕ, suc, ◌+◌, ◌<◌, List, [], ◌∷◌, ◌++◌, take, Some, slice_get, length, refl, sym, ap, ◌∙◌, arith}
+use Rattle.std.proofs.Common.{◌≡◌, ℕ, ◌+◌, ◌<◌, List, ◌++◌, take, Some, slice_get, length, refl, sym, ap, ◌∙◌, arith}
 use Rattle.std.proofs.lemmas.List.{length-map}
 use Rattle.std.proofs.lemmas.Option.{slice_get_within, slice_get-map}
 use Rattle.std.specs.Option.{option_map}
@@ -11,6 +11,7 @@ use Rattle.proof_graph.specs.Traces.{positions_of, trace_node, trace_graph_of}
 use Rattle.search_moves.specs.Trying.{Theory}
 use Rattle.tableaux.specs.Tableau.{Premise as TracedPremise, Tableau, goals_of, begin, replay}
 use Rattle.tableaux.proofs.Grown.{link_edges}
+use Rattle.tableaux.proofs.Joined.{same_lists}
 use Rattle.tableaux.proofs.Waiting.{waiting}
 use Rattle.tableaux.proofs.Rows.{Row}
 use Rattle.tableaux.proofs.Graphs.{InOrder, graph_in_order}
@@ -101,15 +102,6 @@ made_slots t j d b small h v m at =
     }
 
 -- ---- the trace graph of the proof graph
-
--- lists are one that have the same members in the same places
-pub same_lists : {X : Type 0} (xs ys : List X) → length xs ≡ length ys → ((k : ℕ) (x y : X) → slice_get xs k ≡ Some x → slice_get ys k ≡ Some y → x ≡ y) → xs ≡ ys
-same_lists [] [] size each = refl
-same_lists [] (y ∷ ys) size each = absurd (omega (arith, size))
-same_lists (x ∷ xs) [] size each = absurd (omega (arith, size))
-same_lists (x ∷ xs) (y ∷ ys) size each =
-    let first = each 0 x y refl refl in
-    let rest = same_lists xs ys (omega (arith, size)) (λ k v w at at'. each (suc k) v w at at') in λ i. first i ∷ rest i
 
 pub made_traces : (t : Theory) (j : Judgement) (d : List Reason) (b : Tableau Judgement Reason) → IsSmallProblem t j → replay (calculus_of t) j d ≡ Some b → trace_graph_of (made_graph t b.nodes) ≡ traces_of t b.nodes
 made_traces t j d b small h = same_lists (trace_graph_of (made_graph t b.nodes)) (traces_of t b.nodes) size each

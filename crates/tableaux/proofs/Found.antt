@@ -1,12 +1,13 @@
 -- Each lasso of each partial derivation progresses; and what is found has all its premises.
-use Rattle.std.proofs.Common.{◌≡◌, ℕ, zero, suc, ◌+◌, ◌<◌, ◌⊎◌, inl, inr, arith, Bool, true, false, List, [], ◌∷◌, ◌++◌, Option, Some, None, slice_get, length, length-append, filter, take, sym, refl, ap, subst, ◌∙◌}
+use Rattle.std.proofs.Common.{◌≡◌, ℕ, zero, suc, ◌+◌, ◌<◌, ◌≤◌, ◌⊎◌, inl, inr, arith, Bool, true, false, List, [], ◌∷◌, ◌++◌, Option, Some, None, slice_get, length, length-append, filter, take, sym, refl, ap, subst, ◌∙◌}
+use Rattle.std.specs.Prelude.{nat_lt}
 use Rattle.std.proofs.lemmas.Bool.{cases_Bool, both_ways}
-use Rattle.std.proofs.lemmas.List.{append-nil, map-append}
+use Rattle.std.proofs.lemmas.List.{append-nil, map-append, length-map}
 use Rattle.std.proofs.lemmas.Option.{slice_get_within}
 use Rattle.trace_pairs.specs.Graph.{Node, Edge, IsGraph}
 use Rattle.trace_pairs.specs.Lasso.{IsPath, AllProgress}
 use Rattle.trace_pairs.specs.declared.lasso.Step.{Step}
-use Rattle.trace_decision.specs.Decide.{progresses}
+use Rattle.trace_decision.specs.Decide.{progresses, number_of}
 use Rattle.trace_decision.proofs.Leaf.{leaf_progresses}
 use Rattle.trace_decision.proofs.Decide.{progress_decided}
 use Rattle.buchi_core.proofs.Lists.{get_within}
@@ -18,12 +19,15 @@ use Rattle.tableaux.specs.Tableau.{Premise, Goal, Made, Tableau, Calculus, grown
 use Rattle.tableaux.specs.Room.{is_nil, is_done, offered, offered_at}
 use Rattle.tableaux.specs.Search.{on_graph, system_of, EachFound}
 use Rattle.tableaux.specs.Fair.{AllOccur, IsFair}
-use Rattle.tableaux.specs.Nodes.{HasRoot, reasons_of, MayStand, AreEdges, AllHavePremises, StandApart, AllHaveEdges}
+use Rattle.tableaux.specs.Nodes.{HasRoot, reasons_of, MayStand, AllOffered, IsSmall, AreEdges, AllHavePremises, StandApart, AllHaveEdges}
 use Rattle.tableaux.proofs.Grown.{link_edges}
 use Rattle.tableaux.proofs.Waiting.{waiting, none_left}
 use Rattle.tableaux.proofs.Rows.{Row}
 use Rattle.tableaux.proofs.Graphs.{InOrder, graph_in_order}
 use Rattle.tableaux.proofs.Steps.{Fits, fits_tells, next_tableau, next_is, begins, next_in_order}
+use Rattle.tableaux.proofs.Offered.{IsOfferedTo, none_offered, offered_next}
+use Rattle.tableaux.proofs.Few.{found_ends, few_states}
+use Rattle.tableaux.proofs.Made.{AllMade}
 
 -- a graph without a node has no lasso
 none_progresses : AllProgress []
@@ -70,6 +74,7 @@ in_offered {J} {R} c offer p r x i =
 
 -- the reason may be given; and it is a link with which each lasso progresses, or another rule
 record IsChosen {J R : Type 0} (c : Calculus J R) (Allows : R → Type 0) (nodes : List (Made J R)) (graph : List Node) (g : Goal J) (r : R) : Type 0 where
+  offered : IsOfferedTo c nodes g r
   allowed : Allows r
   progress : (progresses (linked (length nodes) (grown c graph g) (c.back nodes g r)) ≡ true) ⊎ (c.back nodes g r ≡ None)
 
@@ -77,10 +82,11 @@ next_chosen : {J R : Type 0} (c : Calculus J R) (Occurs : J → Type 0) (Allows 
 next_chosen c Occurs Allows fair limit states j d r x occur h =
     elim (chosen_was (system_of c limit states j) d r h) [
       | inl link ↦
-          record { allowed = fair.offers x.t.nodes x.g r occur (inl (in_offered c c.links (replay c j d) r x link.is_in)); progress = inl (subst (λ p. on_graph progresses p ≡ true) (next_is c j d r x) link.pass) }
+          (let i = in_offered c c.links (replay c j d) r x link.is_in in
+          record { offered = inl i; allowed = fair.offers x.t.nodes x.g r occur (inl i); progress = inl (subst (λ p. on_graph progresses p ≡ true) (next_is c j d r x) link.pass) })
       | inr rule ↦
           (let i = in_offered c c.rules (replay c j d) r x rule in
-          record { allowed = fair.offers x.t.nodes x.g r occur (inr i); progress = inr (fair.rules_forth x.t.nodes x.g r i) })
+          record { offered = inr i; allowed = fair.offers x.t.nodes x.g r occur (inr i); progress = inr (fair.rules_forth x.t.nodes x.g r i) })
     ]
 
 next_progresses : {J R : Type 0} (c : Calculus J R) (Occurs : J → Type 0) (Allows : R → Type 0) → IsFair c Occurs Allows → (j : J) (nodes : List (Made J R)) (graph : List Node) (g : Goal J) (rest : List (Goal J)) (r : R) (ps : List (Premise J)) → InOrder c Occurs Allows j (next_tableau c nodes graph g rest ps r) →
@@ -99,6 +105,7 @@ record Holds {J R : Type 0} (c : Calculus J R) (Occurs : J → Type 0) (Allows :
   is : replay c j d ≡ Some t
   reasons : reasons_of t ≡ d
   order : InOrder c Occurs Allows j t
+  offered : AllOffered c t
   progress : AllProgress t.graph
 
 holds_next : {J R : Type 0} (c : Calculus J R) (Occurs : J → Type 0) (Allows : R → Type 0) → IsFair c Occurs Allows → (limit states e : ℕ) (j : J) (d : List R) (r : R) → Holds c Occurs Allows j d → IsOffered (system_of c limit states j) e d r → Holds c Occurs Allows j (after d r)
@@ -117,6 +124,7 @@ holds_next {J} {R} c Occurs Allows fair limit states e j d r holds offer =
           map-append (λ (m : Made J R). m.reason) x.t.nodes (record { goal = x.g; reason = r } ∷ [])
           ∙ ap (λ (rs : List R). rs ++ (r ∷ [])) (ap (λ (t : Tableau J R). reasons_of t) (sym b') ∙ holds.reasons);
       order = new';
+      offered = offered_next c x.t x.g x.rest x.ps r (subst (AllOffered c) b' holds.offered) is.offered;
       progress = next_progresses c Occurs Allows fair j x.t.nodes x.t.graph x.g x.rest r x.ps new' (subst (λ (t : Tableau J R). AllProgress t.graph) b' holds.progress) is;
     }
 
@@ -133,7 +141,7 @@ found : {J R : Type 0} (c : Calculus J R) (Occurs : J → Type 0) (Allows : R �
 found {J} {R} c Occurs Allows fair limit states most depth j d occurs h =
     let first = first_found (system_of c limit states j) most 1 depth d h in
     let p = found_has (system_of c limit states j) first.depth (Holds c Occurs Allows j) (λ d' r holds offer. holds_next c Occurs Allows fair limit states first.depth j d' r holds offer)
-    (record { t = begin j; is = refl; reasons = refl; order = begins c Occurs Allows j occurs; progress = none_progresses }) d first.first in
+    (record { t = begin j; is = refl; reasons = refl; order = begins c Occurs Allows j occurs; offered = none_offered c j; progress = none_progresses }) d first.first in
     let nil : is_nil p.0.t.goals ≡ true = subst (λ x. is_done x ≡ true) p.0.is p.1 in
     record { holds = p.0; closed = nil_is p.0.t.goals nil }
 
@@ -212,6 +220,9 @@ all_reasoned c Occurs Allows fair = each_found c Occurs Allows fair (λ j d t. r
 pub all_standing : {J R : Type 0} (c : Calculus J R) (Occurs : J → Type 0) (Allows : R → Type 0) → IsFair c Occurs Allows → EachFound c Occurs (λ j d t. MayStand Occurs Allows t)
 all_standing c Occurs Allows fair = each_found c Occurs Allows fair (λ j d t. MayStand Occurs Allows t) (λ j d f. f.holds.order.made)
 
+pub all_offered : {J R : Type 0} (c : Calculus J R) (Occurs : J → Type 0) (Allows : R → Type 0) → IsFair c Occurs Allows → EachFound c Occurs (λ j d t. AllOffered c t)
+all_offered c Occurs Allows fair = each_found c Occurs Allows fair (λ j d t. AllOffered c t) (λ j d f. f.holds.offered)
+
 pub all_premised : {J R : Type 0} (c : Calculus J R) (Occurs : J → Type 0) (Allows : R → Type 0) → IsFair c Occurs Allows → EachFound c Occurs (λ j d t. AllHavePremises c t)
 all_premised {J} {R} c Occurs Allows fair = each_found c Occurs Allows fair (λ j d t. AllHavePremises c t)
     (λ j d f i m at. (
@@ -221,17 +232,29 @@ all_premised {J} {R} c Occurs Allows fair = each_found c Occurs Allows fair (λ 
 pub all_apart : {J R : Type 0} (c : Calculus J R) (Occurs : J → Type 0) (Allows : R → Type 0) → IsFair c Occurs Allows → EachFound c Occurs (λ j d t. StandApart t)
 all_apart {J} {R} c Occurs Allows fair = each_found c Occurs Allows fair (λ j d t. StandApart t) (λ j d f. stand_apart c Occurs Allows j f.holds.t f.holds.order)
 
-pub all_edged : {J R : Type 0} (c : Calculus J R) (Occurs : J → Type 0) (Allows : R → Type 0) → IsFair c Occurs Allows → EachFound c Occurs (λ j d t. AllHaveEdges c t)
-all_edged {J} {R} c Occurs Allows fair = each_found c Occurs Allows fair (λ j d t. AllHaveEdges c t)
+-- each node made, with its node in the trace graph
+pub all_made : {J R : Type 0} (c : Calculus J R) (Occurs : J → Type 0) (Allows : R → Type 0) → IsFair c Occurs Allows → EachFound c Occurs (λ j d t. AllMade c t)
+all_made {J} {R} c Occurs Allows fair = each_found c Occurs Allows fair (λ j d t. AllMade c t)
     (λ j d f i m at. (
     let w = whole c Occurs Allows j d f i m at in
     record {
-      premises = w.row.done;
-      has = w.has;
-      node = record { positions = c.positions m.goal.premise.judgement; edges = link_edges (c.back w.row.before m.goal m.reason) ++ w.row.edges };
-      is_node = w.row.is_node;
-      edges = row_edges c Occurs Allows fair j d f i m at w;
+      edged = record {
+        premises = w.row.done;
+        has = w.has;
+        node = record { positions = c.positions m.goal.premise.judgement; edges = link_edges (c.back w.row.before m.goal m.reason) ++ w.row.edges };
+        is_node = w.row.is_node;
+        edges = row_edges c Occurs Allows fair j d f i m at w;
+      };
+      positions = refl;
     }))
+
+pub all_edged : {J R : Type 0} (c : Calculus J R) (Occurs : J → Type 0) (Allows : R → Type 0) → IsFair c Occurs Allows → EachFound c Occurs (λ j d t. AllHaveEdges c t)
+all_edged c Occurs Allows fair limit states most depth j d occurs h =
+    let x = all_made c Occurs Allows fair limit states most depth j d occurs h in (x.0, x.1, λ i m at. (x.2 i m at).edged)
+
+-- the trace graph has a node for each node made
+pub all_sized : {J R : Type 0} (c : Calculus J R) (Occurs : J → Type 0) (Allows : R → Type 0) → IsFair c Occurs Allows → EachFound c Occurs (λ j d t. length t.graph ≡ length t.nodes)
+all_sized c Occurs Allows fair = each_found c Occurs Allows fair (λ j d t. length t.graph ≡ length t.nodes) (λ j d f. f.holds.order.size)
 
 pub all_graphs : {J R : Type 0} (c : Calculus J R) (Occurs : J → Type 0) (Allows : R → Type 0) → IsFair c Occurs Allows → EachFound c Occurs (λ j d t. IsGraph t.graph)
 all_graphs c Occurs Allows fair = each_found c Occurs Allows fair (λ j d t. IsGraph t.graph)
@@ -239,3 +262,26 @@ all_graphs c Occurs Allows fair = each_found c Occurs Allows fair (λ j d t. IsG
 
 pub all_progressing : {J R : Type 0} (c : Calculus J R) (Occurs : J → Type 0) (Allows : R → Type 0) → IsFair c Occurs Allows → EachFound c Occurs (λ j d t. AllProgress t.graph)
 all_progressing c Occurs Allows fair = each_found c Occurs Allows fair (λ j d t. AllProgress t.graph) (λ j d f. f.holds.progress)
+
+-- ---- sizes
+
+-- what is so of each tableau that is found is so of this one
+pub found_this : {J R : Type 0} (c : Calculus J R) (Occurs : J → Type 0) (P : J → List R → Tableau J R → Type 0) → EachFound c Occurs P → (limit states most depth : ℕ) (j : J) (d : List R) (t : Tableau J R) → Occurs j →
+    search_of (system_of c limit states j) most depth ≡ IsFound d → replay c j d ≡ Some t → P j d t
+found_this c Occurs P each limit states most depth j d t occurs h is =
+    let x = each limit states most depth j d occurs h in
+    let e : Some x.0 ≡ Some t = sym x.1 ∙ is in
+    let e' : x.0 ≡ t = cc in subst (P j d) e' x.2
+
+pub all_small : {J R : Type 0} (c : Calculus J R) (Occurs : J → Type 0) (Allows : R → Type 0) → IsFair c Occurs Allows → (limit states most depth : ℕ) (j : J) (d : List R) (t : Tableau J R) → Occurs j →
+    search_of (system_of c limit states j) most depth ≡ IsFound d → replay c j d ≡ Some t → IsSmall limit states t
+all_small {J} {R} c Occurs Allows fair limit states most depth j d t occurs h is =
+    let ends = found_ends (system_of c limit states j) most depth d h in
+    let reasons = found_this c Occurs (λ j d t. reasons_of t ≡ d) (all_reasoned c Occurs Allows fair) limit states most depth j d t occurs h is in
+    let graph = found_this c Occurs (λ j d t. IsGraph t.graph) (all_graphs c Occurs Allows fair) limit states most depth j d t occurs h is in
+    let size : length d ≡ length t.nodes = ap length (sym reasons) ∙ length-map t.nodes (λ (m : Made J R). m.reason) in
+    record {
+      closed = nil_is t.goals (subst (λ x. is_done x ≡ true) is ends.complete);
+      nodes = subst (λ n. n ≤ limit) size ends.short;
+      states = few_states t.graph states graph (subst (λ x. on_graph (λ g. nat_lt states (number_of g)) x ≡ false) is ends.few);
+    }

@@ -4,5 +4,9 @@ pub mod Waiting
 pub mod Rows
 pub mod Graphs
 pub mod Steps
+pub mod Offered
+pub mod Few
+pub mod Joined
+pub mod Made
 pub mod Found
 pub mod Replays

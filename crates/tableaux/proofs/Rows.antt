@@ -136,7 +136,7 @@ row_parent {J} {R} c nodes graph g rest r ps depth o i m less size here row =
               get_end row.edges (record { target = length nodes; pairs = w.p.pairs }) x.goal.place place ∙ ap (λ (e : Edge). Some e) edge)
         ]
 
-take_all : {X : Type 0} (xs ys : List X) (n : ℕ) → n ≡ length xs → take n (xs ++ ys) ≡ xs
+pub take_all : {X : Type 0} (xs ys : List X) (n : ℕ) → n ≡ length xs → take n (xs ++ ys) ≡ xs
 take_all [] ys zero e = refl
 take_all [] ys (suc n) e = absurd (omega arith)
 take_all (x ∷ xs) ys zero e = absurd (omega arith)

@@ -1,6 +1,8 @@
 -- The nodes of a tableau without open goals: their judgements, reasons, premises and edges.
-use Rattle.std.specs.Prelude.{ℕ, ◌≡◌, ◌<◌, List, [], ◌∷◌, map, Option, Some, None, slice_get, length, take}
+use Rattle.std.specs.Prelude.{ℕ, ◌≡◌, ◌<◌, ◌≤◌, ◌⊎◌, List, [], ◌∷◌, map, Option, Some, None, slice_get, length, take}
 use Rattle.trace_pairs.specs.Graph.{Node, Edge}
+use Rattle.buchi_inclusion.specs.Answers.{HasAtMost}
+use Rattle.derivation_search.specs.Firsts.{IsIn}
 use Rattle.tableaux.specs.Tableau.{Premise, Goal, Made, Tableau, Calculus}
 
 -- node 0 is made for the judgement
@@ -16,6 +18,17 @@ reasons_of {J} {R} t = map (λ (m : Made J R). m.reason) t.nodes
 -- each node's judgement may occur, and its reason may be given
 abbrev pub MayStand : {J R : Type 0} → (J → Type 0) → (R → Type 0) → Tableau J R → Type 0
 MayStand {J} {R} Occurs Allows t = (i : ℕ) (m : Made J R) → slice_get t.nodes i ≡ Some m → Occurs m.goal.premise.judgement × Allows m.reason
+
+-- each node's reason was offered to its goal, over the nodes before it
+abbrev pub AllOffered : {J R : Type 0} → Calculus J R → Tableau J R → Type 0
+AllOffered {J} {R} c t =
+    (i : ℕ) (m : Made J R) → slice_get t.nodes i ≡ Some m → IsIn (c.links (take i t.nodes) m.goal) m.reason ⊎ IsIn (c.rules (take i t.nodes) m.goal) m.reason
+
+-- no goal is open, and there are at most so many nodes and product states
+pub record IsSmall {J R : Type 0} (limit most : ℕ) (t : Tableau J R) : Type 0 where
+  pub closed : t.goals ≡ []
+  pub nodes : length t.nodes ≤ limit
+  pub states : HasAtMost t.graph most
 
 -- the goal stands at place k of node i, for the premise
 pub record StandsAt {J : Type 0} (i k : ℕ) (p : Premise J) (g : Goal J) : Type 0 where

@@ -6,13 +6,14 @@
 mod goals;
 mod traces;
 
-ghost use Rattle.std.specs.Prelude.{List, ◌≡◌};
+ghost use Rattle.std.specs.Prelude.{ℕ, List, ◌≡◌, Some};
 ghost use Rattle.trace_pairs.specs.Graph.{IsGraph};
 ghost use Rattle.trace_pairs.specs.Lasso.{AllProgress};
-ghost use Rattle.tableaux.specs.Tableau.{Calculus};
-ghost use Rattle.tableaux.specs.Search.{EachReplayed, EachFound};
+ghost use Rattle.derivation_search.specs.System.{search_of, IsFound};
+ghost use Rattle.tableaux.specs.Tableau.{Calculus, Tableau, replay};
+ghost use Rattle.tableaux.specs.Search.{EachReplayed, EachFound, system_of};
 ghost use Rattle.tableaux.specs.Fair.{IsFair};
-ghost use Rattle.tableaux.specs.Nodes.{HasRoot, reasons_of, MayStand, AllHavePremises, StandApart, AllHaveEdges};
+ghost use Rattle.tableaux.specs.Nodes.{HasRoot, reasons_of, MayStand, AllOffered, IsSmall, AllHavePremises, StandApart, AllHaveEdges};
 
 pub use cyc_memory::OutOfMemory;
 pub use goals::{MadeNode, OpenGoal, Premise, TracePairs};
@@ -49,6 +50,15 @@ pub fn found_derives<C: Rules>(_rules: &C)
     ensures root { EachFound (C.calculus _rules.now) (C.occurs _rules.now) (λ j d t. HasRoot j t) }
     ensures reasons { EachFound (C.calculus _rules.now) (C.occurs _rules.now) (λ j d t. reasons_of t ≡ d) }
     ensures nodes { EachFound (C.calculus _rules.now) (C.occurs _rules.now) (λ j d t. MayStand (C.occurs _rules.now) (C.allows _rules.now) t) }
+    ensures offered { EachFound (C.calculus _rules.now) (C.occurs _rules.now) (λ j d t. AllOffered (C.calculus _rules.now) t) }
+{}
+
+/// What is found has no open goal, and at most as many nodes and product states as the search allows.
+pub fn found_is_small<C: Rules>(_rules: &C)
+    requires fair { IsFair (C.calculus _rules.now) (C.occurs _rules.now) (C.allows _rules.now) }
+    ensures { (limit states most depth : ℕ) (j : C.Judgement) (d : List C.Reason) (t : Tableau C.Judgement C.Reason) → C.occurs _rules.now j
+        → search_of (system_of (C.calculus _rules.now) limit states j) most depth ≡ IsFound d
+        → replay (C.calculus _rules.now) j d ≡ Some t → IsSmall limit states t }
 {}
 
 /// Each node of what is found has its premises, and one later node for each of them.

@@ -1,4 +1,4 @@
-use Rattle.tableaux.proofs.Found.{all_rooted, all_reasoned, all_standing}
+use Rattle.tableaux.proofs.Found.{all_rooted, all_reasoned, all_standing, all_offered}
 use Rattle.tableaux.proofs.found_derives.Goals as goal
 
 pub returns-clause-root : goal.returns-clause-root
@@ -9,3 +9,6 @@ returns-clause-reasons g c limit states most depth j d occurs h = all_reasoned (
 
 pub returns-clause-nodes : goal.returns-clause-nodes
 returns-clause-nodes g c limit states most depth j d occurs h = all_standing (g.C.Rules.calculus c.args._rules.now) (g.C.Rules.occurs c.args._rules.now) (g.C.Rules.allows c.args._rules.now) c.requires.fair limit states most depth j d occurs h
+
+pub returns-clause-offered : goal.returns-clause-offered
+returns-clause-offered g c limit states most depth j d occurs h = all_offered (g.C.Rules.calculus c.args._rules.now) (g.C.Rules.occurs c.args._rules.now) (g.C.Rules.allows c.args._rules.now) c.requires.fair limit states most depth j d occurs h
