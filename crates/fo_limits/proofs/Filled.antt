@@ -1,5 +1,5 @@
 -- Terms in place of signs: terms stay terms of signs within the limits.
-use Rattle.std.proofs.Common.{◌≡◌, ℕ, zero, suc, ◌+◌, ◌≤◌, Bool, true, false, List, [], ◌∷◌, ◌++◌, map, length, subst, sym, refl, eqb-true, arith}
+use Rattle.std.proofs.Common.{◌≡◌, ℕ, zero, suc, ◌+◌, ◌≤◌, Bool, true, false, List, [], ◌∷◌, map, subst, sym, refl, eqb-true, arith}
 use Rattle.std.specs.Prelude.{nat_eq, if◌then◌else◌}
 use Rattle.std.proofs.lemmas.List.{length-map}
 use Rattle.std.proofs.lemmas.Bool.{and_parts}
@@ -9,8 +9,8 @@ use Rattle.fo_formula.specs.declared.terms.Sign.TheVariants.{Universal, Local, C
 use Rattle.fo_formula.specs.declared.atoms.FoAtom.{FoAtom}
 use Rattle.fo_formula.specs.declared.atoms.FoAtom.TheVariants.{Equation, Predicate}
 use Rattle.fo_formula.specs.declared.theory.FoTheory.{FoTheory}
-use Rattle.fo_formula.specs.Words.{Word, arity, AreTerms, IsTerm, first_term, after_first, end_of, replaced, in_atom, first_constant}
-use Rattle.fo_formula.specs.Values.{entry, sign_value}
+use Rattle.fo_formula.specs.Words.{Word, arity, AreTerms, after_first, end_of, replaced, in_atom, first_constant}
+use Rattle.fo_formula.specs.Values.{sign_value}
 use Rattle.fo_formula.specs.Shapes.{HasConstant}
 use Rattle.fo_formula.proofs.Lists.{each_append, each_or}
 use Rattle.fo_formula.proofs.Reading.{first_split}

@@ -1,5 +1,5 @@
 -- What holds of each member, in parts of a list.
-use Rattle.std.proofs.Common.{◌≡◌, ℕ, zero, suc, ◌+◌, List, [], ◌∷◌, ◌++◌, map, take, drop}
+use Rattle.std.proofs.Common.{ℕ, zero, suc, List, [], ◌∷◌, map, take, drop}
 use Rattle.std.specs.Prelude.{slice_set}
 use Rattle.heap_formula.specs.Positions.{without}
 use Rattle.heap_formula.specs.Words.{Each}

@@ -1,6 +1,5 @@
 -- What is within the limits is of terms over the constructors.
-use Rattle.std.proofs.Common.{ℕ, List, [], ◌∷◌}
-use Rattle.heap_formula.specs.Words.{Each}
+use Rattle.std.proofs.Common.{ℕ}
 use Rattle.fo_formula.specs.declared.terms.Sign.{Sign}
 use Rattle.fo_formula.specs.declared.terms.Sign.TheVariants.{Universal, Local, Constructor}
 use Rattle.fo_formula.specs.declared.atoms.FoAtom.{FoAtom}

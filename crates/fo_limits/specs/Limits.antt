@@ -1,21 +1,23 @@
 -- Theories, sequents and reasons within the limits of a file: terms over the constructors, predicates with as many
 -- arguments as they take, variables up to number 65,534, and few atoms and terms.
-use Rattle.std.specs.Prelude.{ℕ, ◌≡◌, ◌≤◌, List, map, length, Some, slice_get}
+use Rattle.std.specs.Prelude.{ℕ, ◌≡◌, ◌≤◌, ◌<◌, ◌+◌, ◌^◌, List, [], ◌∷◌, ◌++◌, map, length, Some, slice_get}
 use Rattle.heap_formula.specs.Words.{Each}
 use Rattle.fo_formula.specs.declared.terms.Sign.{Sign}
 use Rattle.fo_formula.specs.declared.terms.Sign.TheVariants.{Universal, Local, Constructor}
 use Rattle.fo_formula.specs.declared.atoms.FoAtom.{FoAtom}
 use Rattle.fo_formula.specs.declared.atoms.FoAtom.TheVariants.{Equation, Predicate}
+use Rattle.fo_formula.specs.declared.nodes.FoNode.{FoNode}
 use Rattle.fo_formula.specs.declared.nodes.FoReason.{FoReason}
 use Rattle.fo_formula.specs.declared.nodes.FoReason.TheVariants.{Rule, Link}
 use Rattle.fo_formula.specs.declared.nodes.FoRule.{FoRule}
-use Rattle.fo_formula.specs.declared.nodes.FoRule.TheVariants.{Cut, Right}
+use Rattle.fo_formula.specs.declared.nodes.FoRule.TheVariants.{Axiom, Refl, Clash, Decompose, Replace, WeakenLeft, WeakenRight, Contract, Unfold, Cut, Right}
 use Rattle.fo_formula.specs.declared.sequents.FoSequent.{FoSequent}
 use Rattle.fo_formula.specs.declared.theory.FoDefinition.{FoDefinition}
 use Rattle.fo_formula.specs.declared.theory.FoTheory.{FoTheory}
 use Rattle.fo_formula.specs.Words.{Word, IsTerm}
 use Rattle.fo_formula.specs.Values.{IsConstructor}
 use Rattle.fo_formula.specs.Shapes.{HasConstant}
+use Rattle.fo_formula.specs.Sizes.{sequent_size, reason_size}
 use Rattle.fo_nodes.specs.Files.{IsSmallSequent, IsSmallDefinition}
 
 -- ---- terms and atoms
@@ -71,6 +73,38 @@ IsPairWithin t pair = (pair.0 ≤ 65534) × IsTermWithin t pair.1
 abbrev pub IsReasonWithin : FoTheory → FoReason → Type 0
 IsReasonWithin t (Rule rule) = IsRuleWithin t rule
 IsReasonWithin t (Link link) = Each (IsPairWithin t) link.substitution
+
+-- ---- nodes
+
+-- the positions and cases that a rule names, and the nodes and positions that a link does
+abbrev pub numbers_of_rule : FoRule → List ℕ
+numbers_of_rule (Axiom i j) = i ∷ j ∷ []
+numbers_of_rule (Refl j) = j ∷ []
+numbers_of_rule (Clash i) = i ∷ []
+numbers_of_rule (Decompose i) = i ∷ []
+numbers_of_rule (Replace i side) = i ∷ []
+numbers_of_rule (WeakenLeft i) = i ∷ []
+numbers_of_rule (WeakenRight j) = j ∷ []
+numbers_of_rule (Contract i) = i ∷ []
+numbers_of_rule (Unfold i) = i ∷ []
+numbers_of_rule (Cut x) = []
+numbers_of_rule (Right j c terms) = j ∷ c ∷ []
+
+abbrev pub numbers_of : FoReason → List ℕ
+numbers_of (Rule rule) = numbers_of_rule rule
+numbers_of (Link link) = link.to ∷ (link.left_map ++ link.right_map)
+
+-- a number has at most nine digits
+abbrev pub IsNumberWithin : ℕ → Type 0
+IsNumberWithin n = n < 10 ^ 9
+
+-- a node within the limits, with its reason at most 4,096 terms
+pub record IsNodeWithin (t : FoTheory) (n : FoNode) : Type 0 where
+  pub sequent : IsSequentWithin t n.sequent
+  pub reason : IsReasonWithin t n.reason
+  pub size : sequent_size n.sequent + reason_size n.reason ≤ 4096
+  pub numbers : Each IsNumberWithin (numbers_of n.reason)
+  pub premises : Each IsNumberWithin n.premises
 
 -- ---- theories
 
