@@ -4,7 +4,8 @@ pub mod Settled
 pub mod Cutting
 pub mod Choices
 pub mod Lists
-pub mod OpenTerms
+pub mod Terms
+pub mod LowVariables
 pub mod Offered
 pub mod Listed
 pub mod Pairing

@@ -87,7 +87,8 @@ each_selected P values h (suc k) (x ∷ xs) s = (each_one P x values s.0 h, each
 pub each_chosen : {X : Type 0} (P : X → Type 0) (values : List X) → Each P values → (k : ℕ) → Each (Each P) (selections (replicate k values))
 each_chosen P values h k = each_selection (Each P) (replicate k values) (each_selected P values h k)
 
-pub each_zipped : {X : Type 0} (P : X → Type 0) (ns : List ℕ) (xs : List X) → Each P xs → Each (λ (pair : ℕ × X). P pair.1) (zip ns xs)
-each_zipped P [] xs h = tt
-each_zipped P (n ∷ ns) [] h = tt
-each_zipped P (n ∷ ns) (x ∷ xs) h = (h.0, each_zipped P ns xs h.1)
+pub each_zipped : {X : Type 0} (N : ℕ → Type 0) (P : X → Type 0) (ns : List ℕ) (xs : List X) → Each N ns → Each P xs →
+    Each (λ (pair : ℕ × X). N pair.0 × P pair.1) (zip ns xs)
+each_zipped N P [] xs a h = tt
+each_zipped N P (n ∷ ns) [] a h = tt
+each_zipped N P (n ∷ ns) (x ∷ xs) a h = ((a.0, h.0), each_zipped N P ns xs a.1 h.1)

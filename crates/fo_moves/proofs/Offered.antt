@@ -1,4 +1,4 @@
--- What is offered has no fault, and is small and built over the constructors.
+-- What is offered has no fault, is small, and stays within the limits of a file.
 use Rattle.std.proofs.Common.{◌≡◌, ℕ, ◌+◌, ◌≤◌, Bool, true, false, ◌&&◌, List, [], ◌∷◌, ◌++◌, map, length, Option, Some, None, refl, arith}
 use Rattle.std.specs.Prelude.{is_ok, is_none, nat_le, nat_eq, slice_get}
 use Rattle.std.specs.List.{filter, list_all, zip}
@@ -11,23 +11,21 @@ use Rattle.fo_formula.specs.declared.nodes.FoReason.TheVariants.{Rule, Link}
 use Rattle.fo_formula.specs.declared.nodes.FoRule.{FoRule}
 use Rattle.fo_formula.specs.declared.nodes.FoRule.TheVariants.{Axiom, Refl, Clash, Decompose, Replace, WeakenLeft, WeakenRight, Contract, Unfold, Cut, Right}
 use Rattle.fo_formula.specs.declared.sequents.FoSequent.{FoSequent}
-use Rattle.fo_formula.specs.declared.theory.Constructor.{Constructor as ConstructorValue}
 use Rattle.fo_formula.specs.declared.theory.FoTheory.{FoTheory}
 use Rattle.fo_formula.specs.declared.numbers.Kind.TheVariants.{Locals}
 use Rattle.fo_formula.specs.Bounds.{atoms_bound}
 use Rattle.fo_formula.specs.Meaning.{cases_of}
 use Rattle.fo_formula.specs.Sizes.{sequent_size, reason_size, words_size, atom_size}
-use Rattle.fo_formula.specs.Shapes.{IsOpenTerm, IsOpenSequent}
 use Rattle.fo_formula.specs.Words.{Word}
 use Rattle.fo_formula.proofs.Lists.{each_map, each_append}
-use Rattle.fold_offers.specs.Places.{each_place}
+use Rattle.fold_offers.specs.Places.{each_place, first_that}
 use Rattle.fo_table.specs.declared.faults.FoFault.{FoFault}
 use Rattle.fo_table.specs.declared.faults.FoFault.TheVariants.{NoSuchAtom, NoSuchCase, TermCount}
 use Rattle.fo_table.specs.declared.premises.FoPremise.{FoPremise}
 use Rattle.fo_table.specs.Answers.{Answer, needs, finds, predicate, is_short, is_small, limited}
 use Rattle.fo_table.specs.LinkTable.{link_fault}
-use Rattle.fo_table.specs.Soundness.{HasOpenTerms, HasOpenValues}
 use Rattle.fo_table.specs.Table.{Bindings, right_premise, cut_left, cut_right}
+use Rattle.fo_limits.specs.Limits.{IsSignWithin, IsTermWithin, HasAtomsWithin, IsRuleWithin, IsPairWithin, IsReasonWithin}
 use Rattle.fo_moves.specs.Trying.{goes}
 use Rattle.fo_moves.specs.Subterms.{subterms, lists_of}
 use Rattle.fo_moves.specs.Before.{axiom_at, axioms_with, axioms, refl_at, clash_at, decompose_at, replace_at, lines_before, rules_before}
@@ -35,7 +33,8 @@ use Rattle.fo_moves.specs.Links.{variables, link_by, is_fit, substitutions, link
 use Rattle.fo_moves.specs.After.{suits, choices, rights_by, rights_at, unfold_at, rules_after}
 use Rattle.fo_moves.proofs.Settled.{true_and}
 use Rattle.fo_moves.proofs.Lists.{each_kept, each_filter, each_first_kept, each_first, each_line, each_offered, each_taken, each_mapped, each_any, each_zipped}
-use Rattle.fo_moves.proofs.OpenTerms.{lists_open}
+use Rattle.fo_moves.proofs.Terms.{lists_are}
+use Rattle.fo_moves.proofs.LowVariables.{variables_low}
 
 le_true : (m n : ℕ) → nat_le m n ≡ true → m ≤ n
 le_true m n h = grind (arith, nat_tests, h)
@@ -80,11 +79,15 @@ module _ (most number : ℕ) (bud companion : FoSequent) where
   links_small =
       each_map (λ (link : FoLink). is_fit bud companion link ≡ true) (λ (link : FoLink). sequent_size bud + reason_size (Link link) ≤ 4096) (λ link h. le_true (sequent_size bud + reason_size (Link link)) 4096 (fit_parts link h).1) (links_to most bud companion number) fit_links
 
-pub links_open : (cs : List ConstructorValue) (most number : ℕ) (bud companion : FoSequent) → IsOpenSequent cs bud → Each (HasOpenValues cs) (links_to most bud companion number)
-links_open cs most number bud companion built =
-    made_links most number bud companion (HasOpenValues cs)
-    (each_mapped (λ (s : Bindings). Each (λ (pair : ℕ × Word). IsOpenTerm cs pair.1) s) (zip (variables companion)) (lists_of (length (variables companion)) (subterms bud))
-    (each_map (Each (IsOpenTerm cs)) (λ (ts : List Word). Each (λ (pair : ℕ × Word). IsOpenTerm cs pair.1) (zip (variables companion) ts)) (each_zipped (IsOpenTerm cs) (variables companion)) (lists_of (length (variables companion)) (subterms bud)) (lists_open cs bud built (length (variables companion)))))
+pub links_within : (t : FoTheory) (most number : ℕ) (bud companion : FoSequent) → HasAtomsWithin t bud →
+    HasAtomsWithin t companion → Each (λ (link : FoLink). IsReasonWithin t (Link link)) (links_to most bud companion number)
+links_within t most number bud companion b c =
+    let names = variables companion in
+    let lists = lists_of (length names) (subterms bud) in
+    made_links most number bud companion (λ (link : FoLink). IsReasonWithin t (Link link))
+    (each_mapped (Each (IsPairWithin t)) (zip names) lists
+    (each_map (Each (IsTermWithin t)) (λ (ts : List Word). Each (IsPairWithin t) (zip names ts)) (λ ts within. each_zipped (λ n. n ≤ 65534) (IsTermWithin t) names ts (variables_low t companion c) within) lists
+    (lists_are (IsSignWithin t) t bud b.0 b.1 (length names))))
 
 -- ---- the terms of a rule without a fault
 
@@ -132,26 +135,45 @@ before_small t s h = each_map (λ (rule : FoRule). goes t s rule ≡ true) (λ (
 pub after_small : (t : FoTheory) (s : FoSequent) → sequent_size s ≤ 4096 → Each (λ (rule : FoRule). sequent_size s + reason_size (Rule rule) ≤ 4096) (rules_after t s)
 after_small t s h = each_map (λ (rule : FoRule). goes t s rule ≡ true) (λ (rule : FoRule). sequent_size s + reason_size (Rule rule) ≤ 4096) (rule_small t s h) (rules_after t s) (after_goes t s)
 
--- ---- terms over the constructors
+-- ---- rules within the limits
 
-module _ (cs : List ConstructorValue) where
-  pub before_open : (t : FoTheory) (s : FoSequent) → Each (HasOpenTerms cs) (rules_before t s)
-  before_open t s =
-      each_line (HasOpenTerms cs) (lines_before t s) (each_first (HasOpenTerms cs) (goes t s) (axioms s) (each_offered (HasOpenTerms cs) (axioms_with s.right) (λ i x. each_offered (HasOpenTerms cs) (axiom_at i) (λ j y. (tt, tt)) s.right) s.left), (each_first (HasOpenTerms cs) (goes t s) (each_place refl_at s.right) (each_offered (HasOpenTerms cs) refl_at (λ j y. (tt, tt)) s.right), (each_first (HasOpenTerms cs) (goes t s) (each_place clash_at s.left) (each_offered (HasOpenTerms cs) clash_at (λ i x. (tt, tt)) s.left), (each_first (HasOpenTerms cs) (goes t s) (each_place decompose_at s.left) (each_offered (HasOpenTerms cs) decompose_at (λ i x. (tt, tt)) s.left), (each_first (HasOpenTerms cs) (goes t s) (each_place replace_at s.left) (each_offered (HasOpenTerms cs) replace_at (λ i x. (tt, (tt, tt))) s.left), tt)))))
+module _ (t : FoTheory) (s : FoSequent) where
+  -- those that carry no terms
+  free : (rules : List FoRule) → Each (IsRuleWithin t) rules → Each (IsRuleWithin t) (first_that (goes t s) rules)
+  free rules h = each_first (IsRuleWithin t) (goes t s) rules h
 
-  module _ (t : FoTheory) (s : FoSequent) (built : IsOpenSequent cs s) where
-    case_open : (j : ℕ) (args : List Word) (c : ℕ) (case : List FoAtom) → Each (HasOpenTerms cs) (rights_by s j args c case)
-    case_open j args c case =
-        each_mapped (HasOpenTerms cs) (Right j c) (choices s args case) (each_filter (Each (IsOpenTerm cs)) (suits s.left args case) (lists_of (atoms_bound Locals case) (subterms s)) (lists_open cs s built (atoms_bound Locals case)))
+  pub before_within : Each (IsRuleWithin t) (rules_before t s)
+  before_within =
+      each_line (IsRuleWithin t) (lines_before t s) (
+        free (axioms s) (each_offered (IsRuleWithin t) (axioms_with s.right) (λ i x. each_offered (IsRuleWithin t) (axiom_at i) (λ j y. (tt, tt)) s.right) s.left),
+        (
+          free (each_place refl_at s.right) (each_offered (IsRuleWithin t) refl_at (λ j y. (tt, tt)) s.right),
+          (
+            free (each_place clash_at s.left) (each_offered (IsRuleWithin t) clash_at (λ i x. (tt, tt)) s.left),
+            (
+              free (each_place decompose_at s.left) (each_offered (IsRuleWithin t) decompose_at (λ i x. (tt, tt)) s.left),
+              (free (each_place replace_at s.left) (each_offered (IsRuleWithin t) replace_at (λ i x. (tt, (tt, tt))) s.left), tt),
+            ),
+          ),
+        ),
+      )
 
-    right_open : (j : ℕ) (y : FoAtom) → Each (HasOpenTerms cs) (rights_at t s j y)
-    right_open j (Equation l r) = tt
-    right_open j (Predicate p args) = each_offered (HasOpenTerms cs) (rights_by s j args) (case_open j args) (cases_of t.definitions p)
+  module _ (atoms : HasAtomsWithin t s) where
+    case_within : (j : ℕ) (args : List Word) (c : ℕ) (case : List FoAtom) → Each (IsRuleWithin t) (rights_by s j args c case)
+    case_within j args c case =
+        let lists = lists_of (atoms_bound Locals case) (subterms s) in
+        each_mapped (IsRuleWithin t) (Right j c) (choices s args case) (each_filter (Each (IsTermWithin t)) (suits s.left args case) lists (lists_are (IsSignWithin t) t s atoms.0 atoms.1 (atoms_bound Locals case)))
 
-    unfold_open : (i : ℕ) (x : FoAtom) → Each (HasOpenTerms cs) (unfold_at i x)
-    unfold_open i (Equation l r) = tt
-    unfold_open i (Predicate p args) = (tt, tt)
+    right_within : (j : ℕ) (y : FoAtom) → Each (IsRuleWithin t) (rights_at t s j y)
+    right_within j (Equation l r) = tt
+    right_within j (Predicate p args) = each_offered (IsRuleWithin t) (rights_by s j args) (case_within j args) (cases_of t.definitions p)
 
-    pub after_open : Each (HasOpenTerms cs) (rules_after t s)
-    after_open =
-        each_filter (HasOpenTerms cs) (goes t s) (each_place (rights_at t s) s.right ++ each_place unfold_at s.left) (each_append (HasOpenTerms cs) (each_place (rights_at t s) s.right) (each_place unfold_at s.left) (each_offered (HasOpenTerms cs) (rights_at t s) right_open s.right) (each_offered (HasOpenTerms cs) unfold_at unfold_open s.left))
+    unfold_within : (i : ℕ) (x : FoAtom) → Each (IsRuleWithin t) (unfold_at i x)
+    unfold_within i (Equation l r) = tt
+    unfold_within i (Predicate p args) = (tt, tt)
+
+    pub after_within : Each (IsRuleWithin t) (rules_after t s)
+    after_within =
+        let rights = each_place (rights_at t s) s.right in
+        let unfolds = each_place unfold_at s.left in
+        each_filter (IsRuleWithin t) (goes t s) (rights ++ unfolds) (each_append (IsRuleWithin t) rights unfolds (each_offered (IsRuleWithin t) (rights_at t s) right_within s.right) (each_offered (IsRuleWithin t) unfold_at unfold_within s.left))

@@ -1,17 +1,15 @@
-// What is offered has no fault, and is built over the constructors where the sequents are. The functions do nothing.
-ghost use Rattle.std.specs.Prelude.{◌≡◌, ◌≤◌, ◌+◌, ℕ, List, true, None, is_ok};
+// What is offered has no fault, and stays within the limits of a file. The functions do nothing.
+ghost use Rattle.std.specs.Prelude.{◌≡◌, ◌≤◌, ◌+◌, ℕ, true, None, is_ok};
 ghost use Rattle.heap_formula.specs.Words.{Each};
 ghost use Rattle.fo_formula.specs.declared.nodes.FoLink.{FoLink};
 ghost use Rattle.fo_formula.specs.declared.nodes.FoReason.TheVariants.{Rule, Link};
 ghost use Rattle.fo_formula.specs.declared.nodes.FoRule.{FoRule};
 ghost use Rattle.fo_formula.specs.declared.sequents.FoSequent.{FoSequent};
-ghost use Rattle.fo_formula.specs.declared.theory.Constructor.{Constructor};
 ghost use Rattle.fo_formula.specs.declared.theory.FoTheory.{FoTheory};
-ghost use Rattle.fo_formula.specs.Shapes.{IsOpenSequent};
 ghost use Rattle.fo_formula.specs.Sizes.{sequent_size, reason_size};
 ghost use Rattle.fo_table.specs.LinkTable.{link_fault};
-ghost use Rattle.fo_table.specs.Soundness.{HasOpenTerms, HasOpenValues};
 ghost use Rattle.fo_table.specs.Table.{rule_answer};
+ghost use Rattle.fo_limits.specs.Limits.{HasAtomsWithin, IsReasonWithin, IsRuleWithin};
 ghost use Rattle.fo_moves.specs.Before.{rules_before};
 ghost use Rattle.fo_moves.specs.Links.{links_to};
 ghost use Rattle.fo_moves.specs.After.{rules_after};
@@ -35,9 +33,10 @@ pub fn offered_reasons_are_small()
     ensures after { (t : FoTheory) (s : FoSequent) → sequent_size s ≤ 4096 → Each (λ (rule : FoRule). sequent_size s + reason_size (Rule rule) ≤ 4096) (rules_after t s) }
 {}
 
-/// The terms of what is offered are terms over the constructors where the sequent's are.
-pub fn offered_terms_are_open()
-    ensures before { (t : FoTheory) (s : FoSequent) → Each (HasOpenTerms t.constructors) (rules_before t s) }
-    ensures links { (cs : List Constructor) (most number : ℕ) (bud companion : FoSequent) → IsOpenSequent cs bud → Each (HasOpenValues cs) (links_to most bud companion number) }
-    ensures after { (t : FoTheory) (s : FoSequent) → IsOpenSequent t.constructors s → Each (HasOpenTerms t.constructors) (rules_after t s) }
+/// What is offered stays within the limits of a file.
+pub fn offered_reasons_stay_within()
+    ensures before { (t : FoTheory) (s : FoSequent) → Each (IsRuleWithin t) (rules_before t s) }
+    ensures links { (t : FoTheory) (most number : ℕ) (bud companion : FoSequent) → HasAtomsWithin t bud → HasAtomsWithin t companion
+        → Each (λ (link : FoLink). IsReasonWithin t (Link link)) (links_to most bud companion number) }
+    ensures after { (t : FoTheory) (s : FoSequent) → HasAtomsWithin t s → Each (IsRuleWithin t) (rules_after t s) }
 {}
