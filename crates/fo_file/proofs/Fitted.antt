@@ -53,8 +53,9 @@ file-parts f fits = record { constructors = fits.1.0; definitions = fits.1.1.0; 
 
 pub record ProblemParts (p : Problem) : Type 0 where
   pub constructors : constructors.fits p.constructors
+  pub definitions : definitions.fits p.definitions
   pub goal : sequent.fits p.goal
 
 pub problem-parts : (p : Problem) → problem.fits p → ProblemParts p
 unfolding problem problem_body goal
-problem-parts p fits = record { constructors = fits.1.0; goal = fits.1.1.1 }
+problem-parts p fits = record { constructors = fits.1.0; definitions = fits.1.1.0; goal = fits.1.1.1 }

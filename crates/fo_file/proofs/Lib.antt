@@ -4,7 +4,13 @@ pub mod Flawless
 pub mod FlawlessParts
 pub mod ArgumentTerms
 pub mod Open
+pub mod Outside
+pub mod Within
 pub mod Said
 pub mod Readings
 pub mod Places
 pub mod ValuesAgain
+pub mod NodeTrees
+pub mod NodesFit
+pub mod NodesFlawless
+pub mod Writable

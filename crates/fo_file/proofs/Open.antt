@@ -36,7 +36,7 @@ use Rattle.fo_file.proofs.Lists.{each-take, each-drop}
 
 -- ---- the terms of a word
 
-first-each : (P : SignValue → Type 0) (n : ℕ) (w : Word) → words.AreTerms n w → Each P w → Each (λ (v : Word). words.IsTerm v × Each P v) (first_terms n w)
+pub first-each : (P : SignValue → Type 0) (n : ℕ) (w : Word) → words.AreTerms n w → Each P w → Each (λ (v : Word). words.IsTerm v × Each P v) (first_terms n w)
 first-each P zero w are h = tt
 first-each P (suc n) w are h =
     let both = first_split n w are in

@@ -10,6 +10,7 @@ use Rattle.heap_reader.proofs.NoFlaw.{neither}
 use Rattle.fo_formula.specs.declared.atoms.FoAtom.{FoAtom}
 use Rattle.fo_formula.specs.declared.nodes.FoFile.{FoFile}
 use Rattle.fo_formula.specs.Values.{IsConstructor}
+use Rattle.fo_limits.specs.Limits as limits
 use Rattle.fo_nodes.specs.Files.{IsSmallSequent, IsSmallDefinition, IsReadNode, IsFoProof}
 use Rattle.fo_term_syntax.specs.Trees.{Atom}
 use Rattle.fo_problem_syntax.specs.Trees.{Constructor, Definition, Sequent, Problem}
@@ -33,6 +34,8 @@ use Rattle.fo_file.proofs.Flawless.{HasFewArguments}
 use Rattle.fo_file.proofs.FlawlessParts.{first-constant, few-heads, sequent-known, nodes-known, theory-known, IsTheoryWithin, IsDefinitionWithin, IsSequentWithin, IsNodeWithin}
 use Rattle.fo_file.proofs.ArgumentTerms.{file-of-terms, problem-of-terms}
 use Rattle.fo_file.proofs.Open.{sequent-size, open-sequent, open-reason}
+use Rattle.fo_file.proofs.Outside.{sequent-outside}
+use Rattle.fo_file.proofs.Within.{arity-placed, definition-said, sequent-said}
 
 -- ---- theories
 
@@ -199,19 +202,44 @@ said-writable-problem p fits e =
       flawless = ap problem_flaw same ∙ e;
     }
 
-pub said-question : (p : Problem) → problem.fits p → problem_flaw p ≡ None → IsFoQuestion (said_problem p)
-said-question p fits e =
+-- the definitions that a problem says are within the limits
+definitions-within : (cs : List Constructor) (ds : List Definition) → IsTheoryWithin cs ds
+    → Each (limits.IsDefinitionWithin (theory_value (constructor_heads cs) (predicate_heads ds) cs ds)) (map (definition_value (constructor_heads cs) (predicate_heads ds)) ds)
+definitions-within cs ds within =
+    let hs = constructor_heads cs in
+    let ps = predicate_heads ds in
+    let t = theory_value hs ps cs ds in
+    each-map (definition_value hs ps) (IsDefinitionWithin hs (few-heads cs within.few) ps) (limits.IsDefinitionWithin t) (λ d h. definition-said hs ps t (arity-placed hs ds) (placed cs) d h.known) ds within.definitions
+
+-- and so is its goal
+goal-within : (p : Problem) → problem.fits p → problem_flaw p ≡ None
+    → limits.IsSequentWithin (said_problem p).theory (said_problem p).goal
+goal-within p fits e =
     let within = problem-within p fits e in
     let parts = problem-parts p fits in
     let hs = constructor_heads p.constructors in
     let ps = predicate_heads p.definitions in
-    let few = few-heads p.constructors within.theory.few in
-    let theory = neither (theory_flaw p.constructors p.definitions) (sequent_flaw hs ps (behind_theory p.constructors p.definitions + 1) p.goal) e in
+    let start = behind_theory p.constructors p.definitions in
+    let flaws = neither (theory_flaw p.constructors p.definitions) (sequent_flaw hs ps (start + 1) p.goal) e in
+    let outside = sequent-outside hs ps (start + 1) p.goal (problem_is p fits).1 parts.goal flaws.1 in (
+      small-sequent hs ps (few-heads p.constructors within.theory.few) p.goal within.goal,
+      sequent-said hs ps (said_problem p).theory (arity-placed hs p.definitions) (placed p.constructors) p.goal within.goal.known outside.0 outside.1,
+    )
+
+pub said-question : (p : Problem) → problem.fits p → problem_flaw p ≡ None → IsFoQuestion (said_problem p)
+said-question p fits e =
+    let within = problem-within p fits e in
+    let hs = constructor_heads p.constructors in
+    let ps = predicate_heads p.definitions in
+    let flaws = neither (theory_flaw p.constructors p.definitions) (sequent_flaw hs ps (behind_theory p.constructors p.definitions + 1) p.goal) e in
+    let theory = neither (constructors_flaw p.constructors) (definitions_flaw p.constructors p.definitions) flaws.0 in
     record {
-      constant = constant p.constructors parts.constructors (neither (constructors_flaw p.constructors) (definitions_flaw p.constructors p.definitions) theory.0).0;
-      definitions = small-definitions p.constructors p.definitions within.theory;
-      small = small-sequent hs ps few p.goal within.goal;
-      sequent = open-sequent hs (map constructor_value p.constructors) (placed p.constructors) ps p.goal parts.goal within.goal.known;
+      theory = record {
+        constant = constant p.constructors (problem-parts p fits).constructors theory.0;
+        small = small-definitions p.constructors p.definitions within.theory;
+        definitions = definitions-within p.constructors p.definitions within.theory;
+      };
+      goal = goal-within p fits e;
     }
 
 -- ---- what is made of trees

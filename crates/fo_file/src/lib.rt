@@ -10,4 +10,6 @@ pub use fo_formula::FoFile;
 pub use fo_values::FoProblem;
 pub use problem_reading::{bytes_spell_one_problem, read_fo_problem};
 pub use reading::read_fo;
-pub use writing::{bytes_spell_one_file, write_fo, written_files_are_read_again};
+pub use writing::{
+    bytes_spell_one_file, proofs_of_problems_have_texts, write_fo, written_files_are_read_again,
+};

@@ -1,9 +1,14 @@
 //! Writing a proof, which is read again as it was.
 
-ghost use Rattle.std.specs.Prelude.{◌≡◌, ℕ, List, Result, Ok, IfOk};
+ghost use Rattle.std.specs.Prelude.{◌≡◌, ◌<◌, ◌≤◌, ℕ, List, length, Result, Ok, IfOk};
+ghost use Rattle.heap_formula.specs.Words.{Each};
 ghost use Rattle.cyc_lex.specs.declared.fault.ReadFault.{ReadFault};
 ghost use Rattle.fo_formula.specs.declared.nodes.FoFile.{FoFile as Proof};
-ghost use Rattle.fo_file.specs.Reading.{text_of_file, IsRead, IsReadAgain, IsWritable, Reads};
+ghost use Rattle.fo_formula.specs.declared.nodes.FoNode.{FoNode};
+ghost use Rattle.fo_limits.specs.Limits.{IsNodeWithin};
+ghost use Rattle.fo_values.specs.declared.problem.FoProblem.{FoProblem as Question};
+ghost use Rattle.fo_file.specs.Questions.{IsFoQuestion};
+ghost use Rattle.fo_file.specs.Reading.{text_of_file, IsRead, IsReadAgain, IsWritable, IsWritableProblem, Reads};
 
 use cyc_memory::OutOfMemory;
 use fo_formula::FoFile;
@@ -31,4 +36,11 @@ pub fn written_files_are_read_again()
 /// Bytes spell at most one proof. The function does nothing.
 pub fn bytes_spell_one_file()
     ensures { (bytes : List ℕ) (f g : Proof) → IsRead bytes (Ok f) → IsRead bytes (Ok g) → f ≡ g }
+{}
+
+/// Nodes within the limits make a proof over the theory of a problem that was read, and that proof has a text. The function
+/// does nothing.
+pub fn proofs_of_problems_have_texts()
+    ensures { (p : Question) (nodes : List FoNode) → IsFoQuestion p → IsWritableProblem p → 0 < length nodes → length nodes ≤ 20000
+        → Each (IsNodeWithin p.theory) nodes → IsWritable (record { theory = p.theory; nodes = nodes }) }
 {}
