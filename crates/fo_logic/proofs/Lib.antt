@@ -1,2 +1,3 @@
 mod TestLoops
 mod Tables
+pub mod Correct

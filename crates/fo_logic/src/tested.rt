@@ -59,7 +59,7 @@ fn trace_edges(alloc: Global, edges: &[NodeEdge]) -> Result<Vec<Edge>, OutOfMemo
 }
 
 /// The places of the predicate atoms.
-fn predicate_positions(alloc: Global, atoms: &[FoAtom]) -> Result<Vec<u8>, OutOfMemory>
+pub fn predicate_positions(alloc: Global, atoms: &[FoAtom]) -> Result<Vec<u8>, OutOfMemory>
     requires { length atoms.now ≤ 32 }
     ensures { IfOk result (λ v. v.items ≡ predicate_places 0 atoms.now) }
 {
