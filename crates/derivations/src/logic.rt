@@ -1,5 +1,5 @@
 // Logics whose derivations are searched for.
-ghost use Rattle.std.specs.Prelude.{◌≡◌, IfOk};
+ghost use Rattle.std.specs.Prelude.{◌≡◌, ◌<◌, length, IfOk};
 ghost use Rattle.tableaux.specs.Fair.{AllOccur};
 ghost use Rattle.derivations.specs.Effects.{IsEffect};
 
@@ -46,7 +46,8 @@ pub trait Strategy: Logic {
         made: &[MadeNode<Self::Judgement, Self::Reason>],
         goal: &OpenGoal<Self::Judgement>,
     ) -> Result<Offers<Self::Reason>, OutOfMemory>
-        requires { AllOccur (Self.occurs self.now) made.now goal.now }
+        requires occur { AllOccur (Self.occurs self.now) made.now goal.now }
+        requires few { length made.now < 4294967296 }
         ensures links { IfOk result (λ o. o.links.items ≡ (Self.calculus self.now).links made.now goal.now) }
         ensures rules { IfOk result (λ o. o.rules.items ≡ (Self.calculus self.now).rules made.now goal.now) };
 }
