@@ -1,0 +1,73 @@
+// The search, depth by depth.
+ghost use Rattle.std.specs.Prelude.{◌≡◌, ◌<◌, ◌≤◌, [], IfOk};
+ghost use Rattle.derivation_search.specs.System.{search_of};
+ghost use Rattle.fo_calculus.specs.Occurring.{MayOccur};
+ghost use Rattle.derivations.specs.Derivations.{reasons_in};
+ghost use Rattle.fo_search.specs.Moves.{IsFirstOrder};
+ghost use Rattle.fo_search.specs.Outcomes.{search_for, outcome_of, IsFirst, IsProved};
+
+use crate::found::file_of;
+use crate::logic::FirstOrder;
+use cyc_memory::OutOfMemory;
+use derivation_search::{Stop, search_depth};
+use derivations::Derivation;
+use fo_formula::{FoFile, FoReason, FoSequent};
+use fo_values::FoProblem;
+use proof_graph::MOST_NODES;
+use std::alloc::Global;
+
+/// What comes of a search: a proof; nothing, within the depth; or that a limit was met, on partial derivations of one depth
+/// or on product states.
+#[derive(Drop)]
+pub enum FoProved {
+    Found(FoFile),
+    NotFound,
+    TooManyDerivations,
+    TooManyStates,
+}
+
+/// The empty derivation of the problem's goal.
+fn begin(
+    alloc: Global,
+    problem: &FoProblem,
+) -> Result<Derivation<FirstOrder<'_>, FoSequent, FoReason>, OutOfMemory>
+    requires { MayOccur problem.now.theory problem.now.goal }
+    ensures order { IfOk result (IsFirstOrder problem.now) }
+    ensures nothing { IfOk result (λ s. reasons_in s ≡ []) }
+{
+    let logic = FirstOrder {
+        theory: &problem.theory,
+    };
+    let root = problem.goal.clone()?;
+    let goal = problem.goal.clone()?;
+    Derivation::new(alloc, logic, MOST_NODES as u32, root, goal)
+}
+
+/// Searches for a proof of the problem's goal at depth 1, 2, .. up to `depth`. At each depth partial derivations are
+/// counted, the empty one first, and links that are not admitted; the search stops where `most` are counted.
+pub fn prove_fo(
+    alloc: Global,
+    problem: &FoProblem,
+    depth: u32,
+    most: u32,
+) -> Result<FoProved, OutOfMemory>
+    requires depth { depth ≤ 40 }
+    requires most { 0 < most }
+    requires within { MayOccur problem.now.theory problem.now.goal }
+    ensures outcome { IfOk result (λ proved. outcome_of proved ≡ search_of (search_for problem.now) most depth) }
+    ensures first { IfOk result (IsFirst problem.now depth) }
+    ensures proved { IfOk result (IsProved problem.now) }
+{
+    for bound in 1..depth + 1 {
+        let mut moves = begin(alloc, problem)?;
+        match search_depth(alloc, &mut moves, bound, most)? {
+            None => {}
+            Some(Stop::TooManyDerivations) => return Ok(FoProved::TooManyDerivations),
+            Some(Stop::TooManyStates) => return Ok(FoProved::TooManyStates),
+            Some(Stop::Found) => {
+                return Ok(FoProved::Found(file_of(alloc, &problem.theory, moves)?));
+            }
+        }
+    }
+    Ok(FoProved::NotFound)
+}
