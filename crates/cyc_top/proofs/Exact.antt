@@ -15,6 +15,9 @@ use Rattle.proof_check.specs.declared.verdict.Verdict.TheVariants.{Accepted, Rul
 use Rattle.proof_check.specs.Verdicts.{file_graph, state_limit, IsCorrect, IsVerdict, RootHolds}
 use Rattle.buchi_inclusion.specs.Answers.{HasAtMost}
 use Rattle.fo_formula.specs.declared.nodes.FoFile.{FoFile}
+use Rattle.fo_formula.specs.declared.nodes.FoReason.{FoReason}
+use Rattle.fo_values.specs.declared.problem.FoProblem.{FoProblem}
+use Rattle.fo_search.specs.Outcomes as first_order_searches
 use Rattle.fo_file.specs.Reading as first_order
 use Rattle.fo_logic.specs.Verdicts as first_order_verdicts
 use Rattle.proof_search.specs.declared.prover.Proved.{Proved}
@@ -23,14 +26,14 @@ use Rattle.proof_search.specs.declared.prover.Proved.TheVariants as answers
 use Rattle.proof_search.specs.Outcomes.{search_for, IsProved}
 use Rattle.cyc_words.specs.Words.{reads_input}
 use Rattle.cyc_words.specs.declared.tasks.Task.{Task}
-use Rattle.cyc_words.specs.declared.tasks.Task.TheVariants.{Check, Prove, Ring, Upgrade, Sat, Model, Disprove, FirstOrderCheck}
+use Rattle.cyc_words.specs.declared.tasks.Task.TheVariants.{Check, Prove, Ring, Upgrade, Sat, Model, Disprove, FirstOrderProve, FirstOrderCheck}
 use Rattle.cyc_runs.specs.declared.endings.Status.{Status}
 use Rattle.cyc_runs.specs.declared.endings.Status.TheVariants as status
 use Rattle.cyc_runs.specs.Endings.{is_answer}
 use Rattle.cyc_runs.specs.Runs.{IsTold, input_limit}
 use Rattle.cyc_runs.proofs.WaysToEnd.{ending_kind, ended_so as run_ended_so, fault_fails, fault_is_no_refusal}
 use Rattle.cyc_runs.proofs.Told.{told_is}
-use Rattle.cyc_top.specs.Answers.{Answers, IsAnswer, IsHeadline, IsRefusal, IsReadAnswer, IsUnrefuted, IsSearchAnswer, IsUpgradeAnswer, WroteAnswer, WroteModel, WroteProof, derivation_limit, proved_status, proved_text, verdict_status}
+use Rattle.cyc_top.specs.Answers.{Answers, IsAnswer, IsHeadline, IsRefusal, IsReadAnswer, IsUnrefuted, IsSearchAnswer, IsUpgradeAnswer, WroteAnswer, WroteFirstOrderProof, WroteModel, WroteProof, derivation_limit, proved_status, proved_text, verdict_status}
 use Rattle.reading_laws.specs.Alike.{AreAlike}
 use Rattle.reading_laws.proofs.Readings.{one_file_reading, one_problem_reading}
 use Rattle.proof_check.proofs.OneAnswer.{correct_is_accepted}
@@ -41,6 +44,7 @@ use Rattle.model_answers.specs.Answers.{holds_text}
 use Rattle.model_answers.proofs.OneAnswer.{refusal_fails, success_satisfies}
 use Rattle.disprove_answers.proofs.OneAnswer.{disprove_refuses_not, model_holds, none_found, success_refutes}
 use Rattle.fo_answers.proofs.OneAnswer.{correct_accepted, refusal_incorrect as first_order_incorrect, success_holds as first_order_holds}
+use Rattle.fo_answers.proofs.OneSearch as first_order_search
 use Rattle.sat_answers.proofs.OneAnswer.{refusal_impossible, success_possible}
 
 -- ---- what was told
@@ -101,6 +105,8 @@ success_true (Some Model) told input xs is (inl long) = absurd (let e : status.S
 success_true (Some Model) told input xs is (inr modelled) = (input, is, success_satisfies input xs modelled)
 success_true (Some (Disprove cells)) told input xs is (inl long) = absurd (let e : status.Success ≡ status.Limit = long.1 in cc)
 success_true (Some (Disprove cells)) told input xs is (inr disproved) = (input, is, success_refutes cells input xs disproved)
+success_true (Some (FirstOrderProve depth)) told input xs is (inl long) = absurd (let e : status.Success ≡ status.Limit = long.1 in cc)
+success_true (Some (FirstOrderProve depth)) told input xs is (inr searched) = (input, is, first_order_search.success_proves depth input xs searched)
 success_true (Some FirstOrderCheck) told input xs is (inl long) = absurd (let e : status.Success ≡ status.Limit = long.1 in cc)
 success_true (Some FirstOrderCheck) told input xs is (inr checked) = (input, is, first_order_holds input xs checked)
 success_true (Some (Ring k)) told input xs is answer = tt
@@ -149,6 +155,8 @@ refused_true (Some Model) told input xs is (inl long) = absurd (let e : status.R
 refused_true (Some Model) told input xs is (inr modelled) = (input, is, refusal_fails input xs modelled)
 refused_true (Some (Disprove cells)) told input xs is (inl long) = let e : status.Refused ≡ status.Limit = long.1 in cc
 refused_true (Some (Disprove cells)) told input xs is (inr disproved) = disprove_refuses_not cells input xs disproved
+refused_true (Some (FirstOrderProve depth)) told input xs is (inl long) = let e : status.Refused ≡ status.Limit = long.1 in cc
+refused_true (Some (FirstOrderProve depth)) told input xs is (inr searched) = first_order_search.searched_refuses_not depth input xs searched
 refused_true (Some FirstOrderCheck) told input xs is (inl long) = absurd (let e : status.Refused ≡ status.Limit = long.1 in cc)
 refused_true (Some FirstOrderCheck) told input xs is (inr checked) = (input, is, first_order_incorrect input xs checked)
 refused_true (Some (Ring k)) told input xs is answer = let e : status.Refused ≡ status.Success = answer.0 in cc
@@ -228,6 +236,27 @@ pub correct_first_order : (task : Option Task) (told : Option (List ℕ)) (input
 correct_first_order task told input g s text is e short read correct few answer =
     first_order_accepts input g s text short read correct few (subst (λ t. IsAnswer t input s text) is (answer_for task told input s text e answer))
 
+-- ---- searches in first-order logic
+
+first_order_accepted : (depth : ℕ) (input text : List ℕ) → IsAnswer (Some (FirstOrderProve depth)) input status.Success text → length text ≤ input_limit → (line : List ℕ) × IsAnswer (Some FirstOrderCheck) text status.Success line
+first_order_accepted depth input text (inl long) short = absurd (let e : status.Success ≡ status.Limit = long.1 in cc)
+first_order_accepted depth input text (inr searched) short =
+    let checked = first_order_search.found_is_checked depth input text searched short in (checked.0, inr checked.1)
+
+-- a search that ended with success wrote a proof
+pub wrote_first_order : (depth : ℕ) (task : Option Task) (told old new : Option (List ℕ)) (s : Status) (text : List ℕ) → task ≡ Some (FirstOrderProve depth) → Answers task told s text → s ≡ status.Success → Appends old new text → WroteFirstOrderProof old new
+wrote_first_order depth task told old new s text is answer e wrote =
+    (text, wrote, first_order_accepted depth answer.0 text (subst (λ t. IsAnswer t answer.0 status.Success text) is (subst (λ s. IsAnswer task answer.0 s text) e answer.2)))
+
+first_order_finds : (depth : ℕ) (input : List ℕ) (q : FoProblem) (d : List FoReason) (s : Status) (text : List ℕ) → length input ≤ input_limit → first_order.IsReadProblem input (Ok q) → search_of (first_order_searches.search_for q) derivation_limit depth ≡ IsFound d → IsAnswer (Some (FirstOrderProve depth)) input s text → s ≡ status.Success
+first_order_finds depth input q d s text short is found (inl long) = absurd (omega (arith, long.0))
+first_order_finds depth input q d s text short is found (inr searched) = first_order_search.search_finds depth input q d s text is found searched
+
+-- a search that finds within its limits is answered with success
+pub first_order_succeeds : (depth : ℕ) (task : Option Task) (told : Option (List ℕ)) (input : List ℕ) (q : FoProblem) (d : List FoReason) (s : Status) (text : List ℕ) → task ≡ Some (FirstOrderProve depth) → told ≡ Some input → length input ≤ input_limit → first_order.IsReadProblem input (Ok q) → search_of (first_order_searches.search_for q) derivation_limit depth ≡ IsFound d → Answers task told s text → s ≡ status.Success
+first_order_succeeds depth task told input q d s text is e short read found answer =
+    first_order_finds depth input q d s text short read found (subst (λ t. IsAnswer t input s text) is (answer_for task told input s text e answer))
+
 -- ---- counter-models
 
 -- what is written of a counter-model is a model of its formula
@@ -281,6 +310,10 @@ module _ (task : Option Task) (told old new : Option (List ℕ)) (s : Status) (w
   -- a search that ended with success wrote a proof
   pub success_wrote : (depth : ℕ) → task ≡ Some (Prove depth) → s ≡ status.Success → WroteProof old new
   success_wrote depth is e = let written = wrote (ap is_answer e) in wrote_proof depth task told old new s written.0 is written.1 e written.2
+
+  -- so is a first-order proof by its check
+  pub success_wrote_first_order : (depth : ℕ) → task ≡ Some (FirstOrderProve depth) → s ≡ status.Success → WroteFirstOrderProof old new
+  success_wrote_first_order depth is e = let written = wrote (ap is_answer e) in wrote_first_order depth task told old new s written.0 is written.1 e written.2
 
   -- a counter-model that was written is a model of its formula
   pub success_models : (cells : ℕ) → task ≡ Some (Disprove cells) → s ≡ status.Success → WroteModel old new

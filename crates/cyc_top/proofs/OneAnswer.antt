@@ -9,7 +9,7 @@ use Rattle.proof_file.specs.Reading.{AreSame}
 use Rattle.proof_file.specs.Upgrades.{IsUpgrade}
 use Rattle.proof_file.specs.Written.{text_of_file}
 use Rattle.cyc_words.specs.declared.tasks.Task.{Task}
-use Rattle.cyc_words.specs.declared.tasks.Task.TheVariants.{Check, Prove, Ring, Upgrade, Sat, Model, Disprove, FirstOrderCheck}
+use Rattle.cyc_words.specs.declared.tasks.Task.TheVariants.{Check, Prove, Ring, Upgrade, Sat, Model, Disprove, FirstOrderProve, FirstOrderCheck}
 use Rattle.cyc_runs.specs.declared.endings.Status.{Status}
 use Rattle.cyc_runs.specs.Runs.{Answering, IsAnswerOf, input_limit}
 use Rattle.reading_laws.specs.Alike.{AreAlike, AreOneCheck}
@@ -23,7 +23,9 @@ use Rattle.model_answers.proofs.OneAnswer as models
 use Rattle.disprove_answers.specs.Answers.{IsDisproved}
 use Rattle.disprove_answers.proofs.OneAnswer as disproofs
 use Rattle.fo_answers.specs.Answers.{IsFirstOrderChecked}
+use Rattle.fo_answers.specs.Searches.{IsFirstOrderSearched}
 use Rattle.fo_answers.proofs.OneAnswer as first_order
+use Rattle.fo_answers.proofs.OneSearch as first_order_search
 use Rattle.cyc_top.specs.Answers.{AreOneText, IsAnswer, IsChecked, IsReadAnswer, IsSearchAnswer, IsSearched, IsUpgradeAnswer, IsUpgraded, file_text, verdict_text}
 use Rattle.cyc_top.proofs.OneVerdict.{one_verdict, same_verdict}
 use Rattle.cyc_top.proofs.OneSearch.{one_search}
@@ -105,6 +107,8 @@ one_answer (Some Model) input s t xs ys first second =
     one_of IsModelled (λ zs us. zs ≡ us) (λ zs us e. e) models.one_answer models.model_short input s t xs ys first second
 one_answer (Some (Disprove cells)) input s t xs ys first second =
     one_of (IsDisproved cells) (λ zs us. zs ≡ us) (λ zs us e. e) (disproofs.one_answer cells) (disproofs.disproved_short cells) input s t xs ys first second
+one_answer (Some (FirstOrderProve depth)) input s t xs ys first second =
+    one_of (IsFirstOrderSearched depth) (λ zs us. zs ≡ us) (λ zs us e. e) (first_order_search.one_search depth) (first_order_search.search_short depth) input s t xs ys first second
 one_answer (Some FirstOrderCheck) input s t xs ys first second =
     one_of IsFirstOrderChecked AreOneCheck (λ zs us e. inl e) first_order.one_answer first_order.first_order_short input s t xs ys first second
 one_answer (Some (Ring k)) input s t xs ys first second = (first.0 ∙ sym second.0, first.1 ∙ sym second.1)

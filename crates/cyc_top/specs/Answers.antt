@@ -15,9 +15,9 @@ use Rattle.cyc_runs.specs.Faults.{IsFaultAnswer}
 use Rattle.cyc_runs.specs.Runs.{Answering, AnswersTold, IsAnswerOf, IsTold, input_limit}
 use Rattle.cyc_runs.specs.Runs as runs
 use Rattle.reading_laws.specs.Alike.{AreOneCheck}
-use Rattle.cyc_top.specs.declared.searches.TheConstants.{DERIVATION_LIMIT}
+use Rattle.derivation_search.specs.declared.TheConstants.{DERIVATION_LIMIT}
 use Rattle.cyc_words.specs.declared.tasks.Task.{Task}
-use Rattle.cyc_words.specs.declared.tasks.Task.TheVariants.{Check, Prove, Ring, Upgrade, Sat, Model, Disprove, FirstOrderCheck}
+use Rattle.cyc_words.specs.declared.tasks.Task.TheVariants.{Check, Prove, Ring, Upgrade, Sat, Model, Disprove, FirstOrderProve, FirstOrderCheck}
 use Rattle.cyc_words.specs.Words.{usage_text}
 use Rattle.sat_answers.specs.Answers.{IsAsked, IsPossible}
 use Rattle.model_file.specs.declared.file.Model as formats
@@ -25,9 +25,12 @@ use Rattle.model_file.specs.Reading as models
 use Rattle.model_answers.specs.Answers.{IsModelled, IsSatisfying}
 use Rattle.disprove_answers.specs.Answers.{HasNoCounter, IsDisproved, IsRefuted}
 use Rattle.fo_formula.specs.declared.nodes.FoFile.{FoFile}
+use Rattle.fo_formula.specs.Validity.{SequentHolds}
+use Rattle.fo_values.specs.declared.problem.FoProblem.{FoProblem}
 use Rattle.fo_file.specs.Reading as first_order
 use Rattle.fo_logic.specs.Verdicts as first_order_verdicts
 use Rattle.fo_answers.specs.Answers.{IsFirstOrderChecked}
+use Rattle.fo_answers.specs.Searches.{IsFirstOrderSearched}
 use Rattle.heap_formula.specs.Judgements.{JudgementHolds}
 use Rattle.derivation_search.specs.System.{search_of}
 use Rattle.formula_reader.specs.declared.problem.Problem.{Problem}
@@ -152,6 +155,7 @@ IsAnswer (Some Upgrade) = IsAnswerOf IsUpgraded
 IsAnswer (Some Sat) = IsAnswerOf IsAsked
 IsAnswer (Some Model) = IsAnswerOf IsModelled
 IsAnswer (Some (Disprove cells)) = IsAnswerOf (IsDisproved cells)
+IsAnswer (Some (FirstOrderProve depth)) = IsAnswerOf (IsFirstOrderSearched depth)
 IsAnswer (Some FirstOrderCheck) = IsAnswerOf IsFirstOrderChecked
 IsAnswer (Some (Ring k)) = λ input ending text. (ending ≡ status.Success) × (text ≡ ring_text k (8 * k + 1) 1)
 IsAnswer None = λ input ending text. (ending ≡ status.Usage) × (text ≡ usage_text)
@@ -188,6 +192,11 @@ ToldModelOf Has told = (input : List ℕ) × IsTold told input × ((model : form
 abbrev pub ToldFirstOrderOf : (FoFile → Type 0) → Option (List ℕ) → Type 0
 ToldFirstOrderOf Has told = (input : List ℕ) × IsTold told input × ((file : FoFile) × first_order.IsRead input (Ok file) × Has file)
 
+-- some input, which is the one that was told, spells a first-order problem whose goal holds in every valuation
+abbrev pub ToldQuestion : Option (List ℕ) → Type 0
+ToldQuestion told =
+    (input : List ℕ) × IsTold told input × ((problem : FoProblem) × first_order.IsReadProblem input (Ok problem) × SequentHolds problem.theory problem.goal)
+
 -- some input, which is the one that was told, spells a problem of which this is true
 abbrev pub ToldOf : (Problem → Type 0) → Option (List ℕ) → Type 0
 ToldOf Has told = (input : List ℕ) × IsTold told input × ((problem : Problem) × problems.IsRead input (Ok problem) × Has problem)
@@ -209,6 +218,7 @@ IsHeadline (Some Upgrade) told = ToldFile told
 IsHeadline (Some Sat) told = ToldOf IsPossible told
 IsHeadline (Some Model) told = ToldModelOf IsSatisfying told
 IsHeadline (Some (Disprove cells)) told = ToldOf (IsRefuted cells) told
+IsHeadline (Some (FirstOrderProve depth)) told = ToldQuestion told
 IsHeadline (Some FirstOrderCheck) told = ToldFirstOrderOf first_order_verdicts.RootHolds told
 IsHeadline (Some (Ring k)) told = Unit {0}
 IsHeadline None told = ⊥
@@ -225,6 +235,12 @@ IsRefusal _ told = ⊥
 abbrev pub WroteProof : Option (List ℕ) → Option (List ℕ) → Type 0
 WroteProof old new =
     (text : List ℕ) × Appends old new text × (length text ≤ input_limit → (line : List ℕ) × IsAnswer (Some Check) text status.Success line)
+
+-- the same of a first-order proof
+abbrev pub WroteFirstOrderProof : Option (List ℕ) → Option (List ℕ) → Type 0
+WroteFirstOrderProof old new =
+    (text : List ℕ) × Appends old new text
+    × (length text ≤ input_limit → (line : List ℕ) × IsAnswer (Some FirstOrderCheck) text status.Success line)
 
 -- where a check accepts the told input, it accepts this text too, if it is no longer than an input may be
 abbrev pub IsAcceptedToo : List ℕ → List ℕ → Type 0

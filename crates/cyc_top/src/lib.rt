@@ -12,14 +12,17 @@ ghost use Rattle.proof_file.specs.Reading as files;
 ghost use Rattle.proof_check.specs.Verdicts.{file_graph, state_limit, IsCorrect};
 ghost use Rattle.proof_search.specs.Outcomes.{search_for};
 ghost use Rattle.fo_formula.specs.declared.nodes.FoFile.{FoFile};
+ghost use Rattle.fo_formula.specs.declared.nodes.FoReason.{FoReason};
+ghost use Rattle.fo_values.specs.declared.problem.FoProblem.{FoProblem};
+ghost use Rattle.fo_search.specs.Outcomes as first_order_searches;
 ghost use Rattle.fo_file.specs.Reading as first_order;
 ghost use Rattle.fo_logic.specs.Verdicts as first_order_verdicts;
 ghost use Rattle.cyc_io.specs.Causes.{Rose};
 ghost use Rattle.cyc_words.specs.Words.{IsInRange, meaning_of, reads_input};
-ghost use Rattle.cyc_words.specs.declared.tasks.Task.TheVariants.{Check, Prove, Ring, Upgrade, Disprove, FirstOrderCheck};
+ghost use Rattle.cyc_words.specs.declared.tasks.Task.TheVariants.{Check, Prove, Ring, Upgrade, Disprove, FirstOrderProve, FirstOrderCheck};
 ghost use Rattle.cyc_runs.specs.Endings.{is_answer};
 ghost use Rattle.cyc_runs.specs.Runs.{IsReadThrough, input_limit};
-ghost use Rattle.cyc_top.specs.Answers.{IsAnswer, IsHeadline, IsRefusal, IsUnrefuted, WroteAnswer, WroteModel, WrotePart, WroteProof, WroteUpgrade, derivation_limit};
+ghost use Rattle.cyc_top.specs.Answers.{IsAnswer, IsHeadline, IsRefusal, IsUnrefuted, WroteAnswer, WroteFirstOrderProof, WroteModel, WrotePart, WroteProof, WroteUpgrade, derivation_limit};
 
 mod laws;
 mod rings;
@@ -32,7 +35,7 @@ pub use cyc_runs::Status;
 use cyc_runs::{fixed_answer, give_made, run_over};
 use cyc_words::{Task, USAGE, task_of};
 use disprove_answers::Disprover;
-use fo_answers::FirstOrderChecker;
+use fo_answers::{FirstOrderChecker, FirstOrderProver};
 pub use laws::an_input_has_one_answer;
 use model_answers::ModelChecker;
 use rings::answer_to_ring;
@@ -72,6 +75,9 @@ fn run_task<S: Source, K: Sink>(
         Some(Task::Sat) => run_over(alloc, &Satisfier, src, out),
         Some(Task::Model) => run_over(alloc, &ModelChecker, src, out),
         Some(Task::Disprove(cells)) => run_over(alloc, &Disprover::new(cells), src, out),
+        Some(Task::FirstOrderProve(depth)) => {
+            run_over(alloc, &FirstOrderProver::new(depth), src, out)
+        }
         Some(Task::FirstOrderCheck) => run_over(alloc, &FirstOrderChecker, src, out),
         Some(Task::Ring(k)) => give_made(answer_to_ring(alloc, k), out),
         None => give_made(fixed_answer(alloc, Status::Usage, USAGE), out),
@@ -113,9 +119,19 @@ pub fn run<S: Source, K: Sink>(alloc: Global, words: &[String], src: &mut S, out
         → search_of (search_for problem) derivation_limit depth ≡ IsFound d
         → ¬ Rose (S.faults src.old) (S.faults src.new) → ¬ Rose (K.faults out.old) (K.faults out.new)
         → (result ≡ Status.Success) ⊎ (result ≡ Status.OutOfMemory) }
+    // So does a search in first-order logic.
+    ensures complete_first_order { (depth : ℕ) (input : List ℕ) (problem : FoProblem) (d : List FoReason)
+        → meaning_of (map string_bytes words.now) ≡ Some (FirstOrderProve depth)
+        → S.left src.old ≡ Some input → length input ≤ input_limit → first_order.IsReadProblem input (Ok problem)
+        → search_of (first_order_searches.search_for problem) derivation_limit depth ≡ IsFound d
+        → ¬ Rose (S.faults src.old) (S.faults src.new) → ¬ Rose (K.faults out.old) (K.faults out.new)
+        → (result ≡ Status.Success) ⊎ (result ≡ Status.OutOfMemory) }
     // What prove writes, check accepts.
     ensures proof { (depth : ℕ) → meaning_of (map string_bytes words.now) ≡ Some (Prove depth)
         → result ≡ Status.Success → WroteProof (K.written out.old) (K.written out.new) }
+    // What fo writes, fo-check accepts.
+    ensures first_order_proof { (depth : ℕ) → meaning_of (map string_bytes words.now) ≡ Some (FirstOrderProve depth)
+        → result ≡ Status.Success → WroteFirstOrderProof (K.written out.old) (K.written out.new) }
     // A file is upgraded, correct or not.
     ensures upgrades { (input : List ℕ) (file : ProofFile) → meaning_of (map string_bytes words.now) ≡ Some Upgrade
         → S.left src.old ≡ Some input → length input ≤ input_limit → files.IsRead input (Ok file)

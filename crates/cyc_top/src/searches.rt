@@ -6,13 +6,11 @@ ghost use Rattle.cyc_top.specs.Answers.{proved_status, proved_text};
 use cyc_memory::OutOfMemory;
 use cyc_runs::{Answer, Status, Tool, answer_to_fault, fixed_answer};
 use cyc_texts::not_found_line;
+use derivation_search::DERIVATION_LIMIT;
 use formula_reader::read_problem;
 use proof_file::write_file;
 use proof_search::{Proved, prove};
 use std::alloc::Global;
-
-/// The number of partial derivations at one depth at which a search stops.
-const DERIVATION_LIMIT: u32 = 1_000_000;
 
 // The proof that was found, as a file has it, or the line that says why there is none.
 fn answer_to_proved(alloc: Global, depth: u32, proved: &Proved) -> Result<Answer, OutOfMemory>

@@ -6,7 +6,7 @@ use Rattle.clap.specs.Words.{Kinds, Row, Text, fault_of, one_of, subcommand_of}
 use Rattle.clap.specs.ValueTests.{is_unsigned_in}
 use Rattle.cyc_words.specs.Command.{cyclist_app}
 use Rattle.cyc_words.specs.declared.tasks.Task.{Task}
-use Rattle.cyc_words.specs.declared.tasks.Task.TheVariants.{Check, Prove, Ring, Upgrade, Sat, Model, Disprove, FirstOrderCheck}
+use Rattle.cyc_words.specs.declared.tasks.Task.TheVariants.{Check, Prove, Ring, Upgrade, Sat, Model, Disprove, FirstOrderProve, FirstOrderCheck}
 
 -- the number that a text stands for, where it is in the range
 abbrev pub number_in : ℕ → ℕ → Text → Option ℕ
@@ -26,8 +26,9 @@ subcommand_meaning name rows =
     else (if bytes_eq name (codes "sat") then Some Sat
     else (if bytes_eq name (codes "model") then Some Model
     else (if bytes_eq name (codes "disprove") then option_map (λ n. Disprove n) (argument_in 1 4 (codes "cells") rows)
+    else (if bytes_eq name (codes "fo") then option_map (λ n. FirstOrderProve n) (argument_in 1 40 (codes "depth") rows)
     else (if bytes_eq name (codes "fo-check") then Some FirstOrderCheck
-    else None)))))))
+    else None))))))))
 
 -- the subcommand that was found, if one was
 abbrev pub found_meaning : Option (Text × List Row) → Option Task
@@ -76,6 +77,7 @@ IsInRange (Some Upgrade) = Unit {0}
 IsInRange (Some Sat) = Unit {0}
 IsInRange (Some Model) = Unit {0}
 IsInRange (Some (Disprove cells)) = (1 ≤ cells) × (cells ≤ 4)
+IsInRange (Some (FirstOrderProve depth)) = (1 ≤ depth) × (depth ≤ 40)
 IsInRange (Some FirstOrderCheck) = Unit {0}
 IsInRange None = Unit {0}
 
@@ -88,9 +90,10 @@ reads_input (Some Upgrade) = true
 reads_input (Some Sat) = true
 reads_input (Some Model) = true
 reads_input (Some (Disprove cells)) = true
+reads_input (Some (FirstOrderProve depth)) = true
 reads_input (Some FirstOrderCheck) = true
 reads_input None = false
 
 -- the line that says which words have a meaning
 abbrev pub usage_text : List ℕ
-usage_text = codes "usage: cyclist check | prove [--depth N] | ring K | upgrade | sat | model | disprove [--cells N] | fo-check\n"
+usage_text = codes "usage: cyclist check | prove [--depth N] | ring K | upgrade | sat | model | disprove [--cells N] | fo [--depth N] | fo-check\n"

@@ -1,7 +1,7 @@
 // The command `cyclist`, as clap builds it.
 ghost use Rattle.std.specs.Prelude.{◌≡◌, IfOk, false};
 ghost use Rattle.clap.specs.Words.{rule_of};
-ghost use Rattle.cyc_words.specs.Command.{IsCommand, asking_app, cells_rule, cyclist_app, depth_rule, disprove_app, prove_app, proving_app, ring_app, size_rule};
+ghost use Rattle.cyc_words.specs.Command.{IsCommand, asking_app, cells_rule, cyclist_app, depth_rule, disprove_app, fo_app, prove_app, proving_app, ring_app, size_rule};
 
 use clap::{Arg, Command};
 use std::alloc::{AllocError, Global};
@@ -53,6 +53,12 @@ fn disprove_command<'a>(alloc: Global) -> Result<Command<'a>, AllocError>
     Command::new(alloc, "disprove").arg(cells_argument(alloc))
 }
 
+fn fo_command<'a>(alloc: Global) -> Result<Command<'a>, AllocError>
+    ensures { IfOk result (λ command. IsCommand command fo_app) }
+{
+    Command::new(alloc, "fo").arg(depth_argument(alloc))
+}
+
 // The command with the subcommands that make or check a proof.
 fn proving_command<'a>(alloc: Global) -> Result<Command<'a>, AllocError>
     ensures { IfOk result (λ command. IsCommand command proving_app) }
@@ -78,5 +84,6 @@ pub fn cyclist_command<'a>(alloc: Global) -> Result<Command<'a>, AllocError>
 {
     asking_command(alloc)?
         .subcommand(disprove_command(alloc)?)?
+        .subcommand(fo_command(alloc)?)?
         .subcommand(Command::new(alloc, "fo-check"))
 }

@@ -30,6 +30,7 @@ fn task_of_subcommand(name: &str, matches: &ArgMatches<'_>) -> Option<Task>
         "sat" => Some(Task::Sat),
         "model" => Some(Task::Model),
         "disprove" => Some(Task::Disprove(number_of(matches, "cells")?)),
+        "fo" => Some(Task::FirstOrderProve(number_of(matches, "depth")?)),
         "fo-check" => Some(Task::FirstOrderCheck),
         _ => None,
     }

@@ -18,10 +18,12 @@ pub enum Task {
     /// Search for a counter-model of the entailment of the problem that the input spells, with addresses and values up to
     /// this number, 1 to 4.
     Disprove(u32),
+    /// Search the first-order problem that the input spells for a proof, down to this depth, 1 to 40.
+    FirstOrderProve(u32),
     /// Check the first-order proof that the input spells.
     FirstOrderCheck,
 }
 
 /// The line that says which words have a meaning.
 pub const USAGE: &str =
-    "usage: cyclist check | prove [--depth N] | ring K | upgrade | sat | model | disprove [--cells N] | fo-check\n";
+    "usage: cyclist check | prove [--depth N] | ring K | upgrade | sat | model | disprove [--cells N] | fo [--depth N] | fo-check\n";

@@ -1,4 +1,5 @@
-//! The answers of the command `fo-check`: is a given proof in first-order logic with inductive definitions correct?
+//! The answers of the commands of first-order logic with inductive definitions: is a given proof correct (`fo-check`), and
+//! is there one of a problem (`fo`)?
 #![tactic(auto)]
 
 ghost use Rattle.std.specs.Prelude.{◌≡◌, IfOk, true};
@@ -8,6 +9,7 @@ ghost use Rattle.fo_answers.specs.Answers.{IsSaid, verdict_status, verdict_text}
 
 mod lines;
 mod names;
+mod searches;
 
 use cyc_memory::OutOfMemory;
 use cyc_runs::{Answer, Status, Tool, answer_to_fault, fixed_answer};
@@ -15,6 +17,7 @@ use cyc_texts::path_refused_line;
 use fo_file::{FoFile, read_fo};
 use fo_logic::{FoVerdict, check_fo};
 use lines::{accepted_line, node_refused_line};
+pub use searches::FirstOrderProver;
 use std::alloc::Global;
 
 fn answer_to_verdict(

@@ -4,6 +4,8 @@ use Rattle.cyc_lex.specs.declared.fault.ReadFault.{ReadFault}
 use Rattle.proof_syntax.proofs.GrammarLaws.{file-law}
 use Rattle.problem_syntax.proofs.ProblemLaws.{problem-law}
 use Rattle.model_syntax.proofs.ModelLaws.{model-law}
+use Rattle.fo_problem_syntax.specs.Trees.{Problem as QuestionTree}
+use Rattle.fo_problem_syntax.proofs.TheoryLaws as question_laws
 use Rattle.fo_proof_syntax.specs.Trees.{File}
 use Rattle.fo_proof_syntax.proofs.ProofLaws as first_order_laws
 use Rattle.proof_file.specs.declared.file.ProofFile.{ProofFile}
@@ -16,6 +18,7 @@ use Rattle.model_file.specs.declared.file.Model.{Model}
 use Rattle.model_file.specs.Reading as models
 use Rattle.model_file.proofs.Readings.{one_model}
 use Rattle.fo_formula.specs.declared.nodes.FoFile.{FoFile}
+use Rattle.fo_values.specs.declared.problem.FoProblem.{FoProblem}
 use Rattle.fo_file.specs.Reading as first_order
 use Rattle.reading_laws.specs.Alike.{AreAlike}
 use Rattle.reading_laws.proofs.OneReading.{one_reading}
@@ -35,3 +38,10 @@ one_proof t f g first second = first ∙ sym second
 
 pub one_proof_reading : (bytes : List ℕ) (r s : Result FoFile ReadFault) → first_order.IsRead bytes r → first_order.IsRead bytes s → AreAlike (λ f g. f ≡ g) r s
 one_proof_reading = one_reading first_order.fo_files first_order_laws.file-law (λ f g. f ≡ g) one_proof
+
+-- and one first-order problem
+one_question : (t : QuestionTree) (p q : FoProblem) → first_order.IsProblemOf t p → first_order.IsProblemOf t q → p ≡ q
+one_question t p q first second = first ∙ sym second
+
+pub one_question_reading : (bytes : List ℕ) (r s : Result FoProblem ReadFault) → first_order.IsReadProblem bytes r → first_order.IsReadProblem bytes s → AreAlike (λ p q. p ≡ q) r s
+one_question_reading = one_reading first_order.fo_problems question_laws.problem-law (λ p q. p ≡ q) one_question

@@ -10,6 +10,7 @@ ghost use Rattle.proof_file.specs.Reading as files;
 ghost use Rattle.model_file.specs.declared.file.Model.{Model};
 ghost use Rattle.model_file.specs.Reading as models;
 ghost use Rattle.fo_formula.specs.declared.nodes.FoFile.{FoFile};
+ghost use Rattle.fo_values.specs.declared.problem.FoProblem.{FoProblem};
 ghost use Rattle.fo_file.specs.Reading as first_order;
 ghost use Rattle.reading_laws.specs.Alike.{AreAlike};
 
@@ -35,4 +36,10 @@ pub fn models_are_read_in_one_way()
 pub fn first_order_proofs_are_read_in_one_way()
     ensures { (bytes : List ℕ) (r s : Result FoFile ReadFault) → first_order.IsRead bytes r
         → first_order.IsRead bytes s → AreAlike (λ f g. f ≡ g) r s }
+{}
+
+/// Two readings of a text as a problem in first-order logic give the same problem, or one fault.
+pub fn first_order_problems_are_read_in_one_way()
+    ensures { (bytes : List ℕ) (r s : Result FoProblem ReadFault) → first_order.IsReadProblem bytes r
+        → first_order.IsReadProblem bytes s → AreAlike (λ p q. p ≡ q) r s }
 {}

@@ -1,7 +1,7 @@
 use Rattle.std.proofs.Common.{◌≡◌, subst, true}
 use Rattle.cyc_words.specs.Words.{reads_input}
 use Rattle.cyc_runs.specs.declared.endings.Status.TheVariants.{Success}
-use Rattle.cyc_top.proofs.Exact.{correct_first_order, correct_succeeds, ended_so, found_succeeds, none_says, refusal_says, ring_ends, success_models, success_says, success_wrote, told_status, wrote_as}
+use Rattle.cyc_top.proofs.Exact.{correct_first_order, correct_succeeds, ended_so, found_succeeds, none_says, refusal_says, ring_ends, success_models, success_says, success_wrote, success_wrote_first_order, first_order_succeeds, told_status, wrote_as}
 use Rattle.cyc_top.proofs.Upgraded.{success_upgraded, upgrade_succeeds}
 use Rattle.cyc_top.proofs.run.Goals as goal
 
@@ -34,6 +34,16 @@ returns-in-Ok-clause-complete g c =
     λ depth input problem d is told short read found quiet calm.
     ended_so _ _ _ _ _ (wrote_as _ _ _ _ _ _ c.in-Ok.ensures.meaning c.run_task.ensures.answered) _ _ Success (λ e. (c.run_task.ensures.read_fault e).0) (λ e. (c.run_task.ensures.write_fault e).0) quiet calm
     (λ xs answer. found_succeeds depth _ _ input problem d _ xs is told short read found answer)
+
+pub returns-in-Ok-clause-complete_first_order : goal.returns-in-Ok-clause-complete_first_order
+returns-in-Ok-clause-complete_first_order g c =
+    λ depth input problem d is told short read found quiet calm.
+    ended_so _ _ _ _ _ (wrote_as _ _ _ _ _ _ c.in-Ok.ensures.meaning c.run_task.ensures.answered) _ _ Success (λ e. (c.run_task.ensures.read_fault e).0) (λ e. (c.run_task.ensures.write_fault e).0) quiet calm
+    (λ xs answer. first_order_succeeds depth _ _ input problem d _ xs is told short read found answer)
+
+pub returns-in-Ok-clause-first_order_proof : goal.returns-in-Ok-clause-first_order_proof
+returns-in-Ok-clause-first_order_proof g c =
+    λ depth is e. success_wrote_first_order _ _ _ _ _ (wrote_as _ _ _ _ _ _ c.in-Ok.ensures.meaning c.run_task.ensures.answered) depth is e
 
 pub returns-in-Ok-clause-upgrades : goal.returns-in-Ok-clause-upgrades
 returns-in-Ok-clause-upgrades g c =

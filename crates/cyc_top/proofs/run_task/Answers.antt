@@ -1,11 +1,12 @@
 use Rattle.std.proofs.Common.{subst, ◌+◌, ◌*◌}
 use Rattle.cyc_texts.specs.Texts.{ring_text}
 use Rattle.cyc_words.specs.Words.{usage_text}
-use Rattle.cyc_words.specs.declared.tasks.Task.TheVariants.{Check, Prove, Ring, Upgrade, Sat, Model, Disprove, FirstOrderCheck}
+use Rattle.cyc_words.specs.declared.tasks.Task.TheVariants.{Check, Prove, Ring, Upgrade, Sat, Model, Disprove, FirstOrderProve, FirstOrderCheck}
 use Rattle.cyc_runs.specs.declared.endings.Status.TheVariants.{Success, Usage}
 use Rattle.cyc_runs.specs.Runs.{IsAnswerOf}
 use Rattle.cyc_runs.specs.Runs as runs
 use Rattle.disprove_answers.specs.Answers.{IsDisproved}
+use Rattle.fo_answers.specs.Searches.{IsFirstOrderSearched}
 use Rattle.cyc_top.specs.Answers.{IsSearched}
 use Rattle.cyc_top.proofs.Told.{answer_as, both_ok, part_as, ring_part, ring_wrote, task_is, usage_part, usage_wrote}
 use Rattle.cyc_top.proofs.run_task.Goals as goal
@@ -45,6 +46,12 @@ returns-in-Some-Disprove-clause-write_fault g c =
     λ e.
     let wrote = c.run_over-in-Some-Disprove.ensures.write_fault e in
     (wrote.0, part_as _ _ _ _ _ (task_is c.args.task c.in-Some-Disprove.field-0 (Disprove c.in-Some-Disprove.cells) c.in-Some-Disprove.is (rw c.in-Some-Disprove.is at c.in-Some-Disprove.field-0-is)) (subst (λ d. runs.WrotePart (IsAnswerOf (IsDisproved d)) (g.S.Source.left c.args.src.now) (g.K.Sink.written c.args.out.now) (g.K.Sink.written c.run_over-in-Some-Disprove.new.out)) c.new-in-Some-Disprove.ensures wrote.1))
+
+pub returns-in-Some-FirstOrderProve-clause-write_fault : goal.returns-in-Some-FirstOrderProve-clause-write_fault
+returns-in-Some-FirstOrderProve-clause-write_fault g c =
+    λ e.
+    let wrote = c.run_over-in-Some-FirstOrderProve.ensures.write_fault e in
+    (wrote.0, part_as _ _ _ _ _ (task_is c.args.task c.in-Some-FirstOrderProve.field-0 (FirstOrderProve c.in-Some-FirstOrderProve.depth) c.in-Some-FirstOrderProve.is (rw c.in-Some-FirstOrderProve.is at c.in-Some-FirstOrderProve.field-0-is)) (subst (λ d. runs.WrotePart (IsAnswerOf (IsFirstOrderSearched d)) (g.S.Source.left c.args.src.now) (g.K.Sink.written c.args.out.now) (g.K.Sink.written c.run_over-in-Some-FirstOrderProve.new.out)) c.new-in-Some-FirstOrderProve.ensures wrote.1))
 
 pub returns-in-Some-FirstOrderCheck-clause-write_fault : goal.returns-in-Some-FirstOrderCheck-clause-write_fault
 returns-in-Some-FirstOrderCheck-clause-write_fault g c =
