@@ -3,7 +3,7 @@
 set -u
 name=cyclist
 . "$(dirname "${BASH_SOURCE[0]}")/compare.sh"
-usage='usage: cyclist check | prove [--depth N] | ring K | upgrade | sat | model | disprove [--cells N] | fo-check'
+usage='usage: cyclist check | prove [--depth N] | ring K | upgrade | sat | model | disprove [--cells N] | fo [--depth N] | fo-check'
 
 run 0 'accepted entailment nodes 1 links 0' check < "$top/examples/first.proof"
 run 0 "$(grep -v '^#' "$top/examples/list-segments.proof")" prove --depth 5 < "$top/examples/list-segments.problem"
@@ -13,7 +13,7 @@ run 0 "$(grep -v '^#' "$top/examples/seventeen-cells.proof")" upgrade < "$top/ex
 run 0 "$(grep -v '^#' "$top/examples/freed-twice.proof" | sed '1s/1/2/')" upgrade < "$top/examples/freed-twice.proof"
 run 1 'refused path stem cycle 0.0' check <<< 'cyclist proof 1; node true : emp |- true : emp by Link 0 { } [] [0]; end;'
 run 1 'refused node 0 NotEmpty' check <<< 'cyclist proof 1; node true : $0 -> (nil) |- true : emp by Done; end;'
-for words in '' '--help' 'help' 'ring' 'ring 0' 'ring 2001' 'prove --depth 41' 'prove --depth' 'check check' 'Check' 'upgrade 2' 'model x' 'disprove --cells 5' 'fo-check 1' 'fo'; do
+for words in '' '--help' 'help' 'ring' 'ring 0' 'ring 2001' 'prove --depth 41' 'prove --depth' 'check check' 'Check' 'upgrade 2' 'model x' 'disprove --cells 5' 'fo-check 1' 'fo 5' 'fo --depth 41' 'fo --depth'; do
   # (the words are cut at the spaces)
   # shellcheck disable=SC2086
   run 2 "$usage" $words < /dev/null
@@ -38,6 +38,15 @@ run 6 'not found cells 1' disprove --cells 1 < "$top/examples/acyclic-segments.p
 run 6 'not found cells 2' disprove < "$top/examples/list-segments.problem"
 run 4 'ill-formed judgement from' disprove < "$top/examples/list-walk.problem"
 run 5 'limit universals' disprove <<< 'cyclist problem 1; goal a = b, c = d, e = f, g = h, i = i : emp |- true : emp; end;'
+even=$top/examples/first-order/even-is-natural
+run 0 "$(grep -v '^#' "$even.fo")" fo --depth 5 < "$even.foproblem"
+run 0 "$(grep -v '^#' "$even.fo")" fo < "$even.foproblem"
+run 6 'not found depth 4' fo --depth 4 < "$even.foproblem"
+run 6 'not found depth 16' fo <<< 'cyclist foproblem 1; con z 0; goal true |- false; end;'
+run 3 'unreadable syntax token 0 line 1 column 1' fo < /dev/null
+run 3 'unreadable syntax token 1 line 3 column 9' fo < "$even.fo"
+run 4 'ill-formed unknown token 11 line 1 column 44' fo <<< 'cyclist foproblem 1; con z 0; goal true |- p(z()); end;'
+run 5 'limit input' fo < <(all_of ' ' 16777217)
 run 0 'accepted first-order nodes 10 links 1' fo-check < "$top/examples/first-order/even-is-natural.fo"
 run 1 'refused path stem cycle 0.0 1.0 2.0' fo-check < "$top/examples/first-order/copied-for-ever.fo"
 run 1 'refused node 0 NoSuchAtom' fo-check <<< 'cyclist fo 1; con z 0; node true |- z() = z() by Refl 1; end;'

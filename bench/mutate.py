@@ -29,8 +29,9 @@ WORDS = {
     ".problem": [["prove", "--depth", "5"], ["prove", "--depth", "5"], ["sat"], ["disprove", "--cells", "1"]],
     ".model": [["model"]],
     ".fo": [["fo-check"]],
+    ".foproblem": [["fo", "--depth", "5"]],
 }
-TAKEN_BY = {"prove": ("check", rb"accepted .*\n"), "upgrade": ("upgrade", None), "disprove": ("model", rb"holds\n")}
+TAKEN_BY = {"prove": ("check", rb"accepted .*\n"), "upgrade": ("upgrade", None), "disprove": ("model", rb"holds\n"), "fo": ("fo-check", rb"accepted .*\n")}
 TOKEN = re.compile(rb"[A-Za-z_]\w*|\d+|\|-|->|:=|!=|#[^\n]*|\s+|.", re.S)
 NUMBERS = [b"0", b"1", b"2", b"3", b"7", b"8", b"9", b"15", b"16", b"63", b"64", b"65534", b"65535", b"999999999", b"007"]
 

@@ -1,8 +1,9 @@
 #!/usr/bin/env bash
 # bench/refused-memory.sh [PROGRAM]: refuses each allocation of a run in turn, the first, the second and so on, for `check` of
 # the list-segments proof, `prove` and `sat` of its problem, `upgrade` of its proof, `ring 1`, `model` of a ring, `disprove` of a
-# false problem and `fo-check` of a first-order proof. Each such run has to end with status 9 and to write nothing, or to give the whole right answer where it can do without. Prints how many were tried and how they ended; at a run that
-# ends otherwise it says which, and ends with 1. Wants a C compiler, for the allocator that refuses.
+# false problem, `fo-check` of a first-order proof and `fo` of its problem. Each such run has to end with status 9 and to write
+# nothing, or to give the whole right answer where it can do without. Prints how many were tried and how they ended; at a run
+# that ends otherwise it says which, and ends with 1. Wants a C compiler, for the allocator that refuses.
 set -u
 top=$(cd "$(dirname "${BASH_SOURCE[0]}")/.." && pwd)
 program=${1:-$top/crates/cyclist/out/cyclist}
@@ -77,3 +78,4 @@ try_all "$top/examples/list-segments.problem" sat
 try_all "$top/examples/ring.model" model
 try_all "$top/examples/acyclic-segments.problem" disprove
 try_all "$top/examples/first-order/even-is-natural.fo" fo-check
+try_all "$top/examples/first-order/even-is-natural.foproblem" fo --depth 5

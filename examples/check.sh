@@ -2,7 +2,7 @@
 # examples/check.sh PROGRAM SEEKER: each example is answered as its line in answers.txt says; the proof beside a problem, its
 # comments aside, is what `prove` writes of that problem, or there is none and no proof is found; the free search finds a proof
 # of each of them too, and the proofs in seek/ are what it writes; the model beside a problem is what `disprove` writes of that
-# problem, and `model` says that it holds.
+# problem, and `model` says that it holds; the first-order proof beside a first-order problem is what `fo` writes of that problem.
 set -u
 program=$1
 seeker=$2
@@ -36,6 +36,13 @@ for problem in "$here"/*.problem; do
   else
     [ "$code" = 6 ] && [ "$got" = 'not found depth 16' ] || fail "examples/$name: prove ends with $code, and '$(echo "$got" | head -n 1)'"
   fi
+done
+
+for problem in "$here"/first-order/*.foproblem; do
+  proof=${problem%.foproblem}.fo
+  got=$("$program" fo < "$problem")
+  code=$?
+  [ "$code" = 0 ] && [ "$got" = "$(grep -v '^#' "$proof")" ] || fail "examples/first-order/$(basename "$problem"): fo ends with $code, and does not write the proof beside it"
 done
 
 # Whether the free search finds a proof of the problem, as `check` sees it.

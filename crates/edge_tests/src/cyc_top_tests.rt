@@ -11,7 +11,7 @@ const FILE: &[u8] =
 const ACCEPTED: &str = "accepted entailment nodes 8 links 1\n";
 
 const USAGE: &str =
-    "usage: cyclist check | prove [--depth N] | ring K | upgrade | sat | model | disprove [--cells N] | fo-check\n";
+    "usage: cyclist check | prove [--depth N] | ring K | upgrade | sat | model | disprove [--cells N] | fo [--depth N] | fo-check\n";
 
 fn words_of(alloc: Global, line: &str) -> Result<Vec<String>, Fail> {
     let mut words = Vec::new(alloc);

@@ -1,4 +1,4 @@
-//! Words and inputs of `prove` and `ring`, and how a run on each ends. The proofs were written by hand.
+//! Words and inputs of `prove`, `fo` and `ring`, and how a run on each ends. The proofs were written by hand.
 use cyc_io::{StdSink, StdSource};
 use cyc_top::run;
 use proof_file::write_file;
@@ -10,7 +10,7 @@ use std::test::Fail;
 type Run = (&'static str, &'static str, u8, &'static str);
 
 static USAGE: &str =
-    "usage: cyclist check | prove [--depth N] | ring K | upgrade | sat | model | disprove [--cells N] | fo-check\n";
+    "usage: cyclist check | prove [--depth N] | ring K | upgrade | sat | model | disprove [--cells N] | fo [--depth N] | fo-check\n";
 
 static COMPOSE: &str = "cyclist problem 1;
 pred ls(a, b) { a = b : emp | true : a -> (c) * ls(c, b) };
@@ -110,6 +110,51 @@ goal true : ls(x, y) |- true : emp;
 end;
 ";
 
+static EVEN: &str = "cyclist foproblem 1;
+con z 0;
+con s 1;
+pred nat(1) { $0 = z() | $0 = s(?0), nat(?0) };
+pred even(1) { $0 = z() | $0 = s(s(?0)), even(?0) };
+goal even($0) |- nat($0);
+end;
+";
+
+static NATURAL: &str = "cyclist fo 1;
+con z 0;
+con s 1;
+pred nat(1) { $0 = z() | $0 = s(?0), nat(?0) };
+pred even(1) { $0 = z() | $0 = s(s(?0)), even(?0) };
+node even($0) |- nat($0) by Unfold 0 to 1 4;
+node $0 = z() |- nat($0) by Replace 0 left to 2;
+node true |- nat(z()) by Right 0 0 [] to 3;
+node true |- z() = z() by Refl 0;
+node $0 = s(s($1)), even($1) |- nat($0) by Replace 0 left to 5;
+node even($1) |- nat(s(s($1))) by Right 0 1 [s($1)] to 6 7;
+node even($1) |- s(s($1)) = s(s($1)) by Refl 0;
+node even($1) |- nat(s($1)) by Right 0 1 [$1] to 8 9;
+node even($1) |- s($1) = s($1) by Refl 0;
+node even($1) |- nat($1) by Link 0 { $0 := $1 } [0] [0];
+end;
+";
+
+static REFLEXIVE: &str = "cyclist foproblem 1; con z 0; goal true |- $3 = $2, z() = z(), z() = z(); end;";
+
+static REFLEXIVELY: &str = "cyclist fo 1;
+con z 0;
+node true |- $3 = $2, z() = z(), z() = z() by Refl 1;
+end;
+";
+
+static CLASHING: &str =
+    "cyclist foproblem 1; con z 0; con s 1; goal $0 = z(), z() = s($1) |- false; end;";
+
+static CLASHED: &str = "cyclist fo 1;
+con z 0;
+con s 1;
+node $0 = z(), z() = s($1) |- false by Clash 1;
+end;
+";
+
 fn words_of(alloc: Global, line: &str) -> Result<Vec<String>, Fail> {
     let mut words = Vec::new(alloc);
     for word in line.split_whitespace() {
@@ -131,7 +176,7 @@ fn ending(alloc: Global, line: &str, input: &[u8]) -> Result<(u8, Vec<u8>), Fail
 #[test]
 fn searches_and_rings(rt: HostRuntime) -> Result<(), Fail> {
     let alloc = rt.alloc();
-    let runs: [Run; 23] = [
+    let runs: [Run; 33] = [
         ("prove", COMPOSE, 0, COMPOSED),
         ("prove --depth 5", COMPOSE, 0, COMPOSED),
         ("prove --depth 4", COMPOSE, 6, "not found depth 4\n"),
@@ -175,6 +220,21 @@ fn searches_and_rings(rt: HostRuntime) -> Result<(), Fail> {
             3,
             "unreadable syntax token 1 line 1 column 9\n",
         ),
+        ("fo", EVEN, 0, NATURAL),
+        ("fo --depth 5", EVEN, 0, NATURAL),
+        ("fo --depth 4", EVEN, 6, "not found depth 4\n"),
+        ("fo --depth 1", REFLEXIVE, 0, REFLEXIVELY),
+        ("fo --depth 1", CLASHING, 0, CLASHED),
+        ("fo --depth 0", EVEN, 2, USAGE),
+        ("fo-check", NATURAL, 0, "accepted first-order nodes 10 links 1\n"),
+        ("fo", "cyclist foproblem 1; con z 0; goal true |- false; end;", 6, "not found depth 16\n"),
+        (
+            "fo",
+            "cyclist foproblem 1; con z 0; goal true |- p(z()); end;",
+            4,
+            "ill-formed unknown token 11 line 1 column 44\n",
+        ),
+        ("fo", NATURAL, 3, "unreadable syntax token 1 line 1 column 9\n"),
         ("ring 1", "", 0, "ring 1 accepted nodes 9 links 1\n"),
         ("ring 25", "", 0, "ring 25 accepted nodes 201 links 1\n"),
         ("ring 0", "", 2, USAGE),
