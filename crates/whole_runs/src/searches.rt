@@ -137,7 +137,8 @@ node even($1) |- nat($1) by Link 0 { $0 := $1 } [0] [0];
 end;
 ";
 
-static REFLEXIVE: &str = "cyclist foproblem 1; con z 0; goal true |- $3 = $2, z() = z(), z() = z(); end;";
+static REFLEXIVE: &str =
+    "cyclist foproblem 1; con z 0; goal true |- $3 = $2, z() = z(), z() = z(); end;";
 
 static REFLEXIVELY: &str = "cyclist fo 1;
 con z 0;
@@ -226,15 +227,30 @@ fn searches_and_rings(rt: HostRuntime) -> Result<(), Fail> {
         ("fo --depth 1", REFLEXIVE, 0, REFLEXIVELY),
         ("fo --depth 1", CLASHING, 0, CLASHED),
         ("fo --depth 0", EVEN, 2, USAGE),
-        ("fo-check", NATURAL, 0, "accepted first-order nodes 10 links 1\n"),
-        ("fo", "cyclist foproblem 1; con z 0; goal true |- false; end;", 6, "not found depth 16\n"),
+        (
+            "fo-check",
+            NATURAL,
+            0,
+            "accepted first-order nodes 10 links 1\n",
+        ),
+        (
+            "fo",
+            "cyclist foproblem 1; con z 0; goal true |- false; end;",
+            6,
+            "not found depth 16\n",
+        ),
         (
             "fo",
             "cyclist foproblem 1; con z 0; goal true |- p(z()); end;",
             4,
             "ill-formed unknown token 11 line 1 column 44\n",
         ),
-        ("fo", NATURAL, 3, "unreadable syntax token 1 line 1 column 9\n"),
+        (
+            "fo",
+            NATURAL,
+            3,
+            "unreadable syntax token 1 line 1 column 9\n",
+        ),
         ("ring 1", "", 0, "ring 1 accepted nodes 9 links 1\n"),
         ("ring 25", "", 0, "ring 25 accepted nodes 201 links 1\n"),
         ("ring 0", "", 2, USAGE),
