@@ -32,6 +32,32 @@ WORDS = {
     ".foproblem": [["fo", "--depth", "5"]],
 }
 TAKEN_BY = {"prove": ("check", rb"accepted .*\n"), "upgrade": ("upgrade", None), "disprove": ("model", rb"holds\n"), "fo": ("fo-check", rb"accepted .*\n")}
+# What stands at the token that a fault names, and right before it: names, numbers, or these words; and whether the name is one
+# that the text declares.
+NAME, NUMBER = rb"[A-Za-z_]\w*", rb"\d+"
+ABOUT = {
+    b"duplicate": (NAME, rb"pred|con|[(,]", True),
+    b"unknown": (NAME, None, False),
+    b"arity": (NAME, None, True),
+    b"parameter": (NUMBER, rb"\$", None),
+    b"numbering": (NUMBER, rb"line", None),
+    b"jump": (NUMBER, rb"goto", None),
+    b"falls-off": (rb"line", None, None),
+    b"no-line": (NUMBER, rb"from", None),
+    b"address": (NUMBER, None, None),
+    b"constant": (NUMBER, NAME, None),
+    b"constructors": (rb"con", None, None),
+    b"predicates": (rb"pred", None, None),
+    b"lines": (rb"line", None, None),
+    b"nodes": (rb"node", None, None),
+    b"variable": (NUMBER, rb"[$?]", None),
+    b"fields": (NUMBER, rb"new|\.", None),
+    b"locals": (rb"\w+", None, None),
+    b"program-variables": (rb"\w+", None, None),
+}
+# What the other limits stand at: the first token of what is counted.
+FIRST = rb"\w+|[$?]"
+AT = re.compile(rb"(?:ill-formed|limit) ([a-z-]+) token (\d+) line (\d+) column (\d+)\n")
 TOKEN = re.compile(rb"[A-Za-z_]\w*|\d+|\|-|->|:=|!=|#[^\n]*|\s+|.", re.S)
 NUMBERS = [b"0", b"1", b"2", b"3", b"7", b"8", b"9", b"15", b"16", b"63", b"64", b"65534", b"65535", b"999999999", b"007"]
 
@@ -68,6 +94,28 @@ def run(words, text):
     return done.returncode, done.stdout, done.stderr
 
 
+def misplaced(text, wrote):
+    """Returns what is wrong with the place of a fault of what the text says, if anything is."""
+    said = AT.fullmatch(wrote)
+    if not said or not text.isascii():
+        return None
+    fault, token, line, column = said[1], *(int(it) for it in said.groups()[1:])
+    tokens = [it for it in TOKEN.finditer(text) if not re.match(rb"#|\s", it[0])]
+    if token >= len(tokens):
+        return f"{wrote!r}, and the text has {len(tokens)} tokens"
+    found, before = tokens[token], tokens[token - 1][0]
+    start = found.start()
+    if (line, column) != (text.count(b"\n", 0, start) + 1, start - text.rfind(b"\n", 0, start)):
+        return f"{wrote!r}, and that token stands elsewhere"
+    wanted, behind, is_declared = ABOUT.get(fault, (FIRST, None, None))
+    if not re.fullmatch(wanted, found[0]) or (behind and not re.fullmatch(behind, before)):
+        return f"{wrote!r}, and there stands {before!r} {found[0]!r}"
+    declared = {name[0] for word, name in zip(tokens, tokens[1:]) if word[0] in (b"pred", b"con")}
+    if is_declared is not None and before not in (b"(", b",") and (found[0] in declared) != is_declared:
+        return f"{wrote!r}, and {found[0]!r} is {'not ' * is_declared}declared"
+    return None
+
+
 def run_in_pieces(chance, words, text):
     with subprocess.Popen(words, stdin=subprocess.PIPE, stdout=subprocess.PIPE, stderr=subprocess.PIPE) as process:
         try:
@@ -99,6 +147,9 @@ def complaint(chance, program, words, text):
             return status, f"what was written is answered by {command}: {taken}"
     elif not re.fullmatch(LINES[status], wrote):
         return status, f"status {status} with {wrote!r}"
+    wrong = misplaced(text, wrote)
+    if wrong:
+        return status, wrong
     if chance.random() < 0.1 and run_in_pieces(chance, [program, *words], text) != ran:
         return status, "another answer where the input comes in pieces"
     return status, None
