@@ -60,7 +60,10 @@ static COMMAND_LINES: &[(&[&str], Option<Task>)] = &[
     (&["fo-check"], Some(Task::FirstOrderCheck)),
     (&["fo-check", "--"], Some(Task::FirstOrderCheck)),
     (&["fo-check", "x"], None),
-    (&["fo"], None),
+    (&["fo"], Some(Task::FirstOrderProve(16))),
+    (&["fo", "--depth", "5"], Some(Task::FirstOrderProve(5))),
+    (&["fo", "--depth", "41"], None),
+    (&["fo-"], None),
 ];
 
 #[test]
