@@ -29,7 +29,7 @@ use Rattle.search_calculus.specs.Calculus.{OpenGoal, MadeNode, traced}
 use Rattle.search_calculus.specs.Graphs.{traces_of, made_graph, goal_graph}
 use Rattle.search_calculus.specs.Search.{links_at, rules_at, calculus_of, search_system}
 use Rattle.search_calculus.proofs.MadeRows.{made_in_order, made_is_graph, made_traces}
-use Rattle.search_calculus.proofs.ProofGraphs.{reason_given, reason_taken, goal_last}
+use Rattle.search_calculus.proofs.ProofGraphs.{reason_given, goal_last}
 use Rattle.search_calculus.proofs.TraceGraphs.{replay_traces}
 use Rattle.derivation_moves.specs.declared.goals.MadeNode.{MadeNode as NodeOfCode}
 use Rattle.derivation_moves.specs.declared.effects.Effect.{Effect}
@@ -49,23 +49,12 @@ pub record HasEffect (s : Derivation) (r : Reason) (e : Effect) : Type 0 where
   pub next : goals_in s ≡ goal ∷ rest
   pub effects : IsEffect (theory_in s) (nodes_in s) goal r (Some e)
 
--- what is so in any case
-pub on_any : {T E P : Type 0} (r : Result T E) → P → OnOk r P
-on_any (Ok x) p = p
-on_any (Err e) p = tt
-
 -- the goal on top of the stack, and the effect at it
 abbrev pub with_effect : (s : Derivation) (r : Reason) (e : Effect) (goals : List GoalOfCode) (g : GoalOfCode) (made : List NodeOfCode) (o : Option Effect) → goals ≡ s.goals.items → Some g ≡ slice_get goals (length goals - 1) → made ≡ s.made.items → o ≡ Some e → IsEffect (theory_in s) (map node_of made) (goal_of g) r o → HasEffect s r e
 with_effect s r e goals g made o same at made_is o_is is_effect =
     let effects : IsEffect (theory_in s) (nodes_in s) (goal_of g) r (Some e) = subst (IsEffect (theory_in s) (nodes_in s) (goal_of g) r) o_is (subst (λ ms. IsEffect (theory_in s) (map node_of ms) (goal_of g) r o) made_is is_effect) in
     let next = next_goal s g (last_of s.goals.items g (subst (λ gs. Some g ≡ slice_get gs (length gs - 1)) same at)) in
     record { goal = goal_of g; rest = next.rest; next = next.are; effects = effects }
-
--- the next goal is a node
-pub goal_there : (s : Derivation) → IsInOrder s → (goals : List GoalOfCode) (g : GoalOfCode) (n : ℕ) → goals ≡ s.goals.items → Some g ≡ slice_get goals (length goals - 1) → n ≡ length s.made.items → n < length s.graph
-goal_there s order goals g n same at number =
-    let next = next_goal s g (last_of s.goals.items g (subst (λ gs. Some g ≡ slice_get gs (length gs - 1)) same at)) in
-    omega (arith, ap length (order.graph ∙ ap (graph_with (theory_in s) (nodes_in s)) next.are), goal_graph_size (theory_in s) (nodes_in s) (goal_of g), length-map s.made.items node_of, number)
 
 module _ (s : Derivation) (r : Reason) (e : Effect) (order : IsInOrder s) (has : HasEffect s r e) where
   abbrev t : Theory
@@ -105,14 +94,6 @@ module _ (s : Derivation) (r : Reason) (e : Effect) (order : IsInOrder s) (has :
 
   pub graph_is : IsGraph tableau_then.graph
   graph_is = made_is_graph t s.root (after (reasons_in s) r) tableau_then order.is.problem stepped (omega (arith, length-append (nodes_in s) (record { goal = has.goal; reason = r } ∷ [])))
-
-  -- the graph that is left
-  pub graph_again : (n : ℕ) (graph : List GraphNode) → n ≡ length s.made.items → graph ≡ changed_at without_reason (changed_at (with_reason r e.pairs) s.graph n) n → graph ≡ s.graph
-  graph_again n graph number is =
-      is
-      ∙ (ap (λ k. changed_at without_reason (changed_at (with_reason r e.pairs) s.graph k) k) number
-      ∙ ((λ i. changed_at without_reason (made i) (sym size i))
-      ∙ (reason_taken t (nodes_in s) has.goal r (map traced e.premises.items) has.effects.0 ∙ sym graph_now)))
 
   pub fares : (traces : List Node) (tried : Tried) → traces ≡ tableau_then.graph → GraphFares traces tried → (system : System Reason) → IsItsSearch s system → FaresSo system (after (reasons_in s) r) tried
   fares traces tried is so system search =

@@ -5,6 +5,7 @@ ghost use Rattle.proof_graph.specs.Nodes.{open_node, with_premise, changed_at, H
 
 use crate::effects::Effect;
 use crate::goals::{MadeNode, OpenGoal, drop_goals, push_goals};
+use bumpalo::Bump;
 use cyc_memory::OutOfMemory;
 use goto_lang::Program;
 use heap_formula::{Judgement, Pairs, Premise, Reason};
@@ -13,13 +14,13 @@ use proof_graph::{Graph, MOST_NODES};
 use std::alloc::Global;
 
 /// A partial derivation of a goal over definitions and a program. The goals stand on a stack, the next one on top; it is the
-/// last node of the graph, which else has the nodes made.
+/// last node of the graph, which else has the nodes made. What the graph holds lies in an arena that stands outside it.
 #[derive(Drop)]
-pub struct Derivation {
+pub struct Derivation<'a> {
     pub defs: Defs,
     pub program: Program,
     pub root: Judgement,
-    pub graph: Graph,
+    pub graph: Graph<'a>,
     pub made: Vec<MadeNode>,
     pub goals: Vec<OpenGoal>,
 }
@@ -37,7 +38,7 @@ pub fn has_room(bound: u32, depth: u32, made: usize, others: usize, count: usize
 }
 
 /// Makes the goal a node of the graph, and fills its parent's slot with it.
-pub fn show_goal(graph: &mut Graph, goal: &OpenGoal) -> Result<(), OutOfMemory>
+pub fn show_goal(graph: &mut Graph<'_>, goal: &OpenGoal) -> Result<(), OutOfMemory>
     requires some_node { 0 < length graph.old }
     requires few { length graph.old < 20000 }
     requires slot { HasPremise (graph.old ++ open_node goal.now.premise.judgement ∷ []) goal.now.parent goal.now.place }
@@ -50,7 +51,7 @@ pub fn show_goal(graph: &mut Graph, goal: &OpenGoal) -> Result<(), OutOfMemory>
 }
 
 /// Makes the judgement a node of the graph, without a reason.
-pub fn push_goal(graph: &mut Graph, judgement: &Judgement) -> Result<u32, OutOfMemory>
+pub fn push_goal(graph: &mut Graph<'_>, judgement: &Judgement) -> Result<u32, OutOfMemory>
     requires { length graph.old < 20000 }
     ensures number { IfOk result (λ number. number ≡ length graph.old) }
     ensures pushed { OnOk result (graph.new ≡ graph.old ++ open_node judgement.now ∷ []) }
@@ -77,7 +78,7 @@ fn first_goal(alloc: Global, goal: &Judgement) -> Result<OpenGoal, OutOfMemory>
     })
 }
 
-impl Derivation {
+impl<'a> Derivation<'a> {
     ghost use Rattle.heap_formula.specs.Words.{Each};
     ghost use Rattle.search_calculus.specs.Problems.{IsSmallProblem};
     ghost use Rattle.search_moves.specs.Limits.{IsSmall};
@@ -86,12 +87,13 @@ impl Derivation {
     ghost use Rattle.derivation_moves.specs.Derivations.{IsInOrder, IsMade, IsOfSame, MayTake, reasons_in};
 
     /// Nothing is made, and the goal is open.
-    pub fn new(
+    pub fn new_in(
         alloc: Global,
+        arena: &'a Bump,
         defs: &Defs,
         program: &Program,
         goal: &Judgement,
-    ) -> Result<Derivation, OutOfMemory>
+    ) -> Result<Derivation<'a>, OutOfMemory>
         requires problem { IsSmallProblem (theory defs.now program.now) goal.now }
         requires small { Each IsSmall defs.now.list }
         ensures order { IfOk result IsInOrder }
@@ -100,7 +102,7 @@ impl Derivation {
         ensures root { IfOk result (λ s. s.root ≡ goal.now) }
         ensures nothing { IfOk result (λ s. reasons_in s ≡ []) }
     {
-        let mut graph = Graph::new(alloc);
+        let mut graph = Graph::new_in(alloc, arena);
         let _ = push_goal(&mut graph, goal)?;
         let mut goals = Vec::new(alloc);
         goals.push(first_goal(alloc, goal)?)?;
@@ -203,7 +205,7 @@ impl Derivation {
 }
 
 /// How many premises a node has; a link has none.
-fn premise_count(graph: &Graph, node: u32, reason: &Reason) -> usize
+fn premise_count(graph: &Graph<'_>, node: u32, reason: &Reason) -> usize
     requires { node < length graph.now }
     ensures { IsPremiseCount graph.now node reason.now result }
 {

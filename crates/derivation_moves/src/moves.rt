@@ -1,8 +1,6 @@
 // The moves of the search, on a partial derivation.
-ghost use Rattle.std.specs.Prelude.{◌≡◌, ◌<◌, List, map, length, nat_lt, IfOk, OnOk};
+ghost use Rattle.std.specs.Prelude.{◌≡◌, List, map, nat_lt, IfOk};
 ghost use Rattle.heap_formula.specs.declared.proof_rules.Reason.TheVariants.{Step as by_rule, Back as by_link};
-ghost use Rattle.proof_graph.specs.Nodes.{with_reason, without_reason, changed_at};
-ghost use Rattle.proof_graph.specs.Traces.{trace_graph_of};
 ghost use Rattle.trace_pairs.specs.Graph.{Node, IsGraph};
 ghost use Rattle.trace_decision.specs.Decide.{number_of};
 ghost use Rattle.buchi_inclusion.specs.Answers.{state_limit};
@@ -17,7 +15,6 @@ use derivation_search::{Moves, Offers, Tried};
 use goto_lang::Program;
 use heap_formula::{Judgement, Link, Reason, Rule};
 use pred_defs::Defs;
-use proof_graph::{Graph, PremisePairs};
 use search_moves::offers;
 use std::alloc::Global;
 use std::collections::VecDeque;
@@ -43,23 +40,6 @@ fn as_rules(alloc: Global, rules: Vec<Rule>) -> Result<VecDeque<Reason>, OutOfMe
     Ok(reasons)
 }
 
-/// The trace graph that a reason at a node without one would make; the graph stays as it was.
-fn traces_with(
-    graph: &mut Graph,
-    node: u32,
-    reason: &Reason,
-    pairs: &PremisePairs,
-) -> Result<TraceGraph, OutOfMemory>
-    requires { node < length graph.old }
-    ensures traces { IfOk result (λ g. g ≡ trace_graph_of (changed_at (with_reason reason.now pairs.now) graph.old node)) }
-    ensures graph { OnOk result (graph.new ≡ changed_at without_reason (changed_at (with_reason reason.now pairs.now) graph.old node) node) }
-{
-    graph.set_reason(node, reason, pairs)?;
-    let traces = graph.trace_graph()?;
-    graph.clear_reason(node);
-    Ok(traces)
-}
-
 /// How a derivation with this trace graph fares.
 fn tried(alloc: Global, traces: &TraceGraph) -> Result<Tried, OutOfMemory>
     requires { IsGraph traces.now }
@@ -82,7 +62,7 @@ fn is_above(tried: Tried) -> bool
     }
 }
 
-impl Moves for Derivation {
+impl<'a> Moves for Derivation<'a> {
     type Reason = Reason;
 
     type Subject = (Defs, (Program, Judgement));
@@ -123,7 +103,7 @@ impl Moves for Derivation {
             return Ok(Tried::Refused);
         };
         let node = self.made.len() as u32;
-        let traces = traces_with(&mut self.graph, node, link, &effect.pairs)?;
+        let traces = self.graph.trace_graph_with(node, link, &effect.pairs)?;
         tried(alloc, &traces)
     }
 

@@ -2,12 +2,14 @@
 
 ghost use Rattle.std.specs.Prelude.{IsTrue, ◌≡◌, ◌<◌, ◌≤◌, ◌↔◌, [], ◌∷◌, ◌++◌, Err, length, IfOk, OnOk, OnErr};
 ghost use Rattle.trace_pairs.specs.Graph.{IsGraph};
-ghost use Rattle.proof_graph.specs.Nodes.{open_node, with_reason, without_reason, with_premise, changed_at, nodes_below, HasPremise, HasJudgement, IsViewed};
+ghost use Rattle.proof_graph.specs.Nodes.{open_node, with_reason, without_reason, with_premise, changed_at, nodes_below, HasPremise, HasJudgement};
+ghost use Rattle.proof_graph.specs.NodeViews.{IsViewed};
 ghost use Rattle.proof_graph.specs.Traces.{trace_graph_of, HasJoints};
 
-use crate::copies::copy_of_node;
-use crate::nodes::{GraphNode, GraphPremises, NodeView, PremisePairs, first_slot, premises_of};
-use crate::traces::traces_of;
+use crate::graph_nodes::{NodeView, StoredNode};
+use crate::nodes::{GraphNode, PremisePairs};
+use crate::traces::{traces_of, traces_with};
+use bumpalo::Bump;
 use cyc_memory::OutOfMemory;
 use heap_formula::{Judgement, Reason};
 use std::alloc::{AllocError, Global};
@@ -25,9 +27,11 @@ pub enum GraphFault {
 }
 
 /// The nodes of a proof under construction, numbered from 0 in the order in which they were pushed. At most 20,000.
+/// Their judgements, reasons and trace pairs lie in the arena, which takes nothing back before it goes itself.
 #[derive(Drop)]
-pub struct Graph {
-    nodes: Vec<GraphNode>,
+pub struct Graph<'a> {
+    nodes: Vec<StoredNode<'a>>,
+    arena: &'a Bump,
     alloc: Global,
 }
 
@@ -51,7 +55,7 @@ impl From<AllocError> for GraphFault {
     }
 }
 
-impl Model for Graph {
+impl<'a> Model for Graph<'a> {
     ghost use Rattle.std.specs.Prelude.{List, length, ◌≤◌};
     ghost use Rattle.proof_graph.specs.declared.nodes.GraphNode.{GraphNode};
 
@@ -62,13 +66,14 @@ impl Model for Graph {
     ghost invariant = { λ g. length g.nodes.items ≤ 20000 };
 }
 
-impl Graph {
+impl<'a> Graph<'a> {
     /// The graph without a node.
-    pub fn new(alloc: Global) -> Graph
+    pub fn new_in(alloc: Global, arena: &'a Bump) -> Graph<'a>
         ensures { result ≡ [] }
     {
         Graph {
             nodes: Vec::new(alloc),
+            arena,
             alloc,
         }
     }
@@ -99,13 +104,7 @@ impl Graph {
         if number >= MOST_NODES {
             return Err(GraphFault::TooManyNodes);
         }
-        let judgement = judgement.clone()?;
-        let premises = GraphPremises::from_vec(Vec::new(self.alloc));
-        let node = GraphNode {
-            judgement,
-            reason: None,
-            premises,
-        };
+        let node = StoredNode::open(self.alloc, self.arena, judgement)?;
         match self.nodes.push(node) {
             Ok(()) => Ok(number as u32),
             Err(_) => Err(GraphFault::OutOfMemory),
@@ -124,11 +123,8 @@ impl Graph {
         ensures replaced { OnOk result (self.new ≡ changed_at (with_reason reason.now pairs.now) self.old node) }
         ensures unchanged { OnErr result (self.new ≡ self.old) }
     {
-        let premises = premises_of(self.alloc, first_slot(reason), pairs.as_slice())?;
-        let reason = reason.clone()?;
         let place = &mut self.nodes[node as usize];
-        place.reason = Some(reason);
-        place.premises = premises;
+        place.set_reason(self.alloc, self.arena, reason, pairs.as_slice())?;
         Ok(())
     }
 
@@ -137,10 +133,8 @@ impl Graph {
         requires { node < length self.old }
         ensures { self.new ≡ changed_at without_reason self.old node }
     {
-        let none = GraphPremises::from_vec(Vec::new(self.alloc));
         let place = &mut self.nodes[node as usize];
-        place.reason = None;
-        place.premises = none;
+        place.clear_reason(self.alloc);
     }
 
     /// Puts the number of a node into slot `i` of a node's premises.
@@ -151,17 +145,17 @@ impl Graph {
         ensures unchanged { OnErr result (self.new ≡ self.old) }
     {
         let place = &mut self.nodes[node as usize];
-        place.premises.fill(i as usize, child);
+        place.set_premise(i as usize, child);
         Ok(())
     }
 
-    /// Keeps the first `n` nodes, and empties each slot that named a later one.
+    /// Keeps the first `n` nodes, and empties each slot that named a later one. The arena keeps what the others took.
     pub fn truncate(&mut self, n: u32)
         ensures { self.new ≡ nodes_below n self.old }
     {
         self.nodes.truncate(n as usize);
         for node in self.nodes.iter_mut() {
-            node.premises.empty_from(n);
+            node.empty_from(n);
         }
     }
 
@@ -171,11 +165,7 @@ impl Graph {
         ensures { IsViewed self.now i result }
     {
         let node = &self.nodes[i as usize];
-        NodeView {
-            judgement: &node.judgement,
-            reason: node.reason.as_ref(),
-            premises: node.premises.as_slice(),
-        }
+        node.parts()
     }
 
     /// A copy of a node's judgement.
@@ -184,7 +174,7 @@ impl Graph {
         ensures { IfOk result (HasJudgement self.now i) }
     {
         let node = &self.nodes[i as usize];
-        Ok(node.judgement.clone()?)
+        node.judgement(self.alloc)
     }
 
     /// The trace graph: for each node the positions of its judgement, and an edge for each slot that is filled, in order,
@@ -198,13 +188,33 @@ impl Graph {
         traces_of(self.alloc, &self.nodes)
     }
 
+    /// The trace graph that would be, had the node this reason with these pairs. The graph stays as it is, and the arena
+    /// takes nothing.
+    pub fn trace_graph_with(
+        &self,
+        node: u32,
+        reason: &Reason,
+        pairs: &PremisePairs,
+    ) -> Result<TraceGraph, OutOfMemory>
+        ensures { IfOk result (λ g. g
+            ≡ trace_graph_of (changed_at (with_reason reason.now pairs.now) self.now node)) }
+    {
+        traces_with(
+            self.alloc,
+            &self.nodes,
+            node as usize,
+            reason,
+            pairs.as_slice(),
+        )
+    }
+
     /// Copies of the nodes.
     pub fn copy_out(&self) -> Result<Vec<GraphNode>, OutOfMemory>
         ensures { IfOk result (λ v. v.items ≡ self.now) }
     {
         let mut copies = Vec::new(self.alloc);
         for node in self.nodes.iter() {
-            copies.push(copy_of_node(self.alloc, node)?)?;
+            copies.push(node.copy(self.alloc)?)?;
         }
         Ok(copies)
     }

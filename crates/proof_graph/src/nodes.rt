@@ -1,10 +1,10 @@
-//! The nodes of a proof graph as data.
+//! The nodes of a proof graph as data, and as they lie in an arena.
 
-ghost use Rattle.std.specs.Prelude.{◌≡◌, ◌<◌, length, map, IfOk};
-ghost use Rattle.proof_graph.specs.Nodes.{changed_at, with_slot, premise_below, first_slot as first_slot_of, premises_of as premises_with};
+ghost use Rattle.std.specs.Prelude.{◌≡◌, IfOk};
+ghost use Rattle.proof_graph.specs.Nodes.{premise_below, with_slot};
 
 use cyc_memory::OutOfMemory;
-use heap_formula::{Judgement, Pairs, Reason};
+use heap_formula::{Judgement, Pair, Pairs, Reason};
 use std::alloc::Global;
 use std::marker::Model;
 
@@ -76,62 +76,6 @@ impl GraphPremises {
     {
         &self.premises
     }
-
-    /// Fills slot `i`.
-    pub(crate) fn fill(&mut self, i: usize, child: u32)
-        requires { i < length self.old }
-        ensures { self.new ≡ changed_at (with_slot child) self.old i }
-    {
-        self.premises[i].slot = Some(child);
-    }
-
-    /// Empties each slot that holds `n` or above.
-    pub(crate) fn empty_from(&mut self, n: u32)
-        ensures { self.new ≡ map (premise_below n) self.old }
-    {
-        for premise in self.premises.iter_mut() {
-            premise.empty_from(n);
-        }
-    }
-}
-
-impl GraphPremise {
-    /// Empties the slot if it holds `n` or above.
-    fn empty_from(&mut self, n: u32)
-        ensures { self.new ≡ premise_below n self.old }
-    {
-        if let Some(node) = self.slot {
-            if node >= n {
-                self.slot = None;
-            }
-        }
-    }
-}
-
-/// What the slots of a reason hold at first.
-pub(crate) fn first_slot(reason: &Reason) -> Option<u32>
-    ensures { result ≡ first_slot_of reason.now }
-{
-    match reason {
-        Reason::Step(_) => None,
-        Reason::Back(link) => Some(link.target),
-    }
-}
-
-/// Premises with copies of these pairs, and with one content of all slots.
-pub(crate) fn premises_of(
-    alloc: Global,
-    slot: Option<u32>,
-    lists: &[Pairs],
-) -> Result<GraphPremises, OutOfMemory>
-    ensures { IfOk result (λ premises. premises ≡ premises_with slot lists.now) }
-{
-    let mut premises = Vec::new(alloc);
-    for pairs in lists {
-        let pairs = pairs.clone()?;
-        premises.push(GraphPremise { pairs, slot })?;
-    }
-    Ok(GraphPremises::from_vec(premises))
 }
 
 /// A node: its judgement, its reason if it has one, and the premises of that reason. A node without a reason has none.
@@ -142,10 +86,57 @@ pub struct GraphNode {
     pub premises: GraphPremises,
 }
 
-/// The parts of a node, borrowed from its graph.
-#[derive(Clone, Copy)]
-pub struct NodeView<'a> {
-    pub judgement: &'a Judgement,
-    pub reason: Option<&'a Reason>,
-    pub premises: &'a [GraphPremise],
+/// A premise whose trace pairs lie in an arena. A contract sees it as the premise.
+#[derive(Default, Drop)]
+pub struct PremiseView<'a> {
+    pub pairs: &'a [Pair],
+    pub slot: Option<u32>,
+}
+
+impl<'a> Model for PremiseView<'a> {
+    ghost use Rattle.proof_graph.specs.declared.nodes.GraphPremise.{GraphPremise};
+
+    ghost Value = { GraphPremise };
+
+    ghost view = { λ p. record { pairs = p.pairs.now; slot = p.slot } };
+}
+
+fn pairs_from(alloc: Global, pairs: &[Pair]) -> Result<Pairs, OutOfMemory>
+    ensures { IfOk result (λ copy. copy ≡ pairs.now) }
+{
+    let mut copy = Pairs::new(alloc);
+    for pair in pairs {
+        copy.push(*pair)?;
+    }
+    Ok(copy)
+}
+
+impl<'a> PremiseView<'a> {
+    /// A copy of the premise.
+    pub(crate) fn copy(&self, alloc: Global) -> Result<GraphPremise, OutOfMemory>
+        ensures { IfOk result (λ copy. copy ≡ self.now) }
+    {
+        let pairs = pairs_from(alloc, self.pairs)?;
+        Ok(GraphPremise {
+            pairs,
+            slot: self.slot,
+        })
+    }
+
+    pub(crate) fn fill(&mut self, child: u32)
+        ensures { self.new ≡ with_slot child self.old }
+    {
+        self.slot = Some(child);
+    }
+
+    /// Empties the slot if it holds `n` or above.
+    pub(crate) fn empty_from(&mut self, n: u32)
+        ensures { self.new ≡ premise_below n self.old }
+    {
+        if let Some(node) = self.slot {
+            if node >= n {
+                self.slot = None;
+            }
+        }
+    }
 }

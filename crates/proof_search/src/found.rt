@@ -13,10 +13,10 @@ use formula_reader::Problem;
 use heap_formula::{Judgement, Positions, Reason};
 use problem_files::file_for;
 use proof_file::{FileNode, FileNodes, ProofFile};
-use proof_graph::{Graph, GraphPremise};
+use proof_graph::{Graph, PremiseView};
 use std::alloc::Global;
 
-fn filled_slots(alloc: Global, premises: &[GraphPremise]) -> Result<Vec<u32>, OutOfMemory>
+fn filled_slots(alloc: Global, premises: &[PremiseView<'_>]) -> Result<Vec<u32>, OutOfMemory>
     ensures { IfOk result (λ v. v.items ≡ slots_filled premises.now) }
 {
     let mut numbers = Vec::new(alloc);
@@ -32,7 +32,7 @@ fn filled_slots(alloc: Global, premises: &[GraphPremise]) -> Result<Vec<u32>, Ou
 fn numbers(
     alloc: Global,
     reason: &Reason,
-    premises: &[GraphPremise],
+    premises: &[PremiseView<'_>],
 ) -> Result<Positions, OutOfMemory>
     ensures { IfOk result (λ p. p ≡ numbers_in reason.now premises.now) }
 {
@@ -45,7 +45,7 @@ fn numbers(
 /// A node made, with the numbers of its premises.
 fn file_node(
     alloc: Global,
-    graph: &Graph,
+    graph: &Graph<'_>,
     number: u32,
     node: &MadeNode,
 ) -> Result<FileNode, OutOfMemory>
@@ -63,7 +63,11 @@ fn file_node(
 }
 
 /// The nodes made, with the numbers of their premises as the graph has them.
-fn file_nodes(alloc: Global, graph: &Graph, made: &[MadeNode]) -> Result<Vec<FileNode>, OutOfMemory>
+fn file_nodes(
+    alloc: Global,
+    graph: &Graph<'_>,
+    made: &[MadeNode],
+) -> Result<Vec<FileNode>, OutOfMemory>
     requires { length made.now ≤ length graph.now }
     ensures { IfOk result (λ v. v.items ≡ file_nodes_from graph.now 0 made.now) }
 {
@@ -79,7 +83,7 @@ fn file_nodes(alloc: Global, graph: &Graph, made: &[MadeNode]) -> Result<Vec<Fil
 pub fn file_of(
     alloc: Global,
     problem: &Problem,
-    moves: &Derivation,
+    moves: &Derivation<'_>,
 ) -> Result<ProofFile, OutOfMemory>
     requires order { IsInOrder moves.now }
     requires closed { goals_in moves.now ≡ [] }

@@ -15,7 +15,7 @@ use std::alloc::Global;
 pub fn offers(
     alloc: Global,
     problem: &Problem,
-    graph: &Graph,
+    graph: &Graph<'_>,
     goal: u32,
 ) -> Result<Offers, OutOfMemory>
     requires { goal < length graph.now }

@@ -4,6 +4,7 @@ ghost use Rattle.derivation_search.specs.System.{search_of};
 ghost use Rattle.proof_search.specs.Outcomes.{search_for, outcome_of, IsFirst, IsProved};
 
 use crate::found::file_of;
+use bumpalo::Bump;
 use cyc_memory::OutOfMemory;
 use derivation_moves::Derivation;
 use derivation_search::{Stop, search_depth};
@@ -23,7 +24,8 @@ pub enum Proved {
 }
 
 /// Searches for a proof of the problem's goal at depth 1, 2, .. up to `depth`. At each depth partial derivations are
-/// counted, the empty one first, and links that are not admitted; the search stops where `most` are counted.
+/// counted, the empty one first, and links that are not admitted; the search stops where `most` are counted. The graph of
+/// a depth lies in an arena of its own, which is given up before the next depth, or the answer.
 pub fn prove(alloc: Global, problem: &Problem, depth: u32, most: u32) -> Result<Proved, OutOfMemory>
     requires depth { depth ≤ 40 }
     requires most { 0 < most }
@@ -33,7 +35,14 @@ pub fn prove(alloc: Global, problem: &Problem, depth: u32, most: u32) -> Result<
 {
     problem_is_within(problem);
     for bound in 1..depth + 1 {
-        let mut moves = Derivation::new(alloc, &problem.defs, &problem.program, &problem.goal)?;
+        let arena = Bump::new(alloc);
+        let mut moves = Derivation::new_in(
+            alloc,
+            &arena,
+            &problem.defs,
+            &problem.program,
+            &problem.goal,
+        )?;
         match search_depth(alloc, &mut moves, bound, most)? {
             None => {}
             Some(Stop::TooManyDerivations) => return Ok(Proved::TooManyDerivations),

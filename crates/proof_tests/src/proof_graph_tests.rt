@@ -2,6 +2,7 @@
 
 ghost use Rattle.std.specs.Prelude.{◌<◌};
 
+use bumpalo::Bump;
 use cyc_texts::Line;
 use heap_formula::{
     Args, Disjuncts, Heap, Judgement, Link, Pair, Pairs, Positions, Reason, Rule, Spatial, Subst,
@@ -57,7 +58,12 @@ enum Change {
 }
 
 /// Gives a node a reason, if there is such a node.
-fn give(graph: &mut Graph, node: u32, reason: &Reason, pairs: &PremisePairs) -> Result<(), Fail> {
+fn give(
+    graph: &mut Graph<'_>,
+    node: u32,
+    reason: &Reason,
+    pairs: &PremisePairs,
+) -> Result<(), Fail> {
     if (node as usize) < graph.len() {
         graph.set_reason(node, reason, pairs)?;
     }
@@ -65,7 +71,7 @@ fn give(graph: &mut Graph, node: u32, reason: &Reason, pairs: &PremisePairs) -> 
 }
 
 /// Fills a slot, if there is one.
-fn fill(graph: &mut Graph, node: u32, i: u32, child: u32) -> Result<(), OutOfMemory> {
+fn fill(graph: &mut Graph<'_>, node: u32, i: u32, child: u32) -> Result<(), OutOfMemory> {
     if node as usize >= graph.len() || child as usize >= graph.len() {
         return Ok(());
     }
@@ -76,7 +82,7 @@ fn fill(graph: &mut Graph, node: u32, i: u32, child: u32) -> Result<(), OutOfMem
 }
 
 /// A link to the first node, with one premise without pairs.
-fn link(alloc: Global, graph: &mut Graph, node: u32) -> Result<(), Fail> {
+fn link(alloc: Global, graph: &mut Graph<'_>, node: u32) -> Result<(), Fail> {
     let link = Link {
         target: 0,
         subst: Subst::from_vec(Vec::new(alloc)),
@@ -87,7 +93,7 @@ fn link(alloc: Global, graph: &mut Graph, node: u32) -> Result<(), Fail> {
     give(graph, node, &Reason::Back(link), &one)
 }
 
-fn make(alloc: Global, graph: &mut Graph, change: Change) -> Result<(), Fail> {
+fn make(alloc: Global, graph: &mut Graph<'_>, change: Change) -> Result<(), Fail> {
     match change {
         Change::Push => {
             graph.push_node(&judgement_of(alloc)?)?;
@@ -119,7 +125,7 @@ fn push_edges(text: &mut Line, edges: &[Edge]) -> Result<(), OutOfMemory> {
 }
 
 /// For each node whether it has a reason, how many premises, and for each of its edges the target and the number of pairs.
-fn shown(alloc: Global, graph: &Graph) -> Result<Vec<u8>, OutOfMemory> {
+fn shown(alloc: Global, graph: &Graph<'_>) -> Result<Vec<u8>, OutOfMemory> {
     let mut text = Line::new(alloc);
     let traces = graph.trace_graph()?;
     let nodes = graph.copy_out()?;
@@ -160,7 +166,8 @@ static CHANGES: &[(Change, &[u8])] = &[
 #[test]
 fn a_graph_is_changed(rt: HostRuntime) -> Result<(), Fail> {
     let alloc = rt.alloc();
-    let mut graph = Graph::new(alloc);
+    let arena = Bump::new(alloc);
+    let mut graph = Graph::new_in(alloc, &arena);
     for (change, wanted) in CHANGES {
         make(alloc, &mut graph, *change)?;
         assert_eq!(rt; shown(alloc, &graph)?.as_slice(), *wanted);
@@ -172,11 +179,35 @@ fn a_graph_is_changed(rt: HostRuntime) -> Result<(), Fail> {
     Ok(())
 }
 
+/// A judgement by which a node is known.
+fn numbered(alloc: Global, line: u32) -> Judgement {
+    Judgement::Term(line, Heap::new(alloc))
+}
+
+/// A node that is pushed after others were cut off lies behind those that were left.
+#[test]
+fn nodes_are_cut_off(rt: HostRuntime) -> Result<(), Fail> {
+    let alloc = rt.alloc();
+    let arena = Bump::new(alloc);
+    let mut graph = Graph::new_in(alloc, &arena);
+    for line in 1..4 {
+        graph.push_node(&numbered(alloc, line))?;
+    }
+    graph.truncate(1);
+    assert_eq!(rt; graph.push_node(&numbered(alloc, 4))?, 1);
+    let copies = graph.copy_out()?;
+    assert!(rt; copies.len() == 2);
+    assert!(rt; is_same_judgement(&copies[0].judgement, &numbered(alloc, 1)));
+    assert!(rt; is_same_judgement(&copies[1].judgement, &numbered(alloc, 4)));
+    Ok(())
+}
+
 #[test]
 fn the_limit(rt: HostRuntime) -> Result<(), Fail> {
     let alloc = rt.alloc();
     let judgement = judgement_of(alloc)?;
-    let mut graph = Graph::new(alloc);
+    let arena = Bump::new(alloc);
+    let mut graph = Graph::new_in(alloc, &arena);
     for number in 0..20000 {
         assert_eq!(rt; graph.push_node(&judgement)?, number);
     }
@@ -221,7 +252,8 @@ fn parts_of_a_trace_graph(rt: HostRuntime) -> Result<(), Fail> {
 #[test]
 fn parts_of_a_graph(rt: HostRuntime) -> Result<(), Fail> {
     let alloc = rt.alloc();
-    let mut graph = Graph::new(alloc);
+    let arena = Bump::new(alloc);
+    let mut graph = Graph::new_in(alloc, &arena);
     let was_empty = graph.is_empty();
     let number = graph.push_node(&judgement_of(alloc)?)?;
     assert!(rt; was_empty && number == 0 && !graph.is_empty());

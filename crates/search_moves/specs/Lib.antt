@@ -6,3 +6,4 @@ pub mod States
 pub mod Ways
 pub mod Offering
 pub mod Rooms
+pub mod Lengths

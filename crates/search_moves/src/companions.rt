@@ -1,6 +1,8 @@
 // The links to be tried at a goal.
 ghost use Rattle.std.specs.Prelude.{◌≡◌, ◌<◌, ◌++◌, Some, IfOk, OnOk, length, slice_get};
 ghost use Rattle.proof_graph.specs.declared.nodes.GraphNode.{GraphNode};
+ghost use Rattle.proof_graph.specs.HeapViews.{judgement_of};
+ghost use Rattle.search_moves.specs.Lengths.{is_as_long as has_length_of};
 ghost use Rattle.search_moves.specs.Offering.{is_companion as is_companion_of, is_entailment as is_entailment_judgement, links_to as links_to_node, candidates as candidates_of};
 
 use crate::ways::{unfolds, works_on};
@@ -8,21 +10,21 @@ use back_links::all_links;
 use cyc_memory::OutOfMemory;
 use goto_lang::Program;
 use heap_formula::{Judgement, Link};
-use proof_graph::Graph;
+use proof_graph::{Graph, JudgementView};
 use rule_book::variables_of;
 use std::alloc::Global;
 
 /// The greatest number of links to one companion.
 const MOST_LINKS: u32 = 1_000_000;
 
-fn is_entailment(judgement: &Judgement) -> bool
-    ensures { result ≡ is_entailment_judgement judgement.now }
+fn is_entailment(judgement: &JudgementView<'_>) -> bool
+    ensures { result ≡ is_entailment_judgement (judgement_of judgement.now) }
 {
-    matches!(judgement, Judgement::Entail(_, _))
+    matches!(judgement, JudgementView::Entail(_, _))
 }
 
 /// Whether a bud with the judgement may link back to node `v`.
-fn is_companion(graph: &Graph, v: u32, judgement: &Judgement) -> bool
+fn is_companion(graph: &Graph<'_>, v: u32, judgement: &Judgement) -> bool
     requires { v < length graph.now }
     ensures { (node : GraphNode) → slice_get graph.now v ≡ Some node → result ≡ is_companion_of judgement.now node }
 {
@@ -33,11 +35,23 @@ fn is_companion(graph: &Graph, v: u32, judgement: &Judgement) -> bool
     }
 }
 
+/// Whether the antecedents of two entailments have equally many spatial atoms. Where they have not there is no link.
+fn is_as_long(bud: &Judgement, companion: &JudgementView<'_>) -> bool
+    ensures { result ≡ has_length_of bud.now (judgement_of companion.now) }
+{
+    match (bud, companion) {
+        (Judgement::Entail(a, _), JudgementView::Entail(b, _)) => {
+            a.spatial().len() == b.spatial.len()
+        }
+        _ => true,
+    }
+}
+
 /// The links to node `v`, none if it is no companion.
 fn links_to(
     alloc: Global,
     program: &Program,
-    graph: &Graph,
+    graph: &Graph<'_>,
     v: u32,
     judgement: &Judgement,
 ) -> Result<Vec<Link>, OutOfMemory>
@@ -48,9 +62,12 @@ fn links_to(
     if !is_companion(graph, v, judgement) {
         return Ok(Vec::new(alloc));
     }
-    let companion = graph.node(v).judgement;
+    if !is_as_long(judgement, graph.node(v).judgement) {
+        return Ok(Vec::new(alloc));
+    }
+    let companion = graph.judgement(v)?;
     let p = variables_of(program, judgement);
-    all_links(alloc, judgement, companion, v, p, MOST_LINKS)
+    all_links(alloc, judgement, &companion, v, p, MOST_LINKS)
 }
 
 fn push_links(links: &mut Vec<Link>, more: Vec<Link>) -> Result<(), OutOfMemory>
@@ -66,7 +83,7 @@ fn push_links(links: &mut Vec<Link>, more: Vec<Link>) -> Result<(), OutOfMemory>
 pub fn candidates(
     alloc: Global,
     program: &Program,
-    graph: &Graph,
+    graph: &Graph<'_>,
     goal: u32,
     judgement: &Judgement,
 ) -> Result<Vec<Link>, OutOfMemory>

@@ -30,7 +30,7 @@ fn rules_before(alloc: Global, at: &Setting<'_>) -> Result<Vec<Rule>, OutOfMemor
 fn rules_after(
     alloc: Global,
     at: &Setting<'_>,
-    graph: &Graph,
+    graph: &Graph<'_>,
     goal: u32,
 ) -> Result<Vec<Rule>, OutOfMemory>
     requires goal { goal < length graph.now }
@@ -55,7 +55,7 @@ pub fn offers(
     alloc: Global,
     defs: &Defs,
     program: &Program,
-    graph: &Graph,
+    graph: &Graph<'_>,
     goal: u32,
 ) -> Result<Offers, OutOfMemory>
     requires goal { goal < length graph.now }
@@ -63,10 +63,11 @@ pub fn offers(
     ensures links { IfOk result (λ o. OffersLinks (theory defs.now program.now) graph.now goal o.links.items) }
     ensures rules { IfOk result (λ o. OffersRules (theory defs.now program.now) graph.now goal o.rules.items) }
 {
+    let judgement = graph.judgement(goal)?;
     let at = Setting {
         defs,
         program,
-        judgement: graph.node(goal).judgement,
+        judgement: &judgement,
     };
     let rules = rules_before(alloc, &at)?;
     if !rules.is_empty() {

@@ -143,7 +143,7 @@ pub fn rules_before(
 fn folds_behind_exec(
     alloc: Global,
     at: &Setting<'_>,
-    graph: &Graph,
+    graph: &Graph<'_>,
     goal: u32,
     line: u32,
     state: &Heap,
@@ -162,7 +162,7 @@ fn folds_behind_exec(
 pub fn rules_after(
     alloc: Global,
     at: &Setting<'_>,
-    graph: &Graph,
+    graph: &Graph<'_>,
     goal: u32,
     line: u32,
     state: &Heap,

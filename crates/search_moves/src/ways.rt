@@ -1,12 +1,13 @@
 // The nodes above a goal and before it.
-ghost use Rattle.std.specs.Prelude.{◌≡◌, ◌<◌, ◌≤◌, ◌&&◌, Bool, length, take, true};
+ghost use Rattle.std.specs.Prelude.{◌≡◌, ◌<◌, ◌≤◌, ◌&&◌, Bool, length, take, true, option_map};
 ghost use Rattle.std.specs.List.{list_any};
 ghost use Rattle.std.specs.Option.{option_copied};
+ghost use Rattle.proof_graph.specs.HeapViews.{judgement_of};
+ghost use Rattle.proof_graph.specs.ReasonViews.{rule_of, reason_of};
 ghost use Rattle.search_moves.specs.Ways.{said_by};
 ghost use Rattle.search_moves.specs.States.{is_work as is_work_rule, is_unfold as is_unfold_rule, has_rule, by_exec, is_number, fills as fills_premises, climbs, is_on_line as is_on_line_judgement, works_on as works_on_line};
 
-use heap_formula::{Judgement, Reason, Rule};
-use proof_graph::{Graph, GraphPremise, NodeView};
+use proof_graph::{Graph, JudgementView, NodeView, PremiseView, ReasonView, RuleView};
 
 /// What the rule of a node says of the way up to Exec: it is Exec; the way goes on above it; it ends there.
 #[derive(Clone, Copy)]
@@ -16,53 +17,53 @@ pub enum Way {
     Elsewhere,
 }
 
-fn is_unfold(rule: &Rule) -> bool
-    ensures { result ≡ is_unfold_rule rule.now }
+fn is_unfold(rule: &RuleView<'_>) -> bool
+    ensures { result ≡ is_unfold_rule (rule_of rule.now) }
 {
-    matches!(rule, Rule::Unfold(_))
+    matches!(rule, RuleView::Unfold(_))
 }
 
-fn is_work(rule: &Rule) -> bool
-    ensures { result ≡ is_work_rule rule.now }
+fn is_work(rule: &RuleView<'_>) -> bool
+    ensures { result ≡ is_work_rule (rule_of rule.now) }
 {
-    matches!(rule, Rule::Unfold(_) | Rule::Exec)
+    matches!(rule, RuleView::Unfold(_) | RuleView::Exec)
 }
 
 /// Whether the reason is Unfold.
-pub fn unfolds(reason: Option<&Reason>) -> bool
-    ensures { result ≡ has_rule is_unfold_rule (option_copied reason.entry) }
+pub fn unfolds(reason: Option<&ReasonView<'_>>) -> bool
+    ensures { result ≡ has_rule is_unfold_rule (option_map reason_of (option_copied reason.entry)) }
 {
     match reason {
-        Some(Reason::Step(rule)) => is_unfold(rule),
-        Some(Reason::Back(_)) | None => false,
+        Some(ReasonView::Step(rule)) => is_unfold(rule),
+        Some(ReasonView::Back(_)) | None => false,
     }
 }
 
-fn works(reason: Option<&Reason>) -> bool
-    ensures { result ≡ has_rule is_work_rule (option_copied reason.entry) }
+fn works(reason: Option<&ReasonView<'_>>) -> bool
+    ensures { result ≡ has_rule is_work_rule (option_map reason_of (option_copied reason.entry)) }
 {
     match reason {
-        Some(Reason::Step(rule)) => is_work(rule),
-        Some(Reason::Back(_)) | None => false,
+        Some(ReasonView::Step(rule)) => is_work(rule),
+        Some(ReasonView::Back(_)) | None => false,
     }
 }
 
-fn way_of_rule(rule: &Rule) -> Way
-    ensures { (above : Bool) → by_exec above rule.now ≡ said_by above result }
+fn way_of_rule(rule: &RuleView<'_>) -> Way
+    ensures { (above : Bool) → by_exec above (rule_of rule.now) ≡ said_by above result }
 {
     match rule {
-        Rule::Exec => Way::AtExec,
-        Rule::Rewrite(_, _) | Rule::Cut(_, _) => Way::Above,
+        RuleView::Exec => Way::AtExec,
+        RuleView::Rewrite(_, _) | RuleView::Cut(_, _) => Way::Above,
         _ => Way::Elsewhere,
     }
 }
 
-fn way_of(reason: Option<&Reason>) -> Way
-    ensures { (above : Bool) → has_rule (by_exec above) (option_copied reason.entry) ≡ said_by above result }
+fn way_of(reason: Option<&ReasonView<'_>>) -> Way
+    ensures { (above : Bool) → has_rule (by_exec above) (option_map reason_of (option_copied reason.entry)) ≡ said_by above result }
 {
     match reason {
-        Some(Reason::Step(rule)) => way_of_rule(rule),
-        Some(Reason::Back(_)) | None => Way::Elsewhere,
+        Some(ReasonView::Step(rule)) => way_of_rule(rule),
+        Some(ReasonView::Back(_)) | None => Way::Elsewhere,
     }
 }
 
@@ -76,7 +77,7 @@ fn names(slot: Option<u32>, v: u32) -> bool
 }
 
 /// Whether node `v` proves one of the premises.
-fn fills(premises: &[GraphPremise], v: u32) -> bool
+fn fills(premises: &[PremiseView<'_>], v: u32) -> bool
     ensures { result ≡ fills_premises v premises.now }
 {
     for premise in premises {
@@ -88,7 +89,7 @@ fn fills(premises: &[GraphPremise], v: u32) -> bool
 }
 
 /// Whether the first other rule above a node, over Rewrite and Cut, is Exec.
-pub fn came_by_exec(graph: &Graph, goal: u32) -> bool
+pub fn came_by_exec(graph: &Graph<'_>, goal: u32) -> bool
     requires { goal < length graph.now }
     ensures { result ≡ climbs graph.now goal goal }
 {
@@ -108,24 +109,24 @@ pub fn came_by_exec(graph: &Graph, goal: u32) -> bool
     false
 }
 
-fn is_on_line(judgement: &Judgement, line: u32) -> bool
-    ensures { result ≡ is_on_line_judgement line judgement.now }
+fn is_on_line(judgement: &JudgementView<'_>, line: u32) -> bool
+    ensures { result ≡ is_on_line_judgement line (judgement_of judgement.now) }
 {
     match judgement {
-        Judgement::Entail(_, _) => false,
-        Judgement::Term(other, _) => *other == line,
+        JudgementView::Entail(_, _) => false,
+        JudgementView::Term(other, _) => *other == line,
     }
 }
 
 /// Whether a node of the line unfolds or executes.
 pub fn works_on(node: NodeView<'_>, line: u32) -> bool
-    ensures { result ≡ (is_on_line_judgement line node.entry.judgement.now && has_rule is_work_rule (option_copied node.entry.reason)) }
+    ensures { result ≡ (is_on_line_judgement line (judgement_of node.entry.judgement.now) && has_rule is_work_rule (option_map reason_of (option_copied node.entry.reason))) }
 {
     is_on_line(node.judgement, line) && works(node.reason)
 }
 
 /// Whether a node before the goal is of the line, and unfolds or executes.
-pub fn was_worked_on(graph: &Graph, goal: u32, line: u32) -> bool
+pub fn was_worked_on(graph: &Graph<'_>, goal: u32, line: u32) -> bool
     requires { goal < length graph.now }
     ensures { result ≡ list_any (works_on_line line) (take goal graph.now) }
 {

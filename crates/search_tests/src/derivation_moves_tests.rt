@@ -5,6 +5,7 @@ ghost use Rattle.heap_formula.specs.Words.{Each};
 ghost use Rattle.search_moves.specs.Limits.{IsSmall};
 ghost use Rattle.derivation_moves.specs.Derivations.{IsInOrder};
 
+use bumpalo::Bump;
 use derivation_moves::{Derivation, OutOfMemory};
 use derivation_search::{Moves, Tried};
 use goto_lang::Program;
@@ -83,7 +84,7 @@ fn goal(alloc: Global) -> Result<Judgement, OutOfMemory>
 }
 
 /// The links and then the rules that the next goal is offered.
-fn offered(alloc: Global, moves: &Derivation) -> Result<Vec<Move>, OutOfMemory>
+fn offered(alloc: Global, moves: &Derivation<'_>) -> Result<Vec<Move>, OutOfMemory>
     requires { IsInOrder moves.now }
 {
     let offers = moves.offers(alloc)?;
@@ -98,7 +99,7 @@ fn offered(alloc: Global, moves: &Derivation) -> Result<Vec<Move>, OutOfMemory>
 }
 
 /// Whether a link to this node is admitted.
-fn is_admitted(alloc: Global, moves: &mut Derivation, target: u32) -> Result<bool, OutOfMemory>
+fn is_admitted(alloc: Global, moves: &mut Derivation<'_>, target: u32) -> Result<bool, OutOfMemory>
     requires { IsInOrder moves.old }
     ensures { OnOk result (IsInOrder moves.new) }
 {
@@ -121,7 +122,7 @@ enum Call {
     HasTooManyStates(bool),
 }
 
-fn is_right(alloc: Global, moves: &mut Derivation, call: Call) -> Result<bool, OutOfMemory>
+fn is_right(alloc: Global, moves: &mut Derivation<'_>, call: Call) -> Result<bool, OutOfMemory>
     requires { IsInOrder moves.old }
     ensures { OnOk result (IsInOrder moves.new) }
 {
@@ -177,7 +178,14 @@ static CALLS: &[Call] = &[
 fn a_derivation(rt: HostRuntime) -> Result<(), Fail> {
     let alloc = rt.alloc();
     let program = Program::new(alloc, &[])?;
-    let mut moves = Derivation::new(alloc, &definitions(alloc)?, &program, &goal(alloc)?)?;
+    let arena = Bump::new(alloc);
+    let mut moves = Derivation::new_in(
+        alloc,
+        &arena,
+        &definitions(alloc)?,
+        &program,
+        &goal(alloc)?,
+    )?;
     for call in CALLS {
         assert!(rt; is_right(alloc, &mut moves, *call)?);
     }

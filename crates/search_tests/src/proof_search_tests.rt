@@ -1,4 +1,5 @@
 //! Problems, and what comes of the search for their proofs.
+use bumpalo::Bump;
 use formula_reader::read_problem;
 use proof_graph::Graph;
 use proof_search::{Proved, offers, prove};
@@ -68,7 +69,8 @@ fn a_goal_is_offered(rt: HostRuntime) -> Result<(), Fail> {
     let bytes = COMPOSE.as_bytes();
     assert!(rt; bytes.len() < 10000);
     let problem = read_problem(alloc, bytes)?;
-    let mut graph = Graph::new(alloc);
+    let arena = Bump::new(alloc);
+    let mut graph = Graph::new_in(alloc, &arena);
     let goal = graph.push_node(&problem.goal)?;
     let offered = offers(alloc, &problem, &graph, goal)?;
     assert!(rt; offered.links.is_empty() && offered.rules.len() == 2);

@@ -3,6 +3,7 @@ ghost use Rattle.std.specs.Prelude.{◌≤◌, ◌<◌, IfOk, length};
 ghost use Rattle.heap_formula.specs.Words.{Each};
 ghost use Rattle.search_moves.specs.Limits.{IsSmall};
 
+use bumpalo::Bump;
 use cyc_memory::OutOfMemory;
 use goto_lang::{Program, ProgramFault};
 use heap_formula::{
@@ -472,7 +473,7 @@ fn one_premise(alloc: Global) -> Result<PremisePairs, OutOfMemory> {
     Ok(PremisePairs::from_vec(lists))
 }
 
-fn push_earlier(graph: &mut Graph, alloc: Global, earlier: Earlier) -> Result<(), GraphFault> {
+fn push_earlier(graph: &mut Graph<'_>, alloc: Global, earlier: Earlier) -> Result<(), GraphFault> {
     let node = graph.push_node(&judgement(alloc, earlier.0)?)?;
     let pairs = one_premise(alloc)?;
     graph.set_reason(node, &Reason::Step(rule_of(earlier.1)), &pairs)?;
@@ -480,7 +481,7 @@ fn push_earlier(graph: &mut Graph, alloc: Global, earlier: Earlier) -> Result<()
 }
 
 // Fills the slot, if there is one.
-fn fill(graph: &mut Graph, node: u32, child: u32) -> Result<(), OutOfMemory> {
+fn fill(graph: &mut Graph<'_>, node: u32, child: u32) -> Result<(), OutOfMemory> {
     if node as usize >= graph.len() || child as usize >= graph.len() {
         return Ok(());
     }
@@ -490,8 +491,8 @@ fn fill(graph: &mut Graph, node: u32, child: u32) -> Result<(), OutOfMemory> {
     graph.set_premise(node, 0, child)
 }
 
-fn graph_of(alloc: Global, row: Row) -> Result<Graph, GraphFault> {
-    let mut graph = Graph::new(alloc);
+fn graph_of<'a>(alloc: Global, arena: &'a Bump, row: Row) -> Result<Graph<'a>, GraphFault> {
+    let mut graph = Graph::new_in(alloc, arena);
     for earlier in row.before {
         push_earlier(&mut graph, alloc, *earlier)?;
     }
@@ -499,7 +500,7 @@ fn graph_of(alloc: Global, row: Row) -> Result<Graph, GraphFault> {
     Ok(graph)
 }
 
-fn fill_slots(graph: &mut Graph, before: &[Earlier]) -> Result<(), OutOfMemory>
+fn fill_slots(graph: &mut Graph<'_>, before: &[Earlier]) -> Result<(), OutOfMemory>
     requires { length before.now ≤ 64 }
 {
     for (node, earlier) in before.iter().enumerate() {
@@ -564,7 +565,8 @@ fn are_targets(links: &[Link], wanted: &[u32]) -> bool {
 fn offered(alloc: Global, row: Row) -> Result<Option<Offers>, Fail> {
     let defs = definitions(alloc)?;
     let program = program(alloc)?;
-    let mut graph = graph_of(alloc, row)?;
+    let arena = Bump::new(alloc);
+    let mut graph = graph_of(alloc, &arena, row)?;
     if row.before.len() > 64 || row.before.len() >= graph.len() {
         return Ok(None);
     }

@@ -5,7 +5,7 @@ use Rattle.search_moves.specs.Limits.{IsSmall}
 use Rattle.search_moves.specs.Settings.{theory}
 use Rattle.search_calculus.specs.Problems.{IsSmallProblem}
 use Rattle.derivation_moves.proofs.Begins.{begun, first_goal}
-use Rattle.derivation_moves.proofs.derivation.Derivation.new.Goals as goal
+use Rattle.derivation_moves.proofs.derivation.Derivation.new_in.Goals as goal
 
 pub returns-clause-order : goal.returns-clause-order
 returns-clause-order c =
@@ -16,4 +16,4 @@ returns-clause-order c =
     (subst (λ (d : _). Each IsSmall d.list) (sym c.in_ok-defs.ensures.cases) c.requires.small)
     c.new.ensures.items
     (c.in_ok-push.ensures.items ∙ (ap (λ (gs : _). gs ++ c.in_ok-first_goal.field-0 ∷ []) c.new-goals.ensures.items ∙ (ap (λ (g : _). g ∷ []) (c.in_ok-first_goal.ensures ∙ ap first_goal (sym c.in_ok-root.ensures.cases)))))
-    (c.in_ok-push_goal.ensures.pushed ∙ (ap (λ (ns : _). ns ++ open_node c.args.goal.now ∷ []) c.new-graph.ensures ∙ ap (λ (j : _). open_node j ∷ []) (sym c.in_ok-root.ensures.cases)))
+    (c.in_ok-push_goal.ensures.pushed ∙ (ap (λ (ns : _). ns ++ open_node c.args.goal.now ∷ []) c.new_in-graph.ensures ∙ ap (λ (j : _). open_node j ∷ []) (sym c.in_ok-root.ensures.cases)))
