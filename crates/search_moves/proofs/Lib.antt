@@ -3,3 +3,4 @@ pub mod Climbing
 pub mod LowerNodes
 pub mod FewCases
 mod CaseNumbers
+mod LeftNumbers
