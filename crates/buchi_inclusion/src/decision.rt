@@ -306,6 +306,30 @@ fn decide_class(
     search_class(alloc, graph, table, least)
 }
 
+/// The number after the greatest place at which an entry dies by a move of the row, 0 if none does.
+fn deaths_in(row: &[Transition]) -> u32
+    ensures { (k : ℕ) → result ≤ k → IsAbsent (Dies k) row.now }
+{
+    let mut above: u32 = 0;
+    for item in row {
+        if let Event::Dies(place) = item.event {
+            above = above.max(place as u32 + 1);
+        }
+    }
+    above
+}
+
+/// The number after the greatest place at which an entry dies by a move, 0 if none does.
+fn deaths_of(rows: &[Vec<Transition>]) -> u32
+    ensures { (k : ℕ) → result ≤ k → IsAbsentFrom (Dies k) rows.now }
+{
+    let mut above: u32 = 0;
+    for row in rows {
+        above = above.max(deaths_in(row));
+    }
+    above
+}
+
 /// A lasso that doesn't progress, if there is a bad cycle.
 pub fn decide(
     alloc: Global,
@@ -320,7 +344,8 @@ pub fn decide(
     if found.is_some() {
         return Ok(found);
     }
-    for place in 0..32 {
+    let above = deaths_of(&table.rows).min(32);
+    for place in 0..above as u8 {
         let found = decide_class(alloc, graph, table, Event::Dies(place))?;
         if found.is_some() {
             return Ok(found);

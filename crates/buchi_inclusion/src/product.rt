@@ -133,12 +133,12 @@ pub fn explore(alloc: Global, graph: &TraceGraph, limit: u32) -> Result<Option<T
     requires graph { IsGraph graph.now }
     ensures { IfOk result (λ o. MatchOption o (HasMoreThan graph.now limit) (λ t. IsTable graph.now (states_of t.states) t.rows.items × (length (states_of t.states) ≤ limit))) }
 {
-    let mut states = IndexSet::new(alloc);
+    let mut states = IndexSet::with_capacity(alloc, graph.len())?;
     intern(&mut states, first_state(graph))?;
     if count_of(&states) > limit as usize {
         return Ok(None);
     }
-    let mut rows = Vec::new(alloc);
+    let mut rows = Vec::with_capacity(alloc, graph.len())?;
     for place in 0..usize::MAX {
         if place >= count_of(&states) {
             return Ok(Some(Table { states, rows }));

@@ -26,20 +26,20 @@ use Rattle.rule_table.proofs.Reflects.{both, and_true}
 use Rattle.search_moves.specs.Trying.{has_premises}
 use Rattle.search_moves.specs.Rooms.{has_room_for}
 
-most_append : {X : Type 0} (f : X → ℕ) (n : ℕ) (xs ys : List X) → max_of (map f xs) ≤ n → max_of (map f ys) ≤ n → max_of (map f (xs ++ ys)) ≤ n
+pub most_append : {X : Type 0} (f : X → ℕ) (n : ℕ) (xs ys : List X) → max_of (map f xs) ≤ n → max_of (map f ys) ≤ n → max_of (map f (xs ++ ys)) ≤ n
 most_append f n [] ys a b = b
 most_append f n (x ∷ xs) ys a b = let r = most_append f n xs ys (omega arith) b in omega arith
 
-most_without : {X : Type 0} (f : X → ℕ) (n k : ℕ) (xs : List X) → max_of (map f xs) ≤ n → max_of (map f (without k xs)) ≤ n
+pub most_without : {X : Type 0} (f : X → ℕ) (n k : ℕ) (xs : List X) → max_of (map f xs) ≤ n → max_of (map f (without k xs)) ≤ n
 most_without f n k [] a = a
 most_without f n zero (x ∷ xs) a = omega arith
 most_without f n (suc k) (x ∷ xs) a = let r = most_without f n k xs (omega arith) in omega arith
 
-most_less : {X : Type 0} (f g : X → ℕ) → ((x : X) → f x ≤ g x) → (xs : List X) → max_of (map f xs) ≤ max_of (map g xs)
+pub most_less : {X : Type 0} (f g : X → ℕ) → ((x : X) → f x ≤ g x) → (xs : List X) → max_of (map f xs) ≤ max_of (map g xs)
 most_less f g h [] = omega arith
 most_less f g h (x ∷ xs) = let a = h x in let r = most_less f g h xs in omega arith
 
-length_without : {X : Type 0} (k : ℕ) (xs : List X) (x : X) → slice_get xs k ≡ Some x → length (without k xs) + 1 ≡ length xs
+pub length_without : {X : Type 0} (k : ℕ) (xs : List X) (x : X) → slice_get xs k ≡ Some x → length (without k xs) + 1 ≡ length xs
 length_without k [] x e = cc
 length_without zero (y ∷ xs) x e = omega arith
 length_without (suc k) (y ∷ xs) x e = let r = length_without k xs x e in omega arith
@@ -67,7 +67,7 @@ exists_less b =
 
 -- ---- the terms of a case
 
-argument_number : (n : ℕ) (ts : List Term) (i : ℕ) → max_of (map number_bound ts) ≤ n → number_bound (slice_index_or ts i Nil) ≤ n
+pub argument_number : (n : ℕ) (ts : List Term) (i : ℕ) → max_of (map number_bound ts) ≤ n → number_bound (slice_index_or ts i Nil) ≤ n
 argument_number n [] zero h = omega arith
 argument_number n [] (suc i) h = omega arith
 argument_number n (t ∷ ts) zero h = omega arith
@@ -79,21 +79,21 @@ case_number ts e m n h k (Univ i) l = argument_number n ts i h
 case_number ts e m n h k (Exist i) l = omega arith
 
 module _ (g : Term → Term) (m n : ℕ) (f : (t : Term) → number_bound t ≤ m → number_bound (g t) ≤ n) where
-  terms_in : (ts : List Term) → max_of (map number_bound ts) ≤ m → max_of (map number_bound (map g ts)) ≤ n
+  pub terms_in : (ts : List Term) → max_of (map number_bound ts) ≤ m → max_of (map number_bound (map g ts)) ≤ n
   terms_in [] h = omega arith
   terms_in (t ∷ ts) h = let a = f t (omega arith) in let r = terms_in ts (omega arith) in omega arith
 
-  pures_in : (xs : List Pure) → max_of (map (most_in_pure number_bound) xs) ≤ m → max_of (map (most_in_pure number_bound) (map (in_pure g) xs)) ≤ n
+  pub pures_in : (xs : List Pure) → max_of (map (most_in_pure number_bound) xs) ≤ m → max_of (map (most_in_pure number_bound) (map (in_pure g) xs)) ≤ n
   pures_in [] h = omega arith
   pures_in (Eq t u ∷ xs) h = let a = f t (omega arith) in let b = f u (omega arith) in let r = pures_in xs (omega arith) in omega arith
   pures_in (Neq t u ∷ xs) h = let a = f t (omega arith) in let b = f u (omega arith) in let r = pures_in xs (omega arith) in omega arith
 
-  spatials_in : (xs : List Spatial) → max_of (map (most_in_spatial number_bound) xs) ≤ m → max_of (map (most_in_spatial number_bound) (map (in_spatial g) xs)) ≤ n
+  pub spatials_in : (xs : List Spatial) → max_of (map (most_in_spatial number_bound) xs) ≤ m → max_of (map (most_in_spatial number_bound) (map (in_spatial g) xs)) ≤ n
   spatials_in [] h = omega arith
   spatials_in (Cell t ts ∷ xs) h = let a = f t (omega arith) in let b = terms_in ts (omega arith) in let r = spatials_in xs (omega arith) in omega arith
   spatials_in (Pred p ts ∷ xs) h = let b = terms_in ts (omega arith) in let r = spatials_in xs (omega arith) in omega arith
 
-arguments_within : (n : ℕ) (xs : List Spatial) (k q : ℕ) (ts : List Term) → slice_get xs k ≡ Some (Pred q ts) → max_of (map (most_in_spatial number_bound) xs) ≤ n → max_of (map number_bound ts) ≤ n
+pub arguments_within : (n : ℕ) (xs : List Spatial) (k q : ℕ) (ts : List Term) → slice_get xs k ≡ Some (Pred q ts) → max_of (map (most_in_spatial number_bound) xs) ≤ n → max_of (map number_bound ts) ≤ n
 arguments_within n [] k q ts e h = cc
 arguments_within n (x ∷ xs) zero q ts e h =
     let same : x ≡ Pred q ts = cc in let s = ap (λ (y : Spatial). most_in_spatial number_bound y) same in omega (arith, s)
@@ -101,7 +101,7 @@ arguments_within n (x ∷ xs) (suc k) q ts e h = arguments_within n xs k q ts e 
 
 -- ---- the premise
 
-answered : (p q : Bool) (f g : RuleFault) (ps : List Premise) → p ≡ true → q ≡ true → has_premises (needs p f (needs q g (Ok ps))) ≡ true
+pub answered : (p q : Bool) (f g : RuleFault) (ps : List Premise) → p ≡ true → q ≡ true → has_premises (needs p f (needs q g (Ok ps))) ≡ true
 answered true true f g ps a b = refl
 answered true false f g ps a b = cc
 answered false q f g ps a b = cc

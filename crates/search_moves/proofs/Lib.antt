@@ -4,3 +4,4 @@ pub mod LowerNodes
 pub mod FewCases
 mod CaseNumbers
 pub mod Unlinked
+mod LeftNumbers

@@ -1,13 +1,21 @@
 // Whether a rule that no limit stops has a fault, told without its premises.
-ghost use Rattle.std.specs.Prelude.{◌≡◌, ℕ, true, MatchOption, slice_get, None, Some};
+ghost use Rattle.std.specs.Prelude.{◌≡◌, ◌≤◌, ℕ, map, true, MatchOption, slice_get, None, Some};
 ghost use Rattle.heap_formula.specs.declared.terms.Term.{Term};
-ghost use Rattle.rule_table.specs.Table.{choose_answer, frame_answer, instantiate_answer, pure_right_answer, unfold_right_answer};
-ghost use Rattle.search_moves.specs.Rooms.{has_room_for as case_has_room};
+ghost use Rattle.heap_formula.specs.Words.{max_of};
+ghost use Rattle.rule_table.specs.Answer.{every, heap_numbers};
+ghost use Rattle.rule_table.specs.RuleBook.{variables_of as program_variables_of};
+ghost use Rattle.rule_table.specs.Table.{choose_answer, frame_answer, instantiate_answer, pure_right_answer, unfold_answer, unfold_right_answer};
+ghost use Rattle.search_moves.specs.Rooms.{has_room_for as case_has_room, has_room_from as case_has_room_from, judgement_numbers};
 ghost use Rattle.search_moves.specs.Trying.{has_premises};
 
+use goto_lang::Program;
 use heap_formula::{Heap, Judgement, Spatial, Variables, bound_in_heap};
 use pred_defs::Defs;
-use rule_table::{follows, is_same_atom, is_short, is_universal_pure, is_universal_spatial};
+use rule_book::variables_of;
+use rule_table::{
+    antecedent, are_disjuncts_short, follows, is_same_atom, is_short, is_universal_pure,
+    is_universal_spatial,
+};
 
 /// Whether one of several disjuncts may be kept alone.
 pub fn may_choose(judgement: &Judgement, k: u32) -> bool
@@ -97,4 +105,64 @@ pub fn has_room_right(defs: &Defs, judgement: &Judgement, k: u32, c: u32) -> boo
         return false;
     };
     has_room_for(defs.most(), a, b, case)
+}
+
+fn numbers_in_heaps(heaps: &[Heap]) -> u32
+    ensures value { result ≡ max_of (map heap_numbers heaps.now) }
+    ensures fits { result ≤ 65536 }
+{
+    let mut most = 0;
+    for heap in heaps {
+        most = most.max(bound_in_heap(Variables::All, heap));
+    }
+    most
+}
+
+/// 1 plus the greatest number of a variable of the judgement, 0 if it has none.
+fn numbers_in(judgement: &Judgement) -> u32
+    ensures value { result ≡ judgement_numbers judgement.now }
+    ensures fits { result ≤ 65536 }
+{
+    match judgement {
+        Judgement::Entail(a, bs) => {
+            bound_in_heap(Variables::All, a).max(numbers_in_heaps(bs.heaps()))
+        }
+        Judgement::Term(_, a) => bound_in_heap(Variables::All, a),
+    }
+}
+
+fn has_room_from(most: u8, number: u32, a: &Heap, case: &Heap) -> bool
+    requires { number ≤ 65536 }
+    ensures { result ≡ case_has_room_from most number a.now case.now }
+{
+    a.pure().len() + case.pure().len() <= 64
+        && a.spatial().len() + case.spatial().len() <= most as usize + 1
+        && number + bound_in_heap(Variables::All, case) <= 65535
+}
+
+fn have_room_from(most: u8, number: u32, a: &Heap, cases: &[Heap]) -> bool
+    requires { number ≤ 65536 }
+    ensures { result ≡ every (case_has_room_from most number a.now) cases.now }
+{
+    for case in cases {
+        if !has_room_from(most, number, a, case) {
+            return false;
+        }
+    }
+    true
+}
+
+/// Whether each case has room enough on the left side, so that Unfold has no fault; where not, it may have one.
+pub fn has_room_left(defs: &Defs, program: &Program, judgement: &Judgement, k: u32) -> bool
+    ensures { result ≡ true → has_premises (unfold_answer defs.now.most defs.now.list
+        (program_variables_of program.now judgement.now) judgement.now k) ≡ true }
+{
+    let a = antecedent(judgement);
+    let Some(Spatial::Pred(q, _)) = a.spatial_at(k) else {
+        return false;
+    };
+    let variables = variables_of(program, judgement) as u32;
+    let number = variables.max(numbers_in(judgement));
+    are_disjuncts_short(defs.most(), judgement)
+        && have_room_from(defs.most(), number, a, defs.cases(*q))
 }

@@ -5,7 +5,9 @@ ghost use Rattle.fold_offers.specs.Places.{first_that};
 ghost use Rattle.search_moves.specs.Trying.{goes as goes_at};
 ghost use Rattle.search_moves.specs.Settings.{theory_of};
 
-use crate::faults::{has_room_right, may_choose, may_drop_right, may_frame, may_instantiate};
+use crate::faults::{
+    has_room_left, has_room_right, may_choose, may_drop_right, may_frame, may_instantiate,
+};
 use cyc_memory::OutOfMemory;
 use goto_lang::Program;
 use heap_formula::{Judgement, Rule, RuleError};
@@ -30,6 +32,7 @@ pub fn goes(alloc: Global, at: &Setting<'_>, rule: &Rule) -> Result<bool, OutOfM
         Rule::PureRight(k) => Ok(may_drop_right(at.judgement, *k)),
         Rule::Instantiate(_, _) => Ok(may_instantiate(at.judgement)),
         Rule::Frame(i, k) => Ok(may_frame(at.judgement, *i, *k)),
+        Rule::Unfold(k) if has_room_left(at.defs, at.program, at.judgement, *k) => Ok(true),
         Rule::UnfoldRight(k, c) if has_room_right(at.defs, at.judgement, *k, *c) => Ok(true),
         _ => has_answer(alloc, at, rule),
     }

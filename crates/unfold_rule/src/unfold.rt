@@ -12,13 +12,12 @@ ghost use Rattle.rule_table.specs.Soundness.{HasVariables};
 ghost use Rattle.rule_table.specs.Table.{unfold_answer};
 ghost use Rattle.unfold_rule.specs.Unfolding.{unfolded_by, case_fits};
 
-use crate::joining::joined_heap;
+use crate::joining::{joined_heap, kept_atoms};
 use cyc_memory::OutOfMemory;
 use heap_formula::{Args, Heap, Judgement, Pair, Pairs, Premise, RuleError, RuleFault, Spatial};
 use pred_defs::Defs;
 use rule_table::{
-    Change, antecedent, are_disjuncts_short, atoms_without, fresh, numbered, pairs_of_kept,
-    with_antecedent,
+    Change, antecedent, are_disjuncts_short, fresh, numbered, pairs_of_kept, with_antecedent,
 };
 use std::alloc::Global;
 
@@ -76,7 +75,7 @@ fn unfolded_premise(
 {
     let a = antecedent(judgement);
     let _most = a.spatial().len();
-    let kept = atoms_without(alloc, a.spatial(), k)?;
+    let kept = kept_atoms(alloc, a.spatial(), k, case.spatial().len())?;
     let pairs = unfolded_pairs(alloc, &kept, k, case.spatial())?;
     let heap = joined_heap(alloc, a.pure(), kept, change, case)?;
     Ok(Premise {
@@ -123,7 +122,7 @@ fn unfolded_premises(
     requires fit { every (case_fits most judgement.now) cases.now ≡ true }
     ensures { IfOk result (λ v. v.items ≡ map (unfolded_by judgement.now k (changed change.now)) cases.now) }
 {
-    let mut premises = Vec::new(alloc);
+    let mut premises = Vec::with_capacity(alloc, cases.len())?;
     for case in cases {
         premises.push(unfolded_premise(alloc, judgement, k, change, case)?)?;
     }

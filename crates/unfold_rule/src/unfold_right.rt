@@ -11,11 +11,11 @@ ghost use Rattle.rule_table.specs.Changes.{changed, IsSmall};
 ghost use Rattle.rule_table.specs.Table.{calls, right_term, unfold_right_answer};
 ghost use Rattle.unfold_rule.specs.Unfolding.{right_by, right_fits};
 
-use crate::joining::joined_heap;
+use crate::joining::{joined_heap, kept_atoms};
 use cyc_memory::OutOfMemory;
 use heap_formula::{Args, Heap, Judgement, Premise, RuleError, RuleFault, Spatial, exists_in_heap};
 use pred_defs::Defs;
-use rule_table::{Change, atoms_without, is_short, numbered, one_premise, with_disjunct};
+use rule_table::{Change, is_short, numbered, one_premise, with_disjunct};
 use std::alloc::Global;
 
 fn right_premises(
@@ -32,7 +32,7 @@ fn right_premises(
     requires spatial_fits { length b.now.spatial + length case.now.spatial ≤ 33 }
     ensures { IfOk result (λ v. v.items ≡ one (right_by a.now b.now k (changed change.now) case.now)) }
 {
-    let kept = atoms_without(alloc, b.spatial(), k)?;
+    let kept = kept_atoms(alloc, b.spatial(), k, case.spatial().len())?;
     let heap = joined_heap(alloc, b.pure(), kept, change, case)?;
     one_premise(alloc, with_disjunct(alloc, a, heap)?)
 }
