@@ -4,7 +4,7 @@ use cyc_memory::OutOfMemory;
 use heap_formula::Rule;
 
 /// What is to be reached at a node.
-#[derive(Clone, Copy, Debug, PartialEq, Eq)]
+#[derive(Clone, Copy)]
 pub enum Aim {
     /// A proof of the entailment with so much fuel: unfolding, Cut and Split take one each.
     Entail(u32),
