@@ -1,5 +1,5 @@
 -- The links that a search adds to those that it has found, from the choices that it has made.
-use Rattle.std.specs.Prelude.{ℕ, List, [], ◌∷◌, ◌++◌, length, take, drop, Bool, ◌||◌, not, if◌then◌else◌, Option}
+use Rattle.std.specs.Prelude.{ℕ, ◌≡◌, ◌≤◌, List, [], ◌∷◌, ◌++◌, length, take, drop, Bool, ◌||◌, not, if◌then◌else◌, Option}
 use Rattle.heap_formula.specs.declared.terms.Term.{Term}
 use Rattle.heap_formula.specs.declared.atoms.Pure.{Pure}
 use Rattle.heap_formula.specs.declared.atoms.Spatial.{Spatial}
@@ -10,7 +10,7 @@ use Rattle.rule_table.specs.Answer.{disjuncts}
 use Rattle.back_links.specs.declared.prospects.Search.{Search}
 use Rattle.back_links.specs.Branches.{if_right, by_entries, by_pairs, by_places}
 use Rattle.back_links.specs.Listing.{link_of, number_choices, value_choices, stands_in_spatial}
-use Rattle.back_links.specs.Prospects.{could_match_some, could_place, could_send, has_value, have_values}
+use Rattle.back_links.specs.Prospects.{could_match_some, could_match_those, could_place, could_send, has_value, have_values}
 
 -- an atom without the variable, or one that could match the other
 abbrev pub could_match_with : ℕ → List Pure → Bindings → Spatial → Option Spatial → Bool
@@ -33,6 +33,13 @@ value_is_left s places n = has_value s.bud.now s.companion.now s.variables s.val
 
 abbrev pub values_are_left : Search → List ℕ → Spatial → Bool
 values_are_left s places x = have_values s.bud.now s.companion.now s.variables s.values.now places x s.sources.now
+
+-- for each list of pairs it is enough to test the variable at the placed atoms from the first one on
+abbrev pub MayStartAt : Search → List ℕ → ℕ → ℕ → Type 0
+MayStartAt s places n first =
+    (first ≤ length places) × ((first ≤ length (antecedent s.companion.now).spatial) × ((pairs : Bindings) →
+    could_match_those n (antecedent s.bud.now).pure (antecedent s.bud.now).spatial pairs (drop first places) (drop first (antecedent s.companion.now).spatial)
+    ≡ could_match_those n (antecedent s.bud.now).pure (antecedent s.bud.now).spatial pairs places (antecedent s.companion.now).spatial))
 
 -- ---- the links that the choices lead to
 

@@ -3,7 +3,7 @@ ghost use Rattle.std.specs.Prelude.{◌≡◌, ◌≤◌, ◌<◌, ◌||◌, len
 ghost use Rattle.std.specs.Option.{option_copied};
 ghost use Rattle.heap_formula.specs.Judgements.{antecedent as antecedent_of};
 ghost use Rattle.back_links.specs.Prospects.{lookup as looked_up, known as known_term, could_equal as terms_could, could_equal_all as all_could, could_match as atoms_could, could_match_some, could_match_those as those_could, known_pure as pure_known, could_follow as pure_could, could_follow_those as those_could_follow, could_keep as could_stay, kept_variables as variables_kept, could_stand as stand_could, could_take as take_could, are_alike as alike, has_cover as cover_left, have_covers as covers_left};
-ghost use Rattle.back_links.specs.Searching.{could_match_with as could_match_atom, may_send, value_is_left, values_are_left};
+ghost use Rattle.back_links.specs.Searching.{MayStartAt, could_match_with as could_match_atom, may_send, value_is_left, values_are_left};
 
 use crate::covering::covers_at;
 use crate::shapes::{all_have_shapes, has_shapes, same_shapes};
@@ -190,22 +190,51 @@ fn could_keep_one(kept: u16, pairs: &[(u16, Term)], n: u16) -> bool
     kept <= n || could_keep(lookup(pairs, n), n)
 }
 
-/// Whether the pairs, for these places of the companion's first spatial atoms, send the variable to a term that fits.
-pub fn could_send(search: &Search<'_>, places: &[u32], pairs: &[(u16, Term)], n: u16) -> bool
+/// How many of the first placed atoms of the companion are passed over since they have not the variable.
+pub fn first_with(search: &Search<'_>, places: &[u32], n: u16) -> usize
+    ensures { MayStartAt search.now places.now n result }
+{
+    let xs = antecedent(search.companion).spatial();
+    for i in 0..places.len() {
+        if i >= xs.len() || stands_in_spatial(n, &xs[i]) {
+            return i;
+        }
+    }
+    places.len()
+}
+
+/// Whether the pairs, for these places of the companion's first spatial atoms, send the variable to a term that fits. The
+/// first atoms, so many as `first` says, are passed over.
+pub fn could_send(
+    search: &Search<'_>,
+    places: &[u32],
+    first: usize,
+    pairs: &[(u16, Term)],
+    n: u16,
+) -> bool
+    requires { MayStartAt search.now places.now n first }
     ensures { result ≡ may_send search.now places.now pairs.now n }
 {
     let a = antecedent(search.bud);
     let b = antecedent(search.companion);
     could_keep_one(kept_variables(search.companion, search.variables), pairs, n)
-        && could_match_those(n, a.pure(), a.spatial(), pairs, places, b.spatial())
+        && could_match_those(
+            n,
+            a.pure(),
+            a.spatial(),
+            pairs,
+            &places[first..],
+            &b.spatial()[first..],
+        )
         && could_follow_those(n, a.pure(), pairs, b.pure())
 }
 
 fn has_value(search: &Search<'_>, places: &[u32], n: u16) -> bool
     ensures { result ≡ value_is_left search.now places.now n }
 {
+    let first = first_with(search, places, n);
     for v in search.values {
-        if could_send(search, places, &[(n, *v)], n) {
+        if could_send(search, places, first, &[(n, *v)], n) {
             return true;
         }
     }
