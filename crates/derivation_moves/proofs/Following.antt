@@ -1,6 +1,6 @@
 -- What the moves tell of the search.
 use Rattle.std.proofs.Common.{◌≡◌, ℕ, ◌+◌, ◌-◌, ◌<◌, inl, inr, Bool, true, ◌&&◌, ◌||◌, List, [], ◌∷◌, ◌++◌, map, reverse, Option, Some, None, slice_get, length, length-append, eqb-true, arith, refl, sym, ap, subst, ◌∙◌}
-use Rattle.std.specs.Prelude.{nat_eq, nat_lt, nat_le, Result, Ok, Err, OnOk}
+use Rattle.std.specs.Prelude.{nat_eq, nat_lt, nat_le}
 use Rattle.std.proofs.lemmas.Bool.{cases_Bool}
 use Rattle.std.proofs.lemmas.List.{length-map, length-reverse}
 use Rattle.std.proofs.lemmas.Option.{slice_get_within}
@@ -12,7 +12,7 @@ use Rattle.heap_formula.specs.declared.proof_rules.Reason.TheVariants.{Step, Bac
 use Rattle.heap_formula.specs.declared.proof_rules.Link.{Link}
 use Rattle.heap_formula.specs.declared.proof_rules.Rule.{Rule}
 use Rattle.search_moves.specs.Offering.{links_offered, rules_offered, OffersLinks, OffersRules}
-use Rattle.proof_graph.specs.Nodes.{open_node, with_reason, without_reason, changed_at}
+use Rattle.proof_graph.specs.Nodes.{open_node, with_reason, changed_at}
 use Rattle.proof_graph.specs.Traces.{trace_graph_of}
 use Rattle.search_moves.specs.Trying.{Theory}
 use Rattle.buchi_inclusion.specs.Answers.{state_limit}

@@ -1,5 +1,5 @@
 -- Entailments whose antecedents differ in length have no links.
-use Rattle.std.proofs.Common.{◌≡◌, ℕ, zero, suc, ◌+◌, Bool, true, false, List, [], ◌∷◌, map, length, take, Option, None, Some, if◌then◌else◌, arith, refl, ap, leb-true, ◌∙◌}
+use Rattle.std.proofs.Common.{◌≡◌, ℕ, zero, suc, Bool, true, false, List, [], ◌∷◌, map, length, take, Option, None, Some, if◌then◌else◌, arith, refl, ap, leb-true, ◌∙◌}
 use Rattle.std.specs.Prelude.{nat_eq, nat_le}
 use Rattle.std.specs.List.{filter}
 use Rattle.std.specs.Option.{is_none}
