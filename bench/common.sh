@@ -81,6 +81,40 @@ even_lists() { # COUNT: so many lists, the last of any length
     }'
 }
 
+# A problem of which no proof of depth 16 is found, and many partial ones are made: three lists of odd length and one more.
+odd_lists() { # LAST RIGHT: the predicate of the last list, and the right side
+  cat <<END
+cyclist problem 1;
+pred ls(a, b) { a = b : emp | true : a -> (c) * ls(c, b) };
+pred even(a, b) { a = b : emp | true : a -> (c) * odd(c, b) };
+pred odd(a, b) { true : a -> (c) * even(c, b) };
+goal true : odd(x, y) * odd(y, z) * odd(z, u) * $1(u, v) |- true : $2;
+end;
+END
+}
+
+# A problem whose search passes the limit of derivations, and tries many links on the way.
+two_ways() {
+  cat <<'END'
+cyclist problem 1;
+pred p() { true : p() * q(nil, nil) | true : p() * u -> (u) * p() };
+pred q(a, b) { true : emp };
+goal true : p() |- true : emp;
+end;
+END
+}
+
+# A program that allocates pairs for ever: it does not halt, and the links between its states are many.
+endless_pairs() {
+  cat <<'END'
+cyclist problem 1;
+line 1 : x := new 2;
+line 2 : goto 1;
+goal from 1 given true : emp;
+end;
+END
+}
+
 # Runs the program on the file "$work/file" with these words, and prints seconds, memory and the first line of its answer.
 show() { # NAME WORD..
   local name=$1 spent kilobytes

@@ -1,8 +1,9 @@
 #!/usr/bin/env bash
 # bench/search.sh [PROGRAM [SEEKER]]: seconds, and megabytes of memory at the most, of `prove` on each problem of examples/, and of
 # the free search on each of them and of examples/seek/, with the answers: the nodes and links of the proof that was written, or
-# its line; of `fo` on the first-order problems of bench/first-order/; of two long searches; and of two searches that end at the
-# limit of derivations, with small judgements and with large ones. Wants GNU time. Prints figures; it passes and fails nothing.
+# its line; of `fo` on the first-order problems of bench/first-order/; of two long searches; and derivations a second of four: one
+# that finds nothing, two that pass the limit of derivations, with small judgements and with large ones, and one at a program.
+# Wants GNU time. Prints figures; it passes and fails nothing.
 . "$(dirname "${BASH_SOURCE[0]}")/common.sh"
 seeker=${2:-$top/crates/cyclist_seek/out/cyclist_seek}
 [ -x "$seeker" ] || { echo "no program at $seeker; build it with $top/seek" >&2; exit 1; }
@@ -32,19 +33,21 @@ for row in '3 17' '4 14'; do
   even_lists "$count" > "$work/$count-even-lists.problem"
   measure "$work/$count-even-lists.problem" "$program" prove --depth "$depth"
 done
-echo 'prove, to the limit of derivations'
-cat > "$work/two-cases.problem" <<'TEXT'
-cyclist problem 1;
-pred p() { true : p() | true : p() };
-goal true : emp |- true : p();
-end;
-TEXT
-measure "$work/two-cases.problem" "$program" prove --depth 40
-cat > "$work/growing-cases.problem" <<'TEXT'
-cyclist problem 1;
-pred p0() { true : p0() * p1(nil, nil) | true : p0() * u -> (u) * p0() };
-pred p1(a, b) { true : emp };
-goal true : p0() |- true : emp;
-end;
-TEXT
-measure "$work/growing-cases.problem" "$program" prove --depth 7
+
+# Seconds, derivations a second and memory of a search. The derivations are those of all its depths, a link that is refused being
+# one: they are what the search goes through, so that they are the same for each program that keeps its clauses. They were counted
+# by the least limit of derivations that a depth does not reach; at the last depth of a search that ends so they are the limit.
+rate() { # NAME DERIVATIONS WORD..: of a problem in "$work/file"
+  local name=$1 derivations=$2 spent kilobytes
+  shift 2
+  /usr/bin/time -q -f '%e %M' -o "$work/time" "$program" "$@" < "$work/file" > "$work/answer"
+  read -r spent kilobytes < "$work/time"
+  printf '%-28s %8.2f s %9.0f a second %4d MB  %s\n' "$name" "$spent" "$(echo "$derivations / ($spent + 0.01)" | bc)" \
+    "$((kilobytes / 1024))" "$(head -n 1 "$work/answer")"
+}
+
+echo 'prove, derivations a second'
+odd_lists odd 'ls(x, y) * odd(y, v)' > "$work/file"; rate odd-lists 1310618 prove --depth 16
+odd_lists ls 'odd(x, v)' > "$work/file"; rate odd-and-any 1091412 prove --depth 16
+two_ways > "$work/file"; rate two-ways 1526063 prove --depth 7
+endless_pairs > "$work/file"; rate endless-pairs 17682 prove --depth 16
