@@ -1,0 +1,6 @@
+pub mod Tokens
+pub mod StepLaws
+pub mod After
+pub mod Beginning
+pub mod Fresh
+pub mod PieceLaws
