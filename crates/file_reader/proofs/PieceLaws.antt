@@ -1,5 +1,12 @@
 -- What feeding a text in pieces comes to.
-use Rattle.std.proofs.Common.{◌≡◌, ℕ, List, [], ◌∷◌, ◌++◌, Result, Ok, Err, refl, sym, ap, subst, ◌∙◌, inl, inr, append_assoc}
+use Rattle.std.specs.Str.{chars}
+use Rattle.cyc_lex.specs.declared.place.Stop.TheVariants as stops
+use Rattle.cyc_lex.specs.Lexing.{lex, comment_len}
+use Rattle.piecewise_lex.specs.Feeding.{valid_chars, after_valid, is_cut}
+use Rattle.piecewise_lex.specs.Taking.{reading, tokens_in}
+use Rattle.piecewise_lex.proofs.Fed.{fault-stays}
+use Rattle.piecewise_lex.proofs.Takes.{takes-bytes, stops-bad}
+use Rattle.std.proofs.Common.{◌≡◌, Bool, true, false, ℕ, List, [], ◌∷◌, ◌++◌, Result, Ok, Err, refl, sym, ap, subst, ◌∙◌, inl, inr, append_assoc}
 use Rattle.cyc_lex.specs.declared.fault.ReadFault.{ReadFault}
 use Rattle.cyc_lex.specs.declared.fault.ReadFault.TheVariants as faults
 use Rattle.cyc_lex.specs.declared.place.Bad.{Bad}
@@ -76,3 +83,17 @@ told-reads bytes (Err (faults.Limit what k l c)) h = fresh-read bytes (Err (faul
 
 pub pieces-read : (pieces : List (List ℕ)) (new : Parts) (answer : Result ProofFile ReadFault) → AreFed fresh pieces new → Tells (outcome new []) answer → Reads (bytes_of pieces) answer
 pieces-read pieces new answer fed h = told-reads (bytes_of pieces) answer (fed-tells fresh new pieces answer fed h)
+
+-- ---- the tokens of one statement, at the front of a text behind which bytes stand that make no character yet
+
+pub statement-comes : (stage after : Stage) (p q : Place) (c d : Bool) (text rest tail : List ℕ) (ts : List Placed) → ((more : List ℕ) → tokens_from p c (text ++ more) ≡ with_tokens ts (tokens_from q d (rest ++ more))) → Comes (parts stage p c (text ++ tail)) ts (parts after q d (rest ++ tail))
+statement-comes stage after p q c d text rest tail ts law more =
+    ap (tokens_from p c) (append_assoc text tail more) ∙ law (tail ++ more) ∙ ap (λ bytes. with_tokens ts (tokens_from q d bytes)) (sym (append_assoc rest tail more))
+
+pub statement-bad : (stage : Stage) (p q : Place) (c : Bool) (bytes text : List ℕ) (bad : Bad) → chars text ≡ valid_chars bytes → is_cut bytes ≡ true → tokens_in (reading p c text) ≡ Err (bad, q) → IsBad (parts stage p c bytes) bad q
+statement-bad stage p q c bytes text bad same cut e more =
+    fault-stays p c bytes more (bad, q) (takes-bytes p c bytes text (after_valid bytes) (Err (stops.At bad q)) same refl cut e)
+
+pub bytes-bad : (stage : Stage) (p q : Place) (c : Bool) (bytes text : List ℕ) (bad : Bad) → chars text ≡ valid_chars bytes → is_cut bytes ≡ false → lex false p (comment_len c (chars text)) (chars text) ≡ Err (bad, q) → IsBad (parts stage p c bytes) bad q
+bytes-bad stage p q c bytes text bad same whole e more =
+    fault-stays p c bytes more (bad, q) (stops-bad p c bytes text (stops.At bad q) same whole e)

@@ -27,8 +27,9 @@ use Rattle.file_reader.specs.Outcomes.{Said, Outcome, Faulty, Agrees, or_else, t
 
 -- ---- from the first node on
 
--- what the statements so far say: the version, the predicates' names and arities, the number of lines, and values alone of
--- definitions, lines and nodes; how many nodes and how many tokens came, the first flaw of them, if any, and whether "end;" came
+-- what the statements so far say: the version, the predicates' names and arities, the number of lines, and values alone
+-- of definitions, lines and nodes; how many nodes and how many tokens came, the first flaw of them, if any, and whether
+-- "end;" came
 pub record Begun : Type 0 where
   pub version : Version
   pub headings : List Heading
@@ -45,11 +46,17 @@ pub record Begun : Type 0 where
 abbrev pub nodes_fault : ℕ → List Heading → ℕ → ℕ → ℕ → List Placed → List Node → Option ReadFault
 nodes_fault most hs lines n before ts [] = None
 nodes_fault most hs lines n before ts (x ∷ xs) =
-    or_else (told_flaw before (take (node_span x) ts) (node_flaw most hs lines n before x)) (nodes_fault most hs lines (suc n) (before + node_span x) (drop (node_span x) ts) xs)
+    or_else (told_flaw before (take (node_span x) ts) (node_flaw most hs lines n before x))
+    (nodes_fault most hs lines (suc n) (before + node_span x) (drop (node_span x) ts) xs)
 
 -- with these nodes after those that came
 abbrev pub said_with : Begun → List Node → Said
-said_with b xs = record { version = b.version; definitions = b.definitions; program = b.program; nodes = b.nodes ++ map (node_value b.headings) xs }
+said_with b xs = record {
+  version = b.version;
+  definitions = b.definitions;
+  program = b.program;
+  nodes = b.nodes ++ map (node_value b.headings) xs;
+}
 
 -- the nodes that words spell, and "end;", where it has not come
 abbrev pub nodes_left : Bool → List Word → Result (List Node) ℕ
@@ -58,12 +65,13 @@ nodes_left true ws = read_whole (left_of Ended) ws >>= λ u. Ok []
 
 abbrev pub nodes_outcome : Begun → List Placed → Result (List Node) ℕ → Outcome
 nodes_outcome b ts (Err left) = Faulty (syntax_fault b.tokens ts left)
-nodes_outcome b ts (Ok xs) = settled (or_else b.flaw (nodes_fault (most_spatial b.version) b.headings b.lines b.count b.tokens ts xs)) (said_with b xs)
+nodes_outcome b ts (Ok xs) =
+    settled (or_else b.flaw (nodes_fault (most_spatial b.version) b.headings b.lines b.count b.tokens ts xs)) (said_with b xs)
 
 -- ---- what a reader holds
 
--- before the first node all tokens so far, since a use may name a later predicate, and a jump a later line; a syntax fault, where
--- one came; a lexical fault, which goes before all others; or that memory ran out
+-- before the first node all tokens so far, since a use may name a later predicate, and a jump a later line; a syntax
+-- fault, where one came; a lexical fault, which goes before all others; or that memory ran out
 pub data Stage : Type 0 where
   Head : List Placed → Stage
   Nodes : Begun → Stage

@@ -14,7 +14,7 @@ use Rattle.proof_file.specs.Values.{definition_value, program_value, node_value}
 use Rattle.file_reader.specs.Outcomes.{or_else, told_flaw}
 use Rattle.file_reader.specs.Stages.{Begun, Stage, ahead}
 
--- the stage, with these tokens taken, is the other one: what the text comes to is the same, whatever tokens come behind them
+-- the stage, with these tokens taken, is the other one: what the text comes to is the same, whatever tokens come behind
 abbrev pub Takes : Stage → List Placed → Stage → Type 0
 Takes old ts new = (us : List Placed) → ahead old (ts ++ us) ≡ ahead new us
 

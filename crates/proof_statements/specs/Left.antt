@@ -8,7 +8,8 @@ use Rattle.command_syntax.specs.Grammar as commands
 use Rattle.proof_syntax.specs.Trees.{Definition, Line, Node, File}
 use Rattle.proof_syntax.specs.Grammar.{cyclist_word, proof_word, pred_word, node_word, last_word, semicolon, version, variable, lines, definition, definitions, node, more_nodes, nodes, file}
 
--- where a statement is to come: the first of all, a definition or what may follow one, a line or a node, a node or the last of all
+-- where a statement is to come: the first of all; a definition, or what may follow one; a line or a node; a node, or the
+-- last of all
 pub data Part : Type 0 where
   First : Part
   Preds : Version → Part

@@ -11,8 +11,8 @@ ghost use Rattle.proof_statements.specs.Left.{Part, At, Statement, left_of, stat
 pub use read_statements::{first_statement, line_or_node, node_or_end, pred_or_later};
 pub use tree::{LineOrNode, NodeOrEnd, PredOrLater};
 
-/// A statement comes off the front of what is left of a file: whatever words follow, what is read of all is the statement,
-/// joined with what is read of those words as what is left behind it.
+/// A statement comes off the front of what is left of a file: whatever words follow, what is read of all is the
+/// statement, joined with what is read of those words as what is left behind it.
 pub fn statements_come_off_the_front()
     ensures { (p : Part) (ws more : List Word) (t : Statement p) → (statement_of p).read ws ≡ Ok (t, [])
         → (left_of (At p)).read (ws ++ more) ≡ joined (join p t) ((left_of (next p t)).read more) }
