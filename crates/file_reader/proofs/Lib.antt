@@ -4,3 +4,4 @@ pub mod After
 pub mod Beginning
 pub mod Fresh
 pub mod PieceLaws
+pub mod Sizes

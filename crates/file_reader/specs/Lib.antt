@@ -2,3 +2,4 @@ pub mod Outcomes
 pub mod Stages
 pub mod Steps
 pub mod Pieces
+pub mod Passing

@@ -1,15 +1,16 @@
 -- What a reader of a proof file does with the tokens of a statement.
-use Rattle.std.specs.Prelude.{◌≡◌, suc, ◌+◌, true, false, List, [], ◌∷◌, ◌++◌, length, map}
+use Rattle.std.specs.Prelude.{◌≡◌, ℕ, suc, ◌+◌, true, false, List, [], ◌∷◌, ◌++◌, length, map}
+use Rattle.std.proofs.Common.{inl, inr}
 use Rattle.cyc_lex.specs.Placed.{Placed}
 use Rattle.cyc_lex.specs.Word.{Word, word_of}
 use Rattle.heap_syntax.specs.declared.version.Version.{Version}
 use Rattle.heap_syntax.specs.Versions.{most_spatial}
-use Rattle.heap_reader.specs.Spans.{total}
+use Rattle.heap_reader.specs.Spans.{total, line_span}
 use Rattle.proof_syntax.specs.Trees.{Definition, Line, Node, File}
 use Rattle.proof_syntax.specs.Grammar.{file}
-use Rattle.proof_statements.specs.Left.{Reached, At, Nodes as Among, Left, left_of, joined}
+use Rattle.proof_statements.specs.Left.{Part, First, Preds, Lines, Nodes as Among, Reached, At, Left, left_of, Statement, joined}
 use Rattle.proof_file.specs.Flaws.{headings, node_flaw, first_node, file_flaw}
-use Rattle.proof_file.specs.Spans.{node_span}
+use Rattle.proof_file.specs.Spans.{definition_span, variable_span, node_span}
 use Rattle.proof_file.specs.Values.{definition_value, program_value, node_value}
 use Rattle.file_reader.specs.Outcomes.{or_else, told_flaw}
 use Rattle.file_reader.specs.Stages.{Begun, Stage, ahead}
@@ -17,6 +18,17 @@ use Rattle.file_reader.specs.Stages.{Begun, Stage, ahead}
 -- the stage, with these tokens taken, is the other one: what the text comes to is the same, whatever tokens come behind
 abbrev pub Takes : Stage → List Placed → Stage → Type 0
 Takes old ts new = (us : List Placed) → ahead old (ts ++ us) ≡ ahead new us
+
+-- how many tokens a statement has
+abbrev pub span_of : (p : Part) → Statement p → ℕ
+span_of First v = 4
+span_of (Preds v) (inl d) = definition_span d
+span_of (Preds v) (inr (inl l)) = line_span variable_span l
+span_of (Preds v) (inr (inr n)) = node_span n
+span_of (Lines v) (inl l) = line_span variable_span l
+span_of (Lines v) (inr n) = node_span n
+span_of Among (inl n) = node_span n
+span_of Among (inr u) = 2
 
 -- ---- before the first node
 

@@ -2,7 +2,9 @@
 //! any bytes that may follow. Each law is the contract of a function that does nothing.
 #![tactic(auto)]
 
-ghost use Rattle.std.specs.Prelude.{◌≡◌, ◌++◌, ◌∷◌, [], true, false, suc, length, map, List, ℕ, Bool, None, Result, Ok, Err};
+mod passing;
+
+ghost use Rattle.std.specs.Prelude.{◌≡◌, ◌++◌, ◌∷◌, [], true, false, suc, length, map, List, ℕ, Bool, None, Some, Result, Ok, Err};
 ghost use Rattle.std.specs.Str.{chars};
 ghost use Rattle.std.proofs.Common.{inl, inr};
 ghost use Rattle.cyc_lex.specs.declared.fault.ReadFault.{ReadFault};
@@ -22,10 +24,12 @@ ghost use Rattle.proof_statements.specs.Left.{Part, At, First, Left, Statement, 
 ghost use Rattle.proof_statements.specs.Left.{Nodes as Among};
 ghost use Rattle.proof_file.specs.declared.file.ProofFile.{ProofFile};
 ghost use Rattle.proof_file.specs.Reading.{IsRead, Reads};
-ghost use Rattle.file_reader.specs.Outcomes.{syntax_fault};
-ghost use Rattle.file_reader.specs.Stages.{Begun, Stage, Head, Nodes, Dead, Unlexed, Parts, fresh, outcome, FileFrom};
-ghost use Rattle.file_reader.specs.Steps.{Takes, Leads, Spell, begun_of, with_node, with_end};
+ghost use Rattle.file_reader.specs.Outcomes.{syntax_fault, settled};
+ghost use Rattle.file_reader.specs.Stages.{Begun, Stage, Head, Nodes, Dead, Unlexed, Parts, fresh, ahead, said_with, outcome, FileFrom};
+ghost use Rattle.file_reader.specs.Steps.{Takes, Leads, Spell, begun_of, span_of, with_node, with_end};
 ghost use Rattle.file_reader.specs.Pieces.{Tells, AreFed, bytes_of, parts, IsOpen, Comes, IsBad};
+
+pub use passing::{Passed, pass_tokens};
 
 /// A reader that was fed nothing stands for what is read of all that it will be fed.
 pub fn fresh_readers_read_the_text()
@@ -83,6 +87,12 @@ pub fn tokens_are_kept_before_the_first_node()
         → Takes (Head ts) [] (Dead (syntax_fault 0 ts (suc left))) }
 {}
 
+/// What is read as a statement has so many words as its tree tells.
+pub fn statements_have_spans()
+    ensures { (p : Part) (ws : List Word) (t : Statement p) → (statement_of p).read ws ≡ Ok (t, [])
+        → length ws ≡ span_of p t }
+{}
+
 /// Where the first nodes are read, values may stand for all tokens so far.
 pub fn values_stand_for_tokens()
     ensures { (ts : List Placed) (v : Version) (ds : List Definition) (ls : List Line) (xs : List Node)
@@ -101,4 +111,6 @@ pub fn values_stand_for_nodes()
     ensures ended { (b : Begun) (t : Placed) (ts : List Placed) → b.ended ≡ true → the_end.value (word_of t) ≡ None
         → Takes (Nodes b) (t ∷ ts) (Dead (syntax_fault b.tokens (t ∷ ts) (suc (length ts)))) }
     ensures dead { (fault : ReadFault) (ts : List Placed) → Takes (Dead fault) ts (Dead fault) }
+    ensures end { (b : Begun) (t : Placed) → b.ended ≡ true → the_end.value (word_of t) ≡ Some tt
+        → ahead (Nodes b) (t ∷ []) ≡ settled b.flaw (said_with b []) }
 {}
