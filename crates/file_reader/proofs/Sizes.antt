@@ -1,6 +1,5 @@
 -- How many tokens a statement has, and what the end of the text comes to.
-use Rattle.std.proofs.Common.{◌≡◌, ℕ, ◌+◌, Bool, true, List, [], ◌∷◌, ◌++◌, length, Option, Some, None, Result, Ok, refl, ap, ◌∙◌, arith, length-append, inl, inr}
-use Rattle.std.specs.Prelude.{map}
+use Rattle.std.proofs.Common.{◌≡◌, ℕ, ◌+◌, Bool, true, List, [], ◌∷◌, length, Option, Some, None, Result, Ok, refl, ap, ◌∙◌, arith, length-append, inl, inr}
 use Rattle.std.proofs.lemmas.List.{append-nil}
 use Rattle.cyc_lex.specs.declared.fault.ReadFault.{ReadFault}
 use Rattle.cyc_lex.specs.Placed.{Placed}
@@ -18,7 +17,7 @@ use Rattle.proof_statements.specs.Left.{Part, First, Preds, Lines, Nodes as Amon
 use Rattle.proof_statements.proofs.LeftLaws.{statement-law}
 use Rattle.proof_file.specs.Spans.{variable_span}
 use Rattle.proof_file.proofs.SpanLaws.{node_words}
-use Rattle.file_reader.specs.Outcomes.{Outcome, or_else, settled}
+use Rattle.file_reader.specs.Outcomes.{or_else, settled}
 use Rattle.file_reader.specs.Stages.{Begun, Nodes, said_with, nodes_left, nodes_outcome, ahead}
 use Rattle.file_reader.specs.Steps.{span_of}
 
