@@ -236,13 +236,13 @@ command-closed version v (Change x c) d = change-closed v c d
 
 -- ---- lines
 
-line-law : {V : Type 0} (version : Version) (v : Syntax V) → VariableLaw v → Lawful (line version v)
+pub line-law : {V : Type 0} (version : Version) (v : Syntax V) → VariableLaw v → Lawful (line version v)
 unfolding line
 line-law {V = V} version v a =
     shaped-law {A = ℕ × CommandTree V} to_line from_line Any _ (λ x f. (refl, tt)) (λ l h. refl)
     (after-law line_word _ (keyword-law _) (seq-law (one number) (after colon (command version v)) (one-law number number-law) (after-law colon (command version v) (symbol-law _) (command-law version v a)) (λ x y r fx fy h. Stops-never ((after colon (command version v)).words y ++ r))))
 
-line-closed : {V : Type 0} (version : Version) (v : Syntax V) (l : LineTree V) (d : Word) → (line version v).more l d ≡ false
+pub line-closed : {V : Type 0} (version : Version) (v : Syntax V) (l : LineTree V) (d : Word) → (line version v).more l d ≡ false
 unfolding line
 line-closed version v l d = command-closed version v l.command d
 

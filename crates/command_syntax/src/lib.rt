@@ -10,5 +10,5 @@ mod tree;
 
 pub use form::{VariableForm, WrittenVariable};
 pub use line_writing::write_lines;
-pub use read_lines::lines;
+pub use read_lines::{line, lines};
 pub use tree::{ChangeTree, CommandTree, LineTree, OperandTree};

@@ -12,8 +12,9 @@ use cyc_grammar::{Cursor, Refusal};
 use heap_syntax::Version;
 use std::alloc::Global;
 
+/// Reads one line of a program of a version.
 #[tactic(auto, unfolding(crate::specs::Grammar::line))]
-fn line<'a, F: VariableForm<'a>>(
+pub fn line<'a, F: VariableForm<'a>>(
     form: &F,
     version: Version,
     cursor: &mut Cursor<'_, 'a>,

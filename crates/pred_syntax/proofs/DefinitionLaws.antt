@@ -154,7 +154,7 @@ cases-closed : (hs : List Heap) (d : Word) → cases.more hs d ≡ false
 unfolding cases
 cases-closed hs d = listed-closed some_heap bar closing_brace (heap (terms false)) hs d
 
-definition-law : Lawful definition
+pub definition-law : Lawful definition
 unfolding definition
 definition-law =
     shaped-law {A = List ℕ × (ℕ × List Heap)} to_definition from_definition Any _ (λ x f. (refl, tt)) (λ c h. refl)
@@ -166,7 +166,7 @@ definition-law =
     (λ x y r fx fy h. Stops-never ((after closing (after opening_brace (before cases semicolon))).words y ++ r))))
     (λ x y r fx fy h. Stops-never ((after opening (seq (one number) (after closing (after opening_brace (before cases semicolon))))).words y ++ r))))
 
-definition-closed : (x : Definition) (d : Word) → definition.more x d ≡ false
+pub definition-closed : (x : Definition) (d : Word) → definition.more x d ≡ false
 unfolding definition
 definition-closed x d = refl
 

@@ -1,7 +1,7 @@
 mod Fitting
-mod SpanLaws
+pub mod SpanLaws
 mod ReadableNodes
-mod WithinSpans
+pub mod WithinSpans
 mod TreesAgain
 pub mod ValuesAgain
 pub mod Readings

@@ -70,7 +70,7 @@ module _ (most : ℕ) (hs : List Heading) where
   reason_before k Exec = tt
   reason_before k (Drop i) = tt
 
-  node_before : (count n k : ℕ) (x : Node) → Before (node_flaw most hs count n k x) (k + node_span x)
+  pub node_before : (count n k : ℕ) (x : Node) → Before (node_flaw most hs count n k x) (k + node_span x)
   node_before count n k x =
       let m = k + node_span x in
       let p = k + 1 + judgement_span x.judgement in

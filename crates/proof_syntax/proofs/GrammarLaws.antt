@@ -305,7 +305,7 @@ premises-apart r (n ∷ ns) rest f = reason-end (to_word.word tt) refl r f
 
 -- ---- nodes
 
-node-law : Lawful node
+pub node-law : Lawful node
 unfolding node
 node-law =
     shaped-law {A = Judgement × (Reason × List ℕ)} to_node from_node Any _ (λ x f. (refl, tt)) (λ n h. refl)
@@ -313,7 +313,7 @@ node-law =
     (seq-law judgement (seq reason premises) judgement-law (seq-law reason premises reason-law premises-law (λ x y r fx fy h. premises-apart x y r fx))
     (λ x y r fx fy h. closed-stops judgement (λ x d f. judgement-closed x d) x fx ((seq reason premises).words y ++ r))))
 
-node-closed : (n : Node) (d : Word) → node.more n d ≡ false
+pub node-closed : (n : Node) (d : Word) → node.more n d ≡ false
 unfolding node
 node-closed n d = premises-closed n.premises d
 
@@ -323,30 +323,30 @@ node-starts x = refl
 
 -- ---- nodes
 
-more_nodes-law : Lawful more_nodes
+pub more_nodes-law : Lawful more_nodes
 unfolding more_nodes
 more_nodes-law = many-law (is_one node_word) node node-law (record { starts = λ x f. node-starts x; apart = λ x d f h. node-closed x d })
 
-more_nodes-close : (ns : List Node) → more_nodes.more ns (last_word.word tt) ≡ false
+pub more_nodes-close : (ns : List Node) → more_nodes.more ns (last_word.word tt) ≡ false
 unfolding more_nodes
 more_nodes-close [] = refl
 more_nodes-close (x ∷ []) = rw (node-closed x (last_word.word tt)) refl
 more_nodes-close (x ∷ y ∷ ys) = more_nodes-close (y ∷ ys)
 
-nodes-law : Lawful nodes
+pub nodes-law : Lawful nodes
 unfolding nodes
 nodes-law =
     shaped-law {A = Node × List Node} cons (uncons some_node) IsSome _ (λ x f. (refl, omega arith)) (λ ns h. uncons-cons some_node ns h)
     (seq-law node (before more_nodes last_word) node-law (before-law more_nodes last_word (keyword-law _) more_nodes-law (λ ns f. more_nodes-close ns))
     (λ x y r fx fy h. closed-stops node (λ x d f. node-closed x d) x fx ((before more_nodes last_word).words y ++ r)))
 
-nodes-closed : (ns : List Node) (d : Word) → nodes.more ns d ≡ false
+pub nodes-closed : (ns : List Node) (d : Word) → nodes.more ns d ≡ false
 unfolding nodes
 nodes-closed ns d = refl
 
 -- ---- lines
 
-dollar_variables : VariableLaw variable
+pub dollar_variables : VariableLaw variable
 unfolding variable
 dollar_variables = record {
   law = after-law dollar (one number) (symbol-law _) (one-law number number-law);
@@ -360,7 +360,7 @@ dollar_variables = record {
   not_star = λ n f. refl;
 }
 
-lines-apart : (v : Version) (ls : List Line) (ns : List Node) (rest : List Word) → Stops ((lines v).more ls) ((before nodes semicolon).words ns ++ rest)
+pub lines-apart : (v : Version) (ls : List Line) (ns : List Node) (rest : List Word) → Stops ((lines v).more ls) ((before nodes semicolon).words ns ++ rest)
 unfolding nodes node
 lines-apart v ls ns rest = lines-end v variable (node_word.word tt) refl ls
 
@@ -371,7 +371,7 @@ definitions-apart v ds (l ∷ ls) ns rest = definitions-end (commands.line_word.
 
 -- ---- files
 
-contents-law : (v : Version) → Lawful (contents v)
+pub contents-law : (v : Version) → Lawful (contents v)
 contents-law v =
     after-law semicolon _ (symbol-law _)
     (seq-law definitions (seq (lines v) (before nodes semicolon)) definitions-law

@@ -32,7 +32,7 @@ command-same (If t b u n) = rw (operand-same t, operand-same u) refl
 command-same (StoreAtNil n t) = ap (λ u. StoreAtNil n u) (operand-same t)
 command-same (Change v c) = ap (λ d. Change v d) (change-same c)
 
-line-same : (l : Line) → line_of number_itself l ≡ l
+pub line-same : (l : Line) → line_of number_itself l ≡ l
 line-same l = rw (command-same l.command) refl
 
 pub lines-same : (ls : List Line) → map (line_of number_itself) ls ≡ ls

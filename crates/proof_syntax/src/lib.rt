@@ -11,7 +11,8 @@ mod tree;
 mod write_files;
 mod write_reasons;
 
-pub use read_files::read_tree;
+pub use line_lists::line;
+pub use read_files::{node, read_tree};
 pub use tree::{
     DefinitionTree, EntailmentTree, FileTree, HeapTree, JudgementTree, LineTree, LinkTree,
     NodeTree, PairTree, PureTree, ReasonTree, SideTree, SpatialTree, TermTree,

@@ -3,7 +3,8 @@
 ghost use Rattle.std.specs.Prelude.{◌≡◌, OnOk};
 ghost use Rattle.cyc_lex.specs.Writing.{write_all};
 ghost use Rattle.cyc_grammar.specs.Giving.{Gives};
-ghost use Rattle.proof_syntax.specs.Grammar.{lines};
+ghost use Rattle.command_syntax.specs.Grammar as commands;
+ghost use Rattle.proof_syntax.specs.Grammar.{lines, variable};
 
 use crate::form::DollarVariables;
 use crate::tree::LineTree;
@@ -12,6 +13,13 @@ use cyc_lex::WordWriter;
 use cyc_memory::OutOfMemory;
 use heap_syntax::Version;
 use std::alloc::Global;
+
+/// Reads one line of the program.
+pub fn line(version: Version, cursor: &mut Cursor<'_, '_>) -> Result<LineTree, Refusal>
+    ensures { Gives (λ x. (x, cursor.new)) result ((commands.line version variable).read cursor.old) }
+{
+    command_syntax::line(&DollarVariables, version, cursor)
+}
 
 /// Reads the lines of the program, of which there may be none.
 pub fn lines(

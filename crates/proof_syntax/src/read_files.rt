@@ -79,8 +79,9 @@ fn premises(alloc: Global, cursor: &mut Cursor<'_, '_>) -> Result<Vec<u32>, Refu
     Ok(items)
 }
 
+/// Reads one node.
 #[tactic(auto, unfolding(crate::specs::Grammar::node))]
-fn node<'a>(alloc: Global, cursor: &mut Cursor<'_, 'a>) -> Result<NodeTree<'a>, Refusal>
+pub fn node<'a>(alloc: Global, cursor: &mut Cursor<'_, 'a>) -> Result<NodeTree<'a>, Refusal>
     ensures { Gives (λ x. (node_of x, cursor.new)) result (node.read cursor.old) }
 {
     cursor.keyword("node")?;

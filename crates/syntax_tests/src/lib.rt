@@ -14,6 +14,8 @@ mod piecewise_lex_tests;
 #[cfg(test)]
 mod problem_syntax_tests;
 #[cfg(test)]
+mod proof_statements_tests;
+#[cfg(test)]
 mod proof_syntax_tests;
 #[cfg(test)]
 mod texts;

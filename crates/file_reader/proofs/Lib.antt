@@ -1,0 +1,7 @@
+pub mod Tokens
+pub mod StepLaws
+pub mod After
+pub mod Beginning
+pub mod Fresh
+pub mod PieceLaws
+pub mod Sizes

@@ -1,0 +1,5 @@
+pub mod Outcomes
+pub mod Stages
+pub mod Steps
+pub mod Pieces
+pub mod Passing

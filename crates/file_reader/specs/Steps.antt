@@ -1,0 +1,92 @@
+-- What a reader of a proof file does with the tokens of a statement.
+use Rattle.std.specs.Prelude.{◌≡◌, ℕ, suc, ◌+◌, true, false, List, [], ◌∷◌, ◌++◌, length, map}
+use Rattle.std.proofs.Common.{inl, inr}
+use Rattle.cyc_lex.specs.Placed.{Placed}
+use Rattle.cyc_lex.specs.Word.{Word, word_of}
+use Rattle.heap_syntax.specs.declared.version.Version.{Version}
+use Rattle.heap_syntax.specs.Versions.{most_spatial}
+use Rattle.heap_reader.specs.Spans.{total, line_span}
+use Rattle.proof_syntax.specs.Trees.{Definition, Line, Node, File}
+use Rattle.proof_syntax.specs.Grammar.{file}
+use Rattle.proof_statements.specs.Left.{Part, First, Preds, Lines, Nodes as Among, Reached, At, Left, left_of, Statement, joined}
+use Rattle.proof_file.specs.Flaws.{headings, node_flaw, first_node, file_flaw}
+use Rattle.proof_file.specs.Spans.{definition_span, variable_span, node_span}
+use Rattle.proof_file.specs.Values.{definition_value, program_value, node_value}
+use Rattle.file_reader.specs.Outcomes.{or_else, told_flaw}
+use Rattle.file_reader.specs.Stages.{Begun, Stage, ahead}
+
+-- the stage, with these tokens taken, is the other one: what the text comes to is the same, whatever tokens come behind
+abbrev pub Takes : Stage → List Placed → Stage → Type 0
+Takes old ts new = (us : List Placed) → ahead old (ts ++ us) ≡ ahead new us
+
+-- how many tokens a statement has
+abbrev pub span_of : (p : Part) → Statement p → ℕ
+span_of First v = 4
+span_of (Preds v) (inl d) = definition_span d
+span_of (Preds v) (inr (inl l)) = line_span variable_span l
+span_of (Preds v) (inr (inr n)) = node_span n
+span_of (Lines v) (inl l) = line_span variable_span l
+span_of (Lines v) (inr n) = node_span n
+span_of Among (inl n) = node_span n
+span_of Among (inr u) = 2
+
+-- ---- before the first node
+
+-- words that begin a file, and what is made of what is left behind them
+abbrev pub Leads : List Word → (r : Reached) → (Left r → File) → Type 0
+Leads ws r f = (more : List Word) → file.read (ws ++ more) ≡ joined f ((left_of r).read more)
+
+abbrev pub tree_of : Version → List Definition → List Line → List Node → File
+tree_of v ds ls xs = record { version = v; definitions = ds; lines = ls; nodes = xs }
+
+-- the tokens spell the version, definitions, lines and nodes
+pub record Spell (ts : List Placed) (v : Version) (ds : List Definition) (ls : List Line) (xs : List Node) : Type 0 where
+  pub leads : Leads (map word_of ts) (At Among) (λ ns. tree_of v ds ls (xs ++ ns))
+  pub size : length ts ≡ first_node (tree_of v ds ls xs) + total node_span xs
+
+-- what is kept of them
+abbrev pub begun_of : List Placed → Version → List Definition → List Line → List Node → Begun
+begun_of ts v ds ls xs = record {
+  version = v;
+  headings = headings ds;
+  lines = length ls;
+  definitions = map (definition_value (headings ds)) ds;
+  program = program_value ls;
+  nodes = map (node_value (headings ds)) xs;
+  count = length xs;
+  tokens = length ts;
+  flaw = told_flaw 0 ts (file_flaw (tree_of v ds ls xs));
+  ended = false;
+}
+
+-- ---- from the first node on
+
+-- with a node, whose tokens these are
+abbrev pub with_node : Begun → List Placed → Node → Begun
+with_node b ts x = record {
+  version = b.version;
+  headings = b.headings;
+  lines = b.lines;
+  definitions = b.definitions;
+  program = b.program;
+  nodes = b.nodes ++ node_value b.headings x ∷ [];
+  count = suc b.count;
+  tokens = b.tokens + length ts;
+  flaw = or_else b.flaw (told_flaw b.tokens ts (node_flaw (most_spatial b.version) b.headings b.lines b.count b.tokens x));
+  ended = b.ended;
+}
+
+-- with "end;"
+abbrev pub with_end : Begun → List Placed → Begun
+with_end b ts = record {
+  version = b.version;
+  headings = b.headings;
+  lines = b.lines;
+  definitions = b.definitions;
+  program = b.program;
+  nodes = b.nodes;
+  count = b.count;
+  tokens = b.tokens + length ts;
+  flaw = b.flaw;
+  ended = true;
+}

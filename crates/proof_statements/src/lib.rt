@@ -1,0 +1,25 @@
+//! Proof files statement by statement: the statement that may come next, and what is left behind it.
+#![tactic(auto)]
+
+mod read_statements;
+mod tree;
+
+ghost use Rattle.std.specs.Prelude.{◌≡◌, ◌++◌, ◌+◌, [], suc, length, List, ℕ, Ok, Err};
+ghost use Rattle.cyc_lex.specs.Word.{Word};
+ghost use Rattle.proof_statements.specs.Left.{Part, At, Statement, left_of, statement_of, next, join, joined};
+
+pub use read_statements::{first_statement, line_or_node, node_or_end, pred_or_later};
+pub use tree::{LineOrNode, NodeOrEnd, PredOrLater};
+
+/// A statement comes off the front of what is left of a file: whatever words follow, what is read of all is the
+/// statement, joined with what is read of those words as what is left behind it.
+pub fn statements_come_off_the_front()
+    ensures { (p : Part) (ws more : List Word) (t : Statement p) → (statement_of p).read ws ≡ Ok (t, [])
+        → (left_of (At p)).read (ws ++ more) ≡ joined (join p t) ((left_of (next p t)).read more) }
+{}
+
+/// The fault of a statement is the fault of the file, whatever words follow.
+pub fn faults_of_statements_stay()
+    ensures { (p : Part) (ws more : List Word) (left : ℕ) → (statement_of p).read ws ≡ Err (suc left)
+        → (left_of (At p)).read (ws ++ more) ≡ Err (suc (left + length more)) }
+{}

@@ -1,0 +1,74 @@
+//! Reading one statement.
+
+ghost use Rattle.std.specs.Prelude.{◌≡◌};
+ghost use Rattle.cyc_grammar.specs.Giving.{Gives};
+ghost use Rattle.proof_statements.specs.Left.{Preds, Lines, Nodes, statement_of, first_statement, last_statement, line_or_node};
+ghost use Rattle.proof_statements.specs.Left.{First};
+ghost use Rattle.proof_statements.specs.Trees.{line_or_node_of, pred_or_later_of, node_or_end_of};
+
+use crate::tree::{LineOrNode, NodeOrEnd, PredOrLater};
+use cyc_grammar::{Cursor, Refusal};
+use heap_syntax::{Version, read_version};
+use pred_syntax::definition;
+use proof_syntax::{line, node};
+use std::alloc::Global;
+
+/// Reads the statement that says the version.
+#[tactic(auto, unfolding(crate::specs::Left::first_statement))]
+pub fn first_statement(cursor: &mut Cursor<'_, '_>) -> Result<Version, Refusal>
+    ensures { Gives (λ v. (v, cursor.new)) result ((statement_of First).read cursor.old) }
+{
+    cursor.keyword("cyclist")?;
+    cursor.keyword("proof")?;
+    let version = read_version(cursor)?;
+    cursor.symbol(";")?;
+    Ok(version)
+}
+
+#[tactic(auto, unfolding(crate::specs::Left::last_statement))]
+fn last_statement(cursor: &mut Cursor<'_, '_>) -> Result<(), Refusal>
+    ensures { Gives (λ u. (u, cursor.new)) result (last_statement.read cursor.old) }
+{
+    cursor.keyword("end")?;
+    cursor.symbol(";")
+}
+
+/// Reads a line of a program of a version, or a node.
+#[tactic(auto, unfolding(crate::specs::Left::line_or_node))]
+pub fn line_or_node<'a>(
+    alloc: Global,
+    version: Version,
+    cursor: &mut Cursor<'_, 'a>,
+) -> Result<LineOrNode<'a>, Refusal>
+    ensures { Gives (λ s. (line_or_node_of s, cursor.new)) result ((statement_of (Lines version)).read cursor.old) }
+{
+    if cursor.is_keyword_next("line") {
+        return Ok(LineOrNode::Line(line(version, cursor)?));
+    }
+    Ok(LineOrNode::Node(node(alloc, cursor)?))
+}
+
+/// Reads a definition, a line of a program of a version, or a node.
+pub fn pred_or_later<'a>(
+    alloc: Global,
+    version: Version,
+    cursor: &mut Cursor<'_, 'a>,
+) -> Result<PredOrLater<'a>, Refusal>
+    ensures { Gives (λ s. (pred_or_later_of s, cursor.new)) result ((statement_of (Preds version)).read cursor.old) }
+{
+    if cursor.is_keyword_next("pred") {
+        return Ok(PredOrLater::Pred(definition(alloc, cursor)?));
+    }
+    Ok(PredOrLater::Later(line_or_node(alloc, version, cursor)?))
+}
+
+/// Reads a node, or the last statement.
+pub fn node_or_end<'a>(alloc: Global, cursor: &mut Cursor<'_, 'a>) -> Result<NodeOrEnd<'a>, Refusal>
+    ensures { Gives (λ s. (node_or_end_of s, cursor.new)) result ((statement_of Nodes).read cursor.old) }
+{
+    if cursor.is_keyword_next("node") {
+        return Ok(NodeOrEnd::Node(node(alloc, cursor)?));
+    }
+    last_statement(cursor)?;
+    Ok(NodeOrEnd::End)
+}

@@ -1,0 +1,106 @@
+use crate::texts::{cut, start};
+use cyc_grammar::Refusal;
+use heap_syntax::Version;
+use proof_statements::{
+    LineOrNode, NodeOrEnd, PredOrLater, first_statement, line_or_node, node_or_end, pred_or_later,
+};
+use std::alloc::Global;
+use std::test::Fail;
+
+/// Where a statement is to come.
+#[derive(Clone, Copy)]
+enum Part {
+    First,
+    Preds,
+    Lines,
+    Nodes,
+}
+
+fn second(statement: &LineOrNode<'_>) -> &'static str {
+    match statement {
+        LineOrNode::Line(_) => "line",
+        LineOrNode::Node(_) => "node",
+    }
+}
+
+fn first(statement: &PredOrLater<'_>) -> &'static str {
+    match statement {
+        PredOrLater::Pred(_) => "pred",
+        PredOrLater::Later(statement) => second(statement),
+    }
+}
+
+fn third(statement: &NodeOrEnd<'_>) -> &'static str {
+    match statement {
+        NodeOrEnd::Node(_) => "node",
+        NodeOrEnd::End => "end",
+    }
+}
+
+fn version(version: Version) -> &'static str {
+    match version {
+        Version::One => "1",
+        Version::Two => "2",
+    }
+}
+
+/// What stands at the front of a text, and how many tokens are left behind it, or from the first dead one on.
+fn front(alloc: Global, part: Part, bytes: &[u8]) -> Result<(&'static str, usize), &'static str> {
+    let list = cut(alloc, bytes)?;
+    let mut cursor = start(&list);
+    let read = match part {
+        Part::First => first_statement(&mut cursor).map(version),
+        Part::Preds => pred_or_later(alloc, Version::One, &mut cursor).map(|s| first(&s)),
+        Part::Lines => line_or_node(alloc, Version::One, &mut cursor).map(|s| second(&s)),
+        Part::Nodes => node_or_end(alloc, &mut cursor).map(|s| third(&s)),
+    };
+    match read {
+        Ok(name) => Ok((name, cursor.left())),
+        Err(Refusal::Dead(left)) => Ok(("dead", left)),
+        Err(Refusal::OutOfMemory) => Err("no memory"),
+    }
+}
+
+/// Texts, what stands at their front, and the tokens that are left, the end token among them.
+static FRONTS: &[(Part, &[u8], &str, usize)] = &[
+    (Part::First, b"cyclist proof 2; node", "2", 2),
+    (Part::First, b"cyclist proof 1 node", "dead", 2),
+    (Part::First, b"node true : emp", "dead", 5),
+    (Part::Preds, b"pred p(0) { true : emp }; pred", "pred", 2),
+    (Part::Preds, b"pred p(0) { true : emp } pred", "dead", 2),
+    (Part::Preds, b"line 1 : stop; line", "line", 2),
+    (
+        Part::Preds,
+        b"node true : emp |- true : emp by Done;",
+        "node",
+        1,
+    ),
+    (Part::Preds, b"end;", "dead", 3),
+    (Part::Lines, b"line 1 : stop;", "line", 1),
+    (
+        Part::Lines,
+        b"node true : emp |- true : emp by Done; end;",
+        "node",
+        3,
+    ),
+    (Part::Lines, b"pred p(0) { true : emp };", "dead", 12),
+    (
+        Part::Nodes,
+        b"node true : emp |- true : emp by Done; end;",
+        "node",
+        3,
+    ),
+    (Part::Nodes, b"end; node", "end", 2),
+    (Part::Nodes, b"end node", "dead", 2),
+    (Part::Nodes, b"line 1 : stop;", "dead", 6),
+];
+
+#[test]
+fn reads_one_statement(rt: HostRuntime) -> Result<(), Fail> {
+    let alloc = rt.alloc();
+    for (part, text, wanted, left) in FRONTS {
+        let found = front(alloc, *part, text)?;
+        assert_eq!(rt; found, (*wanted, *left));
+    }
+    Ok(())
+}
