@@ -1,11 +1,12 @@
 #!/usr/bin/env bash
-# bench/search.sh [PROGRAM [SEEKER]]: seconds, and megabytes of memory at the most, of `prove` on each problem of examples/, and of
+# bench/search.sh [PROGRAM [SEEKER [BEFORE]]]: seconds, and megabytes of memory at the most, of `prove` on each problem of examples/, and of
 # the free search on each of them and of examples/seek/, with the answers: the nodes and links of the proof that was written, or
 # its line; of `fo` on the first-order problems of bench/first-order/; of two long searches; and derivations a second of four: one
-# that finds nothing, two that pass the limit of derivations, with small judgements and with large ones, and one at a program.
-# Wants GNU time. Prints figures; it passes and fails nothing.
+# that finds nothing, two that pass the limit of derivations, with small judgements and with large ones, and one at a program;
+# of these four also for the program BEFORE, if one is named. Wants GNU time. Prints figures; it passes and fails nothing.
 . "$(dirname "${BASH_SOURCE[0]}")/common.sh"
 seeker=${2:-$top/crates/cyclist_seek/out/cyclist_seek}
+before=${3:-}
 [ -x "$seeker" ] || { echo "no program at $seeker; build it with $top/seek" >&2; exit 1; }
 
 measure() { # PROBLEM COMMAND..
@@ -38,12 +39,14 @@ done
 # one: they are what the search goes through, so that they are the same for each program that keeps its clauses. They were counted
 # by the least limit of derivations that a depth does not reach; at the last depth of a search that ends so they are the limit.
 rate() { # NAME DERIVATIONS WORD..: of a problem in "$work/file"
-  local name=$1 derivations=$2 spent kilobytes
+  local name=$1 derivations=$2 each spent kilobytes
   shift 2
-  /usr/bin/time -q -f '%e %M' -o "$work/time" "$program" "$@" < "$work/file" > "$work/answer"
-  read -r spent kilobytes < "$work/time"
-  printf '%-28s %8.2f s %9.0f a second %4d MB  %s\n' "$name" "$spent" "$(echo "$derivations / ($spent + 0.01)" | bc)" \
-    "$((kilobytes / 1024))" "$(head -n 1 "$work/answer")"
+  for each in ${before:+"$before"} "$program"; do
+    /usr/bin/time -q -f '%e %M' -o "$work/time" "$each" "$@" < "$work/file" > "$work/answer"
+    read -r spent kilobytes < "$work/time"
+    printf '%-20s %-6s %8.2f s %9.0f a second %4d MB  %s\n' "$name" "$([ "$each" = "$program" ] && echo now || echo before)" "$spent" \
+      "$(echo "$derivations / ($spent + 0.01)" | bc)" "$((kilobytes / 1024))" "$(head -n 1 "$work/answer")"
+  done
 }
 
 echo 'prove, derivations a second'
