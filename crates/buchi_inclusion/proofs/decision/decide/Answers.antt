@@ -1,5 +1,5 @@
 -- Every class is good.
-use Rattle.std.proofs.Common.{◌≡◌, List, Vec, Global, slice_get, arith, ap, ◌∙◌, sym, inl, inr}
+use Rattle.std.proofs.Common.{List, Vec, Global, slice_get, arith, ap, ◌∙◌, sym, inl, inr}
 use Rattle.std.proofs.lemmas.Bool.{cases_lt}
 use Rattle.trace_pairs.specs.Walk.{Walk}
 use Rattle.buchi_core.specs.declared.event.Event.TheVariants.{Nothing}

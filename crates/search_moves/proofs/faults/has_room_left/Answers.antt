@@ -1,7 +1,6 @@
-use Rattle.std.proofs.Common.{◌≡◌, ℕ, Some, sym, ap, ◌∙◌, arith}
-use Rattle.std.specs.Prelude.{max, slice_get}
+use Rattle.std.proofs.Common.{◌≡◌, Some, sym, ap, ◌∙◌, arith}
+use Rattle.std.specs.Prelude.{max}
 use Rattle.heap_formula.specs.declared.atoms.Spatial.{Spatial}
-use Rattle.heap_formula.specs.declared.atoms.Spatial.TheVariants.{Pred}
 use Rattle.rule_table.specs.RuleBook.{variables_of}
 use Rattle.search_moves.specs.Rooms.{judgement_numbers}
 use Rattle.search_moves.proofs.LeftNumbers.{parts_go}
