@@ -1,5 +1,5 @@
 use crate::texts::{cut, start};
-use cyc_grammar::Refusal;
+use cyc_grammar::{Cursor, Refusal};
 use heap_syntax::Version;
 use proof_statements::{
     LineOrNode, NodeOrEnd, PredOrLater, first_statement, line_or_node, node_or_end, pred_or_later,
@@ -44,17 +44,37 @@ fn version(version: Version) -> &'static str {
     }
 }
 
+/// Reads the statement that is to come.
+fn statement(
+    alloc: Global,
+    part: Part,
+    cursor: &mut Cursor<'_, '_>,
+) -> Result<&'static str, Refusal> {
+    match part {
+        Part::First => {
+            let found = first_statement(cursor)?;
+            Ok(version(found))
+        }
+        Part::Preds => {
+            let found = pred_or_later(alloc, Version::One, cursor)?;
+            Ok(first(&found))
+        }
+        Part::Lines => {
+            let found = line_or_node(alloc, Version::One, cursor)?;
+            Ok(second(&found))
+        }
+        Part::Nodes => {
+            let found = node_or_end(alloc, cursor)?;
+            Ok(third(&found))
+        }
+    }
+}
+
 /// What stands at the front of a text, and how many tokens are left behind it, or from the first dead one on.
 fn front(alloc: Global, part: Part, bytes: &[u8]) -> Result<(&'static str, usize), &'static str> {
     let list = cut(alloc, bytes)?;
     let mut cursor = start(&list);
-    let read = match part {
-        Part::First => first_statement(&mut cursor).map(version),
-        Part::Preds => pred_or_later(alloc, Version::One, &mut cursor).map(|s| first(&s)),
-        Part::Lines => line_or_node(alloc, Version::One, &mut cursor).map(|s| second(&s)),
-        Part::Nodes => node_or_end(alloc, &mut cursor).map(|s| third(&s)),
-    };
-    match read {
+    match statement(alloc, part, &mut cursor) {
         Ok(name) => Ok((name, cursor.left())),
         Err(Refusal::Dead(left)) => Ok(("dead", left)),
         Err(Refusal::OutOfMemory) => Err("no memory"),
