@@ -2,16 +2,15 @@
 # bench/search.sh [PROGRAM [SEEKER [BEFORE]]]: seconds, and megabytes of memory at the most, of `prove` on each problem of examples/, and of
 # the free search on each of them and of examples/seek/, with the answers: the nodes and links of the proof that was written, or
 # its line; of `fo` on the first-order problems of bench/first-order/; of two long searches; and derivations a second of four: one
-# that finds nothing, two that pass the limit of derivations, with small judgements and with large ones, and one at a program;
-# of these four also for the program BEFORE, if one is named. Wants GNU time. Prints figures; it passes and fails nothing.
+# that finds nothing, two that pass the limit of derivations, with small judgements and with large ones, and one at a program.
+# Those of `prove` also for the program BEFORE, if one is named. Wants GNU time. Prints figures; it passes and fails nothing.
 . "$(dirname "${BASH_SOURCE[0]}")/common.sh"
 seeker=${2:-$top/crates/cyclist_seek/out/cyclist_seek}
 before=${3:-}
 [ -x "$seeker" ] || { echo "no program at $seeker; build it with $top/seek" >&2; exit 1; }
 
-measure() { # PROBLEM COMMAND..
+figures() { # NAME COMMAND..: of the problem in "$work/file"
   local spent kilobytes answer
-  cp "$1" "$work/file"
   /usr/bin/time -q -f '%e %M' -o "$work/time" "${@:2}" < "$work/file" > "$work/answer"
   read -r spent kilobytes < "$work/time"
   if head -n 1 "$work/answer" | grep -q '^cyclist \(proof\|fo\) '; then
@@ -19,7 +18,15 @@ measure() { # PROBLEM COMMAND..
   else
     answer=$(cat "$work/answer")
   fi
-  printf '%-28s %8.2f s %6d MB  %s\n' "$(basename "${1%.*}")" "$spent" "$((kilobytes / 1024))" "$answer"
+  printf '%-28s %8.2f s %6d MB  %s\n' "$1" "$spent" "$((kilobytes / 1024))" "$answer"
+}
+
+measure() { # PROBLEM COMMAND..
+  local name
+  name=$(basename "${1%.*}")
+  cp "$1" "$work/file"
+  if [ -n "$before" ] && [ "${3:-}" = prove ]; then figures "$name, before" "$before" "${@:3}"; fi
+  figures "$name" "${@:2}"
 }
 
 echo prove
