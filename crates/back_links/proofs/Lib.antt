@@ -1,6 +1,6 @@
 mod LinkLoops
 mod DisjunctLoops
-mod Selecting
+pub mod Selecting
 mod AlikeShapes
 mod Possible
 mod Cuts

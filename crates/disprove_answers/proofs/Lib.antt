@@ -1,5 +1,4 @@
 pub mod FewCells
-pub mod SortedEntries
 pub mod ModelTrees
 pub mod Answered
 pub mod OneCounter

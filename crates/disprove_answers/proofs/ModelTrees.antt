@@ -38,7 +38,8 @@ use Rattle.counter_model.specs.Sizes as sizes
 use Rattle.counter_model.specs.Sizes.{IsWidth, IsWidthIn, IsOfSize}
 use Rattle.counter_model.specs.FirstCounter.{HasSize}
 use Rattle.disprove_answers.proofs.FewCells.{few_cells}
-use Rattle.disprove_answers.proofs.SortedEntries.{IsFine, cell_found, cells_right}
+use Rattle.model_file.proofs.Parts.{IsFine}
+use Rattle.model_file.proofs.SortedCells.{cell_found, cells_right}
 
 -- ---- version 1 is within the limits of version 2
 

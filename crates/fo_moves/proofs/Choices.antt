@@ -4,7 +4,7 @@ use Rattle.std.specs.Prelude.{replicate}
 use Rattle.std.specs.List.{filter, flat_map}
 use Rattle.fo_formula.specs.Words.{Word}
 use Rattle.back_links.specs.Listing.{selections}
-use Rattle.fo_moves.proofs.Selecting.{each_selection, all_none, below_end, below_next}
+use Rattle.back_links.proofs.Selecting.{each_selection, all_none, below_end, below_next}
 use Rattle.fo_moves.specs.declared.wanted.Wanted.{Wanted}
 use Rattle.fo_moves.specs.Subterms.{lists_of}
 use Rattle.fo_moves.specs.Choosing.{may_do, does, if_done, done_after}

@@ -1,4 +1,3 @@
-pub mod Selecting
 pub mod Onces
 pub mod Settled
 pub mod Cutting

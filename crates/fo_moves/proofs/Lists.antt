@@ -5,7 +5,7 @@ use Rattle.std.specs.List.{filter, flat_map, zip}
 use Rattle.heap_formula.specs.Words.{Each, OneOf}
 use Rattle.fo_formula.proofs.Lists.{each_append}
 use Rattle.back_links.specs.Listing.{selections}
-use Rattle.fo_moves.proofs.Selecting.{IsSelection, each_selection}
+use Rattle.back_links.proofs.Selecting.{IsSelection, each_selection}
 use Rattle.fold_offers.specs.Places.{each_from, each_place, first_line, first_that, or_else}
 
 pub each_kept : {X : Type 0} (p : X → Bool) (xs : List X) → Each (λ x. p x ≡ true) (filter p xs)

@@ -1,8 +1,8 @@
-mod Parts
+pub mod Parts
 mod Taken
 mod SpanLaws
 mod WithinSpans
-mod SortedCells
+pub mod SortedCells
 mod EntryCells
 mod Moved
 mod ModelsAgain

@@ -177,6 +177,9 @@ none_before : (es : List Entry) → Each (IsNew []) es
 none_before [] = tt
 none_before (e ∷ es) = (refl, none_before es)
 
+pub cells_right : (h : Heap) (k : ℕ) → Each (λ (e : Entry). IsFine (cell_tree e)) (entries h) → length (entries h) ≤ 16 → cells_flaw k (cells_tree h) ≡ None
+cells_right h k fine few = listed_right [] (entries h) (cells_tree h) k refl (entries_sorted h) (omega arith) fine (none_before (entries h))
+
 -- each entry of cells is a cell again
 pub of_entries : (Q : Cell → Type 0) (cs : List Cell) → Each Q cs → Each (λ (e : Entry). Q (cell_tree e)) (map entry_of cs)
 of_entries Q [] all = tt
@@ -188,4 +191,4 @@ sorted_right cs k fine few =
     let kept = few_kept (map entry_of cs) in
     let size = length-map cs entry_of in
     let count = len-entries h in
-    listed_right [] (entries h) (cells_tree h) k refl (entries_sorted h) (omega arith) (each_entry (λ (e : Entry). IsFine (cell_tree e)) (map entry_of cs) (of_entries IsFine cs fine)) (none_before (entries h))
+    cells_right h k (each_entry (λ (e : Entry). IsFine (cell_tree e)) (map entry_of cs) (of_entries IsFine cs fine)) (omega arith)

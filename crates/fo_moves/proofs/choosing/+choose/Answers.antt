@@ -2,7 +2,7 @@ use Rattle.std.proofs.Common.{◌≡◌, false, ◌<◌, ◌-◌, ◌++◌, ◌�
 use Rattle.std.specs.Result.{OnOk}
 use Rattle.std.proofs.lemmas.Bool.Decides.{nat_tests}
 use Rattle.fo_formula.specs.Words.{Word}
-use Rattle.fo_moves.proofs.Selecting.{item_next, items_done, no_more, last_off}
+use Rattle.back_links.proofs.Selecting.{item_next, items_done, no_more, last_off}
 use Rattle.fo_moves.specs.Choosing.{may_do, if_done, done_after}
 use Rattle.fo_moves.proofs.Choices.{none_done, made_whole, done_next}
 use Rattle.fo_moves.proofs.choosing.+choose.Goals as goal

@@ -1,5 +1,5 @@
 use Rattle.std.proofs.Common.{ℕ, sym, ◌∙◌}
-use Rattle.fo_moves.proofs.Selecting.{kept_next, left_next}
+use Rattle.back_links.proofs.Selecting.{kept_next, left_next}
 use Rattle.fo_moves.specs.Links.{stands_in}
 use Rattle.fo_moves.proofs.variables.variables.Goals.{then-stands_in+in_ok-push, else-stands_in}
 use Rattle.fo_moves.proofs.variables.variables.Goals as goal

@@ -5,7 +5,8 @@ use Rattle.cyc_lex.specs.Placed.{placed}
 use Rattle.cyc_grammar.specs.Giving.{Fails}
 use Rattle.pred_syntax.specs.Grammar.{definition}
 use Rattle.pred_syntax.specs.Trees.{definition_of}
-use Rattle.item_reader.proofs.DefinitionLaw.{definition-law, definition-inner}
+use Rattle.item_reader.proofs.DefinitionLaw.{definition-inner}
+use Rattle.pred_syntax.proofs.DefinitionLaws.{definition-law}
 use Rattle.pred_reader.proofs.SpanLaws.{definition_words}
 use Rattle.item_reader.specs.Items.{IsItem, definition_found, says_definition}
 use Rattle.item_reader.proofs.Parts.{part_within, part_fault, part_spelled, behind_fits}
