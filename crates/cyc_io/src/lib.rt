@@ -4,6 +4,7 @@
 mod memory;
 mod plain;
 mod streams;
+mod words;
 
 ghost use Rattle.std.specs.Prelude.{◌≡◌, ◌+◌, ◌<◌, ◌≤◌, ℕ, List, Option, length, OnOk, OnErr, IfOk, IsErrOf, ◌⊎◌};
 ghost use Rattle.std.specs.Io.{ReadsAtMost, WritesAtMost};
@@ -17,6 +18,7 @@ pub use plain::{PlainSink, PlainSource};
 use std::alloc::{AllocError, Global};
 pub use streams::{StdSink, StdSource};
 use thiserror::Error;
+pub use words::command_words;
 
 /// A call to the outside failed: it took or appended nothing, and the count of faults rose.
 #[derive(Clone, Copy, Debug, PartialEq, Eq)]

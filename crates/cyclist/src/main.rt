@@ -1,28 +1,17 @@
 //! Reads the command line, standard input and standard output, and does the work of `cyc_top::run`.
 #![tactic(auto)]
 
-use cyc_io::{StdSink, StdSource};
+use cyc_io::{StdSink, StdSource, command_words};
 use cyc_top::{Status, run};
-use std::env;
-use std::io::ErrorKind;
 use std::process::ExitCode;
 
-// A word that isn't UTF-8 has no meaning, so it stands for no words.
 fn ending(rt: &HostRuntime) -> Status {
-    let alloc = rt.alloc();
-    let words: Vec<String> = match env::args(rt) {
-        Ok(words) => match words.skip(1).collect(alloc) {
-            Ok(words) => words,
-            Err(_) => return Status::OutOfMemory,
-        },
-        Err(error) => match error.kind() {
-            ErrorKind::OutOfMemory => return Status::OutOfMemory,
-            _ => Vec::new(alloc),
-        },
+    let Ok(words) = command_words(rt) else {
+        return Status::OutOfMemory;
     };
     let mut src = StdSource::new(rt.stdin());
     let mut out = StdSink::new(rt.stdout());
-    run(alloc, words.as_slice(), &mut src, &mut out)
+    run(rt.alloc(), words.as_slice(), &mut src, &mut out)
 }
 
 fn main(rt: HostRuntime) -> ExitCode {
