@@ -1,9 +1,9 @@
--- What a text with a syntax fault comes to at its end.
-use Rattle.std.proofs.Common.{◌≡◌, ℕ, Bool, true, false, List, [], ◌++◌, length, Result, Ok, Err, refl, sym, ap, subst, ◌∙◌}
-use Rattle.std.specs.Prelude.{◌==◌, is_none}
+-- What a text comes to at its end.
+use Rattle.std.proofs.Common.{◌≡◌, ℕ, ◌+◌, ◌≤◌, Bool, true, false, List, [], ◌∷◌, ◌++◌, length, map, Result, Ok, Err, refl, sym, ap, subst, ◌∙◌, arith, inl, inr, length-append}
+use Rattle.std.specs.Prelude.{◌==◌, Option, Some, None, IfSome, is_none}
 use Rattle.std.specs.Str.{chars, IsUtf8}
 use Rattle.std.specs.Str.Lossy.{utf8_valid_len, utf8_error_len}
-use Rattle.std.proofs.lemmas.List.{append-nil}
+use Rattle.std.proofs.lemmas.List.{append-nil, length-map}
 use Rattle.cyc_lex.specs.declared.fault.ReadFault.{ReadFault}
 use Rattle.cyc_lex.specs.declared.fault.ReadFault.TheVariants as faults
 use Rattle.cyc_lex.specs.declared.place.Bad.{Bad}
@@ -11,8 +11,14 @@ use Rattle.cyc_lex.specs.declared.place.Place.{Place}
 use Rattle.cyc_lex.specs.declared.place.Stop.{Stop}
 use Rattle.cyc_lex.specs.declared.place.Stop.TheVariants as stops
 use Rattle.cyc_lex.specs.Answer.{fault_of}
-use Rattle.cyc_lex.specs.Lexing.{Stops, lex, comment_len, with_tokens}
-use Rattle.cyc_lex.specs.Placed.{Placed}
+use Rattle.cyc_lex.specs.Lexing.{Stops, start, lex, comment_len, tokens_of, with_tokens}
+use Rattle.cyc_lex.specs.Placed.{Placed, placed}
+use Rattle.cyc_lex.specs.Word.{Word, word_of}
+use Rattle.cyc_lex.specs.declared.token.Token.{Token}
+use Rattle.cyc_lex.proofs.BoolParts.{and-parts}
+use Rattle.cyc_grammar.specs.Classes.{is_token, are_tokens}
+use Rattle.cyc_grammar.specs.Giving.{words}
+use Rattle.cyc_grammar.proofs.WholeTexts.{words-placed, all-tokens}
 use Rattle.cyc_lex.proofs.Lexed.{with_tokens-ok, with_tokens-err}
 use Rattle.piecewise_lex.specs.declared.valid.Valid.{Valid}
 use Rattle.piecewise_lex.specs.Feeding.{tokens_from, is_cut}
@@ -21,15 +27,20 @@ use Rattle.piecewise_lex.specs.Valid.{IsValid}
 use Rattle.piecewise_lex.proofs.Takes.{whole-is}
 use Rattle.piecewise_lex.proofs.Utf8Cuts.{error-nil}
 use Rattle.piecewise_lex.proofs.ValidLaws.{chars-whole, whole-tail}
+use Rattle.file_reader.specs.declared.held.Alive.{Alive}
 use Rattle.file_reader.specs.declared.held.Faulty.{Faulty}
 use Rattle.file_reader.specs.declared.held.Held.TheVariants as kinds
 use Rattle.file_reader.specs.declared.passing.Passed.{Passed}
-use Rattle.file_reader.specs.Helds.{parts_of, IsToldStop}
-use Rattle.file_reader.specs.Outcomes.{Outcome, Faulty as Bears}
+use Rattle.file_reader.specs.Helds.{parts_of, IsAlive, IsLast, IsToldStop}
+use Rattle.file_reader.specs.Scans.{reached_of, IsDead}
+use Rattle.file_reader.specs.Outcomes.{Outcome, Faulty as Bears, syntax_fault}
 use Rattle.file_reader.specs.Passing.{IsPassed}
 use Rattle.file_reader.specs.Pieces.{Tells}
-use Rattle.file_reader.specs.Stages.{Dead, behind, outcome}
+use Rattle.file_reader.specs.Stages.{Head, Dead, ahead, behind, outcome}
 use Rattle.file_reader.proofs.PieceLaws.{statement-bad}
+use Rattle.file_reader.proofs.Fresh.{tokens-end, tokens-few, from-start}
+use Rattle.file_reader.proofs.HeldLaws.{dead-all}
+use Rattle.file_reader.proofs.StepLaws.{map-append}
 
 pub tells-fault : (x : ReadFault) → Tells (Bears x) (Err x)
 tells-fault faults.OutOfMemory = tt
@@ -89,3 +100,66 @@ rest-ends p c bytes v to us valid none h e = passed-tokens p c bytes v to valid 
 pub rest-stops : (p : Place) (c : Bool) (bytes : List ℕ) (v : Valid) (to : Passed) (e : Stop) → IsValid bytes v → v.tail.now ≡ [] → IsPassed p c v.text.now to → Stops e (lex true to.place (comment_len to.comment (chars to.rest.now)) (chars to.rest.now)) → Stops e (tokens_from p c bytes)
 rest-stops p c bytes v to stops.OutOfMemory valid none h k = tt
 rest-stops p c bytes v to (stops.At bad q) valid none h k = passed-tokens p c bytes v to valid none h ∙ ap (with_tokens h.tokens) k ∙ with_tokens-err h.tokens (bad, q)
+
+pub some-all : {X : Type 0} (o : Option X) (P Q : X → Type 0) → ((x : X) → P x → Q x) → IfSome o P → IfSome o Q
+some-all (Some x) P Q f h = f x h
+some-all None P Q f h = tt
+
+-- ---- a text without a fault so far
+
+abbrev Wait : Alive → Result (List Placed) (Bad × Place)
+Wait a = tokens_from a.place a.comment a.waiting.items
+
+abbrev pub EndsWith : Alive → ReadFault → Type 0
+EndsWith a x = Tells (outcome (parts_of (kinds.Alive a)) []) (Err x)
+
+alive-outcome : (a : Alive) (k : IsAlive a) (r : Result (List Placed) (Bad × Place)) → Wait a ≡ r → outcome (parts_of (kinds.Alive a)) [] ≡ behind (Head []) (with_tokens k.taken r)
+alive-outcome a k r e = ap (behind (Head [])) (k.law [] ∙ ap (λ (b : List ℕ). with_tokens k.taken (tokens_from a.place a.comment b)) (append-nil a.waiting.items) ∙ ap (with_tokens k.taken) e)
+
+pub alive-stop : (a : Alive) (e : Stop) (x : ReadFault) → IsAlive a → Stops e (Wait a) → IsToldStop e x → EndsWith a x
+alive-stop a stops.OutOfMemory x k h told = subst (EndsWith a) (sym told) tt
+alive-stop a (stops.At bad p) x k h told =
+    subst (EndsWith a) (sym told)
+    (subst (λ (o : Outcome). Tells o (Err (faults.Lex (fault_of bad p)))) (sym (alive-outcome a k (Err (bad, p)) h ∙ ap (behind (Head [])) (with_tokens-err k.taken (bad, p)))) refl)
+
+-- all of it is characters
+pub whole-rest : (p : Place) (c : Bool) (bytes : List ℕ) (v : Valid) → IsValid bytes v → v.tail.now ≡ [] → lex true p (comment_len c (chars v.text.now)) (chars v.text.now) ≡ tokens_from p c bytes
+whole-rest p c bytes v valid none =
+    text-tokens p c v.text.now valid.utf8 ∙ ap (tokens_from p c) (sym (append-nil v.text.now) ∙ ap (λ (w : List ℕ). v.text.now ++ w) (sym none) ∙ valid.whole)
+
+all-tokens-of : (a : Alive) (k : IsAlive a) (us : List Placed) → Wait a ≡ Ok us → tokens_of a.all.items ≡ Ok (k.taken ++ us)
+all-tokens-of a k us e =
+    sym (from-start a.all.items)
+    ∙ ap (tokens_from start false) (sym (append-nil a.all.items))
+    ∙ k.law []
+    ∙ ap (λ (b : List ℕ). with_tokens k.taken (tokens_from a.place a.comment b)) (append-nil a.waiting.items)
+    ∙ ap (with_tokens k.taken) e
+    ∙ with_tokens-ok k.taken us
+
+later-tokens : (ws vs : List Word) → are_tokens (ws ++ vs) ≡ true → are_tokens vs ≡ true
+later-tokens [] vs h = h
+later-tokens (w ∷ ws) vs h = later-tokens ws vs (and-parts (is_token w) (are_tokens (ws ++ vs)) h).1
+
+pub wait-words : (a : Alive) (items : List Token) → IsAlive a → Wait a ≡ Ok (map placed items) → are_tokens (words items) ≡ true
+wait-words a items k e =
+    let us = map placed items in
+    let all = all-tokens (map word_of (k.taken ++ us)) (tokens-end a.all.items (k.taken ++ us) (all-tokens-of a k us e)) in
+    let both : are_tokens (map word_of k.taken ++ map word_of us) ≡ true = subst (λ (ws : List Word). are_tokens ws ≡ true) (map-append word_of k.taken us) all in
+    subst (λ (ws : List Word). are_tokens ws ≡ true) (sym (words-placed items us refl)) (later-tokens (map word_of k.taken) (map word_of us) both)
+
+pub wait-few : (a : Alive) (items : List Token) → IsAlive a → Wait a ≡ Ok (map placed items) → a.tokens + length items ≤ length a.all.items + 1
+wait-few a items k e =
+    let us = map placed items in
+    omega (arith, tokens-few a.all.items (k.taken ++ us) (all-tokens-of a k us e), length-append k.taken us, length-map items placed, k.count)
+
+-- a dead token among those that waited
+alive-dead : (a : Alive) (us : List Placed) (left : ℕ) → IsAlive a → Wait a ≡ Ok us → IsDead (reached_of a.awaited) (map word_of us) left → EndsWith a (syntax_fault a.tokens us left)
+alive-dead a us left k e is =
+    let ts = k.taken ++ us in
+    let fault = syntax_fault a.tokens us left in
+    subst (λ (o : Outcome). Tells o (Err fault)) (sym (alive-outcome a k (Ok us) e ∙ ap (behind (Head [])) (with_tokens-ok k.taken us) ∙ ap (ahead (Head [])) (sym (append-nil ts)) ∙ dead-all a k us left is [])) (tells-fault fault)
+
+pub alive-last : (a : Alive) (items : List Token) (x : ReadFault) → IsAlive a → Wait a ≡ Ok (map placed items) → IsLast (reached_of a.awaited) a.tokens items x → EndsWith a x
+alive-last a items x k e (inl none) = subst (EndsWith a) (sym none) tt
+alive-last a items x k e (inr (left, is, told)) =
+    subst (EndsWith a) (sym told) (alive-dead a (map placed items) left k e (subst (λ (ws : List Word). IsDead (reached_of a.awaited) ws left) (words-placed items (map placed items) refl) is))

@@ -36,7 +36,7 @@ use Rattle.file_reader.specs.Helds.{parts_of, behind_bytes, IsSmall, IsAlive, Is
 use Rattle.file_reader.specs.Outcomes.{Faulty as Bears, syntax_fault}
 use Rattle.file_reader.specs.Passing.{IsPassed}
 use Rattle.file_reader.specs.Pieces.{parts, Comes, IsBad}
-use Rattle.file_reader.specs.Scans.{reached_of, HasDead, LeadsOn, Finds, IsScan}
+use Rattle.file_reader.specs.Scans.{reached_of, IsDead, HasDead, LeadsOn, Finds, IsScan}
 use Rattle.file_reader.specs.Stages.{Stage, Head, Dead, Unlexed, Parts, behind, outcome}
 use Rattle.file_reader.specs.Steps.{Takes, Leads}
 use Rattle.file_reader.proofs.Beginning.{lead-none}
@@ -231,31 +231,29 @@ dead-takes : (ts : List Placed) (left : ℕ) (fault : ReadFault) → 0 < left �
 dead-takes ts zero fault some e is us = absurd (omega (arith, some))
 dead-takes ts (suc left) fault some e is us = head-step [] ts us ∙ head-fault-step ts left e us ∙ ap (λ f. Bears f) is
 
+-- a dead one among these, which come behind all tokens so far
+pub dead-all : (a : Alive) (k : IsAlive a) (ts : List Placed) (left : ℕ) → IsDead (reached_of a.awaited) (map word_of ts) left → Takes (Head []) (k.taken ++ ts) (Dead (syntax_fault a.tokens ts left))
+dead-all a k ts left is = dead-takes (k.taken ++ ts) left (syntax_fault a.tokens ts left) is.some read told
+  where
+    read : file.read (map word_of (k.taken ++ ts)) ≡ Err left
+    read = ap file.read (map-append word_of k.taken ts) ∙ is.dies (map word_of k.taken) k.led.0 k.led.1
+
+    told : syntax_fault 0 (k.taken ++ ts) left ≡ syntax_fault a.tokens ts left
+    told = syntax-later 0 left k.taken ts (omega (arith, is.within, length-map ts word_of)) ∙ ap (λ n. syntax_fault n ts left) (omega (arith, k.count))
+
 pub alive-dies : (a : Alive) (v : Valid) (s : Scan) (d : DeadToken) (new : Vec ℕ) (enough : ℕ) → IsAlive a → IsValid a.waiting.items v → IsScan a.place a.comment v.text.now (reached_of a.awaited) s → new.items ≡ s.rest.now ++ v.tail.now → s.dead ≡ Some d
     → IsKept (parts_of (kinds.Alive a)) [] (kinds.Faulty (record { fault = faults.Syntax (a.tokens + d.token) d.line d.column; place = s.place; comment = s.comment; waiting = new; enough = enough }))
 alive-dies a v s d new enough k valid h is some = record {
   held = (h.room.line, h.room.column);
-  law = tokens-taken (parts_of (kinds.Alive a)) (parts (Dead fault) s.place s.comment new.items) (k.taken ++ h.tokens) tt tt takes (all-comes a v s new.items k h valid is);
+  law = tokens-taken (parts_of (kinds.Alive a)) (parts (Dead (faults.Syntax (a.tokens + d.token) d.line d.column)) s.place s.comment new.items) (k.taken ++ h.tokens) tt tt takes (all-comes a v s new.items k h valid is);
   count = omega (arith, (sizes a v s new.items k h valid is).1);
 }
   where
-    fault : ReadFault
-    fault = faults.Syntax (a.tokens + d.token) d.line d.column
-
     dead : HasDead (reached_of a.awaited) h.tokens d
     dead = subst (λ o. Finds (reached_of a.awaited) h.tokens o s.awaited) some h.found
 
-    read : file.read (map word_of (k.taken ++ h.tokens)) ≡ Err dead.left
-    read = ap file.read (map-append word_of k.taken h.tokens) ∙ dead.is.dies (map word_of k.taken) k.led.0 k.led.1
-
-    told : syntax_fault 0 (k.taken ++ h.tokens) dead.left ≡ fault
-    told =
-        syntax-later 0 dead.left k.taken h.tokens (omega (arith, dead.is.within, length-map h.tokens word_of))
-        ∙ ap (λ n. syntax_fault n h.tokens dead.left) (omega (arith, k.count))
-        ∙ dead.told a.tokens
-
-    takes : Takes (Head []) (k.taken ++ h.tokens) (Dead fault)
-    takes = dead-takes (k.taken ++ h.tokens) dead.left fault dead.is.some read told
+    takes : Takes (Head []) (k.taken ++ h.tokens) (Dead (faults.Syntax (a.tokens + d.token) d.line d.column))
+    takes = subst (λ (f : ReadFault). Takes (Head []) (k.taken ++ h.tokens) (Dead f)) (dead.told a.tokens) (dead-all a k h.tokens dead.left dead.is)
 
 -- ---- tokens that are passed
 

@@ -32,7 +32,7 @@ pub struct Scan<'a> {
 }
 
 /// The token from which on so many are left, where others stand before.
-fn dead_token(before: u32, tokens: &[Token<'_>], left: usize) -> DeadToken
+pub fn dead_token(before: u32, tokens: &[Token<'_>], left: usize) -> DeadToken
     requires some { 0 < left }
     requires within { left ≤ length tokens.now }
     requires few { before + length tokens.now < 2 ^ 32 }
