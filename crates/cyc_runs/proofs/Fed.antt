@@ -1,5 +1,5 @@
 -- Bytes that a tool is fed, one piece after the other.
-use Rattle.std.proofs.Common.{◌≡◌, ◌∙◌, ℕ, ◌+◌, ◌-◌, ◌≤◌, List, [], ◌++◌, length-append, append_assoc, append-nil, sym, subst, ap, arith, inr, refl, Option, Some, None}
+use Rattle.std.proofs.Common.{◌≡◌, ◌∙◌, ℕ, ◌+◌, ◌-◌, ◌≤◌, List, [], ◌++◌, length-append, append_assoc, append-nil, sym, subst, ap, arith, inl, inr, Option, Some, None}
 use Rattle.std.specs.Io.KnownBytes.{Consumes, IsAtEnd}
 use Rattle.std.proofs.KnownBytes.{Consumes-nil, Consumes-trans}
 use Rattle.cyc_io.specs.Bytes.{Came}
@@ -9,7 +9,7 @@ use Rattle.cyc_runs.specs.Pieces.{IsTurn, WasFed}
 use Rattle.cyc_runs.specs.declared.pieces.Turn.TheVariants.{Fed}
 use Rattle.cyc_runs.specs.declared.endings.Status.{Status}
 use Rattle.cyc_runs.specs.declared.endings.Status.TheVariants.{Limit}
-use Rattle.cyc_runs.proofs.Told.{long_answers, long_told}
+use Rattle.cyc_runs.proofs.Told.{long_told}
 
 -- nothing more was fed
 pub fed_none : (a : Answering) (n : ℕ) (told : Option (List ℕ)) → WasFed a a n n told told
@@ -52,4 +52,4 @@ fed_answers a b n told left ending text fed end answer =
 
 -- an input of which more came than it may have is answered so
 pub past_answers : (a : Answering) (told left : Option (List ℕ)) (ending : Status) (text : List ℕ) → Came told left (input_limit + 1) → ending ≡ Limit → text ≡ input_limit_text → AnswersTold (IsAnswerOf a) told ending text
-past_answers a told left ending text came ends said = long_answers a told None ending text (long_told told left came) refl ends said
+past_answers a told left ending text came ends said = let long = long_told told left came in (long.0, long.1, inl (long.2, ends, said))

@@ -19,10 +19,9 @@ use cyc_io::{Sink, Source, write_all};
 pub use cyc_memory::OutOfMemory;
 pub use endings::Status;
 pub use faults::answer_to_fault;
-use inputs::answer_over;
-pub use inputs::{INPUT_LIMIT, NoAnswer};
+use inputs::WholeInput;
 use pieces::answer_in_pieces;
-pub use pieces::{PIECE_LIMIT, PiecewiseTool, Turn, feed_piece};
+pub use pieces::{INPUT_LIMIT, NoAnswer, PIECE_LIMIT, PiecewiseTool, Turn, feed_piece};
 use std::alloc::Global;
 
 /// What a program does with an input that has come whole.
@@ -100,11 +99,11 @@ pub fn run_over<T: Tool, S: Source, K: Sink>(
         → (S.faults src.new ≡ S.faults src.old) × (K.faults out.new ≡ K.faults out.old) }
     ensures counted { (S.faults src.old ≤ S.faults src.new) × (K.faults out.old ≤ K.faults out.new) }
 {
-    match answer_over(alloc, tool, src) {
-        Ok(answer) => give(answer, out),
-        Err(NoAnswer::ReadFault) => Status::ReadFault,
-        Err(NoAnswer::OutOfMemory) => Status::OutOfMemory,
-    }
+    let whole = WholeInput {
+        tool,
+        bytes: Vec::new(alloc),
+    };
+    run_in_pieces(alloc, whole, src, out)
 }
 
 /// Does what `run_over` does for a tool that is fed the input in pieces. A tool that runs out of memory ends the run at

@@ -7,10 +7,30 @@ ghost use Rattle.cyc_runs.specs.Runs.{AnswersTold, IsAnswerOf, IsReadThrough, in
 
 use crate::answers::{Answer, fixed_answer};
 use crate::endings::Status;
-use crate::inputs::{INPUT_LIMIT, NoAnswer};
 use cyc_io::{Failed, Source};
 use cyc_memory::OutOfMemory;
 use std::alloc::Global;
+
+/// Why there is no answer.
+#[derive(Clone, Copy, Debug, PartialEq, Eq)]
+pub enum NoAnswer {
+    ReadFault,
+    OutOfMemory,
+}
+
+impl From<OutOfMemory> for NoAnswer {
+    ghost use Rattle.std.specs.Prelude.{◌≡◌};
+    ghost use Rattle.cyc_runs.specs.declared.pieces.NoAnswer.TheVariants as reasons;
+
+    ghost from_gives = { λ _ reason. reason ≡ reasons.OutOfMemory };
+
+    fn from(_error: OutOfMemory) -> NoAnswer {
+        NoAnswer::OutOfMemory
+    }
+}
+
+/// The greatest length of an input, in bytes.
+pub const INPUT_LIMIT: usize = 16_777_216;
 
 /// The greatest number of bytes that a tool is fed at once.
 pub const PIECE_LIMIT: usize = 65_536;
