@@ -21,8 +21,11 @@ use Rattle.proof_file.specs.Reading.{Reads}
 use Rattle.file_reader.specs.Outcomes.{Outcome, Faulty}
 use Rattle.file_reader.specs.Stages.{Stage, Head, Nodes, Dead, Unlexed, Lost, Parts, fresh, behind, outcome}
 use Rattle.file_reader.specs.Steps.{Takes}
-use Rattle.file_reader.specs.Pieces.{Tells, AreFed, bytes_of, parts, IsOpen, Comes, IsBad}
-use Rattle.file_reader.proofs.Fresh.{fresh-read}
+use Rattle.file_reader.specs.Pieces.{Tells, KeepsLaw, AreFed, bytes_of, parts, IsOpen, Comes, IsBad}
+use Rattle.file_reader.specs.Waiting.{waiting_stage, IsWaiting}
+use Rattle.file_reader.proofs.Fresh.{fresh-read, fresh-comes}
+use Rattle.std.proofs.lemmas.List.{append-nil}
+use Rattle.cyc_lex.specs.Lexing.{start}
 
 -- ---- bytes and tokens
 
@@ -83,6 +86,27 @@ told-reads bytes (Err (faults.Limit what k l c)) h = fresh-read bytes (Err (faul
 
 pub pieces-read : (pieces : List (List ℕ)) (new : Parts) (answer : Result ProofFile ReadFault) → AreFed fresh pieces new → Tells (outcome new []) answer → Reads (bytes_of pieces) answer
 pieces-read pieces new answer fed h = told-reads (bytes_of pieces) answer (fed-tells fresh new pieces answer fed h)
+
+-- a text that is fed as one piece
+pub one-piece : (bytes : List ℕ) (new : Parts) (answer : Result ProofFile ReadFault) → KeepsLaw fresh bytes new → Tells (outcome new []) answer → Reads bytes answer
+one-piece bytes new answer keeps h =
+    told-reads bytes answer (subst (λ (o : Outcome). Tells o answer) (sym (ap (outcome fresh) (sym (append-nil bytes)) ∙ keeps [])) h)
+
+-- where all bytes wait, what is read of them is what the text comes to
+pub reads-tell : (bytes : List ℕ) (answer : Result ProofFile ReadFault) → Reads bytes answer → Tells (outcome (parts (Head []) start false bytes) []) answer
+reads-tell bytes answer h = subst (λ (o : Outcome). Tells o answer) (ap (λ (b : List ℕ). behind (Head []) (tokens_from start false b)) (sym (append-nil bytes))) (by answer h)
+  where
+    by : (a : Result ProofFile ReadFault) → Reads bytes a → Tells (outcome fresh bytes) a
+    by (Ok f) k = fresh-comes bytes (Ok f) k
+    by (Err faults.OutOfMemory) k = tt
+    by (Err (faults.Lex fault)) k = fresh-comes bytes (Err (faults.Lex fault)) k
+    by (Err (faults.Syntax n l c)) k = fresh-comes bytes (Err (faults.Syntax n l c)) k
+    by (Err (faults.IllFormed fault n l c)) k = fresh-comes bytes (Err (faults.IllFormed fault n l c)) k
+    by (Err (faults.Limit what n l c)) k = fresh-comes bytes (Err (faults.Limit what n l c)) k
+
+pub waiting-tells : (lost : Bool) (place : Place) (bytes : List ℕ) (answer : Result ProofFile ReadFault) → lost ≡ false → IsWaiting lost place → Reads bytes answer → Tells (outcome (parts (waiting_stage lost) place false bytes) []) answer
+waiting-tells true place bytes answer none at h = absurd cc
+waiting-tells false place bytes answer none at h = subst (λ (p : Place). Tells (outcome (parts (Head []) p false bytes) []) answer) (sym at) (reads-tell bytes answer h)
 
 -- ---- the tokens of one statement, at the front of a text behind which bytes stand that make no character yet
 

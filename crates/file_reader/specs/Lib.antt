@@ -3,3 +3,4 @@ pub mod Stages
 pub mod Steps
 pub mod Pieces
 pub mod Passing
+pub mod Waiting

@@ -1,5 +1,5 @@
 -- A text that a reader is fed in pieces.
-use Rattle.std.specs.Prelude.{◌≡◌, ℕ, Bool, List, [], ◌∷◌, ◌++◌, Result, Ok, Err, ◌⊎◌}
+use Rattle.std.specs.Prelude.{◌≡◌, ℕ, ◌+◌, Bool, List, [], ◌∷◌, ◌++◌, length, Result, Ok, Err, ◌⊎◌}
 use Rattle.cyc_lex.specs.declared.fault.ReadFault.{ReadFault}
 use Rattle.cyc_lex.specs.declared.fault.ReadFault.TheVariants as faults
 use Rattle.cyc_lex.specs.declared.place.Bad.{Bad}
@@ -19,6 +19,10 @@ Tells o (Err (faults.Lex fault)) = Agrees o (Err (faults.Lex fault))
 Tells o (Err (faults.Syntax k l c)) = Agrees o (Err (faults.Syntax k l c))
 Tells o (Err (faults.IllFormed fault k l c)) = Agrees o (Err (faults.IllFormed fault k l c))
 Tells o (Err (faults.Limit what k l c)) = Agrees o (Err (faults.Limit what k l c))
+
+-- how many bytes were fed so far
+abbrev pub bytes_fed : Parts → ℕ
+bytes_fed s = s.place.offset + length s.pending
 
 -- a piece was fed: what the text came to, with the piece and the rest, it comes to with the rest
 abbrev pub KeepsLaw : Parts → List ℕ → Parts → Type 0

@@ -3,6 +3,7 @@
 #![tactic(auto)]
 
 mod passing;
+mod reader;
 
 ghost use Rattle.std.specs.Prelude.{◌≡◌, ◌++◌, ◌∷◌, [], true, false, suc, length, map, List, ℕ, Bool, None, Some, Result, Ok, Err};
 ghost use Rattle.std.specs.Str.{chars};
@@ -30,6 +31,7 @@ ghost use Rattle.file_reader.specs.Steps.{Takes, Leads, Spell, begun_of, span_of
 ghost use Rattle.file_reader.specs.Pieces.{Tells, AreFed, bytes_of, parts, IsOpen, Comes, IsBad};
 
 pub use passing::{Passed, pass_tokens};
+pub use reader::{FileReader, read_file};
 
 /// A reader that was fed nothing stands for what is read of all that it will be fed.
 pub fn fresh_readers_read_the_text()
