@@ -1,7 +1,7 @@
 #!/usr/bin/env bash
 # bench/reading.sh [PROGRAM]: how fast texts are read and answered. First megabytes a second for large texts, beside those
-# of `wc -c` on the same bytes; then seconds for more and more nodes, definitions, and nodes of a loop.
-# Prints figures; it passes and fails nothing.
+# of `wc -c` on the same bytes; then seconds for more and more nodes, definitions, and nodes of a loop; last seconds and
+# megabytes of memory for texts of 16 MB. Wants GNU time. Prints figures; it passes and fails nothing.
 . "$(dirname "${BASH_SOURCE[0]}")/common.sh"
 
 repeated() { # TEXT COUNT: the text so many times
@@ -30,6 +30,21 @@ loop() {
   echo 'end;'
 }
 
+# a node that begins so and never ends: the word again and again, up to the greatest input
+endless() { # BEGIN WORD
+  (printf '%s' "$1"; repeated "$2" 16777216 | tr -d '\n') | head -c 16777216
+}
+
+# right nodes, as many and as long as an input holds: from a contradiction, each with 13 disjuncts of 16 atoms
+wide_nodes() {
+  local atoms cases
+  atoms=$(repeated 'a()' 16 | paste -sd'*')
+  cases=$(for ((i = 0; i < 13; i++)); do echo "true:$atoms"; done | paste -sd'|' | sed 's/|/ or /g')
+  echo 'cyclist proof 1;pred a(0){true:emp};'
+  repeated "node nil!=nil:emp|-$cases by Absurd;" 17300
+  echo 'end;'
+}
+
 rate() { # NAME: megabytes a second
   local bytes theirs mine
   bytes=$(wc -c < "$work/file")
@@ -55,3 +70,16 @@ for kind in nodes definitions loop; do
     measure "$kind $count"
   done
 done
+
+begin='cyclist proof 1;pred a(0){true:emp};node true:'
+many() { # CHARACTER
+  head -c 16777216 /dev/zero | tr '\0' "$1"
+}
+many ' ' > "$work/file"; show '16 MB of spaces' check
+many '#' > "$work/file"; show '16 MB of one comment' check
+many 'a' > "$work/file"; show '16 MB of one name' check
+many '(' > "$work/file"; show '16 MB of (' check
+endless "${begin}emp|-true:emp by Link 0{}[" '0 ' > "$work/file"; show '16 MB of a list of numbers' check
+endless "$begin" 'a()*' > "$work/file"; show '16 MB of atoms, no end' check
+(printf '%s' "$begin"; repeated 'a()*' 4194200 | tr -d '\n'; echo 'a()|-true:emp by Done;end;') > "$work/file"; show '16 MB of atoms beyond a limit' check
+wide_nodes > "$work/file"; show '16 MB of right nodes' check

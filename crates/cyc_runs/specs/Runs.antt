@@ -1,5 +1,5 @@
 -- The answers to an input, over what a source tells of it, and what is written of them.
-use Rattle.std.specs.Prelude.{◌≡◌, ◌+◌, ◌<◌, ◌≤◌, ◌⊎◌, ℕ, List, length, Option, Some, None}
+use Rattle.std.specs.Prelude.{◌≡◌, ◌+◌, ◌<◌, ◌⊎◌, ℕ, List, length, Option, Some, None}
 use Rattle.std.specs.Io.KnownBytes.{Appends, IsAtEnd}
 use Rattle.cyc_io.specs.Bytes.{AppendsProperPrefix, Came}
 use Rattle.cyc_texts.specs.Texts.{input_limit_text}
@@ -26,11 +26,6 @@ IsAnswerOf answers input ending text = IsTooLong input ending text ⊎ answers i
 abbrev pub IsTold : Option (List ℕ) → List ℕ → Type 0
 IsTold None input = Unit {0}
 IsTold (Some told) input = told ≡ input
-
--- this is the whole input, or it is too long
-abbrev pub IsInput : Option (List ℕ) → Option (List ℕ) → Type 0
-IsInput told (Some input) = IsTold told input × (length input ≤ input_limit)
-IsInput told None = (input : List ℕ) × IsTold told input × (input_limit < length input)
 
 -- the source is at its end, or one byte more came than an input may have
 abbrev pub IsReadThrough : Option (List ℕ) → Option (List ℕ) → Type 0

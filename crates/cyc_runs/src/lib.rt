@@ -12,14 +12,16 @@ mod answers;
 mod endings;
 mod faults;
 mod inputs;
+mod pieces;
 
 pub use answers::{Answer, fixed_answer};
 use cyc_io::{Sink, Source, write_all};
 pub use cyc_memory::OutOfMemory;
 pub use endings::Status;
 pub use faults::answer_to_fault;
-use inputs::answer_over;
-pub use inputs::{INPUT_LIMIT, NoAnswer};
+use inputs::WholeInput;
+use pieces::answer_in_pieces;
+pub use pieces::{INPUT_LIMIT, NoAnswer, PIECE_LIMIT, PiecewiseTool, Turn, feed_piece};
 use std::alloc::Global;
 
 /// What a program does with an input that has come whole.
@@ -97,7 +99,37 @@ pub fn run_over<T: Tool, S: Source, K: Sink>(
         → (S.faults src.new ≡ S.faults src.old) × (K.faults out.new ≡ K.faults out.old) }
     ensures counted { (S.faults src.old ≤ S.faults src.new) × (K.faults out.old ≤ K.faults out.new) }
 {
-    match answer_over(alloc, tool, src) {
+    let whole = WholeInput {
+        tool,
+        bytes: Vec::new(alloc),
+    };
+    run_in_pieces(alloc, whole, src, out)
+}
+
+/// Does what `run_over` does for a tool that is fed the input in pieces. A tool that runs out of memory ends the run at
+/// once.
+pub fn run_in_pieces<T: PiecewiseTool + Drop, S: Source, K: Sink>(
+    alloc: Global,
+    tool: T,
+    src: &mut S,
+    out: &mut K,
+) -> Status
+    requires { T.fed tool ≡ 0 }
+    // The text of the answer to the bytes that the source told was written, whole.
+    ensures answered { is_answer result ≡ true
+        → WroteAnswer (IsAnswerOf (T.answers tool)) (S.left src.old) (K.written out.old) (K.written out.new) result }
+    ensures through { is_answer result ≡ true → IsReadThrough (S.left src.old) (S.left src.new) }
+    ensures read_fault { result ≡ Status.ReadFault → Rose (S.faults src.old) (S.faults src.new) × (out.new ≡ out.old) }
+    ensures write_fault { result ≡ Status.WriteFault → Rose (K.faults out.old) (K.faults out.new)
+        × WrotePart (IsAnswerOf (T.answers tool)) (S.left src.old) (K.written out.old) (K.written out.new) }
+    // Neither a failed read nor a failed write ends so.
+    ensures memory { result ≡ Status.OutOfMemory → (out.new ≡ out.old) × (S.faults src.new ≡ S.faults src.old) }
+    // After a failed read or write no answer is given.
+    ensures calm { is_answer result ≡ true
+        → (S.faults src.new ≡ S.faults src.old) × (K.faults out.new ≡ K.faults out.old) }
+    ensures counted { (S.faults src.old ≤ S.faults src.new) × (K.faults out.old ≤ K.faults out.new) }
+{
+    match answer_in_pieces(alloc, tool, src) {
         Ok(answer) => give(answer, out),
         Err(NoAnswer::ReadFault) => Status::ReadFault,
         Err(NoAnswer::OutOfMemory) => Status::OutOfMemory,

@@ -5,3 +5,4 @@ pub mod Told
 pub mod Exact
 pub mod Upgraded
 pub mod RingFiles
+pub mod InPieces

@@ -43,6 +43,8 @@ use Rattle.proof_search.specs.declared.prover.Proved.TheVariants as answers
 use Rattle.proof_search.specs.Outcomes.{outcome_of, search_for, IsProved}
 use Rattle.proof_file.specs.Reading.{IsRead}
 use Rattle.proof_check.specs.Verdicts.{IsCorrect, IsVerdict, RootHolds}
+use Rattle.file_reader.specs.Stages.{Parts, FileFrom}
+use Rattle.file_reader.specs.Pieces.{bytes_fed}
 
 -- ---- the verdicts of a check
 
@@ -96,6 +98,11 @@ IsReadAnswer (Err fault) ending text = IsFaultAnswer fault ending text
 abbrev pub IsChecked : List ℕ → Status → List ℕ → Type 0
 IsChecked input ending text =
     (length input ≤ input_limit) × (read : Result ProofFile ReadFault) × IsRead input read × IsReadAnswer read ending text
+
+-- the text that a reader, which holds this of it, reads with this rest is answered so
+abbrev pub IsCheckedFrom : Parts → List ℕ → Status → List ℕ → Type 0
+IsCheckedFrom held rest ending text =
+    (bytes_fed held + length rest ≤ input_limit) × (read : Result ProofFile ReadFault) × FileFrom held rest read × IsReadAnswer read ending text
 
 -- ---- the answers of the prover
 

@@ -32,7 +32,7 @@ mod verdicts;
 
 use cyc_io::{Sink, Source};
 pub use cyc_runs::Status;
-use cyc_runs::{fixed_answer, give_made, run_over};
+use cyc_runs::{fixed_answer, give_made, run_in_pieces, run_over};
 use cyc_words::{Task, USAGE, task_of};
 use disprove_answers::Disprover;
 use fo_answers::{FirstOrderChecker, FirstOrderProver};
@@ -69,7 +69,7 @@ fn run_task<S: Source, K: Sink>(
     ensures unread { reads_input task ≡ false → src.new ≡ src.old }
 {
     match task {
-        Some(Task::Check) => run_over(alloc, &Checker, src, out),
+        Some(Task::Check) => run_in_pieces(alloc, Checker::new(alloc), src, out),
         Some(Task::Prove(depth)) => run_over(alloc, &Prover::new(depth), src, out),
         Some(Task::Upgrade) => run_over(alloc, &Upgrader, src, out),
         Some(Task::Sat) => run_over(alloc, &Satisfier, src, out),

@@ -1,15 +1,16 @@
 // Answers to a check, by its input.
-ghost use Rattle.std.specs.Prelude.{◌≡◌, ◌≤◌, ◌<◌, length, IfOk, true};
+ghost use Rattle.std.specs.Prelude.{◌≡◌, ◌<◌, length, IfOk, true};
 ghost use Rattle.cyc_runs.specs.Endings.{is_answer};
-ghost use Rattle.cyc_runs.specs.Runs.{input_limit};
-ghost use Rattle.cyc_top.specs.Answers.{IsChecked, is_back, link_count, nodes_text, verdict_status, verdict_text};
+ghost use Rattle.file_reader.specs.Stages.{fresh};
+ghost use Rattle.cyc_top.specs.Answers.{is_back, link_count, nodes_text, verdict_status, verdict_text};
 
 use cyc_memory::OutOfMemory;
-use cyc_runs::{Answer, Status, Tool, answer_to_fault, fixed_answer};
+use cyc_runs::{Answer, PiecewiseTool, Status, answer_to_fault, fixed_answer};
 use cyc_texts::{accepted_line, node_refused_line, path_refused_line};
+use file_reader::FileReader;
 use heap_formula::Reason;
 use proof_check::{Verdict, check};
-use proof_file::{FileNode, ProofFile, read_file};
+use proof_file::{FileNode, ProofFile};
 use std::alloc::Global;
 
 fn is_link(node: &FileNode) -> bool
@@ -68,15 +69,37 @@ fn answer_to_verdict(
 }
 
 /// The command `check`.
-pub struct Checker;
+#[derive(Drop)]
+pub struct Checker {
+    reader: FileReader,
+}
 
-impl Tool for Checker {
-    ghost use Rattle.cyc_top.specs.Answers.{IsChecked};
+impl Checker {
+    /// A check that was fed nothing.
+    pub fn new(alloc: Global) -> Checker
+        ensures { result.reader ≡ fresh }
+    {
+        Checker {
+            reader: FileReader::new(alloc),
+        }
+    }
+}
 
-    ghost answers = { λ _. IsChecked };
+impl PiecewiseTool for Checker {
+    ghost use Rattle.file_reader.specs.Pieces.{bytes_fed};
+    ghost use Rattle.cyc_top.specs.Answers.{IsCheckedFrom};
 
-    fn answer(&self, alloc: Global, input: &[u8]) -> Result<Answer, OutOfMemory> {
-        match read_file(alloc, input) {
+    ghost answers = { λ checker. IsCheckedFrom checker.reader };
+
+    ghost fed = { λ checker. bytes_fed checker.reader };
+
+    fn feed(&mut self, piece: &[u8]) -> Result<(), OutOfMemory> {
+        self.reader.feed(piece)
+    }
+
+    fn finish(self, alloc: Global) -> Result<Answer, OutOfMemory> {
+        let Checker { reader } = self;
+        match reader.finish() {
             Ok(file) => {
                 let verdict = check(alloc, &file)?;
                 answer_to_verdict(alloc, &file, verdict)

@@ -61,6 +61,24 @@ fn a_source_that_fails_at_a_call(rt: HostRuntime) -> Result<(), Fail> {
     Ok(())
 }
 
+// A text whose first byte is dead is read to its end all the same: ten calls read its 20 bytes, and another meets the end.
+#[test]
+fn a_source_that_fails_after_a_fault_of_the_text(rt: HostRuntime) -> Result<(), Fail> {
+    let alloc = rt.alloc();
+    let words = words_of(alloc, "check")?;
+    for call in 1..=12 {
+        let (written, code, faults) = if call < 12 { (0, 7, 1) } else { (42, 3, 0) };
+        let bytes = vec![in alloc; b'('; 20]?;
+        let mut src = MemSource::new(bytes, 2, vec![in alloc; call]?);
+        let mut out = PlainSink::new(alloc, 1000, 1)?;
+        let status = run(alloc, words.as_slice(), &mut src, &mut out);
+        assert_eq!(rt; status.code(), code, "at call {call}");
+        assert_eq!(rt; out.written().len(), written, "at call {call}");
+        assert_eq!(rt; src.faults(), faults, "at call {call}");
+    }
+    Ok(())
+}
+
 // A byte a call, and no call that fails.
 #[test]
 fn a_source_of_single_bytes(rt: HostRuntime) -> Result<(), Fail> {
@@ -118,15 +136,40 @@ fn words_and_inputs(rt: HostRuntime) -> Result<(), Fail> {
     Ok(())
 }
 
+// So many spaces before the file that the first 65,536 bytes end within one of its tokens.
 #[test]
-fn inputs_that_are_too_long(rt: HostRuntime) -> Result<(), Fail> {
+fn a_token_in_two_pieces(rt: HostRuntime) -> Result<(), Fail> {
     let alloc = rt.alloc();
-    let long: Vec<u8> = vec![in alloc; 32u8; 16_777_217]?;
-    for line in ["check", "prove", "upgrade"] {
-        assert!(rt;
-            is_run(alloc, line, &long, 5, "limit input\n")?,
-            "at {line}"
-        );
+    for spaces in [65_533, 65_527, 65_500, 65_001, 64_900] {
+        let mut input: Vec<u8> = vec![in alloc; b' '; spaces]?;
+        input.extend_from_slice(FILE)?;
+        assert!(rt; is_run(alloc, "check", &input, 0, ACCEPTED)?, "after {spaces} spaces");
+    }
+    Ok(())
+}
+
+/// A command, a byte, how many of it, the status, and what is printed: the greatest input, and one byte more.
+static LONG: &[(&str, u8, usize, u8, &str)] = &[
+    (
+        "check",
+        b' ',
+        16_777_216,
+        3,
+        "unreadable syntax token 0 line 1 column 16777217\n",
+    ),
+    ("check", b' ', 16_777_217, 5, "limit input\n"),
+    ("check", b'(', 16_777_217, 5, "limit input\n"),
+    ("check", b'!', 16_777_217, 5, "limit input\n"),
+    ("prove", b' ', 16_777_217, 5, "limit input\n"),
+    ("upgrade", b' ', 16_777_217, 5, "limit input\n"),
+];
+
+#[test]
+fn inputs_at_their_limit(rt: HostRuntime) -> Result<(), Fail> {
+    let alloc = rt.alloc();
+    for (line, byte, count, code, text) in LONG {
+        let input: Vec<u8> = vec![in alloc; *byte; *count]?;
+        assert!(rt; is_run(alloc, line, &input, *code, text)?, "at {line}, {count} bytes");
     }
     Ok(())
 }
