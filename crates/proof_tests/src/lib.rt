@@ -1,14 +1,10 @@
-//! Tests of proof files, links, proof graphs and verdicts; there is nothing else here.
+//! Tests of proof files, links and proof graphs; there is nothing else here.
 #![tactic(auto)]
 
 #[cfg(test)]
 mod back_links_tests;
 #[cfg(test)]
 mod node_reasons_tests;
-#[cfg(test)]
-mod proof_check_tests;
-#[cfg(test)]
-mod proof_file_flaw_tests;
 #[cfg(test)]
 mod proof_file_tests;
 #[cfg(test)]
