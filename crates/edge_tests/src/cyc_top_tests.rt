@@ -1,5 +1,5 @@
 //! Runs against sources and sinks in memory, of which a call fails.
-use cyc_io::{MemSink, MemSource, PlainSink, PlainSource, StdSink, StdSource};
+use cyc_io::{MemSink, MemSource, PlainSink, PlainSource};
 use cyc_top::run;
 use std::alloc::Global;
 use std::test::Fail;
@@ -9,9 +9,6 @@ const FILE: &[u8] =
     b"cyclist proof 1;\npred ls(2) { $0 = $1 : emp | true : $0 -> (?0) * ls(?0, $1) };\nnode true : ls($0, $1) * ls($1, $2) |- true : ls($0, $2) by Unfold 0 to 1 4;\nnode $0 = $1 : ls($1, $2) |- true : ls($0, $2) by Rewrite 0 left to 2;\nnode true : ls($1, $2) |- true : ls($1, $2) by Frame 0 0 to 3;\nnode true : emp |- true : emp by Done;\nnode true : ls($1, $2) * $0 -> ($3) * ls($3, $1) |- true : ls($0, $2) by UnfoldRight 0 1 to 5;\nnode true : ls($1, $2) * $0 -> ($3) * ls($3, $1) |- true : $0 -> (?0) * ls(?0, $2) by Instantiate ?0 $3 to 6;\nnode true : ls($1, $2) * $0 -> ($3) * ls($3, $1) |- true : $0 -> ($3) * ls($3, $2) by Frame 1 0 to 7;\nnode true : ls($1, $2) * ls($3, $1) |- true : ls($3, $2) by Link 0 { $0 := $3, $1 := $1, $2 := $2 } [1 0] [0];\nend;\n";
 
 const ACCEPTED: &str = "accepted entailment nodes 8 links 1\n";
-
-const USAGE: &str =
-    "usage: cyclist check | prove [--depth N] | ring K | upgrade | sat | model | disprove [--cells N] | fo [--depth N] | fo-check\n";
 
 fn words_of(alloc: Global, line: &str) -> Result<Vec<String>, Fail> {
     let mut words = Vec::new(alloc);
@@ -79,97 +76,71 @@ fn a_source_that_fails_after_a_fault_of_the_text(rt: HostRuntime) -> Result<(), 
     Ok(())
 }
 
-// A byte a call, and no call that fails.
+/// Texts, and how a run on each ends: its status and its line.
+static TEXTS: &[(&[u8], u8, &str)] = &[
+    (FILE, 0, "accepted entailment nodes 8 links 1"),
+    (
+        b"cyclist proof 1;\nnode true : emp |- true : emp by Done;\nend;\n",
+        0,
+        "accepted entailment nodes 1 links 0",
+    ),
+    (b"", 3, "unreadable syntax token 0 line 1 column 1"),
+    (b"a!\n", 3, "unreadable byte offset 1 line 1 column 2"),
+    (b"\xff\n", 3, "unreadable utf8 offset 0 line 1 column 1"),
+    (
+        b"1234567890\n",
+        3,
+        "unreadable number offset 0 line 1 column 1",
+    ),
+    (
+        b"aaaaaaaaaaaaaaaaaaaaaaaaaaaaaaaaaaaaaaaaaaaaaaaaaaaaaaaaaaaaaaaaa\n",
+        3,
+        "unreadable name offset 0 line 1 column 1",
+    ),
+    (
+        b"cyclist proof 1;\nnode true : $0 -> (nil) |- true : emp by Done;\nend;\n",
+        1,
+        "refused node 0 NotEmpty",
+    ),
+    (
+        b"cyclist proof 1;\nnode true : emp |- true : emp by Done to 0;\nend;\n",
+        1,
+        "refused node 0 PremiseCount",
+    ),
+    (
+        b"cyclist proof 1;\nnode true : emp |- true : emp by Done to 0;\nend\n",
+        3,
+        "unreadable syntax token 18 line 4 column 1",
+    ),
+    (
+        b"cyclist proof 1;\nnode true : emp |- true : emp by Done to 0;\nend",
+        3,
+        "unreadable syntax token 18 line 3 column 4",
+    ),
+    (
+        b"cyclist proof 1;\nnode true : emp |- true : emp by Done to 007;\nend;\n",
+        3,
+        "unreadable syntax token 15 line 2 column 42",
+    ),
+    (
+        b"cyclist proof 1;\nnode true : emp |- true : emp by Done to 0;\nend; end;\n",
+        3,
+        "unreadable syntax token 19 line 3 column 6",
+    ),
+];
+
+// A byte a read, three bytes a write, and no call that fails.
 #[test]
-fn a_source_of_single_bytes(rt: HostRuntime) -> Result<(), Fail> {
+fn sources_of_single_bytes(rt: HostRuntime) -> Result<(), Fail> {
     let alloc = rt.alloc();
     let words = words_of(alloc, "check")?;
-    let mut src = MemSource::new(Vec::from_slice(alloc, FILE)?, 1, Vec::new(alloc));
-    let mut out = PlainSink::new(alloc, 1000, 1)?;
-    let status = run(alloc, words.as_slice(), &mut src, &mut out);
-    assert_eq!(rt; status.code(), 0);
-    assert!(rt; out.written() == ACCEPTED.as_bytes());
-    Ok(())
-}
-
-/// A command line, an input, the status, and what is printed.
-static RUNS: &[(&str, &[u8], u8, &str)] = &[
-    ("check", FILE, 0, ACCEPTED),
-    ("", FILE, 2, USAGE),
-    ("check check", FILE, 2, USAGE),
-    ("Check", FILE, 2, USAGE),
-    ("--help", FILE, 2, USAGE),
-    ("prove --depth 41", FILE, 2, USAGE),
-    ("ring 0", FILE, 2, USAGE),
-    ("ring 2001", FILE, 2, USAGE),
-    ("ring 1", FILE, 0, "ring 1 accepted nodes 9 links 1\n"),
-    (
-        "check",
-        b"",
-        3,
-        "unreadable syntax token 0 line 1 column 1\n",
-    ),
-    (
-        "prove",
-        b"",
-        3,
-        "unreadable syntax token 0 line 1 column 1\n",
-    ),
-];
-
-/// Whether a run ends with this status and prints this text.
-fn is_run(alloc: Global, line: &str, input: &[u8], code: u8, text: &str) -> Result<bool, Fail> {
-    let words = words_of(alloc, line)?;
-    let mut src = StdSource::new(input);
-    let mut written: Vec<u8> = Vec::new(alloc);
-    let mut out = StdSink::new(&mut written);
-    let status = run(alloc, words.as_slice(), &mut src, &mut out);
-    Ok(status.code() == code && written.as_slice() == text.as_bytes())
-}
-
-#[test]
-fn words_and_inputs(rt: HostRuntime) -> Result<(), Fail> {
-    let alloc = rt.alloc();
-    for (line, input, code, text) in RUNS {
-        assert!(rt; is_run(alloc, line, input, *code, text)?, "at {line}");
-    }
-    Ok(())
-}
-
-// So many spaces before the file that the first 65,536 bytes end within one of its tokens.
-#[test]
-fn a_token_in_two_pieces(rt: HostRuntime) -> Result<(), Fail> {
-    let alloc = rt.alloc();
-    for spaces in [65_533, 65_527, 65_500, 65_001, 64_900] {
-        let mut input: Vec<u8> = vec![in alloc; b' '; spaces]?;
-        input.extend_from_slice(FILE)?;
-        assert!(rt; is_run(alloc, "check", &input, 0, ACCEPTED)?, "after {spaces} spaces");
-    }
-    Ok(())
-}
-
-/// A command, a byte, how many of it, the status, and what is printed: the greatest input, and one byte more.
-static LONG: &[(&str, u8, usize, u8, &str)] = &[
-    (
-        "check",
-        b' ',
-        16_777_216,
-        3,
-        "unreadable syntax token 0 line 1 column 16777217\n",
-    ),
-    ("check", b' ', 16_777_217, 5, "limit input\n"),
-    ("check", b'(', 16_777_217, 5, "limit input\n"),
-    ("check", b'!', 16_777_217, 5, "limit input\n"),
-    ("prove", b' ', 16_777_217, 5, "limit input\n"),
-    ("upgrade", b' ', 16_777_217, 5, "limit input\n"),
-];
-
-#[test]
-fn inputs_at_their_limit(rt: HostRuntime) -> Result<(), Fail> {
-    let alloc = rt.alloc();
-    for (line, byte, count, code, text) in LONG {
-        let input: Vec<u8> = vec![in alloc; *byte; *count]?;
-        assert!(rt; is_run(alloc, line, &input, *code, text)?, "at {line}, {count} bytes");
+    for (text, code, line) in TEXTS {
+        let mut src = PlainSource::new(Vec::from_slice(alloc, text)?, 1);
+        let mut out = PlainSink::new(alloc, 1000, 3)?;
+        let status = run(alloc, words.as_slice(), &mut src, &mut out);
+        assert_eq!(rt; status.code(), *code, "at {line}");
+        let written = out.written().strip_suffix(b"\n".as_slice());
+        assert!(rt; written == Some(line.as_bytes()), "at {line}");
     }
     Ok(())
 }

@@ -1,6 +1,10 @@
-//! Tests of the texts of first-order logic; there is nothing else here.
+//! Tests of the texts and values of first-order logic; there is nothing else here.
 #![tactic(auto)]
 
+#[cfg(test)]
+mod fo_file_value_tests;
+#[cfg(test)]
+mod fo_file_written_tests;
 #[cfg(test)]
 mod fo_moves_tests;
 #[cfg(test)]

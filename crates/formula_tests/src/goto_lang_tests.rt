@@ -1,5 +1,6 @@
 // Programs that are refused, single steps, and runs.
-ghost use Rattle.std.specs.Prelude.{◌<◌, length, IfOk};
+ghost use Rattle.std.specs.Prelude.{IfOk};
+ghost use Rattle.heap_formula.specs.Closedness.{IsUniversal};
 ghost use Rattle.heap_formula.specs.Words.{Each};
 ghost use Rattle.goto_lang.specs.Lines.{IsUniversalCommand, commands_of};
 
@@ -9,22 +10,116 @@ use heap_formula::{Command, Count, Term};
 use std::alloc::Global;
 use std::test::Fail;
 
+const NIL: Term = Term::Nil;
+
 const X: Term = Term::Univ(0);
 
 const Y: Term = Term::Univ(1);
 
-fn fault(alloc: Global, lines: &[(u32, Command)]) -> Option<ProgramFault>
-    requires { Each IsUniversalCommand (commands_of lines.now) }
+/// A variable that no program has.
+const FAR: Term = Term::Univ(64);
+
+/// A line's number and its command, of which no term is an existential.
+type Line = (u32, Command);
+
+fn universal_term(term: Term) -> Term
+    ensures { IsUniversal result }
 {
-    match Program::new(alloc, lines) {
-        Ok(_) => None,
-        Err(fault) => Some(fault),
+    match term {
+        Term::Univ(n) => Term::Univ(n),
+        Term::Nil | Term::Exist(_) => Term::Nil,
     }
 }
 
-fn stops(alloc: Global, count: u32) -> Result<Vec<(u32, Command)>, OutOfMemory>
+fn universal(command: Command) -> Command
+    ensures { IsUniversalCommand result }
+{
+    match command {
+        Command::Assign(x, t) => Command::Assign(x, universal_term(t)),
+        Command::Load(x, t, k) => Command::Load(x, universal_term(t), k),
+        Command::Store(t, k, u) => Command::Store(universal_term(t), k, universal_term(u)),
+        Command::New(x, k) => Command::New(x, k),
+        Command::Free(t) => Command::Free(universal_term(t)),
+        Command::IfEq(t, u, j) => Command::IfEq(universal_term(t), universal_term(u), j),
+        Command::IfNeq(t, u, j) => Command::IfNeq(universal_term(t), universal_term(u), j),
+        Command::IfAny(j) => Command::IfAny(j),
+        Command::Goto(j) => Command::Goto(j),
+        Command::Stop => Command::Stop,
+    }
+}
+
+fn lines_of(alloc: Global, lines: &[Line]) -> Result<Vec<Line>, OutOfMemory>
     ensures { IfOk result (λ v. Each IsUniversalCommand (commands_of v.items)) }
 {
+    let mut copies = Vec::new(alloc);
+    for (number, command) in lines {
+        copies.push((*number, universal(*command)))?;
+    }
+    Ok(copies)
+}
+
+fn fault(alloc: Global, lines: &[Line]) -> Result<Option<ProgramFault>, OutOfMemory> {
+    let lines = lines_of(alloc, lines)?;
+    match Program::new(alloc, &lines) {
+        Ok(_) => Ok(None),
+        Err(fault) => Ok(Some(fault)),
+    }
+}
+
+const VARIABLES: Option<ProgramFault> = Some(ProgramFault::Limit(Count::ProgramVariables));
+
+const FIELDS: Option<ProgramFault> = Some(ProgramFault::Limit(Count::Fields));
+
+/// Lines, and the first fault of the program that they are.
+static FAULTS: &[(&[Line], Option<ProgramFault>)] = &[
+    (&[], None),
+    (&[(1, Command::Free(X)), (2, Command::Goto(1))], None),
+    (&[(1, Command::Goto(0))], Some(ProgramFault::Jump(1))),
+    (&[(1, Command::Goto(2))], Some(ProgramFault::Jump(1))),
+    (
+        &[(1, Command::IfAny(0)), (2, Command::Stop)],
+        Some(ProgramFault::Jump(1)),
+    ),
+    (&[(1, Command::Free(X))], Some(ProgramFault::FallsOff)),
+    (&[(1, Command::IfAny(1))], Some(ProgramFault::FallsOff)),
+    (&[(0, Command::Stop)], Some(ProgramFault::Numbering(1))),
+    (
+        &[(1, Command::Free(FAR)), (2, Command::Stop)],
+        VARIABLES,
+    ),
+    (&[(1, Command::New(0, 0)), (2, Command::Stop)], FIELDS),
+    (&[(1, Command::Load(0, X, 9)), (2, Command::Stop)], FIELDS),
+    // the first of several
+    (&[(2, Command::Free(FAR))], Some(ProgramFault::FallsOff)),
+    (
+        &[(1, Command::Goto(3)), (2, Command::Free(X))],
+        Some(ProgramFault::Jump(1)),
+    ),
+    (
+        &[(1, Command::Free(X)), (3, Command::Goto(0))],
+        Some(ProgramFault::Numbering(2)),
+    ),
+    (&[(1, Command::New(64, 0)), (2, Command::Stop)], VARIABLES),
+    (
+        &[(1, Command::Store(X, 0, FAR)), (2, Command::Stop)],
+        FIELDS,
+    ),
+    (
+        &[(1, Command::IfEq(X, FAR, 0)), (2, Command::Stop)],
+        VARIABLES,
+    ),
+];
+
+#[test]
+fn the_first_fault_is_told(rt: HostRuntime) -> Result<(), Fail> {
+    let alloc = rt.alloc();
+    for (lines, wanted) in FAULTS {
+        assert_eq!(rt; fault(alloc, lines)?, *wanted);
+    }
+    Ok(())
+}
+
+fn stops(alloc: Global, count: u32) -> Result<Vec<Line>, OutOfMemory> {
     let mut lines = Vec::new(alloc);
     for i in 0..count {
         lines.push((i + 1, Command::Stop))?;
@@ -32,319 +127,266 @@ fn stops(alloc: Global, count: u32) -> Result<Vec<(u32, Command)>, OutOfMemory>
     Ok(lines)
 }
 
-fn many(alloc: Global, count: u32) -> Result<Option<ProgramFault>, OutOfMemory> {
-    let lines = stops(alloc, count)?;
-    Ok(fault(alloc, &lines))
-}
-
-#[test]
-fn each_fault_is_told(rt: HostRuntime) -> Result<(), Fail> {
-    let alloc = rt.alloc();
-    let variables = Some(ProgramFault::Limit(Count::ProgramVariables));
-    let fields = Some(ProgramFault::Limit(Count::Fields));
-    assert_eq!(rt; fault(alloc, &[]), None);
-    assert_eq!(rt;
-        fault(alloc, &[(1, Command::Free(X)), (2, Command::Goto(1))]),
-        None
-    );
-    assert_eq!(rt;
-        fault(alloc, &[(1, Command::Goto(0))]),
-        Some(ProgramFault::Jump(1))
-    );
-    assert_eq!(rt;
-        fault(alloc, &[(1, Command::Goto(2))]),
-        Some(ProgramFault::Jump(1))
-    );
-    assert_eq!(rt;
-        fault(alloc, &[(1, Command::IfAny(0)), (2, Command::Stop)]),
-        Some(ProgramFault::Jump(1))
-    );
-    assert_eq!(rt;
-        fault(alloc, &[(1, Command::Free(X))]),
-        Some(ProgramFault::FallsOff)
-    );
-    assert_eq!(rt;
-        fault(alloc, &[(1, Command::IfAny(1))]),
-        Some(ProgramFault::FallsOff)
-    );
-    assert_eq!(rt;
-        fault(alloc, &[(0, Command::Stop)]),
-        Some(ProgramFault::Numbering(1))
-    );
-    assert_eq!(rt;
-        fault(
-            alloc,
-            &[(1, Command::Free(Term::Univ(64))), (2, Command::Stop)]
-        ),
-        variables
-    );
-    assert_eq!(rt;
-        fault(alloc, &[(1, Command::New(0, 0)), (2, Command::Stop)]),
-        fields
-    );
-    assert_eq!(rt;
-        fault(alloc, &[(1, Command::Load(0, X, 9)), (2, Command::Stop)]),
-        fields
-    );
-    Ok(())
-}
-
-#[test]
-fn the_first_fault_is_told(rt: HostRuntime) -> Result<(), Fail> {
-    let alloc = rt.alloc();
-    let variables = Some(ProgramFault::Limit(Count::ProgramVariables));
-    let fields = Some(ProgramFault::Limit(Count::Fields));
-    let far = Term::Univ(64);
-    assert_eq!(rt;
-        fault(alloc, &[(2, Command::Free(far))]),
-        Some(ProgramFault::FallsOff)
-    );
-    assert_eq!(rt;
-        fault(alloc, &[(1, Command::Goto(3)), (2, Command::Free(X))]),
-        Some(ProgramFault::Jump(1))
-    );
-    assert_eq!(rt;
-        fault(alloc, &[(1, Command::Free(X)), (3, Command::Goto(0))]),
-        Some(ProgramFault::Numbering(2))
-    );
-    assert_eq!(rt;
-        fault(alloc, &[(1, Command::New(64, 0)), (2, Command::Stop)]),
-        variables
-    );
-    assert_eq!(rt;
-        fault(alloc, &[(1, Command::Store(X, 0, far)), (2, Command::Stop)]),
-        fields
-    );
-    assert_eq!(rt;
-        fault(alloc, &[(1, Command::IfEq(X, far, 0)), (2, Command::Stop)]),
-        variables
-    );
-    Ok(())
-}
-
 #[test]
 fn lines_are_counted(rt: HostRuntime) -> Result<(), Fail> {
     let alloc = rt.alloc();
-    assert_eq!(rt; many(alloc, 4096), Ok(None));
-    assert_eq!(rt;
-        many(alloc, 4097),
-        Ok(Some(ProgramFault::Limit(Count::Lines)))
-    );
+    for (count, wanted) in [
+        (4096, None),
+        (4097, Some(ProgramFault::Limit(Count::Lines))),
+    ] {
+        let lines = stops(alloc, count)?;
+        assert_eq!(rt; fault(alloc, &lines)?, wanted);
+    }
     Ok(())
 }
 
-/// The state at a line with these values of x and y and one cell, or none where the address is 0.
-fn state(
-    alloc: Global,
-    line: u32,
-    stack: &[u64],
-    address: u64,
-    fields: &[u64],
-) -> Result<Config, OutOfMemory> {
+/// A line, the values of x and y, and one cell, or none where the address is 0.
+#[derive(Clone, Copy)]
+struct State(u32, &'static [u64], u64, &'static [u64]);
+
+fn state(alloc: Global, state: State) -> Result<Config, OutOfMemory> {
     let mut heap = Cells::new(alloc);
-    if address > 0 && fields.len() > 0 {
-        heap.put(address, fields.to_vec(alloc)?)?;
+    if state.2 > 0 && !state.3.is_empty() {
+        heap.put(state.2, Vec::from_slice(alloc, state.3)?)?;
     }
     Ok(Config {
-        line,
-        stack: Stack::from_vec(stack.to_vec(alloc)?),
+        line: state.0,
+        stack: Stack::from_vec(Vec::from_slice(alloc, state.1)?),
         heap,
     })
 }
 
-/// One step under headroom 1. Here and below out of memory also stands for a state that is none of the program's.
-fn step_from(
-    alloc: Global,
-    lines: &[(u32, Command)],
-    config: Config,
-    pick: u64,
-    fill: &[u64],
-) -> Result<Stepped, OutOfMemory>
-    requires { Each IsUniversalCommand (commands_of lines.now) }
-{
-    match Program::new(alloc, lines) {
-        Ok(program) => {
-            if config.is_state_of(&program) && config.greatest() < u64::MAX {
-                step(alloc, &program, &config, 1, pick, fill)
-            } else {
-                Err(OutOfMemory)
-            }
-        }
-        Err(_) => Err(OutOfMemory),
-    }
+/// What a step comes to: the state with this cell, or with none at the address where there are no fields.
+#[derive(Clone, Copy)]
+enum Wanted {
+    Leads(State),
+    BadPick,
+    Fault,
+    Stop,
 }
 
-/// Whether the step leads to this state, with no cell at the address where there are no fields.
-fn leads(
-    stepped: Result<Stepped, OutOfMemory>,
-    line: u32,
-    stack: &[u64],
-    address: u64,
-    fields: &[u64],
-) -> bool {
-    match stepped {
-        Ok(Stepped::To(next)) => {
-            let found = next.heap.get(address).unwrap_or(&[]);
-            next.line == line && next.stack.as_slice() == stack && found == fields
-        }
+fn is_state(config: &Config, wanted: State) -> bool {
+    let found = config.heap.get(wanted.2).unwrap_or(&[]);
+    config.line == wanted.0 && config.stack.as_slice() == wanted.1 && found == wanted.3
+}
+
+fn is_wanted(stepped: &Stepped, wanted: Wanted) -> bool {
+    match (stepped, wanted) {
+        (Stepped::To(next), Wanted::Leads(state)) => is_state(next, state),
+        (Stepped::BadPick, Wanted::BadPick) => true,
+        (Stepped::Fault, Wanted::Fault) => true,
+        (Stepped::Stop, Wanted::Stop) => true,
         _ => false,
     }
 }
 
+/// Lines, a state, the address and the fields that are picked, and what one step under headroom 1 comes to.
+struct Step(&'static [Line], State, u64, &'static [u64], Wanted);
+
 /// `x := new 1` from the stack 1 and no cells: 1 is the greatest number, so 1 and 2 may be picked and 0 to 2 filled.
-fn new_cell(alloc: Global, pick: u64, fill: &[u64]) -> Result<Stepped, OutOfMemory> {
-    let lines = [(1, Command::New(0, 1)), (2, Command::Stop)];
-    step_from(alloc, &lines, state(alloc, 1, &[1], 0, &[])?, pick, fill)
-}
+const NEW: &[Line] = &[(1, Command::New(0, 1)), (2, Command::Stop)];
 
-#[test]
-fn new_takes_what_is_allowed(rt: HostRuntime) -> Result<(), Fail> {
-    let alloc = rt.alloc();
-    assert!(rt; leads(new_cell(alloc, 1, &[2]), 2, &[1], 1, &[2]));
-    assert!(rt; leads(new_cell(alloc, 2, &[0]), 2, &[2], 2, &[0]));
-    assert!(rt; matches!(new_cell(alloc, 3, &[2]), Ok(Stepped::BadPick)));
-    assert!(rt; matches!(new_cell(alloc, 0, &[2]), Ok(Stepped::BadPick)));
-    assert!(rt; matches!(new_cell(alloc, 1, &[3]), Ok(Stepped::BadPick)));
-    assert!(rt; matches!(new_cell(alloc, 1, &[]), Ok(Stepped::BadPick)));
-    assert!(rt; matches!(new_cell(alloc, 1, &[2, 2]), Ok(Stepped::BadPick)));
-    Ok(())
-}
+const ONE: State = State(1, &[1], 0, &[]);
 
-/// One command at line 1 with x = 1, y = 9, the cell 1 -> (5, 6), and `stop` at line 2; what is picked is `1 -> (0)`.
-fn one(alloc: Global, command: Command) -> Result<Stepped, OutOfMemory>
-    requires { IsUniversalCommand command }
-{
-    let lines = [
-        (1, command),
-        (2, Command::IfEq(X, Y, 1)),
-        (3, Command::Stop),
-    ];
-    step_from(
-        alloc,
-        &lines,
-        state(alloc, 1, &[1, 9], 1, &[5, 6])?,
+/// `if * goto 3`; the fields are not looked at.
+const ANY: &[Line] = &[
+    (1, Command::IfAny(3)),
+    (2, Command::Free(X)),
+    (3, Command::Stop),
+];
+
+const FOUR: State = State(1, &[4], 1, &[5]);
+
+/// A test of both variables, and an end.
+const TEST: Line = (2, Command::IfEq(X, Y, 1));
+
+const END: Line = (3, Command::Stop);
+
+/// The state of the lines that end so.
+const TWO: State = State(1, &[1, 9], 1, &[5, 6]);
+
+static STEPS: &[Step] = &[
+    Step(NEW, ONE, 1, &[2], Wanted::Leads(State(2, &[1], 1, &[2]))),
+    Step(NEW, ONE, 2, &[0], Wanted::Leads(State(2, &[2], 2, &[0]))),
+    Step(NEW, ONE, 3, &[2], Wanted::BadPick),
+    Step(NEW, ONE, 0, &[2], Wanted::BadPick),
+    Step(NEW, ONE, 1, &[3], Wanted::BadPick),
+    Step(NEW, ONE, 1, &[], Wanted::BadPick),
+    Step(NEW, ONE, 1, &[2, 2], Wanted::BadPick),
+    // what each command leads to
+    Step(
+        &[(1, Command::Assign(1, X)), TEST, END],
+        TWO,
         1,
         &[0],
-    )
+        Wanted::Leads(State(2, &[1, 1], 1, &[5, 6])),
+    ),
+    Step(
+        &[(1, Command::Load(1, X, 2)), TEST, END],
+        TWO,
+        1,
+        &[0],
+        Wanted::Leads(State(2, &[1, 6], 1, &[5, 6])),
+    ),
+    Step(
+        &[(1, Command::Store(X, 2, Y)), TEST, END],
+        TWO,
+        1,
+        &[0],
+        Wanted::Leads(State(2, &[1, 9], 1, &[5, 9])),
+    ),
+    Step(
+        &[(1, Command::Free(X)), TEST, END],
+        TWO,
+        1,
+        &[0],
+        Wanted::Leads(State(2, &[1, 9], 1, &[])),
+    ),
+    Step(
+        &[(1, Command::IfEq(X, Y, 3)), TEST, END],
+        TWO,
+        1,
+        &[0],
+        Wanted::Leads(State(2, &[1, 9], 1, &[5, 6])),
+    ),
+    Step(
+        &[(1, Command::IfNeq(X, Y, 3)), TEST, END],
+        TWO,
+        1,
+        &[0],
+        Wanted::Leads(State(3, &[1, 9], 1, &[5, 6])),
+    ),
+    Step(
+        &[(1, Command::Goto(3)), TEST, END],
+        TWO,
+        1,
+        &[0],
+        Wanted::Leads(State(3, &[1, 9], 1, &[5, 6])),
+    ),
+    // faults, and an end
+    Step(
+        &[(1, Command::Free(NIL)), TEST, END],
+        TWO,
+        1,
+        &[0],
+        Wanted::Fault,
+    ),
+    Step(
+        &[(1, Command::Load(0, X, 3)), TEST, END],
+        TWO,
+        1,
+        &[0],
+        Wanted::Fault,
+    ),
+    Step(
+        &[(1, Command::Store(Y, 1, X)), TEST, END],
+        TWO,
+        1,
+        &[0],
+        Wanted::Fault,
+    ),
+    Step(
+        &[(1, Command::New(0, 1)), TEST, END],
+        TWO,
+        1,
+        &[0],
+        Wanted::BadPick,
+    ),
+    Step(
+        &[(1, Command::Stop), TEST, END],
+        TWO,
+        1,
+        &[0],
+        Wanted::Stop,
+    ),
+    // free branches take 0 and 1
+    Step(ANY, FOUR, 0, &[9], Wanted::Leads(State(2, &[4], 1, &[5]))),
+    Step(ANY, FOUR, 1, &[9], Wanted::Leads(State(3, &[4], 1, &[5]))),
+    Step(ANY, FOUR, 2, &[9], Wanted::BadPick),
+    Step(ANY, FOUR, u64::MAX, &[9], Wanted::BadPick),
+];
+
+fn program(alloc: Global, lines: &[Line]) -> Result<Program, Fail> {
+    let lines = lines_of(alloc, lines)?;
+    Ok(Program::new(alloc, &lines)?)
+}
+
+/// Whether one step comes to what is wanted.
+fn steps_so(alloc: Global, row: &Step) -> Result<bool, Fail> {
+    let program = program(alloc, row.0)?;
+    let config = state(alloc, row.1)?;
+    if !config.is_state_of(&program) || config.greatest() == u64::MAX {
+        return Err("no state of the program".into());
+    }
+    let stepped = step(alloc, &program, &config, 1, row.2, row.3)?;
+    Ok(is_wanted(&stepped, row.4))
 }
 
 #[test]
 fn commands_step(rt: HostRuntime) -> Result<(), Fail> {
     let alloc = rt.alloc();
-    assert!(rt; leads(one(alloc, Command::Assign(1, X)), 2, &[1, 1], 1, &[5, 6]));
-    assert!(rt; leads(one(alloc, Command::Load(1, X, 2)), 2, &[1, 6], 1, &[5, 6]));
-    assert!(rt; leads(one(alloc, Command::Store(X, 2, Y)), 2, &[1, 9], 1, &[5, 9]));
-    assert!(rt; leads(one(alloc, Command::Free(X)), 2, &[1, 9], 1, &[]));
-    assert!(rt; leads(one(alloc, Command::IfEq(X, Y, 3)), 2, &[1, 9], 1, &[5, 6]));
-    assert!(rt; leads(one(alloc, Command::IfNeq(X, Y, 3)), 3, &[1, 9], 1, &[5, 6]));
-    assert!(rt; leads(one(alloc, Command::Goto(3)), 3, &[1, 9], 1, &[5, 6]));
-    Ok(())
-}
-
-#[test]
-fn commands_fault_or_stop(rt: HostRuntime) -> Result<(), Fail> {
-    let alloc = rt.alloc();
-    assert!(rt; matches!(one(alloc, Command::Free(Term::Nil)), Ok(Stepped::Fault)));
-    assert!(rt; matches!(one(alloc, Command::Load(0, X, 3)), Ok(Stepped::Fault)));
-    assert!(rt; matches!(one(alloc, Command::Store(Y, 1, X)), Ok(Stepped::Fault)));
-    assert!(rt; matches!(one(alloc, Command::New(0, 1)), Ok(Stepped::BadPick)));
-    assert!(rt; matches!(one(alloc, Command::Stop), Ok(Stepped::Stop)));
-    Ok(())
-}
-
-/// `if * goto 3` at line 1 with this pick; the fields are not looked at.
-fn free_branch(alloc: Global, pick: u64) -> Result<Stepped, OutOfMemory> {
-    let lines = [
-        (1, Command::IfAny(3)),
-        (2, Command::Free(X)),
-        (3, Command::Stop),
-    ];
-    step_from(alloc, &lines, state(alloc, 1, &[4], 1, &[5])?, pick, &[9])
-}
-
-#[test]
-fn free_branches_take_0_and_1(rt: HostRuntime) -> Result<(), Fail> {
-    let alloc = rt.alloc();
-    assert!(rt; leads(free_branch(alloc, 0), 2, &[4], 1, &[5]));
-    assert!(rt; leads(free_branch(alloc, 1), 3, &[4], 1, &[5]));
-    assert!(rt; matches!(free_branch(alloc, 2), Ok(Stepped::BadPick)));
-    assert!(rt; matches!(free_branch(alloc, u64::MAX), Ok(Stepped::BadPick)));
-    Ok(())
-}
-
-fn run_from(
-    alloc: Global,
-    lines: &[(u32, Command)],
-    config: Config,
-    steps: u64,
-) -> Result<Ran, OutOfMemory>
-    requires { Each IsUniversalCommand (commands_of lines.now) }
-{
-    match Program::new(alloc, lines) {
-        Ok(program) => {
-            if config.is_state_of(&program) {
-                run_lowest(alloc, &program, &config, steps)
-            } else {
-                Err(OutOfMemory)
-            }
-        }
-        Err(_) => Err(OutOfMemory),
+    for (number, row) in STEPS.iter().enumerate() {
+        assert!(rt; steps_so(alloc, row)?, "step {number}");
     }
-}
-
-#[test]
-fn a_run_goes_past_free_branches(rt: HostRuntime) -> Result<(), Fail> {
-    let alloc = rt.alloc();
-    let lines = [(1, Command::IfAny(1)), (2, Command::Stop)];
-    let start = state(alloc, 1, &[], 0, &[])?;
-    assert_eq!(rt; run_from(alloc, &lines, start, 9), Ok(Ran::Stopped(1)));
     Ok(())
 }
+
+/// Lines, a state, the greatest number of steps, and how the run ends.
+struct Run(&'static [Line], State, u64, Ran);
 
 /// Walks the list at x.
-fn walk(alloc: Global, config: Config, steps: u64) -> Result<Ran, OutOfMemory> {
-    let lines = [
-        (1, Command::IfEq(X, Term::Nil, 4)),
-        (2, Command::Load(0, X, 1)),
-        (3, Command::Goto(1)),
-        (4, Command::Stop),
-    ];
-    run_from(alloc, &lines, config, steps)
+const WALK: &[Line] = &[
+    (1, Command::IfEq(X, NIL, 4)),
+    (2, Command::Load(0, X, 1)),
+    (3, Command::Goto(1)),
+    (4, Command::Stop),
+];
+
+const LIST: State = State(1, &[1], 1, &[0]);
+
+static RUNS: &[Run] = &[
+    // past a free branch
+    Run(
+        &[(1, Command::IfAny(1)), (2, Command::Stop)],
+        State(1, &[], 0, &[]),
+        9,
+        Ran::Stopped(1),
+    ),
+    Run(WALK, LIST, 10, Ran::Stopped(4)),
+    Run(WALK, LIST, 4, Ran::Stopped(4)),
+    Run(WALK, LIST, 3, Ran::Running),
+    // a missing cell
+    Run(WALK, ONE, 1, Ran::Faulted(1)),
+    Run(WALK, ONE, 0, Ran::Running),
+    // frees x, takes a new cell for y, and stops only where y has the address that was freed
+    Run(
+        &[
+            (1, Command::Free(X)),
+            (2, Command::New(1, 1)),
+            (3, Command::IfEq(X, Y, 5)),
+            (4, Command::Goto(4)),
+            (5, Command::Stop),
+        ],
+        State(1, &[1, 0], 1, &[7]),
+        9,
+        Ran::Stopped(3),
+    ),
+];
+
+fn ran(alloc: Global, row: &Run) -> Result<Ran, Fail> {
+    let program = program(alloc, row.0)?;
+    let config = state(alloc, row.1)?;
+    if !config.is_state_of(&program) {
+        return Err("no state of the program".into());
+    }
+    Ok(run_lowest(alloc, &program, &config, row.2)?)
 }
 
 #[test]
-fn a_list_is_walked(rt: HostRuntime) -> Result<(), Fail> {
+fn runs_end(rt: HostRuntime) -> Result<(), Fail> {
     let alloc = rt.alloc();
-    let list = state(alloc, 1, &[1], 1, &[0])?;
-    assert_eq!(rt; walk(alloc, list.clone()?, 10), Ok(Ran::Stopped(4)));
-    assert_eq!(rt; walk(alloc, list.clone()?, 4), Ok(Ran::Stopped(4)));
-    assert_eq!(rt; walk(alloc, list, 3), Ok(Ran::Running));
-    Ok(())
-}
-
-#[test]
-fn a_missing_cell_is_met(rt: HostRuntime) -> Result<(), Fail> {
-    let alloc = rt.alloc();
-    let nothing = state(alloc, 1, &[1], 0, &[])?;
-    assert_eq!(rt; walk(alloc, nothing.clone()?, 1), Ok(Ran::Faulted(1)));
-    assert_eq!(rt; walk(alloc, nothing, 0), Ok(Ran::Running));
-    Ok(())
-}
-
-/// Frees x, takes a new cell for y, and stops only where y has the address that was freed.
-fn free_and_take(alloc: Global) -> Result<Ran, OutOfMemory> {
-    let lines = [
-        (1, Command::Free(X)),
-        (2, Command::New(1, 1)),
-        (3, Command::IfEq(X, Y, 5)),
-        (4, Command::Goto(4)),
-        (5, Command::Stop),
-    ];
-    run_from(alloc, &lines, state(alloc, 1, &[1, 0], 1, &[7])?, 9)
-}
-
-#[test]
-fn a_freed_address_comes_back(rt: HostRuntime) -> Result<(), Fail> {
-    assert_eq!(rt; free_and_take(rt.alloc()), Ok(Ran::Stopped(3)));
+    for row in RUNS {
+        assert_eq!(rt; ran(alloc, row)?, row.3);
+    }
     Ok(())
 }

@@ -2,6 +2,8 @@
 #![tactic(auto)]
 
 #[cfg(test)]
+mod given;
+#[cfg(test)]
 mod goto_lang_tests;
 #[cfg(test)]
 mod heap_formula_tests;

@@ -1,4 +1,4 @@
-//! Tests of proof files, links, proof graphs and verdicts; there is nothing else here.
+//! Tests of proof files, links and proof graphs; there is nothing else here.
 #![tactic(auto)]
 
 #[cfg(test)]
@@ -7,10 +7,6 @@ mod back_links_tests;
 mod file_reader_tests;
 #[cfg(test)]
 mod node_reasons_tests;
-#[cfg(test)]
-mod proof_check_tests;
-#[cfg(test)]
-mod proof_file_flaw_tests;
 #[cfg(test)]
 mod proof_file_tests;
 #[cfg(test)]

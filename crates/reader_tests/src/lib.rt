@@ -1,9 +1,13 @@
-//! Tests of what heaps, lines and problems say, and of their faults; there is nothing else here.
+//! Tests of what heaps, lines and models say, and of names and their numbers; there is nothing else here.
 #![tactic(auto)]
 
 #[cfg(test)]
-mod formula_reader_tests;
-#[cfg(test)]
 mod heap_reader_tests;
+#[cfg(test)]
+mod item_reader_tests;
+#[cfg(test)]
+mod long_list_tests;
+#[cfg(test)]
+mod model_file_tests;
 #[cfg(test)]
 mod name_numbers_tests;

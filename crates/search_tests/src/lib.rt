@@ -8,8 +8,6 @@ mod derivation_search_tests;
 #[cfg(test)]
 mod fold_offers_tests;
 #[cfg(test)]
-mod problem_files_tests;
-#[cfg(test)]
 mod proof_search_tests;
 #[cfg(test)]
 mod search_moves_tests;

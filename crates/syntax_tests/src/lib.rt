@@ -12,10 +12,6 @@ mod heap_syntax_tests;
 #[cfg(test)]
 mod piecewise_lex_tests;
 #[cfg(test)]
-mod problem_syntax_tests;
-#[cfg(test)]
 mod proof_statements_tests;
-#[cfg(test)]
-mod proof_syntax_tests;
 #[cfg(test)]
 mod texts;

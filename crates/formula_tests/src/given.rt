@@ -1,0 +1,49 @@
+// Heaps as tables have them.
+use heap_formula::{Args, Heap, OutOfMemory, Pure, Spatial, Term};
+use std::alloc::Global;
+use std::test::Fail;
+
+/// A spatial atom: a cell, or a predicate.
+#[derive(Clone, Copy)]
+pub enum Shape {
+    At(Term, &'static [Term]),
+    Pred(u16, &'static [Term]),
+}
+
+/// The pure and the spatial atoms of a heap.
+#[derive(Clone, Copy)]
+pub struct HeapRow(pub &'static [Pure], pub &'static [Shape]);
+
+/// The first eight of the terms.
+pub fn args(terms: &[Term]) -> Args {
+    if terms.len() <= 8 {
+        Args::from_slice(terms)
+    } else {
+        Args::from_slice(&terms[..8])
+    }
+}
+
+fn atom(shape: Shape) -> Spatial {
+    match shape {
+        Shape::At(t, fields) => Spatial::Cell(t, args(fields)),
+        Shape::Pred(p, terms) => Spatial::Pred(p, args(terms)),
+    }
+}
+
+fn atoms(alloc: Global, shapes: &[Shape]) -> Result<Vec<Spatial>, OutOfMemory> {
+    let mut all = Vec::new(alloc);
+    for shape in shapes {
+        all.push(atom(*shape))?;
+    }
+    Ok(all)
+}
+
+/// The heap of these atoms; a test with too many atoms fails.
+pub fn heap(alloc: Global, row: HeapRow) -> Result<Heap, Fail> {
+    let pure = Vec::from_slice(alloc, row.0)?;
+    let spatial = atoms(alloc, row.1)?;
+    if pure.len() > 64 || spatial.len() > 32 {
+        return Err("too many atoms".into());
+    }
+    Ok(Heap::from_lists(pure, spatial))
+}
