@@ -80,7 +80,7 @@ each_map P Q f [] h = tt
 each_map P Q f (e ∷ events) h = (f e h.0, each_map P Q f events h.1)
 
 -- a cycle that begins with its least event is bad
-bad_is : (least event : Event) (events : List Event) → IsLeast least → event ≡ least → Each (IsAtLeast least) events → IsBad (event ∷ events)
+pub bad_is : (least event : Event) (events : List Event) → IsLeast least → event ≡ least → Each (IsAtLeast least) events → IsBad (event ∷ events)
 bad_is (Dies k) event events l e h = inr (k, inl e, (subst (IsFrom k) (sym e) (le_refl k), each_map (IsAtLeast (Dies k)) (IsFrom k) (at_least_from k) events h))
 bad_is (Green k) event events l e h = absurd l
 bad_is Nothing event events l e h = inl (e, each_map (IsAtLeast Nothing) IsNothing at_least_nothing events h)

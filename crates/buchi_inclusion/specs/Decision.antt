@@ -56,6 +56,20 @@ abbrev pub IsNoWay : List Node → List State → Event → ℕ → ℕ → Type
 IsNoWay g states least from to =
     (s t : State) (events : List Event) → slice_get states from ≡ Some s → slice_get states to ≡ Some t → Run g s t events → Each (IsAtLeast least) events → ⊥
 
+-- a run over events that are allowed leads from the state at a place to that at another
+pub record HasWay (g : List Node) (states : List State) (least : Event) (from to : ℕ) : Type 0 where
+  pub s : State
+  pub t : State
+  pub is_s : slice_get states from ≡ Some s
+  pub is_t : slice_get states to ≡ Some t
+  pub events : List Event
+  pub run : Run g s t events
+  pub ok : Each (IsAtLeast least) events
+
+-- there is such a way to each of these places
+abbrev pub AreLed : List Node → List State → Event → ℕ → List ℕ → Type 0
+AreLed g states least start places = (i place : ℕ) → slice_get places i ≡ Some place → HasWay g states least start place
+
 -- the visit at a place was made from an earlier one, over an allowed step
 pub record IsWay (g : List Node) (states : List State) (least : Event) (visits : List Visit) (q : ℕ) (visit : Visit) : Type 0 where
   pub earlier : visit.from < q

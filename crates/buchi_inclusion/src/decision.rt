@@ -7,10 +7,12 @@ ghost use Rattle.buchi_inclusion.specs.declared.product.Transition.{Transition};
 ghost use Rattle.buchi_core.specs.declared.event.Event.TheVariants.{Dies};
 ghost use Rattle.buchi_inclusion.specs.Product.{BadCycle};
 ghost use Rattle.buchi_inclusion.specs.Table.{states_of, IsTable, IsItem, AreItems};
-ghost use Rattle.buchi_inclusion.specs.Decision.{IsLeast, class_row as class_row_of, IsClass, IsWalk, IsNoWay, AreWays, IsWayBetween, IsClassOf, IsWayBack, IsCounter, AreNoWays, IsGoodClass, IsAbsent, IsAbsentFrom};
+ghost use Rattle.buchi_inclusion.specs.Decision.{IsLeast, class_row as class_row_of, IsClass, IsWalk, IsNoWay, HasWay, AreWays, IsWayBetween, IsClassOf, IsWayBack, IsCounter, AreNoWays, IsGoodClass, IsAbsent, IsAbsentFrom};
+ghost use Rattle.buchi_inclusion.specs.BadMoves.{IsBadMove};
 
 use crate::product::{Table, Transition, state_at};
 use crate::ranks::{are_rising, rank_of, ranks_of};
+use crate::reaching::is_reached;
 use buchi_core::{Event, earlier};
 use cyc_memory::OutOfMemory;
 use std::alloc::Global;
@@ -57,13 +59,22 @@ fn visit_at(visits: &[Visit], place: usize) -> Option<&Visit>
 
 /// The moves of a product whose events aren't earlier than a least event.
 #[derive(Clone, Copy)]
-struct Class<'a> {
-    graph: &'a TraceGraph,
-    table: &'a Table,
-    least: Event,
+pub struct Class<'a> {
+    pub graph: &'a TraceGraph,
+    pub table: &'a Table,
+    pub least: Event,
     /// The states' ranks, which don't fall along the moves of the class if `rising` says so.
-    ranks: &'a [u32],
-    rising: bool,
+    pub ranks: &'a [u32],
+    pub rising: bool,
+}
+
+/// A move that is the least of a cycle: an edge of the state at a place, where it leads, and its event.
+#[derive(Clone, Copy)]
+pub struct BadMove {
+    pub place: usize,
+    pub edge: usize,
+    pub target: usize,
+    pub least: Event,
 }
 
 /// The steps that led from the first visit to the one at a place.
@@ -184,51 +195,102 @@ fn counter_of(
     Ok(Lasso::new(stem, cycle))
 }
 
-/// A lasso that doesn't progress, if the move has the least event and there is a way back from its target.
-fn try_item(
+/// The lasso of a move that is the least of a cycle.
+pub fn lasso_of(
+    alloc: Global,
+    graph: &TraceGraph,
+    table: &Table,
+    bad: BadMove,
+) -> Result<Lasso, OutOfMemory>
+    requires graph { IsGraph graph.now }
+    requires table { IsTable graph.now (states_of table.now.states) table.now.rows.items }
+    requires bad { IsBadMove graph.now (states_of table.now.states) bad }
+    ensures { IfOk result (λ l. IsCounter graph.now l) }
+{
+    let class = Class {
+        graph,
+        table,
+        least: bad.least,
+        ranks: &[],
+        rising: false,
+    };
+    let found = way_to(alloc, &class, bad.target, bad.place)?;
+    let Some(back) = found else { unreachable!() };
+    let lasso = counter_of(alloc, &class, bad.place, bad.edge, &back)?;
+    Ok(lasso)
+}
+
+/// Whether there is a way over moves of the class.
+fn leads_to(
+    alloc: Global,
+    class: &Class<'_>,
+    start: usize,
+    to: usize,
+) -> Result<bool, OutOfMemory>
+    requires class { IsClassOf class.now }
+    requires start { start < length (states_of class.now.table.now.states) }
+    ensures way { IfOk result (λ b. b ≡ true → HasWay class.now.graph.now (states_of class.now.table.now.states) class.now.least start to) }
+    ensures none { IfOk result (λ b. b ≡ false → IsNoWay class.now.graph.now (states_of class.now.table.now.states) class.now.least start to) }
+{
+    if is_reached(alloc, class, start, to)? {
+        return Ok(true);
+    }
+    let found = way_to(alloc, class, start, to)?;
+    let Some(_way) = found else {
+        return Ok(false);
+    };
+    Ok(true)
+}
+
+/// Whether the move has the least event and there is a way back from its target.
+fn is_bad_item(
     alloc: Global,
     class: &Class<'_>,
     place: usize,
     edge: usize,
     item: Transition,
-) -> Result<Option<Lasso>, OutOfMemory>
+) -> Result<bool, OutOfMemory>
     requires class { IsClassOf class.now }
     requires item { IsItem class.now.graph.now (states_of class.now.table.now.states) place edge item }
-    ensures { IfOk result (λ o. MatchOption o (item.event ≡ class.now.least → IsNoWay class.now.graph.now (states_of class.now.table.now.states) class.now.least item.target place) (λ l. IsCounter class.now.graph.now l)) }
+    ensures least { IfOk result (λ b. b ≡ true → item.event ≡ class.now.least) }
+    ensures way { IfOk result (λ b. b ≡ true → HasWay class.now.graph.now (states_of class.now.table.now.states) class.now.least item.target place) }
+    ensures none { IfOk result (λ b. b ≡ false → item.event ≡ class.now.least → IsNoWay class.now.graph.now (states_of class.now.table.now.states) class.now.least item.target place) }
 {
     if earlier(item.event, class.least) {
-        return Ok(None);
+        return Ok(false);
     }
     if earlier(class.least, item.event) {
-        return Ok(None);
+        return Ok(false);
     }
     let target = item.target as usize;
     if class.rising && rank_of(class.ranks, place) < rank_of(class.ranks, target) {
-        return Ok(None);
+        return Ok(false);
     }
-    let found = way_to(alloc, class, target, place)?;
-    let Some(back) = found else {
-        return Ok(None);
-    };
-    let lasso = counter_of(alloc, class, place, edge, &back)?;
-    Ok(Some(lasso))
+    if leads_to(alloc, class, target, place)? {
+        return Ok(true);
+    }
+    Ok(false)
 }
 
-/// A lasso that doesn't progress, if a move of the row lies on a cycle of which it is the least.
+/// A move of the row that is the least of a cycle.
 fn decide_row(
     alloc: Global,
     class: &Class<'_>,
     place: usize,
     row: &[Transition],
-) -> Result<Option<Lasso>, OutOfMemory>
+) -> Result<Option<BadMove>, OutOfMemory>
     requires class { IsClassOf class.now }
     requires row { AreItems class.now.graph.now (states_of class.now.table.now.states) place row.now }
-    ensures { IfOk result (λ o. MatchOption o (AreNoWays class.now.graph.now (states_of class.now.table.now.states) class.now.least place row.now) (λ l. IsCounter class.now.graph.now l)) }
+    ensures { IfOk result (λ o. MatchOption o (AreNoWays class.now.graph.now (states_of class.now.table.now.states) class.now.least place row.now) (IsBadMove class.now.graph.now (states_of class.now.table.now.states))) }
 {
     for (edge, item) in row.iter().enumerate() {
-        let found = try_item(alloc, class, place, edge, *item)?;
-        if found.is_some() {
-            return Ok(found);
+        if is_bad_item(alloc, class, place, edge, *item)? {
+            return Ok(Some(BadMove {
+                place,
+                edge,
+                target: item.target as usize,
+                least: class.least,
+            }));
         }
     }
     Ok(None)
@@ -258,17 +320,17 @@ fn rows_have(rows: &[Vec<Transition>], event: Event) -> bool
     false
 }
 
-/// A lasso that doesn't progress, if there is a bad cycle with the least event.
+/// A move with the least event that is the least of a cycle.
 fn search_class(
     alloc: Global,
     graph: &TraceGraph,
     table: &Table,
     least: Event,
-) -> Result<Option<Lasso>, OutOfMemory>
+) -> Result<Option<BadMove>, OutOfMemory>
     requires graph { IsGraph graph.now }
     requires table { IsTable graph.now (states_of table.now.states) table.now.rows.items }
     requires least { IsLeast least }
-    ensures { IfOk result (λ o. MatchOption o (IsGoodClass graph.now (states_of table.now.states) table.now.rows.items least) (λ l. IsCounter graph.now l)) }
+    ensures { IfOk result (λ o. MatchOption o (IsGoodClass graph.now (states_of table.now.states) table.now.rows.items least) (IsBadMove graph.now (states_of table.now.states))) }
 {
     let ranks = ranks_of(alloc, &table.rows, least)?;
     let rising = are_rising(&table.rows, least, &ranks);
@@ -294,11 +356,11 @@ fn decide_class(
     graph: &TraceGraph,
     table: &Table,
     least: Event,
-) -> Result<Option<Lasso>, OutOfMemory>
+) -> Result<Option<BadMove>, OutOfMemory>
     requires graph { IsGraph graph.now }
     requires table { IsTable graph.now (states_of table.now.states) table.now.rows.items }
     requires least { IsLeast least }
-    ensures { IfOk result (λ o. MatchOption o (IsGoodClass graph.now (states_of table.now.states) table.now.rows.items least) (λ l. IsCounter graph.now l)) }
+    ensures { IfOk result (λ o. MatchOption o (IsGoodClass graph.now (states_of table.now.states) table.now.rows.items least) (IsBadMove graph.now (states_of table.now.states))) }
 {
     if !rows_have(&table.rows, least) {
         return Ok(None);
@@ -330,15 +392,15 @@ fn deaths_of(rows: &[Vec<Transition>]) -> u32
     above
 }
 
-/// A lasso that doesn't progress, if there is a bad cycle.
+/// A move that is the least of a bad cycle.
 pub fn decide(
     alloc: Global,
     graph: &TraceGraph,
     table: &Table,
-) -> Result<Option<Lasso>, OutOfMemory>
+) -> Result<Option<BadMove>, OutOfMemory>
     requires graph { IsGraph graph.now }
     requires table { IsTable graph.now (states_of table.now.states) table.now.rows.items }
-    ensures { IfOk result (λ o. MatchOption o (BadCycle graph.now → ⊥) (λ l. IsCounter graph.now l)) }
+    ensures { IfOk result (λ o. MatchOption o (BadCycle graph.now → ⊥) (IsBadMove graph.now (states_of table.now.states))) }
 {
     let found = decide_class(alloc, graph, table, Event::Nothing)?;
     if found.is_some() {

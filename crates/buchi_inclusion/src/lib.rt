@@ -6,14 +6,15 @@ mod decision;
 mod laws;
 mod product;
 mod ranks;
+mod reaching;
 mod system;
 
 ghost use Rattle.std.specs.Prelude.{IfOk};
 ghost use Rattle.trace_pairs.specs.Graph.{IsGraph};
-ghost use Rattle.buchi_inclusion.specs.Inclusion.{IsInclusion};
+ghost use Rattle.buchi_inclusion.specs.Inclusion.{IsInclusion, IsProgress};
 
 pub use cyc_memory::OutOfMemory;
-use decision::decide;
+use decision::{decide, lasso_of};
 pub use laws::{answers_agree, descends, product_decides};
 use product::explore;
 use std::alloc::Global;
@@ -42,9 +43,35 @@ pub fn included(alloc: Global, graph: &TraceGraph, limit: u32) -> Result<Inclusi
     let Some(table) = explored else {
         return Ok(Inclusion::TooManyStates);
     };
-    let counter = decide(alloc, graph, &table)?;
-    let Some(lasso) = counter else {
+    let found = decide(alloc, graph, &table)?;
+    let Some(bad) = found else {
         return Ok(Inclusion::Included);
     };
+    let lasso = lasso_of(alloc, graph, &table, bad)?;
     Ok(Inclusion::Counter(lasso))
+}
+
+/// What is known of a graph where no lasso is asked for: every lasso progresses; some lasso doesn't; or there are more
+/// product states than the limit.
+#[derive(Clone, Copy, PartialEq, Eq, Debug)]
+pub enum Progress {
+    Progresses,
+    DoesNot,
+    TooManyStates,
+}
+
+/// Whether every lasso of the graph progresses, if there are at most `limit` product states.
+pub fn decides(alloc: Global, graph: &TraceGraph, limit: u32) -> Result<Progress, OutOfMemory>
+    requires graph { IsGraph graph.now }
+    ensures { IfOk result (IsProgress graph.now limit) }
+{
+    let explored = explore(alloc, graph, limit)?;
+    let Some(table) = explored else {
+        return Ok(Progress::TooManyStates);
+    };
+    let found = decide(alloc, graph, &table)?;
+    let Some(_bad) = found else {
+        return Ok(Progress::Progresses);
+    };
+    Ok(Progress::DoesNot)
 }

@@ -148,8 +148,8 @@ pub fn ranks_of(
         found: 0,
         numbers: vec![in alloc; 0u32; count]?,
         least: vec![in alloc; 0u32; count]?,
-        open: Vec::new(alloc),
-        way: Vec::new(alloc),
+        open: Vec::with_capacity(alloc, count)?,
+        way: Vec::with_capacity(alloc, count)?,
         ranks: vec![in alloc; 0u32; count]?,
         rank: u32::MAX,
     };

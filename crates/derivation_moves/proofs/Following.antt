@@ -1,6 +1,6 @@
 -- What the moves tell of the search.
-use Rattle.std.proofs.Common.{◌≡◌, ℕ, ◌+◌, ◌-◌, ◌<◌, inl, inr, Bool, true, ◌&&◌, ◌||◌, List, [], ◌∷◌, ◌++◌, map, reverse, Option, Some, None, slice_get, length, length-append, eqb-true, arith, refl, sym, ap, subst, ◌∙◌}
-use Rattle.std.specs.Prelude.{nat_eq, nat_lt, nat_le}
+use Rattle.std.proofs.Common.{◌≡◌, ℕ, ◌+◌, ◌-◌, ◌<◌, inl, inr, Bool, true, false, ◌&&◌, ◌||◌, List, [], ◌∷◌, ◌++◌, map, reverse, Option, Some, None, slice_get, length, length-append, eqb-true, arith, refl, sym, ap, subst, ◌∙◌}
+use Rattle.std.specs.Prelude.{nat_eq, nat_lt, nat_le, filter, if◌then◌else◌, Ok, Err}
 use Rattle.std.proofs.lemmas.Bool.{cases_Bool}
 use Rattle.std.proofs.lemmas.List.{length-map, length-reverse}
 use Rattle.std.proofs.lemmas.Option.{slice_get_within}
@@ -11,21 +11,24 @@ use Rattle.proof_graph.specs.declared.nodes.GraphNode.{GraphNode}
 use Rattle.heap_formula.specs.declared.proof_rules.Reason.TheVariants.{Step, Back}
 use Rattle.heap_formula.specs.declared.proof_rules.Link.{Link}
 use Rattle.heap_formula.specs.declared.proof_rules.Rule.{Rule}
+use Rattle.rule_table.specs.Answer.{Answer}
+use Rattle.rule_table.specs.RuleBook.{rule_answer}
+use Rattle.search_moves.specs.Closing.{has_no_premise, closes, OffersClosing}
 use Rattle.search_moves.specs.Offering.{links_offered, rules_offered, OffersLinks, OffersRules}
-use Rattle.proof_graph.specs.Nodes.{open_node, with_reason, changed_at}
+use Rattle.proof_graph.specs.Nodes.{open_node, with_reason, changed_at, HasJudgement}
 use Rattle.proof_graph.specs.Traces.{trace_graph_of}
 use Rattle.search_moves.specs.Trying.{Theory}
 use Rattle.buchi_inclusion.specs.Answers.{state_limit}
 use Rattle.trace_decision.specs.Decide.{number_of}
 use Rattle.derivation_search.specs.System.{System, after}
-use Rattle.derivation_search.specs.Engine.{FaresSo}
+use Rattle.derivation_search.specs.Engine.{FaresSo, FitAlike}
 use Rattle.derivation_search.specs.declared.Tried.{Tried}
 use Rattle.derivation_search.specs.declared.Tried.TheVariants.{Admitted, Refused, TooManyStates}
 use Rattle.tableaux.specs.Tableau.{Tableau, replay}
 use Rattle.tableaux.specs.Room.{is_nil, is_done, offered, offered_at, has_room, fits_at, fits_in}
 use Rattle.tableaux.specs.Search.{on_graph}
 use Rattle.tableaux.proofs.Steps.{Fits, next_tableau, next_is}
-use Rattle.search_calculus.specs.Calculus.{OpenGoal, MadeNode, traced}
+use Rattle.search_calculus.specs.Calculus.{OpenGoal, MadeNode, traced, answered}
 use Rattle.search_calculus.specs.Graphs.{traces_of, made_graph, goal_graph}
 use Rattle.search_calculus.specs.Search.{links_at, rules_at, calculus_of, search_system}
 use Rattle.search_calculus.proofs.MadeRows.{made_in_order, made_is_graph, made_traces}
@@ -39,7 +42,8 @@ use Rattle.derivation_moves.specs.Opened.{goal_of, node_of}
 use Rattle.derivation_moves.proofs.Gives.{goal_graph_size}
 use Rattle.derivation_moves.proofs.Shows.{HasNext, last_of, next_goal}
 use Rattle.derivation_moves.specs.Effects.{IsEffect}
-use Rattle.derivation_moves.specs.Fares.{GraphFares}
+use Rattle.derivation_moves.specs.Leaving.{LeavesPremises}
+use Rattle.tableaux.specs.Fares.{GraphFares}
 use Rattle.derivation_moves.specs.Derivations.{theory_in, nodes_in, goals_in, reasons_in, graph_with, tableau_in, IsInOrder, IsItsSearch}
 use Rattle.tableaux.proofs.Found.{nil_is}
 
@@ -164,6 +168,40 @@ others_are s r e has n number = omega (arith, number, ap length has.next, length
 
 -- ---- what is offered
 
+-- whether a rule with this answer may be followed at a goal that is not above the bound
+deep_room : (limit e n : ℕ) (g : OpenGoal) (rest : List OpenGoal) (a : Answer) → nat_lt g.depth e ≡ false → has_room limit e n g rest (answered a) ≡ (has_no_premise a && nat_le (n + 1 + (0 + length rest)) limit)
+deep_room limit e n g rest (Ok []) deep = refl
+deep_room limit e n g rest (Ok (p ∷ ps)) deep = rw deep refl
+deep_room limit e n g rest (Err f) deep = refl
+
+filter_same : {X : Type 0} (p q : X → Bool) (xs : List X) → ((x : X) → p x ≡ q x) → filter p xs ≡ filter q xs
+filter_same p q [] h = refl
+filter_same p q (x ∷ xs) h = rw (h x, filter_same p q xs h) refl
+
+filter_steps : (p : Reason → Bool) (rules : List Rule) → filter p (map Step rules) ≡ map Step (filter (λ r. p (Step r)) rules)
+filter_steps p [] = refl
+filter_steps p (r ∷ rules) =
+    elim (cases_Bool (p (Step r))) [
+      | inl yes' ↦ rw yes' (ap (λ rs. Step r ∷ rs) (filter_steps p rules))
+      | inr no' ↦ rw no' (filter_steps p rules)
+    ]
+
+filter_twice : {X : Type 0} (p : X → Bool) (b : Bool) (xs : List X) → filter (λ x. p x && b) xs ≡ filter (λ _. b) (filter p xs)
+filter_twice p b [] = refl
+filter_twice p b (x ∷ xs) =
+    elim (cases_Bool (p x)) [
+      | inl yes' ↦ rw yes' (by b (filter_twice p b xs))
+      | inr no' ↦ rw no' (filter_twice p b xs)
+    ]
+  where
+    by : (c : Bool) → filter (λ x. p x && b) xs ≡ filter (λ _. b) (filter p xs) → (if c then x ∷ filter (λ y. p y && b) xs else filter (λ y. p y && b) xs) ≡ (if c then x ∷ filter (λ _. b) (filter p xs) else filter (λ _. b) (filter p xs))
+    by true h = ap (λ ys. x ∷ ys) h
+    by false h = h
+
+-- the goal on top of the stack
+pub next_seen : (s : Derivation) (goals : List GoalOfCode) (g : GoalOfCode) → goals ≡ s.goals.items → Some g ≡ slice_get goals (length goals - 1) → HasNext s (goal_of g)
+next_seen s goals g same at = next_goal s g (last_of s.goals.items g (subst (λ gs. Some g ≡ slice_get gs (length gs - 1)) same at))
+
 module _ (s : Derivation) (g : OpenGoal) (order : IsInOrder s) (next : HasNext s g) (n : ℕ) (number : n ≡ length s.made.items) where
   abbrev u : Theory
   u = theory_in s
@@ -195,3 +233,53 @@ module _ (s : Derivation) (g : OpenGoal) (order : IsInOrder s) (next : HasNext s
       (are
       ∙ (ap (map Step) (offers.2 ∙ (λ i. rules_offered u (is_graph i) (is_number i) (is_goal offers.0 offers.1 i).judgement))
       ∙ sym (ap (offered (rules_at u)) order.is.replayed ∙ ap (offered_at (rules_at u) (nodes_in s)) next.are)))
+
+  -- the goal's judgement stands in the graph
+  pub goal_judgement : HasJudgement s.graph n g.premise.judgement
+  goal_judgement = (open_node g.premise.judgement, (λ i. slice_get (is_graph i) (is_number i)) ∙ goal_last u (nodes_in s) g, refl)
+
+  -- ---- at a goal as deep as the bound
+
+  module _ (bound : ℕ) (deep : nat_lt g.depth bound ≡ false) (system : System Reason) (search : IsItsSearch s system) where
+    abbrev room : Bool
+    room = nat_le (length (reasons_in s) + 1 + (0 + length next.rest)) 20000
+
+    -- a rule fits there if it leaves nothing to be shown, and there is room
+    fits_deep : (rule : Rule) → system.fits bound (reasons_in s) (Step rule) ≡ (closes u g.premise.judgement rule && room)
+    fits_deep rule =
+        subst (λ (y : System Reason). y.fits bound (reasons_in s) (Step rule) ≡ (closes u g.premise.judgement rule && room)) (sym search)
+        (ap (λ p. fits_in (calculus_of u) 20000 bound (length (reasons_in s)) p (Step rule)) order.is.replayed
+        ∙ (ap (fits_at (calculus_of u) 20000 bound (length (reasons_in s)) (nodes_in s) (Step rule)) next.are
+        ∙ deep_room 20000 bound (length (reasons_in s)) g next.rest (rule_answer u.most u.definitions u.lines g.premise.judgement rule) deep))
+
+    pub misfits : (reason : Reason) → LeavesPremises u g.premise.judgement reason → system.fits bound (reasons_in s) reason ≡ false
+    misfits (Step rule) h = fits_deep rule ∙ ap (λ b. b && room) h
+    misfits (Back link) h = absurd h
+
+    followed : (rules : List Rule) → filter (system.fits bound (reasons_in s)) (map Step rules) ≡ map Step (filter (λ _. room) (filter (closes u g.premise.judgement) rules))
+    followed rules =
+        filter_steps (system.fits bound (reasons_in s)) rules
+        ∙ ap (map Step) (filter_same (λ r. system.fits bound (reasons_in s) (Step r)) (λ r. closes u g.premise.judgement r && room) rules fits_deep ∙ filter_twice (closes u g.premise.judgement) room rules)
+
+    pub rules_alike : (rules : List Rule) (reasons : List Reason) → OffersClosing u s.graph n rules → reasons ≡ map Step rules → FitAlike system bound (reasons_in s) reasons (system.rules (reasons_in s))
+    rules_alike rules reasons offers are =
+        ap (filter (system.fits bound (reasons_in s))) are
+        ∙ (followed rules
+        ∙ (ap (λ rs. map Step (filter (λ _. room) rs)) alike
+        ∙ (sym (followed all_offered) ∙ ap (filter (system.fits bound (reasons_in s))) (sym are_offered))))
+      where
+        abbrev all_offered : List Rule
+        all_offered = rules_offered u (goal_graph u (nodes_in s) g) (length (nodes_in s)) g.premise.judgement
+
+        judgement : offers.0.judgement ≡ g.premise.judgement
+        judgement = ap (λ (x : GraphNode). x.judgement) (is_goal offers.0 offers.1)
+
+        alike : filter (closes u g.premise.judgement) rules ≡ filter (closes u g.premise.judgement) all_offered
+        alike =
+            (λ i. filter (closes u (sym judgement i)) rules)
+            ∙ (offers.2 ∙ (λ i. filter (closes u (judgement i)) (rules_offered u (is_graph i) (is_number i) (judgement i))))
+
+        are_offered : system.rules (reasons_in s) ≡ map Step all_offered
+        are_offered =
+            subst (λ (y : System Reason). y.rules (reasons_in s) ≡ map Step all_offered) (sym search)
+            (ap (offered (rules_at u)) order.is.replayed ∙ ap (offered_at (rules_at u) (nodes_in s)) next.are)

@@ -4,5 +4,4 @@ mod Begins
 mod Gives
 mod Shows
 mod Withdraws
-mod Trials
 mod Following

@@ -1,5 +1,5 @@
 pub mod Opened
 pub mod Effects
 pub mod PremiseCounts
-pub mod Fares
 pub mod Derivations
+pub mod Leaving

@@ -1,24 +1,22 @@
 // The moves of the search, on a partial derivation.
-ghost use Rattle.std.specs.Prelude.{◌≡◌, List, map, nat_lt, IfOk};
+ghost use Rattle.std.specs.Prelude.{◌≡◌, List, map, true, IfOk};
+ghost use Rattle.heap_formula.specs.declared.commands.Command.{Command};
 ghost use Rattle.heap_formula.specs.declared.proof_rules.Reason.TheVariants.{Step as by_rule, Back as by_link};
-ghost use Rattle.trace_pairs.specs.Graph.{Node, IsGraph};
-ghost use Rattle.trace_decision.specs.Decide.{number_of};
-ghost use Rattle.buchi_inclusion.specs.Answers.{state_limit};
-ghost use Rattle.derivation_moves.specs.Fares.{GraphFares};
+ghost use Rattle.search_moves.specs.Settings.{theory};
+ghost use Rattle.derivation_moves.specs.Leaving.{LeavesPremises};
 ghost use Rattle.derivation_moves.specs.Derivations.{IsInOrder, IsItsSearch, reasons_in, about};
 
 use crate::derivation::{Derivation, has_room};
 use crate::effects::effect_of;
-use buchi_inclusion::{Inclusion, MOST_STATES, included};
 use cyc_memory::OutOfMemory;
 use derivation_search::{Moves, Offers, Tried};
 use goto_lang::Program;
 use heap_formula::{Judgement, Link, Reason, Rule};
 use pred_defs::Defs;
-use search_moves::offers;
+use search_moves::{closing_offers, leaves_premises, offers_of};
 use std::alloc::Global;
 use std::collections::VecDeque;
-use trace_pairs::TraceGraph;
+use tableaux::{is_above, tried};
 
 fn as_links(alloc: Global, links: Vec<Link>) -> Result<VecDeque<Reason>, OutOfMemory>
     ensures { IfOk result (λ q. q.items ≡ map by_link links.items) }
@@ -40,25 +38,13 @@ fn as_rules(alloc: Global, rules: Vec<Rule>) -> Result<VecDeque<Reason>, OutOfMe
     Ok(reasons)
 }
 
-/// How a derivation with this trace graph fares.
-fn tried(alloc: Global, traces: &TraceGraph) -> Result<Tried, OutOfMemory>
-    requires { IsGraph traces.now }
-    ensures { IfOk result (GraphFares traces.now) }
+/// Whether a reason leaves premises wherever it has no fault.
+fn leaves(defs: &Defs, judgement: &Judgement, reason: &Reason) -> bool
+    ensures { result ≡ true → (lines : List Command) → LeavesPremises (theory defs.now lines) judgement.now reason.now }
 {
-    match included(alloc, traces, MOST_STATES)? {
-        Inclusion::Included => Ok(Tried::Admitted),
-        Inclusion::Counter(_) => Ok(Tried::Refused),
-        Inclusion::TooManyStates => Ok(Tried::TooManyStates),
-    }
-}
-
-/// Whether there are more product states than the limit.
-fn is_above(tried: Tried) -> bool
-    ensures { (g : List Node) → GraphFares g tried → nat_lt state_limit (number_of g) ≡ result }
-{
-    match tried {
-        Tried::TooManyStates => true,
-        Tried::Admitted | Tried::Refused => false,
+    match reason {
+        Reason::Step(rule) => leaves_premises(defs, judgement, rule),
+        Reason::Back(_) => false,
     }
 }
 
@@ -80,14 +66,49 @@ impl<'a> Moves for Derivation<'a> {
     }
 
     fn offers(&self, alloc: Global) -> Result<Offers<Reason>, OutOfMemory> {
-        if self.goals.is_empty() {
+        let Some(next) = self.goals.last() else {
             return Ok(Offers {
                 links: VecDeque::new(alloc),
                 rules: VecDeque::new(alloc),
             });
+        };
+        let node = self.made.len() as u32;
+        let judgement = &next.premise.judgement;
+        let offered = offers_of(
+            alloc,
+            &self.defs,
+            &self.program,
+            &self.graph,
+            node,
+            judgement,
+        )?;
+        Ok(Offers {
+            links: as_links(alloc, offered.links)?,
+            rules: as_rules(alloc, offered.rules)?,
+        })
+    }
+
+    fn offers_within(&self, alloc: Global, bound: u32) -> Result<Offers<Reason>, OutOfMemory> {
+        let Some(next) = self.goals.last() else {
+            return Ok(Offers {
+                links: VecDeque::new(alloc),
+                rules: VecDeque::new(alloc),
+            });
+        };
+        if next.depth < bound {
+            let offers = self.offers(alloc)?;
+            return Ok(offers);
         }
-        let goal = self.made.len() as u32;
-        let offered = offers(alloc, &self.defs, &self.program, &self.graph, goal)?;
+        let node = self.made.len() as u32;
+        let judgement = &next.premise.judgement;
+        let offered = closing_offers(
+            alloc,
+            &self.defs,
+            &self.program,
+            &self.graph,
+            node,
+            judgement,
+        )?;
         Ok(Offers {
             links: as_links(alloc, offered.links)?,
             rules: as_rules(alloc, offered.rules)?,
@@ -117,6 +138,9 @@ impl<'a> Moves for Derivation<'a> {
         let Some(goal) = self.goals.last() else {
             return Ok(false);
         };
+        if goal.depth >= bound && leaves(&self.defs, &goal.premise.judgement, &reason) {
+            return Ok(false);
+        }
         let Some(effect) = effect_of(alloc, &self.defs, &self.program, &self.made, goal, &reason)?
         else {
             return Ok(false);

@@ -26,7 +26,7 @@ use Rattle.tableaux.proofs.Found.{nil_is}
 use Rattle.derivations.specs.declared.derivation.Derivation.{Derivation}
 use Rattle.derivations.specs.declared.logic.Effect.{Effect}
 use Rattle.derivations.specs.Effects.{IsEffect}
-use Rattle.derivations.specs.Fares.{GraphFares}
+use Rattle.tableaux.specs.Fares.{GraphFares}
 use Rattle.derivations.specs.Derivations.{goals_in, reasons_in, tableau_in, IsInOrder, HasEffect, search_in, IsNextEffect, IsFitting, graph_with, next_graph}
 
 -- what two clauses on a result tell together

@@ -1,4 +1,3 @@
 pub mod Goals
 pub mod Effects
-pub mod Fares
 pub mod Derivations

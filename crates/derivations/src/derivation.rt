@@ -3,11 +3,10 @@ ghost use Rattle.std.specs.Prelude.{◌≡◌, ◌<◌, ◌+◌, ◌&&◌, ◌||
 
 use crate::goals::{drop_goals, push_goals};
 use crate::logic::{Effect, Logic};
-use crate::trials::{is_above, tried};
 use cyc_memory::OutOfMemory;
 use derivation_search::Tried;
 use std::alloc::Global;
-use tableaux::{GrowingTraces, MadeNode, OpenGoal, Premise, TracePairs};
+use tableaux::{GrowingTraces, MadeNode, OpenGoal, Premise, TracePairs, is_above, tried};
 use trace_pairs::{Edge, TraceGraph};
 
 /// A partial derivation of a judgement of a logic, with at most `limit` nodes. The goals stand on a stack, the next one on

@@ -6,7 +6,6 @@ mod derivation;
 mod goals;
 mod logic;
 mod moves;
-mod trials;
 
 pub use cyc_memory::OutOfMemory;
 pub use derivation::Derivation;

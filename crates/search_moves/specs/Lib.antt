@@ -7,3 +7,4 @@ pub mod Ways
 pub mod Offering
 pub mod Rooms
 pub mod Lengths
+pub mod Closing

@@ -42,6 +42,9 @@ pub fn rules_before(alloc: Global, at: &Setting<'_>, left: &Heap) -> Result<Vec<
 pub fn joined(mut rules: Vec<Rule>, more: Vec<Rule>) -> Result<Vec<Rule>, OutOfMemory>
     ensures { IfOk result (λ v. v.items ≡ rules.items ++ more.items) }
 {
+    if rules.is_empty() {
+        return Ok(more);
+    }
     for rule in more {
         rules.push(rule)?;
     }

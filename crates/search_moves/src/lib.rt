@@ -2,6 +2,7 @@
 //! (Brotherston, Gorogiannis and Petersen 2012).
 #![tactic(auto)]
 
+mod closing;
 mod companions;
 mod distincts;
 mod entailments;
@@ -16,5 +17,6 @@ mod setting;
 mod states;
 mod ways;
 
+pub use closing::leaves_premises;
 pub use offered::Offers;
-pub use offering::offers;
+pub use offering::{closing_offers, offers, offers_of};

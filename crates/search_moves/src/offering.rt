@@ -3,10 +3,13 @@ ghost use Rattle.std.specs.Prelude.{◌≡◌, ◌<◌, ℕ, ◌≤◌, IfOk, le
 ghost use Rattle.heap_formula.specs.Words.{Each};
 ghost use Rattle.heap_formula.specs.Meaning.{cases_of};
 ghost use Rattle.fold_offers.specs.Limits.{HasFewParameters};
+ghost use Rattle.proof_graph.specs.Nodes.{HasJudgement};
+ghost use Rattle.search_moves.specs.Closing.{CloseAlike, OffersClosing};
 ghost use Rattle.search_moves.specs.Limits.{IsSmall};
 ghost use Rattle.search_moves.specs.Settings.{theory_of, theory};
 ghost use Rattle.search_moves.specs.Offering.{rules_before as rules_before_links, rules_after as rules_after_links, OffersLinks, OffersRules};
 
+use crate::closing::{closing_rules, have_cases};
 use crate::companions::candidates;
 use crate::offered::Offers;
 use crate::setting::Setting;
@@ -48,6 +51,30 @@ fn rules_after(
     }
 }
 
+/// The same, but for rules that leave premises: those may be left out.
+fn closing_rules_after(
+    alloc: Global,
+    at: &Setting<'_>,
+    graph: &Graph<'_>,
+    goal: u32,
+) -> Result<Vec<Rule>, OutOfMemory>
+    requires goal { goal < length graph.now }
+    requires parameters { Each HasFewParameters at.now.defs.now.list }
+    requires cases { (q : ℕ) → length (cases_of at.now.defs.now.list q) ≤ 65536 }
+    ensures { IfOk result (λ v. CloseAlike (theory_of at.now) at.now.judgement.now v.items
+        (rules_after_links (theory_of at.now) graph.now goal at.now.judgement.now)) }
+{
+    match at.judgement {
+        Judgement::Entail(left, right) if have_cases(at.defs, left.spatial()) => {
+            closing_rules(alloc, at, left, right.heaps())
+        }
+        _ => {
+            let rules = rules_after(alloc, at, graph, goal)?;
+            Ok(rules)
+        }
+    }
+}
+
 /// The links and the rules that the goal, a node without a reason, is offered in the partial derivation that the graph
 /// holds, in the order in which they are to be tried. A rule with a fault is not offered, and no link is where a rule
 /// goes before links.
@@ -64,10 +91,29 @@ pub fn offers(
     ensures rules { IfOk result (λ o. OffersRules (theory defs.now program.now) graph.now goal o.rules.items) }
 {
     let judgement = graph.judgement(goal)?;
+    let offers = offers_of(alloc, defs, program, graph, goal, &judgement)?;
+    Ok(offers)
+}
+
+/// The same of a goal whose judgement is at hand.
+pub fn offers_of(
+    alloc: Global,
+    defs: &Defs,
+    program: &Program,
+    graph: &Graph<'_>,
+    goal: u32,
+    judgement: &Judgement,
+) -> Result<Offers, OutOfMemory>
+    requires goal { goal < length graph.now }
+    requires judgement { HasJudgement graph.now goal judgement.now }
+    requires small { Each IsSmall defs.now.list }
+    ensures links { IfOk result (λ o. OffersLinks (theory defs.now program.now) graph.now goal o.links.items) }
+    ensures rules { IfOk result (λ o. OffersRules (theory defs.now program.now) graph.now goal o.rules.items) }
+{
     let at = Setting {
         defs,
         program,
-        judgement: &judgement,
+        judgement,
     };
     let rules = rules_before(alloc, &at)?;
     if !rules.is_empty() {
@@ -79,5 +125,38 @@ pub fn offers(
     Ok(Offers {
         links: candidates(alloc, program, graph, goal, at.judgement)?,
         rules: rules_after(alloc, &at, graph, goal)?,
+    })
+}
+
+/// The same, but for rules that leave premises: those may be left out.
+pub fn closing_offers(
+    alloc: Global,
+    defs: &Defs,
+    program: &Program,
+    graph: &Graph<'_>,
+    goal: u32,
+    judgement: &Judgement,
+) -> Result<Offers, OutOfMemory>
+    requires goal { goal < length graph.now }
+    requires judgement { HasJudgement graph.now goal judgement.now }
+    requires small { Each IsSmall defs.now.list }
+    ensures links { IfOk result (λ o. OffersLinks (theory defs.now program.now) graph.now goal o.links.items) }
+    ensures rules { IfOk result (λ o. OffersClosing (theory defs.now program.now) graph.now goal o.rules.items) }
+{
+    let at = Setting {
+        defs,
+        program,
+        judgement,
+    };
+    let rules = rules_before(alloc, &at)?;
+    if !rules.is_empty() {
+        return Ok(Offers {
+            links: Vec::new(alloc),
+            rules,
+        });
+    }
+    Ok(Offers {
+        links: candidates(alloc, program, graph, goal, at.judgement)?,
+        rules: closing_rules_after(alloc, &at, graph, goal)?,
     })
 }

@@ -57,7 +57,7 @@ pub fn those_that_go(
 ) -> Result<Vec<Rule>, OutOfMemory>
     ensures { IfOk result (λ v. v.items ≡ filter (goes_at (theory_of at.now) at.now.judgement.now) rules.items) }
 {
-    let mut kept = Vec::new(alloc);
+    let mut kept = Vec::with_capacity(alloc, rules.len())?;
     for rule in rules {
         if goes(alloc, at, &rule)? {
             kept.push(rule)?;

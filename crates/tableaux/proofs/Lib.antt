@@ -10,3 +10,4 @@ pub mod Joined
 pub mod Made
 pub mod Found
 pub mod Replays
+mod Fares

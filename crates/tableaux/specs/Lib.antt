@@ -4,3 +4,4 @@ pub mod Search
 pub mod Fair
 pub mod Nodes
 pub mod Leaves
+pub mod Fares

@@ -5,6 +5,7 @@
 
 mod goals;
 mod traces;
+mod trials;
 
 ghost use Rattle.std.specs.Prelude.{ℕ, List, ◌≡◌, Some};
 ghost use Rattle.trace_pairs.specs.Graph.{IsGraph};
@@ -18,6 +19,7 @@ ghost use Rattle.tableaux.specs.Nodes.{HasRoot, reasons_of, MayStand, AllOffered
 pub use cyc_memory::OutOfMemory;
 pub use goals::{MadeNode, OpenGoal, Premise, TracePairs};
 pub use traces::GrowingTraces;
+pub use trials::{is_above, tried};
 
 /// A calculus, and the judgements and reasons that its derivations may have.
 pub trait Rules {

@@ -3,16 +3,15 @@ use Rattle.std.proofs.Common.{◌≡◌, true, false, List, inl, inr, subst}
 use Rattle.std.specs.Prelude.{nat_lt}
 use Rattle.std.proofs.lemmas.Bool.{cases_Bool, ltb-true, lt-ltb}
 use Rattle.trace_pairs.specs.Graph.{Node, IsGraph}
-use Rattle.trace_pairs.specs.Lasso.{AllProgress, IsLasso, Progresses}
-use Rattle.trace_pairs.specs.Walk.{Walk}
+use Rattle.trace_pairs.specs.Lasso.{AllProgress}
 use Rattle.buchi_inclusion.specs.Answers.{HasAtMost, HasMoreThan, state_limit}
-use Rattle.buchi_inclusion.specs.Inclusion.{IsInclusion}
-use Rattle.buchi_inclusion.specs.declared.Inclusion.{Inclusion}
-use Rattle.buchi_inclusion.specs.declared.Inclusion.TheVariants.{Included, Counter}
-use Rattle.buchi_inclusion.specs.declared.Inclusion.TheVariants as answers
+use Rattle.buchi_inclusion.specs.Inclusion.{IsProgress}
+use Rattle.buchi_inclusion.specs.declared.Progress.{Progress}
+use Rattle.buchi_inclusion.specs.declared.Progress.TheVariants.{Progresses, DoesNot}
+use Rattle.buchi_inclusion.specs.declared.Progress.TheVariants as answers
 use Rattle.buchi_inclusion.proofs.Exact.{not_both}
 use Rattle.derivation_search.specs.declared.Tried.TheVariants.{Admitted, Refused, TooManyStates}
-use Rattle.derivation_moves.specs.Fares.{GraphFares}
+use Rattle.tableaux.specs.Fares.{GraphFares}
 use Rattle.trace_decision.specs.Decide.{progresses, number_of}
 use Rattle.trace_decision.proofs.Decide.{progress_decided}
 use Rattle.trace_decision.proofs.Number.{number_counted}
@@ -30,21 +29,21 @@ many_states g graph many = lt-ltb state_limit (number_of g) ((number_counted g s
 pub all_progress : (g : List Node) → IsGraph g → AllProgress g → progresses g ≡ true
 all_progress g graph all' = (progress_decided g graph).1 all'
 
-pub some_fails : (g : List Node) → IsGraph g → (l : Walk) → IsLasso g l → (Progresses g l → ⊥) → progresses g ≡ false
-some_fails g graph l lasso fails =
+pub some_fails : (g : List Node) → IsGraph g → (AllProgress g → ⊥) → progresses g ≡ false
+some_fails g graph fails =
     elim (cases_Bool (progresses g)) [
-      | inl yes' ↦ absurd (fails ((progress_decided g graph).0 yes' l lasso))
+      | inl yes' ↦ absurd (fails ((progress_decided g graph).0 yes'))
       | inr no' ↦ no'
     ]
 
 -- by the inclusion's answer
-pub admitted_by : (g : List Node) (a : Inclusion) → IsGraph g → IsInclusion g state_limit a → a ≡ Included → GraphFares g Admitted
+pub admitted_by : (g : List Node) (a : Progress) → IsGraph g → IsProgress g state_limit a → a ≡ Progresses → GraphFares g Admitted
 admitted_by g a graph is e =
-    let h = subst (IsInclusion g state_limit) e is in (few_states g graph h.1, all_progress g graph h.0)
+    let h = subst (IsProgress g state_limit) e is in (few_states g graph h.1, all_progress g graph h.0)
 
-pub refused_by : (g : List Node) (a : Inclusion) (l : Walk) → IsGraph g → IsInclusion g state_limit a → a ≡ Counter l → GraphFares g Refused
-refused_by g a l graph is e =
-    let h = subst (IsInclusion g state_limit) e is in (few_states g graph h.2, some_fails g graph l h.0 h.1)
+pub refused_by : (g : List Node) (a : Progress) → IsGraph g → IsProgress g state_limit a → a ≡ DoesNot → GraphFares g Refused
+refused_by g a graph is e =
+    let h = subst (IsProgress g state_limit) e is in (few_states g graph h.1, some_fails g graph h.0)
 
-pub many_by : (g : List Node) (a : Inclusion) → IsGraph g → IsInclusion g state_limit a → a ≡ answers.TooManyStates → GraphFares g TooManyStates
-many_by g a graph is e = many_states g graph (subst (IsInclusion g state_limit) e is)
+pub many_by : (g : List Node) (a : Progress) → IsGraph g → IsProgress g state_limit a → a ≡ answers.TooManyStates → GraphFares g TooManyStates
+many_by g a graph is e = many_states g graph (subst (IsProgress g state_limit) e is)

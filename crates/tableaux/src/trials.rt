@@ -3,9 +3,9 @@ ghost use Rattle.std.specs.Prelude.{◌≡◌, List, nat_lt, IfOk};
 ghost use Rattle.trace_pairs.specs.Graph.{Node, IsGraph};
 ghost use Rattle.trace_decision.specs.Decide.{number_of};
 ghost use Rattle.buchi_inclusion.specs.Answers.{state_limit};
-ghost use Rattle.derivations.specs.Fares.{GraphFares};
+ghost use Rattle.tableaux.specs.Fares.{GraphFares};
 
-use buchi_inclusion::{Inclusion, MOST_STATES, included};
+use buchi_inclusion::{MOST_STATES, Progress, decides};
 use cyc_memory::OutOfMemory;
 use derivation_search::Tried;
 use std::alloc::Global;
@@ -16,10 +16,10 @@ pub fn tried(alloc: Global, traces: &TraceGraph) -> Result<Tried, OutOfMemory>
     requires { IsGraph traces.now }
     ensures { IfOk result (GraphFares traces.now) }
 {
-    match included(alloc, traces, MOST_STATES)? {
-        Inclusion::Included => Ok(Tried::Admitted),
-        Inclusion::Counter(_) => Ok(Tried::Refused),
-        Inclusion::TooManyStates => Ok(Tried::TooManyStates),
+    match decides(alloc, traces, MOST_STATES)? {
+        Progress::Progresses => Ok(Tried::Admitted),
+        Progress::DoesNot => Ok(Tried::Refused),
+        Progress::TooManyStates => Ok(Tried::TooManyStates),
     }
 }
 

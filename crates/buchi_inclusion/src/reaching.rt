@@ -1,0 +1,125 @@
+//! A search in depth for a way from one state of a product to another.
+
+ghost use Rattle.std.specs.Prelude.{◌≡◌, ◌<◌, ◌≤◌, true, length, IfOk, OnOk, MatchOption, slice_get, Some};
+ghost use Rattle.buchi_inclusion.specs.Table.{states_of, IsItem, AreItems};
+ghost use Rattle.buchi_inclusion.specs.Decision.{IsClassOf, HasWay, AreLed};
+
+use crate::decision::Class;
+use crate::product::Transition;
+use buchi_core::earlier;
+use cyc_memory::OutOfMemory;
+use std::alloc::Global;
+
+/// Whether the place is not marked, which it is then, if there is such a place.
+fn is_new(marks: &mut Vec<bool>, place: usize) -> bool {
+    match marks.get_mut(place) {
+        None => false,
+        Some(mark) => {
+            let was = *mark;
+            *mark = true;
+            !was
+        }
+    }
+}
+
+/// A state's row.
+fn row_at(rows: &[Vec<Transition>], place: usize) -> Option<&Vec<Transition>>
+    ensures { MatchOption result (length rows.now ≤ place) (λ row. slice_get rows.now place ≡ Some row.now) }
+{
+    rows.get(place)
+}
+
+/// Puts the target of an edge of the state at a place on the stack, if the move is one of the class and the target is not
+/// marked.
+fn push_target(
+    class: &Class<'_>,
+    start: usize,
+    place: usize,
+    edge: usize,
+    item: Transition,
+    marks: &mut Vec<bool>,
+    stack: &mut Vec<usize>,
+) -> Result<(), OutOfMemory>
+    requires class { IsClassOf class.now }
+    requires item { IsItem class.now.graph.now (states_of class.now.table.now.states) place edge item }
+    requires way { HasWay class.now.graph.now (states_of class.now.table.now.states) class.now.least start place }
+    requires stack { AreLed class.now.graph.now (states_of class.now.table.now.states) class.now.least start stack.old.items }
+    ensures { OnOk result (AreLed class.now.graph.now (states_of class.now.table.now.states) class.now.least start stack.new.items) }
+{
+    if earlier(item.event, class.least) {
+        return Ok(());
+    }
+    if !is_new(marks, item.target as usize) {
+        return Ok(());
+    }
+    stack.push(item.target as usize)?;
+    Ok(())
+}
+
+/// Puts the targets of a state's moves of the class on the stack, but those that are marked.
+fn push_targets(
+    class: &Class<'_>,
+    start: usize,
+    place: usize,
+    row: &[Transition],
+    marks: &mut Vec<bool>,
+    stack: &mut Vec<usize>,
+) -> Result<(), OutOfMemory>
+    requires class { IsClassOf class.now }
+    requires row { AreItems class.now.graph.now (states_of class.now.table.now.states) place row.now }
+    requires way { HasWay class.now.graph.now (states_of class.now.table.now.states) class.now.least start place }
+    requires stack { AreLed class.now.graph.now (states_of class.now.table.now.states) class.now.least start stack.old.items }
+    ensures { OnOk result (AreLed class.now.graph.now (states_of class.now.table.now.states) class.now.least start stack.new.items) }
+{
+    for (edge, item) in row.iter().enumerate() {
+        push_target(class, start, place, edge, *item, marks, stack)?;
+    }
+    Ok(())
+}
+
+/// Goes on from the state at a place.
+fn push_row(
+    class: &Class<'_>,
+    start: usize,
+    place: usize,
+    marks: &mut Vec<bool>,
+    stack: &mut Vec<usize>,
+) -> Result<(), OutOfMemory>
+    requires class { IsClassOf class.now }
+    requires way { HasWay class.now.graph.now (states_of class.now.table.now.states) class.now.least start place }
+    requires stack { AreLed class.now.graph.now (states_of class.now.table.now.states) class.now.least start stack.old.items }
+    ensures { OnOk result (AreLed class.now.graph.now (states_of class.now.table.now.states) class.now.least start stack.new.items) }
+{
+    match row_at(&class.table.rows, place) {
+        None => Ok(()),
+        Some(row) => push_targets(class, start, place, row, marks, stack),
+    }
+}
+
+/// Whether the search comes from the state at a place to that at another. Where it does not, no clause says that there is
+/// no way.
+pub fn is_reached(
+    alloc: Global,
+    class: &Class<'_>,
+    start: usize,
+    to: usize,
+) -> Result<bool, OutOfMemory>
+    requires class { IsClassOf class.now }
+    requires start { start < length (states_of class.now.table.now.states) }
+    ensures { IfOk result (λ b. b ≡ true → HasWay class.now.graph.now (states_of class.now.table.now.states) class.now.least start to) }
+{
+    let count = class.table.rows.len();
+    let mut marks = vec![in alloc; false; count]?;
+    let mut stack = Vec::with_capacity(alloc, count)?;
+    stack.push(start)?;
+    for _ in 0..usize::MAX {
+        let Some(place) = stack.pop() else {
+            return Ok(false);
+        };
+        if place == to {
+            return Ok(true);
+        }
+        push_row(class, start, place, &mut marks, &mut stack)?;
+    }
+    Ok(false)
+}
