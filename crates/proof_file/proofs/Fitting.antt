@@ -82,7 +82,7 @@ module _ (most : ℕ) (few : most ≤ 32) (hs : List Heading) where
         let b = neither (judgement_flaw most hs count (k + 1) x.judgement) reason a.1 in
         (not_over (nat_le 20000 n) Nodes k a.0, b.0, b.1)
 
-    node_small : (n k : ℕ) (x : Node) → HasDisjunct x.judgement → node_flaw most hs count n k x ≡ None → IsSmallNode x
+    pub node_small : (n k : ℕ) (x : Node) → HasDisjunct x.judgement → node_flaw most hs count n k x ≡ None → IsSmallNode x
     node_small n k x some e =
         let parts = node_parts n k x e in
         (judgement_small count (k + 1) x.judgement some parts.1, reason_small (k + 1 + judgement_span x.judgement) x.reason parts.2)
