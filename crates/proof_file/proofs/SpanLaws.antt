@@ -151,7 +151,7 @@ unfolding judgement entailment disjuncts shared.listed
 some_disjunct (Entails e) f = f.1.1.1.0
 some_disjunct (From n h) f = tt
 
-node_some : (n : Node) → node.fits n → HasDisjunct n.judgement
+pub node_some : (n : Node) → node.fits n → HasDisjunct n.judgement
 unfolding node
 node_some n f = some_disjunct n.judgement f.1.0
 

@@ -7,3 +7,4 @@ pub mod Reading
 pub mod Written
 pub mod Upgrades
 pub mod Fits
+pub mod Building

@@ -1,6 +1,7 @@
 //! Proof files: reading a text, with the exact place of each fault, and writing one that is read again.
 #![tactic(auto)]
 
+mod building;
 mod file;
 mod line_trees;
 mod node;
@@ -12,6 +13,7 @@ mod values;
 mod walk;
 mod writing;
 
+pub use building::{FileFront, NodeFault, file_of_values, front_flaw, front_values, node_of_tree};
 pub use file::ProofFile;
 pub use node::{FileNode, FileNodes};
 pub use reading::read_file;

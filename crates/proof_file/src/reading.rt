@@ -6,16 +6,14 @@ ghost use Rattle.proof_syntax.specs.Trees.{file_of};
 ghost use Rattle.proof_file.specs.Flaws.{headings, file_flaw as first_flaw};
 ghost use Rattle.proof_file.specs.Reading.{IsFileOf, ReadsFrom, Reads};
 
+use crate::building::{file_of_values, front_values};
 use crate::file::ProofFile;
-use crate::node::FileNodes;
-use crate::scope::ProgramVariables;
 use crate::values::nodes;
 use crate::walk::file_flaw;
 use cyc_lex::{LexFault, ReadFault, Tokens, tokens};
 use cyc_memory::OutOfMemory;
-use heap_reader::{Heads, flaw_fault, program};
-use pred_defs::Defs;
-use pred_reader::{definition_values, heads};
+use heap_reader::{Heads, flaw_fault};
+use pred_reader::heads;
 use proof_syntax::{FileTree, read_tree};
 use std::alloc::Global;
 
@@ -30,16 +28,9 @@ fn file_of_tree(
     requires right { first_flaw (file_of tree.now) ≡ None }
     ensures { IfOk result (IsFileOf (file_of tree.now)) }
 {
-    let definitions = definition_values(alloc, heads, &tree.definitions)?;
-    let defs = Defs::from_vec(alloc, tree.version.most_spatial(), definitions);
-    let program = program(alloc, &ProgramVariables, &tree.lines)?;
-    let nodes = FileNodes::from_vec(nodes(alloc, heads, &tree.nodes)?);
-    Ok(ProofFile {
-        version: tree.version,
-        defs,
-        program,
-        nodes,
-    })
+    let front = front_values(alloc, heads, tree.version, &tree.definitions, &tree.lines)?;
+    let nodes = nodes(alloc, heads, &tree.nodes)?;
+    Ok(file_of_values(tree.version, front.defs, front.program, nodes))
 }
 
 fn read_tokens(alloc: Global, tokens: &Tokens<'_>) -> Result<ProofFile, ReadFault>

@@ -117,7 +117,7 @@ fn reason(alloc: Global, heads: &Heads<'_>, tree: &ReasonTree<'_>) -> Result<Rea
     Ok(Reason::Step(rule))
 }
 
-fn node(alloc: Global, heads: &Heads<'_>, tree: &NodeTree<'_>) -> Result<FileNode, OutOfMemory>
+pub fn node(alloc: Global, heads: &Heads<'_>, tree: &NodeTree<'_>) -> Result<FileNode, OutOfMemory>
     requires small { IsSmallNode (node_of tree.now) }
     requires few { length heads.now ≤ 4096 }
     ensures { IfOk result (λ n. n ≡ node_value heads.now (node_of tree.now)) }

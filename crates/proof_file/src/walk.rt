@@ -166,7 +166,7 @@ fn premises(at: usize, numbers: &[u32]) -> usize
 }
 
 /// A node of a file that has so many lines.
-fn node(
+pub fn node(
     heads: &Heads<'_>,
     most: u8,
     count: usize,

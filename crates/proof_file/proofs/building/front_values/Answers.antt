@@ -1,0 +1,34 @@
+use Rattle.std.proofs.Common.{◌≡◌, ◌≤◌, List, length, map, ap, arith}
+use Rattle.std.proofs.lemmas.List.{length-map}
+use Rattle.heap_reader.specs.Trees.{Heading}
+use Rattle.heap_reader.proofs.Programs.{lines_are_program}
+use Rattle.proof_syntax.specs.Trees.{File, definition_of}
+use Rattle.proof_file.specs.Building.{front_of}
+use Rattle.proof_file.specs.Flaws.{heading, headings, variable_flaw, first_line}
+use Rattle.proof_file.specs.Spans.{variable_span}
+use Rattle.proof_file.specs.Values.{variable_value}
+use Rattle.proof_file.proofs.Fitting.{variable_few, file_parts, file_small}
+use Rattle.proof_file.proofs.building.front_values.Goals as goal
+
+few_heads : (heads : List Heading) (f : File) → heads ≡ headings f.definitions → length f.definitions ≤ 4096 → length heads ≤ 4096
+few_heads heads f known few = omega (arith, few, ap length known, length-map f.definitions heading)
+
+pub definition_values-requires-clause-small : goal.definition_values-requires-clause-small
+definition_values-requires-clause-small c =
+    (file_small (front_of c.args.version (map definition_of c.args.definitions.now) c.args.lines.now) tt c.requires.right).definitions
+
+pub definition_values-requires-clause-few : goal.definition_values-requires-clause-few
+definition_values-requires-clause-few c =
+    let f = front_of c.args.version (map definition_of c.args.definitions.now) c.args.lines.now in
+    few_heads c.args.heads.now f c.requires.known (file_small f tt c.requires.right).few
+
+pub from_vec-defs-requires-clause-few : goal.from_vec-defs-requires-clause-few
+from_vec-defs-requires-clause-few c =
+    let f = front_of c.args.version (map definition_of c.args.definitions.now) c.args.lines.now in
+    let few = (file_small f tt c.requires.right).few in
+    omega (arith, few, length-map c.args.definitions.now definition_of, c.in_ok-values.ensures.size)
+
+pub program-requires : goal.program-requires
+program-requires c =
+    let f = front_of c.args.version (map definition_of c.args.definitions.now) c.args.lines.now in
+    lines_are_program variable_flaw variable_span variable_value variable_few (first_line f) f.lines (file_parts f c.requires.right).1

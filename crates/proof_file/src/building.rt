@@ -1,0 +1,133 @@
+// Files that are made part by part: what stands before the nodes, each node, and the whole of them.
+ghost use Rattle.std.specs.Prelude.{◌≡◌, ◌+◌, ◌<◌, ◌≤◌, ◌^◌, None, length, map, IfOk};
+ghost use Rattle.heap_syntax.specs.Versions.{most_spatial};
+ghost use Rattle.heap_reader.specs.Flaws.{IsWalk};
+ghost use Rattle.proof_syntax.specs.Grammar.{node};
+ghost use Rattle.proof_syntax.specs.Trees.{definition_of, node_of};
+ghost use Rattle.proof_file.specs.Building.{front_of, AreSaid, IsNodeMade};
+ghost use Rattle.proof_file.specs.Flaws.{headings, node_flaw, first_node, file_flaw};
+ghost use Rattle.proof_file.specs.Spans.{node_span};
+ghost use Rattle.proof_file.specs.Values.{definition_value, program_value, node_value};
+
+use crate::file::ProofFile;
+use crate::node::{FileNode, FileNodes};
+use crate::scope::ProgramVariables;
+use crate::values::node;
+use crate::walk;
+use cyc_memory::OutOfMemory;
+use goto_lang::Program;
+use heap_reader::{Flaw, Heads, program, walk_lines};
+use heap_syntax::Version;
+use pred_defs::Defs;
+use pred_reader::{definition_values, walk_definitions};
+use proof_syntax::{DefinitionTree, LineTree, NodeTree};
+use std::alloc::Global;
+
+/// Why no node is made.
+#[derive(Clone, Copy)]
+pub enum NodeFault {
+    Flaw(Flaw),
+    OutOfMemory,
+}
+
+/// What a file says before its nodes.
+#[derive(Drop)]
+pub struct FileFront {
+    pub defs: Defs,
+    pub program: Program,
+}
+
+/// The definitions and the lines, from the fourth token on.
+fn front(
+    heads: &Heads<'_>,
+    version: Version,
+    definitions: &[DefinitionTree<'_>],
+    lines: &[LineTree],
+) -> Result<usize, Flaw>
+    requires known { heads.now ≡ headings (map definition_of definitions.now) }
+    requires fits { first_node (front_of version (map definition_of definitions.now) lines.now) < 2 ^ 64 }
+    ensures { IsWalk result (file_flaw (front_of version (map definition_of definitions.now) lines.now)) (first_node (front_of version (map definition_of definitions.now) lines.now)) }
+{
+    let first_line = walk_definitions(heads, version.most_spatial(), 4, definitions)?;
+    walk_lines(&ProgramVariables, first_line, lines)
+}
+
+/// The first flaw of what stands before the nodes of a file; the heads are those of its definitions.
+pub fn front_flaw(
+    heads: &Heads<'_>,
+    version: Version,
+    definitions: &[DefinitionTree<'_>],
+    lines: &[LineTree],
+) -> Option<Flaw>
+    requires known { heads.now ≡ headings (map definition_of definitions.now) }
+    requires fits { first_node (front_of version (map definition_of definitions.now) lines.now) < 2 ^ 64 }
+    ensures { result ≡ file_flaw (front_of version (map definition_of definitions.now) lines.now) }
+{
+    front(heads, version, definitions, lines).err()
+}
+
+/// What definitions and lines without a flaw say.
+pub fn front_values(
+    alloc: Global,
+    heads: &Heads<'_>,
+    version: Version,
+    definitions: &[DefinitionTree<'_>],
+    lines: &[LineTree],
+) -> Result<FileFront, OutOfMemory>
+    requires known { heads.now ≡ headings (map definition_of definitions.now) }
+    requires right { file_flaw (front_of version (map definition_of definitions.now) lines.now) ≡ None }
+    ensures most { IfOk result (λ f. f.defs.most ≡ most_spatial version) }
+    ensures definitions { IfOk result (λ f. f.defs.list ≡ map (definition_value heads.now) (map definition_of definitions.now)) }
+    ensures program { IfOk result (λ f. f.program ≡ program_value lines.now) }
+{
+    let values = definition_values(alloc, heads, definitions)?;
+    let defs = Defs::from_vec(alloc, version.most_spatial(), values);
+    let program = program(alloc, &ProgramVariables, lines)?;
+    Ok(FileFront { defs, program })
+}
+
+/// What a node says that the grammar has, which begins at a token and before which so many nodes stand, in a file of so many
+/// lines.
+pub fn node_of_tree(
+    alloc: Global,
+    heads: &Heads<'_>,
+    version: Version,
+    lines: usize,
+    n: usize,
+    at: usize,
+    tree: &NodeTree<'_>,
+) -> Result<FileNode, NodeFault>
+    requires fits { node.fits (node_of tree.now) }
+    requires few { length heads.now ≤ 4096 }
+    requires room { at + node_span (node_of tree.now) < 2 ^ 64 }
+    ensures { IsNodeMade (node_flaw (most_spatial version) heads.now lines n at (node_of tree.now)) (node_value heads.now (node_of tree.now)) result }
+{
+    match walk::node(heads, version.most_spatial(), lines, n, at, tree) {
+        Ok(_) => match node(alloc, heads, tree) {
+            Ok(value) => Ok(value),
+            Err(OutOfMemory) => Err(NodeFault::OutOfMemory),
+        },
+        Err(flaw) => Err(NodeFault::Flaw(flaw)),
+    }
+}
+
+/// The file of values that a tree without a flaw says.
+pub fn file_of_values(
+    version: Version,
+    defs: Defs,
+    program: Program,
+    nodes: Vec<FileNode>,
+) -> ProofFile
+    requires { AreSaid version defs program nodes.items }
+    ensures version { result.version ≡ version }
+    ensures defs { result.defs ≡ defs }
+    ensures program { result.program ≡ program }
+    ensures nodes { result.nodes ≡ nodes.items }
+{
+    ProofFile {
+        version,
+        defs,
+        program,
+        nodes: FileNodes::from_vec(nodes),
+    }
+}
