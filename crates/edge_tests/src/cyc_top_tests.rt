@@ -143,7 +143,10 @@ fn a_token_in_two_pieces(rt: HostRuntime) -> Result<(), Fail> {
     for spaces in [65_533, 65_527, 65_500, 65_001, 64_900] {
         let mut input: Vec<u8> = vec![in alloc; b' '; spaces]?;
         input.extend_from_slice(FILE)?;
-        assert!(rt; is_run(alloc, "check", &input, 0, ACCEPTED)?, "after {spaces} spaces");
+        assert!(rt;
+            is_run(alloc, "check", &input, 0, ACCEPTED)?,
+            "after {spaces} spaces"
+        );
     }
     Ok(())
 }
@@ -169,7 +172,10 @@ fn inputs_at_their_limit(rt: HostRuntime) -> Result<(), Fail> {
     let alloc = rt.alloc();
     for (line, byte, count, code, text) in LONG {
         let input: Vec<u8> = vec![in alloc; *byte; *count]?;
-        assert!(rt; is_run(alloc, line, &input, *code, text)?, "at {line}, {count} bytes");
+        assert!(rt;
+            is_run(alloc, line, &input, *code, text)?,
+            "at {line}, {count} bytes"
+        );
     }
     Ok(())
 }
