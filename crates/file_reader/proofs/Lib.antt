@@ -5,3 +5,6 @@ pub mod Beginning
 pub mod Fresh
 pub mod PieceLaws
 pub mod Sizes
+mod ScanLaws
+mod HeldLaws
+mod EndLaws

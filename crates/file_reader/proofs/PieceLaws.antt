@@ -22,7 +22,6 @@ use Rattle.file_reader.specs.Outcomes.{Outcome, Faulty}
 use Rattle.file_reader.specs.Stages.{Stage, Head, Nodes, Dead, Unlexed, Lost, Parts, fresh, behind, outcome}
 use Rattle.file_reader.specs.Steps.{Takes}
 use Rattle.file_reader.specs.Pieces.{Tells, KeepsLaw, AreFed, bytes_of, parts, IsOpen, Comes, IsBad}
-use Rattle.file_reader.specs.Waiting.{waiting_stage, IsWaiting}
 use Rattle.file_reader.proofs.Fresh.{fresh-read, fresh-comes}
 use Rattle.std.proofs.lemmas.List.{append-nil}
 use Rattle.cyc_lex.specs.Lexing.{start}
@@ -103,10 +102,6 @@ reads-tell bytes answer h = subst (λ (o : Outcome). Tells o answer) (ap (λ (b 
     by (Err (faults.Syntax n l c)) k = fresh-comes bytes (Err (faults.Syntax n l c)) k
     by (Err (faults.IllFormed fault n l c)) k = fresh-comes bytes (Err (faults.IllFormed fault n l c)) k
     by (Err (faults.Limit what n l c)) k = fresh-comes bytes (Err (faults.Limit what n l c)) k
-
-pub waiting-tells : (lost : Bool) (place : Place) (bytes : List ℕ) (answer : Result ProofFile ReadFault) → lost ≡ false → IsWaiting lost place → Reads bytes answer → Tells (outcome (parts (waiting_stage lost) place false bytes) []) answer
-waiting-tells true place bytes answer none at h = absurd cc
-waiting-tells false place bytes answer none at h = subst (λ (p : Place). Tells (outcome (parts (Head []) p false bytes) []) answer) (sym at) (reads-tell bytes answer h)
 
 -- ---- the tokens of one statement, at the front of a text behind which bytes stand that make no character yet
 

@@ -43,7 +43,7 @@ nodes-lawful =
 pub whole-within : {T : Type 0} (s : Syntax T) → Lawful s → (ws : List Word) (left : ℕ) → read_whole s ws ≡ Err left → left ≤ length ws
 whole-within s law ws left e = let f = whole_fault s law ws left e in omega (arith, f.size, ap length f.parts, length-append f.front f.rest)
 
-fault-within : {T : Type 0} (s : Syntax T) → Lawful s → (ws : List Word) (left : ℕ) → s.read ws ≡ Err left → left ≤ length ws
+pub fault-within : {T : Type 0} (s : Syntax T) → Lawful s → (ws : List Word) (left : ℕ) → s.read ws ≡ Err left → left ≤ length ws
 fault-within s law ws left e = let f = law.fault ws left e in omega (arith, f.size, ap length f.parts, length-append f.front f.rest)
 
 -- a node, and the nodes behind it

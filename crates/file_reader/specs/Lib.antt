@@ -3,4 +3,5 @@ pub mod Stages
 pub mod Steps
 pub mod Pieces
 pub mod Passing
-pub mod Waiting
+pub mod Scans
+pub mod Helds

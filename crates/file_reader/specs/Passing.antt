@@ -1,5 +1,5 @@
 -- Tokens that are passed over, since a syntax fault is known and only a bad place may still go before it.
-use Rattle.std.specs.Prelude.{◌≡◌, ℕ, Bool, List, ◌++◌, length, Result, Ok, Err}
+use Rattle.std.specs.Prelude.{◌≡◌, ℕ, ◌+◌, Bool, List, ◌++◌, length, Result, Ok, Err}
 use Rattle.std.specs.Str.{IsUtf8}
 use Rattle.cyc_lex.specs.declared.place.Place.{Place}
 use Rattle.cyc_lex.specs.declared.place.Stop.{Stop}
@@ -14,6 +14,7 @@ pub record IsPassed (p : Place) (comment : Bool) (text : List ℕ) (to : Passed)
   pub tokens : List Placed
   pub law : (more : List ℕ) → tokens_from p comment (text ++ more)
       ≡ with_tokens tokens (tokens_from to.place to.comment (to.rest.now ++ more))
+  pub size : to.place.offset + length to.rest.now ≡ p.offset + length text
   pub room : HasRoom to.place (length to.rest.now)
   pub utf8 : IsUtf8 to.rest.now
   pub waits : Waits (reading to.place to.comment to.rest.now)

@@ -2,8 +2,14 @@
 //! any bytes that may follow. Each law is the contract of a function that does nothing.
 #![tactic(auto)]
 
+mod awaited;
+mod feeding;
+mod finishing;
+mod held;
 mod passing;
 mod reader;
+mod scan;
+mod step;
 
 ghost use Rattle.std.specs.Prelude.{◌≡◌, ◌++◌, ◌∷◌, [], true, false, suc, length, map, List, ℕ, Bool, None, Some, Result, Ok, Err};
 ghost use Rattle.std.specs.Str.{chars};

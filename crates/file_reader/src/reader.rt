@@ -5,32 +5,34 @@ ghost use Rattle.proof_file.specs.Reading.{Reads};
 ghost use Rattle.file_reader.specs.Stages.{Lost, fresh, outcome};
 ghost use Rattle.file_reader.specs.Pieces.{KeepsLaw, Tells, bytes_fed};
 
+use crate::awaited::Awaited;
+use crate::feeding::{bytes_fed, feed};
+use crate::finishing::finish;
+use crate::held::{Alive, Held};
 use cyc_lex::{OutOfMemory, Place, ReadFault};
 use proof_file::ProofFile;
 use std::alloc::Global;
 use std::marker::Model;
+use std::mem;
 
 /// A reader of a proof file that is fed the text in pieces, of fewer than 4,294,967,295 bytes in all, and answers at its end
 /// what the text comes to. A contract sees what the text comes to with any bytes that may follow.
 #[derive(Drop)]
 pub struct FileReader {
     alloc: Global,
-    place: Place,
-    pending: Vec<u8>,
-    lost: bool,
+    held: Held,
 }
 
 impl Model for FileReader {
-    ghost use Rattle.std.specs.Prelude.{false};
     ghost use Rattle.file_reader.specs.Stages.{Parts};
 
     ghost Value = { Parts };
 
-    ghost use Rattle.file_reader.specs.Waiting.{waiting_stage, IsWaiting};
+    ghost use Rattle.file_reader.specs.Helds.{parts_of, IsHeld};
 
-    ghost view = { λ r. record { stage = waiting_stage r.lost; place = r.place; comment = false; pending = r.pending.items } };
+    ghost view = { λ r. parts_of r.held };
 
-    ghost invariant = { λ r. IsWaiting r.lost r.place };
+    ghost invariant = { λ r. IsHeld r.held };
 }
 
 impl FileReader {
@@ -40,9 +42,15 @@ impl FileReader {
     {
         FileReader {
             alloc,
-            place: Place::START,
-            pending: Vec::new(alloc),
-            lost: false,
+            held: Held::Alive(Alive {
+                all: Vec::new(alloc),
+                awaited: Awaited::First,
+                tokens: 0,
+                place: Place::START,
+                comment: false,
+                waiting: Vec::new(alloc),
+                enough: 0,
+            }),
         }
     }
 
@@ -54,17 +62,14 @@ impl FileReader {
         ensures memory { OnErr result (self.new.stage ≡ Lost) }
         ensures count { bytes_fed self.new ≡ bytes_fed self.old + length piece.now }
     {
-        if self.lost {
-            self.place.offset += piece.len() as u32;
-            return Err(OutOfMemory);
-        }
-        match self.pending.extend_from_slice(piece) {
-            Ok(()) => Ok(()),
-            Err(_) => {
-                self.place.offset += piece.len() as u32;
-                self.lost = true;
-                Err(OutOfMemory)
+        let fed = bytes_fed(&self.held) + piece.len() as u32;
+        let held = mem::replace(&mut self.held, Held::Lost(fed));
+        match feed(self.alloc, held, piece) {
+            Ok(held) => {
+                self.held = held;
+                Ok(())
             }
+            Err(OutOfMemory) => Err(OutOfMemory),
         }
     }
 
@@ -73,10 +78,7 @@ impl FileReader {
         requires { bytes_fed self < 2 ^ 32 - 1 }
         ensures { Tells (outcome self []) result }
     {
-        if self.lost {
-            return Err(ReadFault::OutOfMemory);
-        }
-        proof_file::read_file(self.alloc, &self.pending)
+        finish(self.alloc, &self.held)
     }
 }
 

@@ -71,6 +71,12 @@ short-lex whole p zero (c ∷ cs) ts good e =
 pub short-all : (whole : Bool) (p : Place) (k : ℕ) (cs : List ℕ) (ts : List Token) → all_scalars cs ≡ true → lex whole p k cs ≡ found (map placed ts) → All IsShort ts
 short-all whole p k cs ts good e = All-from_recursion IsShort ts (unplaced ts (short-lex whole p k cs (map placed ts) good e))
 
+-- a piece that is a token is a lexeme
+pub lexeme-piece : (p : Place) (cs : List ℕ) → all_scalars cs ≡ true → 0 < length cs → (k : Kind) → piece_of cs ≡ pieces.Token k → (front : List ℕ) → front ≡ encode_utf8_all (piece_chars cs) → len_fault k p front ≡ Ok tt → is_lexeme (record { kind = k; text = front }) ≡ true
+lexeme-piece p [] good some k is front same fits = absurd (omega (arith, some))
+lexeme-piece p (c ∷ cs) good some k is front same fits =
+    ap (λ (s : List ℕ). is_lexeme (record { kind = k; text = s })) same ∙ piece-lexeme p c cs good k is (ap (len_fault k p) (sym same) ∙ fits)
+
 -- a piece that is a token is short
 pub short-piece : (p : Place) (cs : List ℕ) → all_scalars cs ≡ true → 0 < length cs → (k : Kind) → piece_of cs ≡ pieces.Token k → (front : List ℕ) → front ≡ encode_utf8_all (piece_chars cs) → len_fault k p front ≡ Ok tt → length front ≤ 64
 short-piece p [] good some k is front same fits = absurd (omega (arith, some))

@@ -1,6 +1,7 @@
 -- Tokens that were taken off a text are the first, whatever bytes come after it.
-use Rattle.std.proofs.Common.{◌≡◌, ℕ, Bool, List, ◌++◌, Ok, Err, refl, sym, ap, ◌∙◌}
-use Rattle.std.specs.Str.{encode_utf8_all, IsUtf8}
+use Rattle.std.proofs.Common.{◌≡◌, ℕ, ◌+◌, Bool, List, ◌++◌, length, Ok, Err, refl, sym, ap, ◌∙◌, arith, length-append}
+use Rattle.std.specs.Str.{chars, encode_utf8_all, IsUtf8}
+use Rattle.std.proofs.lemmas.Str.{encodes-append, encodes-chars}
 use Rattle.std.proofs.lemmas.List.{append-nil}
 use Rattle.cyc_lex.specs.declared.place.Place.{Place}
 use Rattle.cyc_lex.specs.Placed.{Placed}
@@ -10,7 +11,8 @@ use Rattle.piecewise_lex.specs.Feeding.{taken_chars, held_chars, ends_in_comment
 use Rattle.piecewise_lex.specs.Taking.{reading, tokens_in, held_in, place_in, comment_in, HasTaken}
 use Rattle.piecewise_lex.proofs.Carrying.{then_tokens}
 use Rattle.piecewise_lex.proofs.ValidLaws.{chars-whole, tail-whole, cut-whole}
-use Rattle.piecewise_lex.proofs.Extending.{all_chars, more-bytes, waiting-cut}
+use Rattle.piecewise_lex.proofs.Extending.{all_chars, more-bytes, waiting-cut, taken-and-held}
+use Rattle.cyc_lex.proofs.Pieces.{pass_all-offset}
 
 text-law : (p : Place) (c : Bool) (text more : List ℕ) → IsUtf8 text → tokens_from p c (text ++ more) ≡ then_tokens (tokens_in (reading p c text)) (tokens_from (place_in (reading p c text)) (comment_in (reading p c text)) (encode_utf8_all (held_in (reading p c text)) ++ more))
 unfolding all_chars comment_after
@@ -35,3 +37,17 @@ taken-law p q c d text rest ts utf8 fine h more =
     ∙ sym (λ i. then_tokens (h.tokens i) (tokens_from (h.place i) (h.comment i) (encode_utf8_all (h.held i) ++ more)))
     ∙ sym (with-then ts (tokens_in new) (tokens_from (place_in new) (comment_in new) (encode_utf8_all (held_in new) ++ more)))
     ∙ ap (with_tokens ts) (sym (text-law q d rest more fine))
+
+-- no byte is lost: those that are taken stand before the place behind them, and the others wait
+reading-count : (p : Place) (c : Bool) (text : List ℕ) → IsUtf8 text → (place_in (reading p c text)).offset + length (encode_utf8_all (held_in (reading p c text))) ≡ p.offset + length text
+reading-count p c text utf8 =
+    let k = comment_len c (chars text) in
+    let kept = taken_chars k (chars text) in
+    let held = held_chars k (chars text) in
+    let far = pass_all-offset p kept in
+    let all : length text ≡ length (encode_utf8_all kept) + length (encode_utf8_all held) = ap length (sym (encodes-chars text utf8)) ∙ ap (λ (x : List ℕ). length (encode_utf8_all x)) (sym (taken-and-held k (chars text))) ∙ ap length (encodes-append kept held) ∙ length-append (encode_utf8_all kept) (encode_utf8_all held) in
+    omega (arith, far.offset, all)
+
+pub taken-count : (p q : Place) (c d : Bool) (text rest : List ℕ) (ts : List Placed) → IsUtf8 text → IsUtf8 rest → HasTaken (reading p c text) ts (reading q d rest) → q.offset + length rest ≡ p.offset + length text
+taken-count p q c d text rest ts utf8 fine h =
+    sym (reading-count q d rest fine) ∙ (λ i. (h.place i).offset + length (encode_utf8_all (h.held i))) ∙ reading-count p c text utf8

@@ -24,7 +24,8 @@ use Rattle.piecewise_lex.specs.Feeding.{may_grow, is_held, taken_chars, held_cha
 use Rattle.cyc_lex.specs.Lexing.{comment_len}
 use Rattle.piecewise_lex.specs.Owned.{IsShort}
 use Rattle.piecewise_lex.specs.Taking.{Reading, reading, tokens_in, HasTaken, Waits, stays}
-use Rattle.piecewise_lex.proofs.ShortTokens.{short-piece}
+use Rattle.piecewise_lex.proofs.ShortTokens.{short-piece, lexeme-piece}
+use Rattle.cyc_lex.specs.Word.{word, word_of, is_lexeme}
 use Rattle.cyc_lex.proofs.Pieces.{comment_len-false}
 use Rattle.cyc_lex.proofs.Pieces.{pass_all-append, scalars-parts}
 use Rattle.cyc_lex.proofs.Lexed.{Found, IsNext, with_tokens-err, with_tokens-append, with_tokens-ok, some-chars, taken-token, taken-long, nil-bytes}
@@ -41,11 +42,17 @@ pub record IsOn (p0 : Place) (b0 : Bool) (cs0 : List ℕ) (p : Place) (b : Bool)
   pub room : HasRoom p (length rest)
   pub utf8 : IsUtf8 rest
   pub within : length (chars rest) ≤ length cs0
+  pub bytes : length rest ≤ length (encode_utf8_all cs0)
 
 length-dropped : (n : ℕ) (cs : List ℕ) → length (drop n cs) ≤ length cs
 length-dropped zero cs = omega arith
 length-dropped (suc n) [] = omega arith
 length-dropped (suc n) (c ∷ cs) = let less = length-dropped n cs in omega arith
+
+dropped-bytes : (n : ℕ) (cs : List ℕ) → length (encode_utf8_all (drop n cs)) ≤ length (encode_utf8_all cs)
+dropped-bytes zero cs = omega arith
+dropped-bytes (suc n) [] = omega arith
+dropped-bytes (suc n) (c ∷ cs) = let less = dropped-bytes n cs in omega (arith, length-append (encode_utf8 c) (encode_utf8_all cs))
 
 pub on-start : (p0 : Place) (b0 : Bool) (cs0 : List ℕ) (p : Place) (rest : List ℕ) → chars rest ≡ drop (comment_len b0 cs0) cs0 → p ≡ pass_all p0 (take (comment_len b0 cs0) cs0) → HasRoom p (length rest) → IsUtf8 rest → IsOn p0 b0 cs0 p b0 rest
 on-start p0 b0 cs0 p rest same place room utf8 =
@@ -58,6 +65,7 @@ on-start p0 b0 cs0 p rest same place room utf8 =
       room = room;
       utf8 = utf8;
       within = omega (arith, ap length same, length-dropped k cs0);
+      bytes = omega (arith, ap length (sym (encodes-chars rest utf8)), ap (λ (cs : List ℕ). length (encode_utf8_all cs)) same, dropped-bytes k cs0);
     }
 
 -- what comes after a piece that doesn't wait
@@ -132,6 +140,14 @@ module _ (p0 : Place) (b0 : Bool) (cs0 : List ℕ) (p : Place) (b : Bool) (rest 
         by [] some r = absurd (omega (arith, some))
         by (c ∷ cs) some r = omega (arith, ap length r, length-dropped (piece_at c cs).1 cs)
 
+    fewer-bytes : length after < length rest
+    fewer-bytes = by (chars rest) first-chars n.rest (ap length (sym (encodes-chars rest h.utf8)))
+      where
+        by : (cs : List ℕ) → 0 < length cs → chars after ≡ piece_rest cs → length rest ≡ length (encode_utf8_all cs) → length after < length rest
+        by [] some r e = absurd (omega (arith, some))
+        by (c ∷ cs) some r e =
+            omega (arith, e, ap length (sym (encodes-chars after n.utf8)), ap (λ (x : List ℕ). length (encode_utf8_all x)) r, dropped-bytes (piece_at c cs).1 cs, length-append (encode_utf8 c) (encode_utf8_all cs), length-encode c, (len_utf8_bounds c).0)
+
     module _ (free : stays piece front after ≡ false) where
       parts : IsFree p (chars rest) b
       parts = free-parts p (chars rest) b (sym stays-is ∙ free)
@@ -157,6 +173,7 @@ on-gap p0 b0 cs0 p b rest front after q h n free = record {
   room = n.room;
   utf8 = n.utf8;
   within = omega (arith, h.within, fewer p0 b0 cs0 p b rest h pieces.Gap front after q n);
+  bytes = omega (arith, h.bytes, fewer-bytes p0 b0 cs0 p b rest h pieces.Gap front after q n);
 }
 
 -- where characters are left, whether a comment went on before them does not matter
@@ -174,7 +191,9 @@ pub record IsTokenTaken (p0 : Place) (b0 : Bool) (text : List ℕ) (t : Token) (
   pub room : HasRoom q (length after)
   pub utf8 : IsUtf8 after
   pub short : IsShort t
+  pub lexeme : is_lexeme (word t) ≡ true
   pub fewer : length (chars after) < length (chars text)
+  pub bytes : length after < length (encode_utf8_all (chars text))
 
 pub at-token : (p0 : Place) (b0 : Bool) (text : List ℕ) (p : Place) (b : Bool) (rest : List ℕ) (k : Kind) (front after : List ℕ) (q : Place) (t : Token) → IsOn p0 b0 (chars text) p b rest → IsNext p rest (pieces.Token k) front after q → stays (pieces.Token k) front after ≡ false
     → len_fault k p front ≡ Ok tt → placed t ≡ token_at k p front → IsTokenTaken p0 b0 text t q after
@@ -196,7 +215,9 @@ at-token p0 b0 text p b rest k front after q t h n free fits same =
       room = n.room;
       utf8 = n.utf8;
       short = size;
+      lexeme = ap (λ (x : Placed). is_lexeme (word_of x)) same ∙ lexeme-piece p (chars rest) (scalars-chars rest h.utf8) (first-chars p0 b0 cs0 p b rest h (pieces.Token k) front after q n) k (sym n.kind) front n.front fits;
       fewer = omega (arith, less, h.within);
+      bytes = omega (arith, h.bytes, fewer-bytes p0 b0 cs0 p b rest h (pieces.Token k) front after q n);
     }
 
 pub at-stray : (p0 : Place) (b0 : Bool) (cs0 : List ℕ) (p : Place) (b : Bool) (rest : List ℕ) (front after : List ℕ) (q : Place) → IsOn p0 b0 cs0 p b rest → IsNext p rest pieces.Stray front after q → stays pieces.Stray front after ≡ false → tokens_taken p0 (comment_len b0 cs0) cs0 ≡ Err (bads.Byte, p)

@@ -1,10 +1,10 @@
 -- The tokens of one statement.
-use Rattle.std.specs.Prelude.{◌≡◌, Bool, true, false, ◌&&◌, List, [], ◌∷◌, ◌++◌, map, codes, Result, Ok, Err, length}
+use Rattle.std.specs.Prelude.{◌≡◌, ◌+◌, ◌≤◌, Bool, true, false, ◌&&◌, List, [], ◌∷◌, ◌++◌, map, codes, Result, Ok, Err, length}
 use Rattle.std.specs.List.{list_any}
-use Rattle.std.specs.Str.{IsUtf8, bytes_eq}
+use Rattle.std.specs.Str.{IsUtf8, bytes_eq, encode_utf8_all}
 use Rattle.cyc_lex.specs.declared.place.Stop.{Stop}
 use Rattle.cyc_lex.specs.Placed.{Placed, placed}
-use Rattle.cyc_lex.specs.Word.{is_symbol}
+use Rattle.cyc_lex.specs.Word.{word_of, is_symbol, are_lexemes}
 use Rattle.cyc_lex.specs.Lexing.{HasRoom, Stops}
 use Rattle.piecewise_lex.specs.declared.statements.Statement.{Statement}
 use Rattle.piecewise_lex.specs.Taking.{Reading, reading, tokens_in, HasTaken, Waits}
@@ -33,6 +33,9 @@ pub record IsStatement (r : Reading) (s : Statement) : Type 0 where
   pub taken : HasTaken r (map placed s.tokens.items) (reading s.place s.comment s.rest.now)
   pub room : HasRoom s.place (length s.rest.now)
   pub utf8 : IsUtf8 s.rest.now
+  -- each token is a lexeme, and took a byte at least
+  pub lexemes : are_lexemes (map word_of (map placed s.tokens.items)) ≡ true
+  pub count : length s.tokens.items + length s.rest.now ≤ length (encode_utf8_all r.chars)
   pub ends : Ends s.ended (map placed s.tokens.items) (reading s.place s.comment s.rest.now)
 
 -- the fault is the first of the tokens that do not wait

@@ -1,12 +1,13 @@
 -- Taking tokens off the front of a text, of which more may come.
-use Rattle.std.specs.Prelude.{◌≡◌, ℕ, ◌<◌, Bool, false, ◌&&◌, ◌==◌, List, [], ◌∷◌, length, slice_index, Option, Some, None, Result, Ok, Err}
-use Rattle.std.specs.Str.{chars, IsUtf8}
+use Rattle.std.specs.Prelude.{◌≡◌, ℕ, ◌<◌, Bool, true, false, ◌&&◌, ◌==◌, List, [], ◌∷◌, length, slice_index, Option, Some, None, Result, Ok, Err}
+use Rattle.std.specs.Str.{chars, encode_utf8_all, IsUtf8}
 use Rattle.cyc_lex.specs.declared.place.Place.{Place}
 use Rattle.cyc_lex.specs.declared.place.Bad.{Bad}
 use Rattle.cyc_lex.specs.declared.place.Piece.{Piece}
 use Rattle.cyc_lex.specs.declared.place.Stop.{Stop}
 use Rattle.cyc_lex.specs.declared.token.Token.{Token}
 use Rattle.cyc_lex.specs.Placed.{Placed, placed}
+use Rattle.cyc_lex.specs.Word.{word, is_lexeme}
 use Rattle.cyc_lex.specs.Lexing.{pass_all, with_tokens, HasRoom, Stops, comment_len}
 use Rattle.piecewise_lex.specs.declared.taking.Taken.{Taken}
 use Rattle.piecewise_lex.specs.Owned.{IsShort}
@@ -65,10 +66,10 @@ abbrev pub listed : Option Token → List Placed
 listed None = []
 listed (Some t) = placed t ∷ []
 
--- a token of at most 64 bytes was taken, so fewer characters are left; or all that is left waits
+-- a token of at most 64 bytes, a lexeme, was taken, so fewer characters and bytes are left; or all that is left waits
 abbrev pub IsNearer : List ℕ → Taken → Option Token → Type 0
 IsNearer text t None = Waits (reading t.place t.comment t.rest.now)
-IsNearer text t (Some token) = IsShort token × (length (chars t.rest.now) < length (chars text)) × (t.comment ≡ false)
+IsNearer text t (Some token) = IsShort token × (length (chars t.rest.now) < length (chars text)) × (t.comment ≡ false) × (is_lexeme (word token) ≡ true) × (length t.rest.now < length (encode_utf8_all (chars text)))
 
 pub record IsTaken (p : Place) (comment : Bool) (text : List ℕ) (t : Taken) : Type 0 where
   pub taken : HasTaken (reading p comment text) (listed t.token) (reading t.place t.comment t.rest.now)

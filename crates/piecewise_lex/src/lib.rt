@@ -12,6 +12,7 @@ mod taking;
 mod text;
 mod valid;
 
+pub use bytes::joined;
 pub use fronts::first_bad;
 pub use lexer::{Lexer, feed_law};
 pub use owned::OwnedToken;

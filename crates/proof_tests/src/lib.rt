@@ -4,6 +4,8 @@
 #[cfg(test)]
 mod back_links_tests;
 #[cfg(test)]
+mod file_reader_tests;
+#[cfg(test)]
 mod node_reasons_tests;
 #[cfg(test)]
 mod proof_check_tests;

@@ -3,7 +3,7 @@ use Rattle.std.proofs.lemmas.Result.{err_from_is_err_and}
 use Rattle.cyc_lex.specs.Placed.{placed}
 use Rattle.piecewise_lex.specs.Taking.{reading}
 use Rattle.piecewise_lex.proofs.TakingLaws.{taken-none, taken-stops}
-use Rattle.piecewise_lex.proofs.TakingBytes.{taken-law}
+use Rattle.piecewise_lex.proofs.TakingBytes.{taken-law, taken-count}
 use Rattle.piecewise_lex.proofs.FrontLaws.{one-more, none-left, all-wait}
 use Rattle.file_reader.proofs.passing.pass_tokens.Goals as goal
 
@@ -26,6 +26,7 @@ returns-in-None c =
     record {
       tokens = h.0;
       law = taken-law c.args.place t.place c.args.comment t.comment c.args.text.now t.rest.now h.0 c.utf8.text c.in_ok-taken.ensures.utf8 all;
+      size = taken-count c.args.place t.place c.args.comment t.comment c.args.text.now t.rest.now h.0 c.utf8.text c.in_ok-taken.ensures.utf8 all;
       room = c.in_ok-taken.ensures.room;
       utf8 = c.in_ok-taken.ensures.utf8;
       waits = all-wait here there c.tokens.rest.now t h.0 h.1 c.in_ok-taken.ensures.taken c.in_ok-taken.ensures.nearer c.in-None.is;

@@ -1,18 +1,20 @@
-use Rattle.std.proofs.Common.{◌≡◌, ◌++◌, ◌∷◌, [], List, false, subst, sym, ap, ◌∙◌, refl}
+use Rattle.std.proofs.Common.{◌≡◌, ◌+◌, ◌≤◌, true, length, length-append, arith, ◌++◌, ◌∷◌, [], List, false, subst, sym, ap, ◌∙◌, refl}
 use Rattle.std.specs.Prelude.{map}
 use Rattle.std.specs.List.{list_any}
 use Rattle.std.proofs.lemmas.List.{map_push}
+use Rattle.std.proofs.lemmas.Str.{encodes-chars}
 use Rattle.std.proofs.lemmas.Result.{err_from_is_err_and}
 use Rattle.cyc_lex.specs.Placed.{Placed, placed}
+use Rattle.cyc_lex.specs.Word.{word_of, are_lexemes}
 use Rattle.piecewise_lex.specs.Taking.{reading, HasTaken}
 use Rattle.piecewise_lex.specs.Statements.{is_semicolon}
 use Rattle.piecewise_lex.proofs.TakingLaws.{taken-none, taken-stops}
 use Rattle.piecewise_lex.proofs.TakingBytes.{taken-law}
-use Rattle.piecewise_lex.proofs.FrontLaws.{one-more, none-left, all-wait, none-more}
+use Rattle.piecewise_lex.proofs.FrontLaws.{one-more, lexeme-one, fewer-bytes-left, none-left, all-wait, none-more-left, none-more, lexemes-more}
 use Rattle.piecewise_lex.proofs.statements.take_statement.Goals as goal
 
 pub tokens-init : goal.tokens-init
-tokens-init c = rw c.new-tokens.ensures.items (record { taken = taken-none (reading c.args.place c.args.comment c.args.text.now); room = c.requires; utf8 = c.utf8.text; none = refl })
+tokens-init c = rw c.new-tokens.ensures.items (record { taken = taken-none (reading c.args.place c.args.comment c.args.text.now); room = c.requires; utf8 = c.utf8.text; lexemes = refl; count = omega (arith, ap length (encodes-chars c.args.text.now c.utf8.text)); none = refl })
 
 pub returns-in_err-taken-clause-taken : goal.returns-in_err-taken-clause-taken
 returns-in_err-taken-clause-taken c =
@@ -28,6 +30,8 @@ returns-in-None-clause-taken c =
       taken = none-left here there c.tokens.rest.now t (map placed c.tokens.tokens.items) c.tokens.invariant.taken c.in_ok-taken.ensures.taken c.in_ok-taken.ensures.nearer c.in-None.is;
       room = c.in_ok-taken.ensures.room;
       utf8 = c.in_ok-taken.ensures.utf8;
+      lexemes = c.tokens.invariant.lexemes;
+      count = omega (arith, c.tokens.invariant.count, ap length (encodes-chars c.tokens.rest.now c.tokens.invariant.utf8), none-more-left here there c.tokens.rest.now t (map placed c.tokens.tokens.items) c.tokens.invariant.taken c.in_ok-taken.ensures.taken c.in_ok-taken.ensures.nearer c.in_ok-taken.ensures.utf8 c.in-None.is);
       ends = record { none = c.tokens.invariant.none; waits = all-wait here there c.tokens.rest.now t (map placed c.tokens.tokens.items) c.tokens.invariant.taken c.in_ok-taken.ensures.taken c.in_ok-taken.ensures.nearer c.in-None.is };
     }
 
@@ -51,6 +55,8 @@ returns-then-is_semicolon-clause-taken c =
       taken = subst (λ (xs : List Placed). HasTaken here xs (reading t.place t.comment t.rest.now)) items more;
       room = c.in_ok-taken.ensures.room;
       utf8 = c.in_ok-taken.ensures.utf8;
+      lexemes = subst (λ (xs : List Placed). are_lexemes (map word_of xs) ≡ true) items (lexemes-more before (placed token) c.tokens.invariant.lexemes (lexeme-one here (reading c.tokens.place c.tokens.comment c.tokens.rest.now) c.tokens.rest.now t before c.tokens.invariant.taken c.in_ok-taken.ensures.taken c.in_ok-taken.ensures.nearer token c.in-Some.is));
+      count = omega (arith, c.tokens.invariant.count, ap length (encodes-chars c.tokens.rest.now c.tokens.invariant.utf8), ap length c.in_ok-push-in-Some.ensures.items, length-append c.tokens.tokens.items (token ∷ []), fewer-bytes-left here (reading c.tokens.place c.tokens.comment c.tokens.rest.now) c.tokens.rest.now t before c.tokens.invariant.taken c.in_ok-taken.ensures.taken c.in_ok-taken.ensures.nearer token c.in-Some.is);
       ends = record { body = before; last = placed token; all = sym items; none = c.tokens.invariant.none; semicolon = sym c.is_semicolon.ensures ∙ c.if-is_semicolon.true };
     }
 
@@ -77,5 +83,7 @@ tokens-preserved c =
       taken = subst (λ (xs : List Placed). HasTaken here xs (reading t.place t.comment t.rest.now)) items more;
       room = c.in_ok-taken.ensures.room;
       utf8 = c.in_ok-taken.ensures.utf8;
+      lexemes = subst (λ (xs : List Placed). are_lexemes (map word_of xs) ≡ true) items (lexemes-more before (placed token) c.tokens.invariant.lexemes (lexeme-one here (reading c.tokens.place c.tokens.comment c.tokens.rest.now) c.tokens.rest.now t before c.tokens.invariant.taken c.in_ok-taken.ensures.taken c.in_ok-taken.ensures.nearer token c.in-Some.is));
+      count = omega (arith, c.tokens.invariant.count, ap length (encodes-chars c.tokens.rest.now c.tokens.invariant.utf8), ap length c.in_ok-push-in-Some.ensures.items, length-append c.tokens.tokens.items (token ∷ []), fewer-bytes-left here (reading c.tokens.place c.tokens.comment c.tokens.rest.now) c.tokens.rest.now t before c.tokens.invariant.taken c.in_ok-taken.ensures.taken c.in_ok-taken.ensures.nearer token c.in-Some.is);
       none = subst (λ (xs : List Placed). list_any is_semicolon xs ≡ false) items (none-more is_semicolon before (placed token) c.tokens.invariant.none (sym c.is_semicolon.ensures ∙ c.if-is_semicolon.false));
     }

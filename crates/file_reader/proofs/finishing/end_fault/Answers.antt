@@ -1,0 +1,56 @@
+use Rattle.std.proofs.Common.{◌≡◌, List, [], Ok, ℕ, true, map, length, sym, ap, subst, ◌∙◌, arith, eqb-true}
+use Rattle.cyc_lex.specs.declared.token.Token.{Token}
+use Rattle.cyc_lex.specs.Placed.{placed}
+use Rattle.cyc_lex.proofs.Lexed.{nil-bytes}
+use Rattle.cyc_lex.specs.Lexing.{Stops}
+use Rattle.cyc_grammar.specs.Classes.{are_tokens}
+use Rattle.cyc_grammar.specs.Giving.{words}
+use Rattle.piecewise_lex.specs.Feeding.{tokens_from}
+use Rattle.piecewise_lex.specs.Valid.{IsValid}
+use Rattle.file_reader.specs.Scans.{reached_of}
+use Rattle.file_reader.specs.Helds.{IsLast}
+use Rattle.file_reader.proofs.EndLaws.{EndsWith, some-all, first-stops, alive-stop, whole-rest, wait-words, wait-few, alive-last}
+use Rattle.file_reader.proofs.finishing.end_fault.Goals as goal
+
+pub returns-then-not-is_empty : goal.returns-then-not-is_empty
+returns-then-not-is_empty c =
+    let a = c.args.alive.now in
+    let v = c.valid_front-valid.result in
+    let valid = subst (λ (b : List ℕ). IsValid b v) c.deref.ensures.value c.valid_front-valid.ensures in
+    alive-stop a c.first_bad.result c.told_stop.result c.requires.alive (first-stops a.place a.comment a.waiting.items v c.first_bad.result valid (sym c.is_empty.ensures ∙ c.if-not-is_empty.true) c.first_bad.ensures) c.told_stop.ensures
+
+pub last_fault-requires-clause-words : goal.last_fault-requires-clause-words
+last_fault-requires-clause-words c =
+    let a = c.args.alive.now in
+    let v = c.valid_front-valid.result in
+    let valid = subst (λ (b : List ℕ). IsValid b v) c.deref.ensures.value c.valid_front-valid.ensures in
+    let none : v.tail.now ≡ [] = nil-bytes v.tail.now (eqb-true _ _ (sym c.is_empty.ensures ∙ c.if-not-is_empty.false)) in
+    let waits = sym (whole-rest a.place a.comment a.waiting.items v valid none) ∙ c.in-Ok.ensures in
+    subst (λ (ts : List Token). are_tokens (words ts) ≡ true) (sym c.deref-in-Ok.ensures.value) (wait-words a c.in-Ok.tokens.items c.requires.alive waits)
+
+pub last_fault-requires-clause-few : goal.last_fault-requires-clause-few
+last_fault-requires-clause-few c =
+    let a = c.args.alive.now in
+    let v = c.valid_front-valid.result in
+    let valid = subst (λ (b : List ℕ). IsValid b v) c.deref.ensures.value c.valid_front-valid.ensures in
+    let none : v.tail.now ≡ [] = nil-bytes v.tail.now (eqb-true _ _ (sym c.is_empty.ensures ∙ c.if-not-is_empty.false)) in
+    let waits = sym (whole-rest a.place a.comment a.waiting.items v valid none) ∙ c.in-Ok.ensures in
+    omega (arith, wait-few a c.in-Ok.tokens.items c.requires.alive waits, ap length c.deref-in-Ok.ensures.value, c.requires.room)
+
+pub returns-in-Ok : goal.returns-in-Ok
+returns-in-Ok c =
+    let a = c.args.alive.now in
+    let v = c.valid_front-valid.result in
+    let valid = subst (λ (b : List ℕ). IsValid b v) c.deref.ensures.value c.valid_front-valid.ensures in
+    let none : v.tail.now ≡ [] = nil-bytes v.tail.now (eqb-true _ _ (sym c.is_empty.ensures ∙ c.if-not-is_empty.false)) in
+    let waits = sym (whole-rest a.place a.comment a.waiting.items v valid none) ∙ c.in-Ok.ensures in
+    some-all c.last_fault.result (IsLast (reached_of a.awaited) a.tokens c.deref-in-Ok.result.now) (EndsWith a)
+    (λ x h. alive-last a c.in-Ok.tokens.items x c.requires.alive waits (subst (λ (ts : List Token). IsLast (reached_of a.awaited) a.tokens ts x) c.deref-in-Ok.ensures.value h)) c.last_fault.ensures
+
+pub returns-in-Err : goal.returns-in-Err
+returns-in-Err c =
+    let a = c.args.alive.now in
+    let v = c.valid_front-valid.result in
+    let valid = subst (λ (b : List ℕ). IsValid b v) c.deref.ensures.value c.valid_front-valid.ensures in
+    let none : v.tail.now ≡ [] = nil-bytes v.tail.now (eqb-true _ _ (sym c.is_empty.ensures ∙ c.if-not-is_empty.false)) in
+    alive-stop a c.in-Err.stop c.told_stop-in-Err.result c.requires.alive (subst (Stops c.in-Err.stop) (whole-rest a.place a.comment a.waiting.items v valid none) c.in-Err.ensures) c.told_stop-in-Err.ensures

@@ -1,0 +1,118 @@
+//! What a text comes to at its end.
+
+ghost use Rattle.std.specs.Prelude.{◌≡◌, ◌+◌, ◌-◌, ◌<◌, ◌^◌, [], true, length, Err, IfSome};
+ghost use Rattle.cyc_grammar.specs.Classes.{are_tokens};
+ghost use Rattle.cyc_grammar.specs.Giving.{words};
+ghost use Rattle.file_reader.specs.Stages.{outcome};
+ghost use Rattle.file_reader.specs.Pieces.{Tells, bytes_fed};
+ghost use Rattle.file_reader.specs.Helds.{parts_of, IsAlive, IsHeld, IsLast, IsSmall, IsToldStop};
+ghost use Rattle.file_reader.specs.Scans.{reached_of};
+ghost use Rattle.file_reader.specs.declared.held.Held.TheVariants as kinds;
+
+use crate::awaited::Awaited;
+use crate::held::{Alive, Faulty, Held};
+use crate::passing::pass_tokens;
+use crate::scan::dead_token;
+use crate::step::{Step, take_step};
+use cyc_lex::{OutOfMemory, ReadFault, Stop, Token, fault_at, lex_from};
+use piecewise_lex::{first_bad, valid_front};
+use proof_file::{ProofFile, read_file};
+use std::alloc::Global;
+
+fn told_stop(stop: Stop) -> ReadFault
+    ensures { IsToldStop stop result }
+{
+    match stop {
+        Stop::OutOfMemory => ReadFault::OutOfMemory,
+        Stop::At(bad, place) => ReadFault::Lex(fault_at(bad, place)),
+    }
+}
+
+/// The fault of a text with a syntax fault: this, or a lexical one among what waits.
+fn finish_faulty(alloc: Global, faulty: &Faulty) -> ReadFault
+    requires small { IsSmall faulty.now.place }
+    requires room { faulty.now.place.offset + length faulty.now.waiting.items < 2 ^ 32 - 1 }
+    ensures { Tells (outcome (parts_of (kinds.Faulty faulty.now)) []) (Err result) }
+{
+    let valid = valid_front(&faulty.waiting);
+    if !valid.tail.is_empty() {
+        return told_stop(first_bad(faulty.place, faulty.comment, valid.text));
+    }
+    match pass_tokens(faulty.place, faulty.comment, valid.text) {
+        Ok(passed) => {
+            match lex_from(alloc, passed.place, passed.comment, true, passed.rest) {
+                Ok(_) => faulty.fault,
+                Err(stop) => told_stop(stop),
+            }
+        }
+        Err(stop) => told_stop(stop),
+    }
+}
+
+/// The fault of the last tokens, the end token too, where this statement is to come and so many tokens stand before them; none
+/// where they have none.
+fn last_fault(
+    alloc: Global,
+    awaited: Awaited,
+    before: u32,
+    tokens: &[Token<'_>],
+) -> Option<ReadFault>
+    requires words { are_tokens (words tokens.now) ≡ true }
+    requires few { before + length tokens.now < 2 ^ 32 }
+    ensures { IfSome result (IsLast (reached_of awaited) before tokens.now) }
+{
+    match take_step(alloc, awaited, tokens) {
+        Ok(Step::Dead(left)) => {
+            let dead = dead_token(before, tokens, left);
+            Some(ReadFault::Syntax {
+                token: dead.token,
+                line: dead.line,
+                column: dead.column,
+            })
+        }
+        Ok(_) => None,
+        Err(OutOfMemory) => Some(ReadFault::OutOfMemory),
+    }
+}
+
+/// The fault of the bytes that wait at the end of a text, by which it ends within a statement or too early; none where they
+/// have none.
+fn end_fault(alloc: Global, alive: &Alive) -> Option<ReadFault>
+    requires alive { IsAlive alive.now }
+    requires room { length alive.now.all.items < 2 ^ 32 - 1 }
+    ensures { IfSome result (λ f. Tells (outcome (parts_of (kinds.Alive alive.now)) []) (Err f)) }
+{
+    let valid = valid_front(&alive.waiting);
+    if !valid.tail.is_empty() {
+        return Some(told_stop(first_bad(alive.place, alive.comment, valid.text)));
+    }
+    match lex_from(alloc, alive.place, alive.comment, true, valid.text) {
+        Ok(tokens) => last_fault(alloc, alive.awaited, alive.tokens, &tokens),
+        Err(stop) => Some(told_stop(stop)),
+    }
+}
+
+fn finish_alive(alloc: Global, alive: &Alive) -> Result<ProofFile, ReadFault>
+    requires alive { IsAlive alive.now }
+    requires room { length alive.now.all.items < 2 ^ 32 - 1 }
+    ensures { Tells (outcome (parts_of (kinds.Alive alive.now)) []) result }
+{
+    match end_fault(alloc, alive) {
+        Some(fault) => Err(fault),
+        None => read_file(alloc, &alive.all),
+    }
+}
+
+/// What the text comes to where nothing more is fed.
+pub fn finish(alloc: Global, held: &Held) -> Result<ProofFile, ReadFault>
+    requires held { IsHeld held.now }
+    requires room { bytes_fed (parts_of held.now) < 2 ^ 32 - 1 }
+    ensures { Tells (outcome (parts_of held.now) []) result }
+{
+    match held {
+        Held::Alive(alive) => finish_alive(alloc, alive),
+        Held::Faulty(faulty) => Err(finish_faulty(alloc, faulty)),
+        Held::Unlexed(fault, _) => Err(ReadFault::Lex(*fault)),
+        Held::Lost(_) => Err(ReadFault::OutOfMemory),
+    }
+}

@@ -1,0 +1,122 @@
+//! What the tokens of one statement come to.
+
+ghost use Rattle.std.specs.Prelude.{◌≡◌, true, IfOk};
+ghost use Rattle.cyc_grammar.specs.Classes.{are_tokens};
+ghost use Rattle.cyc_grammar.specs.Giving.{Gives, words};
+ghost use Rattle.file_reader.specs.Scans.{reached_of, next_read, IsRefused, IsStep};
+
+use crate::awaited::Awaited;
+use cyc_grammar::{Cursor, Refusal};
+use cyc_lex::{OutOfMemory, Token};
+use heap_syntax::Version;
+use proof_statements::{
+    LineOrNode, NodeOrEnd, PredOrLater, first_statement, line_or_node, node_or_end, pred_or_later,
+};
+use std::alloc::Global;
+
+/// What tokens come to where a statement is to come: they are one, and this may come next; the first dead one of them has so
+/// many to the end; or they may go on.
+#[derive(Clone, Copy)]
+pub enum Step {
+    To(Awaited),
+    Dead(usize),
+    Open,
+}
+
+fn after_first(cursor: &mut Cursor<'_, '_>) -> Result<Awaited, Refusal>
+    ensures { Gives (λ n. (reached_of n, cursor.new)) result (next_read (reached_of Awaited.First) cursor.old) }
+{
+    Ok(Awaited::Preds(first_statement(cursor)?))
+}
+
+fn after_pred(
+    alloc: Global,
+    version: Version,
+    cursor: &mut Cursor<'_, '_>,
+) -> Result<Awaited, Refusal>
+    ensures { Gives (λ n. (reached_of n, cursor.new)) result (next_read (reached_of (Awaited.Preds version)) cursor.old) }
+{
+    match pred_or_later(alloc, version, cursor)? {
+        PredOrLater::Pred(_) => Ok(Awaited::Preds(version)),
+        PredOrLater::Later(LineOrNode::Line(_)) => Ok(Awaited::Lines(version)),
+        PredOrLater::Later(LineOrNode::Node(_)) => Ok(Awaited::Nodes),
+    }
+}
+
+fn after_line(
+    alloc: Global,
+    version: Version,
+    cursor: &mut Cursor<'_, '_>,
+) -> Result<Awaited, Refusal>
+    ensures { Gives (λ n. (reached_of n, cursor.new)) result (next_read (reached_of (Awaited.Lines version)) cursor.old) }
+{
+    match line_or_node(alloc, version, cursor)? {
+        LineOrNode::Line(_) => Ok(Awaited::Lines(version)),
+        LineOrNode::Node(_) => Ok(Awaited::Nodes),
+    }
+}
+
+fn after_node(alloc: Global, cursor: &mut Cursor<'_, '_>) -> Result<Awaited, Refusal>
+    ensures { Gives (λ n. (reached_of n, cursor.new)) result (next_read (reached_of Awaited.Nodes) cursor.old) }
+{
+    match node_or_end(alloc, cursor)? {
+        NodeOrEnd::Node(_) => Ok(Awaited::Nodes),
+        NodeOrEnd::End => Ok(Awaited::Ended),
+    }
+}
+
+/// No statement comes behind the last one.
+fn after_end(cursor: &mut Cursor<'_, '_>) -> Result<Awaited, Refusal>
+    ensures { Gives (λ n. (reached_of n, cursor.new)) result (next_read (reached_of Awaited.Ended) cursor.old) }
+{
+    cursor.end()?;
+    Err(Refusal::Dead(0))
+}
+
+fn after_statement(
+    alloc: Global,
+    awaited: Awaited,
+    cursor: &mut Cursor<'_, '_>,
+) -> Result<Awaited, Refusal>
+    ensures { Gives (λ n. (reached_of n, cursor.new)) result (next_read (reached_of awaited) cursor.old) }
+{
+    match awaited {
+        Awaited::First => after_first(cursor),
+        Awaited::Preds(version) => after_pred(alloc, version, cursor),
+        Awaited::Lines(version) => after_line(alloc, version, cursor),
+        Awaited::Nodes => after_node(alloc, cursor),
+        Awaited::Ended => after_end(cursor),
+    }
+}
+
+/// What tokens come to that are refused: words that run out may go on.
+fn refused(refusal: Refusal) -> Result<Step, OutOfMemory>
+    ensures { IfOk result (IsRefused refusal) }
+{
+    match refusal {
+        Refusal::Dead(left) => {
+            if left > 0 {
+                return Ok(Step::Dead(left));
+            }
+            Ok(Step::Open)
+        }
+        Refusal::OutOfMemory => Err(OutOfMemory),
+    }
+}
+
+/// What the tokens come to where this statement is to come.
+pub fn take_step(alloc: Global, awaited: Awaited, tokens: &[Token<'_>]) -> Result<Step, OutOfMemory>
+    requires { are_tokens (words tokens.now) ≡ true }
+    ensures { IfOk result (IsStep (reached_of awaited) (words tokens.now)) }
+{
+    let mut cursor = Cursor::new(tokens);
+    match after_statement(alloc, awaited, &mut cursor) {
+        Ok(next) => {
+            if cursor.left() > 0 {
+                return Ok(Step::Open);
+            }
+            Ok(Step::To(next))
+        }
+        Err(refusal) => refused(refusal),
+    }
+}
