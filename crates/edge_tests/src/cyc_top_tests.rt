@@ -1,5 +1,5 @@
 //! Runs against sources and sinks in memory, of which a call fails.
-use cyc_io::{MemSink, MemSource, PlainSink, PlainSource};
+use cyc_io::{MemSink, MemSource, PlainSink, PlainSource, StdSource};
 use cyc_top::run;
 use std::alloc::Global;
 use std::test::Fail;
@@ -141,6 +141,23 @@ fn sources_of_single_bytes(rt: HostRuntime) -> Result<(), Fail> {
         assert_eq!(rt; status.code(), *code, "at {line}");
         let written = out.written().strip_suffix(b"\n".as_slice());
         assert!(rt; written == Some(line.as_bytes()), "at {line}");
+    }
+    Ok(())
+}
+
+// So many spaces before the file that the first 65,536 bytes end within one of its tokens.
+#[test]
+fn a_token_in_two_pieces(rt: HostRuntime) -> Result<(), Fail> {
+    let alloc = rt.alloc();
+    let words = words_of(alloc, "check")?;
+    for spaces in [65_533, 65_527, 65_500, 65_001, 64_900] {
+        let mut input: Vec<u8> = vec![in alloc; b' '; spaces]?;
+        input.extend_from_slice(FILE)?;
+        let mut src = StdSource::new(input.as_slice());
+        let mut out = PlainSink::new(alloc, 1000, 1000)?;
+        let status = run(alloc, words.as_slice(), &mut src, &mut out);
+        assert_eq!(rt; status.code(), 0, "after {spaces} spaces");
+        assert!(rt; out.written() == ACCEPTED.as_bytes(), "after {spaces} spaces");
     }
     Ok(())
 }
