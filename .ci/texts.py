@@ -38,7 +38,8 @@ def rows():
 
 
 def answer(words, text):
-    ran = subprocess.run([program, *words.split()], input=text, stdout=subprocess.PIPE, stderr=subprocess.STDOUT, timeout=120)
+    both = {"stdout": subprocess.PIPE, "stderr": subprocess.STDOUT}
+    ran = subprocess.run([program, *words.split()], input=text, timeout=120, **both)
     return ran.returncode, ran.stdout
 
 
@@ -48,7 +49,8 @@ def fault(words, text, status, written):
     got = answer(words, text)
     if got == (status, wanted):
         return None
-    return f"cyclist {words} < {text[:60]!r}: status {got[0]}, {got[1][:200]!r}; wanted status {status}, {wanted[:200]!r}"
+    shown = f"cyclist {words} < {text[:60]!r}: status {got[0]}, {got[1][:200]!r}"
+    return f"{shown}; wanted status {status}, {wanted[:200]!r}"
 
 
 tried = list(rows())

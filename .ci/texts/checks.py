@@ -952,7 +952,8 @@ VERDICTS = [
     # A premise has to come after its node, and a link has none.
     (b"cyclist proof 1; node nil = nil : emp |- true : emp by Weaken 0 to 0; end;", 1, b"refused node 0 NoSuchNode"),
     (
-        b"cyclist proof 1; node true : emp |- true : emp by Link 0 { } [] [0] to 0; end;", 1, b"refused node 0 PremiseCount",
+        b"cyclist proof 1; node true : emp |- true : emp by Link 0 { } [] [0] to 0; end;",
+        1, b"refused node 0 PremiseCount",
     ),
     # Nothing is unfolded on the cycle; what is unfolded at node 1 is off it.
     (
@@ -1627,8 +1628,8 @@ NODES_AT_THEIR_LIMIT = [
 ]
 
 TABLES = [
-    FIRST, RIGHT, TOKENS, GRAMMAR, SAID, NODES, ACCEPTED, PROGRAMS, ILL_PROGRAMS, VERSIONS, NUMBERS, LINKS, COUNTS, VERDICTS,
-    FLAWS, REPEATED, DEAD_TOKENS, LINES, NODES_AT_THEIR_LIMIT,
+    FIRST, RIGHT, TOKENS, GRAMMAR, SAID, NODES, ACCEPTED, PROGRAMS, ILL_PROGRAMS, VERSIONS, NUMBERS, LINKS, COUNTS,
+    VERDICTS, FLAWS, REPEATED, DEAD_TOKENS, LINES, NODES_AT_THEIR_LIMIT,
 ]
 
 # These are in the written form.

@@ -58,6 +58,8 @@ ANSWERS = [
     ),
 ]
 
+SIXTEEN_CELLS = b",".join(b"%d->(1)" % address for address in range(1, 17))
+
 # Each flaw stands at its token, and what is within the limits has none.
 FLAWS = [
     (
@@ -126,19 +128,22 @@ FLAWS = [
     (
         b"cyclist model 1;\n"
         b"stack;heap "
-        b"1->(1),2->(1),3->(1),4->(1),5->(1),6->(1),7->(1),8->(1),9->(1),10->(1),11->(1),12->(1),13->(1),14->(1),15->(1),16->(1);ask true:emp;end;",
+        + SIXTEEN_CELLS
+        + b";ask true:emp;end;",
         1, b"fails",
     ),
     (
         b"cyclist model 1;\n"
         b"stack;heap "
-        b"1->(1),2->(1),3->(1),4->(1),5->(1),6->(1),7->(1),8->(1),9->(1),10->(1),11->(1),12->(1),13->(1),14->(1),15->(1),16->(1),17->(1);ask true:emp;end;",
+        + SIXTEEN_CELLS
+        + b",17->(1);ask true:emp;end;",
         5, b"limit cells token 103 line 2 column 131",
     ),
     (
         b"cyclist model 1;\n"
         b"stack;heap "
-        b"1->(1),2->(1),3->(1),4->(1),5->(1),6->(1),7->(1),8->(1),9->(1),10->(1),11->(1),12->(1),13->(1),14->(1),15->(1),16->(1),16->(1);ask true:emp;end;",
+        + SIXTEEN_CELLS
+        + b",16->(1);ask true:emp;end;",
         4, b"ill-formed address token 103 line 2 column 131",
     ),
     # fields
@@ -593,12 +598,12 @@ REFUTED = [
 ]
 
 
-def last_case():
-    """4,096 definitions with sixteen cases each, of which the last has a local that nothing makes known."""
-    cases = [b"true : emp"] * 15
-    definition = b"pred p%d(0) { %s };\n"
-    most = b"".join(definition % (number, b" | ".join(cases + [b"true : emp"])) for number in range(4095))
-    return b"cyclist model 1;\n" + most + definition % (4095, b" | ".join(cases + [b"true : ?0 -> (nil)"])) + b"stack;\nheap;\nask true : emp;\nend;\n"
+def many_definitions(last):
+    """A model with 4,096 definitions of sixteen cases each, of which the last is this."""
+    cases = [b" | ".join([b"true : emp"] * 16)] * 4095 + [b" | ".join([b"true : emp"] * 15 + [last])]
+    definitions = b"".join(b"pred p%d(0) { %s };\n" % it for it in enumerate(cases))
+    return b"cyclist model 1;\n" + definitions + b"stack;\nheap;\nask true : emp;\nend;\n"
 
 
-GREATEST_PLACE = (last_case(), 4, b"ill-formed constructive case 4095 15")
+# The last case has a local that nothing makes known.
+GREATEST_PLACE = (many_definitions(b"true : ?0 -> (nil)"), 4, b"ill-formed constructive case 4095 15")

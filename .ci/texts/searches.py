@@ -1,4 +1,4 @@
-"""Words and inputs of `prove`, `sat`, `fo`, `ring` and `upgrade`, and how a run on each ends. The proofs were written by hand."""
+"""Words and inputs of `prove`, `sat`, `fo`, `ring` and `upgrade`, and how a run on each ends; proofs as written by hand."""
 
 USAGE = (
     b"usage: cyclist check | prove [--depth N] | ring K | upgrade | sat | model | disprove [--cells "

@@ -83,10 +83,7 @@ static FAULTS: &[(&[Line], Option<ProgramFault>)] = &[
     (&[(1, Command::Free(X))], Some(ProgramFault::FallsOff)),
     (&[(1, Command::IfAny(1))], Some(ProgramFault::FallsOff)),
     (&[(0, Command::Stop)], Some(ProgramFault::Numbering(1))),
-    (
-        &[(1, Command::Free(FAR)), (2, Command::Stop)],
-        VARIABLES,
-    ),
+    (&[(1, Command::Free(FAR)), (2, Command::Stop)], VARIABLES),
     (&[(1, Command::New(0, 0)), (2, Command::Stop)], FIELDS),
     (&[(1, Command::Load(0, X, 9)), (2, Command::Stop)], FIELDS),
     // the first of several
@@ -144,7 +141,7 @@ fn lines_are_counted(rt: HostRuntime) -> Result<(), Fail> {
 #[derive(Clone, Copy)]
 struct State(u32, &'static [u64], u64, &'static [u64]);
 
-fn state(alloc: Global, state: State) -> Result<Config, OutOfMemory> {
+fn config(alloc: Global, state: State) -> Result<Config, OutOfMemory> {
     let mut heap = Cells::new(alloc);
     if state.2 > 0 && !state.3.is_empty() {
         heap.put(state.2, Vec::from_slice(alloc, state.3)?)?;
@@ -292,13 +289,7 @@ static STEPS: &[Step] = &[
         &[0],
         Wanted::BadPick,
     ),
-    Step(
-        &[(1, Command::Stop), TEST, END],
-        TWO,
-        1,
-        &[0],
-        Wanted::Stop,
-    ),
+    Step(&[(1, Command::Stop), TEST, END], TWO, 1, &[0], Wanted::Stop),
     // free branches take 0 and 1
     Step(ANY, FOUR, 0, &[9], Wanted::Leads(State(2, &[4], 1, &[5]))),
     Step(ANY, FOUR, 1, &[9], Wanted::Leads(State(3, &[4], 1, &[5]))),
@@ -314,7 +305,7 @@ fn program(alloc: Global, lines: &[Line]) -> Result<Program, Fail> {
 /// Whether one step comes to what is wanted.
 fn steps_so(alloc: Global, row: &Step) -> Result<bool, Fail> {
     let program = program(alloc, row.0)?;
-    let config = state(alloc, row.1)?;
+    let config = config(alloc, row.1)?;
     if !config.is_state_of(&program) || config.greatest() == u64::MAX {
         return Err("no state of the program".into());
     }
@@ -375,7 +366,7 @@ static RUNS: &[Run] = &[
 
 fn ran(alloc: Global, row: &Run) -> Result<Ran, Fail> {
     let program = program(alloc, row.0)?;
-    let config = state(alloc, row.1)?;
+    let config = config(alloc, row.1)?;
     if !config.is_state_of(&program) {
         return Err("no state of the program".into());
     }

@@ -155,29 +155,37 @@ fn heaps_take_terms(rt: HostRuntime) -> Result<(), Fail> {
     Ok(())
 }
 
-/// Heaps, and the numbers after the greatest universal, the greatest existential and the greatest variable.
-static BOUNDS: &[(HeapRow, u32, u32, u32)] = &[
-    (HeapRow(&[], &[]), 0, 0, 0),
-    (AT_NIL, 4, 1, 4),
-    (AT_NINE, 10, 1, 10),
-    (AT_AFTER_LAST, 4, 65536, 65536),
-];
-
-fn bounds(heap: &Heap) -> (u32, u32, u32) {
-    (bound_of_heap(heap), exists_in_heap(heap), bound_in_heap(Variables::All, heap))
+/// The numbers after the greatest variables of a heap: universal, existential, and either; and the first of an entailment of
+/// the heap and of a run from it.
+fn bounds(alloc: Global, row: HeapRow) -> Result<[u32; 5], Fail> {
+    let right = Disjuncts::single(alloc, heap(alloc, row)?)?;
+    let entailment = Judgement::Entail(Heap::new(alloc), right);
+    let heap = heap(alloc, row)?;
+    let universal = bound_of_heap(&heap);
+    let existential = exists_in_heap(&heap);
+    let either = bound_in_heap(Variables::All, &heap);
+    let run = Judgement::Term(11, heap);
+    Ok([
+        universal,
+        existential,
+        either,
+        bound_of_judgement(&entailment),
+        bound_of_judgement(&run),
+    ])
 }
+
+static BOUNDS: &[(HeapRow, [u32; 5])] = &[
+    (HeapRow(&[], &[]), [0, 0, 0, 0, 0]),
+    (AT_NIL, [4, 1, 4, 4, 4]),
+    (AT_NINE, [10, 1, 10, 10, 10]),
+    (AT_AFTER_LAST, [4, 65536, 65536, 4, 4]),
+];
 
 #[test]
 fn greatest_numbers_are_found(rt: HostRuntime) -> Result<(), Fail> {
     let alloc = rt.alloc();
-    for (row, universal, existential, either) in BOUNDS {
-        let wanted = (*universal, *existential, *either);
-        assert_eq!(rt; bounds(&heap(alloc, *row)?), wanted);
-        let right = Disjuncts::single(alloc, heap(alloc, *row)?)?;
-        let entailment = Judgement::Entail(Heap::new(alloc), right);
-        assert_eq!(rt; bound_of_judgement(&entailment), *universal);
-        let run = Judgement::Term(11, heap(alloc, *row)?);
-        assert_eq!(rt; bound_of_judgement(&run), *universal);
+    for (row, wanted) in BOUNDS {
+        assert_eq!(rt; bounds(alloc, *row)?, *wanted);
     }
     Ok(())
 }

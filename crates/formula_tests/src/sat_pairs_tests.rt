@@ -1,6 +1,6 @@
 // How many base pairs definitions have.
 use crate::given::{HeapRow, Shape, heap};
-use heap_formula::{Pure, Term};
+use heap_formula::{Heap, Pure, Term};
 use pred_defs::Defs;
 use sat_pairs::{PairFault, base_pairs};
 use std::alloc::Global;
@@ -20,9 +20,9 @@ const EQUAL_ENDS: HeapRow = HeapRow(&[Pure::Eq(X, Y)], &[]);
 
 const FIRST_CELL: &[Shape] = &[Shape::At(X, &[E]), Shape::Pred(0, &[E, Y])];
 
-const SEGMENT: [HeapRow; 2] = [EQUAL_ENDS, HeapRow(&[], FIRST_CELL)];
+const SEGMENT: &[HeapRow] = &[EQUAL_ENDS, HeapRow(&[], FIRST_CELL)];
 
-const ACYCLIC: [HeapRow; 2] = [EQUAL_ENDS, HeapRow(&[Pure::Neq(X, Y)], FIRST_CELL)];
+const ACYCLIC: &[HeapRow] = &[EQUAL_ENDS, HeapRow(&[Pure::Neq(X, Y)], FIRST_CELL)];
 
 /// It never ends.
 const ENDLESS: HeapRow = HeapRow(&[], &[Shape::At(X, &[E]), Shape::Pred(0, &[E])]);
@@ -34,7 +34,7 @@ const NIL_CELL: HeapRow = HeapRow(&[], &[Shape::At(NIL, &[NIL])]);
 const SOME_CELL: HeapRow = HeapRow(&[], &[Shape::At(E, &[NIL])]);
 
 /// An end, or a cell and twice the predicate.
-const TREE: [HeapRow; 2] = [
+const TREE: &[HeapRow] = &[
     HeapRow(&[Pure::Eq(X, NIL)], &[]),
     HeapRow(
         &[],
@@ -46,22 +46,33 @@ const TREE: [HeapRow; 2] = [
     ),
 ];
 
-/// A predicate's arity and its two cases, the greatest number of base pairs, and how many there are.
-struct Row(u32, [HeapRow; 2], u32, Result<usize, PairFault>);
+/// A predicate's arity and its cases, the greatest number of base pairs, and how many there are.
+struct Row(u32, &'static [HeapRow], u32, Result<usize, PairFault>);
 
 static ROWS: &[Row] = &[
     Row(2, SEGMENT, 2, Ok(2)),
     Row(2, SEGMENT, 1, Err(PairFault::TooManyPairs)),
     Row(2, ACYCLIC, 100, Ok(2)),
-    Row(1, [ENDLESS, ENDLESS], 0, Ok(0)),
-    Row(0, [NIL_CELL, SOME_CELL], 1, Ok(1)),
+    Row(1, &[ENDLESS, ENDLESS], 0, Ok(0)),
+    Row(0, &[NIL_CELL, SOME_CELL], 1, Ok(1)),
     Row(1, TREE, 2, Ok(2)),
     Row(1, TREE, 1, Err(PairFault::TooManyPairs)),
 ];
 
-fn defined(alloc: Global, arity: u32, cases: [HeapRow; 2]) -> Result<Defs, Fail> {
+fn heaps(alloc: Global, rows: &[HeapRow]) -> Result<Vec<Heap>, Fail> {
+    let mut heaps = Vec::new(alloc);
+    for row in rows {
+        heaps.push(heap(alloc, *row)?)?;
+    }
+    Ok(heaps)
+}
+
+fn defined(alloc: Global, arity: u32, cases: &[HeapRow]) -> Result<Defs, Fail> {
     let mut defs = Defs::new(alloc, 16);
-    let cases = [heap(alloc, cases[0])?, heap(alloc, cases[1])?];
+    let cases = heaps(alloc, cases)?;
+    if cases.is_empty() {
+        return Err("no case".into());
+    }
     defs.push("p", arity, &cases)?;
     Ok(defs)
 }

@@ -1,1 +1,4 @@
 mod ShortTexts
+mod NumberTerms
+mod NumberVariables
+mod ReadTexts

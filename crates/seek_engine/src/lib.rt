@@ -1,10 +1,11 @@
 //! A search for cyclic proofs that does as it likes: one draft of a proof is grown depth first, by moves that a strategy
-//! offers. A premise that is closed stays closed, so alternatives add up and do not multiply. Nothing here is promised of
-//! what is found beyond its shape: it is checked before it counts.
+//! offers; here are those at entailments. A premise that is closed stays closed, so alternatives add up and do not multiply.
+//! Nothing here is promised of what is found beyond its shape: it is checked before it counts.
 #![tactic(auto)]
 
 mod draft;
 mod engine;
+mod entailments;
 mod frames;
 mod moves;
 mod setting;
@@ -13,5 +14,9 @@ mod traces;
 pub use cyc_memory::OutOfMemory;
 pub use draft::{Draft, DraftEdge, DraftNode, MOST_NODES};
 pub use engine::{Outcome, search};
+pub use entailments::{
+    Entailments, LAST_STAGE, Matcher, Matching, args_of, arguments, companions, distinct_for,
+    is_alike, last_stage, mentions, no_moves, one_move, one_rule, stage_of, terms_of, value_of,
+};
 pub use moves::{Aim, Move, Stage, Step, Strategy};
 pub use setting::Setting;

@@ -1,11 +1,11 @@
 // Candidates for a more general state.
 use crate::commons::{Commons, is_fixed};
+use crate::folds::atoms_at;
 use crate::remainders::Plan;
 use crate::state_folds::StateFold;
 use cyc_memory::OutOfMemory;
 use heap_formula::{Heap, Pure, Spatial, Term};
 use rule_table::{equated, follows, has_pure};
-use seek_folds::atoms_at;
 use std::alloc::Global;
 
 /// A change of the state at a head: atoms that are cut away, in ascending order, what comes in their place, and the pure
@@ -46,17 +46,21 @@ fn are_told_apart(pure: &[Pure], t: Term, u: Term) -> bool {
     false
 }
 
+/// Whether the terms differ by cells, up to equations.
+fn are_cells_apart(pure: &[Pure], spatial: &[Spatial], t: Term, u: Term) -> bool {
+    let other = cell_at(pure, spatial, u);
+    match cell_at(pure, spatial, t) {
+        Some(i) => match other {
+            Some(k) => i != k,
+            None => equated(pure, u, Term::Nil),
+        },
+        None => other.is_some() && equated(pure, t, Term::Nil),
+    }
+}
+
 /// Whether the terms differ by a disequation or by cells, up to equations.
 fn differ(pure: &[Pure], spatial: &[Spatial], t: Term, u: Term) -> bool {
-    if are_told_apart(pure, t, u) {
-        return true;
-    }
-    match (cell_at(pure, spatial, t), cell_at(pure, spatial, u)) {
-        (Some(i), Some(k)) => i != k,
-        (Some(_), None) => equated(pure, u, Term::Nil),
-        (None, Some(_)) => equated(pure, t, Term::Nil),
-        (None, None) => false,
-    }
+    are_told_apart(pure, t, u) || are_cells_apart(pure, spatial, t, u)
 }
 
 fn is_kept(second: &Heap, atom: Pure) -> bool {
@@ -82,12 +86,21 @@ fn weakened(alloc: Global, commons: &Commons<'_>) -> Result<Vec<u32>, OutOfMemor
 
 fn has_kept(first: &Heap, weakened: &[u32], atom: Pure) -> bool {
     for (k, other) in first.pure().iter().enumerate() {
-        let stays = !weakened.iter().any(|place| *place == k as u32);
+        let stays = !weakened.contains(&(k as u32));
         if stays && has_pure(&[*other], atom) {
             return true;
         }
     }
     false
+}
+
+/// Whether both states have the disequation of two fixed terms, of the first state by these spatial atoms.
+fn is_common(commons: &Commons<'_>, seen: &[Spatial], t: Term, u: Term) -> bool {
+    let second = commons.second;
+    is_fixed(t, commons.variables)
+        && is_fixed(u, commons.variables)
+        && differ(commons.first.pure(), seen, t, u)
+        && differ(second.pure(), second.spatial(), t, u)
 }
 
 /// The disequations of fixed terms that both states have, and that do not stay as written.
@@ -99,16 +112,10 @@ fn disequations(
 ) -> Result<Vec<Pure>, OutOfMemory> {
     let mut pure = Vec::new(alloc);
     let seen = atoms_at(alloc, commons.first.spatial(), cut)?;
-    let second = commons.second;
     for (i, t) in commons.terms.iter().enumerate() {
         for u in commons.terms.iter().take(i) {
             let atom = Pure::Neq(*t, *u);
-            if is_fixed(*t, commons.variables)
-                && is_fixed(*u, commons.variables)
-                && differ(commons.first.pure(), &seen, *t, *u)
-                && differ(second.pure(), second.spatial(), *t, *u)
-                && !has_kept(commons.first, weakened, atom)
-            {
+            if is_common(commons, &seen, *t, *u) && !has_kept(commons.first, weakened, atom) {
                 pure.push(atom)?;
             }
         }
@@ -124,13 +131,6 @@ fn stands(commons: &Commons<'_>, fold: &StateFold) -> bool {
     }
 }
 
-fn push_all(places: &mut Vec<u32>, more: &[u32]) -> Result<(), OutOfMemory> {
-    for place in more {
-        places.push(*place)?;
-    }
-    Ok(())
-}
-
 /// Takes a fold into the plan.
 fn take_fold(
     alloc: Global,
@@ -138,12 +138,12 @@ fn take_fold(
     commons: &Commons<'_>,
     fold: &StateFold,
 ) -> Result<(), OutOfMemory> {
-    push_all(&mut plan.used, &fold.of_second)?;
+    plan.used.extend_from_slice(&fold.of_second)?;
     plan.pay(1);
     if stands(commons, fold) {
         return Ok(());
     }
-    push_all(&mut plan.cut, &fold.of_first)?;
+    plan.cut.extend_from_slice(&fold.of_first)?;
     let atom = plan.joined(alloc, commons, &fold.first, &fold.second)?;
     plan.by.push(atom)?;
     let others = fold.of_second.len().saturating_sub(1);
@@ -151,14 +151,54 @@ fn take_fold(
     Ok(())
 }
 
+/// How many of the places come before one.
+fn count_before(places: &[u32], place: u32) -> u32 {
+    let mut count: u32 = 0;
+    for other in places {
+        if *other < place {
+            count = count.saturating_add(1);
+        }
+    }
+    count
+}
+
 /// The places after those that are cut away are gone.
 fn after_cut(alloc: Global, dropped: &[u32], cut: &[u32]) -> Result<Vec<u32>, OutOfMemory> {
     let mut places = Vec::new(alloc);
     for place in dropped {
-        let before = cut.iter().filter(|other| **other < *place).count();
-        places.push(place.saturating_sub(before.min(64) as u32))?;
+        places.push(place.saturating_sub(count_before(cut, *place)))?;
     }
     Ok(places)
+}
+
+impl General {
+    fn is_idle(&self) -> bool {
+        self.by.is_empty()
+            && self.dropped.is_empty()
+            && self.weakened.is_empty()
+            && self.pure.is_empty()
+    }
+}
+
+/// The plan with these folds, its places in ascending order.
+fn plan_of(
+    alloc: Global,
+    commons: &Commons<'_>,
+    folds: &[&StateFold],
+) -> Result<Plan, OutOfMemory> {
+    let mut plan = Plan::new(alloc);
+    let mut folded = Vec::new(alloc);
+    for fold in folds {
+        folded.extend_from_slice(&fold.of_first)?;
+        take_fold(alloc, &mut plan, commons, fold)?;
+    }
+    plan.settle(alloc, commons, &folded)?;
+    let atoms = commons.second.spatial().len();
+    let lost = atoms.saturating_sub(plan.used.len());
+    plan.pay(lost.min(64) as u32 * 2);
+    plan.cut.sort()?;
+    plan.dropped.sort()?;
+    Ok(plan)
 }
 
 /// The candidate with these folds; none if it changes nothing.
@@ -167,34 +207,22 @@ pub fn candidate(
     commons: &Commons<'_>,
     folds: &[&StateFold],
 ) -> Result<Option<General>, OutOfMemory> {
-    let mut plan = Plan::new(alloc);
-    let mut folded = Vec::new(alloc);
-    for fold in folds {
-        push_all(&mut folded, &fold.of_first)?;
-        take_fold(alloc, &mut plan, commons, fold)?;
-    }
-    plan.settle(alloc, commons, &folded)?;
-    let lost = commons
-        .second
-        .spatial()
-        .len()
-        .saturating_sub(plan.used.len());
-    plan.pay(lost.min(64) as u32 * 2);
-    plan.cut.sort()?;
-    plan.dropped.sort()?;
+    let plan = plan_of(alloc, commons, folds)?;
     let weakened = weakened(alloc, commons)?;
     let pure = disequations(alloc, commons, &plan.cut, &weakened)?;
     let dropped = after_cut(alloc, &plan.dropped, &plan.cut)?;
-    if plan.by.is_empty() && dropped.is_empty() && weakened.is_empty() && pure.is_empty() {
-        return Ok(None);
-    }
     let Plan { cut, by, score, .. } = plan;
-    Ok(Some(General {
+    let general = General {
         cut,
         pure,
         by,
         weakened,
         dropped,
         score,
-    }))
+    };
+    if general.is_idle() {
+        Ok(None)
+    } else {
+        Ok(Some(general))
+    }
 }

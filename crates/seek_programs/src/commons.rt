@@ -2,7 +2,7 @@
 use cyc_memory::OutOfMemory;
 use heap_formula::{Heap, Spatial, Term};
 use rule_table::equated;
-use seek_entailments::terms_of;
+use seek_engine::terms_of;
 use std::alloc::Global;
 
 /// Two states at one line, the later one being the run's, and what both may speak of: terms, and pairs of terms, of which
@@ -18,7 +18,7 @@ pub struct Commons<'a> {
 
 /// Whether the term is one of the list.
 pub fn has_term(terms: &[Term], term: Term) -> bool {
-    terms.iter().any(|other| *other == term)
+    terms.contains(&term)
 }
 
 /// Whether the term means the same in every state: `nil`, or a program variable.
@@ -61,7 +61,7 @@ fn common_terms(
 }
 
 fn has_pair(pairs: &[(Term, Term)], pair: (Term, Term)) -> bool {
-    pairs.iter().any(|other| *other == pair)
+    pairs.contains(&pair)
 }
 
 fn push_field_pairs(

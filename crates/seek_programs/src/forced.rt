@@ -4,8 +4,7 @@ use cyc_memory::OutOfMemory;
 use heap_formula::{
     Command, Heap, Judgement, Pure, Rule, Side, Spatial, Subst, Term, apply_to_heap,
 };
-use seek_engine::Setting;
-use seek_entailments::mentions;
+use seek_engine::{Setting, mentions};
 use std::alloc::Global;
 
 fn is_logic(term: Term, variables: u16) -> bool {

@@ -1,13 +1,12 @@
 // More general states at the head of a loop.
 use crate::candidates::{General, candidate};
 use crate::commons::Commons;
+use crate::folds::{Fitting, heap_of};
 use crate::state_folds::{StateFold, state_folds};
 use crate::witnesses::witnesses;
 use cyc_memory::OutOfMemory;
 use heap_formula::{Heap, Positions, Rule};
-use seek_engine::{Aim, Move, Setting, Step};
-use seek_entailments::Entailments;
-use seek_folds::{Fitting, heap_of};
+use seek_engine::{Aim, Entailments, Move, Setting, Step};
 use std::alloc::Global;
 
 /// How many states are tried.
@@ -17,8 +16,7 @@ const MOST_STATES: usize = 10;
 const MOST_SETS: usize = 400;
 
 fn is_disjoint(x: &[u32], y: &[u32]) -> bool {
-    x.iter()
-        .all(|place| !y.iter().any(|other| *other == *place))
+    x.iter().all(|place| !y.contains(place))
 }
 
 fn are_disjoint(x: &StateFold, y: &StateFold) -> bool {
@@ -33,6 +31,15 @@ fn is_same(x: &General, y: &General) -> bool {
         && x.dropped == y.dropped
 }
 
+fn has_same(all: &[General], general: &General) -> bool {
+    for other in all {
+        if is_same(other, general) {
+            return true;
+        }
+    }
+    false
+}
+
 fn push_general(
     alloc: Global,
     all: &mut Vec<General>,
@@ -43,7 +50,7 @@ fn push_general(
         return Ok(());
     }
     if let Some(general) = candidate(alloc, commons, folds)? {
-        if !all.iter().any(|other| is_same(other, &general)) {
+        if !has_same(all, &general) {
             all.push(general)?;
         }
     }

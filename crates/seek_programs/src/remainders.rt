@@ -3,7 +3,7 @@ use crate::commons::Commons;
 use crate::forced::is_predicate;
 use cyc_memory::OutOfMemory;
 use heap_formula::{Args, Spatial, Term};
-use seek_entailments::{args_of, arguments, is_alike};
+use seek_engine::{args_of, arguments, is_alike};
 use std::alloc::Global;
 
 /// A more general state on its way: places of the first state that are cut away, the atoms that come in their place, the
@@ -20,7 +20,7 @@ pub struct Plan {
 }
 
 fn has_place(places: &[u32], place: u32) -> bool {
-    places.iter().any(|other| *other == place)
+    places.contains(&place)
 }
 
 impl Plan {
@@ -42,7 +42,7 @@ impl Plan {
     }
 
     fn has_unknown(&self, pair: (Term, Term)) -> bool {
-        self.unknown.iter().any(|other| *other == pair)
+        self.unknown.contains(&pair)
     }
 
     /// The existential of a pair of terms.
@@ -87,6 +87,18 @@ impl Plan {
         Ok(args_of(&terms))
     }
 
+    fn joined_cell(
+        &mut self,
+        alloc: Global,
+        commons: &Commons<'_>,
+        first: (Term, &[Term]),
+        second: (Term, &[Term]),
+    ) -> Result<Spatial, OutOfMemory> {
+        let address = self.joined_term(commons, first.0, second.0)?;
+        let fields = self.joined_args(alloc, commons, first.1, second.1)?;
+        Ok(Spatial::Cell(address, fields))
+    }
+
     /// One atom for two of one kind.
     pub fn joined(
         &mut self,
@@ -97,9 +109,7 @@ impl Plan {
     ) -> Result<Spatial, OutOfMemory> {
         match (x, y) {
             (Spatial::Cell(t, f), Spatial::Cell(u, g)) => {
-                let address = self.joined_term(commons, *t, *u)?;
-                let fields = self.joined_args(alloc, commons, f.as_slice(), g.as_slice())?;
-                Ok(Spatial::Cell(address, fields))
+                self.joined_cell(alloc, commons, (*t, f.as_slice()), (*u, g.as_slice()))
             }
             (Spatial::Pred(p, f), Spatial::Pred(_, g)) => {
                 let args = self.joined_args(alloc, commons, f.as_slice(), g.as_slice())?;

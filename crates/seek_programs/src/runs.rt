@@ -3,8 +3,7 @@ use crate::heads::command_of;
 use cyc_memory::OutOfMemory;
 use heap_formula::{Command, Heap, Judgement, Rule, Spatial, Term};
 use rule_table::equated;
-use seek_engine::Setting;
-use seek_entailments::arguments;
+use seek_engine::{Setting, arguments};
 use std::alloc::Global;
 
 /// The address of the cell that a command needs.

@@ -1,12 +1,11 @@
 // Atoms of common terms that a part of each of two states entails.
 use crate::commons::Commons;
+use crate::folds::{Fitting, atoms_at, heap_of, subsets};
 use crate::forced::is_predicate;
 use cyc_memory::OutOfMemory;
-use heap_formula::{Spatial, Term};
+use heap_formula::{Heap, Spatial, Term};
 use rule_table::equated;
-use seek_engine::Setting;
-use seek_entailments::{Entailments, args_of, is_alike, mentions};
-use seek_folds::{Fitting, atoms_at, heap_of, subsets};
+use seek_engine::{Entailments, Setting, args_of, is_alike, mentions};
 use std::alloc::Global;
 
 /// The most tuples of arguments that are tried for a predicate.
@@ -19,6 +18,23 @@ pub struct StateFold {
     pub second: Spatial,
     pub of_first: Vec<u32>,
     pub of_second: Vec<u32>,
+}
+
+impl StateFold {
+    fn copied(
+        first: Spatial,
+        second: Spatial,
+        of_first: &Vec<u32>,
+        of_second: &Vec<u32>,
+    ) -> Result<StateFold, OutOfMemory> {
+        let of_first = of_first.clone()?;
+        Ok(StateFold {
+            first,
+            second,
+            of_first,
+            of_second: of_second.clone()?,
+        })
+    }
 }
 
 /// What the search for folds is about.
@@ -75,7 +91,7 @@ fn atom_of(
 }
 
 fn is_within(part: &[u32], other: &[u32]) -> bool {
-    part.iter().all(|place| other.iter().any(|x| *x == *place))
+    part.iter().all(|place| other.contains(place))
 }
 
 fn has_smaller(parts: &[Vec<u32>], part: &[u32]) -> bool {
@@ -88,7 +104,7 @@ fn has_smaller(parts: &[Vec<u32>], part: &[u32]) -> bool {
 }
 
 fn has_atom(atoms: &[Spatial], atom: &Spatial) -> bool {
-    atoms.iter().any(|other| *other == *atom)
+    atoms.contains(atom)
 }
 
 /// Whether one of the atoms is not of the first state.
@@ -126,6 +142,38 @@ fn some_touches(commons: &Commons<'_>, atoms: &[Spatial], chosen: &[(Term, Term)
     false
 }
 
+/// Whether the part of the second state entails the formula; a part that says nothing new is not asked.
+fn second_fits(
+    entailments: &Entailments<'_>,
+    fitting: &mut Fitting,
+    commons: &Commons<'_>,
+    part: &[u32],
+    formula: &Heap,
+    chosen: &[(Term, Term)],
+) -> Result<bool, OutOfMemory> {
+    let alloc = entailments.setting.alloc;
+    let atoms = atoms_at(alloc, commons.second.spatial(), part)?;
+    if !has_new(commons, &atoms) || !some_touches(commons, &atoms, chosen) {
+        return Ok(false);
+    }
+    let heap = heap_of(alloc, commons.second.pure(), &atoms)?;
+    fitting.fits(entailments, heap, formula)
+}
+
+/// Whether the part of the first state entails the formula.
+fn first_fits(
+    entailments: &Entailments<'_>,
+    fitting: &mut Fitting,
+    commons: &Commons<'_>,
+    part: &[u32],
+    formula: &Heap,
+) -> Result<bool, OutOfMemory> {
+    let alloc = entailments.setting.alloc;
+    let atoms = atoms_at(alloc, commons.first.spatial(), part)?;
+    let heap = heap_of(alloc, commons.first.pure(), &atoms)?;
+    fitting.fits(entailments, heap, formula)
+}
+
 impl Folding<'_> {
     /// The smallest parts of the second state that entail the atom.
     fn parts_for_second(
@@ -141,12 +189,14 @@ impl Folding<'_> {
             if part.is_empty() || has_smaller(&found, part) {
                 continue;
             }
-            let atoms = atoms_at(alloc, self.commons.second.spatial(), part)?;
-            if !has_new(commons, &atoms) || !some_touches(commons, &atoms, chosen) {
-                continue;
-            }
-            let heap = heap_of(alloc, self.commons.second.pure(), &atoms)?;
-            if self.fitting.fits(self.entailments, heap, &formula)? {
+            if second_fits(
+                self.entailments,
+                self.fitting,
+                commons,
+                part,
+                &formula,
+                chosen,
+            )? {
                 found.push(part.clone()?)?;
             }
         }
@@ -157,10 +207,9 @@ impl Folding<'_> {
     fn part_for_first(&mut self, atom: &Spatial) -> Result<Option<Vec<u32>>, OutOfMemory> {
         let alloc = self.entailments.setting.alloc;
         let formula = heap_of(alloc, &[], &[*atom])?;
+        let commons = self.commons;
         for part in self.parts_of_first.iter() {
-            let atoms = atoms_at(alloc, self.commons.first.spatial(), part)?;
-            let heap = heap_of(alloc, self.commons.first.pure(), &atoms)?;
-            if self.fitting.fits(self.entailments, heap, &formula)? {
+            if first_fits(self.entailments, self.fitting, commons, part, &formula)? {
                 return Ok(Some(part.clone()?));
             }
         }
@@ -197,14 +246,9 @@ impl Folding<'_> {
         let Some(of_first) = self.part_for_first(&first)? else {
             return Ok(());
         };
-        for of_second in parts {
-            if !self.is_idle(&of_first, &of_second) {
-                folds.push(StateFold {
-                    first,
-                    second,
-                    of_first: of_first.clone()?,
-                    of_second,
-                })?;
+        for of_second in parts.iter() {
+            if !self.is_idle(&of_first, of_second) {
+                folds.push(StateFold::copied(first, second, &of_first, of_second)?)?;
             }
         }
         Ok(())

@@ -1,14 +1,16 @@
 // The moves at a `from` judgement, stage by stage.
 use crate::climbing::{unfolds_here, visits};
+use crate::folds::Folds;
 use crate::forced::{forced_rule, is_decided};
 use crate::generals::general_moves;
 use crate::heads::is_head;
 use crate::runs::steps;
 use cyc_memory::OutOfMemory;
 use heap_formula::{Heap, Judgement};
-use seek_engine::{Aim, Draft, DraftNode, Move, Setting, Stage, Strategy};
-use seek_entailments::{companions, last_stage, no_moves, one_move, one_rule, stage_of};
-use seek_folds::Folds;
+use seek_engine::{
+    Aim, Draft, DraftNode, Move, Setting, Stage, Strategy, companions, last_stage, no_moves,
+    one_move, one_rule, stage_of,
+};
 
 /// How often the state at one head is made more general.
 const MOST_CHANGES: u32 = 3;

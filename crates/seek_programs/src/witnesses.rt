@@ -49,6 +49,27 @@ fn count_of(path: &[u32], line: u32) -> u32 {
     count
 }
 
+/// The lines that led to a point, and its own where it is executed.
+fn path_after(point: &Point, is_exec: bool) -> Result<Vec<u32>, OutOfMemory> {
+    let mut path = point.path.clone()?;
+    if is_exec {
+        if let Judgement::Term(line, _) = &point.judgement {
+            path.push(*line)?;
+        }
+    }
+    Ok(path)
+}
+
+/// Keeps the state, each once.
+fn keep_state(found: &mut Vec<Heap>, judgement: &Judgement) -> Result<(), OutOfMemory> {
+    if let Judgement::Term(_, state) = judgement {
+        if !found.contains(state) {
+            found.push(state.clone()?)?;
+        }
+    }
+    Ok(())
+}
+
 impl Run<'_> {
     /// The rule with which the run goes on: `None` where it ends.
     fn rule_at(&self, point: &Point) -> Result<Option<Rule>, OutOfMemory> {
@@ -99,41 +120,37 @@ impl Run<'_> {
         };
         premises.reverse();
         let is_exec = matches!(rule, Rule::Exec);
+        let is_first = point.is_first && !is_exec;
         for premise in premises {
-            let mut path = point.path.clone()?;
-            if let (true, Judgement::Term(line, _)) = (is_exec, &point.judgement) {
-                path.push(*line)?;
-            }
             points.push(Point {
                 judgement: premise.judgement,
-                path,
-                is_first: point.is_first && !is_exec,
+                path: path_after(point, is_exec)?,
+                is_first,
             })?;
         }
         Ok(())
+    }
+
+    fn go_on(&self, points: &mut Vec<Point>, point: &Point) -> Result<(), OutOfMemory> {
+        match self.rule_at(point)? {
+            Some(rule) => self.push_next(points, point, &rule),
+            None => Ok(()),
+        }
     }
 
     fn visit(
         &self,
         points: &mut Vec<Point>,
         found: &mut Vec<Heap>,
-        point: Point,
+        point: &Point,
     ) -> Result<(), OutOfMemory> {
-        if self.is_beyond(&point) {
+        if self.is_beyond(point) {
             return Ok(());
         }
-        if self.is_again(&point)? {
-            if let Judgement::Term(_, state) = &point.judgement {
-                if !found.iter().any(|other| *other == *state) {
-                    found.push(state.clone()?)?;
-                }
-            }
-            return Ok(());
+        if self.is_again(point)? {
+            return keep_state(found, &point.judgement);
         }
-        if let Some(rule) = self.rule_at(&point)? {
-            self.push_next(points, &point, &rule)?;
-        }
-        Ok(())
+        self.go_on(points, point)
     }
 
     fn states(&self, start: Heap) -> Result<Vec<Heap>, OutOfMemory> {
@@ -152,7 +169,7 @@ impl Run<'_> {
             let Some(point) = points.pop() else {
                 return Ok(found);
             };
-            self.visit(&mut points, &mut found, point)?;
+            self.visit(&mut points, &mut found, &point)?;
         }
         Ok(found)
     }
@@ -181,6 +198,25 @@ fn lowered(alloc: Global, states: &[Heap], back: &Subst) -> Result<Vec<Heap>, Ou
     Ok(all)
 }
 
+/// The states of a run that leaves out the lines below the head; where there are none, of one that does not.
+fn run_states(setting: &Setting<'_>, head: u32, start: Heap) -> Result<Vec<Heap>, OutOfMemory> {
+    let run = Run {
+        setting: *setting,
+        head,
+        floor: head,
+    };
+    let states = run.states(start.clone()?)?;
+    if !states.is_empty() {
+        return Ok(states);
+    }
+    let run = Run {
+        setting: *setting,
+        head,
+        floor: 0,
+    };
+    run.states(start)
+}
+
 /// The states in which a run from the state comes to the line again, by the first Unfold only; those with the most atoms
 /// first. Lines below the head are left out at first.
 pub fn witnesses(
@@ -191,20 +227,7 @@ pub fn witnesses(
 ) -> Result<Vec<Heap>, OutOfMemory> {
     let alloc = setting.alloc;
     let far = apply_to_heap(alloc, state, &lift(alloc, state, variables, false)?)?;
-    let run = Run {
-        setting: *setting,
-        head,
-        floor: head,
-    };
-    let mut states = run.states(far.clone()?)?;
-    if states.is_empty() {
-        let run = Run {
-            setting: *setting,
-            head,
-            floor: 0,
-        };
-        states = run.states(far)?;
-    }
+    let states = run_states(setting, head, far)?;
     let back = lift(alloc, state, variables, true)?;
     let mut states = lowered(alloc, &states, &back)?;
     states.sort_by_key(|state| 64 - state.spatial().len().min(64))?;

@@ -11,7 +11,7 @@ use Rattle.formula_reader.specs.Reading as problems
 use Rattle.proof_file.specs.declared.file.ProofFile.{ProofFile}
 use Rattle.proof_file.specs.Reading as files
 use Rattle.proof_file.specs.Written.{text_of_file}
-use Rattle.seek_search.specs.Found.{IsCheckedProof, IsSought}
+use Rattle.seek_top.specs.Found.{IsCheckedProof, IsSought}
 
 -- the line that says that no proof was found
 abbrev pub not_found_text : List ℕ

@@ -1,4 +1,6 @@
-//! The top call of the free search: words and a source of bytes in, a proof or a line and a status out.
+//! The free search for a cyclic proof of a problem's goal, without fixed moves (Brotherston, Distefano and Petersen 2011; Chu,
+//! Jaffar and Trinh 2015), and its top call: words and a source of bytes in, a proof or a line and a status out. What is found
+//! is checked before it is given.
 #![tactic(auto)]
 
 ghost use Rattle.std.specs.Prelude.{◌≡◌, ◌≢◌, ◌≤◌, ◌⊎◌, ℕ, List, Some, length, true};
@@ -7,12 +9,16 @@ ghost use Rattle.cyc_runs.specs.Endings.{is_answer};
 ghost use Rattle.cyc_runs.specs.Runs.{IsReadThrough, WroteAnswer, WrotePart};
 ghost use Rattle.seek_top.specs.Answers.{EndAlike, IsAnswer, WroteProof};
 
+mod checking;
+mod finding;
 mod seeker;
+mod seeking;
 
 use cyc_io::{Sink, Source};
 pub use cyc_runs::Status;
 use cyc_runs::{fixed_answer, give_made, run_over};
 use seeker::Seeker;
+pub use seeking::seek;
 use std::alloc::Global;
 
 /// The line for words: none has a meaning.

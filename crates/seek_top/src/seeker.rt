@@ -3,11 +3,11 @@ ghost use Rattle.std.specs.Prelude.{◌≡◌, IfOk, true};
 ghost use Rattle.cyc_runs.specs.Endings.{is_answer};
 ghost use Rattle.seek_top.specs.Answers.{sought_status, sought_text};
 
+use crate::seeking::seek;
 use cyc_memory::OutOfMemory;
 use cyc_runs::{Answer, Status, Tool, answer_to_fault, fixed_answer};
 use formula_reader::read_problem;
 use proof_file::{ProofFile, write_file};
-use seek_search::seek;
 use std::alloc::Global;
 
 // The proof that was found, as a file has it, or the line that says that there is none.

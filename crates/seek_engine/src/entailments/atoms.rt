@@ -1,0 +1,114 @@
+// Terms of spatial atoms.
+use cyc_memory::OutOfMemory;
+use heap_formula::{Args, Heap, Pure, Spatial, Term};
+use std::alloc::Global;
+
+/// A cell's address.
+pub fn address(atom: &Spatial) -> Option<Term> {
+    match atom {
+        Spatial::Cell(term, _) => Some(*term),
+        Spatial::Pred(_, _) => None,
+    }
+}
+
+/// A cell's fields, or a predicate's arguments.
+pub fn arguments(atom: &Spatial) -> &[Term] {
+    match atom {
+        Spatial::Cell(_, args) => args.as_slice(),
+        Spatial::Pred(_, args) => args.as_slice(),
+    }
+}
+
+/// Whether the term is one of the list.
+pub fn is_one_of(terms: &[Term], term: Term) -> bool {
+    terms.contains(&term)
+}
+
+/// Whether the term stands in the atom.
+pub fn mentions(atom: &Spatial, term: Term) -> bool {
+    address(atom) == Some(term) || is_one_of(arguments(atom), term)
+}
+
+/// Whether two atoms are of one kind: cells with as many fields, or atoms of one predicate.
+pub fn is_alike(x: &Spatial, y: &Spatial) -> bool {
+    match (x, y) {
+        (Spatial::Cell(_, f), Spatial::Cell(_, g)) => f.len() == g.len(),
+        (Spatial::Pred(p, _), Spatial::Pred(q, _)) => *p == *q,
+        _ => false,
+    }
+}
+
+/// How many terms of the second atom stand in the first.
+pub fn shared_terms(x: &Spatial, y: &Spatial) -> u32 {
+    let mut count: u32 = 0;
+    if let Some(term) = address(y) {
+        if mentions(x, term) {
+            count = 1;
+        }
+    }
+    for term in arguments(y) {
+        if mentions(x, *term) {
+            count = count.saturating_add(1);
+        }
+    }
+    count
+}
+
+/// Whether a term other than `nil` stands in both.
+pub fn shares_variable(x: &Spatial, y: &Spatial) -> bool {
+    for term in arguments(x) {
+        if *term != Term::Nil && mentions(y, *term) {
+            return true;
+        }
+    }
+    match address(x) {
+        Some(term) => term != Term::Nil && mentions(y, term),
+        None => false,
+    }
+}
+
+/// Whether the first list is the second with values for its existentials.
+pub fn unifies(terms: &[Term], others: &[Term]) -> bool {
+    if terms.len() != others.len() {
+        return false;
+    }
+    for (term, other) in terms.iter().zip(others) {
+        if !matches!(other, Term::Exist(_)) && *term != *other {
+            return false;
+        }
+    }
+    true
+}
+
+/// The first eight of the terms.
+pub fn args_of(terms: &[Term]) -> Args {
+    if terms.len() > 8 {
+        Args::from_slice(&terms[..8])
+    } else {
+        Args::from_slice(terms)
+    }
+}
+
+fn push_spatial_terms(terms: &mut Vec<Term>, atom: &Spatial) -> Result<(), OutOfMemory> {
+    if let Spatial::Cell(term, _) = atom {
+        terms.push(*term)?;
+    }
+    for term in arguments(atom) {
+        terms.push(*term)?;
+    }
+    Ok(())
+}
+
+/// The terms of a heap, as often as they stand there.
+pub fn terms_of(alloc: Global, heap: &Heap) -> Result<Vec<Term>, OutOfMemory> {
+    let mut terms = Vec::new(alloc);
+    for atom in heap.pure() {
+        let (Pure::Eq(t, u) | Pure::Neq(t, u)) = *atom;
+        terms.push(t)?;
+        terms.push(u)?;
+    }
+    for atom in heap.spatial() {
+        push_spatial_terms(&mut terms, atom)?;
+    }
+    Ok(terms)
+}

@@ -1,0 +1,72 @@
+// One atom of the antecedent for one predicate of the succedent, and the rest for the rest.
+use crate::entailments::atoms::shares_variable;
+use crate::entailments::sequents::Sequent;
+use crate::{Move, Step};
+use cyc_memory::OutOfMemory;
+use heap_formula::{Heap, HeapFault, Positions, Rule, Spatial};
+use rule_table::is_universal_spatial;
+use std::alloc::Global;
+
+/// The heap of one atom; `None` is never given.
+pub fn single_atom(alloc: Global, atom: &Spatial) -> Result<Option<Heap>, OutOfMemory> {
+    let mut heap = Heap::new(alloc);
+    match heap.push_spatial(*atom, 16) {
+        Ok(()) => Ok(Some(heap)),
+        Err(HeapFault::OutOfMemory) => Err(OutOfMemory),
+        Err(_) => Ok(None),
+    }
+}
+
+fn division(
+    sequent: &Sequent<'_>,
+    i: u32,
+    k: u32,
+    atom: &Spatial,
+) -> Result<Option<Move>, OutOfMemory> {
+    let alloc = sequent.setting.alloc;
+    let Some(formula) = single_atom(alloc, atom)? else {
+        return Ok(None);
+    };
+    let mut places = Vec::new(alloc);
+    places.push(i)?;
+    let mut rules = Vec::new(alloc);
+    rules.push(Rule::Cut(Positions::from_vec(places), formula))?;
+    let last = (sequent.left.spatial().len() as u32).saturating_sub(1);
+    rules.push(Rule::Frame(last, k))?;
+    Ok(Some(Move::Step(Step {
+        rules,
+        side: Some(sequent.less()),
+        aim: sequent.less(),
+    })))
+}
+
+fn push_divisions(
+    moves: &mut Vec<Move>,
+    sequent: &Sequent<'_>,
+    k: u32,
+    wanted: &Spatial,
+) -> Result<(), OutOfMemory> {
+    for (i, atom) in sequent.left.spatial().iter().enumerate() {
+        if *atom != *wanted && shares_variable(atom, wanted) {
+            if let Some(next) = division(sequent, i as u32, k, wanted)? {
+                moves.push(next)?;
+            }
+        }
+    }
+    Ok(())
+}
+
+/// Cut of one atom of the antecedent by one of the succedent that shares a term with it, which is then framed.
+pub fn divisions(sequent: &Sequent<'_>) -> Result<Vec<Move>, OutOfMemory> {
+    let mut moves = Vec::new(sequent.setting.alloc);
+    let (left, right) = (sequent.left.spatial(), sequent.right.spatial());
+    if sequent.fuel == 0 || left.len() < 2 || right.len() < 2 {
+        return Ok(moves);
+    }
+    for (k, wanted) in right.iter().enumerate() {
+        if matches!(wanted, Spatial::Pred(_, _)) && is_universal_spatial(wanted) {
+            push_divisions(&mut moves, sequent, k as u32, wanted)?;
+        }
+    }
+    Ok(moves)
+}

@@ -1,0 +1,185 @@
+// Moves that lose nothing, so that no others are offered beside them.
+use crate::entailments::atoms::unifies;
+use crate::entailments::offers::{companions, one_move, one_rule, stage_of};
+use crate::entailments::sequents::Sequent;
+use crate::{Aim, Draft, Move, Setting, Stage};
+use cyc_memory::OutOfMemory;
+use heap_formula::{Heap, Judgement, Pure, Rule, Side, Spatial, Term};
+use rule_table::{equated, follows, is_universal_pure};
+use std::alloc::Global;
+
+/// What a look at an entailment says.
+pub enum Sight {
+    /// This rule is to be tried, and no other.
+    Go(Rule),
+    /// There is no proof.
+    Dead,
+    /// Nothing.
+    Open,
+}
+
+fn first_equation(heap: &Heap) -> Option<Rule> {
+    for (k, atom) in heap.pure().iter().enumerate() {
+        if let Pure::Eq(t, u) = *atom {
+            let side = if t == Term::Nil && u != Term::Nil {
+                Side::Right
+            } else {
+                Side::Left
+            };
+            return Some(Rule::Rewrite(k as u32, side));
+        }
+    }
+    None
+}
+
+fn done_and_links(alloc: Global, draft: &Draft, aim: Aim) -> Result<Vec<Move>, OutOfMemory> {
+    let mut moves = Vec::new(alloc);
+    moves.push(one_rule(alloc, Rule::Done, aim)?)?;
+    for companion in companions(alloc, draft)? {
+        moves.push(Move::Link(companion))?;
+    }
+    Ok(moves)
+}
+
+/// Absurd, Rewrite by the first equation; else Done and links.
+pub fn first_stage(
+    setting: &Setting<'_>,
+    draft: &Draft,
+    judgement: &Judgement,
+    left: &Heap,
+    aim: Aim,
+) -> Result<Stage, OutOfMemory> {
+    let alloc = setting.alloc;
+    if setting.goes(judgement, &Rule::Absurd)? {
+        return one_move(alloc, one_rule(alloc, Rule::Absurd, aim)?);
+    }
+    if let Some(rule) = first_equation(left) {
+        return one_move(alloc, one_rule(alloc, rule, aim)?);
+    }
+    Ok(stage_of(done_and_links(alloc, draft, aim)?))
+}
+
+/// Whether the two terms are the sides of the atom, up to equations of the list.
+fn has_sides(equations: &[Pure], atom: Pure, t: Term, u: Term) -> bool {
+    let (Pure::Eq(v, w) | Pure::Neq(v, w)) = atom;
+    equated(equations, t, v) && equated(equations, u, w)
+        || equated(equations, t, w) && equated(equations, u, v)
+}
+
+fn distinct_with(heap: &Heap, i: u32, t: Term, atom: Pure, equations: &[Pure]) -> Option<Rule> {
+    for (k, other) in heap.spatial().iter().enumerate() {
+        if let Spatial::Cell(u, _) = other {
+            let u = if k as u32 == i { Term::Nil } else { *u };
+            if has_sides(equations, atom, t, u) {
+                return Some(Rule::Distinct(i, k as u32));
+            }
+        }
+    }
+    None
+}
+
+/// The Distinct that gives a disequation, up to equations of the list, if cells of the heap give it.
+pub fn distinct_for(heap: &Heap, atom: Pure, equations: &[Pure]) -> Option<Rule> {
+    if let Pure::Eq(_, _) = atom {
+        return None;
+    }
+    for (i, cell) in heap.spatial().iter().enumerate() {
+        if let Spatial::Cell(t, _) = cell {
+            if let Some(rule) = distinct_with(heap, i as u32, *t, atom, equations) {
+                return Some(rule);
+            }
+        }
+    }
+    None
+}
+
+fn look_at_universal(left: &Heap, k: u32, atom: Pure) -> Sight {
+    if follows(left.pure(), atom) {
+        return Sight::Go(Rule::PureRight(k));
+    }
+    if let Pure::Neq(t, u) = atom {
+        if t == u {
+            return Sight::Dead;
+        }
+    }
+    match distinct_for(left, atom, &[]) {
+        Some(rule) => Sight::Go(rule),
+        None => Sight::Open,
+    }
+}
+
+fn look_at_pure(left: &Heap, k: u32, atom: Pure) -> Sight {
+    if is_universal_pure(atom) {
+        return look_at_universal(left, k, atom);
+    }
+    match atom {
+        Pure::Eq(Term::Exist(_), Term::Exist(_)) => Sight::Open,
+        Pure::Eq(Term::Exist(v), term) | Pure::Eq(term, Term::Exist(v)) => {
+            Sight::Go(Rule::Instantiate(v, term))
+        }
+        _ => Sight::Open,
+    }
+}
+
+fn look_at_pures(left: &Heap, right: &Heap) -> Sight {
+    for (k, atom) in right.pure().iter().enumerate() {
+        match look_at_pure(left, k as u32, *atom) {
+            Sight::Open => {}
+            look => return look,
+        }
+    }
+    Sight::Open
+}
+
+/// The first existential among fields, with the field at its place.
+fn first_instance(fields: &[Term], wanted: &[Term]) -> Option<Rule> {
+    for (field, term) in fields.iter().zip(wanted) {
+        if let Term::Exist(v) = *term {
+            return Some(Rule::Instantiate(v, *field));
+        }
+    }
+    None
+}
+
+/// Cells with one address: their fields have to be the same.
+fn look_at_cells(is_shy: bool, i: u32, fields: &[Term], k: u32, wanted: &[Term]) -> Sight {
+    if !unifies(fields, wanted) {
+        return Sight::Dead;
+    }
+    if let Some(rule) = first_instance(fields, wanted) {
+        return Sight::Go(rule);
+    }
+    if is_shy {
+        Sight::Open
+    } else {
+        Sight::Go(Rule::Frame(i, k))
+    }
+}
+
+fn look_at_cell(is_shy: bool, left: &Heap, k: u32, address: Term, wanted: &[Term]) -> Sight {
+    for (i, atom) in left.spatial().iter().enumerate() {
+        if let Spatial::Cell(t, fields) = atom {
+            if *t == address {
+                return look_at_cells(is_shy, i as u32, fields.as_slice(), k, wanted);
+            }
+        }
+    }
+    Sight::Open
+}
+
+/// What a look at the succedent says. A shy search does not frame cells by itself.
+pub fn look_at(sequent: &Sequent<'_>, is_shy: bool) -> Sight {
+    match look_at_pures(sequent.left, sequent.right) {
+        Sight::Open => {}
+        look => return look,
+    }
+    for (k, atom) in sequent.right.spatial().iter().enumerate() {
+        if let Spatial::Cell(address, wanted) = atom {
+            match look_at_cell(is_shy, sequent.left, k as u32, *address, wanted.as_slice()) {
+                Sight::Open => {}
+                look => return look,
+            }
+        }
+    }
+    Sight::Open
+}

@@ -1,0 +1,78 @@
+// Unfolding on the left.
+use crate::entailments::atoms::{mentions, shared_terms};
+use crate::entailments::offers::one_rule;
+use crate::{Aim, Move, Step};
+use cyc_memory::OutOfMemory;
+use heap_formula::{Heap, Rule, Spatial, Term};
+use std::alloc::Global;
+
+/// How many terms the atom shares with the heaps.
+fn nearness(atom: &Spatial, heaps: &[Heap]) -> u32 {
+    let mut count: u32 = 0;
+    for heap in heaps {
+        for other in heap.spatial() {
+            count = count.saturating_add(shared_terms(atom, other));
+        }
+    }
+    count
+}
+
+fn is_wanted(atom: &Spatial, wanted: Option<Term>) -> bool {
+    match wanted {
+        Some(term) => mentions(atom, term),
+        None => true,
+    }
+}
+
+/// The places of the predicate atoms, those first that share the most terms with the succedent.
+fn order(
+    alloc: Global,
+    left: &Heap,
+    right: &[Heap],
+    wanted: Option<Term>,
+) -> Result<Vec<(u32, u32)>, OutOfMemory> {
+    let mut places = Vec::new(alloc);
+    for (k, atom) in left.spatial().iter().enumerate() {
+        if matches!(atom, Spatial::Pred(_, _)) && is_wanted(atom, wanted) {
+            places.push((u32::MAX - nearness(atom, right), k as u32))?;
+        }
+    }
+    places.sort()?;
+    Ok(places)
+}
+
+/// Unfold after all pure atoms were weakened, so that a companion asks for none.
+fn bare_unfold(alloc: Global, left: &Heap, k: u32, aim: Aim) -> Result<Move, OutOfMemory> {
+    let mut rules = Vec::new(alloc);
+    for _ in left.pure() {
+        rules.push(Rule::Weaken(0))?;
+    }
+    rules.push(Rule::Unfold(k))?;
+    Ok(Move::Step(Step {
+        rules,
+        side: None,
+        aim,
+    }))
+}
+
+/// Unfold of each predicate atom, or of those in which a term stands; each also without the pure atoms.
+pub fn unfolds(
+    alloc: Global,
+    left: &Heap,
+    right: &[Heap],
+    wanted: Option<Term>,
+    fuel: u32,
+) -> Result<Vec<Move>, OutOfMemory> {
+    let mut moves = Vec::new(alloc);
+    if fuel == 0 {
+        return Ok(moves);
+    }
+    let aim = Aim::Entail(fuel - 1);
+    for (_, k) in order(alloc, left, right, wanted)? {
+        moves.push(one_rule(alloc, Rule::Unfold(k), aim)?)?;
+        if !left.pure().is_empty() {
+            moves.push(bare_unfold(alloc, left, k, aim)?)?;
+        }
+    }
+    Ok(moves)
+}

@@ -1,0 +1,140 @@
+// Whether a part of a state entails an atom, by a short search of its own.
+use crate::folds::fingerprints::fingerprint;
+use cyc_memory::OutOfMemory;
+use heap_formula::{Disjuncts, Heap, Judgement, Subst, Term, apply};
+use seek_engine::{Aim, Draft, Entailments, Outcome, search, terms_of, value_of};
+use std::alloc::Global;
+
+/// The steps of a short search.
+const STEPS: u32 = 60;
+
+/// Its fuel.
+const FUEL: u32 = 2;
+
+/// How many answers are kept.
+const MOST_KNOWN: usize = 8192;
+
+/// The answer of a short search.
+#[derive(Drop)]
+struct Known {
+    fingerprint: u32,
+    judgement: Judgement,
+    is_found: bool,
+}
+
+/// The answers of short searches, and what they have cost since the cost was last asked for.
+#[derive(Drop)]
+pub struct Fitting {
+    known: Vec<Known>,
+    asked: u32,
+    cost: u32,
+}
+
+/// Names for the heap's universal variables in the order in which they come.
+fn push_names(alloc: Global, pairs: &mut Vec<(u16, Term)>, heap: &Heap) -> Result<(), OutOfMemory> {
+    for term in terms_of(alloc, heap)? {
+        if let Term::Univ(n) = term {
+            if value_of(pairs, n).is_none() {
+                let next = pairs.len().min(65534) as u16;
+                pairs.push((n, Term::Univ(next)))?;
+            }
+        }
+    }
+    Ok(())
+}
+
+/// The entailment with other names, so that those are one which differ in names alone.
+fn canonical(alloc: Global, part: Heap, formula: &Heap) -> Result<Judgement, OutOfMemory> {
+    let mut pairs = Vec::new(alloc);
+    push_names(alloc, &mut pairs, &part)?;
+    push_names(alloc, &mut pairs, formula)?;
+    let judgement = Judgement::Entail(part, Disjuncts::single(alloc, formula.clone()?)?);
+    apply(alloc, &judgement, &Subst::from_vec(pairs))
+}
+
+fn short_search(strategy: &Entailments<'_>, judgement: &Judgement) -> Result<Outcome, OutOfMemory> {
+    let mut draft = Draft::new(strategy.setting.alloc, judgement)?;
+    let mut narrow = strategy.narrow();
+    search(
+        &strategy.setting,
+        &mut narrow,
+        &mut draft,
+        Aim::Deepen(FUEL),
+        STEPS,
+    )
+}
+
+impl Fitting {
+    /// No answers yet.
+    pub fn new(alloc: Global) -> Fitting {
+        Fitting {
+            known: Vec::new(alloc),
+            asked: 0,
+            cost: 0,
+        }
+    }
+
+    /// The cost since this was last asked, which is in steps: one for four of a short search, and for sixteen questions.
+    pub fn take_cost(&mut self) -> u32 {
+        let cost = self.cost;
+        self.cost = 0;
+        cost
+    }
+
+    fn spend(&mut self, steps: u32) {
+        self.cost = self.cost.saturating_add(steps);
+    }
+
+    fn ask(&mut self) {
+        self.asked = self.asked.saturating_add(1);
+        if self.asked >= 16 {
+            self.asked = 0;
+            self.spend(1);
+        }
+    }
+
+    fn answer(&self, fingerprint: u32, judgement: &Judgement) -> Option<bool> {
+        for known in self.known.iter() {
+            if known.fingerprint == fingerprint && known.judgement == *judgement {
+                return Some(known.is_found);
+            }
+        }
+        None
+    }
+
+    fn keep(
+        &mut self,
+        fingerprint: u32,
+        judgement: Judgement,
+        is_found: bool,
+    ) -> Result<(), OutOfMemory> {
+        if self.known.len() < MOST_KNOWN {
+            self.known.push(Known {
+                fingerprint,
+                judgement,
+                is_found,
+            })?;
+        }
+        Ok(())
+    }
+
+    /// Whether the part entails the formula, as far as a short search tells.
+    pub fn fits(
+        &mut self,
+        strategy: &Entailments<'_>,
+        part: Heap,
+        formula: &Heap,
+    ) -> Result<bool, OutOfMemory> {
+        let alloc = strategy.setting.alloc;
+        self.ask();
+        let judgement = canonical(alloc, part, formula)?;
+        let fingerprint = fingerprint(&judgement);
+        if let Some(answer) = self.answer(fingerprint, &judgement) {
+            return Ok(answer);
+        }
+        let outcome = short_search(strategy, &judgement)?;
+        self.spend(outcome.steps / 4);
+        self.keep(fingerprint, judgement, outcome.is_found)?;
+        Ok(outcome.is_found)
+    }
+}

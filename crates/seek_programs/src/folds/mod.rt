@@ -1,0 +1,15 @@
+//! Folding atoms of a goal, so that a link to a companion covers it: the atom that is missing comes in by Cut, from other
+//! atoms that entail it (as in Brotherston, Gorogiannis and Petersen 2012, where a case is folded; here any short proof
+//! serves).
+
+mod fingerprints;
+mod fitting;
+mod folding;
+mod places;
+mod pures;
+mod strategy;
+
+pub use fitting::Fitting;
+pub use folding::heap_of;
+pub use places::{atoms_at, subsets};
+pub use strategy::Folds;

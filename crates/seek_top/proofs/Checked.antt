@@ -1,0 +1,33 @@
+-- A file of a problem with its goal at node 0 that a check accepts is a proof of the goal.
+use Rattle.std.proofs.Common.{◌≡◌, List, Some, subst, sym, slice_get}
+use Rattle.heap_formula.specs.Judgements.{JudgementHolds}
+use Rattle.pred_defs.specs.Book.{DefinitionBook}
+use Rattle.buchi_inclusion.proofs.Tables.{at_map}
+use Rattle.formula_reader.specs.declared.problem.Problem.{Problem}
+use Rattle.proof_file.specs.declared.file.ProofFile.{ProofFile}
+use Rattle.proof_file.specs.declared.node.FileNode.{FileNode}
+use Rattle.proof_check.specs.declared.verdict.Verdict.TheVariants.{Accepted}
+use Rattle.proof_check.specs.Files.{node_of}
+use Rattle.proof_check.specs.Verdicts.{IsVerdict}
+use Rattle.seek_top.specs.Found.{IsCheckedProof}
+
+goal_holds : (p : Problem) (f : ProofFile) (root : FileNode) → f.defs ≡ p.defs → f.program ≡ p.program → slice_get f.nodes 0 ≡ Some root → root.judgement ≡ p.goal → IsVerdict f Accepted → JudgementHolds p.defs.list p.program p.goal
+goal_holds p f root definitions program is_root goal accepted =
+    let at_root : JudgementHolds f.defs.list f.program root.judgement = accepted.2 (node_of root) (at_map node_of f.nodes 0 root is_root) in
+    subst (λ (book : DefinitionBook). JudgementHolds book.list p.program p.goal) definitions
+    (subst (λ lines. JudgementHolds f.defs.list lines p.goal) program
+    (subst (λ j. JudgementHolds f.defs.list f.program j) goal at_root))
+
+pub checked_proof : (p : Problem) (f : ProofFile) (nodes : List FileNode) (root : FileNode) → f.version ≡ p.version → f.defs ≡ p.defs → f.program ≡ p.program → f.nodes ≡ nodes → slice_get nodes 0 ≡ Some root → root.judgement ≡ p.goal → IsVerdict f Accepted → IsCheckedProof p f
+checked_proof p f nodes root version definitions program is_nodes is_root goal accepted =
+    let at_root : slice_get f.nodes 0 ≡ Some root = subst (λ (ns : List FileNode). slice_get ns 0 ≡ Some root) (sym is_nodes) is_root in
+    record {
+      version = version;
+      definitions = definitions;
+      program = program;
+      root = root;
+      is_root = at_root;
+      goal = goal;
+      accepted = accepted;
+      holds = goal_holds p f root definitions program at_root goal accepted;
+    }

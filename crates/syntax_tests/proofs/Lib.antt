@@ -1,3 +1,0 @@
-mod NumberTerms
-mod NumberVariables
-mod ReadTexts
