@@ -1,7 +1,7 @@
 -- What the moves tell of the search.
-use Rattle.std.proofs.Common.{◌≡◌, ℕ, ◌+◌, ◌-◌, ◌<◌, inl, inr, Bool, true, false, ◌&&◌, ◌||◌, List, [], ◌∷◌, ◌++◌, map, reverse, Option, Some, None, slice_get, length, length-append, eqb-true, arith, refl, sym, ap, subst, ◌∙◌}
+use Rattle.std.proofs.Common.{◌≡◌, ℕ, ◌+◌, ◌-◌, ◌<◌, ◌≤◌, inl, inr, Bool, true, false, ◌&&◌, ◌||◌, List, [], ◌∷◌, ◌++◌, map, reverse, Option, Some, None, slice_get, length, length-append, eqb-true, arith, refl, sym, ap, subst, ◌∙◌}
 use Rattle.std.specs.Prelude.{nat_eq, nat_lt, nat_le, filter, if◌then◌else◌, Ok, Err}
-use Rattle.std.proofs.lemmas.Bool.{cases_Bool}
+use Rattle.std.proofs.lemmas.Bool.{cases_Bool, ltb-true}
 use Rattle.std.proofs.lemmas.List.{length-map, length-reverse}
 use Rattle.std.proofs.lemmas.Option.{slice_get_within}
 use Rattle.heap_formula.specs.declared.judgements.Judgement.{Judgement}
@@ -198,6 +198,9 @@ filter_twice p b (x ∷ xs) =
     by true h = ap (λ ys. x ∷ ys) h
     by false h = h
 
+pub not_below : (d e : ℕ) → e ≤ d → nat_lt d e ≡ false
+not_below d e h = elim (cases_Bool (nat_lt d e)) [ inl yes' ↦ absurd (omega (arith, h, ltb-true d e yes')) | inr no' ↦ no' ]
+
 -- the goal on top of the stack
 pub next_seen : (s : Derivation) (goals : List GoalOfCode) (g : GoalOfCode) → goals ≡ s.goals.items → Some g ≡ slice_get goals (length goals - 1) → HasNext s (goal_of g)
 next_seen s goals g same at = next_goal s g (last_of s.goals.items g (subst (λ gs. Some g ≡ slice_get gs (length gs - 1)) same at))
@@ -261,6 +264,9 @@ module _ (s : Derivation) (g : OpenGoal) (order : IsInOrder s) (next : HasNext s
         filter_steps (system.fits bound (reasons_in s)) rules
         ∙ ap (map Step) (filter_same (λ r. system.fits bound (reasons_in s) (Step r)) (λ r. closes u g.premise.judgement r && room) rules fits_deep ∙ filter_twice (closes u g.premise.judgement) room rules)
 
+    abbrev all_offered : List Rule
+    all_offered = rules_offered u (goal_graph u (nodes_in s) g) (length (nodes_in s)) g.premise.judgement
+
     pub rules_alike : (rules : List Rule) (reasons : List Reason) → OffersClosing u s.graph n rules → reasons ≡ map Step rules → FitAlike system bound (reasons_in s) reasons (system.rules (reasons_in s))
     rules_alike rules reasons offers are =
         ap (filter (system.fits bound (reasons_in s))) are
@@ -268,9 +274,6 @@ module _ (s : Derivation) (g : OpenGoal) (order : IsInOrder s) (next : HasNext s
         ∙ (ap (λ rs. map Step (filter (λ _. room) rs)) alike
         ∙ (sym (followed all_offered) ∙ ap (filter (system.fits bound (reasons_in s))) (sym are_offered))))
       where
-        abbrev all_offered : List Rule
-        all_offered = rules_offered u (goal_graph u (nodes_in s) g) (length (nodes_in s)) g.premise.judgement
-
         judgement : offers.0.judgement ≡ g.premise.judgement
         judgement = ap (λ (x : GraphNode). x.judgement) (is_goal offers.0 offers.1)
 

@@ -22,6 +22,9 @@ fn as_links(alloc: Global, links: Vec<Link>) -> Result<VecDeque<Reason>, OutOfMe
     ensures { IfOk result (λ q. q.items ≡ map by_link links.items) }
 {
     let mut reasons = VecDeque::new(alloc);
+    if links.is_empty() {
+        return Ok(reasons);
+    }
     for link in links {
         reasons.push_back(Reason::Back(link))?;
     }

@@ -5,4 +5,4 @@ pub mod FewCases
 mod CaseNumbers
 pub mod Unlinked
 mod LeftNumbers
-mod Closing
+mod LeftOpen

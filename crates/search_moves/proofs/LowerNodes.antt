@@ -58,10 +58,10 @@ works_there i nodes v view node seen at =
     λ k. is_on_line i (s.0 k) && has_rule is_work (s.1 k)
 
 -- what the node at place v gives is given
-pub node_given : {X Y : Type 0} (f : ℕ → X → List Y) (xs : List X) (n v : ℕ) (items items' more all : List Y) → v < n → n < length xs → ((x : X) → slice_get xs v ≡ Some x → more ≡ f v x) → items' ≡ items ++ more → items ++ each_from f v (drop v (take n xs)) ≡ all → items' ++ each_from f (v + 1) (drop (v + 1) (take n xs)) ≡ all
-node_given f xs n v items items' more all l m gives given so_far =
+pub lower_given : {X Y : Type 0} (f : ℕ → X → List Y) (xs : List X) (n v : ℕ) (items items' all : List Y) → v < n → n < length xs → ((x : X) → slice_get xs v ≡ Some x → items' ≡ items ++ f v x) → items ++ each_from f v (drop v (take n xs)) ≡ all → items' ++ each_from f (v + 1) (drop (v + 1) (take n xs)) ≡ all
+lower_given f xs n v items items' all l m given so_far =
     let there = get_some xs v (omega arith) in
     let rest = each_from f (suc v) (drop (suc v) (take n xs)) in
     let cut : drop v (take n xs) ≡ there.0 ∷ drop (suc v) (take n xs) = lower xs n v there.0 l there.1 in
     let before : items ++ (f v there.0 ++ rest) ≡ all = rw cut at so_far in
-    rw (add-one, given, gives there.0 there.1, append_assoc items (f v there.0) rest) before
+    rw (add-one, given there.0 there.1, append_assoc items (f v there.0) rest) before

@@ -69,8 +69,9 @@ pub fn closing_rules(
     requires cases { every (has_some_case at.now.defs.now.list) left.now.spatial ≡ true }
     ensures { IfOk result (λ v. CloseAlike (theory_of at.now) at.now.judgement.now v.items (entailment_after (theory_of at.now) at.now.judgement.now left.now heaps.now)) }
 {
-    match heaps {
-        [_right] => rule_alone(alloc, at, Rule::Done),
-        _ => Ok(Vec::new(alloc)),
+    if heaps.len() != 1 {
+        return Ok(Vec::new(alloc));
     }
+    let rules = rule_alone(alloc, at, Rule::Done)?;
+    Ok(rules)
 }

@@ -79,6 +79,27 @@ fn push_links(links: &mut Vec<Link>, more: Vec<Link>) -> Result<(), OutOfMemory>
     Ok(())
 }
 
+/// Appends the links to node `v`, none if it is no companion.
+fn push_links_to(
+    links: &mut Vec<Link>,
+    alloc: Global,
+    program: &Program,
+    graph: &Graph<'_>,
+    v: u32,
+    judgement: &Judgement,
+) -> Result<(), OutOfMemory>
+    requires { v < length graph.now }
+    ensures { OnOk result ((node : GraphNode) → slice_get graph.now v ≡ Some node
+        → links.new.items ≡ links.old.items ++ links_to_node MOST_LINKS program.now judgement.now v node) }
+{
+    if !is_companion(graph, v, judgement) {
+        return Ok(());
+    }
+    let found = links_to(alloc, program, graph, v, judgement)?;
+    push_links(links, found)?;
+    Ok(())
+}
+
 /// The links to be tried: by companion among the nodes before the goal, of each the first 1,000,000.
 pub fn candidates(
     alloc: Global,
@@ -92,8 +113,7 @@ pub fn candidates(
 {
     let mut links = Vec::new(alloc);
     for v in 0..goal {
-        let found = links_to(alloc, program, graph, v, judgement)?;
-        push_links(&mut links, found)?;
+        push_links_to(&mut links, alloc, program, graph, v, judgement)?;
     }
     Ok(links)
 }

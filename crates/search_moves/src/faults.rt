@@ -4,7 +4,7 @@ ghost use Rattle.heap_formula.specs.declared.terms.Term.{Term};
 ghost use Rattle.heap_formula.specs.Words.{max_of};
 ghost use Rattle.rule_table.specs.Answer.{every, heap_numbers};
 ghost use Rattle.rule_table.specs.RuleBook.{variables_of as program_variables_of};
-ghost use Rattle.rule_table.specs.Table.{choose_answer, frame_answer, instantiate_answer, pure_right_answer, unfold_answer, unfold_right_answer};
+ghost use Rattle.rule_table.specs.Table.{choose_answer, done_answer, frame_answer, instantiate_answer, pure_right_answer, unfold_answer, unfold_right_answer};
 ghost use Rattle.search_moves.specs.Rooms.{has_room_for as case_has_room, has_room_from as case_has_room_from, judgement_numbers};
 ghost use Rattle.search_moves.specs.Trying.{has_premises};
 
@@ -16,6 +16,19 @@ use rule_table::{
     antecedent, are_disjuncts_short, follows, is_same_atom, is_short, is_universal_pure,
     is_universal_spatial,
 };
+
+/// Whether nothing is left on either side.
+pub fn may_end(judgement: &Judgement) -> bool
+    ensures { result ≡ has_premises (done_answer judgement.now) }
+{
+    let Judgement::Entail(a, bs) = judgement else {
+        return false;
+    };
+    let [b] = bs.heaps() else {
+        return false;
+    };
+    matches!((a.spatial(), b.pure(), b.spatial()), ([], [], []))
+}
 
 /// Whether one of several disjuncts may be kept alone.
 pub fn may_choose(judgement: &Judgement, k: u32) -> bool

@@ -6,7 +6,7 @@ ghost use Rattle.search_moves.specs.Trying.{goes as goes_at};
 ghost use Rattle.search_moves.specs.Settings.{theory_of};
 
 use crate::faults::{
-    has_room_left, has_room_right, may_choose, may_drop_right, may_frame, may_instantiate,
+    has_room_left, has_room_right, may_choose, may_drop_right, may_end, may_frame, may_instantiate,
 };
 use cyc_memory::OutOfMemory;
 use goto_lang::Program;
@@ -28,6 +28,7 @@ pub fn goes(alloc: Global, at: &Setting<'_>, rule: &Rule) -> Result<bool, OutOfM
     ensures { IfOk result (λ b. b ≡ goes_at (theory_of at.now) at.now.judgement.now rule.now) }
 {
     match rule {
+        Rule::Done => Ok(may_end(at.judgement)),
         Rule::Choose(k) => Ok(may_choose(at.judgement, *k)),
         Rule::PureRight(k) => Ok(may_drop_right(at.judgement, *k)),
         Rule::Instantiate(_, _) => Ok(may_instantiate(at.judgement)),
@@ -74,6 +75,9 @@ pub fn first_that_goes(
 ) -> Result<Vec<Rule>, OutOfMemory>
     ensures { IfOk result (λ v. v.items ≡ first_that (goes_at (theory_of at.now) at.now.judgement.now) rules.items) }
 {
+    if rules.is_empty() {
+        return Ok(rules);
+    }
     let mut kept = Vec::new(alloc);
     for rule in rules {
         if goes(alloc, at, &rule)? {

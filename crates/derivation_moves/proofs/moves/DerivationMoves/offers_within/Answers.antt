@@ -1,6 +1,6 @@
 use Rattle.std.proofs.Common.{ap, ◌∙◌}
 use Rattle.derivation_search.proofs.Offered.{all_so}
-use Rattle.derivation_moves.proofs.Following.{next_seen, goal_within, goal_judgement, links_are, rules_alike}
+use Rattle.derivation_moves.proofs.Following.{next_seen, goal_within, goal_judgement, links_are, not_below, rules_alike}
 use Rattle.derivation_moves.proofs.moves.DerivationMoves.offers_within.Goals as goal
 
 pub closing_offers-requires-clause-goal : goal.closing_offers-requires-clause-goal
@@ -17,7 +17,7 @@ returns-clause-links c system search =
 
 pub returns-clause-rules : goal.returns-clause-rules
 returns-clause-rules c system search =
-    rules_alike c.args.self.now _ c.requires (next_seen c.args.self.now c.deref.result.now c.in-Some.next.now c.deref.ensures.value c.in-Some.ensures.value) c.len-node.result (c.len-node.ensures ∙ c.args.self.now.made.ok.0) c.args.bound c.if-next-bound.false system search c.in_ok-offered.offered.rules.items _ c.in_ok-offered.ensures.rules c.in_ok-as_rules.ensures
+    rules_alike c.args.self.now _ c.requires (next_seen c.args.self.now c.deref.result.now c.in-Some.next.now c.deref.ensures.value c.in-Some.ensures.value) c.len-node.result (c.len-node.ensures ∙ c.args.self.now.made.ok.0) c.args.bound (not_below c.in-Some.next.now.depth c.args.bound c.if-next-bound.false) system search c.in_ok-offered.offered.rules.items _ c.in_ok-offered.ensures.rules c.in_ok-as_rules.ensures
 
 pub returns-clause-offered : goal.returns-clause-offered
 returns-clause-offered c = (all_so _ (λ r. tt) _, all_so _ (λ r. tt) _)
