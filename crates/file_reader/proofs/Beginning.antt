@@ -56,7 +56,7 @@ one-later (Some x) b c = refl
 one-later None b c = refl
 
 -- the flaws of the first members go before those of the others
-listed-append : {X : Type 0} (flaw : ℕ → ℕ → X → Found) (span : X → ℕ) (n k : ℕ) (xs ys : List X) → listed_flaw flaw span n k (xs ++ ys) ≡ or_later (listed_flaw flaw span n k xs) (listed_flaw flaw span (n + length xs) (k + total span xs) ys)
+pub listed-append : {X : Type 0} (flaw : ℕ → ℕ → X → Found) (span : X → ℕ) (n k : ℕ) (xs ys : List X) → listed_flaw flaw span n k (xs ++ ys) ≡ or_later (listed_flaw flaw span n k xs) (listed_flaw flaw span (n + length xs) (k + total span xs) ys)
 listed-append flaw span n k [] ys = λ i. listed_flaw flaw span (number i) (token i) ys
   where
     number : n ≡ n + 0
@@ -127,7 +127,7 @@ told-nodes most hs lines all n before rest (x ∷ xs) is =
 -- ---- the first nodes
 
 -- a file's flaws are those of its front, and then those of its other nodes
-file-flaws : (v : Version) (ds : List Definition) (ls : List Line) (xs ns : List Node) → file_flaw (tree_of v ds ls (xs ++ ns)) ≡ or_later (file_flaw (tree_of v ds ls xs)) (listed_flaw (node_flaw (most_spatial v) (headings ds) (length ls)) node_span (length xs) (first_node (tree_of v ds ls xs) + total node_span xs) ns)
+pub file-flaws : (v : Version) (ds : List Definition) (ls : List Line) (xs ns : List Node) → file_flaw (tree_of v ds ls (xs ++ ns)) ≡ or_later (file_flaw (tree_of v ds ls xs)) (listed_flaw (node_flaw (most_spatial v) (headings ds) (length ls)) node_span (length xs) (first_node (tree_of v ds ls xs) + total node_span xs) ns)
 file-flaws v ds ls xs ns =
     let d = listed_flaw (definition_flaw (most_spatial v) (headings ds)) definition_span 0 4 ds in
     let p = program_flaw (first_line (tree_of v ds ls xs)) ls in

@@ -83,7 +83,7 @@ text-stops f v stops.OutOfMemory valid none h = tt
 text-stops f v (stops.At bad p) valid none h =
     ap (tokens_from f.place f.comment) (sym (append-nil f.waiting.items)) ∙ statement-bad (Dead f.fault) f.place p f.comment f.waiting.items v.text.now bad valid.text (cut-empty f.waiting.items v valid none) h []
 
-text-tokens : (p : Place) (c : Bool) (text : List ℕ) → IsUtf8 text → lex true p (comment_len c (chars text)) (chars text) ≡ tokens_from p c text
+pub text-tokens : (p : Place) (c : Bool) (text : List ℕ) → IsUtf8 text → lex true p (comment_len c (chars text)) (chars text) ≡ tokens_from p c text
 unfolding tokens_from
 text-tokens p c text utf8 = let same = chars-whole text text refl utf8 in λ i. lex (whole-is text utf8 i) p (comment_len c (same i)) (same i)
 
@@ -136,7 +136,7 @@ all-tokens-of a k us e =
     ∙ ap (with_tokens k.taken) e
     ∙ with_tokens-ok k.taken us
 
-later-tokens : (ws vs : List Word) → are_tokens (ws ++ vs) ≡ true → are_tokens vs ≡ true
+pub later-tokens : (ws vs : List Word) → are_tokens (ws ++ vs) ≡ true → are_tokens vs ≡ true
 later-tokens [] vs h = h
 later-tokens (w ∷ ws) vs h = later-tokens ws vs (and-parts (is_token w) (are_tokens (ws ++ vs)) h).1
 

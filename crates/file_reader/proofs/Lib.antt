@@ -8,3 +8,4 @@ pub mod Sizes
 mod ScanLaws
 mod HeldLaws
 mod EndLaws
+mod WholeLaws

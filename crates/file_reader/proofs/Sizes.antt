@@ -31,7 +31,7 @@ line-words v l f =
     let one = lines_words variable variable_span variable-words v (l ∷ []) (f, tt) in
     omega (arith, one, length-append ((commands.line v variable).words l) [])
 
-statement-words : (p : Part) (t : Statement p) → (statement_of p).fits t → length ((statement_of p).words t) ≡ span_of p t
+pub statement-words : (p : Part) (t : Statement p) → (statement_of p).fits t → length ((statement_of p).words t) ≡ span_of p t
 unfolding first_statement line_or_node last_statement
 statement-words First v f = refl
 statement-words (Preds v) (inl d) f = definition_words d f

@@ -5,3 +5,4 @@ pub mod Pieces
 pub mod Passing
 pub mod Scans
 pub mod Helds
+pub mod Wholes

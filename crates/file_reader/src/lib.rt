@@ -5,11 +5,14 @@
 mod awaited;
 mod feeding;
 mod finishing;
+mod front;
 mod held;
+mod part;
 mod passing;
 mod reader;
 mod scan;
 mod step;
+mod whole;
 
 ghost use Rattle.std.specs.Prelude.{◌≡◌, ◌++◌, ◌∷◌, [], true, false, suc, length, map, List, ℕ, Bool, None, Some, Result, Ok, Err};
 ghost use Rattle.std.specs.Str.{chars};

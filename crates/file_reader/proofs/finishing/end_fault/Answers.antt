@@ -1,11 +1,9 @@
-use Rattle.std.proofs.Common.{◌≡◌, List, [], Ok, ℕ, true, map, length, sym, ap, subst, ◌∙◌, arith, eqb-true}
+use Rattle.std.proofs.Common.{◌≡◌, List, [], ℕ, true, length, sym, ap, subst, ◌∙◌, arith, eqb-true}
 use Rattle.cyc_lex.specs.declared.token.Token.{Token}
-use Rattle.cyc_lex.specs.Placed.{placed}
 use Rattle.cyc_lex.proofs.Lexed.{nil-bytes}
 use Rattle.cyc_lex.specs.Lexing.{Stops}
 use Rattle.cyc_grammar.specs.Classes.{are_tokens}
 use Rattle.cyc_grammar.specs.Giving.{words}
-use Rattle.piecewise_lex.specs.Feeding.{tokens_from}
 use Rattle.piecewise_lex.specs.Valid.{IsValid}
 use Rattle.file_reader.specs.Scans.{reached_of}
 use Rattle.file_reader.specs.Helds.{IsLast}

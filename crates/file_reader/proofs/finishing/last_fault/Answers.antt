@@ -1,4 +1,4 @@
-use Rattle.std.proofs.Common.{List, map, sym, ap, subst, ◌∙◌, inr, zero-add}
+use Rattle.std.proofs.Common.{map, sym, ap, subst, ◌∙◌, inr, zero-add}
 use Rattle.cyc_lex.specs.declared.fault.ReadFault.TheVariants as faults
 use Rattle.cyc_lex.specs.Placed.{placed}
 use Rattle.cyc_grammar.specs.Giving.{words}

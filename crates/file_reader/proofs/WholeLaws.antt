@@ -1,0 +1,299 @@
+-- A text that is read through, statement by statement.
+use Rattle.std.proofs.Common.{◌≡◌, ℕ, ◌+◌, ◌≤◌, Bool, true, false, List, [], ◌∷◌, ◌++◌, length, map, Some, None, Ok, refl, sym, ap, subst, ◌∙◌, arith, length-append, append_assoc, inl, inr, ◌⊎◌}
+use Rattle.std.specs.Prelude.{Option, is_some}
+use Rattle.std.specs.Str.{chars, IsUtf8}
+use Rattle.std.proofs.lemmas.List.{append-nil, length-map, map_push}
+use Rattle.std.proofs.lemmas.Str.{encodes-chars}
+use Rattle.cyc_lex.specs.declared.token.Token.{Token}
+use Rattle.cyc_lex.specs.Lexing.{start, lex, comment_len, tokens_of, with_tokens}
+use Rattle.cyc_lex.specs.Placed.{Placed, placed}
+use Rattle.cyc_lex.specs.Word.{Word, word_of}
+use Rattle.cyc_lex.proofs.Lexed.{with_tokens-ok}
+use Rattle.cyc_grammar.specs.Syntax.{Reading, ◌>>=◌, all_taken, read_whole}
+use Rattle.cyc_grammar.specs.Classes.{are_tokens}
+use Rattle.cyc_grammar.specs.Giving.{words}
+use Rattle.cyc_grammar.proofs.Laws.{whole_ok}
+use Rattle.cyc_grammar.proofs.WholeTexts.{words-placed, all-tokens}
+use Rattle.piecewise_lex.specs.declared.statements.Statement.{Statement}
+use Rattle.piecewise_lex.specs.Feeding.{tokens_from}
+use Rattle.piecewise_lex.specs.Statements.{IsStatement}
+use Rattle.piecewise_lex.specs.Taking.{reading}
+use Rattle.piecewise_lex.proofs.TakingLaws.{taken-more}
+use Rattle.piecewise_lex.proofs.TakingBytes.{taken-law}
+use Rattle.heap_syntax.specs.declared.version.Version.{Version}
+use Rattle.heap_syntax.specs.Versions.{most_spatial}
+use Rattle.heap_reader.specs.Trees.{Heading}
+use Rattle.heap_reader.specs.Flaws.{Found, listed_flaw}
+use Rattle.heap_reader.specs.Spans.{total, line_span}
+use Rattle.heap_reader.proofs.NoFlaw.{none_later}
+use Rattle.proof_syntax.specs.Trees.{Definition, Line, Node, File}
+use Rattle.proof_syntax.specs.Grammar.{node, file}
+use Rattle.proof_syntax.proofs.GrammarLaws.{file-law}
+use Rattle.proof_statements.specs.Left.{First, Preds, Lines, Nodes, At, Ended, Left, statement_of, joined, line_or_node}
+use Rattle.proof_statements.proofs.LeftLaws.{statement-law}
+use Rattle.proof_file.specs.Flaws.{headings, node_flaw, file_flaw}
+use Rattle.proof_file.specs.Spans.{definition_span, variable_span, node_span}
+use Rattle.file_reader.specs.declared.front.Spot.{Spot}
+use Rattle.file_reader.specs.Steps.{Leads, tree_of, span_of}
+use Rattle.file_reader.specs.Wholes.{IsPart, IsTheEnd, IsAt, LeadsFront, front_size, front_defs, IsFront, IsBegun, LeadsNodes, IsAll, AreNodes, AreAllNodes}
+use Rattle.file_reader.specs.declared.front.Front.{Front}
+use Rattle.proof_syntax.specs.Trees.{node_of}
+use Rattle.proof_file.specs.declared.node.FileNode.{FileNode}
+use Rattle.proof_file.specs.Values.{node_value}
+use Rattle.file_reader.proofs.Beginning.{lead-none, lead-more, listed-append, file-flaws}
+use Rattle.file_reader.proofs.EndLaws.{later-tokens, text-tokens}
+use Rattle.file_reader.proofs.Fresh.{tokens-end, from-start}
+use Rattle.file_reader.proofs.Sizes.{statement-span}
+use Rattle.file_reader.proofs.StepLaws.{map-append}
+
+-- ---- one statement
+
+-- the words of a statement's tokens
+pub part-words : (P : List Word → Type 0) (now items : List Token) → now ≡ items → P (words now) → P (map word_of (map placed items))
+part-words P now items is h = subst P (ap words is ∙ words-placed items (map placed items) refl) h
+
+part-span : (in_lines : Bool) (v : Version) (vs : List Word) (s : Definition ⊎ (Line ⊎ Node)) → IsPart in_lines v vs [] s → length vs ≡ span_of (Preds v) s
+part-span false v vs s e = statement-span (Preds v) vs s e
+part-span true v vs (inl d) e = absurd e
+part-span true v vs (inr (inl l)) e = statement-span (Lines v) vs (inl l) e
+part-span true v vs (inr (inr n)) e = statement-span (Lines v) vs (inr n) e
+
+node-read : (v : Version) (vs : List Word) (n : Node) → (statement_of (Lines v)).read vs ≡ Ok (inr n, []) → node.fits n
+unfolding line_or_node
+node-read v vs n e = ((statement-law (Lines v)).takes vs (inr n, []) e).2
+
+part-node-fits : (in_lines : Bool) (v : Version) (vs : List Word) (n : Node) → IsPart in_lines v vs [] (inr (inr n)) → node.fits n
+unfolding line_or_node
+part-node-fits false v vs n e = ((statement-law (Preds v)).takes vs (inr (inr n), []) e).2
+part-node-fits true v vs n e = node-read v vs n e
+
+pub later-node-fits : (vs : List Word) (n : Node) → (statement_of Nodes).read vs ≡ Ok (inl n, []) → node.fits n
+later-node-fits vs n e = ((statement-law Nodes).takes vs (inl n, []) e).2
+
+-- ---- where the words lead
+
+part-pred : (in_lines : Bool) (v : Version) (ds : List Definition) (ls : List Line) (ws vs : List Word) (d : Definition) → LeadsFront in_lines v ds ls ws → IsPart in_lines v vs [] (inl d) → LeadsFront in_lines v (ds ++ d ∷ []) ls (ws ++ vs)
+part-pred true v ds ls ws vs d h e = absurd e
+part-pred false v ds ls ws vs d h e =
+    (h.0, subst (λ (g : Left (At (Preds v)) → File). Leads (ws ++ vs) (At (Preds v)) g) (λ i x. tree_of v (sym (append_assoc ds (d ∷ []) x.0) i) x.1.0 x.1.1) (lead-more (Preds v) ws vs (λ x. tree_of v (ds ++ x.0) x.1.0 x.1.1) (inl d) h.1 e))
+
+part-line : (in_lines : Bool) (v : Version) (ds : List Definition) (ls : List Line) (ws vs : List Word) (l : Line) → LeadsFront in_lines v ds ls ws → IsPart in_lines v vs [] (inr (inl l)) → LeadsFront true v ds (ls ++ l ∷ []) (ws ++ vs)
+part-line true v ds ls ws vs l h e =
+    subst (λ (g : Left (At (Lines v)) → File). Leads (ws ++ vs) (At (Lines v)) g) (λ i x. tree_of v ds (sym (append_assoc ls (l ∷ []) x.0) i) x.1) (lead-more (Lines v) ws vs (λ x. tree_of v ds (ls ++ x.0) x.1) (inl l) h e)
+part-line false v ds ls ws vs l h e =
+    subst (λ (g : Left (At (Lines v)) → File). Leads (ws ++ vs) (At (Lines v)) g) (λ i x. tree_of v (append-nil ds i) ((sym h.0 i ++ l ∷ []) ++ x.0) x.1) (lead-more (Preds v) ws vs (λ x. tree_of v (ds ++ x.0) x.1.0 x.1.1) (inr (inl l)) h.1 e)
+
+part-node : (in_lines : Bool) (v : Version) (ds : List Definition) (ls : List Line) (ws vs : List Word) (n : Node) → LeadsFront in_lines v ds ls ws → IsPart in_lines v vs [] (inr (inr n)) → LeadsNodes v ds ls (n ∷ []) (ws ++ vs)
+part-node true v ds ls ws vs n h e =
+    subst (λ (g : Left (At Nodes) → File). Leads (ws ++ vs) (At Nodes) g) (λ i x. tree_of v ds (append-nil ls i) (n ∷ x)) (lead-more (Lines v) ws vs (λ x. tree_of v ds (ls ++ x.0) x.1) (inr n) h e)
+part-node false v ds ls ws vs n h e =
+    subst (λ (g : Left (At Nodes) → File). Leads (ws ++ vs) (At Nodes) g) (λ i x. tree_of v (append-nil ds i) (sym h.0 i) (n ∷ x)) (lead-more (Preds v) ws vs (λ x. tree_of v (ds ++ x.0) x.1.0 x.1.1) (inr (inr n)) h.1 e)
+
+later-node : (v : Version) (ds : List Definition) (ls : List Line) (xs : List Node) (ws vs : List Word) (n : Node) → LeadsNodes v ds ls xs ws → (statement_of Nodes).read vs ≡ Ok (inl n, []) → LeadsNodes v ds ls (xs ++ n ∷ []) (ws ++ vs)
+later-node v ds ls xs ws vs n h e =
+    subst (λ (g : Left (At Nodes) → File). Leads (ws ++ vs) (At Nodes) g) (λ i x. tree_of v ds ls (sym (append_assoc xs (n ∷ []) x) i)) (lead-more Nodes ws vs (λ x. tree_of v ds ls (xs ++ x)) (inl n) h e)
+
+later-end : (v : Version) (ds : List Definition) (ls : List Line) (xs : List Node) (ws vs : List Word) → LeadsNodes v ds ls xs ws → (statement_of Nodes).read vs ≡ Ok (inr tt, []) → Leads (ws ++ vs) Ended (λ u. tree_of v ds ls xs)
+later-end v ds ls xs ws vs h e =
+    subst (λ (g : Left Ended → File). Leads (ws ++ vs) Ended g) (λ i x. tree_of v ds ls (append-nil xs i)) (lead-more Nodes ws vs (λ x. tree_of v ds ls (xs ++ x)) (inr tt) h e)
+
+-- all words of a file
+pub all-read : (ws us : List Word) (f : File) → Leads ws Ended (λ u. f) → IsTheEnd us → read_whole file (ws ++ us) ≡ Ok f
+all-read ws us f h e = ap (λ (q : Reading File). q >>= λ y. all_taken y.0 y.1) (h us ∙ ap (λ (q : Reading (Unit {0})). joined (λ u. f) q) e)
+
+-- ---- sizes
+
+total-more : {X : Type 0} (span : X → ℕ) (xs : List X) (x : X) → total span (xs ++ x ∷ []) ≡ total span xs + span x
+total-more span [] x = omega arith
+total-more span (y ∷ ys) x = let more = total-more span ys x in omega arith
+
+-- ---- one more statement
+
+module _ (text : List ℕ) (s : Spot) (ts : List Placed) (h : IsAt text ts s) (t : Statement) (k : IsStatement (reading s.place s.comment s.rest.now) t) where
+  abbrev on : ℕ → Spot
+  on n = record { place = t.place; comment = t.comment; rest = t.rest; tokens = s.tokens + n }
+
+  pub at-few : s.tokens + length t.tokens.items + length t.rest.now ≤ length text
+  at-few = omega (arith, h.few, k.count, ap length (encodes-chars s.rest.now h.utf8))
+
+  pub at-more : (n : ℕ) → n ≡ length t.tokens.items → IsAt text (ts ++ map placed t.tokens.items) (on n)
+  at-more n size = record {
+    taken = taken-more (reading start false text) (reading s.place s.comment s.rest.now) (reading t.place t.comment t.rest.now) ts (map placed t.tokens.items) h.taken k.taken;
+    room = k.room;
+    utf8 = k.utf8;
+    count = omega (arith, h.count, size, length-append ts (map placed t.tokens.items), length-map t.tokens.items placed);
+    few = omega (arith, at-few, size);
+  }
+
+  all-words : map word_of (ts ++ map placed t.tokens.items) ≡ map word_of ts ++ map word_of (map placed t.tokens.items)
+  all-words = map-append word_of ts (map placed t.tokens.items)
+
+  size-of : (n span : ℕ) → n ≡ length t.tokens.items → length (map word_of (map placed t.tokens.items)) ≡ span → s.tokens + n ≡ s.tokens + span
+  size-of n span size e = omega (arith, size, e, length-map (map placed t.tokens.items) word_of, length-map t.tokens.items placed)
+
+module _ (text : List ℕ) (in_lines : Bool) (v : Version) (ds : List Definition) (ls : List Line) (s : Spot) (f : IsFront text in_lines v ds ls s) (t : Statement) (k : IsStatement (reading s.place s.comment s.rest.now) t) (n : ℕ) (size : n ≡ length t.tokens.items) (now : List Token) (is : now ≡ t.tokens.items) where
+  abbrev vs : List Word
+  vs = map word_of (map placed t.tokens.items)
+
+  pub front-pred : (d : Definition) → IsPart in_lines v (words now) [] (inl d) → IsFront text in_lines v (ds ++ d ∷ []) ls (on text s f.tokens f.at t k n)
+  front-pred d e =
+      let part = part-words (λ (ws : List Word). IsPart in_lines v ws [] (inl d)) now t.tokens.items is e in
+      record {
+        tokens = f.tokens ++ map placed t.tokens.items;
+        at = at-more text s f.tokens f.at t k n size;
+        leads = subst (λ (ws : List Word). LeadsFront in_lines v (ds ++ d ∷ []) ls ws) (sym (all-words text s f.tokens f.at t k)) (part-pred in_lines v ds ls (map word_of f.tokens) vs d f.leads part);
+        size = omega (arith, f.size, size-of text s f.tokens f.at t k n (definition_span d) size (part-span in_lines v vs (inl d) part), total-more definition_span ds d);
+      }
+
+  pub front-line : (l : Line) → IsPart in_lines v (words now) [] (inr (inl l)) → IsFront text true v ds (ls ++ l ∷ []) (on text s f.tokens f.at t k n)
+  front-line l e =
+      let part = part-words (λ (ws : List Word). IsPart in_lines v ws [] (inr (inl l))) now t.tokens.items is e in
+      record {
+        tokens = f.tokens ++ map placed t.tokens.items;
+        at = at-more text s f.tokens f.at t k n size;
+        leads = subst (λ (ws : List Word). LeadsFront true v ds (ls ++ l ∷ []) ws) (sym (all-words text s f.tokens f.at t k)) (part-line in_lines v ds ls (map word_of f.tokens) vs l f.leads part);
+        size = omega (arith, f.size, size-of text s f.tokens f.at t k n (line_span variable_span l) size (part-span in_lines v vs (inr (inl l)) part), total-more (line_span variable_span) ls l);
+      }
+
+  pub front-node-leads : (x : Node) → IsPart in_lines v (words now) [] (inr (inr x)) → LeadsNodes v ds ls (x ∷ []) (map word_of (f.tokens ++ map placed t.tokens.items))
+  front-node-leads x e =
+      let part = part-words (λ (ws : List Word). IsPart in_lines v ws [] (inr (inr x))) now t.tokens.items is e in
+      subst (λ (ws : List Word). LeadsNodes v ds ls (x ∷ []) ws) (sym (all-words text s f.tokens f.at t k)) (part-node in_lines v ds ls (map word_of f.tokens) vs x f.leads part)
+
+  pub front-node-span : (x : Node) → IsPart in_lines v (words now) [] (inr (inr x)) → s.tokens + n ≡ s.tokens + node_span x
+  front-node-span x e = size-of text s f.tokens f.at t k n (node_span x) size (part-span in_lines v vs (inr (inr x)) (part-words (λ (ws : List Word). IsPart in_lines v ws [] (inr (inr x))) now t.tokens.items is e))
+
+  pub front-node-fits : (x : Node) → IsPart in_lines v (words now) [] (inr (inr x)) → node.fits x
+  front-node-fits x e = part-node-fits in_lines v (words now) x e
+
+-- ---- the first statement
+
+pub front-open : (text : List ℕ) (t : Statement) → IsUtf8 text → IsStatement (reading start false text) t → (n : ℕ) → n ≡ length t.tokens.items → (now : List Token) → now ≡ t.tokens.items → (v : Version) → (statement_of First).read (words now) ≡ Ok (v, [])
+    → IsFront text false v [] [] (record { place = t.place; comment = t.comment; rest = t.rest; tokens = n })
+front-open text t utf8 k n size now is v e =
+    let us = map placed t.tokens.items in
+    let part = part-words (λ (ws : List Word). (statement_of First).read ws ≡ Ok (v, [])) now t.tokens.items is e in
+    record {
+      tokens = us;
+      at = record {
+        taken = k.taken;
+        room = k.room;
+        utf8 = k.utf8;
+        count = length-map t.tokens.items placed ∙ sym size;
+        few = omega (arith, size, k.count, ap length (encodes-chars text utf8));
+      };
+      leads = (refl, lead-more First [] (map word_of us) (λ x. x) v lead-none part);
+      size = omega (arith, size, statement-span First (map word_of us) v part, length-map us word_of, length-map t.tokens.items placed);
+    }
+
+-- ---- nodes
+
+listed-more : (flaw : ℕ → ℕ → Node → Found) (at : ℕ) (xs : List Node) (x : Node) → listed_flaw flaw node_span 0 at xs ≡ None → flaw (length xs) (at + total node_span xs) x ≡ None → listed_flaw flaw node_span 0 at (xs ++ x ∷ []) ≡ None
+listed-more flaw at xs x h e =
+    listed-append flaw node_span 0 at xs (x ∷ [])
+    ∙ none_later (listed_flaw flaw node_span 0 at xs) (listed_flaw flaw node_span (0 + length xs) (at + total node_span xs) (x ∷ [])) h
+    (none_later (flaw (0 + length xs) (at + total node_span xs) x) None (ap (λ n. flaw n (at + total node_span xs) x) zero ∙ e) refl)
+  where
+    zero : 0 + length xs ≡ length xs
+    zero = omega arith
+
+-- the first node
+pub nodes-begin : (text : List ℕ) (f : Front) (hs : List Heading) (x : FileNode) (values : List FileNode) → IsBegun text f → values ≡ x ∷ [] → x ≡ node_value hs (node_of f.first) → node_flaw (most_spatial f.version) hs (length f.lines.items) 0 f.before (node_of f.first) ≡ None
+    → AreNodes text f.version hs (front_defs f) f.lines.items values f.behind
+nodes-begin text f hs x values b is made none = record {
+  nodes = node_of f.first ∷ [];
+  tokens = b.tokens;
+  at = b.at;
+  leads = b.leads;
+  size = omega (arith, b.size, b.span);
+  clean = none_later (node_flaw (most_spatial f.version) hs (length f.lines.items) 0 (front_size (front_defs f) f.lines.items) (node_of f.first)) None (ap (λ k. node_flaw (most_spatial f.version) hs (length f.lines.items) 0 k (node_of f.first)) (sym b.size) ∙ none) refl;
+  made = is ∙ ap (λ y. y ∷ []) made;
+}
+
+module _ (text : List ℕ) (v : Version) (hs : List Heading) (ds : List Definition) (ls : List Line) (values : List FileNode) (s : Spot) (f : AreNodes text v hs ds ls values s) (t : Statement) (k : IsStatement (reading s.place s.comment s.rest.now) t) (n : ℕ) (size : n ≡ length t.tokens.items) (now : List Token) (is : now ≡ t.tokens.items) where
+  abbrev us : List Word
+  us = map word_of (map placed t.tokens.items)
+
+  pub nodes-number : length values ≡ length f.nodes
+  nodes-number = ap length f.made ∙ length-map f.nodes (node_value hs)
+
+  pub nodes-more : (x : Node) (y : FileNode) (all : List FileNode) → (statement_of Nodes).read (words now) ≡ Ok (inl x, []) → all ≡ values ++ y ∷ [] → y ≡ node_value hs x → node_flaw (most_spatial v) hs (length ls) (length values) s.tokens x ≡ None
+      → AreNodes text v hs ds ls all (on text s f.tokens f.at t k n)
+  nodes-more x y all e more made none =
+      let part = part-words (λ (ws : List Word). (statement_of Nodes).read ws ≡ Ok (inl x, [])) now t.tokens.items is e in
+      let here : node_flaw (most_spatial v) hs (length ls) (length f.nodes) (front_size ds ls + total node_span f.nodes) x ≡ None = (λ i. node_flaw (most_spatial v) hs (length ls) (sym nodes-number i) (sym f.size i) x) ∙ none in
+      record {
+        nodes = f.nodes ++ x ∷ [];
+        tokens = f.tokens ++ map placed t.tokens.items;
+        at = at-more text s f.tokens f.at t k n size;
+        leads = subst (λ (ws : List Word). LeadsNodes v ds ls (f.nodes ++ x ∷ []) ws) (sym (all-words text s f.tokens f.at t k)) (later-node v ds ls f.nodes (map word_of f.tokens) us x f.leads part);
+        size = omega (arith, f.size, size-of text s f.tokens f.at t k n (node_span x) size (statement-span Nodes us (inl x) part), total-more node_span f.nodes x);
+        clean = listed-more (node_flaw (most_spatial v) hs (length ls)) (front_size ds ls) f.nodes x f.clean here;
+        made = more ∙ (λ i. f.made i ++ made i ∷ []) ∙ sym (map_push (node_value hs) f.nodes x);
+      }
+
+  pub nodes-span : (x : Node) → (statement_of Nodes).read (words now) ≡ Ok (inl x, []) → s.tokens + node_span x ≤ length text
+  nodes-span x e =
+      omega (arith, at-few text s f.tokens f.at t k, size, size-of text s f.tokens f.at t k n (node_span x) size (statement-span Nodes us (inl x) (part-words (λ (ws : List Word). (statement_of Nodes).read ws ≡ Ok (inl x, [])) now t.tokens.items is e)))
+
+  pub nodes-end : (statement_of Nodes).read (words now) ≡ Ok (inr tt, []) → IsAll text (f.tokens ++ map placed t.tokens.items) → AreAllNodes text v hs ds ls values
+  nodes-end e all =
+      let part = part-words (λ (ws : List Word). (statement_of Nodes).read ws ≡ Ok (inr tt, [])) now t.tokens.items is e in
+      record {
+        nodes = f.nodes;
+        tokens = f.tokens ++ map placed t.tokens.items;
+        at = all;
+        leads = subst (λ (ws : List Word). Leads ws Ended (λ u. tree_of v ds ls f.nodes)) (sym (all-words text s f.tokens f.at t k)) (later-end v ds ls f.nodes (map word_of f.tokens) us f.leads part);
+        clean = f.clean;
+        made = f.made;
+      }
+
+-- ---- the end of the text
+
+-- the tokens that are left
+pub rest-of : (text : List ℕ) (s : Spot) (ts : List Placed) (items : List Token) → IsUtf8 text → IsAt text ts s → lex true s.place (comment_len s.comment (chars s.rest.now)) (chars s.rest.now) ≡ Ok (map placed items) → tokens_of text ≡ Ok (ts ++ map placed items)
+rest-of text s ts items utf8 h e =
+    let us = map placed items in
+    sym (from-start text)
+    ∙ ap (tokens_from start false) (sym (append-nil text))
+    ∙ taken-law start s.place false s.comment text s.rest.now ts utf8 h.utf8 h.taken []
+    ∙ ap (λ (b : List ℕ). with_tokens ts (tokens_from s.place s.comment b)) (append-nil s.rest.now)
+    ∙ ap (with_tokens ts) (sym (text-tokens s.place s.comment s.rest.now h.utf8) ∙ e)
+    ∙ with_tokens-ok ts us
+
+pub rest-words : (text : List ℕ) (ts : List Placed) (items : List Token) → tokens_of text ≡ Ok (ts ++ map placed items) → are_tokens (words items) ≡ true
+rest-words text ts items e =
+    let us = map placed items in
+    let both = subst (λ (ws : List Word). are_tokens ws ≡ true) (map-append word_of ts us) (all-tokens (map word_of (ts ++ us)) (tokens-end text (ts ++ us) e)) in
+    subst (λ (ws : List Word). are_tokens ws ≡ true) (sym (words-placed items us refl)) (later-tokens (map word_of ts) (map word_of us) both)
+
+-- ---- the whole
+
+-- the tree of a text that was read to its end without a flaw
+pub record IsTree (text : List ℕ) (t : File) : Type 0 where
+  pub all : List Placed
+  pub tokens : tokens_of text ≡ Ok all
+  pub fits : file.fits t
+  pub spelled : map word_of all ≡ file.words t
+  pub clean : file_flaw t ≡ None
+
+pub whole-tree : (text : List ℕ) (v : Version) (ds : List Definition) (ls : List Line) (values : List FileNode) (f : AreAllNodes text v (headings ds) ds ls values) → file_flaw (tree_of v ds ls []) ≡ None → IsTree text (tree_of v ds ls f.nodes)
+whole-tree text v ds ls values f none =
+    let t = tree_of v ds ls f.nodes in
+    let us = f.at.0 in
+    let read : read_whole file (map word_of (f.tokens ++ us)) ≡ Ok t = ap (read_whole file) (map-append word_of f.tokens us) ∙ all-read (map word_of f.tokens) (map word_of us) t f.leads f.at.2 in
+    let spelled = whole_ok file file-law (map word_of (f.tokens ++ us)) t read in
+    record {
+      all = f.tokens ++ us;
+      tokens = f.at.1;
+      fits = spelled.0;
+      spelled = spelled.1;
+      clean = file-flaws v ds ls [] f.nodes ∙ none_later (file_flaw (tree_of v ds ls [])) (listed_flaw (node_flaw (most_spatial v) (headings ds) (length ls)) node_span 0 (front_size ds ls + 0) f.nodes) none (ap (λ k. listed_flaw (node_flaw (most_spatial v) (headings ds) (length ls)) node_span 0 k f.nodes) same ∙ f.clean);
+    }
+  where
+    same : front_size ds ls + 0 ≡ front_size ds ls
+    same = omega arith
+
+pub none-of : {X : Type 0} (o : Option X) → is_some o ≡ false → o ≡ None
+none-of None e = refl
+none-of (Some x) e = absurd cc

@@ -1,0 +1,99 @@
+-- A text that is read through, statement by statement.
+use Rattle.std.specs.Prelude.{◌≡◌, ℕ, ◌+◌, ◌≤◌, Bool, true, false, List, [], ◌∷◌, ◌++◌, length, map, None, Ok, ◌⊎◌}
+use Rattle.std.proofs.Common.{inl, inr}
+use Rattle.std.specs.Str.{IsUtf8}
+use Rattle.cyc_lex.specs.Lexing.{HasRoom, start, tokens_of}
+use Rattle.cyc_lex.specs.Placed.{Placed}
+use Rattle.cyc_lex.specs.Word.{Word, word_of}
+use Rattle.cyc_grammar.specs.Syntax.{read_class}
+use Rattle.cyc_grammar.specs.Classes.{the_end}
+use Rattle.piecewise_lex.specs.Taking.{reading, HasTaken}
+use Rattle.heap_syntax.specs.declared.version.Version.{Version}
+use Rattle.heap_syntax.specs.Versions.{most_spatial}
+use Rattle.heap_reader.specs.Trees.{Heading}
+use Rattle.heap_reader.specs.Spans.{total, line_span}
+use Rattle.heap_reader.specs.Flaws.{listed_flaw}
+use Rattle.proof_syntax.specs.Trees.{Definition, Line, Node, definition_of, node_of}
+use Rattle.proof_syntax.specs.Grammar.{node}
+use Rattle.proof_statements.specs.Left.{Preds, Lines, Nodes, At, Ended, statement_of}
+use Rattle.proof_file.specs.declared.node.FileNode.{FileNode}
+use Rattle.proof_file.specs.Flaws.{node_flaw}
+use Rattle.proof_file.specs.Spans.{definition_span, variable_span, node_span}
+use Rattle.proof_file.specs.Values.{node_value}
+use Rattle.file_reader.specs.declared.front.Front.{Front}
+use Rattle.file_reader.specs.declared.front.Spot.{Spot}
+use Rattle.file_reader.specs.Steps.{Leads, tree_of}
+
+-- ---- one statement
+
+-- what is read where a definition or what follows one is to come; behind lines no definition is
+abbrev pub IsPart : Bool → Version → List Word → List Word → Definition ⊎ (Line ⊎ Node) → Type 0
+IsPart false v ws rest s = (statement_of (Preds v)).read ws ≡ Ok (s, rest)
+IsPart true v ws rest (inl d) = ⊥
+IsPart true v ws rest (inr s) = (statement_of (Lines v)).read ws ≡ Ok (s, rest)
+
+abbrev pub IsTheEnd : List Word → Type 0
+IsTheEnd ws = read_class the_end ws ≡ Ok (tt, [])
+
+-- ---- where reading stands
+
+-- these tokens were taken
+pub record IsAt (text : List ℕ) (ts : List Placed) (s : Spot) : Type 0 where
+  pub taken : HasTaken (reading start false text) ts (reading s.place s.comment s.rest.now)
+  pub room : HasRoom s.place (length s.rest.now)
+  pub utf8 : IsUtf8 s.rest.now
+  pub count : length ts ≡ s.tokens
+  pub few : s.tokens + length s.rest.now ≤ length text
+
+-- the words are those of the version, these definitions and these lines
+abbrev pub LeadsFront : Bool → Version → List Definition → List Line → List Word → Type 0
+LeadsFront false v ds ls ws = (ls ≡ []) × Leads ws (At (Preds v)) (λ x. tree_of v (ds ++ x.0) x.1.0 x.1.1)
+LeadsFront true v ds ls ws = Leads ws (At (Lines v)) (λ x. tree_of v ds (ls ++ x.0) x.1)
+
+abbrev pub front_size : List Definition → List Line → ℕ
+front_size ds ls = 4 + total definition_span ds + total (line_span variable_span) ls
+
+pub record IsFront (text : List ℕ) (in_lines : Bool) (v : Version) (ds : List Definition) (ls : List Line) (s : Spot) : Type 0 where
+  pub tokens : List Placed
+  pub at : IsAt text tokens s
+  pub leads : LeadsFront in_lines v ds ls (map word_of tokens)
+  pub size : s.tokens ≡ front_size ds ls
+
+-- and of these nodes
+abbrev pub LeadsNodes : Version → List Definition → List Line → List Node → List Word → Type 0
+LeadsNodes v ds ls xs ws = Leads ws (At Nodes) (λ ns. tree_of v ds ls (xs ++ ns))
+
+abbrev pub front_defs : Front → List Definition
+front_defs f = map definition_of f.definitions.items
+
+-- what stands before the nodes was read, and the first node, which the grammar has
+pub record IsBegun (text : List ℕ) (f : Front) : Type 0 where
+  pub tokens : List Placed
+  pub at : IsAt text tokens f.behind
+  pub leads : LeadsNodes f.version (front_defs f) f.lines.items (node_of f.first ∷ []) (map word_of tokens)
+  pub size : f.before ≡ front_size (front_defs f) f.lines.items
+  pub span : f.behind.tokens ≡ f.before + node_span (node_of f.first)
+  pub fits : node.fits (node_of f.first)
+
+-- nodes without a flaw were read, and these are their values
+pub record AreNodes (text : List ℕ) (v : Version) (hs : List Heading) (ds : List Definition) (ls : List Line) (values : List FileNode) (s : Spot) : Type 0 where
+  pub nodes : List Node
+  pub tokens : List Placed
+  pub at : IsAt text tokens s
+  pub leads : LeadsNodes v ds ls nodes (map word_of tokens)
+  pub size : s.tokens ≡ front_size ds ls + total node_span nodes
+  pub clean : listed_flaw (node_flaw (most_spatial v) hs (length ls)) node_span 0 (front_size ds ls) nodes ≡ None
+  pub made : values ≡ map (node_value hs) nodes
+
+-- these tokens are all before the end token
+abbrev pub IsAll : List ℕ → List Placed → Type 0
+IsAll text ts = (us : List Placed) × (tokens_of text ≡ Ok (ts ++ us)) × IsTheEnd (map word_of us)
+
+-- all was read, to the end of the text
+pub record AreAllNodes (text : List ℕ) (v : Version) (hs : List Heading) (ds : List Definition) (ls : List Line) (values : List FileNode) : Type 0 where
+  pub nodes : List Node
+  pub tokens : List Placed
+  pub at : IsAll text tokens
+  pub leads : Leads (map word_of tokens) Ended (λ u. tree_of v ds ls nodes)
+  pub clean : listed_flaw (node_flaw (most_spatial v) hs (length ls)) node_span 0 (front_size ds ls) nodes ≡ None
+  pub made : values ≡ map (node_value hs) nodes

@@ -1,0 +1,104 @@
+//! One statement as a tree.
+
+ghost use Rattle.std.specs.Prelude.{◌≡◌, true, [], Ok, IfOk, IfSome};
+ghost use Rattle.std.proofs.Common.{inl, inr};
+ghost use Rattle.cyc_grammar.specs.Classes.{are_tokens};
+ghost use Rattle.cyc_grammar.specs.Giving.{words};
+ghost use Rattle.proof_statements.specs.Left.{First, Nodes, statement_of};
+ghost use Rattle.proof_statements.specs.Trees.{pred_or_later_of, node_or_end_of};
+ghost use Rattle.file_reader.specs.Wholes.{IsPart, IsTheEnd};
+
+use cyc_grammar::{Cursor, Refusal};
+use cyc_lex::{OutOfMemory, Token};
+use heap_syntax::Version;
+use proof_statements::{
+    NodeOrEnd, PredOrLater, first_statement, line_or_node, node_or_end, pred_or_later,
+};
+use std::alloc::Global;
+
+/// The version that the first statement says; none where the tokens are none.
+pub fn first_part(tokens: &[Token<'_>]) -> Option<Version>
+    requires { are_tokens (words tokens.now) ≡ true }
+    ensures { IfSome result (λ v. (statement_of First).read (words tokens.now) ≡ Ok (v, [])) }
+{
+    let mut cursor = Cursor::new(tokens);
+    match first_statement(&mut cursor) {
+        Ok(version) => {
+            if cursor.left() > 0 {
+                return None;
+            }
+            Some(version)
+        }
+        Err(_) => None,
+    }
+}
+
+fn read_part<'a>(
+    alloc: Global,
+    version: Version,
+    in_lines: bool,
+    cursor: &mut Cursor<'_, 'a>,
+) -> Result<PredOrLater<'a>, Refusal>
+    ensures { IfOk result (λ s. IsPart in_lines version cursor.old cursor.new (pred_or_later_of s)) }
+{
+    if in_lines {
+        return Ok(PredOrLater::Later(line_or_node(alloc, version, cursor)?));
+    }
+    pred_or_later(alloc, version, cursor)
+}
+
+/// A definition, a line or a node, or behind lines one of the last two; none where the tokens are none.
+pub fn front_part<'a>(
+    alloc: Global,
+    version: Version,
+    in_lines: bool,
+    tokens: &[Token<'a>],
+) -> Result<Option<PredOrLater<'a>>, OutOfMemory>
+    requires { are_tokens (words tokens.now) ≡ true }
+    ensures { IfOk result (λ o. IfSome o (λ s. IsPart in_lines version (words tokens.now) [] (pred_or_later_of s))) }
+{
+    let mut cursor = Cursor::new(tokens);
+    match read_part(alloc, version, in_lines, &mut cursor) {
+        Ok(part) => {
+            if cursor.left() > 0 {
+                return Ok(None);
+            }
+            Ok(Some(part))
+        }
+        Err(Refusal::Dead(_)) => Ok(None),
+        Err(Refusal::OutOfMemory) => Err(OutOfMemory),
+    }
+}
+
+/// A node, or the last statement; none where the tokens are none.
+pub fn later_part<'a>(
+    alloc: Global,
+    tokens: &[Token<'a>],
+) -> Result<Option<NodeOrEnd<'a>>, OutOfMemory>
+    requires { are_tokens (words tokens.now) ≡ true }
+    ensures { IfOk result (λ o. IfSome o (λ s. (statement_of Nodes).read (words tokens.now) ≡ Ok (node_or_end_of s, []))) }
+{
+    let mut cursor = Cursor::new(tokens);
+    match node_or_end(alloc, &mut cursor) {
+        Ok(part) => {
+            if cursor.left() > 0 {
+                return Ok(None);
+            }
+            Ok(Some(part))
+        }
+        Err(Refusal::Dead(_)) => Ok(None),
+        Err(Refusal::OutOfMemory) => Err(OutOfMemory),
+    }
+}
+
+/// Whether the tokens are the end token alone.
+pub fn is_the_end(tokens: &[Token<'_>]) -> bool
+    requires { are_tokens (words tokens.now) ≡ true }
+    ensures { result ≡ true → IsTheEnd (words tokens.now) }
+{
+    let mut cursor = Cursor::new(tokens);
+    match cursor.end() {
+        Ok(()) => cursor.left() == 0,
+        Err(_) => false,
+    }
+}
