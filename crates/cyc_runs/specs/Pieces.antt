@@ -14,7 +14,7 @@ abbrev pub KeepsAnswers : Answering → List ℕ → Answering → Type 0
 KeepsAnswers old piece new =
     (rest : List ℕ) (ending : Status) (text : List ℕ) → new rest ending text → old (piece ++ rest) ending text
 
--- a tool was fed some bytes, which came from the source; `before` is how many it was fed before, `after` how many in all
+-- a tool was fed some bytes, which came from the source; `before` is how many came before, `after` how many in all
 pub record WasFed (old new : Answering) (before after : ℕ) (told left : Option (List ℕ)) : Type 0 where
   pub bytes : List ℕ
   pub came : Consumes told left bytes
@@ -25,7 +25,8 @@ pub record WasFed (old new : Answering) (before after : ℕ) (told left : Option
 abbrev pub IsTurn : Answering → Answering → ℕ → ℕ → Option (List ℕ) → Option (List ℕ) → Turn → Type 0
 IsTurn old new before after told left (turns.Fed count) =
     WasFed old new before after told left × (after ≡ count) × (count ≤ input_limit)
-IsTurn old new before after told left turns.Ended = WasFed old new before before told left × (after ≡ before) × IsAtEnd left
+IsTurn old new before after told left turns.Ended =
+    WasFed old new before before told left × (after ≡ before) × IsAtEnd left
 IsTurn old new before after told left turns.PastLimit = Came told left (input_limit + 1 - before)
 
 -- the tool, which was fed nothing before, was fed the whole input, or the input is too long

@@ -148,7 +148,8 @@ pub fn answer_in_pieces<T: PiecewiseTool + Drop, S: Source>(
     src: &mut S,
 ) -> Result<Answer, NoAnswer>
     requires { T.fed tool ≡ 0 }
-    ensures answered { IfOk result (λ a. AnswersTold (IsAnswerOf (T.answers tool)) (S.left src.old) a.status a.text.items) }
+    ensures answered { IfOk result
+        (λ a. AnswersTold (IsAnswerOf (T.answers tool)) (S.left src.old) a.status a.text.items) }
     ensures ending { IfOk result (λ a. is_answer a.status ≡ true) }
     ensures through { OnOk result (IsReadThrough (S.left src.old) (S.left src.new)) }
     ensures read_fault { IsErrOf result NoAnswer.ReadFault → Rose (S.faults src.old) (S.faults src.new) }
