@@ -104,6 +104,16 @@ end;
 END
 }
 
+# A problem whose search passes the limit of derivations and tries no link: each goal has two cases, and its judgement stays as small.
+two_cases() {
+  cat <<'END'
+cyclist problem 1;
+pred p() { true : p() | true : p() };
+goal true : emp |- true : p();
+end;
+END
+}
+
 # A program that allocates pairs for ever: it does not halt, and the links between its states are many.
 endless_pairs() {
   cat <<'END'

@@ -1,8 +1,8 @@
 #!/usr/bin/env bash
 # bench/search.sh [PROGRAM [SEEKER [BEFORE]]]: seconds, and megabytes of memory at the most, of `prove` on each problem of examples/, and of
 # the free search on each of them and of examples/seek/, with the answers: the nodes and links of the proof that was written, or
-# its line; of `fo` on the first-order problems of bench/first-order/; of two long searches; and derivations a second of four: one
-# that finds nothing, two that pass the limit of derivations, with small judgements and with large ones, and one at a program.
+# its line; of `fo` on the first-order problems of bench/first-order/; of two long searches; and derivations a second of five: one
+# that finds nothing, three that pass the limit of derivations, of which one tries many links and one none, and one at a program.
 # Those of `prove` also for the program BEFORE, if one is named. Wants GNU time. Prints figures; it passes and fails nothing.
 . "$(dirname "${BASH_SOURCE[0]}")/common.sh"
 seeker=${2:-$top/crates/cyclist_seek/out/cyclist_seek}
@@ -42,15 +42,16 @@ for row in '3 17' '4 14'; do
   measure "$work/$count-even-lists.problem" "$program" prove --depth "$depth"
 done
 
-# Seconds, derivations a second and memory of a search. The derivations are those of all its depths, a link that is refused being
+# Seconds of processor, derivations a second and memory of a search. The derivations are those of all its depths, a link that is refused being
 # one: they are what the search goes through, so that they are the same for each program that keeps its clauses. They were counted
 # by the least limit of derivations that a depth does not reach; at the last depth of a search that ends so they are the limit.
 rate() { # NAME DERIVATIONS WORD..: of a problem in "$work/file"
-  local name=$1 derivations=$2 each spent kilobytes
+  local name=$1 derivations=$2 each spent system kilobytes
   shift 2
   for each in ${before:+"$before"} "$program"; do
-    /usr/bin/time -q -f '%e %M' -o "$work/time" "$each" "$@" < "$work/file" > "$work/answer"
-    read -r spent kilobytes < "$work/time"
+    /usr/bin/time -q -f '%U %S %M' -o "$work/time" "$each" "$@" < "$work/file" > "$work/answer"
+    read -r spent system kilobytes < "$work/time"
+    spent=$(echo "$spent + $system" | bc)
     printf '%-20s %-6s %8.2f s %9.0f a second %4d MB  %s\n' "$name" "$([ "$each" = "$program" ] && echo now || echo before)" "$spent" \
       "$(echo "$derivations / ($spent + 0.01)" | bc)" "$((kilobytes / 1024))" "$(head -n 1 "$work/answer")"
   done
@@ -61,3 +62,4 @@ odd_lists odd 'ls(x, y) * odd(y, v)' > "$work/file"; rate odd-lists 1310618 prov
 odd_lists ls 'odd(x, v)' > "$work/file"; rate odd-and-any 1091412 prove --depth 16
 two_ways > "$work/file"; rate two-ways 1526063 prove --depth 7
 endless_pairs > "$work/file"; rate endless-pairs 17682 prove --depth 16
+two_cases > "$work/file"; rate two-cases 2048555 prove --depth 40

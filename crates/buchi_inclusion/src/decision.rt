@@ -221,12 +221,7 @@ pub fn lasso_of(
 }
 
 /// Whether there is a way over moves of the class.
-fn leads_to(
-    alloc: Global,
-    class: &Class<'_>,
-    start: usize,
-    to: usize,
-) -> Result<bool, OutOfMemory>
+fn leads_to(alloc: Global, class: &Class<'_>, start: usize, to: usize) -> Result<bool, OutOfMemory>
     requires class { IsClassOf class.now }
     requires start { start < length (states_of class.now.table.now.states) }
     ensures way { IfOk result (λ b. b ≡ true → HasWay class.now.graph.now (states_of class.now.table.now.states) class.now.least start to) }

@@ -256,7 +256,7 @@ module _ (t : Theory) (j : Judgement) where
     done_alone b = first_closes (filter (goes t j) (Done ∷ [])) (after_done b) (after_open b)
 
     pub none_closes : (b c : SymbolicHeap) (bs : List SymbolicHeap) → CloseAlike t j [] (entailment_after t j a (b ∷ c ∷ bs))
-    none_closes b c bs = 
+    none_closes b c bs =
         sym (none_pass (closes t j) (filter (goes t j) (choices (b ∷ c ∷ bs) ++ unfolds a.spatial))
         (each_filter (goes t j) Open (choices (b ∷ c ∷ bs) ++ unfolds a.spatial) (each_append Open (choices (b ∷ c ∷ bs)) (unfolds a.spatial) (choices_open (b ∷ c ∷ bs)) unfolds_open)))
 
