@@ -157,7 +157,10 @@ fn a_token_in_two_pieces(rt: HostRuntime) -> Result<(), Fail> {
         let mut out = PlainSink::new(alloc, 1000, 1000)?;
         let status = run(alloc, words.as_slice(), &mut src, &mut out);
         assert_eq!(rt; status.code(), 0, "after {spaces} spaces");
-        assert!(rt; out.written() == ACCEPTED.as_bytes(), "after {spaces} spaces");
+        assert!(rt;
+            out.written() == ACCEPTED.as_bytes(),
+            "after {spaces} spaces"
+        );
     }
     Ok(())
 }
