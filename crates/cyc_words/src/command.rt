@@ -1,6 +1,6 @@
 // The command `cyclist`, as clap builds it.
 ghost use Rattle.std.specs.Prelude.{◌≡◌, IfOk, false};
-ghost use Rattle.clap.specs.Words.{rule_of};
+ghost use Rattle.clap.specs.Words.{App, rule_of, with_subcommand};
 ghost use Rattle.cyc_words.specs.Command.{IsCommand, asking_app, cells_rule, cyclist_app, depth_rule, disprove_app, fo_app, prove_app, proving_app, ring_app, size_rule};
 
 use clap::{Arg, Command};
@@ -59,31 +59,40 @@ fn fo_command<'a>(alloc: Global) -> Result<Command<'a>, AllocError>
     Command::new(alloc, "fo").arg(depth_argument(alloc))
 }
 
+// The command with one more subcommand, if memory lasted for both.
+fn with<'a>(
+    command: Result<Command<'a>, AllocError>,
+    subcommand: Result<Command<'a>, AllocError>,
+) -> Result<Command<'a>, AllocError>
+    ensures { (app more : App) → IfOk command.entry (λ c. IsCommand c app) → IfOk subcommand.entry (λ c. IsCommand c more)
+        → IfOk result (λ c. IsCommand c (with_subcommand app more.top)) }
+{
+    command?.subcommand(subcommand?)
+}
+
 // The command with the subcommands that make or check a proof.
 fn proving_command<'a>(alloc: Global) -> Result<Command<'a>, AllocError>
     ensures { IfOk result (λ command. IsCommand command proving_app) }
 {
-    Command::new(alloc, "cyclist")
-        .subcommand(Command::new(alloc, "check"))?
-        .subcommand(prove_command(alloc)?)?
-        .subcommand(ring_command(alloc)?)
+    let command = Ok(Command::new(alloc, "cyclist"));
+    let command = with(command, Ok(Command::new(alloc, "check")));
+    let command = with(command, prove_command(alloc));
+    with(command, ring_command(alloc))
 }
 
 // The same with those that ask about a proof file, a problem or a model.
 fn asking_command<'a>(alloc: Global) -> Result<Command<'a>, AllocError>
     ensures { IfOk result (λ command. IsCommand command asking_app) }
 {
-    proving_command(alloc)?
-        .subcommand(Command::new(alloc, "upgrade"))?
-        .subcommand(Command::new(alloc, "sat"))?
-        .subcommand(Command::new(alloc, "model"))
+    let command = with(proving_command(alloc), Ok(Command::new(alloc, "upgrade")));
+    let command = with(command, Ok(Command::new(alloc, "sat")));
+    with(command, Ok(Command::new(alloc, "model")))
 }
 
 pub fn cyclist_command<'a>(alloc: Global) -> Result<Command<'a>, AllocError>
     ensures { IfOk result (λ command. IsCommand command cyclist_app) }
 {
-    asking_command(alloc)?
-        .subcommand(disprove_command(alloc)?)?
-        .subcommand(fo_command(alloc)?)?
-        .subcommand(Command::new(alloc, "fo-check"))
+    let command = with(asking_command(alloc), disprove_command(alloc));
+    let command = with(command, fo_command(alloc));
+    with(command, Ok(Command::new(alloc, "fo-check")))
 }

@@ -7,3 +7,4 @@ pub mod SpanLaws
 pub mod Readings
 pub mod Wider
 mod Indexes
+mod Loops

@@ -33,8 +33,8 @@ exact ds h ns qs rules T s e a ys g t k z = (
   λ x. union_map (derived rules) T (derived_in rules T t) ys (mask_of ns h) (satisfied_unions ds h ns qs rules g s e a ys k z x),
 )
 
-pub answer : (ds : List Definition) (h : Cells) (ns : List ℕ) (q0 q1 q2 : List Question) (rules rs : List GroundRule) (table tv : List Row) (s e : Stack) (a : SymbolicHeap) (xs : List Spatial) (ys yv : List Piece) (out ov : Row) (m : ℕ) (b : Bool) → xs ≡ a.spatial → rs ≡ rules → tv ≡ table → yv ≡ ys → ov ≡ out → m ≡ mask_of ns h → AskedPieces ns q0 q1 s e xs ys → Extends q1 q2 → Grounds ds h ns q2 rules → IsSolved rs (HasMask table) → IsOnly h s e a → ((m : ℕ) → HoldsMask m out ↔ Unions (HasMask tv) yv m) → IsTrue b ↔ HoldsMask m ov → IsTrue b ↔ Satisfies ds s h a
-answer ds h ns q0 q1 q2 rules rs table tv s e a xs ys yv out ov m b xe re te ye oe me ask ext g t k u i =
+pub masks_exact : (ds : List Definition) (h : Cells) (ns : List ℕ) (q0 q1 q2 : List Question) (rules rs : List GroundRule) (table tv : List Row) (s e : Stack) (a : SymbolicHeap) (xs : List Spatial) (ys yv : List Piece) (out : Row) → xs ≡ a.spatial → rs ≡ rules → tv ≡ table → yv ≡ ys → AskedPieces ns q0 q1 s e xs ys → Extends q1 q2 → Grounds ds h ns q2 rules → IsSolved rs (HasMask table) → IsOnly h s e a → ((m : ℕ) → HoldsMask m out ↔ Unions (HasMask tv) yv m) → HoldsMask (mask_of ns h) out ↔ Satisfies ds s h a
+masks_exact ds h ns q0 q1 q2 rules rs table tv s e a xs ys yv out xe re te ye ask ext g t k u =
     let z1 = subst (λ ws. PiecesFit ns q1 s e ws ys) xe ask.pieces in
     let z : PiecesFit ns q2 s e a.spatial ys = pieces_kept ns q1 q2 ext s e a.spatial ys z1 in
     let t' = subst (λ ws. IsSolved ws (HasMask table)) re t in
@@ -42,9 +42,13 @@ answer ds h ns q0 q1 q2 rules rs table tv s e a xs ys yv out ov m b xe re te ye 
     let v0 = subst (λ ws. (m : ℕ) → HoldsMask m out ↔ Unions (HasMask ws) yv m) te u in
     let v1 = subst (λ ws. (m : ℕ) → HoldsMask m out ↔ Unions (HasMask table) ws m) ye v0 in
     let v : HoldsMask (mask_of ns h) out ↔ Unions (HasMask table) ys (mask_of ns h) = v1 (mask_of ns h) in
+    (λ y. x.0 (v.0 y), λ y. v.1 (x.1 y))
+
+pub answer : (ds : List Definition) (h : Cells) (ns : List ℕ) (s : Stack) (a : SymbolicHeap) (out ov : Row) (m : ℕ) (b : Bool) → ov ≡ out → m ≡ mask_of ns h → HoldsMask (mask_of ns h) out ↔ Satisfies ds s h a → IsTrue b ↔ HoldsMask m ov → IsTrue b ↔ Satisfies ds s h a
+answer ds h ns s a out ov m b oe me x i =
     let j0 = subst (λ ws. IsTrue b ↔ HoldsMask m ws) oe i in
     let j : IsTrue b ↔ HoldsMask (mask_of ns h) out = subst (λ n. IsTrue b ↔ HoldsMask n out) me j0 in
-    (λ y. x.0 (v.0 (j.0 y)), λ y. j.1 (v.1 (x.1 y)))
+    (λ y. x.0 (j.0 y), λ y. j.1 (x.1 y))
 
 pub never : (ds : List Definition) (h : Cells) (s : Stack) (a : SymbolicHeap) → ((e : Stack) → Fits h s e a → ⊥) → IsTrue false ↔ Satisfies ds s h a
 never ds h s a n = (λ t. absurd (let z : false ≡ true = t in cc), λ x. absurd (never_fits x))

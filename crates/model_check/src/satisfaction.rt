@@ -5,14 +5,14 @@ ghost use Rattle.heap_formula.specs.Cells.{IsHeap, cell_at};
 ghost use Rattle.heap_formula.specs.Meaning.{Satisfies};
 ghost use Rattle.model_check.specs.Constructive.{Member, IsConstructive, AreConstructive, IsOnly};
 ghost use Rattle.model_check.specs.ForcedLocals.{stack_of};
-ghost use Rattle.model_check.specs.WideMasks.{number};
+ghost use Rattle.model_check.specs.WideMasks.{number, HoldsMask};
 ghost use Rattle.model_check.specs.MaskParts.{place, from_bits, stands, mask_of, Covers};
 
 use crate::grounding::{ground_questions, pieces_of, place_of};
 use crate::locals::{Local, locals_of};
 use crate::mask::Mask;
 use crate::solving::solve;
-use crate::unions::{has_mask, unions};
+use crate::unions::{Row, has_mask, unions};
 use cyc_memory::OutOfMemory;
 use goto_lang::{Cells, Stack};
 use heap_formula::Heap;
@@ -77,6 +77,30 @@ fn whole_mask(alloc: Global, places: &IndexSet<u64>, cells: &Cells) -> Result<Ma
     Ok(mask)
 }
 
+/// The masks of the parts of the heap that consist of a part for each spatial atom, at these values of the locals.
+fn masks_of(
+    alloc: Global,
+    defs: &Defs,
+    stack: &[u64],
+    cells: &Cells,
+    places: &IndexSet<u64>,
+    locals: &[Local],
+    ask: &Heap,
+) -> Result<Row, OutOfMemory>
+    requires constructive { AreConstructive defs.now.list }
+    requires covers { Covers places.now.keys cells.now }
+    requires heap { IsHeap cells.now }
+    requires only { IsOnly cells.now stack.now (stack_of locals.now) ask.now }
+    ensures { IfOk result (λ masks. HoldsMask (mask_of places.now.keys cells.now) masks ↔ Satisfies defs.now.list stack.now cells.now ask.now) }
+{
+    let mut questions = IndexSet::new(alloc);
+    let mut rules = Vec::new(alloc);
+    let pieces = pieces_of(alloc, places, &mut questions, stack, locals, ask.spatial())?;
+    ground_questions(alloc, defs, cells, places, &mut questions, &mut rules)?;
+    let table = solve(alloc, &rules, questions.len())?;
+    unions(alloc, &table, pieces.as_slice())
+}
+
 /// The answer where these values of the formula's locals are the only ones that fit.
 fn satisfied_with(
     alloc: Global,
@@ -91,12 +115,7 @@ fn satisfied_with(
     ensures { IfOk result (λ b. IsTrue b ↔ Satisfies defs.now.list stack.now cells.now ask.now) }
 {
     let places = heap_places(alloc, cells)?;
-    let mut questions = IndexSet::new(alloc);
-    let mut rules = Vec::new(alloc);
-    let pieces = pieces_of(alloc, &places, &mut questions, stack, locals, ask.spatial())?;
-    ground_questions(alloc, defs, cells, &places, &mut questions, &mut rules)?;
-    let table = solve(alloc, &rules, questions.len())?;
-    let masks = unions(alloc, &table, pieces.as_slice())?;
+    let masks = masks_of(alloc, defs, stack, cells, &places, locals, ask)?;
     let whole = whole_mask(alloc, &places, cells)?;
     Ok(has_mask(masks.as_slice(), &whole))
 }
