@@ -1,6 +1,10 @@
-//! Small facts about the meaning of formulas and programs, each the contract of a function that does nothing: a reader
-//! sees by them that the definitions say what they are meant to say.
+//! Small facts about the meaning of formulas and programs, and about the rule table of first-order logic, each the contract
+//! of a function that does nothing: a reader sees by them that the definitions say what they are meant to say.
 #![tactic(auto)]
+
+mod first_order;
+
+pub use first_order::{a_link_needs_its_substitution, nodes_of_a_proof_are_right, terms_clash};
 
 ghost use Rattle.std.specs.Prelude.{◌≡◌, ℕ, ◌<◌, List, [], ◌∷◌};
 ghost use Rattle.heap_formula.specs.Definitions.{Definition};

@@ -1,12 +1,9 @@
-//! Small facts about the rule table of first-order logic, each the contract of a function that does nothing: a reader sees
-//! by them that the table says what it is meant to say.
-#![tactic(auto)]
-
+// Small facts about the rule table of first-order logic.
 ghost use Rattle.std.specs.Prelude.{◌≡◌, true, false, [], ◌∷◌, None, Some};
 ghost use Rattle.fo_table.specs.declared.faults.FoFault.TheVariants.{LinkLeft};
 ghost use Rattle.fo_table.specs.Nodes.{node_fault};
 ghost use Rattle.fo_table.specs.Tests.{is_absurd};
-ghost use Rattle.fo_facts.specs.Samples.{numbers, even_is_nat, first_faults, unchanged_link, variable, successor, zero_term};
+ghost use Rattle.meaning_facts.specs.FirstOrderSamples.{numbers, even_is_nat, first_faults, unchanged_link, variable, successor, zero_term};
 
 /// Every node of the proof that even numbers are numbers is right: the even numbers are unfolded, the case of zero and that
 /// of a number two above an even one are shown on the right, and what is left links back.
