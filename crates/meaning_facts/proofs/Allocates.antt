@@ -1,11 +1,11 @@
 -- Endless allocation does not halt.
-use Rattle.std.proofs.Common.{◌≡◌, ℕ, zero, suc, ◌+◌, ◌<◌, List, [], ◌∷◌, Option, Some, None, refl, ap, ◌∙◌, subst, arith, inl, inr}
+use Rattle.std.proofs.Common.{◌≡◌, ℕ, zero, suc, ◌<◌, Some, refl, ap, subst, inl, inr}
 use Rattle.std.proofs.Math.ListN.{replicate}
 use Rattle.std.specs.Prelude.{slice_set}
 use Rattle.std.specs.FinMap.{insert}
 use Rattle.heap_formula.specs.declared.commands.Command.{Command}
 use Rattle.heap_formula.specs.declared.commands.Command.TheVariants.{New, Goto, Stop}
-use Rattle.heap_formula.specs.Programs.{Config, Halts, Goes, command_at, counted_from_one, next_line, jump, greatest}
+use Rattle.heap_formula.specs.Programs.{Config, Halts, Goes, counted_from_one, next_line, jump, greatest}
 use Rattle.heap_formula.proofs.StepLaws.{may_pick}
 use Rattle.meaning_facts.specs.Samples.{allocating, stopping}
 

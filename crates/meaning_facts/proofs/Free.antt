@@ -1,9 +1,9 @@
 -- The countermodel of two lists with free tails: the stack 1, 0 and the cell 1 -> (0).
-use Rattle.std.proofs.Common.{◌≡◌, ◌⊎◌, ℕ, zero, suc, List, [], ◌∷◌, Option, Some, None, refl, sym, ◌∙◌, subst, arith, inl, inr}
+use Rattle.std.proofs.Common.{◌≡◌, ◌⊎◌, ℕ, zero, suc, List, [], ◌∷◌, Some, None, refl, subst, arith, inl, inr}
 use Rattle.std.specs.Ordering.{nat_cmp}
 use Rattle.std.specs.FinMap.{get-empty}
 use Rattle.heap_formula.specs.Definitions.{Definition}
-use Rattle.heap_formula.specs.Cells.{Cells, cell_at, no_cells, one_cell}
+use Rattle.heap_formula.specs.Cells.{cell_at, no_cells, one_cell}
 use Rattle.heap_formula.specs.Meaning.{at_stage, Satisfies, EntailmentHolds}
 use Rattle.heap_formula.proofs.Unions.{union_empty}
 use Rattle.heap_formula.proofs.Insertions.{one_cell_has}

@@ -1,10 +1,10 @@
 -- The countermodel of acyclic segments: the stack 1, 2, 1 and the cells 1 -> (2), 2 -> (1).
-use Rattle.std.proofs.Common.{◌≡◌, ◌≢◌, ◌⊎◌, ℕ, zero, suc, ◌<◌, List, [], ◌∷◌, Option, Some, None, refl, sym, ap, ◌∙◌, subst, arith, inl, inr}
+use Rattle.std.proofs.Common.{◌≡◌, ◌≢◌, ◌⊎◌, ℕ, zero, suc, ◌<◌, [], ◌∷◌, Some, None, refl, sym, ◌∙◌, subst, arith, inl, inr}
 use Rattle.std.specs.Ordering.{nat_cmp}
 use Rattle.std.specs.Cmp.{nat_cmp_total}
 use Rattle.std.specs.FinMap.{insert, get-insert, get-empty}
-use Rattle.heap_formula.specs.Cells.{Cells, cell_at, no_cells, one_cell, Joins, IsUnion, Star}
-use Rattle.heap_formula.specs.Meaning.{at_stage, least, Satisfies, EntailmentHolds, Holds}
+use Rattle.heap_formula.specs.Cells.{Cells, cell_at, no_cells, one_cell, IsUnion}
+use Rattle.heap_formula.specs.Meaning.{at_stage, Satisfies, EntailmentHolds}
 use Rattle.heap_formula.proofs.Unions.{union_empty, empty_union, empty_union_same}
 use Rattle.heap_formula.proofs.Insertions.{put_union, put_there}
 use Rattle.meaning_facts.specs.Samples.{acyclic_segments, two_segments, one_segment}

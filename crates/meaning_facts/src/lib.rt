@@ -4,14 +4,14 @@
 
 mod first_order;
 
-pub use first_order::{a_link_needs_its_substitution, nodes_of_a_proof_are_right, terms_clash};
-
 ghost use Rattle.std.specs.Prelude.{◌≡◌, ℕ, ◌<◌, List, [], ◌∷◌};
 ghost use Rattle.heap_formula.specs.Definitions.{Definition};
 ghost use Rattle.heap_formula.specs.Cells.{Cells};
 ghost use Rattle.heap_formula.specs.Meaning.{least, EntailmentHolds};
 ghost use Rattle.heap_formula.specs.Programs.{Config, Halts};
 ghost use Rattle.meaning_facts.specs.Samples.{acyclic_segments, two_segments, one_segment, two_locals, two_of_them, nothing, allocating, stopping, UsesItself};
+
+pub use first_order::{a_link_needs_its_substitution, nodes_of_a_proof_are_right, terms_clash};
 
 /// Acyclic list segments do not compose: with the stack 1, 2, 1 and the cells 1 -> (2) and 2 -> (1), both segments are
 /// there, and no acyclic segment leads from 1 to 1 over two cells.
