@@ -1,10 +1,11 @@
 -- Steps of loops over masks.
 use Rattle.std.specs.Prelude.{◌==◌}
 use Rattle.std.proofs.lemmas.Bool.{eqb-true, or_cases, both_ways}
+use Rattle.std.proofs.lemmas.List.{at_drop_more}
 use Rattle.std.specs.List.{list_any}
 use Rattle.std.specs.Cmp.Lexicographic.{pointwise}
 use Rattle.model_check.specs.Questions.{lists_decide}
-use Rattle.std.proofs.Common.{take, ◌-◌, ◌≡◌, ℕ, zero, suc, ◌+◌, ◌^◌, ◌<◌, ◌≤◌, List, [], ◌∷◌, ◌++◌, length, drop, get_or, add-one, drop-cons, Bool, true, false, Option, Some, None, refl, sym, ap, ◌∙◌, subst, inl, inr, ◌⊎◌, arith}
+use Rattle.std.proofs.Common.{take, ◌-◌, ◌≡◌, ℕ, zero, suc, ◌+◌, ◌^◌, ◌<◌, ◌≤◌, List, [], ◌∷◌, ◌++◌, append_assoc, length, drop, get_or, add-one, drop-cons, Bool, true, false, Option, Some, None, refl, sym, ap, ◌∙◌, subst, inl, inr, ◌⊎◌, arith}
 use Rattle.std.specs.Prelude.{◌↔◌, nat_eq, not, if◌then◌else◌, IsTrue, slice_get, Result, Ok, Err, IfOk}
 use Rattle.std.specs.Int.Bits.{bit_and, bit_or}
 use Rattle.heap_formula.specs.Words.{OneOf}
@@ -16,6 +17,12 @@ use Rattle.model_check.specs.Tables.{Row, Added, JoinsOne, JoinsSome, HasIn, Has
 
 split_drop : {X : Type 0} (xs : List X) (i : ℕ) (x : X) → i < length xs → x ≡ get_or xs i x → drop i xs ≡ x ∷ drop (i + 1) xs
 split_drop xs i x h e = rw (add-one, drop-cons xs i x) (ap (λ y. y ∷ drop (suc i) xs) (sym e))
+
+-- what each member adds to a list
+pub appended : {X Y : Type 0} (F : List X → List Y) (one : X → List Y) (xs : List X) (i : ℕ) (d : X) (old new whole : List Y) → ((x : X) (ys : List X) → F (x ∷ ys) ≡ one x ++ F ys) → i < length xs → new ≡ old ++ one (get_or xs i d) → old ++ F (drop i xs) ≡ whole → new ++ F (drop (i + 1) xs) ≡ whole
+appended F one xs i d old new whole step l e was =
+    let rest = drop (i + 1) xs in
+    ap (λ ys. ys ++ F rest) e ∙ append_assoc old (one (get_or xs i d)) (F rest) ∙ ap (λ ys. old ++ ys) (sym (at_drop_more F xs i d l ∙ step (get_or xs i d) rest)) ∙ was
 
 pub loop_step : {X M N G : Type 0} (P : X → Type 0) (xs : List X) (i : ℕ) (x : X) → i < length xs → x ≡ get_or xs i x → (N ↔ (M ⊎ P x)) → ((M ⊎ OneOf P (drop i xs)) ↔ G) → ((N ⊎ OneOf P (drop (i + 1) xs)) ↔ G)
 loop_step {M = M} {N = N} {G = G} P xs i x h is f g =

@@ -102,6 +102,33 @@ fn goal<'a>(
     }
 }
 
+/// The goal, whose universal variables are numbered behind the names that are used before it.
+fn goal_behind<'a>(
+    alloc: Global,
+    uses: Vec<NameUse<'a>>,
+    tree: &GoalTree<'a>,
+) -> Result<NumberedGoal<'a>, OutOfMemory>
+    ensures { IfOk result (λ g. goal_of g ≡ goal_number (firsts (map name_of uses.entry.items ++ names_of_goal (named.goal_of tree.now))) (named.goal_of tree.now)) }
+{
+    let universals = first_names(alloc, &with_goal_names(alloc, uses, tree)?)?;
+    goal(alloc, &universals, tree)
+}
+
+/// The program's lines, and the goal.
+fn lines_and_goal<'a>(
+    alloc: Global,
+    tree: &ProblemTree<'a>,
+) -> Result<(Vec<command_syntax::LineTree<usize>>, NumberedGoal<'a>), OutOfMemory>
+    ensures lines { IfOk result (λ r. r.0.items ≡ (numbered (named.problem_of tree.now)).lines) }
+    ensures goal { IfOk result (λ r. goal_of r.1 ≡ (numbered (named.problem_of tree.now)).goal) }
+{
+    let uses = program_names(alloc, &tree.lines)?;
+    let variables = first_names(alloc, &uses)?;
+    let lines = lines(alloc, &variables, &tree.lines)?;
+    let goal = goal_behind(alloc, uses, &tree.goal)?;
+    Ok((lines, goal))
+}
+
 /// The problem with numbers in place of its names. In a case a name is a parameter if it is one, and else a local, with a
 /// number of its own in this case. The variables of the program are numbered over its lines, the other universal variables
 /// of the goal behind them, those of the antecedent first, and existential variables in each disjunct.
@@ -112,11 +139,7 @@ pub fn number_problem<'a>(
     ensures { IfOk result (λ p. problem_of p ≡ numbered (named.problem_of tree.now)) }
 {
     let definitions = definitions(alloc, &tree.definitions)?;
-    let uses = program_names(alloc, &tree.lines)?;
-    let variables = first_names(alloc, &uses)?;
-    let lines = lines(alloc, &variables, &tree.lines)?;
-    let universals = first_names(alloc, &with_goal_names(alloc, uses, &tree.goal)?)?;
-    let goal = goal(alloc, &universals, &tree.goal)?;
+    let (lines, goal) = lines_and_goal(alloc, tree)?;
     Ok(NumberedProblem {
         version: tree.version,
         definitions,
