@@ -13,11 +13,11 @@ use Rattle.fo_term_syntax.specs.Trees.{Sign, Variable, Local, Apply, Atom, Equat
 use Rattle.fo_term_syntax.specs.Grammar.{IsTerm, IsApplication}
 use Rattle.fo_term_syntax.specs.Places.{places_of, tokens_in}
 use Rattle.fo_term_syntax.proofs.PlaceLaws.{places-count}
-use Rattle.fo_flaws.specs.declared.flaw.Scope.{Scope}
-use Rattle.fo_flaws.specs.declared.flaw.Scope.TheVariants.{Node as InNode, Case as InCase}
-use Rattle.fo_flaws.specs.Spans.{atom_span, behind_first, terms_in, total_terms, IsAtom, AreAtoms}
-use Rattle.fo_flaws.specs.Flaws.{variable_flaw, terms_flaw as term_limit, sign_flaw, signs_flaw, term_flaw, predicate_flaw, atom_flaw, atoms_flaw, side_flaw}
-use Rattle.fo_flaws.proofs.Walks.{one-term}
+use Rattle.fo_walk.specs.declared.flaw.Scope.{Scope}
+use Rattle.fo_walk.specs.declared.flaw.Scope.TheVariants.{Node as InNode, Case as InCase}
+use Rattle.fo_walk.specs.AtomSpans.{atom_span, behind_first, terms_in, total_terms, IsAtom, AreAtoms}
+use Rattle.fo_walk.specs.AtomFlaws.{variable_flaw, terms_flaw as term_limit, sign_flaw, signs_flaw, term_flaw, predicate_flaw, atom_flaw, atoms_flaw, side_flaw}
+use Rattle.fo_walk.proofs.Walks.{one-term}
 use Rattle.fo_values.specs.Known.{IsKnownSign, IsKnownTerm, IsKnownUse, IsKnownAtom, AreKnownAtoms}
 
 -- ---- names

@@ -14,9 +14,9 @@ use Rattle.fo_term_syntax.specs.Trees.{Sign, Atom}
 use Rattle.fo_term_syntax.specs.Grammar.{IsTerm}
 use Rattle.fo_problem_syntax.specs.Trees.{Constructor, Definition, Sequent}
 use Rattle.fo_proof_syntax.specs.Trees.{Entry, Reason, Axiom, Refl, Clash, Decompose, Replace, WeakenLeft, WeakenRight, Contract, Unfold, Cut, Right, Link, Node}
-use Rattle.fo_flaws.specs.declared.flaw.Scope.TheVariants.{Node as InNode, Case as InCase}
-use Rattle.fo_flaws.specs.Spans.{atoms_span, total_terms, AreAtoms}
-use Rattle.fo_flaws.specs.Flaws.{variable_flaw, term_flaw, side_flaw}
+use Rattle.fo_walk.specs.declared.flaw.Scope.TheVariants.{Node as InNode, Case as InCase}
+use Rattle.fo_walk.specs.AtomSpans.{atoms_span, total_terms, AreAtoms}
+use Rattle.fo_walk.specs.AtomFlaws.{variable_flaw, term_flaw, side_flaw}
 use Rattle.fo_walk.specs.Parts.{IsDefinition, IsSequent, IsEntry, IsReason, IsNode}
 use Rattle.fo_walk.specs.Spans.{constructor_span, definition_span, sequent_span, sequent_terms, term_span, entry_span, node_span}
 use Rattle.fo_walk.specs.Flaws.{constructor_heading, predicate_heading, constructor_heads, predicate_heads, arguments_flaw, constant_flaw, constructor_flaw, definition_head_flaw, case_flaw, cases_flaw, definition_flaw, sequent_flaw, terms_flaw, entry_flaw, entries_flaw, reason_flaw, node_flaw, nodes_flaw, constructors_flaw, definitions_flaw, theory_flaw}

@@ -17,7 +17,7 @@ use Rattle.fo_formula.proofs.Lists.{each_append}
 use Rattle.fo_formula.proofs.Replacing.{term_keeps}
 use Rattle.fo_limits.specs.Limits.{IsTermOf}
 use Rattle.fo_term_syntax.specs.Trees.{Sign, arguments_of, AreTerms}
-use Rattle.fo_flaws.specs.Spans.{terms_in, total_terms}
+use Rattle.fo_walk.specs.AtomSpans.{terms_in, total_terms}
 use Rattle.fo_walk.specs.Spans.{sequent_terms}
 use Rattle.fo_values.specs.Written.{sign_tree, term_tree, atom_tree, atoms_tree, sequent_tree}
 

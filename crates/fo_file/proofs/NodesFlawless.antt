@@ -26,9 +26,9 @@ use Rattle.fo_formula.specs.Words.{Word}
 use Rattle.fo_limits.specs.Limits.{IsSignWithin, IsTermWithin, TakesArguments, IsAtomWithin, IsSequentWithin, IsPairWithin, IsReasonWithin, IsNodeWithin}
 use Rattle.fo_term_syntax.specs.Trees.{Sign, Apply}
 use Rattle.fo_term_syntax.specs.Places.{places_of, tokens_in}
-use Rattle.fo_flaws.specs.declared.flaw.Scope.TheVariants.{Node as InNode}
-use Rattle.fo_flaws.specs.Spans.{atom_span, atoms_span, terms_in, total_terms}
-use Rattle.fo_flaws.specs.Flaws.{variable_flaw, terms_flaw as term_limit, sign_flaw, signs_flaw, term_flaw, predicate_flaw, atom_flaw, atoms_flaw, side_flaw}
+use Rattle.fo_walk.specs.declared.flaw.Scope.TheVariants.{Node as InNode}
+use Rattle.fo_walk.specs.AtomSpans.{atom_span, atoms_span, terms_in, total_terms}
+use Rattle.fo_walk.specs.AtomFlaws.{variable_flaw, terms_flaw as term_limit, sign_flaw, signs_flaw, term_flaw, predicate_flaw, atom_flaw, atoms_flaw, side_flaw}
 use Rattle.fo_walk.specs.Spans.{term_span, entry_span, sequent_span, sequent_terms, node_span}
 use Rattle.fo_walk.specs.Flaws.{terms_flaw, entry_flaw, entries_flaw, sequent_flaw, reason_flaw, node_flaw}
 use Rattle.fo_values.specs.Written.{constructor_name, predicate_name, sign_tree, term_tree, atom_tree, atoms_tree, sequent_tree, entry_tree, reason_tree, node_tree}

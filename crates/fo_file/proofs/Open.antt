@@ -29,7 +29,7 @@ use Rattle.fo_proof_syntax.specs.Grammar.{right_rule, entry, link, parts, reason
 use Rattle.fo_values.specs.Values.{first_terms, sign_value, term_value, atom_value, atoms_value, sequent_value, entry_value, reason_value}
 use Rattle.fo_values.specs.Known.{IsKnownSign, IsKnownTerm, IsKnownEntry, IsKnownAtom, AreKnownAtoms, IsKnownSequent, IsKnownReason}
 use Rattle.fo_values.proofs.TreesAgain.{terms-value}
-use Rattle.fo_flaws.specs.Spans.{terms_in, total_terms}
+use Rattle.fo_walk.specs.AtomSpans.{terms_in, total_terms}
 use Rattle.fo_walk.specs.Spans.{sequent_terms}
 use Rattle.fo_file.proofs.Fitted.{sides-fit, terms-fit, entries-fit}
 use Rattle.fo_file.proofs.Lists.{each-take, each-drop}

@@ -17,10 +17,10 @@ use Rattle.fo_term_syntax.proofs.PlaceLaws.{places-count}
 use Rattle.fo_term_syntax.proofs.TermFits.{term-signs}
 use Rattle.fo_problem_syntax.specs.Trees.{Sequent}
 use Rattle.fo_problem_syntax.specs.Grammar.{sequent}
-use Rattle.fo_flaws.specs.declared.flaw.Scope.TheVariants.{Node as InNode}
-use Rattle.fo_flaws.specs.Spans.{atom_span, atoms_span, terms_in, total_terms, IsAtom, AreAtoms}
-use Rattle.fo_flaws.specs.Flaws.{variable_flaw, terms_flaw, sign_flaw, signs_flaw, term_flaw, atom_flaw, atoms_flaw, side_flaw}
-use Rattle.fo_flaws.proofs.Walks.{one-term}
+use Rattle.fo_walk.specs.declared.flaw.Scope.TheVariants.{Node as InNode}
+use Rattle.fo_walk.specs.AtomSpans.{atom_span, atoms_span, terms_in, total_terms, IsAtom, AreAtoms}
+use Rattle.fo_walk.specs.AtomFlaws.{variable_flaw, terms_flaw, sign_flaw, signs_flaw, term_flaw, atom_flaw, atoms_flaw, side_flaw}
+use Rattle.fo_walk.proofs.Walks.{one-term}
 use Rattle.fo_walk.specs.Parts.{IsSequent}
 use Rattle.fo_walk.specs.Flaws.{sequent_flaw}
 use Rattle.fo_file.proofs.Fitted.{sides-fit}

@@ -11,8 +11,8 @@ use Rattle.fo_term_syntax.specs.Places.{commas, marks_end, marks_at, tokens_in}
 use Rattle.fo_term_syntax.proofs.PlaceLaws.{places-count}
 use Rattle.fo_problem_syntax.specs.Trees.{Sequent}
 use Rattle.fo_proof_syntax.specs.Trees.{Reason, Axiom, Refl, Clash, Decompose, Replace, WeakenLeft, WeakenRight, Contract, Unfold, Cut, Right, Link, Node}
-use Rattle.fo_flaws.specs.Spans.{atom_span, atoms_span, terms_in, total_terms, IsAtom, AreAtoms}
-use Rattle.fo_flaws.proofs.Walks.{one-term}
+use Rattle.fo_walk.specs.AtomSpans.{atom_span, atoms_span, terms_in, total_terms, IsAtom, AreAtoms}
+use Rattle.fo_walk.proofs.Walks.{one-term}
 use Rattle.fo_walk.specs.Parts.{IsSequent, IsEntry, IsReason, IsNode}
 use Rattle.fo_walk.specs.Spans.{sequent_span, sequent_terms, term_span, entry_span, entry_terms, reason_span, reason_terms, node_span}
 

@@ -1,3 +1,4 @@
+pub mod Walks
 pub mod Counts
 pub mod Parsed
 pub mod SpanLaws

@@ -10,7 +10,7 @@ use Rattle.fo_problem_syntax.specs.Trees.{Definition, Sequent, Problem}
 use Rattle.fo_problem_syntax.specs.Grammar.{atoms, atoms_or, left, cases, definition, definitions, sequent, goal, problem_body, problem}
 use Rattle.fo_proof_syntax.specs.Trees.{Entry, Reason, Axiom, Refl, Clash, Decompose, Replace, WeakenLeft, WeakenRight, Contract, Unfold, Cut, Right, Link, Node, File}
 use Rattle.fo_proof_syntax.specs.Grammar.{terms, right_rule, entry, entries, link, parts, reason, node, nodes, body, file}
-use Rattle.fo_flaws.specs.Spans.{IsAtom, AreAtoms}
+use Rattle.fo_walk.specs.AtomSpans.{IsAtom, AreAtoms}
 use Rattle.fo_walk.specs.Parts.{IsDefinition, IsSequent, IsEntry, IsReason, IsNode}
 
 term_is : (b : Bool) (t : List Sign) → (term b).fits t → IsTerm t

@@ -16,8 +16,8 @@ use Rattle.fo_problem_syntax.specs.Grammar.{atoms, atoms_or, left, right, con, c
 use Rattle.fo_proof_syntax.specs.Words.{node_word, by_word, closing_bracket}
 use Rattle.fo_proof_syntax.specs.Trees.{Entry, LinkData, Reason, Axiom, Refl, Clash, Decompose, Replace, WeakenLeft, WeakenRight, Contract, Unfold, Cut, Right, Link, Node, File}
 use Rattle.fo_proof_syntax.specs.Grammar.{numbers, bracketed, two_numbers, replace, terms, right_rule, entry, entries, link, parts, reason, premises, node, nodes, body, file}
-use Rattle.fo_flaws.specs.Spans.{atom_span, atoms_span}
-use Rattle.fo_flaws.proofs.Walks.{one-term}
+use Rattle.fo_walk.specs.AtomSpans.{atom_span, atoms_span}
+use Rattle.fo_walk.proofs.Walks.{one-term}
 use Rattle.fo_walk.specs.Spans.{constructor_span, definition_span, sequent_span, term_span, entry_span, link_span, reason_span, premises_span, node_span, file_end, problem_end}
 
 -- members with a word between neighbours

@@ -14,11 +14,11 @@ use Rattle.fo_term_syntax.specs.Places.{places_of, tokens_in}
 use Rattle.fo_term_syntax.proofs.PlaceLaws.{HaveRoom, places-count, places-room}
 use Rattle.fo_problem_syntax.specs.Trees.{Constructor, Definition, Sequent, Problem}
 use Rattle.fo_proof_syntax.specs.Trees.{Entry, Reason, Axiom, Refl, Clash, Decompose, Replace, WeakenLeft, WeakenRight, Contract, Unfold, Cut, Right, Link, Node, File}
-use Rattle.fo_flaws.specs.declared.flaw.Scope.{Scope}
-use Rattle.fo_flaws.specs.declared.flaw.Scope.TheVariants.{Node as InNode, Case as InCase}
-use Rattle.fo_flaws.specs.Spans.{atom_span, atoms_span, terms_in, total_terms, IsAtom, AreAtoms}
-use Rattle.fo_flaws.specs.Flaws.{variable_flaw, terms_flaw as count_flaw, sign_flaw, signs_flaw, term_flaw, predicate_flaw, atom_flaw, atoms_flaw, side_flaw}
-use Rattle.fo_flaws.proofs.Walks.{length-tail, room-tail, one-term}
+use Rattle.fo_walk.specs.declared.flaw.Scope.{Scope}
+use Rattle.fo_walk.specs.declared.flaw.Scope.TheVariants.{Node as InNode, Case as InCase}
+use Rattle.fo_walk.specs.AtomSpans.{atom_span, atoms_span, terms_in, total_terms, IsAtom, AreAtoms}
+use Rattle.fo_walk.specs.AtomFlaws.{variable_flaw, terms_flaw as count_flaw, sign_flaw, signs_flaw, term_flaw, predicate_flaw, atom_flaw, atoms_flaw, side_flaw}
+use Rattle.fo_walk.proofs.Walks.{length-tail, room-tail, one-term}
 use Rattle.fo_walk.proofs.Counts.{term_fewer}
 use Rattle.fo_walk.specs.Parts.{IsDefinition, IsSequent, IsEntry, IsReason, IsNode}
 use Rattle.fo_walk.specs.Spans.{constructor_span, definition_span, sequent_span, sequent_terms, term_span, entry_span, reason_span, node_span, behind_theory, file_end, problem_end}

@@ -1,8 +1,8 @@
 -- What a walk over parts that each count their own terms answers.
 use Rattle.std.specs.Prelude.{◌≡◌, ℕ, Result, Ok, Err, Some, None}
 use Rattle.heap_reader.specs.Flaws.{Found}
-use Rattle.fo_flaws.specs.declared.flaw.Stop.{Stop}
-use Rattle.fo_flaws.specs.declared.flaw.Stop.TheVariants.{Flaw, OutOfMemory}
+use Rattle.fo_walk.specs.declared.flaw.Stop.{Stop}
+use Rattle.fo_walk.specs.declared.flaw.Stop.TheVariants.{Flaw, OutOfMemory}
 
 -- the walk ends behind the part where it has no flaw, and else names the first; out of memory is free
 abbrev pub IsPassed : Result ℕ Stop → Found → ℕ → Type 0

@@ -9,9 +9,9 @@ use Rattle.heap_reader.specs.Flaws.{Found, ill_if, over_if, or_later, listed_fla
 use Rattle.fo_term_syntax.specs.Trees.{Sign, Atom}
 use Rattle.fo_problem_syntax.specs.Trees.{Constructor, Definition, Sequent, Problem}
 use Rattle.fo_proof_syntax.specs.Trees.{Entry, Reason, Axiom, Refl, Clash, Decompose, Replace, WeakenLeft, WeakenRight, Contract, Unfold, Cut, Right, Link, Node, File}
-use Rattle.fo_flaws.specs.declared.flaw.Scope.TheVariants.{Node as InNode, Case as InCase}
-use Rattle.fo_flaws.specs.Spans.{atoms_span, total_terms}
-use Rattle.fo_flaws.specs.Flaws.{variable_flaw, term_flaw, atom_flaw, side_flaw}
+use Rattle.fo_walk.specs.declared.flaw.Scope.TheVariants.{Node as InNode, Case as InCase}
+use Rattle.fo_walk.specs.AtomSpans.{atoms_span, total_terms}
+use Rattle.fo_walk.specs.AtomFlaws.{variable_flaw, term_flaw, atom_flaw, side_flaw}
 use Rattle.fo_walk.specs.Spans.{constructor_span, definition_span, sequent_span, sequent_terms, term_span, entry_span, node_span, behind_theory}
 
 -- what the uses of constructors and of predicates are compared with

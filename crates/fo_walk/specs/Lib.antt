@@ -1,3 +1,5 @@
+pub mod AtomSpans
+pub mod AtomFlaws
 pub mod Parts
 pub mod Spans
 pub mod Flaws

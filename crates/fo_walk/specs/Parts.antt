@@ -3,7 +3,7 @@ use Rattle.heap_formula.specs.Words.{Each}
 use Rattle.fo_term_syntax.specs.Grammar.{IsTerm}
 use Rattle.fo_problem_syntax.specs.Trees.{Definition, Sequent}
 use Rattle.fo_proof_syntax.specs.Trees.{Entry, Reason, Axiom, Refl, Clash, Decompose, Replace, WeakenLeft, WeakenRight, Contract, Unfold, Cut, Right, Link, Node}
-use Rattle.fo_flaws.specs.Spans.{IsAtom, AreAtoms}
+use Rattle.fo_walk.specs.AtomSpans.{IsAtom, AreAtoms}
 
 abbrev pub IsDefinition : Definition → Type 0
 IsDefinition d = Each AreAtoms d.cases

@@ -6,7 +6,7 @@ use Rattle.fo_term_syntax.specs.Trees.{Sign}
 use Rattle.fo_term_syntax.specs.Places.{tokens_in}
 use Rattle.fo_problem_syntax.specs.Trees.{Constructor, Definition, Sequent, Problem}
 use Rattle.fo_proof_syntax.specs.Trees.{Entry, LinkData, Reason, Axiom, Refl, Clash, Decompose, Replace, WeakenLeft, WeakenRight, Contract, Unfold, Cut, Right, Link, Node, File}
-use Rattle.fo_flaws.specs.Spans.{atom_span, atoms_span, terms_in, total_terms}
+use Rattle.fo_walk.specs.AtomSpans.{atom_span, atoms_span, terms_in, total_terms}
 
 -- "con", the name, the number, and ";"; nothing behind it
 abbrev pub constructor_span : Constructor → ℕ

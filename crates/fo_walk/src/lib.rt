@@ -2,11 +2,17 @@
 //! token.
 #![tactic(auto)]
 
+mod atom_walk;
+mod flaw;
 mod known;
 mod node_walk;
 mod reason_walk;
+mod term_walk;
 mod text_walk;
 mod theory_walk;
 
+pub use atom_walk::{walk_atom, walk_atoms};
+pub use flaw::{Reached, Scope, Stop};
 pub use known::Names;
+pub use term_walk::walk_term;
 pub use text_walk::{file_flaw, problem_flaw};

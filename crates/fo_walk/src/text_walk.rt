@@ -12,11 +12,11 @@ ghost use Rattle.fo_walk.specs.Spans.{behind_theory, file_end, problem_end};
 ghost use Rattle.fo_walk.specs.Flaws.{constructor_heads, predicate_heads, theory_flaw, file_flaw as first_of_file, problem_flaw as first_of_problem};
 ghost use Rattle.fo_walk.specs.Answers.{IsPassed};
 
+use crate::flaw::Stop;
 use crate::known::Names;
 use crate::node_walk::{walk_nodes, walk_sequent};
 use crate::theory_walk::{walk_constructors, walk_definitions};
 use cyc_memory::OutOfMemory;
-use fo_flaws::Stop;
 use fo_problem_syntax::{ConstructorTree, DefinitionTree, ProblemTree};
 use fo_proof_syntax::FileTree;
 use heap_reader::Flaw;

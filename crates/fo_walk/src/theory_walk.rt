@@ -8,15 +8,16 @@ ghost use Rattle.heap_reader.specs.Spans.{total};
 ghost use Rattle.heap_reader.specs.Flaws.{over_if, listed_flaw, IsName, IsWalk};
 ghost use Rattle.fo_term_syntax.specs.Trees.{atom_of};
 ghost use Rattle.fo_problem_syntax.specs.Trees.{atoms_of, constructor_of, definition_of};
-ghost use Rattle.fo_flaws.specs.Spans.{atoms_span, AreAtoms};
+ghost use Rattle.fo_walk.specs.AtomSpans.{atoms_span, AreAtoms};
 ghost use Rattle.fo_walk.specs.Parts.{IsDefinition};
 ghost use Rattle.fo_walk.specs.Spans.{constructor_span, definition_span};
 ghost use Rattle.fo_walk.specs.Flaws.{arguments_flaw, constructor_flaw, definition_head_flaw, case_flaw, cases_flaw, definition_flaw};
 ghost use Rattle.fo_walk.specs.Answers.{IsPassed};
 
+use crate::atom_walk::walk_atoms;
+use crate::flaw::{Reached, Scope, Stop};
 use crate::known::Names;
 use cyc_lex::{IllFault, What};
-use fo_flaws::{Reached, Scope, Stop, walk_atoms};
 use fo_problem_syntax::{ConstructorTree, DefinitionTree};
 use fo_term_syntax::AtomTree;
 use heap_reader::{Flaw, Heads, ill, over};

@@ -10,7 +10,7 @@ use heap_formula::{Heap, Pure, Spatial, Term};
 use std::alloc::Global;
 
 /// A known term makes another one known: as the other side of an equation, or as a field of the cell at its value.
-#[derive(Clone, Copy, PartialEq, Eq, Debug)]
+#[derive(Clone, Copy)]
 pub enum Step {
     Same(Term, Term),
     Field(Term, usize, Term),

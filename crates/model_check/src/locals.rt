@@ -16,7 +16,7 @@ use heap_formula::{Heap, Pure, Spatial, Term};
 use std::alloc::Global;
 
 /// A local and its value.
-#[derive(Clone, Copy, Debug)]
+#[derive(Clone, Copy)]
 pub struct Local {
     pub number: u16,
     pub value: u64,
@@ -70,7 +70,7 @@ fn field_at(cells: &Cells, address: u64, k: usize) -> Option<u64>
 }
 
 /// What is known of a step's target: nothing, its value, or that no values fit.
-#[derive(Clone, Copy, Debug)]
+#[derive(Clone, Copy)]
 enum Forced {
     Unknown,
     Value(u64),

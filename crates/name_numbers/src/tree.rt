@@ -3,7 +3,7 @@
 use heap_syntax::Version;
 
 /// A term: `nil`, or a variable with its number from 0. A variable has two tokens where it is primed, and else one.
-#[derive(Clone, Copy, Debug, PartialEq, Eq)]
+#[derive(Clone, Copy, PartialEq, Eq)]
 pub enum NumberedTerm {
     Nil,
     /// In a case a parameter.

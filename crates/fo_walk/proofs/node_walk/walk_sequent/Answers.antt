@@ -1,7 +1,7 @@
 use Rattle.std.proofs.Common.{map, ap, arith}
 use Rattle.fo_term_syntax.specs.Trees.{atom_of}
 use Rattle.fo_problem_syntax.specs.Trees.{sequent_of}
-use Rattle.fo_flaws.specs.Spans.{total_terms}
+use Rattle.fo_walk.specs.AtomSpans.{total_terms}
 use Rattle.fo_walk.proofs.Counts.{atoms_fewer, sequent_fewer}
 use Rattle.fo_walk.proofs.node_walk.walk_sequent.Goals as goal
 

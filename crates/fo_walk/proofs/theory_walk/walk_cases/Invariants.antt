@@ -3,7 +3,7 @@ use Rattle.heap_formula.specs.Words.{Each}
 use Rattle.heap_reader.specs.Spans.{total}
 use Rattle.heap_reader.specs.Flaws.{listed_flaw}
 use Rattle.fo_problem_syntax.specs.Trees.{atoms_of}
-use Rattle.fo_flaws.specs.Spans.{atoms_span, AreAtoms}
+use Rattle.fo_walk.specs.AtomSpans.{atoms_span, AreAtoms}
 use Rattle.fo_walk.specs.Flaws.{case_flaw}
 use Rattle.fo_walk.proofs.theory_walk.walk_cases.Given as goal
 

@@ -1,9 +1,9 @@
 use Rattle.std.proofs.Common.{◌≡◌, ◌+◌, drop}
 use Rattle.std.specs.Prelude.{map}
 use Rattle.fo_term_syntax.specs.Trees.{atom_of}
-use Rattle.fo_flaws.specs.Spans.{total_span, total_terms, AreAtoms}
-use Rattle.fo_flaws.specs.Flaws.{atoms_flaw}
-use Rattle.fo_flaws.proofs.atom_walk.walk_some_atoms.Given as goal
+use Rattle.fo_walk.specs.AtomSpans.{total_span, total_terms, AreAtoms}
+use Rattle.fo_walk.specs.AtomFlaws.{atoms_flaw}
+use Rattle.fo_walk.proofs.atom_walk.walk_some_atoms.Given as goal
 
 abbrev pub invariant-loop-n : goal.invariant-loop-n
 invariant-loop-n l =

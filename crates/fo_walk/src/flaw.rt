@@ -14,7 +14,7 @@ pub enum Stop {
 
 impl From<Flaw> for Stop {
     ghost use Rattle.std.specs.Prelude.{◌≡◌};
-    ghost use Rattle.fo_flaws.specs.declared.flaw.Stop.TheVariants as stops;
+    ghost use Rattle.fo_walk.specs.declared.flaw.Stop.TheVariants as stops;
 
     ghost from_gives = { λ f e. e ≡ stops.Flaw f };
 
@@ -25,7 +25,7 @@ impl From<Flaw> for Stop {
 
 impl From<AllocError> for Stop {
     ghost use Rattle.std.specs.Prelude.{◌≡◌};
-    ghost use Rattle.fo_flaws.specs.declared.flaw.Stop.TheVariants.{OutOfMemory};
+    ghost use Rattle.fo_walk.specs.declared.flaw.Stop.TheVariants.{OutOfMemory};
 
     ghost from_gives = { λ _ e. e ≡ OutOfMemory };
 

@@ -10,8 +10,8 @@ use Rattle.fo_term_syntax.specs.Brackets.{brackets}
 use Rattle.fo_term_syntax.specs.Grammar.{IsTerm}
 use Rattle.fo_term_syntax.specs.Places.{places_of, tokens_in, marks_at, marks_end}
 use Rattle.fo_term_syntax.proofs.PlaceLaws.{HaveRoom, places-count}
-use Rattle.fo_flaws.specs.declared.flaw.Scope.{Scope}
-use Rattle.fo_flaws.specs.Flaws.{sign_flaw, signs_flaw}
+use Rattle.fo_walk.specs.declared.flaw.Scope.{Scope}
+use Rattle.fo_walk.specs.AtomFlaws.{sign_flaw, signs_flaw}
 
 pub stepped : (cs : List Heading) (scope : Scope) (m n k : ℕ) (limit : Found) (s : Sign) (ss whole : List Sign) (p : ℕ) (ps places : List ℕ) (total : Found) → whole ≡ s ∷ ss → places ≡ p ∷ ps → sign_flaw cs scope (m + n) (k + p) limit s ≡ None
     → signs_flaw cs scope (m + n) k limit whole places ≡ total → signs_flaw cs scope (m + (n + 1)) k None ss ps ≡ total

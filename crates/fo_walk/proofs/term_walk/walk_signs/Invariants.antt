@@ -2,8 +2,8 @@ use Rattle.std.proofs.Common.{◌≡◌, ◌+◌, ◌-◌, drop}
 use Rattle.std.specs.Prelude.{map}
 use Rattle.fo_term_syntax.specs.Trees.{sign_of}
 use Rattle.fo_term_syntax.proofs.PlaceLaws.{HaveRoom}
-use Rattle.fo_flaws.specs.Flaws.{signs_flaw}
-use Rattle.fo_flaws.proofs.term_walk.walk_signs.Given as goal
+use Rattle.fo_walk.specs.AtomFlaws.{signs_flaw}
+use Rattle.fo_walk.proofs.term_walk.walk_signs.Given as goal
 
 abbrev pub invariant-loop-n : goal.invariant-loop-n
 invariant-loop-n l =

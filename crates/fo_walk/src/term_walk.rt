@@ -6,7 +6,7 @@ ghost use Rattle.fo_term_syntax.specs.Grammar.{IsTerm};
 ghost use Rattle.fo_term_syntax.specs.Places.{places_of as places_in, tokens_in};
 ghost use Rattle.fo_term_syntax.proofs.PlaceLaws.{HaveRoom};
 ghost use Rattle.heap_reader.specs.Flaws.{use_flaw, IsName};
-ghost use Rattle.fo_flaws.specs.Flaws.{variable_flaw, terms_flaw, sign_flaw, signs_flaw, term_flaw, IsWalk};
+ghost use Rattle.fo_walk.specs.AtomFlaws.{variable_flaw, terms_flaw, sign_flaw, signs_flaw, term_flaw, IsWalk};
 
 use crate::flaw::{Reached, Scope, Stop};
 use cyc_lex::{IllFault, What};

@@ -4,9 +4,9 @@ use Rattle.std.proofs.lemmas.List.{length-map}
 use Rattle.fo_term_syntax.specs.Trees.{sign_of}
 use Rattle.fo_term_syntax.specs.Places.{places_of, tokens_in}
 use Rattle.fo_term_syntax.proofs.PlaceLaws.{places-count, places-room}
-use Rattle.fo_flaws.specs.Flaws.{signs_flaw}
-use Rattle.fo_flaws.proofs.Walks.{room-more, last-place}
-use Rattle.fo_flaws.proofs.term_walk.walk_term.Goals as goal
+use Rattle.fo_walk.specs.AtomFlaws.{signs_flaw}
+use Rattle.fo_walk.proofs.Walks.{room-more, last-place}
+use Rattle.fo_walk.proofs.term_walk.walk_term.Goals as goal
 
 pub walk_signs-requires-clause-each : goal.walk_signs-requires-clause-each
 walk_signs-requires-clause-each c =

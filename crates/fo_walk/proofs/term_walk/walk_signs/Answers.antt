@@ -4,9 +4,9 @@ use Rattle.std.proofs.lemmas.Result.{err_from_is_err_and}
 use Rattle.cyc_grammar.proofs.WrittenTexts.{left-at, none-at}
 use Rattle.fo_term_syntax.specs.declared.tree.SignTree.TheVariants as signs
 use Rattle.fo_term_syntax.specs.Trees.{sign_of}
-use Rattle.fo_flaws.specs.Flaws.{signs_flaw}
-use Rattle.fo_flaws.proofs.Walks.{stepped, faulty, all-stepped, room-first}
-use Rattle.fo_flaws.proofs.term_walk.walk_signs.Goals as goal
+use Rattle.fo_walk.specs.AtomFlaws.{signs_flaw}
+use Rattle.fo_walk.proofs.Walks.{stepped, faulty, all-stepped, room-first}
+use Rattle.fo_walk.proofs.term_walk.walk_signs.Goals as goal
 
 pub loop-n-init : goal.loop-n-init
 loop-n-init c = (ap (λ j. signs_flaw c.args.names.now c.args.scope j c.args.from.token c.args.limit (map sign_of c.args.signs.now) c.args.places.now) (omega arith), c.requires.room)

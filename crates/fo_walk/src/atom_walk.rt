@@ -6,9 +6,9 @@ ghost use Rattle.fo_term_syntax.specs.Grammar.{IsTerm, IsApplication};
 ghost use Rattle.fo_term_syntax.specs.Places.{places_of as places_in, tokens_in};
 ghost use Rattle.fo_term_syntax.proofs.PlaceLaws.{HaveRoom};
 ghost use Rattle.cyc_lex.specs.declared.fault.What.TheVariants.{Atoms};
-ghost use Rattle.fo_flaws.specs.Spans.{atom_span, total_span, atoms_span, behind_first, terms_in, total_terms, IsAtom, AreAtoms};
+ghost use Rattle.fo_walk.specs.AtomSpans.{atom_span, total_span, atoms_span, behind_first, terms_in, total_terms, IsAtom, AreAtoms};
 ghost use Rattle.heap_reader.specs.Flaws.{or_later, over_if, arity_in, use_flaw, IsName};
-ghost use Rattle.fo_flaws.specs.Flaws.{signs_flaw, term_flaw, predicate_flaw, atom_flaw, atoms_flaw, side_flaw, IsWalk};
+ghost use Rattle.fo_walk.specs.AtomFlaws.{signs_flaw, term_flaw, predicate_flaw, atom_flaw, atoms_flaw, side_flaw, IsWalk};
 
 use crate::flaw::{Reached, Scope, Stop};
 use crate::term_walk::{check_limit, check_use, walk_signs, walk_term};

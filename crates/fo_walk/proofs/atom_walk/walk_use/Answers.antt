@@ -6,9 +6,9 @@ use Rattle.fo_term_syntax.specs.Trees.{Apply, sign_of}
 use Rattle.fo_term_syntax.specs.Grammar.{IsTerm}
 use Rattle.fo_term_syntax.specs.Places.{places_of, tokens_in}
 use Rattle.fo_term_syntax.proofs.PlaceLaws.{places-count, places-room}
-use Rattle.fo_flaws.specs.Flaws.{signs_flaw}
-use Rattle.fo_flaws.proofs.Walks.{room-more, last-place, tail-of, length-tail, room-tail, one-term}
-use Rattle.fo_flaws.proofs.atom_walk.walk_use.Goals as goal
+use Rattle.fo_walk.specs.AtomFlaws.{signs_flaw}
+use Rattle.fo_walk.proofs.Walks.{room-more, last-place, tail-of, length-tail, room-tail, one-term}
+use Rattle.fo_walk.proofs.atom_walk.walk_use.Goals as goal
 
 pub bounds-places-others : goal.bounds-places-others
 bounds-places-others c =

@@ -8,12 +8,12 @@ use Rattle.heap_reader.specs.Trees.{Heading}
 use Rattle.heap_reader.specs.Flaws.{Found, ill_if, over_if, or_later, arity_in, use_flaw}
 use Rattle.fo_term_syntax.specs.Trees.{Sign, Variable, Local, Apply, Atom, Equation, Predicate}
 use Rattle.fo_term_syntax.specs.Places.{places_of, tokens_in}
-use Rattle.fo_flaws.specs.declared.flaw.Scope.{Scope}
-use Rattle.fo_flaws.specs.declared.flaw.Scope.TheVariants.{Node, Case}
-use Rattle.fo_flaws.specs.declared.flaw.Reached.{Reached}
-use Rattle.fo_flaws.specs.declared.flaw.Stop.{Stop}
-use Rattle.fo_flaws.specs.declared.flaw.Stop.TheVariants.{Flaw, OutOfMemory}
-use Rattle.fo_flaws.specs.Spans.{atom_span, terms_in}
+use Rattle.fo_walk.specs.declared.flaw.Scope.{Scope}
+use Rattle.fo_walk.specs.declared.flaw.Scope.TheVariants.{Node, Case}
+use Rattle.fo_walk.specs.declared.flaw.Reached.{Reached}
+use Rattle.fo_walk.specs.declared.flaw.Stop.{Stop}
+use Rattle.fo_walk.specs.declared.flaw.Stop.TheVariants.{Flaw, OutOfMemory}
+use Rattle.fo_walk.specs.AtomSpans.{atom_span, terms_in}
 
 -- in a case $n is a parameter; elsewhere a number is at most 65,534
 abbrev pub variable_flaw : Scope → ℕ → ℕ → Found
