@@ -52,12 +52,7 @@ impl Default for Stepper {
 
 impl Stepper {
     /// Makes a step along an edge to a node, and gives its event: what `step` does from the forest of these entries.
-    pub fn step(
-        &mut self,
-        forest: &[Entry],
-        pairs: &[(u8, u8, bool)],
-        positions: &[u8],
-    ) -> Event
+    pub fn step(&mut self, forest: &[Entry], pairs: &[(u8, u8, bool)], positions: &[u8]) -> Event
         requires short { length forest.now ≤ 32 }
         requires positions { IsPositionSet positions.now }
         ensures forest { forest_in self.new ≡ next_forest pairs.now positions.now (entries_of forest.now) }

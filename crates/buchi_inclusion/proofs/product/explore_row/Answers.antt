@@ -12,7 +12,7 @@ step_from-requires-clause-state c = c.requires.states c.args.place (state_of c.i
 pub returns-then-count_of-limit-clause-states : goal.returns-then-count_of-limit-clause-states
 returns-then-count_of-limit-clause-states c =
     let s = some_of (IsLast c.args.graph.now (state_of c.in-Some.state) c.loop-edge.edge) (λ (r : Product × Event). IsStep c.args.graph.now (state_of c.in-Some.state) c.loop-edge.edge (state_of r.0) r.1 × IsState c.args.graph.now (state_of r.0))
-        c.in_ok-stepped.stepped (c.in-Some-stepped.state, c.in-Some-stepped.event) c.in-Some-stepped.is c.in_ok-stepped.ensures in
+    c.in_ok-stepped.stepped (c.in-Some-stepped.state, c.in-Some-stepped.event) c.in-Some-stepped.is c.in_ok-stepped.ensures in
     found_states c.args.graph.now (states_of c.loop-edge.states) (states_of c.intern.new.states) (state_of c.in-Some-stepped.state) c.in_ok-target.target c.in_ok-target.field-0-1 c.in_ok-target.ensures c.loop-edge.invariant.states s.1
 
 pub returns-then-count_of-limit-clause-extends : goal.returns-then-count_of-limit-clause-extends
@@ -22,7 +22,7 @@ returns-then-count_of-limit-clause-extends c i s h =
 pub returns-then-count_of-limit-clause-row : goal.returns-then-count_of-limit-clause-row
 returns-then-count_of-limit-clause-row c =
     let s = some_of (IsLast c.args.graph.now (state_of c.in-Some.state) c.loop-edge.edge) (λ (r : Product × Event). IsStep c.args.graph.now (state_of c.in-Some.state) c.loop-edge.edge (state_of r.0) r.1 × IsState c.args.graph.now (state_of r.0))
-        c.in_ok-stepped.stepped (c.in-Some-stepped.state, c.in-Some-stepped.event) c.in-Some-stepped.is c.in_ok-stepped.ensures in
+    c.in_ok-stepped.stepped (c.in-Some-stepped.state, c.in-Some-stepped.event) c.in-Some-stepped.is c.in_ok-stepped.ensures in
     more_than c.args.graph.now (states_of c.intern.new.states) c.args.limit
     (found_states c.args.graph.now (states_of c.loop-edge.states) (states_of c.intern.new.states) (state_of c.in-Some-stepped.state) c.in_ok-target.target c.in_ok-target.field-0-1 c.in_ok-target.ensures c.loop-edge.invariant.states s.1)
     c.count_of.ensures.apart (omega (arith, c.count_of.ensures.long))
@@ -30,7 +30,7 @@ returns-then-count_of-limit-clause-row c =
 pub loop-edge-preserved : goal.loop-edge-preserved
 loop-edge-preserved c =
     let s = some_of (IsLast c.args.graph.now (state_of c.in-Some.state) c.loop-edge.edge) (λ (r : Product × Event). IsStep c.args.graph.now (state_of c.in-Some.state) c.loop-edge.edge (state_of r.0) r.1 × IsState c.args.graph.now (state_of r.0))
-        c.in_ok-stepped.stepped (c.in-Some-stepped.state, c.in-Some-stepped.event) c.in-Some-stepped.is c.in_ok-stepped.ensures in
+    c.in_ok-stepped.stepped (c.in-Some-stepped.state, c.in-Some-stepped.event) c.in-Some-stepped.is c.in_ok-stepped.ensures in
     let e : Extends (states_of c.loop-edge.states) (states_of c.intern.new.states) = found_extends (states_of c.loop-edge.states) (states_of c.intern.new.states) (state_of c.in-Some-stepped.state) c.in_ok-target.target c.in_ok-target.field-0-1 c.in_ok-target.ensures in
     let here : length c.loop-edge.row.items ≡ c.loop-edge.edge = omega (arith, c.loop-edge.row.ok, c.loop-edge.invariant.long) in
     record {
