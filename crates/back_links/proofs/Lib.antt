@@ -6,3 +6,4 @@ mod Possible
 mod Cuts
 mod ProspectLoops
 mod Complete
+pub mod Forced

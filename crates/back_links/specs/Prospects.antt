@@ -99,6 +99,25 @@ abbrev pub have_values : Judgement → Judgement → ℕ → List Term → List 
 have_values bud companion p values places x sources =
     list_all (λ n. not (stands_in_spatial n x) || has_value bud companion p values places n) sources
 
+-- the term of the second list at the first place where the first has the variable n
+abbrev pub opposite_in : ℕ → List Term → List Term → Option Term
+opposite_in n [] us = None
+opposite_in n (t ∷ ts) [] = None
+opposite_in n (t ∷ ts) (u ∷ us) = if same_term t (Univ n) then Some u else opposite_in n ts us
+
+-- the term of the second atom where the first has the variable n first, if both are cells or both predicates
+abbrev pub opposite : ℕ → Spatial → Spatial → Option Term
+opposite n (Cell t ts) (Cell u us) = if same_term t (Univ n) then Some u else opposite_in n ts us
+opposite n (Pred p ts) (Pred q us) = opposite_in n ts us
+opposite n (Cell t ts) (Pred q us) = None
+opposite n (Pred p ts) (Cell u us) = None
+
+-- the value is not the term that it has to equal
+abbrev pub is_ruled_out : List Pure → Option Term → Option Term → Bool
+is_ruled_out pures None u = false
+is_ruled_out pures (Some v) None = false
+is_ruled_out pures (Some v) (Some u) = not (equated pures v u)
+
 -- an atom that may be missing could match the one at a place
 abbrev pub could_stand : List Pure → List Spatial → ℕ → Option Spatial → Bool
 could_stand pures atoms m None = true

@@ -1,5 +1,6 @@
 -- The links that a search adds to those that it has found, from the choices that it has made.
-use Rattle.std.specs.Prelude.{ℕ, ◌≡◌, ◌≤◌, List, [], ◌∷◌, ◌++◌, length, take, drop, Bool, ◌||◌, not, if◌then◌else◌, Option}
+use Rattle.std.specs.Prelude.{ℕ, ◌≡◌, ◌≤◌, List, [], ◌∷◌, ◌++◌, length, take, drop, Bool, true, false, ◌||◌, not, if◌then◌else◌, Option}
+use Rattle.heap_formula.specs.declared.terms.Term.{Term}
 use Rattle.heap_formula.specs.declared.atoms.Pure.{Pure}
 use Rattle.heap_formula.specs.declared.atoms.Spatial.{Spatial}
 use Rattle.heap_formula.specs.declared.proof_rules.Link.{Link}
@@ -7,9 +8,10 @@ use Rattle.heap_formula.specs.Judgements.{antecedent}
 use Rattle.heap_formula.specs.Substitution.{Bindings}
 use Rattle.rule_table.specs.Answer.{disjuncts}
 use Rattle.back_links.specs.declared.prospects.Search.{Search}
+use Rattle.back_links.specs.declared.prospects.Start.{Start}
 use Rattle.back_links.specs.Branches.{if_right, by_entries, by_pairs, by_places}
 use Rattle.back_links.specs.Listing.{link_of, number_choices, value_choices, stands_in_spatial}
-use Rattle.back_links.specs.Prospects.{could_match_some, could_match_those, could_place, could_send, has_value, have_values}
+use Rattle.back_links.specs.Prospects.{could_match_some, could_match_those, could_place, could_send, has_value, have_values, is_ruled_out, lookup}
 
 -- an atom without the variable, or one that could match the other
 abbrev pub could_match_with : ℕ → List Pure → Bindings → Spatial → Option Spatial → Bool
@@ -39,6 +41,16 @@ MayStartAt s places n first =
     (first ≤ length places) × ((first ≤ length (antecedent s.companion.now).spatial) × ((pairs : Bindings) →
     could_match_those n (antecedent s.bud.now).pure (antecedent s.bud.now).spatial pairs (drop first places) (drop first (antecedent s.companion.now).spatial)
     ≡ could_match_those n (antecedent s.bud.now).pure (antecedent s.bud.now).spatial pairs places (antecedent s.companion.now).spatial))
+
+-- a value of the variable that does not equal the term fits no list of pairs
+abbrev pub MustEqual : Search → List ℕ → ℕ → Option Term → Type 0
+MustEqual s places n term =
+    (pairs : Bindings) → is_ruled_out (antecedent s.bud.now).pure (lookup pairs n) term ≡ true
+    → could_match_those n (antecedent s.bud.now).pure (antecedent s.bud.now).spatial pairs places (antecedent s.companion.now).spatial ≡ false
+
+-- where the test of a variable may start, and the term that its value has to equal, if it is known
+abbrev pub MayStart : Search → List ℕ → ℕ → Start → Type 0
+MayStart s places n start = MayStartAt s places n start.first × MustEqual s places n start.term
 
 -- ---- the links that the choices lead to
 

@@ -6,12 +6,12 @@ ghost use Rattle.heap_formula.specs.Words.{OneOf};
 ghost use Rattle.heap_formula.specs.declared.judgements.Judgement.{Judgement as JudgementParts};
 ghost use Rattle.heap_formula.specs.declared.proof_rules.Link.{Link as LinkParts};
 ghost use Rattle.rule_table.specs.LinkTable.{link_fault as fault_of};
-ghost use Rattle.back_links.specs.Searching.{MayStartAt, may_place, may_send, with_choice, found_with, link_if_right, links_by_entries, links_by_pairs, links_by_places};
+ghost use Rattle.back_links.specs.Searching.{MayStart, may_place, may_send, with_choice, found_with, link_if_right, links_by_entries, links_by_pairs, links_by_places};
 
 use crate::covering::covers_at;
 use crate::faults::link_fault;
 use crate::prospects::{
-    Search, are_alike, could_send, could_take, first_with, have_covers, have_values,
+    Search, Start, are_alike, could_send, could_take, have_covers, have_values, start_of,
 };
 use crate::variables::{universals, values};
 use heap_formula::{Heap, Judgement, Link, OutOfMemory, Positions, Spatial, Subst, Term};
@@ -62,17 +62,17 @@ fn put_place(
 fn put_pair(
     search: &Search<'_>,
     places: &[u32],
-    first: usize,
+    start: Start,
     made: &mut Vec<(u16, Term)>,
     n: u16,
     v: Term,
 ) -> Result<bool, OutOfMemory>
-    requires { MayStartAt search.now places.now n first }
+    requires { MayStart search.now places.now n start }
     ensures could { IfOk result (λ b. b ≡ may_send search.now places.now (made.old.items ++ (n, v) ∷ []) n) }
     ensures made { IfOk result (λ b. made.new.items ≡ with_choice b made.old.items (n, v)) }
 {
     made.push((n, v))?;
-    if could_send(search, places, first, made, n) {
+    if could_send(search, places, start, made, n) {
         return Ok(true);
     }
     let _ = made.pop();
@@ -193,9 +193,9 @@ fn choose_values(
     if rest.is_empty() {
         return choose_covers(alloc, search, places, made, found);
     }
-    let first = first_with(search, places, rest[0]);
+    let start = start_of(search, places, rest[0]);
     for v in search.values {
-        let put = put_pair(search, places, first, made, rest[0], *v)?;
+        let put = put_pair(search, places, start, made, rest[0], *v)?;
         if put {
             choose_values(alloc, search, places, made, &rest[1..], found)?;
             let _ = made.pop();

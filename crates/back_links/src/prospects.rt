@@ -2,8 +2,8 @@
 ghost use Rattle.std.specs.Prelude.{◌≡◌, ◌≤◌, ◌<◌, ◌||◌, length, nat_le, slice_get};
 ghost use Rattle.std.specs.Option.{option_copied};
 ghost use Rattle.heap_formula.specs.Judgements.{antecedent as antecedent_of};
-ghost use Rattle.back_links.specs.Prospects.{lookup as looked_up, known as known_term, could_equal as terms_could, could_equal_all as all_could, could_match as atoms_could, could_match_some, could_match_those as those_could, known_pure as pure_known, could_follow as pure_could, could_follow_those as those_could_follow, could_keep as could_stay, kept_variables as variables_kept, could_stand as stand_could, could_take as take_could, are_alike as alike, has_cover as cover_left, have_covers as covers_left};
-ghost use Rattle.back_links.specs.Searching.{MayStartAt, could_match_with as could_match_atom, may_send, value_is_left, values_are_left};
+ghost use Rattle.back_links.specs.Prospects.{lookup as looked_up, known as known_term, could_equal as terms_could, could_equal_all as all_could, could_match as atoms_could, could_match_some, could_match_those as those_could, known_pure as pure_known, could_follow as pure_could, could_follow_those as those_could_follow, could_keep as could_stay, kept_variables as variables_kept, could_stand as stand_could, could_take as take_could, are_alike as alike, opposite_in as opposite_term_in, opposite as opposite_term, is_ruled_out as value_is_ruled_out, has_cover as cover_left, have_covers as covers_left};
+ghost use Rattle.back_links.specs.Searching.{MayStart, MayStartAt, MustEqual, could_match_with as could_match_atom, may_send, value_is_left, values_are_left};
 
 use crate::covering::covers_at;
 use crate::shapes::{all_have_shapes, has_shapes, same_shapes};
@@ -191,7 +191,7 @@ fn could_keep_one(kept: u16, pairs: &[(u16, Term)], n: u16) -> bool
 }
 
 /// How many of the first placed atoms of the companion are passed over since they have not the variable.
-pub fn first_with(search: &Search<'_>, places: &[u32], n: u16) -> usize
+fn first_with(search: &Search<'_>, places: &[u32], n: u16) -> usize
     ensures { MayStartAt search.now places.now n result }
 {
     let xs = antecedent(search.companion).spatial();
@@ -203,20 +203,97 @@ pub fn first_with(search: &Search<'_>, places: &[u32], n: u16) -> usize
     places.len()
 }
 
-/// Whether the pairs, for these places of the companion's first spatial atoms, send the variable to a term that fits. The
-/// first atoms, so many as `first` says, are passed over.
+fn opposite_in(n: u16, ts: &[Term], us: &[Term]) -> Option<Term>
+    ensures { result ≡ opposite_term_in n ts.now us.now }
+{
+    for (i, t) in ts.iter().enumerate() {
+        if i >= us.len() {
+            return None;
+        }
+        if same_term(*t, Term::Univ(n)) {
+            return Some(us[i]);
+        }
+    }
+    None
+}
+
+fn opposite(n: u16, x: &Spatial, y: &Spatial) -> Option<Term>
+    ensures { result ≡ opposite_term n x.now y.now }
+{
+    match (x, y) {
+        (Spatial::Cell(t, ts), Spatial::Cell(u, us)) => {
+            if same_term(*t, Term::Univ(n)) {
+                return Some(*u);
+            }
+            opposite_in(n, ts.as_slice(), us.as_slice())
+        }
+        (Spatial::Pred(_, ts), Spatial::Pred(_, us)) => {
+            opposite_in(n, ts.as_slice(), us.as_slice())
+        }
+        _ => None,
+    }
+}
+
+/// The bud's term where the atom at place `first` has the variable, if they have such places.
+fn term_at(search: &Search<'_>, places: &[u32], n: u16, first: usize) -> Option<Term>
+    requires { MayStartAt search.now places.now n first }
+    ensures { MustEqual search.now places.now n result }
+{
+    let atoms = antecedent(search.bud).spatial();
+    let xs = antecedent(search.companion).spatial();
+    if first >= places.len() || first >= xs.len() {
+        return None;
+    }
+    let m = places[first] as usize;
+    if m >= atoms.len() {
+        return None;
+    }
+    opposite(n, &xs[first], &atoms[m])
+}
+
+/// Where the test of a variable starts: how many of the first placed atoms of the companion have not the variable, and the
+/// term that its value has to equal, if an atom says so.
+#[derive(Clone, Copy)]
+pub struct Start {
+    pub first: usize,
+    pub term: Option<Term>,
+}
+
+pub fn start_of(search: &Search<'_>, places: &[u32], n: u16) -> Start
+    ensures { MayStart search.now places.now n result }
+{
+    let first = first_with(search, places, n);
+    let term = term_at(search, places, n, first);
+    Start { first, term }
+}
+
+/// Whether the value is known not to be the term that it has to equal.
+fn is_ruled_out(pures: &[Pure], value: Option<Term>, term: Option<Term>) -> bool
+    ensures { result ≡ value_is_ruled_out pures.now value term }
+{
+    match (value, term) {
+        (Some(v), Some(u)) => !equated(pures, v, u),
+        _ => false,
+    }
+}
+
+/// Whether the pairs, for these places of the companion's first spatial atoms, send the variable to a term that fits.
 pub fn could_send(
     search: &Search<'_>,
     places: &[u32],
-    first: usize,
+    start: Start,
     pairs: &[(u16, Term)],
     n: u16,
 ) -> bool
-    requires { MayStartAt search.now places.now n first }
+    requires { MayStart search.now places.now n start }
     ensures { result ≡ may_send search.now places.now pairs.now n }
 {
     let a = antecedent(search.bud);
+    if is_ruled_out(a.pure(), lookup(pairs, n), start.term) {
+        return false;
+    }
     let b = antecedent(search.companion);
+    let first = start.first;
     could_keep_one(kept_variables(search.companion, search.variables), pairs, n)
         && could_match_those(
             n,
@@ -232,9 +309,9 @@ pub fn could_send(
 fn has_value(search: &Search<'_>, places: &[u32], n: u16) -> bool
     ensures { result ≡ value_is_left search.now places.now n }
 {
-    let first = first_with(search, places, n);
+    let start = start_of(search, places, n);
     for v in search.values {
-        if could_send(search, places, first, &[(n, *v)], n) {
+        if could_send(search, places, start, &[(n, *v)], n) {
             return true;
         }
     }

@@ -1,13 +1,12 @@
--- Two forests are equal by `==` exactly where their plain data are.
+-- Lists of entries are equal by `==` exactly where their plain data are.
 use Rattle.std.proofs.Common.{◌≡◌, ℕ, List, [], ◌∷◌, true, false, Option, Some, None, refl, ap, subst, eqb-true, nat_eq}
 use Rattle.std.proofs.lemmas.Bool.{and_parts, and_from, eq-eqb, both_ways}
 use Rattle.std.specs.Option.{option_eq}
 use Rattle.std.specs.Cmp.Lexicographic.{pointwise}
 use Rattle.buchi_core.specs.Forest.{Entry as AgeEntry}
 use Rattle.buchi_core.specs.declared.entry.Entry.{Entry}
-use Rattle.buchi_core.specs.declared.age_forest.AgeForest.{AgeForest}
-use Rattle.buchi_core.specs.View.{members, entry_of, entries_of, forest_of, used}
-use Rattle.buchi_core.specs.Equality.{entry_eq, forest_eq}
+use Rattle.buchi_core.specs.View.{members, entry_of, entries_of}
+use Rattle.buchi_core.specs.Equality.{entry_eq}
 use Rattle.buchi_core.proofs.Bits.{same_members}
 
 option_same : (x y : Option ℕ) → option_eq nat_eq x y ≡ true → x ≡ y
@@ -35,7 +34,7 @@ entry_same_back x y e =
     (subst (λ z. option_eq nat_eq x.parent z ≡ true) a (option_refl x.parent))
     (eq-eqb x.set y.set b)
 
-all_same : (xs ys : List Entry) → pointwise entry_eq xs ys ≡ true → entries_of xs ≡ entries_of ys
+pub all_same : (xs ys : List Entry) → pointwise entry_eq xs ys ≡ true → entries_of xs ≡ entries_of ys
 all_same [] [] h = refl
 all_same [] (y ∷ ys) h = absurd (both_ways false refl h)
 all_same (x ∷ xs) [] h = absurd (both_ways false refl h)
@@ -45,7 +44,7 @@ all_same (x ∷ xs) (y ∷ ys) h =
     let r = all_same xs ys p.1 in
     λ i. e i ∷ r i
 
-all_same_back : (xs ys : List Entry) → entries_of xs ≡ entries_of ys → pointwise entry_eq xs ys ≡ true
+pub all_same_back : (xs ys : List Entry) → entries_of xs ≡ entries_of ys → pointwise entry_eq xs ys ≡ true
 all_same_back [] [] e = refl
 all_same_back [] (y ∷ ys) e = absurd (let h : [] ≡ entry_of y ∷ entries_of ys = e in cc)
 all_same_back (x ∷ xs) [] e = absurd (let h : entry_of x ∷ entries_of xs ≡ [] = e in cc)
@@ -54,9 +53,3 @@ all_same_back (x ∷ xs) (y ∷ ys) e =
     let here : entry_of x ≡ entry_of y = cc in
     let rest : entries_of xs ≡ entries_of ys = cc in
     and_from (entry_eq x y) (pointwise entry_eq xs ys) (entry_same_back x y here) (all_same_back xs ys rest)
-
-pub forest_same : (a b : AgeForest) → forest_eq a b ≡ true → forest_of a ≡ forest_of b
-forest_same a b = all_same (used a) (used b)
-
-pub forest_same_back : (a b : AgeForest) → forest_of a ≡ forest_of b → forest_eq a b ≡ true
-forest_same_back a b = all_same_back (used a) (used b)

@@ -1,11 +1,10 @@
--- When entries and forests are equal, and what is hashed of them: what a forest holds, and not the rest of its array.
+-- When entries and forests are equal, and what is hashed of an entry: what a forest holds counts, and not the rest of its array.
 use Rattle.std.specs.Prelude.{Bool, ◌&&◌, nat_eq}
-use Rattle.std.proofs.Common.{ap, eqb-true}
 use Rattle.std.specs.Option.{option_eq}
-use Rattle.std.specs.Cmp.{IsEquivalence, second_so, nat_eq_equiv, on_equiv, and_equiv}
+use Rattle.std.specs.Cmp.{IsEquivalence, nat_eq_equiv, on_equiv, and_equiv}
 use Rattle.std.specs.Cmp.Lexicographic.{pointwise, lists_equiv, options_equiv}
 use Rattle.std.specs.Hash as fed
-use Rattle.std.specs.Hash.{HashWrites, Alike, on_Alike, items_Alike}
+use Rattle.std.specs.Hash.{HashWrites}
 use Rattle.buchi_core.specs.declared.entry.Entry.{Entry}
 use Rattle.buchi_core.specs.declared.age_forest.AgeForest.{AgeForest}
 use Rattle.buchi_core.specs.View.{used}
@@ -22,20 +21,9 @@ forest_eq a b = pointwise entry_eq (used a) (used b)
 abbrev pub entry_writes : Entry → HashWrites
 entry_writes e = fed.u32 e.set
 
--- a forest by its entries
-abbrev pub forest_writes : AgeForest → HashWrites
-forest_writes f = fed.slice entry_writes (used f)
-
 entry_equiv : IsEquivalence entry_eq
 entry_equiv = and_equiv (on_equiv (λ (e : Entry). e.parent) (options_equiv nat_eq_equiv)) (on_equiv (λ (e : Entry). e.set) nat_eq_equiv)
 
 -- so it is with itself, both ways round and along a chain
 pub forest_equiv : IsEquivalence forest_eq
 forest_equiv = on_equiv used (lists_equiv entry_equiv)
-
-entry_alike : Alike entry_eq entry_writes
-entry_alike = record { fed = λ x y h. ap fed.u32 (eqb-true x.set y.set (second_so (option_eq nat_eq x.parent y.parent) (nat_eq x.set y.set) h)) }
-
--- forests that are equal are hashed alike
-pub forest_alike : Alike forest_eq forest_writes
-forest_alike = on_Alike used (items_Alike entry_alike)

@@ -1,9 +1,9 @@
-//! Forests are compared and hashed by the entries that they hold, whatever the rest of the array has.
+//! Forests are compared by the entries that they hold, whatever the rest of the array has.
 
 ghost use Rattle.std.proofs.Common.{rules};
 ghost use Rattle.std.specs.Cmp.{partial_equiv_from_equiv};
 ghost use Rattle.std.specs.Cmp.Rules.{hashing};
-ghost use Rattle.buchi_core.specs.Equality.{entry_writes, forest_alike, forest_eq, forest_equiv, forest_writes};
+ghost use Rattle.buchi_core.specs.Equality.{entry_writes, forest_eq, forest_equiv};
 
 use crate::age_forest::AgeForest;
 use crate::entry::Entry;
@@ -32,15 +32,5 @@ impl Hash for Entry {
 
     fn hash<H: Hasher>(&self, state: &mut H) {
         self.set.hash(state);
-    }
-}
-
-impl Hash for AgeForest {
-    ghost hash_input = { forest_writes };
-
-    ghost respects_eq = { forest_alike.fed };
-
-    fn hash<H: Hasher>(&self, state: &mut H) {
-        entries_in(self).hash(state);
     }
 }

@@ -8,8 +8,8 @@ ghost use Rattle.buchi_core.specs.View.{entries_of, members};
 ghost use Rattle.buchi_core.specs.Young.{AreLeft, made};
 
 use crate::entry::Entry;
-use crate::masks::{moves_of, successors_of};
-use crate::young::{Young, no_entries, push_entry};
+use crate::masks::{Moves, successors_of};
+use crate::young::{Young, clear, push_entry};
 
 /// Appends each entry with the successors of its set. The masks say where the pairs lead.
 fn push_moved(
@@ -57,16 +57,23 @@ fn push_children(
     }
 }
 
-/// The entries of a step before any is dropped or lost.
-pub(crate) fn grown(forest: &[Entry], pairs: &[(u8, u8, bool)], positions: u32) -> Young
+/// Makes the entries of a step before any is dropped or lost, in place of those that were there. The table says where the
+/// pairs lead.
+pub(crate) fn grow(
+    young: &mut Young,
+    _pairs: &[(u8, u8, bool)],
+    moves: &Moves,
+    positions: u32,
+    forest: &[Entry],
+)
+    requires all { AreMoves _pairs.now moves.now.all }
+    requires progress { AreMoves (progressing _pairs.now) moves.now.progress }
     requires few { length forest.now ≤ 32 }
-    ensures left { AreLeft result }
-    ensures grown { made result ≡ before_drop pairs.now (members positions) (entries_of forest.now) }
+    ensures left { AreLeft young.new }
+    ensures grown { made young.new ≡ before_drop _pairs.now (members positions) (entries_of forest.now) }
 {
-    let moves = moves_of(pairs);
-    let mut young = no_entries();
-    push_moved(&mut young, pairs, &moves.all, positions, forest);
-    push_children(&mut young, pairs, &moves.progress, positions, forest);
-    push_entry(&mut young, None, positions);
-    young
+    clear(young);
+    push_moved(young, _pairs, &moves.all, positions, forest);
+    push_children(young, _pairs, &moves.progress, positions, forest);
+    push_entry(young, None, positions);
 }

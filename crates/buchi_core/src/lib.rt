@@ -16,5 +16,6 @@ mod young;
 pub use age_forest::AgeForest;
 pub use entry::Entry;
 pub use event::{Event, earlier};
+pub use list::entries_in;
 pub use position_sets::is_position_set;
-pub use stepping::{start, step};
+pub use stepping::{Stepper, start, step};

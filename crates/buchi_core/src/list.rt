@@ -1,7 +1,7 @@
 //! Forests as lists of entries.
 
 ghost use Rattle.std.specs.Prelude.{◌≡◌, ◌<◌, [], ◌∷◌, ◌++◌, length};
-ghost use Rattle.buchi_core.specs.View.{used};
+ghost use Rattle.buchi_core.specs.View.{entries_of, forest_of, used};
 
 use crate::age_forest::AgeForest;
 use crate::entry::Entry;
@@ -19,9 +19,17 @@ pub(crate) fn empty() -> AgeForest
     }
 }
 
+/// Takes all entries out of a forest.
+pub(crate) fn clear(forest: &mut AgeForest)
+    ensures { used forest.new ≡ [] }
+{
+    forest.len = 0;
+}
+
 /// The entries of a forest, oldest first.
-pub(crate) fn entries_in(forest: &AgeForest) -> &[Entry]
-    ensures { result.now ≡ used forest.now }
+pub fn entries_in(forest: &AgeForest) -> &[Entry]
+    ensures used { result.now ≡ used forest.now }
+    ensures value { entries_of result.now ≡ forest_of forest.now }
 {
     &forest.entries[..forest.len as usize]
 }

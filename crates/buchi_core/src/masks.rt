@@ -44,15 +44,21 @@ fn add_move(masks: &mut [u32; 32], old: u8, new: u8)
     }
 }
 
-/// Where these pairs lead.
-pub(crate) fn moves_of(pairs: &[(u8, u8, bool)]) -> Moves
-    ensures all { AreMoves pairs.now result.all }
-    ensures progress { AreMoves (progressing pairs.now) result.progress }
-{
-    let mut moves = Moves {
+/// Where no pairs lead.
+pub(crate) fn no_moves() -> Moves {
+    Moves {
         all: [0; 32],
         progress: [0; 32],
-    };
+    }
+}
+
+/// Makes the table of where these pairs lead, in place of what it was.
+pub(crate) fn set_moves(moves: &mut Moves, pairs: &[(u8, u8, bool)])
+    ensures all { AreMoves pairs.now moves.new.all }
+    ensures progress { AreMoves (progressing pairs.now) moves.new.progress }
+{
+    moves.all = [0; 32];
+    moves.progress = [0; 32];
     for pair in pairs {
         let (old, new, progress) = *pair;
         add_move(&mut moves.all, old, new);
@@ -60,7 +66,6 @@ pub(crate) fn moves_of(pairs: &[(u8, u8, bool)]) -> Moves
             add_move(&mut moves.progress, old, new);
         }
     }
-    moves
 }
 
 /// The positions that the moves lead to from the set, one of its positions after another.

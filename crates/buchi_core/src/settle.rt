@@ -9,7 +9,7 @@ ghost use Rattle.buchi_core.specs.Young.{AreLeft, made};
 use crate::age_forest::AgeForest;
 use crate::entry::Entry;
 use crate::event::Event;
-use crate::list::{append, empty};
+use crate::list::{append, clear};
 use crate::young::{Young, left_at};
 use arrayvec::ArrayVec;
 
@@ -45,17 +45,16 @@ fn is_lost_below(young: &Young, done: &[bool], parent: Option<u8>) -> bool
     }
 }
 
-/// Which entries have a full ancestor.
-pub(crate) fn losses_of(young: &Young) -> ArrayVec<bool, 65>
+/// Finds which entries have a full ancestor.
+pub(crate) fn find_losses(done: &mut ArrayVec<bool, 65>, young: &Young)
     requires left { AreLeft young.now }
-    ensures { result.items ≡ losses (made young.now) }
+    ensures { done.new.items ≡ losses (made young.now) }
 {
-    let mut done = ArrayVec::new();
+    done.clear();
     for entry in young.entries.as_slice() {
-        let lost = is_lost_below(young, &done, entry.parent);
+        let lost = is_lost_below(young, done.as_slice(), entry.parent);
         done.push(lost);
     }
-    done
 }
 
 /// Whether entry `place` stays.
@@ -94,14 +93,14 @@ fn renumbered_of(entries: &[Entry], lost: &[bool], parent: Option<u8>) -> Option
     }
 }
 
-/// Drops the entries that are empty or have a full ancestor.
-pub(crate) fn settle_all(entries: &[Entry], lost: &[bool]) -> AgeForest
+/// Makes the forest of the entries but those that are empty or have a full ancestor.
+pub(crate) fn settle_all(next: &mut AgeForest, entries: &[Entry], lost: &[bool])
     requires short { length entries.now ≤ 65 }
     requires few { length (settle (entries_of entries.now)) ≤ 32 }
     requires lost { lost.now ≡ losses (entries_of entries.now) }
-    ensures { forest_of result ≡ settle (entries_of entries.now) }
+    ensures { forest_of next.new ≡ settle (entries_of entries.now) }
 {
-    let mut next = empty();
+    clear(next);
     let mut place: u8 = 0;
     for entry in entries {
         if is_kept_at(entries, lost, place) {
@@ -110,11 +109,10 @@ pub(crate) fn settle_all(entries: &[Entry], lost: &[bool]) -> AgeForest
                 parent,
                 set: entry.set,
             };
-            append(&mut next, entry);
+            append(next, entry);
         }
         place += 1;
     }
-    next
 }
 
 /// The event of the least of the first `count` places to which something happens.

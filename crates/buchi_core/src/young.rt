@@ -19,15 +19,22 @@ pub(crate) struct Young {
 }
 
 /// No entries.
-pub(crate) fn no_entries() -> Young
-    ensures none { result.entries.items ≡ [] }
-    ensures left { AreLeft result }
-{
+pub(crate) fn no_entries() -> Young {
     Young {
         entries: ArrayVec::new(),
         left: [0; 65],
         top: u32::MAX,
     }
+}
+
+/// Takes all entries out.
+pub(crate) fn clear(young: &mut Young)
+    ensures none { young.new.entries.items ≡ [] }
+    ensures left { AreLeft young.new }
+{
+    young.entries.clear();
+    young.left = [0; 65];
+    young.top = u32::MAX;
 }
 
 /// What a further child of the parent may have.

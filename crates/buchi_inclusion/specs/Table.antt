@@ -2,7 +2,7 @@
 use Rattle.std.specs.Prelude.{ℕ, ◌≡◌, ◌<◌, ◌≤◌, Bool, List, [], ◌∷◌, ◌++◌, Some, slice_get, map, cond, length, Vec}
 use Rattle.std.specs.declared.alloc.Global.{Global}
 use Rattle.std.specs.HashSet.{HashSet}
-use Rattle.buchi_core.specs.View.{forest_of}
+use Rattle.buchi_core.specs.View.{entries_of}
 use Rattle.trace_pairs.specs.Graph.{Node}
 use Rattle.buchi_core.specs.declared.event.Event.{Event}
 use Rattle.buchi_inclusion.specs.Product.{State, Moves, Reachable, IsStart}
@@ -11,7 +11,7 @@ use Rattle.buchi_inclusion.specs.declared.product.Product.{Product}
 
 -- the plain data of a state
 abbrev pub state_of : Product → State
-state_of p = record { node = p.node; forest = forest_of p.forest }
+state_of p = record { node = p.node; forest = entries_of p.forest.now }
 
 -- the plain data of the states, in the order of discovery
 abbrev pub states_of : {S : Type 0} → HashSet Product S → List State

@@ -61,7 +61,7 @@ fn visit_at(visits: &[Visit], place: usize) -> Option<&Visit>
 #[derive(Clone, Copy)]
 pub struct Class<'a> {
     pub graph: &'a TraceGraph,
-    pub table: &'a Table,
+    pub table: &'a Table<'a>,
     pub least: Event,
     /// The states' ranks, which don't fall along the moves of the class if `rising` says so.
     pub ranks: &'a [u32],
@@ -150,7 +150,7 @@ fn way_to(
 fn stem_to(
     alloc: Global,
     graph: &TraceGraph,
-    table: &Table,
+    table: &Table<'_>,
     place: usize,
 ) -> Result<Vec<Step>, OutOfMemory>
     requires graph { IsGraph graph.now }
@@ -199,7 +199,7 @@ fn counter_of(
 pub fn lasso_of(
     alloc: Global,
     graph: &TraceGraph,
-    table: &Table,
+    table: &Table<'_>,
     bad: BadMove,
 ) -> Result<Lasso, OutOfMemory>
     requires graph { IsGraph graph.now }
@@ -319,7 +319,7 @@ fn rows_have(rows: &[Vec<Transition>], event: Event) -> bool
 fn search_class(
     alloc: Global,
     graph: &TraceGraph,
-    table: &Table,
+    table: &Table<'_>,
     least: Event,
 ) -> Result<Option<BadMove>, OutOfMemory>
     requires graph { IsGraph graph.now }
@@ -349,7 +349,7 @@ fn search_class(
 fn decide_class(
     alloc: Global,
     graph: &TraceGraph,
-    table: &Table,
+    table: &Table<'_>,
     least: Event,
 ) -> Result<Option<BadMove>, OutOfMemory>
     requires graph { IsGraph graph.now }
@@ -391,7 +391,7 @@ fn deaths_of(rows: &[Vec<Transition>]) -> u32
 pub fn decide(
     alloc: Global,
     graph: &TraceGraph,
-    table: &Table,
+    table: &Table<'_>,
 ) -> Result<Option<BadMove>, OutOfMemory>
     requires graph { IsGraph graph.now }
     requires table { IsTable graph.now (states_of table.now.states) table.now.rows.items }

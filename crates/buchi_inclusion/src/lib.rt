@@ -13,6 +13,7 @@ ghost use Rattle.std.specs.Prelude.{IfOk};
 ghost use Rattle.trace_pairs.specs.Graph.{IsGraph};
 ghost use Rattle.buchi_inclusion.specs.Inclusion.{IsInclusion, IsProgress};
 
+use bumpalo::Bump;
 pub use cyc_memory::OutOfMemory;
 use decision::{decide, lasso_of};
 pub use laws::{answers_agree, descends, product_decides};
@@ -39,7 +40,8 @@ pub fn included(alloc: Global, graph: &TraceGraph, limit: u32) -> Result<Inclusi
     requires graph { IsGraph graph.now }
     ensures { IfOk result (IsInclusion graph.now limit) }
 {
-    let explored = explore(alloc, graph, limit)?;
+    let arena = Bump::new(alloc);
+    let explored = explore(alloc, &arena, graph, limit)?;
     let Some(table) = explored else {
         return Ok(Inclusion::TooManyStates);
     };
@@ -65,7 +67,8 @@ pub fn decides(alloc: Global, graph: &TraceGraph, limit: u32) -> Result<Progress
     requires graph { IsGraph graph.now }
     ensures { IfOk result (IsProgress graph.now limit) }
 {
-    let explored = explore(alloc, graph, limit)?;
+    let arena = Bump::new(alloc);
+    let explored = explore(alloc, &arena, graph, limit)?;
     let Some(table) = explored else {
         return Ok(Progress::TooManyStates);
     };

@@ -6,29 +6,33 @@ ghost use Rattle.trace_pairs.specs.Graph.{IsGraph};
 ghost use Rattle.buchi_inclusion.specs.Answers.{HasMoreThan};
 ghost use Rattle.buchi_inclusion.specs.Product.{State, IsStart};
 
-use buchi_core::{AgeForest, Event, start, step};
+use buchi_core::{Entry, Event, Stepper, entries_in, start};
+use bumpalo::Bump;
 use cyc_memory::OutOfMemory;
 use indexmap::IndexSet;
 use std::alloc::Global;
 use trace_pairs::TraceGraph;
 
-/// A state of the product: a node with a forest.
+/// A state of the product: a node with a forest, whose entries lie in an arena.
 #[derive(Clone, Copy, Drop, PartialEq, Eq, Hash)]
-pub struct Product {
+pub struct Product<'a> {
     pub node: u32,
-    pub forest: AgeForest,
+    pub forest: &'a [Entry],
 }
 
 /// The place of a state among the states, to which it is added if it is new; and whether it is new.
-pub fn intern(states: &mut IndexSet<Product>, state: Product) -> Result<(usize, bool), OutOfMemory>
-    ensures { IfOk result (λ r. IsFound (states_of states.old) (states_of states.new) (state_of state) r.0 r.1) }
+pub fn intern<'a>(
+    states: &mut IndexSet<Product<'a>>,
+    state: Product<'a>,
+) -> Result<(usize, bool), OutOfMemory>
+    ensures { IfOk result (λ r. IsFound (states_of states.old) (states_of states.new) (state_of state.entry) r.0 r.1) }
 {
     let found = states.insert_full(state)?;
     Ok(found)
 }
 
 /// How many states there are. No state stands there twice.
-pub fn count_of(states: &IndexSet<Product>) -> usize
+pub fn count_of(states: &IndexSet<Product<'_>>) -> usize
     ensures long { result ≡ length (states_of states.now) }
     ensures small { result < 2 ^ 63 }
     ensures apart { (i j : ℕ) (s : State) → slice_get (states_of states.now) i ≡ Some s
@@ -38,10 +42,15 @@ pub fn count_of(states: &IndexSet<Product>) -> usize
 }
 
 /// The state at a place.
-pub fn state_at(states: &IndexSet<Product>, place: usize) -> Option<&Product>
-    ensures { MatchOption result (length (states_of states.now) ≤ place) (λ p. slice_get (states_of states.now) place ≡ Some (state_of p.now)) }
+pub fn state_at<'a>(states: &IndexSet<Product<'a>>, place: usize) -> Option<Product<'a>>
+    ensures { MatchOption result (length (states_of states.now) ≤ place) (λ p. slice_get (states_of states.now) place ≡ Some (state_of p)) }
 {
-    states.as_slice().get(place)
+    let all = states.as_slice();
+    if place < all.len() {
+        Some(all[place])
+    } else {
+        None
+    }
 }
 
 /// Where an edge of a state's node leads, and the event.
@@ -51,32 +60,48 @@ pub struct Transition {
     pub event: Event,
 }
 
+/// What steps are made in, and where the entries of new states lie.
+#[derive(Drop)]
+struct Steps<'a> {
+    stepper: Stepper,
+    arena: &'a Bump,
+}
+
 /// The state that edge `edge` leads to, with its event; none where the node has no such edge.
-fn step_from(graph: &TraceGraph, state: &Product, edge: usize) -> Option<(Product, Event)>
+fn step_from<'a>(
+    steps: &mut Steps<'a>,
+    graph: &TraceGraph,
+    state: Product<'a>,
+    edge: usize,
+) -> Result<Option<(Product<'a>, Event)>, OutOfMemory>
     requires graph { IsGraph graph.now }
-    requires state { IsState graph.now (state_of state.now) }
-    ensures { MatchOption result (IsLast graph.now (state_of state.now) edge) (λ r. IsStep graph.now (state_of state.now) edge (state_of r.0) r.1 × IsState graph.now (state_of r.0)) }
+    requires state { IsState graph.now (state_of state) }
+    ensures { IfOk result (λ o. MatchOption o (IsLast graph.now (state_of state.entry) edge) (λ r. IsStep graph.now (state_of state.entry) edge (state_of r.0) r.1 × IsState graph.now (state_of r.0))) }
 {
     let Some(node) = graph.node(state.node as usize) else {
         unreachable!()
     };
     let Some(edge) = node.edge(edge) else {
-        return None;
+        return Ok(None);
     };
     let node = edge.target();
     let Some(target) = graph.node(node as usize) else {
         unreachable!()
     };
-    let (forest, event) = step(&state.forest, edge.pairs(), target.positions());
-    Some((Product { node, forest }, event))
+    let event = steps
+        .stepper
+        .step(state.forest, edge.pairs(), target.positions());
+    let forest: &'a [Entry] = steps.arena.try_alloc_slice_copy(steps.stepper.entries())?;
+    Ok(Some((Product { node, forest }, event)))
 }
 
 /// The moves from the state at a place, whose targets are added to the states. None if there are more states than the
 /// limit then.
-fn explore_row(
+fn explore_row<'a>(
     alloc: Global,
+    steps: &mut Steps<'a>,
     graph: &TraceGraph,
-    states: &mut IndexSet<Product>,
+    states: &mut IndexSet<Product<'a>>,
     place: usize,
     limit: u32,
 ) -> Result<Option<Vec<Transition>>, OutOfMemory>
@@ -89,11 +114,12 @@ fn explore_row(
     ensures row { IfOk result (λ o. MatchOption o (HasMoreThan graph.now limit) (λ row. IsRow graph.now (states_of states.new) place row.items × (length (states_of states.new) ≤ limit))) }
 {
     let mut row = Vec::new(alloc);
+    let Some(state) = state_at(states, place) else {
+        unreachable!()
+    };
     for edge in 0..usize::MAX {
-        let Some(state) = state_at(states, place) else {
-            unreachable!()
-        };
-        let Some((state, event)) = step_from(graph, state, edge) else {
+        let stepped = step_from(steps, graph, state, edge)?;
+        let Some((state, event)) = stepped else {
             return Ok(Some(row));
         };
         let (target, _) = intern(states, state)?;
@@ -111,39 +137,51 @@ fn explore_row(
 
 /// All reachable states, and the moves from each.
 #[derive(Drop)]
-pub struct Table {
-    pub states: IndexSet<Product>,
+pub struct Table<'a> {
+    pub states: IndexSet<Product<'a>>,
     pub rows: Vec<Vec<Transition>>,
 }
 
 /// The state that begins: node 0 with its first forest.
-fn first_state(graph: &TraceGraph) -> Product
+fn first_state<'a>(arena: &'a Bump, graph: &TraceGraph) -> Result<Product<'a>, OutOfMemory>
     requires graph { IsGraph graph.now }
-    ensures { IsStart graph.now (state_of result) × IsState graph.now (state_of result) }
+    ensures { IfOk result (λ p. IsStart graph.now (state_of p) × IsState graph.now (state_of p)) }
 {
     let Some(root) = graph.node(0) else {
         unreachable!()
     };
-    let forest = start(root.positions());
-    Product { node: 0, forest }
+    let first = start(root.positions());
+    let forest: &'a [Entry] = arena.try_alloc_slice_copy(entries_in(&first))?;
+    Ok(Product { node: 0, forest })
 }
 
-/// Explores the product. None if there are more states than the limit.
-pub fn explore(alloc: Global, graph: &TraceGraph, limit: u32) -> Result<Option<Table>, OutOfMemory>
+/// Explores the product, whose states lie in the arena. None if there are more states than the limit.
+pub fn explore<'a>(
+    alloc: Global,
+    arena: &'a Bump,
+    graph: &TraceGraph,
+    limit: u32,
+) -> Result<Option<Table<'a>>, OutOfMemory>
     requires graph { IsGraph graph.now }
     ensures { IfOk result (λ o. MatchOption o (HasMoreThan graph.now limit) (λ t. IsTable graph.now (states_of t.states) t.rows.items × (length (states_of t.states) ≤ limit))) }
 {
     let mut states = IndexSet::with_capacity(alloc, graph.len())?;
-    intern(&mut states, first_state(graph))?;
+    let first = first_state(arena, graph)?;
+    intern(&mut states, first)?;
     if count_of(&states) > limit as usize {
         return Ok(None);
     }
+    let mut steps = Steps {
+        stepper: Stepper::default(),
+        arena,
+    };
     let mut rows = Vec::with_capacity(alloc, graph.len())?;
     for place in 0..usize::MAX {
         if place >= count_of(&states) {
             return Ok(Some(Table { states, rows }));
         }
-        let Some(row) = explore_row(alloc, graph, &mut states, place, limit)? else {
+        let row = explore_row(alloc, &mut steps, graph, &mut states, place, limit)?;
+        let Some(row) = row else {
             return Ok(None);
         };
         rows.push(row)?;

@@ -100,6 +100,11 @@ impl<'a> DisjunctsView<'a> {
     ) -> Result<DisjunctsView<'a>, OutOfMemory>
         ensures { IfOk result (λ d. map heap_of d.heaps.now ≡ disjuncts.now) }
     {
+        if let [heap] = disjuncts.heaps() {
+            let copy = [HeapView::store(arena, heap)?];
+            let heaps: &'a [HeapView<'a>] = arena.try_alloc_slice_copy(&copy)?;
+            return Ok(DisjunctsView { heaps });
+        }
         let copies = heap_views(alloc, arena, disjuncts.heaps())?;
         let heaps: &'a [HeapView<'a>] = arena.try_alloc_slice_copy(copies.as_slice())?;
         Ok(DisjunctsView { heaps })

@@ -1,5 +1,5 @@
 // The links to be tried at a goal.
-ghost use Rattle.std.specs.Prelude.{◌≡◌, ◌<◌, ◌++◌, Some, IfOk, OnOk, length, slice_get};
+ghost use Rattle.std.specs.Prelude.{◌≡◌, ◌<◌, ◌++◌, Some, true, IfOk, OnOk, length, slice_get};
 ghost use Rattle.proof_graph.specs.declared.nodes.GraphNode.{GraphNode};
 ghost use Rattle.proof_graph.specs.HeapViews.{judgement_of};
 ghost use Rattle.search_moves.specs.Lengths.{is_as_long as has_length_of};
@@ -47,7 +47,7 @@ fn is_as_long(bud: &Judgement, companion: &JudgementView<'_>) -> bool
     }
 }
 
-/// The links to node `v`, none if it is no companion.
+/// The links to node `v`, which is a companion.
 fn links_to(
     alloc: Global,
     program: &Program,
@@ -55,13 +55,11 @@ fn links_to(
     v: u32,
     judgement: &Judgement,
 ) -> Result<Vec<Link>, OutOfMemory>
-    requires { v < length graph.now }
+    requires node { v < length graph.now }
+    requires companion { (node : GraphNode) → slice_get graph.now v ≡ Some node → is_companion_of judgement.now node ≡ true }
     ensures { IfOk result (λ found. (node : GraphNode) → slice_get graph.now v ≡ Some node
         → found.items ≡ links_to_node MOST_LINKS program.now judgement.now v node) }
 {
-    if !is_companion(graph, v, judgement) {
-        return Ok(Vec::new(alloc));
-    }
     if !is_as_long(judgement, graph.node(v).judgement) {
         return Ok(Vec::new(alloc));
     }

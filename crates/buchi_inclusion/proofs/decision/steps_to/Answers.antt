@@ -38,11 +38,11 @@ pub loop-at-preserved : goal.loop-at-preserved
 loop-at-preserved c =
     let l = c.requires.ways.1.led c.loop-at.at c.in-Some.visit.now c.in-Some.ensures c.loop-at-test.true in
     let same : l.from ≡ c.in-Some-visit_at.from.now = get_one c.args.visits.now c.in-Some.visit.now.from l.from c.in-Some-visit_at.from.now l.is_from c.in-Some-visit_at.ensures in
-    let step : Step = record { node = c.in-Some-state_at.state.now.node; edge = c.in-Some.visit.now.edge } in
+    let step : Step = record { node = c.in-Some-state_at.state.node; edge = c.in-Some.visit.now.edge } in
     let items : reverse c.push.new.self.items ≡ step ∷ reverse c.loop-at.steps.items = ap reverse c.in_ok-push.ensures.items ∙ reverse-append c.loop-at.steps.items (step ∷ []) in
     record {
       within = omega (arith, l.earlier, c.loop-at.invariant.within);
       walk = subst (IsWayBetween c.args.class.now.graph.now (states_of c.args.class.now.table.now.states) c.args.class.now.least c.args.visits.now c.in-Some.visit.now.from c.args.place) (sym items)
-          (between_more c.args.class.now.graph.now (states_of c.args.class.now.table.now.states) c.args.class.now.least c.args.visits.now c.loop-at.at c.args.place c.in-Some.visit.now.from c.in-Some.visit.now (reverse c.loop-at.steps.items) step (state_of c.in-Some-state_at.state.now)
-          l c.loop-at.invariant.walk c.in-Some.ensures refl (subst (λ (x : Visit). slice_get (states_of c.args.class.now.table.now.states) x.state ≡ Some (state_of c.in-Some-state_at.state.now)) (sym same) c.in-Some-state_at.ensures) refl refl);
+          (between_more c.args.class.now.graph.now (states_of c.args.class.now.table.now.states) c.args.class.now.least c.args.visits.now c.loop-at.at c.args.place c.in-Some.visit.now.from c.in-Some.visit.now (reverse c.loop-at.steps.items) step (state_of c.in-Some-state_at.state)
+          l c.loop-at.invariant.walk c.in-Some.ensures refl (subst (λ (x : Visit). slice_get (states_of c.args.class.now.table.now.states) x.state ≡ Some (state_of c.in-Some-state_at.state)) (sym same) c.in-Some-state_at.ensures) refl refl);
     }

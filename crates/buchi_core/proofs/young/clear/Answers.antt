@@ -1,7 +1,7 @@
 -- No entry has anything, and a top entry may have all.
 use Rattle.std.proofs.Common.{refl}
 use Rattle.buchi_core.proofs.Left.{no_entries_left}
-use Rattle.buchi_core.proofs.young.no_entries.Goals as goal
+use Rattle.buchi_core.proofs.young.clear.Goals as goal
 
 pub returns-clause-left : goal.returns-clause-left
-returns-clause-left c = no_entries_left _ c.new.ensures refl refl refl
+returns-clause-left c = no_entries_left _ c.clear.ensures refl refl refl

@@ -1,7 +1,7 @@
 use Rattle.std.proofs.Common.{ℕ, ◌≡◌, ◌<◌, ◌||◌, [], ◌∷◌, drop, length, get_or}
 use Rattle.buchi_core.specs.Forest.{leads, progressing}
 use Rattle.buchi_core.specs.View.{is_one}
-use Rattle.buchi_core.proofs.masks.moves_of.Given as goal
+use Rattle.buchi_core.proofs.masks.set_moves.Given as goal
 
 abbrev pub invariant-loop-pair : goal.invariant-loop-pair
 invariant-loop-pair l = record {

@@ -2,7 +2,7 @@ use Rattle.std.proofs.Common.{◌≡◌, drop, length}
 use Rattle.buchi_core.specs.Forest.{Entry, losses, lost_below, scan_from}
 use Rattle.buchi_core.specs.View.{entries_of}
 use Rattle.buchi_core.specs.Young.{made}
-use Rattle.buchi_core.proofs.settle.losses_of.Given as goal
+use Rattle.buchi_core.proofs.settle.find_losses.Given as goal
 
 abbrev pub invariant-loop-entry : goal.invariant-loop-entry
 invariant-loop-entry l = record {

@@ -1,7 +1,7 @@
 -- No position has a move before the first pair.
 use Rattle.std.proofs.Common.{refl}
 use Rattle.buchi_core.proofs.Moves.{none_added}
-use Rattle.buchi_core.proofs.masks.moves_of.Goals as goal
+use Rattle.buchi_core.proofs.masks.set_moves.Goals as goal
 
 pub loop-pair-init : goal.loop-pair-init
 loop-pair-init c = record {
