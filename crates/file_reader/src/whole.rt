@@ -102,25 +102,27 @@ fn whole_of_front(alloc: Global, text: &str, front: &Front<'_>) -> Result<Option
         Some(found) => found,
         None => return Ok(None),
     };
-    if let Some(flaw) = found.flaw {
-        return match fault_of_flaw(text, flaw)? {
+    match found.flaw {
+        Some(flaw) => match fault_of_flaw(text, flaw)? {
             Some(fault) => Ok(Some(Whole::Flawed(fault))),
             None => Ok(None),
-        };
+        },
+        None => {
+            let values = front_values(
+                alloc,
+                &heads,
+                front.version,
+                &front.definitions,
+                &front.lines,
+            )?;
+            Ok(Some(Whole::File(file_of_values(
+                front.version,
+                values.defs,
+                values.program,
+                found.nodes,
+            ))))
+        }
     }
-    let values = front_values(
-        alloc,
-        &heads,
-        front.version,
-        &front.definitions,
-        &front.lines,
-    )?;
-    Ok(Some(Whole::File(file_of_values(
-        front.version,
-        values.defs,
-        values.program,
-        found.nodes,
-    ))))
 }
 
 fn whole_of_text(alloc: Global, text: &str) -> Result<Option<Whole>, Stop>
