@@ -17,7 +17,7 @@ use Rattle.cyc_lex.specs.Placed.{Placed}
 use Rattle.cyc_lex.proofs.Lexed.{with_tokens-ok, with_tokens-err}
 use Rattle.piecewise_lex.specs.Feeding.{tokens_from}
 use Rattle.proof_file.specs.declared.file.ProofFile.{ProofFile}
-use Rattle.proof_file.specs.Reading.{IsRead, Reads}
+use Rattle.proof_file.specs.Reading.{Reads}
 use Rattle.file_reader.specs.Outcomes.{Outcome, Faulty}
 use Rattle.file_reader.specs.Stages.{Stage, Head, Nodes, Dead, Unlexed, Lost, Parts, fresh, behind, outcome}
 use Rattle.file_reader.specs.Steps.{Takes}
@@ -90,13 +90,6 @@ pieces-read pieces new answer fed h = told-reads (bytes_of pieces) answer (fed-t
 pub one-piece : (bytes : List ℕ) (new : Parts) (answer : Result ProofFile ReadFault) → KeepsLaw fresh bytes new → Tells (outcome new []) answer → Reads bytes answer
 one-piece bytes new answer keeps h =
     told-reads bytes answer (subst (λ (o : Outcome). Tells o answer) (sym (ap (outcome fresh) (sym (append-nil bytes)) ∙ keeps [])) h)
-
-pub read-fault : (bytes : List ℕ) (fault : ReadFault) → IsRead bytes (Err fault) → Reads bytes (Err fault)
-read-fault bytes faults.OutOfMemory h = tt
-read-fault bytes (faults.Lex fault) h = h
-read-fault bytes (faults.Syntax n l c) h = h
-read-fault bytes (faults.IllFormed fault n l c) h = h
-read-fault bytes (faults.Limit what n l c) h = h
 
 -- where all bytes wait, what is read of them is what the text comes to
 pub reads-tell : (bytes : List ℕ) (answer : Result ProofFile ReadFault) → Reads bytes answer → Tells (outcome (parts (Head []) start false bytes) []) answer

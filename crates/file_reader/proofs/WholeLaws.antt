@@ -34,7 +34,9 @@ use Rattle.proof_file.specs.Flaws.{headings, definition_flaw, program_flaw, node
 use Rattle.proof_file.specs.Spans.{definition_span, variable_span, node_span}
 use Rattle.file_reader.specs.declared.front.Spot.{Spot}
 use Rattle.file_reader.specs.Steps.{Leads, tree_of, span_of}
-use Rattle.file_reader.specs.Wholes.{IsPart, IsTheEnd, IsAt, LeadsFront, front_size, front_defs, IsFront, IsBegun, LeadsNodes, IsAll, found_in, AreNodes, AreAllNodes, StandsIn, IsFlawIn}
+use Rattle.file_reader.specs.Wholes.{IsPart, IsTheEnd, IsAt, LeadsFront, front_size, front_defs, IsFront, IsBegun, LeadsNodes, IsAll, found_in, AreNodes, AreAllNodes, StandsIn, IsFlawIn, IsWhole, IsAnswer}
+use Rattle.file_reader.specs.declared.whole.Whole.{Whole}
+use Rattle.file_reader.specs.declared.whole.Whole.TheVariants as wholes
 use Rattle.file_reader.specs.Outcomes.{item_fault}
 use Rattle.file_reader.proofs.Tokens.{slice-behind}
 use Rattle.cyc_lex.specs.declared.fault.ReadFault.{ReadFault}
@@ -51,7 +53,8 @@ use Rattle.heap_reader.proofs.Fitting.{most_fits}
 use Rattle.heap_reader.proofs.NoFlaw.{neither}
 use Rattle.heap_reader.proofs.WithinSpans.{flaw_within}
 use Rattle.pred_reader.proofs.Fitting.{definitions_small}
-use Rattle.proof_file.specs.Reading.{IsRead, proof_files}
+use Rattle.proof_file.specs.declared.file.ProofFile.{ProofFile}
+use Rattle.proof_file.specs.Reading.{IsRead, Reads, proof_files}
 use Rattle.proof_file.proofs.SpanLaws.{file_words}
 use Rattle.proof_file.proofs.WithinSpans.{file_before}
 use Rattle.file_reader.specs.declared.front.Front.{Front}
@@ -399,3 +402,16 @@ told-there text flaw line column fault stands is all e = subst (IsFlawTold all f
     by : (item : Item) → flaw.item ≡ item → IsFlawTold all flaw (item_fault item flaw.token line column)
     by (Ill ill) same = (ap (λ (i : Item). record { item = i; token = flaw.token }) same, stands all e)
     by (Over what) same = (ap (λ (i : Item). record { item = i; token = flaw.token }) same, stands all e)
+
+-- ---- the answer
+
+read-fault : (bytes : List ℕ) (fault : ReadFault) → IsRead bytes (Err fault) → Reads bytes (Err fault)
+read-fault bytes faults.OutOfMemory h = tt
+read-fault bytes (faults.Lex fault) h = h
+read-fault bytes (faults.Syntax n l c) h = h
+read-fault bytes (faults.IllFormed fault n l c) h = h
+read-fault bytes (faults.Limit what n l c) h = h
+
+pub whole-reads : (bytes : List ℕ) (w : Whole) (answer : Result ProofFile ReadFault) → IsWhole bytes w → IsAnswer w answer → Reads bytes answer
+whole-reads bytes (wholes.File f) answer h is = subst (Reads bytes) (sym is) h
+whole-reads bytes (wholes.Flawed fault) answer h is = subst (Reads bytes) (sym is) (read-fault bytes fault h)

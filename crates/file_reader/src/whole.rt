@@ -2,7 +2,7 @@
 
 ghost use Rattle.std.specs.Prelude.{◌≡◌, ◌-◌, ◌≤◌, ◌<◌, ◌^◌, List, None, length, true, IfOk, IfSome};
 ghost use Rattle.cyc_lex.specs.Placed.{Placed};
-ghost use Rattle.file_reader.specs.Wholes.{AreAllNodes, IsAll, IsAt, IsBegun, IsWhole, front_defs};
+ghost use Rattle.file_reader.specs.Wholes.{AreAllNodes, IsAll, IsAt, IsAnswer, IsBegun, IsWhole, front_defs};
 
 use crate::flaw_place::fault_of_flaw;
 use crate::found::{Found, take_node};
@@ -21,6 +21,16 @@ use std::alloc::Global;
 pub enum Whole {
     File(ProofFile),
     Flawed(ReadFault),
+}
+
+/// The answer to a text that comes to this.
+pub fn answer_of(whole: Whole) -> Result<ProofFile, ReadFault>
+    ensures { IsAnswer whole result }
+{
+    match whole {
+        Whole::File(file) => Ok(file),
+        Whole::Flawed(fault) => Err(fault),
+    }
 }
 
 /// Whether nothing but the end of the text is left.
