@@ -1,5 +1,5 @@
 -- Laws of texts that are cut token by token.
-use Rattle.std.proofs.Common.{◌≡◌, ℕ, zero, suc, ◌+◌, ◌^◌, ◌<◌, true, List, [], ◌∷◌, ◌++◌, length, take, drop, Ok, refl, sym, ap, subst, ◌∙◌, arith, inl, inr, length-append}
+use Rattle.std.proofs.Common.{Bool, ◌≡◌, ℕ, zero, suc, ◌+◌, ◌^◌, ◌<◌, true, List, [], ◌∷◌, ◌++◌, length, take, drop, Ok, refl, sym, ap, subst, ◌∙◌, arith, inl, inr, length-append}
 use Rattle.std.specs.Prelude.{map, nat_lt, slice_get, ◌⊎◌}
 use Rattle.std.proofs.lemmas.List.{length-map}
 use Rattle.std.specs.Str.{chars, encode_utf8_all, IsUtf8}
@@ -12,8 +12,8 @@ use Rattle.cyc_lex.specs.declared.place.Piece.{Piece}
 use Rattle.cyc_lex.specs.declared.place.Piece.TheVariants as pieces
 use Rattle.cyc_lex.specs.declared.place.Bad.TheVariants as bads
 use Rattle.cyc_lex.specs.Placed.{Placed, placed}
-use Rattle.cyc_lex.specs.Lexing.{pass, pass_all, piece_at, piece_of, piece_chars, piece_rest, HasRoom, token_at, with_token, taken, len_fault, lex}
-use Rattle.cyc_lex.specs.Cutting.{with_piece, cut_tokens, IsCut}
+use Rattle.cyc_lex.specs.Lexing.{comment_len, pass, pass_all, piece_at, piece_of, piece_chars, piece_rest, HasRoom, token_at, with_token, taken, len_fault, lex}
+use Rattle.cyc_lex.specs.Cutting.{with_piece, cut_tokens, cut_text, IsCut}
 use Rattle.cyc_lex.proofs.Lexed.{Found, IsNext, IsLexed, some-chars, nil-chars, nil-bytes, after-gap, after-token, at-end, with_tokens-ok}
 use Rattle.cyc_lex.proofs.TokenLaws.{found, with_token-found, cond-found}
 
@@ -22,6 +22,10 @@ unfolding cut_tokens pass_all
 cut-skip p zero cs = refl
 cut-skip p (suc k) [] = refl
 cut-skip p (suc k) (c ∷ cs) = cut-skip (pass p c) k cs
+
+-- a text without the comment that goes on at its start
+pub cut-comment : (p q : Place) (comment : Bool) (text rest : List ℕ) → chars rest ≡ drop (comment_len comment (chars text)) (chars text) → q ≡ pass_all p (take (comment_len comment (chars text)) (chars text)) → cut_text p comment text ≡ cut_tokens q 0 (chars rest)
+cut-comment p q comment text rest left place = cut-skip p (comment_len comment (chars text)) (chars text) ∙ sym (λ i. cut_tokens (place i) 0 (left i))
 
 cut-piece : (p : Place) (cs : List ℕ) → 0 < length cs → cut_tokens p 0 cs ≡ with_piece (piece_of cs) p (encode_utf8_all (piece_chars cs)) (cut_tokens (pass_all p (piece_chars cs)) 0 (piece_rest cs))
 unfolding cut_tokens pass_all
