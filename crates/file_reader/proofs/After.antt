@@ -1,4 +1,4 @@
--- A flaw of a node stands at a token of it or behind it, not before.
+-- A flaw of a node stands at a token of it or after it, not before.
 use Rattle.std.proofs.Common.{ℕ, suc, ◌+◌, ◌≤◌, Bool, true, false, List, [], ◌∷◌, length, Option, Some, None, arith}
 use Rattle.std.specs.Prelude.{◌||◌, not, nat_eq, nat_lt, nat_le}
 use Rattle.cyc_lex.specs.declared.fault.IllFault.{IllFault}
@@ -19,7 +19,7 @@ use Rattle.proof_syntax.specs.Trees.{Judgement, Entails, From, Reason, Absurd, R
 use Rattle.proof_file.specs.Spans.{term_span, judgement_span, pair_span}
 use Rattle.proof_file.specs.Flaws.{judgement_flaw, pair_flaw, reason_flaw, node_flaw}
 
--- each flaw stands at token lo or behind it
+-- each flaw stands at token lo or after it
 abbrev pub After : Found → ℕ → Type 0
 After None lo = Unit {0}
 After (Some f) lo = lo ≤ f.token

@@ -51,7 +51,7 @@ later-again (Some x) b c d = refl
 later-again None (Some x) c d = refl
 later-again None None c d = refl
 
-one-later : (a b c : Found) → or_later a (or_later b c) ≡ or_later (or_later a b) c
+pub one-later : (a b c : Found) → or_later a (or_later b c) ≡ or_later (or_later a b) c
 one-later (Some x) b c = refl
 one-later None b c = refl
 

@@ -62,7 +62,7 @@ alive-new all waiting enough none empty = record {
   led = ((λ x. x), lead-none);
 }
 
--- with bytes behind all of them
+-- with bytes after all of them
 pub alive-fed : (a : Alive) (all waiting : Vec ℕ) (enough : ℕ) (piece : List ℕ) → IsAlive a → all.items ≡ a.all.items ++ piece → waiting.items ≡ a.waiting.items ++ piece → IsAlive (record { all = all; awaited = a.awaited; tokens = a.tokens; place = a.place; comment = a.comment; waiting = waiting; enough = enough })
 alive-fed a all waiting enough piece h more later = record {
   taken = h.taken;
@@ -231,7 +231,7 @@ dead-takes : (ts : List Placed) (left : ℕ) (fault : ReadFault) → 0 < left �
 dead-takes ts zero fault some e is us = absurd (omega (arith, some))
 dead-takes ts (suc left) fault some e is us = head-step [] ts us ∙ head-fault-step ts left e us ∙ ap (λ f. Bears f) is
 
--- a dead one among these, which come behind all tokens so far
+-- a dead one among these, which come after all tokens so far
 pub dead-all : (a : Alive) (k : IsAlive a) (ts : List Placed) (left : ℕ) → IsDead (reached_of a.awaited) (map word_of ts) left → Takes (Head []) (k.taken ++ ts) (Dead (syntax_fault a.tokens ts left))
 dead-all a k ts left is = dead-takes (k.taken ++ ts) left (syntax_fault a.tokens ts left) is.some read told
   where

@@ -103,7 +103,7 @@ reads-tell bytes answer h = subst (λ (o : Outcome). Tells o answer) (ap (λ (b 
     by (Err (faults.IllFormed fault n l c)) k = fresh-comes bytes (Err (faults.IllFormed fault n l c)) k
     by (Err (faults.Limit what n l c)) k = fresh-comes bytes (Err (faults.Limit what n l c)) k
 
--- ---- the tokens of one statement, at the front of a text behind which bytes stand that make no character yet
+-- ---- the tokens of one statement, at the front of a text after which bytes stand that make no character yet
 
 pub statement-comes : (stage after : Stage) (p q : Place) (c d : Bool) (text rest tail : List ℕ) (ts : List Placed) → ((more : List ℕ) → tokens_from p c (text ++ more) ≡ with_tokens ts (tokens_from q d (rest ++ more))) → Comes (parts stage p c (text ++ tail)) ts (parts after q d (rest ++ tail))
 statement-comes stage after p q c d text rest tail ts law more =

@@ -52,7 +52,7 @@ none-later : (o : Option ReadFault) → or_else o None ≡ o
 none-later (Some f) = refl
 none-later None = refl
 
--- behind "end;" the end of the text is all that may come
+-- after "end;" the end of the text is all that may come
 pub end-says : (b : Begun) (t : Placed) → b.ended ≡ true → the_end.value (word_of t) ≡ Some tt → ahead (Nodes b) (t ∷ []) ≡ settled b.flaw (said_with b [])
 end-says b t ended last =
     ap (λ (q : Result (List Node) ℕ). nodes_outcome b (t ∷ []) q) (

@@ -1,4 +1,4 @@
--- What the tokens of a statement do to a stage, whatever comes behind them.
+-- What the tokens of a statement do to a stage, whatever comes after them.
 use Rattle.std.proofs.Common.{◌≡◌, ℕ, suc, ◌+◌, ◌≤◌, Bool, true, false, List, [], ◌∷◌, ◌++◌, length, take, drop, Option, Some, None, Result, Ok, Err, refl, sym, ap, ◌∙◌, arith, length-append, append_assoc, inl, inr}
 use Rattle.std.specs.Prelude.{map}
 use Rattle.std.proofs.lemmas.List.{append-nil, take_at, drop_at, length-map}
@@ -33,7 +33,7 @@ pub or-else-again : (a b c : Option ReadFault) → or_else a (or_else b c) ≡ o
 or-else-again (Some x) b c = refl
 or-else-again None b c = refl
 
--- ---- the grammar behind a node
+-- ---- the grammar after a node
 
 pub nodes-lawful : Lawful (left_of (At Among))
 nodes-lawful =
@@ -46,7 +46,7 @@ whole-within s law ws left e = let f = whole_fault s law ws left e in omega (ari
 pub fault-within : {T : Type 0} (s : Syntax T) → Lawful s → (ws : List Word) (left : ℕ) → s.read ws ≡ Err left → left ≤ length ws
 fault-within s law ws left e = let f = law.fault ws left e in omega (arith, f.size, ap length f.parts, length-append f.front f.rest)
 
--- a node, and the nodes behind it
+-- a node, and the nodes after it
 abbrev one_more : Node → Result (List Node) ℕ → Result (List Node) ℕ
 one_more x q = q >>= λ xs. Ok (x ∷ xs)
 
@@ -81,7 +81,7 @@ left-fault ws more left e = ap (λ (q : Reading (List Node)). q >>= λ y. all_ta
 pub head-step : (front ts : List Placed) → Takes (Head front) ts (Head (front ++ ts))
 head-step front ts us = ap whole_outcome (sym (append_assoc front ts us))
 
--- behind a syntax fault they say nothing
+-- after a syntax fault they say nothing
 pub dead-step : (fault : ReadFault) (ts : List Placed) → Takes (Dead fault) ts (Dead fault)
 dead-step fault ts us = refl
 
@@ -153,7 +153,7 @@ node-fault-step b ts left going e us =
     ∙ ap (λ n. Faulty (syntax_fault b.tokens (ts ++ us) n)) (omega (arith, length-map us word_of))
     ∙ ap (λ f. Faulty f) (syntax-first b.tokens (suc left) ts us (omega arith) (omega (arith, within, length-map ts word_of)))
 
--- behind "end;" a word other than the end is dead
+-- after "end;" a word other than the end is dead
 pub ended-step : (b : Begun) (t : Placed) (ts : List Placed) → b.ended ≡ true → the_end.value (word_of t) ≡ None → Takes (Nodes b) (t ∷ ts) (Dead (syntax_fault b.tokens (t ∷ ts) (suc (length ts))))
 ended-step b t ts ended strange us =
     ap (λ (q : Result (List Node) ℕ). nodes_outcome b (t ∷ (ts ++ us)) q) (

@@ -1,6 +1,6 @@
 -- A text that is read through, statement by statement.
-use Rattle.std.proofs.Common.{◌≡◌, ℕ, ◌+◌, ◌≤◌, Bool, true, false, List, [], ◌∷◌, ◌++◌, length, map, Some, None, Ok, refl, sym, ap, subst, ◌∙◌, arith, length-append, append_assoc, inl, inr, ◌⊎◌}
-use Rattle.std.specs.Prelude.{Option, is_some}
+use Rattle.std.proofs.Common.{◌≡◌, ℕ, ◌+◌, ◌≤◌, ◌<◌, Bool, true, false, List, [], ◌∷◌, ◌++◌, length, map, Some, None, Result, Ok, Err, refl, sym, ap, subst, ◌∙◌, arith, length-append, append_assoc, inl, inr, ◌⊎◌}
+use Rattle.std.specs.Prelude.{slice_get}
 use Rattle.std.specs.Str.{chars, IsUtf8}
 use Rattle.std.proofs.lemmas.List.{append-nil, length-map, map_push}
 use Rattle.std.proofs.lemmas.Str.{encodes-chars}
@@ -8,7 +8,7 @@ use Rattle.cyc_lex.specs.declared.token.Token.{Token}
 use Rattle.cyc_lex.specs.Lexing.{start, lex, comment_len, tokens_of, with_tokens}
 use Rattle.cyc_lex.specs.Placed.{Placed, placed}
 use Rattle.cyc_lex.specs.Word.{Word, word_of}
-use Rattle.cyc_lex.proofs.Lexed.{with_tokens-ok}
+use Rattle.cyc_lex.proofs.Lexed.{with_tokens-ok, with_tokens-err}
 use Rattle.cyc_grammar.specs.Syntax.{Reading, ◌>>=◌, all_taken, read_whole}
 use Rattle.cyc_grammar.specs.Classes.{are_tokens}
 use Rattle.cyc_grammar.specs.Giving.{words}
@@ -17,32 +17,47 @@ use Rattle.cyc_grammar.proofs.WholeTexts.{words-placed, all-tokens}
 use Rattle.piecewise_lex.specs.declared.statements.Statement.{Statement}
 use Rattle.piecewise_lex.specs.Feeding.{tokens_from}
 use Rattle.piecewise_lex.specs.Statements.{IsStatement}
-use Rattle.piecewise_lex.specs.Taking.{reading}
+use Rattle.piecewise_lex.specs.Taking.{reading, HasTaken}
 use Rattle.piecewise_lex.proofs.TakingLaws.{taken-more}
 use Rattle.piecewise_lex.proofs.TakingBytes.{taken-law}
 use Rattle.heap_syntax.specs.declared.version.Version.{Version}
 use Rattle.heap_syntax.specs.Versions.{most_spatial}
 use Rattle.heap_reader.specs.Trees.{Heading}
-use Rattle.heap_reader.specs.Flaws.{Found, listed_flaw}
+use Rattle.heap_reader.specs.Flaws.{Found, or_later, listed_flaw}
 use Rattle.heap_reader.specs.Spans.{total, line_span}
-use Rattle.heap_reader.proofs.NoFlaw.{none_later}
 use Rattle.proof_syntax.specs.Trees.{Definition, Line, Node, File}
 use Rattle.proof_syntax.specs.Grammar.{node, file}
 use Rattle.proof_syntax.proofs.GrammarLaws.{file-law}
 use Rattle.proof_statements.specs.Left.{First, Preds, Lines, Nodes, At, Ended, Left, statement_of, joined, line_or_node}
 use Rattle.proof_statements.proofs.LeftLaws.{statement-law}
-use Rattle.proof_file.specs.Flaws.{headings, node_flaw, file_flaw}
+use Rattle.proof_file.specs.Flaws.{headings, node_flaw, first_node, file_flaw}
 use Rattle.proof_file.specs.Spans.{definition_span, variable_span, node_span}
 use Rattle.file_reader.specs.declared.front.Spot.{Spot}
 use Rattle.file_reader.specs.Steps.{Leads, tree_of, span_of}
-use Rattle.file_reader.specs.Wholes.{IsPart, IsTheEnd, IsAt, LeadsFront, front_size, front_defs, IsFront, IsBegun, LeadsNodes, IsAll, AreNodes, AreAllNodes}
+use Rattle.file_reader.specs.Wholes.{IsPart, IsTheEnd, IsAt, LeadsFront, front_size, front_defs, IsFront, IsBegun, LeadsNodes, IsAll, found_in, AreNodes, AreAllNodes, StandsIn, IsFlawIn}
+use Rattle.file_reader.specs.Outcomes.{item_fault}
+use Rattle.file_reader.proofs.Tokens.{slice-behind}
+use Rattle.cyc_lex.specs.declared.fault.ReadFault.{ReadFault}
+use Rattle.cyc_lex.specs.declared.fault.ReadFault.TheVariants as faults
+use Rattle.cyc_lex.specs.declared.place.Bad.{Bad}
+use Rattle.cyc_lex.specs.declared.place.Place.{Place}
+use Rattle.cyc_grammar.specs.Faults.{StandsAt}
+use Rattle.heap_reader.specs.declared.flaw.Item.{Item}
+use Rattle.heap_reader.specs.declared.flaw.Item.TheVariants.{Ill, Over}
+use Rattle.heap_reader.specs.declared.flaw.Flaw.{Flaw}
+use Rattle.heap_reader.specs.Told.{IsFlawTold}
+use Rattle.heap_reader.specs.Reading.{SpellsTree}
+use Rattle.heap_reader.proofs.WithinSpans.{flaw_within}
+use Rattle.proof_file.specs.Reading.{IsRead, proof_files}
+use Rattle.proof_file.proofs.SpanLaws.{file_words}
+use Rattle.proof_file.proofs.WithinSpans.{file_before}
 use Rattle.file_reader.specs.declared.front.Front.{Front}
 use Rattle.proof_syntax.specs.Trees.{node_of}
 use Rattle.proof_file.specs.declared.node.FileNode.{FileNode}
 use Rattle.proof_file.specs.Values.{node_value}
-use Rattle.file_reader.proofs.Beginning.{lead-none, lead-more, listed-append, file-flaws}
+use Rattle.file_reader.proofs.Beginning.{lead-none, lead-more, one-later, listed-append, file-flaws}
 use Rattle.file_reader.proofs.EndLaws.{later-tokens, text-tokens}
-use Rattle.file_reader.proofs.Fresh.{tokens-end, from-start}
+use Rattle.file_reader.proofs.Fresh.{tokens-end, tokens-few, from-start}
 use Rattle.file_reader.proofs.Sizes.{statement-span}
 use Rattle.file_reader.proofs.StepLaws.{map-append}
 
@@ -188,55 +203,85 @@ front-open text t utf8 k n size now is v e =
 
 -- ---- nodes
 
-listed-more : (flaw : ℕ → ℕ → Node → Found) (at : ℕ) (xs : List Node) (x : Node) → listed_flaw flaw node_span 0 at xs ≡ None → flaw (length xs) (at + total node_span xs) x ≡ None → listed_flaw flaw node_span 0 at (xs ++ x ∷ []) ≡ None
-listed-more flaw at xs x h e =
-    listed-append flaw node_span 0 at xs (x ∷ [])
-    ∙ none_later (listed_flaw flaw node_span 0 at xs) (listed_flaw flaw node_span (0 + length xs) (at + total node_span xs) (x ∷ [])) h
-    (none_later (flaw (0 + length xs) (at + total node_span xs) x) None (ap (λ n. flaw n (at + total node_span xs) x) zero ∙ e) refl)
+later-none : (o : Found) → or_later o None ≡ o
+later-none None = refl
+later-none (Some flaw) = refl
+
+found-more : (v : Version) (hs : List Heading) (ds : List Definition) (ls : List Line) (first : Found) (xs : List Node) (x : Node) → found_in v hs ds ls first (xs ++ x ∷ []) ≡ or_later (found_in v hs ds ls first xs) (node_flaw (most_spatial v) hs (length ls) (length xs) (front_size ds ls + total node_span xs) x)
+found-more v hs ds ls first xs x =
+    ap (or_later first) (listed-append flaw node_span 0 at xs (x ∷ []) ∙ (λ i. or_later (listed_flaw flaw node_span 0 at xs) (alone i)))
+    ∙ one-later first (listed_flaw flaw node_span 0 at xs) (flaw (length xs) (at + total node_span xs) x)
   where
+    at : ℕ
+    at = front_size ds ls
+
+    flaw : ℕ → ℕ → Node → Found
+    flaw = node_flaw (most_spatial v) hs (length ls)
+
     zero : 0 + length xs ≡ length xs
     zero = omega arith
 
+    alone : listed_flaw flaw node_span (0 + length xs) (at + total node_span xs) (x ∷ []) ≡ flaw (length xs) (at + total node_span xs) x
+    alone = later-none (flaw (0 + length xs) (at + total node_span xs) x) ∙ ap (λ n. flaw n (at + total node_span xs) x) zero
+
+later-parts : (a b : Found) → or_later a b ≡ None → (a ≡ None) × (b ≡ None)
+later-parts None b e = (refl, e)
+later-parts (Some f) b e = absurd cc
+
+-- where there is no flaw, there is none before the nodes
+pub nodes-none : (text : List ℕ) (v : Version) (hs : List Heading) (ds : List Definition) (ls : List Line) (first found : Found) (values : List FileNode) (s : Spot) → AreNodes text v hs ds ls first found values s → found ≡ None → first ≡ None
+nodes-none text v hs ds ls first found values s f none =
+    (later-parts first (listed_flaw (node_flaw (most_spatial v) hs (length ls)) node_span 0 (front_size ds ls) f.nodes) (sym f.flaw ∙ none)).0
+
 -- the first node
-pub nodes-begin : (text : List ℕ) (f : Front) (hs : List Heading) (x : FileNode) (values : List FileNode) → IsBegun text f → values ≡ x ∷ [] → x ≡ node_value hs (node_of f.first) → node_flaw (most_spatial f.version) hs (length f.lines.items) 0 f.before (node_of f.first) ≡ None
-    → AreNodes text f.version hs (front_defs f) f.lines.items values f.behind
-nodes-begin text f hs x values b is made none = record {
+pub nodes-begin : (text : List ℕ) (f : Front) (hs : List Heading) (first found : Found) (values : List FileNode) → IsBegun text f → found ≡ or_later first (node_flaw (most_spatial f.version) hs (length f.lines.items) 0 f.before (node_of f.first)) → (found ≡ None → values ≡ node_value hs (node_of f.first) ∷ [])
+    → AreNodes text f.version hs (front_defs f) f.lines.items first found values f.behind
+nodes-begin text f hs first found values b flaw made = record {
   nodes = node_of f.first ∷ [];
   tokens = b.tokens;
   at = b.at;
   leads = b.leads;
   size = omega (arith, b.size, b.span);
-  clean = none_later (node_flaw (most_spatial f.version) hs (length f.lines.items) 0 (front_size (front_defs f) f.lines.items) (node_of f.first)) None (ap (λ k. node_flaw (most_spatial f.version) hs (length f.lines.items) 0 k (node_of f.first)) (sym b.size) ∙ none) refl;
-  made = is ∙ ap (λ y. y ∷ []) made;
+  flaw = flaw ∙ ap (or_later first) (ap (λ k. node_flaw (most_spatial f.version) hs (length f.lines.items) 0 k (node_of f.first)) b.size ∙ sym (later-none (node_flaw (most_spatial f.version) hs (length f.lines.items) 0 (front_size (front_defs f) f.lines.items) (node_of f.first))));
+  made = made;
 }
 
-module _ (text : List ℕ) (v : Version) (hs : List Heading) (ds : List Definition) (ls : List Line) (values : List FileNode) (s : Spot) (f : AreNodes text v hs ds ls values s) (t : Statement) (k : IsStatement (reading s.place s.comment s.rest.now) t) (n : ℕ) (size : n ≡ length t.tokens.items) (now : List Token) (is : now ≡ t.tokens.items) where
+module _ (text : List ℕ) (v : Version) (hs : List Heading) (ds : List Definition) (ls : List Line) (first found : Found) (values : List FileNode) (s : Spot) (f : AreNodes text v hs ds ls first found values s) (t : Statement) (k : IsStatement (reading s.place s.comment s.rest.now) t) (n : ℕ) (size : n ≡ length t.tokens.items) (now : List Token) (is : now ≡ t.tokens.items) where
   abbrev us : List Word
   us = map word_of (map placed t.tokens.items)
 
-  pub nodes-number : length values ≡ length f.nodes
-  nodes-number = ap length f.made ∙ length-map f.nodes (node_value hs)
+  nodes-number : found ≡ None → length values ≡ length f.nodes
+  nodes-number none = ap length (f.made none) ∙ length-map f.nodes (node_value hs)
 
-  pub nodes-more : (x : Node) (y : FileNode) (all : List FileNode) → (statement_of Nodes).read (words now) ≡ Ok (inl x, []) → all ≡ values ++ y ∷ [] → y ≡ node_value hs x → node_flaw (most_spatial v) hs (length ls) (length values) s.tokens x ≡ None
-      → AreNodes text v hs ds ls all (on text s f.tokens f.at t k n)
-  nodes-more x y all e more made none =
+  here : (x : Node) → or_later found (node_flaw (most_spatial v) hs (length ls) (length values) s.tokens x) ≡ or_later found (node_flaw (most_spatial v) hs (length ls) (length f.nodes) (front_size ds ls + total node_span f.nodes) x)
+  here x = by found refl
+    where
+      by : (o : Found) → found ≡ o → or_later o (node_flaw (most_spatial v) hs (length ls) (length values) s.tokens x) ≡ or_later o (node_flaw (most_spatial v) hs (length ls) (length f.nodes) (front_size ds ls + total node_span f.nodes) x)
+      by (Some flaw) is = refl
+      by None is = λ i. node_flaw (most_spatial v) hs (length ls) (nodes-number is i) (f.size i) x
+
+  pub nodes-more : (x : Node) (next : Found) (all : List FileNode) → (statement_of Nodes).read (words now) ≡ Ok (inl x, []) → next ≡ or_later found (node_flaw (most_spatial v) hs (length ls) (length values) s.tokens x) → (next ≡ None → all ≡ values ++ node_value hs x ∷ [])
+      → AreNodes text v hs ds ls first next all (on text s f.tokens f.at t k n)
+  nodes-more x next all e flaw more =
       let part = part-words (λ (ws : List Word). (statement_of Nodes).read ws ≡ Ok (inl x, [])) now t.tokens.items is e in
-      let here : node_flaw (most_spatial v) hs (length ls) (length f.nodes) (front_size ds ls + total node_span f.nodes) x ≡ None = (λ i. node_flaw (most_spatial v) hs (length ls) (sym nodes-number i) (sym f.size i) x) ∙ none in
       record {
         nodes = f.nodes ++ x ∷ [];
         tokens = f.tokens ++ map placed t.tokens.items;
         at = at-more text s f.tokens f.at t k n size;
         leads = subst (λ (ws : List Word). LeadsNodes v ds ls (f.nodes ++ x ∷ []) ws) (sym (all-words text s f.tokens f.at t k)) (later-node v ds ls f.nodes (map word_of f.tokens) us x f.leads part);
         size = omega (arith, f.size, size-of text s f.tokens f.at t k n (node_span x) size (statement-span Nodes us (inl x) part), total-more node_span f.nodes x);
-        clean = listed-more (node_flaw (most_spatial v) hs (length ls)) (front_size ds ls) f.nodes x f.clean here;
-        made = more ∙ (λ i. f.made i ++ made i ∷ []) ∙ sym (map_push (node_value hs) f.nodes x);
+        flaw =
+            flaw ∙ here x ∙ ap (λ (o : Found). or_later o (node_flaw (most_spatial v) hs (length ls) (length f.nodes) (front_size ds ls + total node_span f.nodes) x)) f.flaw ∙ sym (found-more v hs ds ls first f.nodes x);
+        made = λ none.
+            let old = (later-parts found (node_flaw (most_spatial v) hs (length ls) (length values) s.tokens x) (sym flaw ∙ none)).0 in
+            more none ∙ ap (λ (xs : List FileNode). xs ++ node_value hs x ∷ []) (f.made old) ∙ sym (map_push (node_value hs) f.nodes x);
       }
 
   pub nodes-span : (x : Node) → (statement_of Nodes).read (words now) ≡ Ok (inl x, []) → s.tokens + node_span x ≤ length text
   nodes-span x e =
       omega (arith, at-few text s f.tokens f.at t k, size, size-of text s f.tokens f.at t k n (node_span x) size (statement-span Nodes us (inl x) (part-words (λ (ws : List Word). (statement_of Nodes).read ws ≡ Ok (inl x, [])) now t.tokens.items is e)))
 
-  pub nodes-end : (statement_of Nodes).read (words now) ≡ Ok (inr tt, []) → IsAll text (f.tokens ++ map placed t.tokens.items) → AreAllNodes text v hs ds ls values
+  pub nodes-end : (statement_of Nodes).read (words now) ≡ Ok (inr tt, []) → IsAll text (f.tokens ++ map placed t.tokens.items) → AreAllNodes text v hs ds ls first found values
   nodes-end e all =
       let part = part-words (λ (ws : List Word). (statement_of Nodes).read ws ≡ Ok (inr tt, [])) now t.tokens.items is e in
       record {
@@ -244,7 +289,7 @@ module _ (text : List ℕ) (v : Version) (hs : List Heading) (ds : List Definiti
         tokens = f.tokens ++ map placed t.tokens.items;
         at = all;
         leads = subst (λ (ws : List Word). Leads ws Ended (λ u. tree_of v ds ls f.nodes)) (sym (all-words text s f.tokens f.at t k)) (later-end v ds ls f.nodes (map word_of f.tokens) us f.leads part);
-        clean = f.clean;
+        flaw = f.flaw;
         made = f.made;
       }
 
@@ -269,31 +314,72 @@ rest-words text ts items e =
 
 -- ---- the whole
 
--- the tree of a text that was read to its end without a flaw
-pub record IsTree (text : List ℕ) (t : File) : Type 0 where
+-- the tree of a text that was read to its end, and its first flaw
+pub record IsTree (text : List ℕ) (t : File) (found : Found) : Type 0 where
   pub all : List Placed
   pub tokens : tokens_of text ≡ Ok all
-  pub fits : file.fits t
-  pub spelled : map word_of all ≡ file.words t
-  pub clean : file_flaw t ≡ None
+  pub spelled : SpellsTree proof_files all t
+  pub flaw : file_flaw t ≡ found
 
-pub whole-tree : (text : List ℕ) (v : Version) (ds : List Definition) (ls : List Line) (values : List FileNode) (f : AreAllNodes text v (headings ds) ds ls values) → file_flaw (tree_of v ds ls []) ≡ None → IsTree text (tree_of v ds ls f.nodes)
-whole-tree text v ds ls values f none =
+pub whole-tree : (text : List ℕ) (v : Version) (ds : List Definition) (ls : List Line) (found : Found) (values : List FileNode) (f : AreAllNodes text v (headings ds) ds ls (file_flaw (tree_of v ds ls [])) found values) → IsTree text (tree_of v ds ls f.nodes) found
+whole-tree text v ds ls found values f =
     let t = tree_of v ds ls f.nodes in
     let us = f.at.0 in
     let read : read_whole file (map word_of (f.tokens ++ us)) ≡ Ok t = ap (read_whole file) (map-append word_of f.tokens us) ∙ all-read (map word_of f.tokens) (map word_of us) t f.leads f.at.2 in
-    let spelled = whole_ok file file-law (map word_of (f.tokens ++ us)) t read in
     record {
       all = f.tokens ++ us;
       tokens = f.at.1;
-      fits = spelled.0;
-      spelled = spelled.1;
-      clean = file-flaws v ds ls [] f.nodes ∙ none_later (file_flaw (tree_of v ds ls [])) (listed_flaw (node_flaw (most_spatial v) (headings ds) (length ls)) node_span 0 (front_size ds ls + 0) f.nodes) none (ap (λ k. listed_flaw (node_flaw (most_spatial v) (headings ds) (length ls)) node_span 0 k f.nodes) same ∙ f.clean);
+      spelled = whole_ok file file-law (map word_of (f.tokens ++ us)) t read;
+      flaw = file-flaws v ds ls [] f.nodes ∙ ap (λ k. or_later (file_flaw (tree_of v ds ls [])) (listed_flaw (node_flaw (most_spatial v) (headings ds) (length ls)) node_span 0 k f.nodes)) same ∙ sym f.flaw;
     }
   where
     same : front_size ds ls + 0 ≡ front_size ds ls
     same = omega arith
 
-pub none-of : {X : Type 0} (o : Option X) → is_some o ≡ false → o ≡ None
-none-of None e = refl
-none-of (Some x) e = absurd cc
+-- its flaw is at one of its tokens
+pub tree-few : (text : List ℕ) (t : File) (flaw : Flaw) (h : IsTree text t (Some flaw)) → flaw.token < length text + 1
+tree-few text t flaw h =
+    let within = flaw_within (file_flaw t) (first_node t + total node_span t.nodes) flaw (file_before t) h.flaw in
+    omega (arith, within, file_words t h.spelled.0, ap length h.spelled.1, length-map h.all word_of, tokens-few text h.all h.tokens)
+
+pub tree-flawed : (text : List ℕ) (t : File) (flaw : Flaw) (fault : ReadFault) (h : IsTree text t (Some flaw)) → IsFlawIn text flaw fault → IsRead text (Err fault)
+tree-flawed text t flaw fault h told = by fault (told h.all h.tokens)
+  where
+    by : (x : ReadFault) → IsFlawTold h.all flaw x → IsRead text (Err x)
+    by (faults.IllFormed ill n l c) k = (h.all, h.tokens, (t, h.spelled, h.flaw ∙ ap (λ y. Some y) k.0, k.1))
+    by (faults.Limit what n l c) k = (h.all, h.tokens, (t, h.spelled, h.flaw ∙ ap (λ y. Some y) k.0, k.1))
+    by (faults.Syntax n l c) k = absurd k
+    by (faults.Lex lexical) k = absurd k
+    by faults.OutOfMemory k = absurd k
+
+-- ---- where a flaw stands
+
+pub stands-there : (text rest : List ℕ) (q : Place) (d : Bool) (ts : List Placed) (t : Placed) → IsUtf8 text → IsUtf8 rest → HasTaken (reading start false text) (ts ++ t ∷ []) (reading q d rest) → StandsIn text (length ts) t.line t.column
+stands-there text rest q d ts t utf8 left h all e = by (tokens_from q d (rest ++ [])) refl
+  where
+    from : Ok all ≡ with_tokens (ts ++ t ∷ []) (tokens_from q d (rest ++ []))
+    from = sym e ∙ sym (from-start text) ∙ ap (tokens_from start false) (sym (append-nil text)) ∙ taken-law start q false d text rest (ts ++ t ∷ []) utf8 left h []
+
+    there : (us : List Placed) → all ≡ (ts ++ t ∷ []) ++ us → StandsAt all (length ts) t.line t.column
+    there us is =
+        (t, ap (λ (xs : List Placed). slice_get xs (length ts)) (is ∙ append_assoc ts (t ∷ []) us) ∙ ap (slice_get (ts ++ t ∷ us)) zero ∙ slice-behind ts (t ∷ us) 0, refl, refl)
+      where
+        zero : length ts ≡ length ts + 0
+        zero = omega arith
+
+    by : (r : Result (List Placed) (Bad × Place)) → tokens_from q d (rest ++ []) ≡ r → StandsAt all (length ts) t.line t.column
+    by (Err bad) is = absurd (differs (from ∙ ap (with_tokens (ts ++ t ∷ [])) is ∙ with_tokens-err (ts ++ t ∷ []) bad))
+      where
+        differs : Ok all ≡ Err bad → ⊥
+        differs h = cc
+    by (Ok us) is = there us (same (from ∙ ap (with_tokens (ts ++ t ∷ [])) is ∙ with_tokens-ok (ts ++ t ∷ []) us))
+      where
+        same : Ok {E = Bad × Place} all ≡ Ok ((ts ++ t ∷ []) ++ us) → all ≡ (ts ++ t ∷ []) ++ us
+        same h = cc
+
+pub told-there : (text : List ℕ) (flaw : Flaw) (line column : ℕ) (fault : ReadFault) → StandsIn text flaw.token line column → fault ≡ item_fault flaw.item flaw.token line column → IsFlawIn text flaw fault
+told-there text flaw line column fault stands is all e = subst (IsFlawTold all flaw) (sym is) (by flaw.item refl)
+  where
+    by : (item : Item) → flaw.item ≡ item → IsFlawTold all flaw (item_fault item flaw.token line column)
+    by (Ill ill) same = (ap (λ (i : Item). record { item = i; token = flaw.token }) same, stands all e)
+    by (Over what) same = (ap (λ (i : Item). record { item = i; token = flaw.token }) same, stands all e)

@@ -23,7 +23,7 @@ use Rattle.file_reader.specs.Steps.{Leads}
 use Rattle.file_reader.specs.Pieces.{KeepsLaw, parts, bytes_fed}
 use Rattle.file_reader.specs.Scans.{reached_of, IsDead}
 
--- the place behind so many bytes, where no line or column matters
+-- the place after so many bytes, where no line or column matters
 abbrev pub behind_bytes : ℕ → Place
 behind_bytes n = record { offset = n; line = 1; column = 1 }
 
@@ -42,7 +42,7 @@ IsSmall p = (p.line ≤ p.offset + 1) × (p.column ≤ p.offset + 1)
 abbrev pub Led : List Placed → Alive → Type 0
 Led ts a = (f : Left (reached_of a.awaited) → File) × Leads (map word_of ts) (reached_of a.awaited) f
 
--- the tokens of the statements so far lead to the part that is reached; no byte behind them is lost, whatever comes
+-- the tokens of the statements so far lead to the part that is reached; no byte after them is lost, whatever comes
 pub record IsAlive (a : Alive) : Type 0 where
   pub taken : List Placed
   pub law : (more : List ℕ) → tokens_from start false (a.all.items ++ more) ≡ with_tokens taken (tokens_from a.place a.comment (a.waiting.items ++ more))

@@ -50,7 +50,7 @@ IsOpen (Dead fault) = Unit {0}
 IsOpen (Unlexed fault) = ⊥
 IsOpen Lost = ⊥
 
--- the tokens stand at the front of the bytes of the first reader, whatever comes; the second has the bytes behind them
+-- the tokens stand at the front of the bytes of the first reader, whatever comes; the second has the bytes after them
 abbrev pub Comes : Parts → List Placed → Parts → Type 0
 Comes old ts new =
     (more : List ℕ) → tokens_from old.place old.comment (old.pending ++ more) ≡ with_tokens ts (tokens_from new.place new.comment (new.pending ++ more))

@@ -39,7 +39,7 @@ lead p x = Ok (next p x.0, x.1)
 abbrev pub nothing_behind : Unit {0} × List Word → Reading Reached
 nothing_behind x = Err 0
 
--- where the statement that is read of the words leads; behind the last one none is read
+-- where the statement that is read of the words leads; after the last one none is read
 abbrev pub next_read : Reached → List Word → Reading Reached
 next_read (At p) ws = (statement_of p).read ws >>= lead p
 next_read Ended ws = read_class the_end ws >>= nothing_behind

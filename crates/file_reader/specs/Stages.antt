@@ -89,7 +89,7 @@ pub record Parts : Type 0 where
 abbrev pub fresh : Parts
 fresh = record { stage = Head []; place = start; comment = false; pending = [] }
 
--- ---- what the text comes to, with these tokens, or this bad place, behind the stage
+-- ---- what the text comes to, with these tokens, or this bad place, after the stage
 
 abbrev pub ahead : Stage → List Placed → Outcome
 ahead (Head front) ts = whole_outcome (front ++ ts)

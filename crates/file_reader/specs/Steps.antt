@@ -15,7 +15,7 @@ use Rattle.proof_file.specs.Values.{definition_value, program_value, node_value}
 use Rattle.file_reader.specs.Outcomes.{or_else, told_flaw}
 use Rattle.file_reader.specs.Stages.{Begun, Stage, ahead}
 
--- the stage, with these tokens taken, is the other one: what the text comes to is the same, whatever tokens come behind
+-- the stage, with these tokens taken, is the other one: what the text comes to is the same, whatever tokens come after
 abbrev pub Takes : Stage → List Placed → Stage → Type 0
 Takes old ts new = (us : List Placed) → ahead old (ts ++ us) ≡ ahead new us
 
@@ -32,7 +32,7 @@ span_of Among (inr u) = 2
 
 -- ---- before the first node
 
--- words that begin a file, and what is made of what is left behind them
+-- words that begin a file, and what is made of what is left after them
 abbrev pub Leads : List Word → (r : Reached) → (Left r → File) → Type 0
 Leads ws r f = (more : List Word) → file.read (ws ++ more) ≡ joined f ((left_of r).read more)
 

@@ -1,32 +1,39 @@
 -- A text that is read through, statement by statement.
-use Rattle.std.specs.Prelude.{◌≡◌, ℕ, ◌+◌, ◌≤◌, Bool, true, false, List, [], ◌∷◌, ◌++◌, length, map, None, Ok, ◌⊎◌}
+use Rattle.std.specs.Prelude.{◌≡◌, ℕ, ◌+◌, ◌≤◌, Bool, true, false, List, [], ◌∷◌, ◌++◌, length, map, None, Ok, Err, ◌⊎◌}
 use Rattle.std.proofs.Common.{inl, inr}
 use Rattle.std.specs.Str.{IsUtf8}
+use Rattle.cyc_lex.specs.declared.fault.ReadFault.{ReadFault}
 use Rattle.cyc_lex.specs.Lexing.{HasRoom, start, tokens_of}
 use Rattle.cyc_lex.specs.Placed.{Placed}
 use Rattle.cyc_lex.specs.Word.{Word, word_of}
 use Rattle.cyc_grammar.specs.Syntax.{read_class}
 use Rattle.cyc_grammar.specs.Classes.{the_end}
+use Rattle.cyc_grammar.specs.Faults.{StandsAt}
 use Rattle.piecewise_lex.specs.Taking.{reading, HasTaken}
 use Rattle.heap_syntax.specs.declared.version.Version.{Version}
 use Rattle.heap_syntax.specs.Versions.{most_spatial}
 use Rattle.heap_reader.specs.Trees.{Heading}
 use Rattle.heap_reader.specs.Spans.{total, line_span}
-use Rattle.heap_reader.specs.Flaws.{listed_flaw}
+use Rattle.heap_reader.specs.Flaws.{Found, or_later, listed_flaw}
+use Rattle.heap_reader.specs.Told.{IsFlawTold}
+use Rattle.heap_reader.specs.declared.flaw.Flaw.{Flaw}
 use Rattle.proof_syntax.specs.Trees.{Definition, Line, Node, definition_of, node_of}
 use Rattle.proof_syntax.specs.Grammar.{node}
 use Rattle.proof_statements.specs.Left.{Preds, Lines, Nodes, At, Ended, statement_of}
 use Rattle.proof_file.specs.declared.node.FileNode.{FileNode}
 use Rattle.proof_file.specs.Flaws.{node_flaw}
+use Rattle.proof_file.specs.Reading.{IsRead}
 use Rattle.proof_file.specs.Spans.{definition_span, variable_span, node_span}
 use Rattle.proof_file.specs.Values.{node_value}
 use Rattle.file_reader.specs.declared.front.Front.{Front}
 use Rattle.file_reader.specs.declared.front.Spot.{Spot}
+use Rattle.file_reader.specs.declared.whole.Whole.{Whole}
+use Rattle.file_reader.specs.declared.whole.Whole.TheVariants as wholes
 use Rattle.file_reader.specs.Steps.{Leads, tree_of}
 
 -- ---- one statement
 
--- what is read where a definition or what follows one is to come; behind lines no definition is
+-- what is read where a definition or what follows one is to come; after lines no definition is
 abbrev pub IsPart : Bool → Version → List Word → List Word → Definition ⊎ (Line ⊎ Node) → Type 0
 IsPart false v ws rest s = (statement_of (Preds v)).read ws ≡ Ok (s, rest)
 IsPart true v ws rest (inl d) = ⊥
@@ -75,25 +82,43 @@ pub record IsBegun (text : List ℕ) (f : Front) : Type 0 where
   pub span : f.behind.tokens ≡ f.before + node_span (node_of f.first)
   pub fits : node.fits (node_of f.first)
 
--- nodes without a flaw were read, and these are their values
-pub record AreNodes (text : List ℕ) (v : Version) (hs : List Heading) (ds : List Definition) (ls : List Line) (values : List FileNode) (s : Spot) : Type 0 where
+-- the first flaw of a text, whose first before its nodes is this
+abbrev pub found_in : Version → List Heading → List Definition → List Line → Found → List Node → Found
+found_in v hs ds ls first xs = or_later first (listed_flaw (node_flaw (most_spatial v) hs (length ls)) node_span 0 (front_size ds ls) xs)
+
+-- nodes were read, and this is the first flaw so far, or these are their values
+pub record AreNodes (text : List ℕ) (v : Version) (hs : List Heading) (ds : List Definition) (ls : List Line) (first found : Found) (values : List FileNode) (s : Spot) : Type 0 where
   pub nodes : List Node
   pub tokens : List Placed
   pub at : IsAt text tokens s
   pub leads : LeadsNodes v ds ls nodes (map word_of tokens)
   pub size : s.tokens ≡ front_size ds ls + total node_span nodes
-  pub clean : listed_flaw (node_flaw (most_spatial v) hs (length ls)) node_span 0 (front_size ds ls) nodes ≡ None
-  pub made : values ≡ map (node_value hs) nodes
+  pub flaw : found ≡ found_in v hs ds ls first nodes
+  pub made : found ≡ None → values ≡ map (node_value hs) nodes
 
 -- these tokens are all before the end token
 abbrev pub IsAll : List ℕ → List Placed → Type 0
 IsAll text ts = (us : List Placed) × (tokens_of text ≡ Ok (ts ++ us)) × IsTheEnd (map word_of us)
 
 -- all was read, to the end of the text
-pub record AreAllNodes (text : List ℕ) (v : Version) (hs : List Heading) (ds : List Definition) (ls : List Line) (values : List FileNode) : Type 0 where
+pub record AreAllNodes (text : List ℕ) (v : Version) (hs : List Heading) (ds : List Definition) (ls : List Line) (first found : Found) (values : List FileNode) : Type 0 where
   pub nodes : List Node
   pub tokens : List Placed
   pub at : IsAll text tokens
   pub leads : Leads (map word_of tokens) Ended (λ u. tree_of v ds ls nodes)
-  pub clean : listed_flaw (node_flaw (most_spatial v) hs (length ls)) node_span 0 (front_size ds ls) nodes ≡ None
-  pub made : values ≡ map (node_value hs) nodes
+  pub flaw : found ≡ found_in v hs ds ls first nodes
+  pub made : found ≡ None → values ≡ map (node_value hs) nodes
+
+-- ---- what the whole comes to
+
+-- the token with this number stands there, where the text has tokens
+abbrev pub StandsIn : List ℕ → ℕ → ℕ → ℕ → Type 0
+StandsIn text number line column = (all : List Placed) → tokens_of text ≡ Ok all → StandsAt all number line column
+
+-- the fault tells the flaw, and where its token stands, where the text has tokens
+abbrev pub IsFlawIn : List ℕ → Flaw → ReadFault → Type 0
+IsFlawIn text flaw fault = (all : List Placed) → tokens_of text ≡ Ok all → IsFlawTold all flaw fault
+
+abbrev pub IsWhole : List ℕ → Whole → Type 0
+IsWhole bytes (wholes.File f) = IsRead bytes (Ok f)
+IsWhole bytes (wholes.Flawed fault) = IsRead bytes (Err fault)

@@ -14,7 +14,7 @@ use crate::held::{Alive, Faulty, Held};
 use crate::passing::pass_tokens;
 use crate::scan::dead_token;
 use crate::step::{Step, take_step};
-use crate::whole::read_whole;
+use crate::whole::{Whole, read_whole};
 use cyc_lex::{OutOfMemory, ReadFault, Stop, Token, fault_at, lex_from};
 use piecewise_lex::{first_bad, valid_front};
 use proof_file::{ProofFile, read_file};
@@ -93,7 +93,7 @@ fn end_fault(alloc: Global, alive: &Alive) -> Option<ReadFault>
     }
 }
 
-/// A text without a flaw is read node by node; only the flaw of another is looked for in the whole tree.
+/// A text is gone through once more, node by node, for what it says or its first flaw.
 fn finish_alive(alloc: Global, alive: &Alive) -> Result<ProofFile, ReadFault>
     requires alive { IsAlive alive.now }
     requires room { length alive.now.all.items < 2 ^ 32 - 1 }
@@ -103,7 +103,8 @@ fn finish_alive(alloc: Global, alive: &Alive) -> Result<ProofFile, ReadFault>
         return Err(fault);
     }
     match read_whole(alloc, &alive.all) {
-        Ok(Some(file)) => Ok(file),
+        Ok(Some(Whole::File(file))) => Ok(file),
+        Ok(Some(Whole::Flawed(fault))) => Err(fault),
         Ok(None) => read_file(alloc, &alive.all),
         Err(OutOfMemory) => Err(ReadFault::OutOfMemory),
     }

@@ -4,7 +4,7 @@ use crate::awaited::Awaited;
 use cyc_lex::{LexFault, Place, ReadFault};
 
 /// A text without a fault so far: all its bytes, since a use may name a predicate that is defined later; which statement may
-/// come next, how many tokens the statements so far have, and the bytes behind these, with the place where they begin and
+/// come next, how many tokens the statements so far have, and the bytes after these, with the place where they begin and
 /// whether a comment goes on there. They are looked at again once so many wait.
 #[derive(Drop)]
 pub struct Alive {
@@ -28,7 +28,7 @@ pub struct Faulty {
     pub enough: usize,
 }
 
-/// The text as a reader holds it; behind a lexical fault, and where memory ran out, only how many bytes were fed.
+/// The text as a reader holds it; after a lexical fault, and where memory ran out, only how many bytes were fed.
 #[derive(Drop)]
 pub enum Held {
     Alive(Alive),

@@ -47,7 +47,7 @@ fn read_part<'a>(
     pred_or_later(alloc, version, cursor)
 }
 
-/// A definition, a line or a node, or behind lines one of the last two; none where the tokens are none.
+/// A definition, a line or a node, or after lines one of the last two; none where the tokens are none.
 pub fn front_part<'a>(
     alloc: Global,
     version: Version,

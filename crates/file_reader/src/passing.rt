@@ -7,7 +7,7 @@ ghost use Rattle.file_reader.specs.Passing.{Passes};
 use cyc_lex::{Place, Stop};
 use piecewise_lex::take_token;
 
-/// The place behind tokens that were passed, whether a comment goes on there, and the text that is left, which waits.
+/// The place after tokens that were passed, whether a comment goes on there, and the text that is left, which waits.
 #[derive(Clone, Copy)]
 pub struct Passed<'a> {
     pub place: Place,

@@ -20,7 +20,7 @@ pub struct DeadToken {
 }
 
 /// What was read of the statements of a text: which one may come next, or the first dead token; how many tokens were taken,
-/// the place behind them, whether a comment goes on there, and the text that is left.
+/// the place after them, whether a comment goes on there, and the text that is left.
 #[derive(Clone, Copy)]
 pub struct Scan<'a> {
     pub awaited: Awaited,

@@ -65,7 +65,7 @@ fn after_node(alloc: Global, cursor: &mut Cursor<'_, '_>) -> Result<Awaited, Ref
     }
 }
 
-/// No statement comes behind the last one.
+/// No statement comes after the last one.
 fn after_end(cursor: &mut Cursor<'_, '_>) -> Result<Awaited, Refusal>
     ensures { Gives (λ n. (reached_of n, cursor.new)) result (next_read (reached_of Awaited.Ended) cursor.old) }
 {

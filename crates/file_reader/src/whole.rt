@@ -1,22 +1,27 @@
 //! A text that is read through as a proof file, and of whose nodes only the values are held.
 
-ghost use Rattle.std.specs.Prelude.{◌≡◌, ◌-◌, ◌≤◌, ◌<◌, ◌^◌, List, Ok, length, true, IfOk, IfSome};
+ghost use Rattle.std.specs.Prelude.{◌≡◌, ◌-◌, ◌≤◌, ◌<◌, ◌^◌, List, None, length, true, IfOk, IfSome};
 ghost use Rattle.cyc_lex.specs.Placed.{Placed};
-ghost use Rattle.proof_file.specs.Flaws.{headings};
-ghost use Rattle.proof_file.specs.Reading.{IsRead};
-ghost use Rattle.file_reader.specs.Wholes.{AreAllNodes, IsAll, IsAt, IsBegun, front_defs};
+ghost use Rattle.file_reader.specs.Wholes.{AreAllNodes, IsAll, IsAt, IsBegun, IsWhole, front_defs};
 
+use crate::flaw_place::fault_of_flaw;
+use crate::found::{Found, take_node};
 use crate::front::{Front, Spot, read_front};
 use crate::part::{is_the_end, later_part};
-use cyc_lex::{OutOfMemory, Stop, lex_from};
-use heap_reader::Heads;
+use cyc_lex::{OutOfMemory, ReadFault, Stop, lex_from};
+use heap_reader::{Flaw, Heads};
 use piecewise_lex::{take_statement, valid_front};
 use pred_reader::heads;
-use proof_file::{
-    FileNode, NodeFault, ProofFile, file_of_values, front_flaw, front_values, node_of_tree,
-};
+use proof_file::{ProofFile, file_of_values, front_flaw, front_values};
 use proof_statements::NodeOrEnd;
 use std::alloc::Global;
+
+/// What a text that the grammar has comes to: the file that it says, or its first flaw.
+#[derive(Drop)]
+pub enum Whole {
+    File(ProofFile),
+    Flawed(ReadFault),
+}
 
 /// Whether nothing but the end of the text is left.
 fn ends(alloc: Global, text: &str, spot: &Spot<'_>) -> Result<bool, Stop>
@@ -27,33 +32,34 @@ fn ends(alloc: Global, text: &str, spot: &Spot<'_>) -> Result<bool, Stop>
     Ok(is_the_end(&tokens))
 }
 
-/// The values of the nodes, the first of which was read; none where the text has a fault behind it, or a node has a flaw.
+/// What is found of the nodes, the first of which was read, where this is the first flaw before them; none where the text has a
+/// fault after it.
 fn read_nodes(
     alloc: Global,
     text: &str,
     front: &Front<'_>,
     heads: &Heads<'_>,
-) -> Result<Option<Vec<FileNode>>, Stop>
+    flaw: Option<Flaw>,
+) -> Result<Option<Found>, Stop>
     requires room { length text.now < 2 ^ 32 - 1 }
-    requires few { length heads.now ≤ 4096 }
+    requires few { flaw ≡ None → length heads.now ≤ 4096 }
     requires begun { IsBegun text.now front.now }
-    ensures { IfOk result (λ o. IfSome o (λ v. AreAllNodes text.now front.now.version heads.now (front_defs front.now) front.now.lines.items v.items)) }
+    ensures { IfOk result (λ o. IfSome o (λ f. AreAllNodes text.now front.now.version heads.now (front_defs front.now) front.now.lines.items flaw f.flaw f.nodes.items)) }
 {
     let count = front.lines.len();
-    let mut nodes = Vec::new(alloc);
-    match node_of_tree(
+    let none = Found {
+        flaw,
+        nodes: Vec::new(alloc),
+    };
+    let mut found = take_node(
         alloc,
         heads,
         front.version,
         count,
-        0,
         front.before,
         &front.first,
-    ) {
-        Ok(node) => nodes.push(node)?,
-        Err(NodeFault::Flaw(_)) => return Ok(None),
-        Err(NodeFault::OutOfMemory) => return Err(Stop::OutOfMemory),
-    }
+        none,
+    )?;
     let mut spot = front.behind;
     'nodes: loop {
         let statement = take_statement(alloc, spot.place, spot.comment, spot.rest)?;
@@ -71,23 +77,11 @@ fn read_nodes(
             None => return Ok(None),
             Some(part) => match part {
                 NodeOrEnd::Node(tree) => {
-                    match node_of_tree(
-                        alloc,
-                        heads,
-                        front.version,
-                        count,
-                        nodes.len(),
-                        before,
-                        &tree,
-                    ) {
-                        Ok(node) => nodes.push(node)?,
-                        Err(NodeFault::Flaw(_)) => return Ok(None),
-                        Err(NodeFault::OutOfMemory) => return Err(Stop::OutOfMemory),
-                    }
+                    found = take_node(alloc, heads, front.version, count, before, &tree, found)?;
                 }
                 NodeOrEnd::End => {
                     if ends(alloc, text, &spot)? {
-                        return Ok(Some(nodes));
+                        return Ok(Some(found));
                     }
                     return Ok(None);
                 }
@@ -96,15 +90,23 @@ fn read_nodes(
     }
 }
 
-/// The file of a text whose front was read; none where it has a fault.
-fn file_of_front(alloc: Global, text: &str, front: &Front<'_>) -> Result<Option<ProofFile>, Stop>
+/// What a text comes to whose front was read; none where it has another fault than a flaw.
+fn whole_of_front(alloc: Global, text: &str, front: &Front<'_>) -> Result<Option<Whole>, Stop>
     requires room { length text.now < 2 ^ 32 - 1 }
     requires begun { IsBegun text.now front.now }
-    ensures { IfOk result (λ o. IfSome o (λ f. IsRead text.now (Ok f))) }
+    ensures { IfOk result (λ o. IfSome o (IsWhole text.now)) }
 {
     let heads = heads(alloc, &front.definitions)?;
-    if front_flaw(&heads, front.version, &front.definitions, &front.lines).is_some() {
-        return Ok(None);
+    let flaw = front_flaw(&heads, front.version, &front.definitions, &front.lines);
+    let found = match read_nodes(alloc, text, front, &heads, flaw)? {
+        Some(found) => found,
+        None => return Ok(None),
+    };
+    if let Some(flaw) = found.flaw {
+        return match fault_of_flaw(text, flaw)? {
+            Some(fault) => Ok(Some(Whole::Flawed(fault))),
+            None => Ok(None),
+        };
     }
     let values = front_values(
         alloc,
@@ -113,33 +115,35 @@ fn file_of_front(alloc: Global, text: &str, front: &Front<'_>) -> Result<Option<
         &front.definitions,
         &front.lines,
     )?;
-    match read_nodes(alloc, text, front, &heads)? {
-        Some(nodes) => Ok(Some(file_of_values(front.version, values.defs, values.program, nodes))),
-        None => Ok(None),
-    }
+    Ok(Some(Whole::File(file_of_values(
+        front.version,
+        values.defs,
+        values.program,
+        found.nodes,
+    ))))
 }
 
-fn file_of_text(alloc: Global, text: &str) -> Result<Option<ProofFile>, Stop>
+fn whole_of_text(alloc: Global, text: &str) -> Result<Option<Whole>, Stop>
     requires { length text.now < 2 ^ 32 - 1 }
-    ensures { IfOk result (λ o. IfSome o (λ f. IsRead text.now (Ok f))) }
+    ensures { IfOk result (λ o. IfSome o (IsWhole text.now)) }
 {
     match read_front(alloc, text)? {
-        Some(front) => file_of_front(alloc, text, &front),
+        Some(front) => whole_of_front(alloc, text, &front),
         None => Ok(None),
     }
 }
 
-/// The file that the bytes spell; none where they have a fault.
-pub fn read_whole(alloc: Global, bytes: &[u8]) -> Result<Option<ProofFile>, OutOfMemory>
+/// The file that the bytes say, or their first flaw; none where they have another fault.
+pub fn read_whole(alloc: Global, bytes: &[u8]) -> Result<Option<Whole>, OutOfMemory>
     requires { length bytes.now < 2 ^ 32 - 1 }
-    ensures { IfOk result (λ o. IfSome o (λ f. IsRead bytes.now (Ok f))) }
+    ensures { IfOk result (λ o. IfSome o (IsWhole bytes.now)) }
 {
     let valid = valid_front(bytes);
     if !valid.tail.is_empty() {
         return Ok(None);
     }
-    match file_of_text(alloc, valid.text) {
-        Ok(file) => Ok(file),
+    match whole_of_text(alloc, valid.text) {
+        Ok(whole) => Ok(whole),
         Err(Stop::OutOfMemory) => Err(OutOfMemory),
         Err(Stop::At(_, _)) => Ok(None),
     }

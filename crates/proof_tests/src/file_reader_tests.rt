@@ -66,6 +66,44 @@ static ROWS: &[(&[u8], &[u8])] = &[
         b"cyclist proof 1;\npred a(0) { true : emp };\nnode true : a(nil) |- true : emp by Done;\nend;\n",
         b"ill-formed arity token 18 line 3 column 13\n",
     ),
+    // A flaw, and then a fault that goes before it.
+    (
+        b"cyclist proof 1;\npred a(0) { true : b() };\nnode true : emp |- true : emp by Done;\nend\n",
+        b"unreadable syntax token 29 line 5 column 1\n",
+    ),
+    (
+        b"cyclist proof 1;\npred a(0) { true : b() };\nnode true : emp |- true : emp by Done;\nend;\n123456789012",
+        b"unreadable number offset 87 line 5 column 1\n",
+    ),
+    (
+        b"cyclist proof 1;\nnode true : a() |- true : emp by Done;\nnode true : emp |- true emp by Done;\nend;\n",
+        b"unreadable syntax token 23 line 3 column 25\n",
+    ),
+    (
+        b"cyclist proof 1;\nnode true : a() |- true : emp by Done;\nend;\n@",
+        b"unreadable byte offset 61 line 4 column 1\n",
+    ),
+    // The first of many flaws, in each part of a file.
+    (
+        b"cyclist proof 1;\npred a(0) { true : emp };\npred b(1) { true : a($0) };\npred b(1) { true : c() };\nnode true : d() |- true : emp by Done;\nend;\n",
+        b"ill-formed arity token 23 line 3 column 20\n",
+    ),
+    (
+        b"cyclist proof 1;\npred a(0) { true : emp };\nline 2 : stop;\nnode true : d() |- true : emp by Done;\nend;\n",
+        b"ill-formed numbering token 16 line 3 column 6\n",
+    ),
+    (
+        b"cyclist proof 1;\nline 1 : goto 2;\nnode true : emp |- true : emp by Done;\nend;\n",
+        b"ill-formed jump token 8 line 2 column 15\n",
+    ),
+    (
+        b"cyclist proof 1;\nnode true : emp |- true : emp by Done;\nnode true : emp |- true : emp by Done;\nnode from 1 given true : emp by Done;\nend;\n",
+        b"ill-formed no-line token 28 line 4 column 11\n",
+    ),
+    (
+        b"cyclist proof 1;\nnode true : emp |- true : emp by Done;\nnode $65535 = nil : emp |- true : a() by Done;\nnode true : a() |- true : emp by Done;\nend;\n",
+        b"limit variable token 17 line 3 column 7\n",
+    ),
 ];
 
 /// What the text comes to that is fed in pieces of so many bytes.

@@ -1,4 +1,4 @@
-use Rattle.std.proofs.Common.{◌≡◌, List, [], ◌∷◌, ◌++◌, Ok, true, length, map, sym, ap, subst, ◌∙◌, arith}
+use Rattle.std.proofs.Common.{◌≡◌, ℕ, List, [], ◌∷◌, ◌++◌, Ok, true, length, map, sym, ap, subst, ◌∙◌, arith}
 use Rattle.std.specs.Prelude.{IfSome}
 use Rattle.std.proofs.lemmas.Str.{encodes-chars}
 use Rattle.cyc_lex.specs.declared.token.Token.{Token}
@@ -6,6 +6,7 @@ use Rattle.cyc_lex.specs.Placed.{placed}
 use Rattle.cyc_grammar.specs.Classes.{are_tokens}
 use Rattle.cyc_grammar.specs.Giving.{words}
 use Rattle.heap_syntax.specs.Versions.{most_spatial}
+use Rattle.heap_reader.specs.Flaws.{or_later}
 use Rattle.piecewise_lex.specs.Taking.{reading}
 use Rattle.proof_syntax.specs.Trees.{node_of}
 use Rattle.proof_statements.specs.declared.tree.NodeOrEnd.{NodeOrEnd}
@@ -13,20 +14,24 @@ use Rattle.proof_statements.specs.Left.{Nodes, statement_of}
 use Rattle.proof_statements.specs.Trees.{node_or_end_of}
 use Rattle.proof_file.specs.declared.node.FileNode.{FileNode}
 use Rattle.proof_file.specs.Flaws.{node_flaw}
+use Rattle.proof_file.specs.Values.{node_value}
 use Rattle.file_reader.specs.Wholes.{front_defs}
 use Rattle.file_reader.proofs.ScanLaws.{words-tokens, ended-some}
-use Rattle.file_reader.proofs.WholeLaws.{at-more, later-node-fits, nodes-begin, nodes-more, nodes-span, nodes-end}
+use Rattle.file_reader.proofs.WholeLaws.{at-more, later-node-fits, nodes-begin, nodes-none, nodes-more, nodes-span, nodes-end}
 use Rattle.file_reader.proofs.whole.read_nodes.Goals as goal
 
 pub nodes-init : goal.nodes-init
 nodes-init c =
     let f = c.args.front.now in
     let x = node_of f.first in
+    let found = c.in_ok-found.found in
     let count : c.len-count.result ≡ length f.lines.items = omega (arith, c.len-count.ensures) in
+    let empty : length c.new.result.items ≡ 0 = ap length c.new.ensures.items in
     record {
       read =
-          nodes-begin c.args.text.now f c.args.heads.now c.in-Ok.node c.push.new.self.items c.requires.begun (c.in_ok-push-in-Ok.ensures.items ∙ ap (λ (xs : List FileNode). xs ++ c.in-Ok.node ∷ []) c.new-nodes.ensures.items) c.in-Ok.ensures.1
-          (ap (λ n. node_flaw (most_spatial f.version) c.args.heads.now n 0 f.before x) (sym count) ∙ c.in-Ok.ensures.0);
+          nodes-begin c.args.text.now f c.args.heads.now c.args.flaw found.flaw found.nodes.items c.requires.begun
+          (c.in_ok-found.ensures.flaw ∙ (λ i. or_later c.args.flaw (node_flaw (most_spatial f.version) c.args.heads.now (count i) (empty i) f.before x)))
+          (λ none. c.in_ok-found.ensures.nodes none ∙ ap (λ (xs : List FileNode). xs ++ node_value c.args.heads.now x ∷ []) c.new.ensures.items);
       count = count;
     }
 
@@ -34,18 +39,18 @@ pub later_part-requires : goal.later_part-requires
 later_part-requires c =
     subst (λ (ts : List Token). are_tokens (words ts) ≡ true) (sym c.deref.ensures.value) (words-tokens c.in_ok-statement.statement.tokens.items c.in_ok-statement.ensures.taken.lexemes)
 
-pub node_of_tree-requires-in-Node-clause-fits : goal.node_of_tree-requires-in-Node-clause-fits
-node_of_tree-requires-in-Node-clause-fits c =
+pub take_node-requires-in-Node-clause-fits : goal.take_node-requires-in-Node-clause-fits
+take_node-requires-in-Node-clause-fits c =
     let P : NodeOrEnd → Type 0 = λ s. (statement_of Nodes).read (words c.deref.result.now) ≡ Ok (node_or_end_of s, []) in
     let part = subst (λ o. IfSome o P) c.in-Some.is c.in_ok-later_part.ensures in
     later-node-fits (words c.deref.result.now) (node_of c.in-Node.tree) (subst P c.in-Node.is part)
 
-pub node_of_tree-requires-in-Node-clause-room : goal.node_of_tree-requires-in-Node-clause-room
-node_of_tree-requires-in-Node-clause-room c =
+pub take_node-requires-in-Node-clause-room : goal.take_node-requires-in-Node-clause-room
+take_node-requires-in-Node-clause-room c =
     let P : NodeOrEnd → Type 0 = λ s. (statement_of Nodes).read (words c.deref.result.now) ≡ Ok (node_or_end_of s, []) in
     let part = subst (λ o. IfSome o P) c.in-Some.is c.in_ok-later_part.ensures in
     let f = c.args.front.now in
-    omega (arith, c.requires.room, nodes-span c.args.text.now f.version c.args.heads.now (front_defs f) f.lines.items c.nodes.nodes.items c.nodes.spot c.nodes.invariant.read c.in_ok-statement.statement c.in_ok-statement.ensures.taken c.len.result (omega (arith, c.len.ensures)) c.deref.result.now c.deref.ensures.value (node_of c.in-Node.tree) (subst P c.in-Node.is part))
+    omega (arith, c.requires.room, nodes-span c.args.text.now f.version c.args.heads.now (front_defs f) f.lines.items c.args.flaw c.nodes.found.flaw c.nodes.found.nodes.items c.nodes.spot c.nodes.invariant.read c.in_ok-statement.statement c.in_ok-statement.ensures.taken c.len.result (omega (arith, c.len.ensures)) c.deref.result.now c.deref.ensures.value (node_of c.in-Node.tree) (subst P c.in-Node.is part))
 
 pub ends-requires : goal.ends-requires
 ends-requires c =
@@ -63,7 +68,7 @@ returns-then-branch c =
     let r = c.nodes.invariant.read in
     let size : c.len.result ≡ length t.tokens.items = omega (arith, c.len.ensures) in
     let all = c.in_ok-ends-in-End.ensures c.if-branch.true (r.tokens ++ map placed t.tokens.items) (at-more c.args.text.now c.nodes.spot r.tokens r.at t k c.len.result size) in
-    nodes-end c.args.text.now f.version c.args.heads.now (front_defs f) f.lines.items c.nodes.nodes.items c.nodes.spot r t k c.len.result size c.deref.result.now c.deref.ensures.value (subst P c.in-End.is part) all
+    nodes-end c.args.text.now f.version c.args.heads.now (front_defs f) f.lines.items c.args.flaw c.nodes.found.flaw c.nodes.found.nodes.items c.nodes.spot r t k c.len.result size c.deref.result.now c.deref.ensures.value (subst P c.in-End.is part) all
 
 pub nodes-smaller : goal.nodes-smaller
 nodes-smaller c =
@@ -71,17 +76,23 @@ nodes-smaller c =
     let k = c.in_ok-statement.ensures.taken in
     omega (arith, k.count, ap length (encodes-chars c.nodes.spot.rest.now c.nodes.invariant.read.at.utf8), ended-some t.tokens.items t.ended (reading t.place t.comment t.rest.now) k.ends c.if-not-statement.false)
 
+pub take_node-requires-in-Node-clause-few : goal.take_node-requires-in-Node-clause-few
+take_node-requires-in-Node-clause-few c none =
+    let f = c.args.front.now in
+    c.requires.few (nodes-none c.args.text.now f.version c.args.heads.now (front_defs f) f.lines.items c.args.flaw c.nodes.found.flaw c.nodes.found.nodes.items c.nodes.spot c.nodes.invariant.read none)
+
 pub nodes-preserved : goal.nodes-preserved
 nodes-preserved c =
     let P : NodeOrEnd → Type 0 = λ s. (statement_of Nodes).read (words c.deref.result.now) ≡ Ok (node_or_end_of s, []) in
     let part = subst (λ o. IfSome o P) c.in-Some.is c.in_ok-later_part.ensures in
     let f = c.args.front.now in
     let x = node_of c.in-Node.tree in
-    let number : c.len-in-Node.result ≡ length c.nodes.nodes.items = omega (arith, c.len-in-Node.ensures) in
-    let none = (λ i. node_flaw (most_spatial f.version) c.args.heads.now (sym c.nodes.invariant.count i) (sym number i) c.nodes.spot.tokens x) ∙ c.in-Ok-node_of_tree.ensures.0 in
+    let found = c.nodes.found in
+    let next = c.in_ok-take_node.found in
     record {
       read =
-          nodes-more c.args.text.now f.version c.args.heads.now (front_defs f) f.lines.items c.nodes.nodes.items c.nodes.spot c.nodes.invariant.read c.in_ok-statement.statement c.in_ok-statement.ensures.taken c.len.result (omega (arith, c.len.ensures)) c.deref.result.now c.deref.ensures.value
-          x c.in-Ok-node_of_tree.node c.push-in-Ok-node_of_tree.new.self.items (subst P c.in-Node.is part) c.in_ok-push-in-Ok-node_of_tree.ensures.items c.in-Ok-node_of_tree.ensures.1 none;
+          nodes-more c.args.text.now f.version c.args.heads.now (front_defs f) f.lines.items c.args.flaw found.flaw found.nodes.items c.nodes.spot c.nodes.invariant.read c.in_ok-statement.statement c.in_ok-statement.ensures.taken c.len.result (omega (arith, c.len.ensures)) c.deref.result.now c.deref.ensures.value
+          x next.flaw next.nodes.items (subst P c.in-Node.is part)
+          (c.in_ok-take_node.ensures.flaw ∙ ap (λ (n : ℕ). or_later found.flaw (node_flaw (most_spatial f.version) c.args.heads.now n (length found.nodes.items) c.nodes.spot.tokens x)) c.nodes.invariant.count) c.in_ok-take_node.ensures.nodes;
       count = c.nodes.invariant.count;
     }

@@ -4,7 +4,7 @@ use Rattle.file_reader.proofs.whole.read_nodes.Given as goal
 
 abbrev pub invariant-nodes : goal.invariant-nodes
 invariant-nodes l = record {
-  read : AreNodes l.fn.text l.fn.front.version l.fn.heads (front_defs l.fn.front) l.fn.front.lines.items l.nodes.items l.spot;
+  read : AreNodes l.fn.text l.fn.front.version l.fn.heads (front_defs l.fn.front) l.fn.front.lines.items l.fn.flaw l.found.flaw l.found.nodes.items l.spot;
   count : l.count ≡ length l.fn.front.lines.items;
 }
 
