@@ -28,11 +28,13 @@ use Rattle.proof_syntax.specs.Grammar.{node, file}
 use Rattle.proof_syntax.proofs.GrammarLaws.{file-law}
 use Rattle.proof_statements.specs.Left.{First, Preds, Lines, Nodes, At, Ended, Left, statement_of, joined, line_or_node}
 use Rattle.proof_statements.proofs.LeftLaws.{statement-law}
-use Rattle.proof_file.specs.Flaws.{headings, node_flaw, first_node, file_flaw}
+use Rattle.proof_file.specs.Flaws.{headings, definition_flaw, program_flaw, node_flaw, nodes_flaw, first_line, first_node, file_flaw}
 use Rattle.proof_file.specs.Spans.{definition_span, variable_span, node_span}
 use Rattle.file_reader.specs.declared.front.Spot.{Spot}
 use Rattle.file_reader.specs.Steps.{Leads, tree_of, span_of}
-use Rattle.file_reader.specs.Wholes.{IsPart, IsTheEnd, IsAt, LeadsFront, front_size, front_defs, IsFront, IsBegun, LeadsNodes, IsAll, found_in, AreNodes, AreAllNodes, StandsIn, IsFlawIn}
+use Rattle.file_reader.specs.Wholes.{IsPart, IsTheEnd, IsAt, LeadsFront, front_size, front_defs, IsFront, IsBegun, LeadsNodes, IsAll, found_in, AreNodes, AreAllNodes, StandsIn, IsFlawIn, IsWhole, IsAnswer}
+use Rattle.file_reader.specs.declared.whole.Whole.{Whole}
+use Rattle.file_reader.specs.declared.whole.Whole.TheVariants as wholes
 use Rattle.file_reader.specs.Outcomes.{item_fault}
 use Rattle.file_reader.proofs.Tokens.{slice-behind}
 use Rattle.cyc_lex.specs.declared.fault.ReadFault.{ReadFault}
@@ -45,8 +47,12 @@ use Rattle.heap_reader.specs.declared.flaw.Item.TheVariants.{Ill, Over}
 use Rattle.heap_reader.specs.declared.flaw.Flaw.{Flaw}
 use Rattle.heap_reader.specs.Told.{IsFlawTold}
 use Rattle.heap_reader.specs.Reading.{SpellsTree}
+use Rattle.heap_reader.proofs.Fitting.{most_fits}
+use Rattle.heap_reader.proofs.NoFlaw.{neither}
 use Rattle.heap_reader.proofs.WithinSpans.{flaw_within}
-use Rattle.proof_file.specs.Reading.{IsRead, proof_files}
+use Rattle.pred_reader.proofs.Fitting.{definitions_small}
+use Rattle.proof_file.specs.declared.file.ProofFile.{ProofFile}
+use Rattle.proof_file.specs.Reading.{IsRead, Reads, proof_files}
 use Rattle.proof_file.proofs.SpanLaws.{file_words}
 use Rattle.proof_file.proofs.WithinSpans.{file_before}
 use Rattle.file_reader.specs.declared.front.Front.{Front}
@@ -220,14 +226,17 @@ found-more v hs ds ls first xs x =
     alone : listed_flaw flaw node_span (0 + length xs) (at + total node_span xs) (x ∷ []) ≡ flaw (length xs) (at + total node_span xs) x
     alone = later-none (flaw (0 + length xs) (at + total node_span xs) x) ∙ ap (λ n. flaw n (at + total node_span xs) x) zero
 
-later-parts : (a b : Found) → or_later a b ≡ None → (a ≡ None) × (b ≡ None)
-later-parts None b e = (refl, e)
-later-parts (Some f) b e = absurd cc
+-- definitions of a front without a flaw are few
+pub front-few : (v : Version) (ds : List Definition) (ls : List Line) → file_flaw (tree_of v ds ls []) ≡ None → length ds ≤ 4096
+front-few v ds ls none =
+    let t = tree_of v ds ls [] in
+    let defs = neither (listed_flaw (definition_flaw (most_spatial v) (headings ds)) definition_span 0 4 ds) (or_later (program_flaw (first_line t) ls) (nodes_flaw t)) none in
+    (definitions_small (most_spatial v) (most_fits v) (headings ds) 4 ds defs.0).1
 
 -- where there is no flaw, there is none before the nodes
 pub nodes-none : (text : List ℕ) (v : Version) (hs : List Heading) (ds : List Definition) (ls : List Line) (first found : Found) (values : List FileNode) (s : Spot) → AreNodes text v hs ds ls first found values s → found ≡ None → first ≡ None
 nodes-none text v hs ds ls first found values s f none =
-    (later-parts first (listed_flaw (node_flaw (most_spatial v) hs (length ls)) node_span 0 (front_size ds ls) f.nodes) (sym f.flaw ∙ none)).0
+    (neither first (listed_flaw (node_flaw (most_spatial v) hs (length ls)) node_span 0 (front_size ds ls) f.nodes) (sym f.flaw ∙ none)).0
 
 -- the first node
 pub nodes-begin : (text : List ℕ) (f : Front) (hs : List Heading) (first found : Found) (values : List FileNode) → IsBegun text f → found ≡ or_later first (node_flaw (most_spatial f.version) hs (length f.lines.items) 0 f.before (node_of f.first)) → (found ≡ None → values ≡ node_value hs (node_of f.first) ∷ [])
@@ -268,7 +277,7 @@ module _ (text : List ℕ) (v : Version) (hs : List Heading) (ds : List Definiti
         flaw =
             flaw ∙ here x ∙ ap (λ (o : Found). or_later o (node_flaw (most_spatial v) hs (length ls) (length f.nodes) (front_size ds ls + total node_span f.nodes) x)) f.flaw ∙ sym (found-more v hs ds ls first f.nodes x);
         made = λ none.
-            let old = (later-parts found (node_flaw (most_spatial v) hs (length ls) (length values) s.tokens x) (sym flaw ∙ none)).0 in
+            let old = (neither found (node_flaw (most_spatial v) hs (length ls) (length values) s.tokens x) (sym flaw ∙ none)).0 in
             more none ∙ ap (λ (xs : List FileNode). xs ++ node_value hs x ∷ []) (f.made old) ∙ sym (map_push (node_value hs) f.nodes x);
       }
 
@@ -327,6 +336,13 @@ whole-tree text v ds ls found values f =
     same : front_size ds ls + 0 ≡ front_size ds ls
     same = omega arith
 
+-- what was found of a front and of all nodes after it
+pub all-found : (text : List ℕ) (f : Front) (hs : List Heading) (first found : Found) (values : List FileNode) → hs ≡ headings (front_defs f) → first ≡ file_flaw (tree_of f.version (front_defs f) f.lines.items []) → AreAllNodes text f.version hs (front_defs f) f.lines.items first found values
+    → AreAllNodes text f.version (headings (front_defs f)) (front_defs f) f.lines.items (file_flaw (tree_of f.version (front_defs f) f.lines.items [])) found values
+all-found text f hs first found values known is h =
+    subst (λ (o : Found). AreAllNodes text f.version (headings (front_defs f)) (front_defs f) f.lines.items o found values) is
+    (subst (λ (ks : List Heading). AreAllNodes text f.version ks (front_defs f) f.lines.items first found values) known h)
+
 -- its flaw is at one of its tokens
 pub tree-few : (text : List ℕ) (t : File) (flaw : Flaw) (h : IsTree text t (Some flaw)) → flaw.token < length text + 1
 tree-few text t flaw h =
@@ -345,10 +361,19 @@ tree-flawed text t flaw fault h told = by fault (told h.all h.tokens)
 
 -- ---- where a flaw stands
 
+abbrev cut : List Placed → Result (List Placed) (Bad × Place)
+cut ts = Ok ts
+
+tokens-same : (xs ys : List Placed) → cut xs ≡ cut ys → xs ≡ ys
+tokens-same xs ys e = cc
+
+tokens-differ : (xs : List Placed) (e : Bad × Place) → cut xs ≡ Err e → ⊥
+tokens-differ xs e h = cc
+
 pub stands-there : (text rest : List ℕ) (q : Place) (d : Bool) (ts : List Placed) (t : Placed) → IsUtf8 text → IsUtf8 rest → HasTaken (reading start false text) (ts ++ t ∷ []) (reading q d rest) → StandsIn text (length ts) t.line t.column
 stands-there text rest q d ts t utf8 left h all e = by (tokens_from q d (rest ++ [])) refl
   where
-    from : Ok all ≡ with_tokens (ts ++ t ∷ []) (tokens_from q d (rest ++ []))
+    from : cut all ≡ with_tokens (ts ++ t ∷ []) (tokens_from q d (rest ++ []))
     from = sym e ∙ sym (from-start text) ∙ ap (tokens_from start false) (sym (append-nil text)) ∙ taken-law start q false d text rest (ts ++ t ∷ []) utf8 left h []
 
     there : (us : List Placed) → all ≡ (ts ++ t ∷ []) ++ us → StandsAt all (length ts) t.line t.column
@@ -359,14 +384,8 @@ stands-there text rest q d ts t utf8 left h all e = by (tokens_from q d (rest ++
         zero = omega arith
 
     by : (r : Result (List Placed) (Bad × Place)) → tokens_from q d (rest ++ []) ≡ r → StandsAt all (length ts) t.line t.column
-    by (Err bad) is = absurd (differs (from ∙ ap (with_tokens (ts ++ t ∷ [])) is ∙ with_tokens-err (ts ++ t ∷ []) bad))
-      where
-        differs : Ok all ≡ Err bad → ⊥
-        differs h = cc
-    by (Ok us) is = there us (same (from ∙ ap (with_tokens (ts ++ t ∷ [])) is ∙ with_tokens-ok (ts ++ t ∷ []) us))
-      where
-        same : Ok {E = Bad × Place} all ≡ Ok ((ts ++ t ∷ []) ++ us) → all ≡ (ts ++ t ∷ []) ++ us
-        same h = cc
+    by (Err bad) is = absurd (tokens-differ all bad (from ∙ ap (with_tokens (ts ++ t ∷ [])) is ∙ with_tokens-err (ts ++ t ∷ []) bad))
+    by (Ok us) is = there us (tokens-same all ((ts ++ t ∷ []) ++ us) (from ∙ ap (with_tokens (ts ++ t ∷ [])) is ∙ with_tokens-ok (ts ++ t ∷ []) us))
 
 pub told-there : (text : List ℕ) (flaw : Flaw) (line column : ℕ) (fault : ReadFault) → StandsIn text flaw.token line column → fault ≡ item_fault flaw.item flaw.token line column → IsFlawIn text flaw fault
 told-there text flaw line column fault stands is all e = subst (IsFlawTold all flaw) (sym is) (by flaw.item refl)
@@ -374,3 +393,16 @@ told-there text flaw line column fault stands is all e = subst (IsFlawTold all f
     by : (item : Item) → flaw.item ≡ item → IsFlawTold all flaw (item_fault item flaw.token line column)
     by (Ill ill) same = (ap (λ (i : Item). record { item = i; token = flaw.token }) same, stands all e)
     by (Over what) same = (ap (λ (i : Item). record { item = i; token = flaw.token }) same, stands all e)
+
+-- ---- the answer
+
+read-fault : (bytes : List ℕ) (fault : ReadFault) → IsRead bytes (Err fault) → Reads bytes (Err fault)
+read-fault bytes faults.OutOfMemory h = tt
+read-fault bytes (faults.Lex fault) h = h
+read-fault bytes (faults.Syntax n l c) h = h
+read-fault bytes (faults.IllFormed fault n l c) h = h
+read-fault bytes (faults.Limit what n l c) h = h
+
+pub whole-reads : (bytes : List ℕ) (w : Whole) (answer : Result ProofFile ReadFault) → IsWhole bytes w → IsAnswer w answer → Reads bytes answer
+whole-reads bytes (wholes.File f) answer h is = subst (Reads bytes) (sym is) h
+whole-reads bytes (wholes.Flawed fault) answer h is = subst (Reads bytes) (sym is) (read-fault bytes fault h)

@@ -1,5 +1,5 @@
 -- A text that is read through, statement by statement.
-use Rattle.std.specs.Prelude.{◌≡◌, ℕ, ◌+◌, ◌≤◌, Bool, true, false, List, [], ◌∷◌, ◌++◌, length, map, None, Ok, Err, ◌⊎◌}
+use Rattle.std.specs.Prelude.{◌≡◌, ℕ, ◌+◌, ◌≤◌, Bool, true, false, List, [], ◌∷◌, ◌++◌, length, map, None, Result, Ok, Err, ◌⊎◌}
 use Rattle.std.proofs.Common.{inl, inr}
 use Rattle.std.specs.Str.{IsUtf8}
 use Rattle.cyc_lex.specs.declared.fault.ReadFault.{ReadFault}
@@ -20,6 +20,7 @@ use Rattle.heap_reader.specs.declared.flaw.Flaw.{Flaw}
 use Rattle.proof_syntax.specs.Trees.{Definition, Line, Node, definition_of, node_of}
 use Rattle.proof_syntax.specs.Grammar.{node}
 use Rattle.proof_statements.specs.Left.{Preds, Lines, Nodes, At, Ended, statement_of}
+use Rattle.proof_file.specs.declared.file.ProofFile.{ProofFile}
 use Rattle.proof_file.specs.declared.node.FileNode.{FileNode}
 use Rattle.proof_file.specs.Flaws.{node_flaw}
 use Rattle.proof_file.specs.Reading.{IsRead}
@@ -122,3 +123,7 @@ IsFlawIn text flaw fault = (all : List Placed) → tokens_of text ≡ Ok all →
 abbrev pub IsWhole : List ℕ → Whole → Type 0
 IsWhole bytes (wholes.File f) = IsRead bytes (Ok f)
 IsWhole bytes (wholes.Flawed fault) = IsRead bytes (Err fault)
+
+abbrev pub IsAnswer : Whole → Result ProofFile ReadFault → Type 0
+IsAnswer (wholes.File f) answer = answer ≡ Ok f
+IsAnswer (wholes.Flawed fault) answer = answer ≡ Err fault

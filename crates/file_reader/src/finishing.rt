@@ -15,7 +15,7 @@ use crate::held::{Alive, Faulty, Held};
 use crate::passing::pass_tokens;
 use crate::scan::dead_token;
 use crate::step::{Step, take_step};
-use crate::whole::{Whole, read_whole};
+use crate::whole::{answer_of, read_whole};
 use cyc_grammar::Cursor;
 use cyc_lex::{OutOfMemory, ReadFault, Stop, count_tokens, fault_at};
 use piecewise_lex::{first_bad, valid_front};
@@ -109,8 +109,7 @@ fn finish_alive(alloc: Global, alive: &Alive) -> Result<ProofFile, ReadFault>
         return Err(fault);
     }
     match read_whole(alloc, &alive.all) {
-        Ok(Some(Whole::File(file))) => Ok(file),
-        Ok(Some(Whole::Flawed(fault))) => Err(fault),
+        Ok(Some(whole)) => answer_of(whole),
         Ok(None) => read_file(alloc, &alive.all),
         Err(OutOfMemory) => Err(ReadFault::OutOfMemory),
     }

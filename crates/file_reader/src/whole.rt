@@ -2,7 +2,7 @@
 
 ghost use Rattle.std.specs.Prelude.{◌≡◌, ◌-◌, ◌≤◌, ◌<◌, ◌^◌, List, None, length, true, IfOk, IfSome};
 ghost use Rattle.cyc_lex.specs.Placed.{Placed};
-ghost use Rattle.file_reader.specs.Wholes.{AreAllNodes, IsAll, IsAt, IsBegun, IsWhole, front_defs};
+ghost use Rattle.file_reader.specs.Wholes.{AreAllNodes, IsAll, IsAt, IsAnswer, IsBegun, IsWhole, front_defs};
 
 use crate::flaw_place::fault_of_flaw;
 use crate::found::{Found, take_node};
@@ -22,6 +22,16 @@ use std::alloc::Global;
 pub enum Whole {
     File(ProofFile),
     Flawed(ReadFault),
+}
+
+/// The answer to a text that comes to this.
+pub fn answer_of(whole: Whole) -> Result<ProofFile, ReadFault>
+    ensures { IsAnswer whole result }
+{
+    match whole {
+        Whole::File(file) => Ok(file),
+        Whole::Flawed(fault) => Err(fault),
+    }
 }
 
 /// Whether nothing but the end of the text is left.
@@ -105,25 +115,27 @@ fn whole_of_front(alloc: Global, text: &str, front: &Front<'_>) -> Result<Option
         Some(found) => found,
         None => return Ok(None),
     };
-    if let Some(flaw) = found.flaw {
-        return match fault_of_flaw(text, flaw)? {
+    match found.flaw {
+        Some(flaw) => match fault_of_flaw(text, flaw)? {
             Some(fault) => Ok(Some(Whole::Flawed(fault))),
             None => Ok(None),
-        };
+        },
+        None => {
+            let values = front_values(
+                alloc,
+                &heads,
+                front.version,
+                &front.definitions,
+                &front.lines,
+            )?;
+            Ok(Some(Whole::File(file_of_values(
+                front.version,
+                values.defs,
+                values.program,
+                found.nodes,
+            ))))
+        }
     }
-    let values = front_values(
-        alloc,
-        &heads,
-        front.version,
-        &front.definitions,
-        &front.lines,
-    )?;
-    Ok(Some(Whole::File(file_of_values(
-        front.version,
-        values.defs,
-        values.program,
-        found.nodes,
-    ))))
 }
 
 fn whole_of_text(alloc: Global, text: &str) -> Result<Option<Whole>, Stop>

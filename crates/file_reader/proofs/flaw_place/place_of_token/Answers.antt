@@ -15,14 +15,14 @@ tokens-init c = record {
   utf8 = c.utf8.text;
 }
 
-pub returns-then-before-0 : goal.returns-then-before-0
-returns-then-before-0 c =
+pub returns-then-before-eq0 : goal.returns-then-before-eq0
+returns-then-before-eq0 c =
     let t = c.in_ok-taken.taken in
     let token = c.in-Some.token in
     let h = c.tokens.invariant.taken in
     let there = reading c.tokens.place c.tokens.comment c.tokens.rest.now in
     let more = one-more (reading start false c.args.text.now) there c.tokens.rest.now t h.0 h.1 c.in_ok-taken.ensures.taken c.in_ok-taken.ensures.nearer token c.in-Some.is in
-    subst (λ (n : ℕ). StandsIn c.args.text.now n token.line token.column) {x = length h.0} (omega (arith, h.2, c.if-before-0.true))
+    subst (λ (n : ℕ). StandsIn c.args.text.now n token.line token.column) {x = length h.0} (omega (arith, h.2, c.if-before-eq0.true))
     (stands-there c.args.text.now t.rest.now t.place t.comment h.0 (placed token) c.utf8.text c.in_ok-taken.ensures.utf8 more)
 
 pub tokens-preserved : goal.tokens-preserved
@@ -35,7 +35,7 @@ tokens-preserved c =
       taken = (
         h.0 ++ placed token ∷ [],
         one-more (reading start false c.args.text.now) there c.tokens.rest.now t h.0 h.1 c.in_ok-taken.ensures.taken c.in_ok-taken.ensures.nearer token c.in-Some.is,
-        omega (arith, h.2, c.if-before-0.false, length-append h.0 (placed token ∷ [])),
+        omega (arith, h.2, c.if-before-eq0.false, length-append h.0 (placed token ∷ [])),
       );
       room = c.in_ok-taken.ensures.room;
       utf8 = c.in_ok-taken.ensures.utf8;

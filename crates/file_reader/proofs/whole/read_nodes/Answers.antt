@@ -89,11 +89,11 @@ nodes-preserved c =
     let f = c.args.front.now in
     let x = node_of c.in-Node.tree in
     let found = c.nodes.found in
-    let next = c.in_ok-take_node.found in
+    let next = c.in_ok-found-in-Node.found in
     record {
       read =
           nodes-more c.args.text.now f.version c.args.heads.now (front_defs f) f.lines.items c.args.flaw found.flaw found.nodes.items c.nodes.spot c.nodes.invariant.read c.in_ok-statement.statement c.in_ok-statement.ensures.taken
           x next.flaw next.nodes.items (subst P c.in-Node.is part)
-          (c.in_ok-take_node.ensures.flaw ∙ ap (λ (n : ℕ). or_later found.flaw (node_flaw (most_spatial f.version) c.args.heads.now n (length found.nodes.items) c.nodes.spot.tokens x)) c.nodes.invariant.count) c.in_ok-take_node.ensures.nodes;
+          (c.in_ok-found-in-Node.ensures.flaw ∙ ap (λ (n : ℕ). or_later found.flaw (node_flaw (most_spatial f.version) c.args.heads.now n (length found.nodes.items) c.nodes.spot.tokens x)) c.nodes.invariant.count) c.in_ok-found-in-Node.ensures.nodes;
       count = c.nodes.invariant.count;
     }
