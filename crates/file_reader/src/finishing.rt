@@ -63,14 +63,7 @@ fn last_fault(alloc: Global, alive: &Alive, text: &str, count: usize) -> Option<
     let cursor = Cursor::of_text(alive.place, alive.comment, text, count);
     match take_step(alloc, alive.awaited, cursor) {
         Ok(Step::Dead(left)) => {
-            let dead = dead_token(
-                alive.tokens,
-                alive.place,
-                alive.comment,
-                text,
-                count,
-                left,
-            );
+            let dead = dead_token(alive.tokens, alive.place, alive.comment, text, count, left);
             Some(ReadFault::Syntax {
                 token: dead.token,
                 line: dead.line,

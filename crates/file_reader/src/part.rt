@@ -16,7 +16,7 @@ use std::alloc::Global;
 
 /// The version that the first statement says; none where the tokens are none.
 pub fn first_part(cursor: Cursor<'_, '_>) -> Option<Version>
-    ensures { IfSome result (λ v. (statement_of First).read cursor ≡ Ok (v, [])) }
+    ensures { IfSome result (λ v. (statement_of First).read cursor.entry ≡ Ok (v, [])) }
 {
     let mut cursor = cursor;
     match first_statement(&mut cursor) {
@@ -51,7 +51,7 @@ pub fn front_part<'a>(
     in_lines: bool,
     cursor: Cursor<'_, 'a>,
 ) -> Result<Option<PredOrLater<'a>>, OutOfMemory>
-    ensures { IfOk result (λ o. IfSome o (λ s. IsPart in_lines version cursor [] (pred_or_later_of s))) }
+    ensures { IfOk result (λ o. IfSome o (λ s. IsPart in_lines version cursor.entry [] (pred_or_later_of s))) }
 {
     let mut cursor = cursor;
     match read_part(alloc, version, in_lines, &mut cursor) {
@@ -71,7 +71,7 @@ pub fn later_part<'a>(
     alloc: Global,
     cursor: Cursor<'_, 'a>,
 ) -> Result<Option<NodeOrEnd<'a>>, OutOfMemory>
-    ensures { IfOk result (λ o. IfSome o (λ s. (statement_of Nodes).read cursor ≡ Ok (node_or_end_of s, []))) }
+    ensures { IfOk result (λ o. IfSome o (λ s. (statement_of Nodes).read cursor.entry ≡ Ok (node_or_end_of s, []))) }
 {
     let mut cursor = cursor;
     match node_or_end(alloc, &mut cursor) {
@@ -88,7 +88,7 @@ pub fn later_part<'a>(
 
 /// Whether the tokens are the end token alone.
 pub fn is_the_end(cursor: Cursor<'_, '_>) -> bool
-    ensures { result ≡ true → IsTheEnd cursor }
+    ensures { result ≡ true → IsTheEnd cursor.entry }
 {
     let mut cursor = cursor;
     match cursor.end() {

@@ -109,7 +109,7 @@ pub fn take_step(
     awaited: Awaited,
     cursor: Cursor<'_, '_>,
 ) -> Result<Step, OutOfMemory>
-    ensures { IfOk result (IsStep (reached_of awaited) cursor) }
+    ensures { IfOk result (IsStep (reached_of awaited) cursor.entry) }
 {
     let mut cursor = cursor;
     match after_statement(alloc, awaited, &mut cursor) {

@@ -1,4 +1,4 @@
-use Rattle.std.proofs.Common.{◌≡◌, List, [], ℕ, true, length, sym, ap, subst, ◌∙◌, arith, eqb-true}
+use Rattle.std.proofs.Common.{◌≡◌, List, [], ℕ, true, sym, subst, ◌∙◌, arith, eqb-true}
 use Rattle.std.specs.Prelude.{map, take}
 use Rattle.std.proofs.lemmas.List.{take_all}
 use Rattle.cyc_lex.specs.Cutting.{cut_text}

@@ -1,4 +1,4 @@
-use Rattle.std.proofs.Common.{List, ◌≡◌, take, sym, ap, subst, ◌∙◌, inr, zero-add}
+use Rattle.std.proofs.Common.{List, take, sym, ap, subst, ◌∙◌, inr, zero-add}
 use Rattle.cyc_lex.specs.declared.fault.ReadFault.TheVariants as faults
 use Rattle.cyc_lex.specs.Cutting.{cut_text}
 use Rattle.cyc_lex.specs.Word.{Word}

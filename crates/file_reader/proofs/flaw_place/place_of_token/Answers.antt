@@ -1,4 +1,4 @@
-use Rattle.std.proofs.Common.{◌≡◌, ℕ, ◌+◌, ◌++◌, ◌∷◌, [], false, length, subst, arith, length-append}
+use Rattle.std.proofs.Common.{ℕ, ◌++◌, ◌∷◌, [], false, length, subst, arith, length-append}
 use Rattle.cyc_lex.specs.Lexing.{start}
 use Rattle.cyc_lex.specs.Placed.{placed}
 use Rattle.piecewise_lex.specs.Taking.{reading}

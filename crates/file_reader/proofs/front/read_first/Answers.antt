@@ -1,4 +1,4 @@
-use Rattle.std.proofs.Common.{List, [], ◌≡◌, Ok, subst}
+use Rattle.std.proofs.Common.{false, List, [], ◌≡◌, Ok, subst}
 use Rattle.cyc_lex.specs.Lexing.{start}
 use Rattle.cyc_lex.specs.Word.{Word}
 use Rattle.cyc_grammar.specs.Texts.{text_words}

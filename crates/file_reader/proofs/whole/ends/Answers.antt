@@ -1,9 +1,9 @@
-use Rattle.std.proofs.Common.{◌≡◌, ◌≤◌, ◌∙◌, List, ℕ, true, length, refl, sym, ap, subst, arith}
+use Rattle.std.proofs.Common.{◌≡◌, ◌∙◌, List, true, sym, ap, subst, arith}
 use Rattle.std.specs.Prelude.{map, take}
 use Rattle.std.proofs.lemmas.List.{take_all}
 use Rattle.cyc_lex.specs.Cutting.{cut_text}
 use Rattle.cyc_lex.specs.Placed.{Placed}
-use Rattle.cyc_lex.specs.Word.{Word, word_of}
+use Rattle.cyc_lex.specs.Word.{word_of}
 use Rattle.cyc_grammar.specs.Classes.{are_tokens}
 use Rattle.file_reader.specs.Wholes.{IsTheEnd}
 use Rattle.file_reader.proofs.WholeLaws.{rest-of, rest-words}

@@ -1,4 +1,4 @@
-use Rattle.std.proofs.Common.{◌≡◌, ℕ, List, [], ◌∷◌, ◌++◌, Ok, true, length, map, sym, ap, subst, ◌∙◌, arith}
+use Rattle.std.proofs.Common.{◌≡◌, ℕ, List, [], ◌∷◌, ◌++◌, Ok, length, ap, subst, ◌∙◌, arith}
 use Rattle.std.specs.Prelude.{IfSome}
 use Rattle.std.proofs.lemmas.Str.{encodes-chars}
 use Rattle.cyc_lex.specs.Word.{Word}
@@ -15,7 +15,7 @@ use Rattle.proof_file.specs.Flaws.{node_flaw}
 use Rattle.proof_file.specs.Values.{node_value}
 use Rattle.file_reader.specs.Wholes.{front_defs}
 use Rattle.file_reader.proofs.ScanLaws.{tokens-of-lexemes, ended-some, span-size}
-use Rattle.file_reader.proofs.WholeLaws.{new_tokens, at-more, later-node-fits, nodes-begin, nodes-none, nodes-more, nodes-span, nodes-end}
+use Rattle.file_reader.proofs.WholeLaws.{new_tokens, at-few, at-more, later-node-fits, nodes-begin, nodes-none, nodes-more, nodes-span, nodes-end}
 use Rattle.file_reader.proofs.whole.read_nodes.Goals as goal
 
 pub nodes-init : goal.nodes-init
@@ -36,6 +36,11 @@ nodes-init c =
 pub of_text-cursor-requires-clause-tokens : goal.of_text-cursor-requires-clause-tokens
 of_text-cursor-requires-clause-tokens c =
     tokens-of-lexemes (text_words c.nodes.spot.place c.nodes.spot.comment c.nodes.spot.rest.now c.in_ok-statement.statement.tokens) c.in_ok-statement.ensures.taken.lexemes
+
+pub overflow_add-spot : goal.overflow_add-spot
+overflow_add-spot c =
+    let r = c.nodes.invariant.read in
+    omega (arith, c.requires.room, at-few c.args.text.now c.nodes.spot r.tokens r.at c.in_ok-statement.statement c.in_ok-statement.ensures.taken)
 
 pub take_node-requires-in-Node-clause-fits : goal.take_node-requires-in-Node-clause-fits
 take_node-requires-in-Node-clause-fits c =

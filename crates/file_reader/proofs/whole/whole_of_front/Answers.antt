@@ -1,11 +1,9 @@
-use Rattle.std.proofs.Common.{◌≡◌, ◌+◌, ◌≤◌, List, [], None, Some, length, map, refl, sym, ap, subst, ◌∙◌, arith}
+use Rattle.std.proofs.Common.{◌≡◌, List, [], length, map, refl, sym, ap, subst, ◌∙◌, arith}
 use Rattle.std.specs.Prelude.{IfSome}
 use Rattle.std.proofs.lemmas.List.{length-map}
-use Rattle.heap_reader.specs.Flaws.{Found}
-use Rattle.heap_reader.specs.Trees.{Heading}
 use Rattle.pred_defs.specs.Book.{DefinitionBook}
 use Rattle.pred_syntax.specs.declared.tree.DefinitionTree.{DefinitionTree}
-use Rattle.proof_syntax.specs.Trees.{Definition, Line, definition_of}
+use Rattle.proof_syntax.specs.Trees.{definition_of}
 use Rattle.proof_file.specs.Building.{front_of}
 use Rattle.proof_file.specs.Flaws.{heading, headings, file_flaw}
 use Rattle.proof_file.specs.Values.{definition_value, program_value}
