@@ -6,3 +6,4 @@ pub mod Loop
 pub mod Drops
 pub mod Names
 pub mod WrittenTexts
+pub mod TextLaws

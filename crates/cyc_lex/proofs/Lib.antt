@@ -9,3 +9,4 @@ pub mod TokenLaws
 pub mod WritingLaws
 pub mod Letters
 pub mod Plain
+pub mod CutLaws

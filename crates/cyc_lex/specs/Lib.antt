@@ -3,6 +3,7 @@ pub mod Characters
 pub mod Word
 pub mod Lexing
 pub mod Answer
+pub mod Cutting
 pub mod Spacing
 pub mod Spelling
 pub mod Slices

@@ -1,6 +1,7 @@
 //! Texts as tokens: cutting a text into them, the faults that its readers answer, and writing words back as a text.
 #![tactic(auto)]
 
+mod cuts;
 mod cutting;
 mod fault;
 mod lexing;
@@ -8,6 +9,7 @@ mod place;
 mod token;
 mod writer;
 
+pub use cuts::{Cut, count_tokens, cut_token, token_at};
 pub use cutting::{fault_at, tokens};
 pub use cyc_memory::OutOfMemory;
 pub use fault::{IllFault, LexFault, ReadFault, What};

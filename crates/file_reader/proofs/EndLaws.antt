@@ -3,7 +3,7 @@ use Rattle.std.proofs.Common.{◌≡◌, ℕ, ◌+◌, ◌≤◌, Bool, true, fa
 use Rattle.std.specs.Prelude.{◌==◌, Option, Some, None, IfSome, is_none}
 use Rattle.std.specs.Str.{chars, IsUtf8}
 use Rattle.std.specs.Str.Lossy.{utf8_valid_len, utf8_error_len}
-use Rattle.std.proofs.lemmas.List.{append-nil, length-map}
+use Rattle.std.proofs.lemmas.List.{append-nil}
 use Rattle.cyc_lex.specs.declared.fault.ReadFault.{ReadFault}
 use Rattle.cyc_lex.specs.declared.fault.ReadFault.TheVariants as faults
 use Rattle.cyc_lex.specs.declared.place.Bad.{Bad}
@@ -12,13 +12,11 @@ use Rattle.cyc_lex.specs.declared.place.Stop.{Stop}
 use Rattle.cyc_lex.specs.declared.place.Stop.TheVariants as stops
 use Rattle.cyc_lex.specs.Answer.{fault_of}
 use Rattle.cyc_lex.specs.Lexing.{Stops, start, lex, comment_len, tokens_of, with_tokens}
-use Rattle.cyc_lex.specs.Placed.{Placed, placed}
+use Rattle.cyc_lex.specs.Placed.{Placed}
 use Rattle.cyc_lex.specs.Word.{Word, word_of}
-use Rattle.cyc_lex.specs.declared.token.Token.{Token}
 use Rattle.cyc_lex.proofs.BoolParts.{and-parts}
 use Rattle.cyc_grammar.specs.Classes.{is_token, are_tokens}
-use Rattle.cyc_grammar.specs.Giving.{words}
-use Rattle.cyc_grammar.proofs.WholeTexts.{words-placed, all-tokens}
+use Rattle.cyc_grammar.proofs.WholeTexts.{all-tokens}
 use Rattle.cyc_lex.proofs.Lexed.{with_tokens-ok, with_tokens-err}
 use Rattle.piecewise_lex.specs.declared.valid.Valid.{Valid}
 use Rattle.piecewise_lex.specs.Feeding.{tokens_from, is_cut}
@@ -140,17 +138,13 @@ pub later-tokens : (ws vs : List Word) → are_tokens (ws ++ vs) ≡ true → ar
 later-tokens [] vs h = h
 later-tokens (w ∷ ws) vs h = later-tokens ws vs (and-parts (is_token w) (are_tokens (ws ++ vs)) h).1
 
-pub wait-words : (a : Alive) (items : List Token) → IsAlive a → Wait a ≡ Ok (map placed items) → are_tokens (words items) ≡ true
-wait-words a items k e =
-    let us = map placed items in
+pub wait-words : (a : Alive) (us : List Placed) → IsAlive a → Wait a ≡ Ok us → are_tokens (map word_of us) ≡ true
+wait-words a us k e =
     let all = all-tokens (map word_of (k.taken ++ us)) (tokens-end a.all.items (k.taken ++ us) (all-tokens-of a k us e)) in
-    let both : are_tokens (map word_of k.taken ++ map word_of us) ≡ true = subst (λ (ws : List Word). are_tokens ws ≡ true) (map-append word_of k.taken us) all in
-    subst (λ (ws : List Word). are_tokens ws ≡ true) (sym (words-placed items us refl)) (later-tokens (map word_of k.taken) (map word_of us) both)
+    later-tokens (map word_of k.taken) (map word_of us) (subst (λ (ws : List Word). are_tokens ws ≡ true) (map-append word_of k.taken us) all)
 
-pub wait-few : (a : Alive) (items : List Token) → IsAlive a → Wait a ≡ Ok (map placed items) → a.tokens + length items ≤ length a.all.items + 1
-wait-few a items k e =
-    let us = map placed items in
-    omega (arith, tokens-few a.all.items (k.taken ++ us) (all-tokens-of a k us e), length-append k.taken us, length-map items placed, k.count)
+pub wait-few : (a : Alive) (us : List Placed) → IsAlive a → Wait a ≡ Ok us → a.tokens + length us ≤ length a.all.items + 1
+wait-few a us k e = omega (arith, tokens-few a.all.items (k.taken ++ us) (all-tokens-of a k us e), length-append k.taken us, k.count)
 
 -- a dead token among those that waited
 alive-dead : (a : Alive) (us : List Placed) (left : ℕ) → IsAlive a → Wait a ≡ Ok us → IsDead (reached_of a.awaited) (map word_of us) left → EndsWith a (syntax_fault a.tokens us left)
@@ -159,7 +153,6 @@ alive-dead a us left k e is =
     let fault = syntax_fault a.tokens us left in
     subst (λ (o : Outcome). Tells o (Err fault)) (sym (alive-outcome a k (Ok us) e ∙ ap (behind (Head [])) (with_tokens-ok k.taken us) ∙ ap (ahead (Head [])) (sym (append-nil ts)) ∙ dead-all a k us left is [])) (tells-fault fault)
 
-pub alive-last : (a : Alive) (items : List Token) (x : ReadFault) → IsAlive a → Wait a ≡ Ok (map placed items) → IsLast (reached_of a.awaited) a.tokens items x → EndsWith a x
-alive-last a items x k e (inl none) = subst (EndsWith a) (sym none) tt
-alive-last a items x k e (inr (left, is, told)) =
-    subst (EndsWith a) (sym told) (alive-dead a (map placed items) left k e (subst (λ (ws : List Word). IsDead (reached_of a.awaited) ws left) (words-placed items (map placed items) refl) is))
+pub alive-last : (a : Alive) (us : List Placed) (x : ReadFault) → IsAlive a → Wait a ≡ Ok us → IsLast (reached_of a.awaited) a.tokens us x → EndsWith a x
+alive-last a us x k e (inl none) = subst (EndsWith a) (sym none) tt
+alive-last a us x k e (inr (left, is, told)) = subst (EndsWith a) (sym told) (alive-dead a us left k e is)

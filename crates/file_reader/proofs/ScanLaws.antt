@@ -1,40 +1,40 @@
 -- Statement by statement through a text.
-use Rattle.std.proofs.Common.{◌≡◌, ℕ, zero, suc, ◌+◌, ◌<◌, ◌≤◌, Bool, true, false, List, [], ◌∷◌, ◌++◌, length, Some, None, Result, Ok, Err, refl, sym, ap, subst, ◌∙◌, arith, length-append, append_assoc}
-use Rattle.std.specs.Prelude.{map, IfOk}
-use Rattle.std.proofs.lemmas.List.{length-map}
+use Rattle.std.proofs.Common.{◌≡◌, ℕ, zero, suc, ◌+◌, ◌-◌, ◌<◌, ◌≤◌, Bool, true, false, List, [], ◌∷◌, ◌++◌, length, take, Some, None, Result, Ok, Err, refl, sym, ap, subst, ◌∙◌, arith, length-append, append_assoc}
+use Rattle.std.specs.Prelude.{map, slice_get, IfOk}
+use Rattle.std.proofs.lemmas.List.{length-map, length-take-le}
 use Rattle.std.proofs.lemmas.Str.{encodes-chars}
-use Rattle.cyc_lex.specs.declared.token.Token.{Token}
-use Rattle.cyc_lex.specs.Placed.{Placed, placed}
+use Rattle.cyc_lex.specs.Placed.{Placed}
 use Rattle.cyc_lex.specs.Word.{Word, word_of, is_lexeme, are_lexemes}
 use Rattle.cyc_lex.proofs.BoolParts.{and-parts}
 use Rattle.cyc_grammar.specs.Syntax.{Reading, ◌>>=◌, one, read_class}
 use Rattle.cyc_grammar.specs.Classes.{the_end, are_tokens}
-use Rattle.cyc_grammar.specs.Giving.{words, Fails}
+use Rattle.cyc_grammar.specs.Giving.{Fails}
 use Rattle.cyc_grammar.specs.declared.cursor.Refusal.{Refusal}
 use Rattle.cyc_grammar.specs.declared.cursor.Refusal.TheVariants as refusals
 use Rattle.cyc_grammar.proofs.Laws.{one-law}
 use Rattle.cyc_grammar.proofs.ClassLaws.{the_end-law}
-use Rattle.cyc_grammar.proofs.WholeTexts.{words-placed}
 use Rattle.proof_syntax.specs.Trees.{File}
 use Rattle.proof_syntax.specs.Grammar.{file}
 use Rattle.proof_statements.specs.Left.{Reached, At, Ended, Left, Statement as Read, statement_of, next, join, joined}
 use Rattle.proof_statements.proofs.LeftLaws.{statement-law}
 use Rattle.cyc_lex.specs.declared.place.Place.{Place}
-use Rattle.piecewise_lex.specs.declared.statements.Statement.{Statement}
-use Rattle.piecewise_lex.specs.Statements.{Ends, IsStatement}
-use Rattle.piecewise_lex.specs.Taking.{Reading as Text, reading, HasTaken}
+use Rattle.piecewise_lex.specs.declared.spans.Span.{Span}
+use Rattle.piecewise_lex.specs.Statements.{Ends}
+use Rattle.piecewise_lex.specs.Spans.{IsSpan, front_tokens}
+use Rattle.piecewise_lex.specs.Taking.{Reading as Text, reading, cut_in, HasTaken}
 use Rattle.piecewise_lex.proofs.TakingLaws.{taken-more}
 use Rattle.file_reader.specs.declared.awaited.Awaited.{Awaited}
 use Rattle.file_reader.specs.declared.scan.DeadToken.{DeadToken}
 use Rattle.file_reader.specs.declared.scan.Scan.{Scan}
 use Rattle.file_reader.specs.declared.step.Step.{Step}
 use Rattle.file_reader.specs.declared.step.Step.TheVariants as steps
-use Rattle.file_reader.specs.Outcomes.{syntax_fault}
+use Rattle.cyc_lex.specs.declared.fault.ReadFault.TheVariants as faults
+use Rattle.file_reader.specs.Outcomes.{at_token, syntax_fault}
 use Rattle.file_reader.specs.Steps.{Leads}
 use Rattle.file_reader.specs.Scans.{reached_of, lead, nothing_behind, next_read, LeadsOn, DiesOn, IsDead, IsStep, IsRefused, TellsDead, HasDead, Finds, IsScan}
 use Rattle.file_reader.proofs.Beginning.{lead-more, lead-fault}
 use Rattle.file_reader.proofs.StepLaws.{map-append, fault-within}
-use Rattle.file_reader.proofs.Tokens.{syntax-later}
+use Rattle.file_reader.proofs.Tokens.{slice-take, syntax-later}
 
 -- ---- one statement
 
@@ -141,56 +141,65 @@ pub tokens-of-lexemes : (ws : List Word) → are_lexemes ws ≡ true → are_tok
 tokens-of-lexemes [] h = refl
 tokens-of-lexemes (w ∷ ws) h = let t = and-parts (is_lexeme w) (are_lexemes ws) h in rw (t.0, tokens-of-lexemes ws t.1) refl
 
-pub words-tokens : (ts : List Token) → are_lexemes (map word_of (map placed ts)) ≡ true → are_tokens (words ts) ≡ true
-words-tokens ts h = subst (λ (ws : List Word). are_tokens ws ≡ true) (sym (words-placed ts (map placed ts) refl)) (tokens-of-lexemes (map word_of (map placed ts)) h)
+-- ---- a dead token
+
+pub dead-told : (before left at count : ℕ) (all : List Placed) (t : Placed) (d : DeadToken) → count ≤ length all → 0 < left → left ≤ count → at ≡ count - left → slice_get all at ≡ Some t → d ≡ record { token = before + at; line = t.line; column = t.column } → TellsDead before (take count all) left d
+dead-told before left at count all t d few some within place is same n = (λ i. at_token faults.Syntax (number i) (token i)) ∙ ap (λ (e : DeadToken). faults.Syntax (n + e.token) e.line e.column) (sym same)
+  where
+    size : length (take count all) ≡ count
+    size = length-take-le count all few
+
+    number : n + before + (length (take count all) - left) ≡ n + (before + at)
+    number = omega (arith, size, place)
+
+    token : slice_get (take count all) (length (take count all) - left) ≡ Some t
+    token = ap (slice_get (take count all)) (omega (arith, size, place)) ∙ slice-take count at all (omega (arith, place, some, within)) ∙ is
 
 -- ---- what is read of a text, and one more statement
 
-pub led-words : (r s : Reached) (items now : List Token) → now ≡ items → LeadsOn r (words now) s → LeadsOn r (map word_of (map placed items)) s
-led-words r s items now is h = subst (λ (ws : List Word). LeadsOn r ws s) (ap words is ∙ words-placed items (map placed items) refl) h
+pub ended-some : (ts : List Placed) (ended : Bool) (left : Text) → Ends ended ts left → ended ≡ true → 0 < length ts
+ended-some ts false left ends is = absurd cc
+ended-some ts true left ends is = omega (arith, ap length ends.all, length-append ends.body (ends.last ∷ []))
 
-dead-words : (r : Reached) (items now : List Token) (left : ℕ) → now ≡ items → IsDead r (words now) left → IsDead r (map word_of (map placed items)) left
-dead-words r items now left is h = subst (λ (ws : List Word). IsDead r ws left) (ap words is ∙ words-placed items (map placed items) refl) h
+-- a statement has so many tokens
+pub span-size : (r : Text) (t : Span) → IsSpan r t → length (front_tokens t.tokens r) ≡ t.tokens
+span-size r t k = length-take-le t.tokens (cut_in r) k.within
 
-pub ended-some : (items : List Token) (ended : Bool) (left : Text) → Ends ended (map placed items) left → ended ≡ true → 0 < length items
-ended-some items false left ends is = absurd cc
-ended-some items true left ends is = omega (arith, ap length ends.all, length-append ends.body (ends.last ∷ []), length-map items placed)
+module _ (p : Place) (c : Bool) (text : List ℕ) (r : Reached) (s : Scan) (h : IsScan p c text r s) (alive : s.dead ≡ None) (t : Span) (k : IsSpan (reading s.place s.comment s.rest.now) t) where
+  abbrev us : List Placed
+  us = front_tokens t.tokens (reading s.place s.comment s.rest.now)
 
-module _ (p : Place) (c : Bool) (text : List ℕ) (r : Reached) (s : Scan) (h : IsScan p c text r s) (alive : s.dead ≡ None) (t : Statement) (k : IsStatement (reading s.place s.comment s.rest.now) t) where
-  pub statement-few : s.tokens + length t.tokens.items + length t.rest.now ≤ length text
+  pub statement-few : s.tokens + t.tokens + length t.rest.now ≤ length text
   statement-few = omega (arith, h.few, k.count, ap length (encodes-chars s.rest.now h.utf8))
 
   so-far : LeadsOn r (map word_of h.tokens) (reached_of s.awaited)
   so-far = subst (λ d. Finds r h.tokens d s.awaited) alive h.found
 
-  all-taken : HasTaken (reading p c text) (h.tokens ++ map placed t.tokens.items) (reading t.place t.comment t.rest.now)
-  all-taken = taken-more (reading p c text) (reading s.place s.comment s.rest.now) (reading t.place t.comment t.rest.now) h.tokens (map placed t.tokens.items) h.taken k.taken
+  all-taken : HasTaken (reading p c text) (h.tokens ++ us) (reading t.place t.comment t.rest.now)
+  all-taken = taken-more (reading p c text) (reading s.place s.comment s.rest.now) (reading t.place t.comment t.rest.now) h.tokens us h.taken k.taken
 
-  module _ (n : ℕ) (size : n ≡ length t.tokens.items) (now : List Token) (is : now ≡ t.tokens.items) where
-    counted : length (h.tokens ++ map placed t.tokens.items) ≡ s.tokens + n
-    counted = omega (arith, h.count, size, length-append h.tokens (map placed t.tokens.items), length-map t.tokens.items placed)
+  counted : length (h.tokens ++ us) ≡ s.tokens + t.tokens
+  counted = omega (arith, h.count, span-size (reading s.place s.comment s.rest.now) t k, length-append h.tokens us)
 
-    pub scan-led : (to : Awaited) → LeadsOn (reached_of s.awaited) (words now) (reached_of to) → IsScan p c text r (record { awaited = to; dead = None; tokens = s.tokens + n; place = t.place; comment = t.comment; rest = t.rest })
-    scan-led to leads = record {
-      tokens = h.tokens ++ map placed t.tokens.items;
-      taken = all-taken;
-      room = k.room;
-      utf8 = k.utf8;
-      count = counted;
-      few = omega (arith, statement-few, size);
-      found = leads-tokens r (reached_of s.awaited) (reached_of to) h.tokens (map placed t.tokens.items) so-far (led-words (reached_of s.awaited) (reached_of to) t.tokens.items now is leads);
-    }
+  pub scan-led : (to : Awaited) → LeadsOn (reached_of s.awaited) (map word_of us) (reached_of to) → IsScan p c text r (record { awaited = to; dead = None; tokens = s.tokens + t.tokens; place = t.place; comment = t.comment; rest = t.rest })
+  scan-led to leads = record {
+    tokens = h.tokens ++ us;
+    taken = all-taken;
+    room = k.room;
+    utf8 = k.utf8;
+    count = counted;
+    few = statement-few;
+    found = leads-tokens r (reached_of s.awaited) (reached_of to) h.tokens us so-far leads;
+  }
 
-    pub scan-dies : (left : ℕ) (d : DeadToken) (ts : List Token) → ts ≡ t.tokens.items → IsDead (reached_of s.awaited) (words now) left → TellsDead s.tokens (map placed ts) left d → d.token < s.tokens + length ts
-        → IsScan p c text r (record { awaited = s.awaited; dead = Some d; tokens = s.tokens + n; place = t.place; comment = t.comment; rest = t.rest })
-    scan-dies left d ts same dead told below = record {
-      tokens = h.tokens ++ map placed t.tokens.items;
-      taken = all-taken;
-      room = k.room;
-      utf8 = k.utf8;
-      count = counted;
-      few = omega (arith, statement-few, size);
-      found =
-          dead-tokens r (reached_of s.awaited) h.tokens (map placed t.tokens.items) s.tokens left d so-far (dead-words (reached_of s.awaited) t.tokens.items now left is dead) h.count
-          (subst (λ (us : List Token). TellsDead s.tokens (map placed us) left d) same told) (omega (arith, below, ap length same, length-map t.tokens.items placed));
-    }
+  pub scan-dies : (left : ℕ) (d : DeadToken) → IsDead (reached_of s.awaited) (map word_of us) left → TellsDead s.tokens us left d → d.token < s.tokens + t.tokens
+      → IsScan p c text r (record { awaited = s.awaited; dead = Some d; tokens = s.tokens + t.tokens; place = t.place; comment = t.comment; rest = t.rest })
+  scan-dies left d dead told below = record {
+    tokens = h.tokens ++ us;
+    taken = all-taken;
+    room = k.room;
+    utf8 = k.utf8;
+    count = counted;
+    few = statement-few;
+    found = dead-tokens r (reached_of s.awaited) h.tokens us s.tokens left d so-far dead h.count told (omega (arith, below, span-size (reading s.place s.comment s.rest.now) t k));
+  }

@@ -4,19 +4,17 @@ use Rattle.std.specs.Prelude.{slice_get}
 use Rattle.std.specs.Str.{chars, IsUtf8}
 use Rattle.std.proofs.lemmas.List.{append-nil, length-map, map_push}
 use Rattle.std.proofs.lemmas.Str.{encodes-chars}
-use Rattle.cyc_lex.specs.declared.token.Token.{Token}
 use Rattle.cyc_lex.specs.Lexing.{start, lex, comment_len, tokens_of, with_tokens}
-use Rattle.cyc_lex.specs.Placed.{Placed, placed}
+use Rattle.cyc_lex.specs.Placed.{Placed}
 use Rattle.cyc_lex.specs.Word.{Word, word_of}
 use Rattle.cyc_lex.proofs.Lexed.{with_tokens-ok, with_tokens-err}
 use Rattle.cyc_grammar.specs.Syntax.{Reading, ◌>>=◌, all_taken, read_whole}
 use Rattle.cyc_grammar.specs.Classes.{are_tokens}
-use Rattle.cyc_grammar.specs.Giving.{words}
 use Rattle.cyc_grammar.proofs.Laws.{whole_ok}
-use Rattle.cyc_grammar.proofs.WholeTexts.{words-placed, all-tokens}
-use Rattle.piecewise_lex.specs.declared.statements.Statement.{Statement}
+use Rattle.cyc_grammar.proofs.WholeTexts.{all-tokens}
+use Rattle.piecewise_lex.specs.declared.spans.Span.{Span}
 use Rattle.piecewise_lex.specs.Feeding.{tokens_from}
-use Rattle.piecewise_lex.specs.Statements.{IsStatement}
+use Rattle.piecewise_lex.specs.Spans.{IsSpan, front_tokens}
 use Rattle.piecewise_lex.specs.Taking.{reading, HasTaken}
 use Rattle.piecewise_lex.proofs.TakingLaws.{taken-more}
 use Rattle.piecewise_lex.proofs.TakingBytes.{taken-law}
@@ -64,14 +62,11 @@ use Rattle.proof_file.specs.Values.{node_value}
 use Rattle.file_reader.proofs.Beginning.{lead-none, lead-more, one-later, listed-append, file-flaws}
 use Rattle.file_reader.proofs.EndLaws.{later-tokens, text-tokens}
 use Rattle.file_reader.proofs.Fresh.{tokens-end, tokens-few, from-start}
+use Rattle.file_reader.proofs.ScanLaws.{span-size}
 use Rattle.file_reader.proofs.Sizes.{statement-span}
 use Rattle.file_reader.proofs.StepLaws.{map-append}
 
 -- ---- one statement
-
--- the words of a statement's tokens
-pub part-words : (P : List Word → Type 0) (now items : List Token) → now ≡ items → P (words now) → P (map word_of (map placed items))
-part-words P now items is h = subst P (ap words is ∙ words-placed items (map placed items) refl) h
 
 part-span : (in_lines : Bool) (v : Version) (vs : List Word) (s : Definition ⊎ (Line ⊎ Node)) → IsPart in_lines v vs [] s → length vs ≡ span_of (Preds v) s
 part-span false v vs s e = statement-span (Preds v) vs s e
@@ -130,81 +125,82 @@ total-more span (y ∷ ys) x = let more = total-more span ys x in omega arith
 
 -- ---- one more statement
 
-module _ (text : List ℕ) (s : Spot) (ts : List Placed) (h : IsAt text ts s) (t : Statement) (k : IsStatement (reading s.place s.comment s.rest.now) t) where
-  abbrev on : ℕ → Spot
-  on n = record { place = t.place; comment = t.comment; rest = t.rest; tokens = s.tokens + n }
+-- its tokens
+abbrev pub new_tokens : Spot → Span → List Placed
+new_tokens s t = front_tokens t.tokens (reading s.place s.comment s.rest.now)
 
-  pub at-few : s.tokens + length t.tokens.items + length t.rest.now ≤ length text
+module _ (text : List ℕ) (s : Spot) (ts : List Placed) (h : IsAt text ts s) (t : Span) (k : IsSpan (reading s.place s.comment s.rest.now) t) where
+  abbrev on : Spot
+  on = record { place = t.place; comment = t.comment; rest = t.rest; tokens = s.tokens + t.tokens }
+
+  pub at-few : s.tokens + t.tokens + length t.rest.now ≤ length text
   at-few = omega (arith, h.few, k.count, ap length (encodes-chars s.rest.now h.utf8))
 
-  pub at-more : (n : ℕ) → n ≡ length t.tokens.items → IsAt text (ts ++ map placed t.tokens.items) (on n)
-  at-more n size = record {
-    taken = taken-more (reading start false text) (reading s.place s.comment s.rest.now) (reading t.place t.comment t.rest.now) ts (map placed t.tokens.items) h.taken k.taken;
+  pub at-more : IsAt text (ts ++ new_tokens s t) on
+  at-more = record {
+    taken = taken-more (reading start false text) (reading s.place s.comment s.rest.now) (reading t.place t.comment t.rest.now) ts (new_tokens s t) h.taken k.taken;
     room = k.room;
     utf8 = k.utf8;
-    count = omega (arith, h.count, size, length-append ts (map placed t.tokens.items), length-map t.tokens.items placed);
-    few = omega (arith, at-few, size);
+    count = omega (arith, h.count, span-size (reading s.place s.comment s.rest.now) t k, length-append ts (new_tokens s t));
+    few = at-few;
   }
 
-  all-words : map word_of (ts ++ map placed t.tokens.items) ≡ map word_of ts ++ map word_of (map placed t.tokens.items)
-  all-words = map-append word_of ts (map placed t.tokens.items)
+  all-words : map word_of (ts ++ new_tokens s t) ≡ map word_of ts ++ map word_of (new_tokens s t)
+  all-words = map-append word_of ts (new_tokens s t)
 
-  size-of : (n span : ℕ) → n ≡ length t.tokens.items → length (map word_of (map placed t.tokens.items)) ≡ span → s.tokens + n ≡ s.tokens + span
-  size-of n span size e = omega (arith, size, e, length-map (map placed t.tokens.items) word_of, length-map t.tokens.items placed)
+  size-of : (span : ℕ) → length (map word_of (new_tokens s t)) ≡ span → s.tokens + t.tokens ≡ s.tokens + span
+  size-of span e = omega (arith, e, length-map (new_tokens s t) word_of, span-size (reading s.place s.comment s.rest.now) t k)
 
-module _ (text : List ℕ) (in_lines : Bool) (v : Version) (ds : List Definition) (ls : List Line) (s : Spot) (f : IsFront text in_lines v ds ls s) (t : Statement) (k : IsStatement (reading s.place s.comment s.rest.now) t) (n : ℕ) (size : n ≡ length t.tokens.items) (now : List Token) (is : now ≡ t.tokens.items) where
+module _ (text : List ℕ) (in_lines : Bool) (v : Version) (ds : List Definition) (ls : List Line) (s : Spot) (f : IsFront text in_lines v ds ls s) (t : Span) (k : IsSpan (reading s.place s.comment s.rest.now) t) where
   abbrev vs : List Word
-  vs = map word_of (map placed t.tokens.items)
+  vs = map word_of (new_tokens s t)
 
-  pub front-pred : (d : Definition) → IsPart in_lines v (words now) [] (inl d) → IsFront text in_lines v (ds ++ d ∷ []) ls (on text s f.tokens f.at t k n)
+  pub front-pred : (d : Definition) → IsPart in_lines v vs [] (inl d) → IsFront text in_lines v (ds ++ d ∷ []) ls (on text s f.tokens f.at t k)
   front-pred d e =
-      let part = part-words (λ (ws : List Word). IsPart in_lines v ws [] (inl d)) now t.tokens.items is e in
       record {
-        tokens = f.tokens ++ map placed t.tokens.items;
-        at = at-more text s f.tokens f.at t k n size;
-        leads = subst (λ (ws : List Word). LeadsFront in_lines v (ds ++ d ∷ []) ls ws) (sym (all-words text s f.tokens f.at t k)) (part-pred in_lines v ds ls (map word_of f.tokens) vs d f.leads part);
-        size = omega (arith, f.size, size-of text s f.tokens f.at t k n (definition_span d) size (part-span in_lines v vs (inl d) part), total-more definition_span ds d);
+        tokens = f.tokens ++ new_tokens s t;
+        at = at-more text s f.tokens f.at t k;
+        leads = subst (λ (ws : List Word). LeadsFront in_lines v (ds ++ d ∷ []) ls ws) (sym (all-words text s f.tokens f.at t k)) (part-pred in_lines v ds ls (map word_of f.tokens) vs d f.leads e);
+        size = omega (arith, f.size, size-of text s f.tokens f.at t k (definition_span d) (part-span in_lines v vs (inl d) e), total-more definition_span ds d);
       }
 
-  pub front-line : (l : Line) → IsPart in_lines v (words now) [] (inr (inl l)) → IsFront text true v ds (ls ++ l ∷ []) (on text s f.tokens f.at t k n)
+  pub front-line : (l : Line) → IsPart in_lines v vs [] (inr (inl l)) → IsFront text true v ds (ls ++ l ∷ []) (on text s f.tokens f.at t k)
   front-line l e =
-      let part = part-words (λ (ws : List Word). IsPart in_lines v ws [] (inr (inl l))) now t.tokens.items is e in
       record {
-        tokens = f.tokens ++ map placed t.tokens.items;
-        at = at-more text s f.tokens f.at t k n size;
-        leads = subst (λ (ws : List Word). LeadsFront true v ds (ls ++ l ∷ []) ws) (sym (all-words text s f.tokens f.at t k)) (part-line in_lines v ds ls (map word_of f.tokens) vs l f.leads part);
-        size = omega (arith, f.size, size-of text s f.tokens f.at t k n (line_span variable_span l) size (part-span in_lines v vs (inr (inl l)) part), total-more (line_span variable_span) ls l);
+        tokens = f.tokens ++ new_tokens s t;
+        at = at-more text s f.tokens f.at t k;
+        leads = subst (λ (ws : List Word). LeadsFront true v ds (ls ++ l ∷ []) ws) (sym (all-words text s f.tokens f.at t k)) (part-line in_lines v ds ls (map word_of f.tokens) vs l f.leads e);
+        size = omega (arith, f.size, size-of text s f.tokens f.at t k (line_span variable_span l) (part-span in_lines v vs (inr (inl l)) e), total-more (line_span variable_span) ls l);
       }
 
-  pub front-node-leads : (x : Node) → IsPart in_lines v (words now) [] (inr (inr x)) → LeadsNodes v ds ls (x ∷ []) (map word_of (f.tokens ++ map placed t.tokens.items))
+  pub front-node-leads : (x : Node) → IsPart in_lines v vs [] (inr (inr x)) → LeadsNodes v ds ls (x ∷ []) (map word_of (f.tokens ++ new_tokens s t))
   front-node-leads x e =
-      let part = part-words (λ (ws : List Word). IsPart in_lines v ws [] (inr (inr x))) now t.tokens.items is e in
-      subst (λ (ws : List Word). LeadsNodes v ds ls (x ∷ []) ws) (sym (all-words text s f.tokens f.at t k)) (part-node in_lines v ds ls (map word_of f.tokens) vs x f.leads part)
+      subst (λ (ws : List Word). LeadsNodes v ds ls (x ∷ []) ws) (sym (all-words text s f.tokens f.at t k)) (part-node in_lines v ds ls (map word_of f.tokens) vs x f.leads e)
 
-  pub front-node-span : (x : Node) → IsPart in_lines v (words now) [] (inr (inr x)) → s.tokens + n ≡ s.tokens + node_span x
-  front-node-span x e = size-of text s f.tokens f.at t k n (node_span x) size (part-span in_lines v vs (inr (inr x)) (part-words (λ (ws : List Word). IsPart in_lines v ws [] (inr (inr x))) now t.tokens.items is e))
+  pub front-node-span : (x : Node) → IsPart in_lines v vs [] (inr (inr x)) → s.tokens + t.tokens ≡ s.tokens + node_span x
+  front-node-span x e = size-of text s f.tokens f.at t k (node_span x) (part-span in_lines v vs (inr (inr x)) e)
 
-  pub front-node-fits : (x : Node) → IsPart in_lines v (words now) [] (inr (inr x)) → node.fits x
-  front-node-fits x e = part-node-fits in_lines v (words now) x e
+  pub front-node-fits : (x : Node) → IsPart in_lines v vs [] (inr (inr x)) → node.fits x
+  front-node-fits x e = part-node-fits in_lines v vs x e
 
 -- ---- the first statement
 
-pub front-open : (text : List ℕ) (t : Statement) → IsUtf8 text → IsStatement (reading start false text) t → (n : ℕ) → n ≡ length t.tokens.items → (now : List Token) → now ≡ t.tokens.items → (v : Version) → (statement_of First).read (words now) ≡ Ok (v, [])
-    → IsFront text false v [] [] (record { place = t.place; comment = t.comment; rest = t.rest; tokens = n })
-front-open text t utf8 k n size now is v e =
-    let us = map placed t.tokens.items in
-    let part = part-words (λ (ws : List Word). (statement_of First).read ws ≡ Ok (v, [])) now t.tokens.items is e in
+pub front-open : (text : List ℕ) (t : Span) → IsUtf8 text → IsSpan (reading start false text) t → (v : Version) → (statement_of First).read (map word_of (front_tokens t.tokens (reading start false text))) ≡ Ok (v, [])
+    → IsFront text false v [] [] (record { place = t.place; comment = t.comment; rest = t.rest; tokens = t.tokens })
+front-open text t utf8 k v e =
+    let us = front_tokens t.tokens (reading start false text) in
+    let size = span-size (reading start false text) t k in
     record {
       tokens = us;
       at = record {
         taken = k.taken;
         room = k.room;
         utf8 = k.utf8;
-        count = length-map t.tokens.items placed ∙ sym size;
-        few = omega (arith, size, k.count, ap length (encodes-chars text utf8));
+        count = size;
+        few = omega (arith, k.count, ap length (encodes-chars text utf8));
       };
-      leads = (refl, lead-more First [] (map word_of us) (λ x. x) v lead-none part);
-      size = omega (arith, size, statement-span First (map word_of us) v part, length-map us word_of, length-map t.tokens.items placed);
+      leads = (refl, lead-more First [] (map word_of us) (λ x. x) v lead-none e);
+      size = omega (arith, statement-span First (map word_of us) v e, length-map us word_of, size);
     }
 
 -- ---- nodes
@@ -255,9 +251,9 @@ nodes-begin text f hs first found values b flaw made = record {
   made = made;
 }
 
-module _ (text : List ℕ) (v : Version) (hs : List Heading) (ds : List Definition) (ls : List Line) (first found : Found) (values : List FileNode) (s : Spot) (f : AreNodes text v hs ds ls first found values s) (t : Statement) (k : IsStatement (reading s.place s.comment s.rest.now) t) (n : ℕ) (size : n ≡ length t.tokens.items) (now : List Token) (is : now ≡ t.tokens.items) where
+module _ (text : List ℕ) (v : Version) (hs : List Heading) (ds : List Definition) (ls : List Line) (first found : Found) (values : List FileNode) (s : Spot) (f : AreNodes text v hs ds ls first found values s) (t : Span) (k : IsSpan (reading s.place s.comment s.rest.now) t) where
   abbrev us : List Word
-  us = map word_of (map placed t.tokens.items)
+  us = map word_of (new_tokens s t)
 
   nodes-number : found ≡ None → length values ≡ length f.nodes
   nodes-number none = ap length (f.made none) ∙ length-map f.nodes (node_value hs)
@@ -269,16 +265,15 @@ module _ (text : List ℕ) (v : Version) (hs : List Heading) (ds : List Definiti
       by (Some flaw) is = refl
       by None is = λ i. node_flaw (most_spatial v) hs (length ls) (nodes-number is i) (f.size i) x
 
-  pub nodes-more : (x : Node) (next : Found) (all : List FileNode) → (statement_of Nodes).read (words now) ≡ Ok (inl x, []) → next ≡ or_later found (node_flaw (most_spatial v) hs (length ls) (length values) s.tokens x) → (next ≡ None → all ≡ values ++ node_value hs x ∷ [])
-      → AreNodes text v hs ds ls first next all (on text s f.tokens f.at t k n)
+  pub nodes-more : (x : Node) (next : Found) (all : List FileNode) → (statement_of Nodes).read us ≡ Ok (inl x, []) → next ≡ or_later found (node_flaw (most_spatial v) hs (length ls) (length values) s.tokens x) → (next ≡ None → all ≡ values ++ node_value hs x ∷ [])
+      → AreNodes text v hs ds ls first next all (on text s f.tokens f.at t k)
   nodes-more x next all e flaw more =
-      let part = part-words (λ (ws : List Word). (statement_of Nodes).read ws ≡ Ok (inl x, [])) now t.tokens.items is e in
       record {
         nodes = f.nodes ++ x ∷ [];
-        tokens = f.tokens ++ map placed t.tokens.items;
-        at = at-more text s f.tokens f.at t k n size;
-        leads = subst (λ (ws : List Word). LeadsNodes v ds ls (f.nodes ++ x ∷ []) ws) (sym (all-words text s f.tokens f.at t k)) (later-node v ds ls f.nodes (map word_of f.tokens) us x f.leads part);
-        size = omega (arith, f.size, size-of text s f.tokens f.at t k n (node_span x) size (statement-span Nodes us (inl x) part), total-more node_span f.nodes x);
+        tokens = f.tokens ++ new_tokens s t;
+        at = at-more text s f.tokens f.at t k;
+        leads = subst (λ (ws : List Word). LeadsNodes v ds ls (f.nodes ++ x ∷ []) ws) (sym (all-words text s f.tokens f.at t k)) (later-node v ds ls f.nodes (map word_of f.tokens) us x f.leads e);
+        size = omega (arith, f.size, size-of text s f.tokens f.at t k (node_span x) (statement-span Nodes us (inl x) e), total-more node_span f.nodes x);
         flaw =
             flaw ∙ here x ∙ ap (λ (o : Found). or_later o (node_flaw (most_spatial v) hs (length ls) (length f.nodes) (front_size ds ls + total node_span f.nodes) x)) f.flaw ∙ sym (found-more v hs ds ls first f.nodes x);
         made = λ none.
@@ -286,18 +281,17 @@ module _ (text : List ℕ) (v : Version) (hs : List Heading) (ds : List Definiti
             more none ∙ ap (λ (xs : List FileNode). xs ++ node_value hs x ∷ []) (f.made old) ∙ sym (map_push (node_value hs) f.nodes x);
       }
 
-  pub nodes-span : (x : Node) → (statement_of Nodes).read (words now) ≡ Ok (inl x, []) → s.tokens + node_span x ≤ length text
+  pub nodes-span : (x : Node) → (statement_of Nodes).read us ≡ Ok (inl x, []) → s.tokens + node_span x ≤ length text
   nodes-span x e =
-      omega (arith, at-few text s f.tokens f.at t k, size, size-of text s f.tokens f.at t k n (node_span x) size (statement-span Nodes us (inl x) (part-words (λ (ws : List Word). (statement_of Nodes).read ws ≡ Ok (inl x, [])) now t.tokens.items is e)))
+      omega (arith, at-few text s f.tokens f.at t k, size-of text s f.tokens f.at t k (node_span x) (statement-span Nodes us (inl x) e))
 
-  pub nodes-end : (statement_of Nodes).read (words now) ≡ Ok (inr tt, []) → IsAll text (f.tokens ++ map placed t.tokens.items) → AreAllNodes text v hs ds ls first found values
+  pub nodes-end : (statement_of Nodes).read us ≡ Ok (inr tt, []) → IsAll text (f.tokens ++ new_tokens s t) → AreAllNodes text v hs ds ls first found values
   nodes-end e all =
-      let part = part-words (λ (ws : List Word). (statement_of Nodes).read ws ≡ Ok (inr tt, [])) now t.tokens.items is e in
       record {
         nodes = f.nodes;
-        tokens = f.tokens ++ map placed t.tokens.items;
+        tokens = f.tokens ++ new_tokens s t;
         at = all;
-        leads = subst (λ (ws : List Word). Leads ws Ended (λ u. tree_of v ds ls f.nodes)) (sym (all-words text s f.tokens f.at t k)) (later-end v ds ls f.nodes (map word_of f.tokens) us f.leads part);
+        leads = subst (λ (ws : List Word). Leads ws Ended (λ u. tree_of v ds ls f.nodes)) (sym (all-words text s f.tokens f.at t k)) (later-end v ds ls f.nodes (map word_of f.tokens) us f.leads e);
         flaw = f.flaw;
         made = f.made;
       }
@@ -305,9 +299,8 @@ module _ (text : List ℕ) (v : Version) (hs : List Heading) (ds : List Definiti
 -- ---- the end of the text
 
 -- the tokens that are left
-pub rest-of : (text : List ℕ) (s : Spot) (ts : List Placed) (items : List Token) → IsUtf8 text → IsAt text ts s → lex true s.place (comment_len s.comment (chars s.rest.now)) (chars s.rest.now) ≡ Ok (map placed items) → tokens_of text ≡ Ok (ts ++ map placed items)
-rest-of text s ts items utf8 h e =
-    let us = map placed items in
+pub rest-of : (text : List ℕ) (s : Spot) (ts us : List Placed) → IsUtf8 text → IsAt text ts s → lex true s.place (comment_len s.comment (chars s.rest.now)) (chars s.rest.now) ≡ Ok us → tokens_of text ≡ Ok (ts ++ us)
+rest-of text s ts us utf8 h e =
     sym (from-start text)
     ∙ ap (tokens_from start false) (sym (append-nil text))
     ∙ taken-law start s.place false s.comment text s.rest.now ts utf8 h.utf8 h.taken []
@@ -315,11 +308,9 @@ rest-of text s ts items utf8 h e =
     ∙ ap (with_tokens ts) (sym (text-tokens s.place s.comment s.rest.now h.utf8) ∙ e)
     ∙ with_tokens-ok ts us
 
-pub rest-words : (text : List ℕ) (ts : List Placed) (items : List Token) → tokens_of text ≡ Ok (ts ++ map placed items) → are_tokens (words items) ≡ true
-rest-words text ts items e =
-    let us = map placed items in
-    let both = subst (λ (ws : List Word). are_tokens ws ≡ true) (map-append word_of ts us) (all-tokens (map word_of (ts ++ us)) (tokens-end text (ts ++ us) e)) in
-    subst (λ (ws : List Word). are_tokens ws ≡ true) (sym (words-placed items us refl)) (later-tokens (map word_of ts) (map word_of us) both)
+pub rest-words : (text : List ℕ) (ts us : List Placed) → tokens_of text ≡ Ok (ts ++ us) → are_tokens (map word_of us) ≡ true
+rest-words text ts us e =
+    later-tokens (map word_of ts) (map word_of us) (subst (λ (ws : List Word). are_tokens ws ≡ true) (map-append word_of ts us) (all-tokens (map word_of (ts ++ us)) (tokens-end text (ts ++ us) e)))
 
 -- ---- the whole
 

@@ -7,9 +7,7 @@ use Rattle.cyc_lex.specs.declared.fault.ReadFault.{ReadFault}
 use Rattle.cyc_lex.specs.declared.fault.ReadFault.TheVariants as faults
 use Rattle.cyc_lex.specs.Answer.{fault_of}
 use Rattle.cyc_lex.specs.Lexing.{start, with_tokens}
-use Rattle.cyc_lex.specs.declared.token.Token.{Token}
-use Rattle.cyc_lex.specs.Placed.{Placed, placed}
-use Rattle.cyc_grammar.specs.Giving.{words}
+use Rattle.cyc_lex.specs.Placed.{Placed}
 use Rattle.file_reader.specs.Outcomes.{syntax_fault}
 use Rattle.cyc_lex.specs.Word.{word_of}
 use Rattle.piecewise_lex.specs.Feeding.{tokens_from}
@@ -75,5 +73,5 @@ IsToldStop stops.OutOfMemory f = f ≡ faults.OutOfMemory
 IsToldStop (stops.At bad p) f = f ≡ faults.Lex (fault_of bad p)
 
 -- the fault is that of the first dead token, where so many tokens stand before these; or memory ran out
-abbrev pub IsLast : Reached → ℕ → List Token → ReadFault → Type 0
-IsLast r before ts f = (f ≡ faults.OutOfMemory) ⊎ ((left : ℕ) × IsDead r (words ts) left × (f ≡ syntax_fault before (map placed ts) left))
+abbrev pub IsLast : Reached → ℕ → List Placed → ReadFault → Type 0
+IsLast r before ts f = (f ≡ faults.OutOfMemory) ⊎ ((left : ℕ) × IsDead r (map word_of ts) left × (f ≡ syntax_fault before ts left))

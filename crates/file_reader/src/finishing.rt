@@ -1,21 +1,23 @@
 //! What a text comes to at its end.
 
-ghost use Rattle.std.specs.Prelude.{◌≡◌, ◌+◌, ◌-◌, ◌<◌, ◌^◌, [], true, length, Err, IfSome};
+ghost use Rattle.std.specs.Prelude.{◌≡◌, ◌+◌, ◌-◌, ◌<◌, ◌≤◌, ◌^◌, [], true, length, take, Err, IfSome};
+ghost use Rattle.cyc_lex.specs.Lexing.{HasRoom};
+ghost use Rattle.cyc_lex.specs.Cutting.{cut_text};
 ghost use Rattle.cyc_grammar.specs.Classes.{are_tokens};
-ghost use Rattle.cyc_grammar.specs.Giving.{words};
+ghost use Rattle.cyc_grammar.specs.Texts.{text_words};
 ghost use Rattle.file_reader.specs.Stages.{outcome};
 ghost use Rattle.file_reader.specs.Pieces.{Tells, bytes_fed};
 ghost use Rattle.file_reader.specs.Helds.{parts_of, IsAlive, IsHeld, IsLast, IsSmall, IsToldStop};
 ghost use Rattle.file_reader.specs.Scans.{reached_of};
 ghost use Rattle.file_reader.specs.declared.held.Held.TheVariants as kinds;
 
-use crate::awaited::Awaited;
 use crate::held::{Alive, Faulty, Held};
 use crate::passing::pass_tokens;
 use crate::scan::dead_token;
 use crate::step::{Step, take_step};
 use crate::whole::{answer_of, read_whole};
-use cyc_lex::{OutOfMemory, ReadFault, Stop, Token, fault_at, lex_from};
+use cyc_grammar::Cursor;
+use cyc_lex::{OutOfMemory, ReadFault, Stop, count_tokens, fault_at};
 use piecewise_lex::{first_bad, valid_front};
 use proof_file::{ProofFile, read_file};
 use std::alloc::Global;
@@ -30,7 +32,7 @@ fn told_stop(stop: Stop) -> ReadFault
 }
 
 /// The fault of a text with a syntax fault: this, or a lexical one among what waits.
-fn finish_faulty(alloc: Global, faulty: &Faulty) -> ReadFault
+fn finish_faulty(faulty: &Faulty) -> ReadFault
     requires small { IsSmall faulty.now.place }
     requires room { faulty.now.place.offset + length faulty.now.waiting.items < 2 ^ 32 - 1 }
     ensures { Tells (outcome (parts_of (kinds.Faulty faulty.now)) []) (Err result) }
@@ -41,7 +43,7 @@ fn finish_faulty(alloc: Global, faulty: &Faulty) -> ReadFault
     }
     match pass_tokens(faulty.place, faulty.comment, valid.text) {
         Ok(passed) => {
-            match lex_from(alloc, passed.place, passed.comment, true, passed.rest) {
+            match count_tokens(passed.place, passed.comment, passed.rest) {
                 Ok(_) => faulty.fault,
                 Err(stop) => told_stop(stop),
             }
@@ -50,21 +52,18 @@ fn finish_faulty(alloc: Global, faulty: &Faulty) -> ReadFault
     }
 }
 
-/// The fault of the last tokens, the end token too, where this statement is to come and so many tokens stand before them; none
-/// where they have none.
-fn last_fault(
-    alloc: Global,
-    awaited: Awaited,
-    before: u32,
-    tokens: &[Token<'_>],
-) -> Option<ReadFault>
-    requires words { are_tokens (words tokens.now) ≡ true }
-    requires few { before + length tokens.now < 2 ^ 32 }
-    ensures { IfSome result (IsLast (reached_of awaited) before tokens.now) }
+/// The fault of the last tokens of a text, so many with the end token; none where they have none.
+fn last_fault(alloc: Global, alive: &Alive, text: &str, count: usize) -> Option<ReadFault>
+    requires room { HasRoom alive.now.place (length text.now) }
+    requires count { count ≤ length (cut_text alive.now.place alive.now.comment text.now) }
+    requires words { are_tokens (text_words alive.now.place alive.now.comment text.now count) ≡ true }
+    requires few { alive.now.tokens + count < 2 ^ 32 }
+    ensures { IfSome result (IsLast (reached_of alive.now.awaited) alive.now.tokens (take count (cut_text alive.now.place alive.now.comment text.now))) }
 {
-    match take_step(alloc, awaited, tokens) {
+    let cursor = Cursor::of_text(alive.place, alive.comment, text, count);
+    match take_step(alloc, alive.awaited, cursor) {
         Ok(Step::Dead(left)) => {
-            let dead = dead_token(before, tokens, left);
+            let dead = dead_token(alive.tokens, alive.place, alive.comment, text, count, left);
             Some(ReadFault::Syntax {
                 token: dead.token,
                 line: dead.line,
@@ -87,8 +86,8 @@ fn end_fault(alloc: Global, alive: &Alive) -> Option<ReadFault>
     if !valid.tail.is_empty() {
         return Some(told_stop(first_bad(alive.place, alive.comment, valid.text)));
     }
-    match lex_from(alloc, alive.place, alive.comment, true, valid.text) {
-        Ok(tokens) => last_fault(alloc, alive.awaited, alive.tokens, &tokens),
+    match count_tokens(alive.place, alive.comment, valid.text) {
+        Ok(count) => last_fault(alloc, alive, valid.text, count),
         Err(stop) => Some(told_stop(stop)),
     }
 }
@@ -117,7 +116,7 @@ pub fn finish(alloc: Global, held: &Held) -> Result<ProofFile, ReadFault>
 {
     match held {
         Held::Alive(alive) => finish_alive(alloc, alive),
-        Held::Faulty(faulty) => Err(finish_faulty(alloc, faulty)),
+        Held::Faulty(faulty) => Err(finish_faulty(faulty)),
         Held::Unlexed(fault, _) => Err(ReadFault::Lex(*fault)),
         Held::Lost(_) => Err(ReadFault::OutOfMemory),
     }

@@ -4,9 +4,10 @@ ghost use Rattle.std.specs.Prelude.{◌-◌, ◌<◌, ◌^◌, [], length, false
 ghost use Rattle.file_reader.specs.Wholes.{IsBegun, IsFront};
 
 use crate::part::{first_part, front_part};
+use cyc_grammar::Cursor;
 use cyc_lex::{Place, Stop};
 use heap_syntax::Version;
-use piecewise_lex::take_statement;
+use piecewise_lex::pass_statement;
 use proof_statements::{LineOrNode, PredOrLater};
 use proof_syntax::{DefinitionTree, LineTree, NodeTree};
 use std::alloc::Global;
@@ -38,19 +39,20 @@ pub struct Opened<'a> {
     pub behind: Spot<'a>,
 }
 
-fn read_first(alloc: Global, text: &str) -> Result<Option<Opened<'_>>, Stop>
+fn read_first(text: &str) -> Result<Option<Opened<'_>>, Stop>
     requires { length text.now < 2 ^ 32 - 1 }
     ensures { IfOk result (λ o. IfSome o (λ f. IsFront text.now false f.version [] [] f.behind)) }
 {
-    let statement = take_statement(alloc, Place::START, false, text)?;
-    match first_part(&statement.tokens) {
+    let statement = pass_statement(Place::START, false, text)?;
+    let cursor = Cursor::of_text(Place::START, false, text, statement.tokens);
+    match first_part(cursor) {
         Some(version) => Ok(Some(Opened {
             version,
             behind: Spot {
                 place: statement.place,
                 comment: statement.comment,
                 rest: statement.rest,
-                tokens: statement.tokens.len(),
+                tokens: statement.tokens,
             },
         })),
         None => Ok(None),
@@ -62,7 +64,7 @@ pub fn read_front(alloc: Global, text: &str) -> Result<Option<Front<'_>>, Stop>
     requires { length text.now < 2 ^ 32 - 1 }
     ensures { IfOk result (λ o. IfSome o (IsBegun text.now)) }
 {
-    let opened = match read_first(alloc, text)? {
+    let opened = match read_first(text)? {
         Some(opened) => opened,
         None => return Ok(None),
     };
@@ -72,18 +74,19 @@ pub fn read_front(alloc: Global, text: &str) -> Result<Option<Front<'_>>, Stop>
     let mut in_lines = false;
     let mut spot = opened.behind;
     'parts: loop {
-        let statement = take_statement(alloc, spot.place, spot.comment, spot.rest)?;
+        let statement = pass_statement(spot.place, spot.comment, spot.rest)?;
         if !statement.ended {
             return Ok(None);
         }
+        let cursor = Cursor::of_text(spot.place, spot.comment, spot.rest, statement.tokens);
         let before = spot.tokens;
         spot = Spot {
             place: statement.place,
             comment: statement.comment,
             rest: statement.rest,
-            tokens: before + statement.tokens.len(),
+            tokens: before + statement.tokens,
         };
-        match front_part(alloc, version, in_lines, &statement.tokens)? {
+        match front_part(alloc, version, in_lines, cursor)? {
             None => return Ok(None),
             Some(part) => match part {
                 PredOrLater::Pred(tree) => definitions.push(tree)?,

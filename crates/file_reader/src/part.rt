@@ -2,14 +2,12 @@
 
 ghost use Rattle.std.specs.Prelude.{◌≡◌, true, [], Ok, IfOk, IfSome};
 ghost use Rattle.std.proofs.Common.{inl, inr};
-ghost use Rattle.cyc_grammar.specs.Classes.{are_tokens};
-ghost use Rattle.cyc_grammar.specs.Giving.{words};
 ghost use Rattle.proof_statements.specs.Left.{First, Nodes, statement_of};
 ghost use Rattle.proof_statements.specs.Trees.{pred_or_later_of, node_or_end_of};
 ghost use Rattle.file_reader.specs.Wholes.{IsPart, IsTheEnd};
 
 use cyc_grammar::{Cursor, Refusal};
-use cyc_lex::{OutOfMemory, Token};
+use cyc_lex::OutOfMemory;
 use heap_syntax::Version;
 use proof_statements::{
     NodeOrEnd, PredOrLater, first_statement, line_or_node, node_or_end, pred_or_later,
@@ -17,11 +15,10 @@ use proof_statements::{
 use std::alloc::Global;
 
 /// The version that the first statement says; none where the tokens are none.
-pub fn first_part(tokens: &[Token<'_>]) -> Option<Version>
-    requires { are_tokens (words tokens.now) ≡ true }
-    ensures { IfSome result (λ v. (statement_of First).read (words tokens.now) ≡ Ok (v, [])) }
+pub fn first_part(cursor: Cursor<'_, '_>) -> Option<Version>
+    ensures { IfSome result (λ v. (statement_of First).read cursor.entry ≡ Ok (v, [])) }
 {
-    let mut cursor = Cursor::new(tokens);
+    let mut cursor = cursor;
     match first_statement(&mut cursor) {
         Ok(version) => {
             if cursor.left() > 0 {
@@ -52,12 +49,11 @@ pub fn front_part<'a>(
     alloc: Global,
     version: Version,
     in_lines: bool,
-    tokens: &[Token<'a>],
+    cursor: Cursor<'_, 'a>,
 ) -> Result<Option<PredOrLater<'a>>, OutOfMemory>
-    requires { are_tokens (words tokens.now) ≡ true }
-    ensures { IfOk result (λ o. IfSome o (λ s. IsPart in_lines version (words tokens.now) [] (pred_or_later_of s))) }
+    ensures { IfOk result (λ o. IfSome o (λ s. IsPart in_lines version cursor.entry [] (pred_or_later_of s))) }
 {
-    let mut cursor = Cursor::new(tokens);
+    let mut cursor = cursor;
     match read_part(alloc, version, in_lines, &mut cursor) {
         Ok(part) => {
             if cursor.left() > 0 {
@@ -73,12 +69,11 @@ pub fn front_part<'a>(
 /// A node, or the last statement; none where the tokens are none.
 pub fn later_part<'a>(
     alloc: Global,
-    tokens: &[Token<'a>],
+    cursor: Cursor<'_, 'a>,
 ) -> Result<Option<NodeOrEnd<'a>>, OutOfMemory>
-    requires { are_tokens (words tokens.now) ≡ true }
-    ensures { IfOk result (λ o. IfSome o (λ s. (statement_of Nodes).read (words tokens.now) ≡ Ok (node_or_end_of s, []))) }
+    ensures { IfOk result (λ o. IfSome o (λ s. (statement_of Nodes).read cursor.entry ≡ Ok (node_or_end_of s, []))) }
 {
-    let mut cursor = Cursor::new(tokens);
+    let mut cursor = cursor;
     match node_or_end(alloc, &mut cursor) {
         Ok(part) => {
             if cursor.left() > 0 {
@@ -92,11 +87,10 @@ pub fn later_part<'a>(
 }
 
 /// Whether the tokens are the end token alone.
-pub fn is_the_end(tokens: &[Token<'_>]) -> bool
-    requires { are_tokens (words tokens.now) ≡ true }
-    ensures { result ≡ true → IsTheEnd (words tokens.now) }
+pub fn is_the_end(cursor: Cursor<'_, '_>) -> bool
+    ensures { result ≡ true → IsTheEnd cursor.entry }
 {
-    let mut cursor = Cursor::new(tokens);
+    let mut cursor = cursor;
     match cursor.end() {
         Ok(()) => cursor.left() == 0,
         Err(_) => false,

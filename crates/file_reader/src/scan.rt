@@ -1,14 +1,15 @@
 //! Reading the statements at the front of a text.
 
-ghost use Rattle.std.specs.Prelude.{◌+◌, ◌<◌, ◌≤◌, ◌^◌, length, map};
+ghost use Rattle.std.specs.Prelude.{◌+◌, ◌<◌, ◌≤◌, ◌^◌, length, take};
 ghost use Rattle.cyc_lex.specs.Lexing.{HasRoom};
-ghost use Rattle.cyc_lex.specs.Placed.{placed};
+ghost use Rattle.cyc_lex.specs.Cutting.{cut_text};
 ghost use Rattle.file_reader.specs.Scans.{Scans, TellsDead, reached_of};
 
 use crate::awaited::Awaited;
 use crate::step::{Step, take_step};
-use cyc_lex::{Place, Stop, Token};
-use piecewise_lex::take_statement;
+use cyc_grammar::Cursor;
+use cyc_lex::{Place, Stop, token_at};
+use piecewise_lex::pass_statement;
 use std::alloc::Global;
 
 /// The first dead token of a text, counted from 0, with its line and column.
@@ -31,16 +32,26 @@ pub struct Scan<'a> {
     pub rest: &'a str,
 }
 
-/// The token from which on so many are left, where others stand before.
-pub fn dead_token(before: u32, tokens: &[Token<'_>], left: usize) -> DeadToken
+/// The token from which on so many are left of the first tokens of a text that stands at a place, where a comment goes on or
+/// none does, and where others stand before. The text is gone through once more.
+pub fn dead_token(
+    before: u32,
+    place: Place,
+    comment: bool,
+    text: &str,
+    count: usize,
+    left: usize,
+) -> DeadToken
+    requires room { HasRoom place (length text.now) }
+    requires count { count ≤ length (cut_text place comment text.now) }
     requires some { 0 < left }
-    requires within { left ≤ length tokens.now }
-    requires few { before + length tokens.now < 2 ^ 32 }
-    ensures told { TellsDead before (map placed tokens.now) left result }
-    ensures below { result.token < before + length tokens.now }
+    requires within { left ≤ count }
+    requires few { before + count < 2 ^ 32 }
+    ensures told { TellsDead before (take count (cut_text place comment text.now)) left result }
+    ensures below { result.token < before + count }
 {
-    let at = tokens.len() - left;
-    let token = &tokens[at];
+    let at = count - left;
+    let token = token_at(place, comment, text, at);
     DeadToken {
         token: before + at as u32,
         line: token.line,
@@ -69,14 +80,22 @@ pub fn read_statements(
         rest: text,
     };
     'statements: loop {
-        let statement = take_statement(alloc, scan.place, scan.comment, scan.rest)?;
-        let tokens = scan.tokens + statement.tokens.len() as u32;
-        match take_step(alloc, scan.awaited, &statement.tokens)? {
+        let statement = pass_statement(scan.place, scan.comment, scan.rest)?;
+        let tokens = scan.tokens + statement.tokens as u32;
+        let cursor = Cursor::of_text(scan.place, scan.comment, scan.rest, statement.tokens);
+        match take_step(alloc, scan.awaited, cursor)? {
             Step::Open => return Ok(scan),
             Step::Dead(left) => {
                 return Ok(Scan {
                     awaited: scan.awaited,
-                    dead: Some(dead_token(scan.tokens, &statement.tokens, left)),
+                    dead: Some(dead_token(
+                        scan.tokens,
+                        scan.place,
+                        scan.comment,
+                        scan.rest,
+                        statement.tokens,
+                        left,
+                    )),
                     tokens,
                     place: statement.place,
                     comment: statement.comment,

@@ -1,13 +1,12 @@
 //! What the tokens of one statement come to.
 
-ghost use Rattle.std.specs.Prelude.{◌≡◌, true, IfOk};
-ghost use Rattle.cyc_grammar.specs.Classes.{are_tokens};
-ghost use Rattle.cyc_grammar.specs.Giving.{Gives, words};
+ghost use Rattle.std.specs.Prelude.{◌≡◌, IfOk};
+ghost use Rattle.cyc_grammar.specs.Giving.{Gives};
 ghost use Rattle.file_reader.specs.Scans.{reached_of, next_read, IsRefused, IsStep};
 
 use crate::awaited::Awaited;
 use cyc_grammar::{Cursor, Refusal};
-use cyc_lex::{OutOfMemory, Token};
+use cyc_lex::OutOfMemory;
 use heap_syntax::Version;
 use proof_statements::{
     LineOrNode, NodeOrEnd, PredOrLater, first_statement, line_or_node, node_or_end, pred_or_later,
@@ -105,11 +104,14 @@ fn refused(refusal: Refusal) -> Result<Step, OutOfMemory>
 }
 
 /// What the tokens come to where this statement is to come.
-pub fn take_step(alloc: Global, awaited: Awaited, tokens: &[Token<'_>]) -> Result<Step, OutOfMemory>
-    requires { are_tokens (words tokens.now) ≡ true }
-    ensures { IfOk result (IsStep (reached_of awaited) (words tokens.now)) }
+pub fn take_step(
+    alloc: Global,
+    awaited: Awaited,
+    cursor: Cursor<'_, '_>,
+) -> Result<Step, OutOfMemory>
+    ensures { IfOk result (IsStep (reached_of awaited) cursor.entry) }
 {
-    let mut cursor = Cursor::new(tokens);
+    let mut cursor = cursor;
     match after_statement(alloc, awaited, &mut cursor) {
         Ok(next) => {
             if cursor.left() > 0 {

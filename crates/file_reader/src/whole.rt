@@ -8,9 +8,10 @@ use crate::flaw_place::fault_of_flaw;
 use crate::found::{Found, take_node};
 use crate::front::{Front, Spot, read_front};
 use crate::part::{is_the_end, later_part};
-use cyc_lex::{OutOfMemory, ReadFault, Stop, lex_from};
+use cyc_grammar::Cursor;
+use cyc_lex::{OutOfMemory, ReadFault, Stop, count_tokens};
 use heap_reader::{Flaw, Heads};
-use piecewise_lex::{take_statement, valid_front};
+use piecewise_lex::{pass_statement, valid_front};
 use pred_reader::heads;
 use proof_file::{ProofFile, file_of_values, front_flaw, front_values};
 use proof_statements::NodeOrEnd;
@@ -34,12 +35,13 @@ pub fn answer_of(whole: Whole) -> Result<ProofFile, ReadFault>
 }
 
 /// Whether nothing but the end of the text is left.
-fn ends(alloc: Global, text: &str, spot: &Spot<'_>) -> Result<bool, Stop>
+fn ends(text: &str, spot: &Spot<'_>) -> Result<bool, Stop>
     requires { (ts : List Placed) × IsAt text.now ts spot.now }
     ensures { IfOk result (λ b. b ≡ true → (ts : List Placed) → IsAt text.now ts spot.now → IsAll text.now ts) }
 {
-    let tokens = lex_from(alloc, spot.place, spot.comment, true, spot.rest)?;
-    Ok(is_the_end(&tokens))
+    let count = count_tokens(spot.place, spot.comment, spot.rest)?;
+    let cursor = Cursor::of_text(spot.place, spot.comment, spot.rest, count);
+    Ok(is_the_end(cursor))
 }
 
 /// What is found of the nodes, the first of which was read, where this is the first flaw before them; none where the text has a
@@ -72,25 +74,26 @@ fn read_nodes(
     )?;
     let mut spot = front.behind;
     'nodes: loop {
-        let statement = take_statement(alloc, spot.place, spot.comment, spot.rest)?;
+        let statement = pass_statement(spot.place, spot.comment, spot.rest)?;
         if !statement.ended {
             return Ok(None);
         }
+        let cursor = Cursor::of_text(spot.place, spot.comment, spot.rest, statement.tokens);
         let before = spot.tokens;
         spot = Spot {
             place: statement.place,
             comment: statement.comment,
             rest: statement.rest,
-            tokens: before + statement.tokens.len(),
+            tokens: before + statement.tokens,
         };
-        match later_part(alloc, &statement.tokens)? {
+        match later_part(alloc, cursor)? {
             None => return Ok(None),
             Some(part) => match part {
                 NodeOrEnd::Node(tree) => {
                     found = take_node(alloc, heads, front.version, count, before, &tree, found)?;
                 }
                 NodeOrEnd::End => {
-                    if ends(alloc, text, &spot)? {
+                    if ends(text, &spot)? {
                         return Ok(Some(found));
                     }
                     return Ok(None);

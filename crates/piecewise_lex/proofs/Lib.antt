@@ -2,6 +2,7 @@ pub mod Carrying
 pub mod Utf8Cuts
 pub mod Extending
 pub mod TakingLaws
+pub mod SpanLaws
 pub mod Fed
 pub mod ShortTokens
 pub mod FrontLaws

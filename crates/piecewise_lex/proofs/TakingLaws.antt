@@ -23,11 +23,13 @@ use Rattle.cyc_lex.specs.Lexing.{pass, pass_all, piece_at, piece_of, piece_chars
 use Rattle.piecewise_lex.specs.Feeding.{may_grow, is_held, taken_chars, held_chars, ends_in_comment, tokens_taken}
 use Rattle.cyc_lex.specs.Lexing.{comment_len}
 use Rattle.piecewise_lex.specs.Owned.{IsShort}
-use Rattle.piecewise_lex.specs.Taking.{Reading, reading, tokens_in, HasTaken, Waits, stays}
+use Rattle.piecewise_lex.specs.Taking.{Reading, reading, tokens_in, cut_in, HasTaken, Waits, stays}
 use Rattle.piecewise_lex.proofs.ShortTokens.{short-piece, lexeme-piece}
 use Rattle.cyc_lex.specs.Word.{word, word_of, is_lexeme}
 use Rattle.cyc_lex.proofs.Pieces.{comment_len-false}
 use Rattle.cyc_lex.proofs.Pieces.{pass_all-append, scalars-parts}
+use Rattle.cyc_lex.specs.Cutting.{cut_tokens}
+use Rattle.cyc_lex.proofs.CutLaws.{cut-skip, cut-next}
 use Rattle.cyc_lex.proofs.Lexed.{Found, IsNext, with_tokens-err, with_tokens-append, with_tokens-ok, some-chars, taken-token, taken-long, nil-bytes}
 use Rattle.piecewise_lex.proofs.Carrying.{taken-held, taken-free, held-held, held-free, comment-held, comment-free, tokens-held, tokens-free, taken-skip, held-skip, comment-skip, tokens-skip}
 
@@ -43,6 +45,7 @@ pub record IsOn (p0 : Place) (b0 : Bool) (cs0 : List ℕ) (p : Place) (b : Bool)
   pub utf8 : IsUtf8 rest
   pub within : length (chars rest) ≤ length cs0
   pub bytes : length rest ≤ length (encode_utf8_all cs0)
+  pub cut : cut_tokens p 0 (chars rest) ≡ cut_tokens p0 (comment_len b0 cs0) cs0
 
 length-dropped : (n : ℕ) (cs : List ℕ) → length (drop n cs) ≤ length cs
 length-dropped zero cs = omega arith
@@ -66,6 +69,7 @@ on-start p0 b0 cs0 p rest same place room utf8 =
       utf8 = utf8;
       within = omega (arith, ap length same, length-dropped k cs0);
       bytes = omega (arith, ap length (sym (encodes-chars rest utf8)), ap (λ (cs : List ℕ). length (encode_utf8_all cs)) same, dropped-bytes k cs0);
+      cut = (λ i. cut_tokens (place i) 0 (same i)) ∙ sym (cut-skip p0 k cs0);
     }
 
 -- what comes after a piece that doesn't wait
@@ -174,6 +178,7 @@ on-gap p0 b0 cs0 p b rest front after q h n free = record {
   utf8 = n.utf8;
   within = omega (arith, h.within, fewer p0 b0 cs0 p b rest h pieces.Gap front after q n);
   bytes = omega (arith, h.bytes, fewer-bytes p0 b0 cs0 p b rest h pieces.Gap front after q n);
+  cut = sym (cut-next p rest pieces.Gap front after q h.utf8 n) ∙ h.cut;
 }
 
 -- where characters are left, whether a comment went on before them does not matter
@@ -194,6 +199,7 @@ pub record IsTokenTaken (p0 : Place) (b0 : Bool) (text : List ℕ) (t : Token) (
   pub lexeme : is_lexeme (word t) ≡ true
   pub fewer : length (chars after) < length (chars text)
   pub bytes : length after < length (encode_utf8_all (chars text))
+  pub cut : cut_in (reading p0 b0 text) ≡ placed t ∷ cut_in (reading q false after)
 
 pub at-token : (p0 : Place) (b0 : Bool) (text : List ℕ) (p : Place) (b : Bool) (rest : List ℕ) (k : Kind) (front after : List ℕ) (q : Place) (t : Token) → IsOn p0 b0 (chars text) p b rest → IsNext p rest (pieces.Token k) front after q → stays (pieces.Token k) front after ≡ false
     → len_fault k p front ≡ Ok tt → placed t ≡ token_at k p front → IsTokenTaken p0 b0 text t q after
@@ -218,6 +224,7 @@ at-token p0 b0 text p b rest k front after q t h n free fits same =
       lexeme = ap (λ (x : Placed). is_lexeme (word_of x)) same ∙ lexeme-piece p (chars rest) (scalars-chars rest h.utf8) (first-chars p0 b0 cs0 p b rest h (pieces.Token k) front after q n) k (sym n.kind) front n.front fits;
       fewer = omega (arith, less, h.within);
       bytes = omega (arith, h.bytes, fewer-bytes p0 b0 cs0 p b rest h (pieces.Token k) front after q n);
+      cut = sym h.cut ∙ cut-next p rest (pieces.Token k) front after q h.utf8 n ∙ ap (λ x. x ∷ cut_tokens q 0 (chars after)) (sym same) ∙ ap (λ i. placed t ∷ cut_tokens q i (chars after)) (sym none);
     }
 
 pub at-stray : (p0 : Place) (b0 : Bool) (cs0 : List ℕ) (p : Place) (b : Bool) (rest : List ℕ) (front after : List ℕ) (q : Place) → IsOn p0 b0 cs0 p b rest → IsNext p rest pieces.Stray front after q → stays pieces.Stray front after ≡ false → tokens_taken p0 (comment_len b0 cs0) cs0 ≡ Err (bads.Byte, p)
@@ -237,6 +244,7 @@ pub record IsAllTaken (p0 : Place) (b0 : Bool) (text : List ℕ) (p : Place) (d 
   pub room : HasRoom p (length rest)
   pub utf8 : IsUtf8 rest
   pub waits : Waits (reading p d rest)
+  pub cut : cut_in (reading p0 b0 text) ≡ cut_in (reading p d rest)
 
 done : (p0 : Place) (b0 : Bool) (text : List ℕ) (p : Place) (b d : Bool) (rest : List ℕ) → IsOn p0 b0 (chars text) p b rest → comment_len d (chars rest) ≡ 0 → tokens_taken p 0 (chars rest) ≡ Ok [] → taken_chars 0 (chars rest) ≡ [] → held_chars 0 (chars rest) ≡ chars rest → ends_in_comment b 0 (chars rest) ≡ d
     → ends_in_comment d 0 (chars rest) ≡ d → IsAllTaken p0 b0 text p d rest
@@ -256,6 +264,7 @@ done p0 b0 text p b d rest h none free nothing all goes again = record {
     place = ap (λ i. pass_all p (taken_chars i (chars rest))) none ∙ ap (pass_all p) nothing;
     comment = ap (λ i. ends_in_comment d i (chars rest)) none ∙ again;
   };
+  cut = sym h.cut ∙ ap (λ i. cut_tokens p i (chars rest)) (sym none);
 }
 
 pub all-held : (p0 : Place) (b0 : Bool) (text : List ℕ) (p : Place) (b : Bool) (rest : List ℕ) (piece : Piece) (front after : List ℕ) (q : Place) → IsOn p0 b0 (chars text) p b rest → IsNext p rest piece front after q → stays piece front after ≡ true → IsAllTaken p0 b0 text p false rest

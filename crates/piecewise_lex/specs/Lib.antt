@@ -7,4 +7,5 @@ pub mod Fronts
 pub mod Runs
 pub mod Batches
 pub mod Statements
+pub mod Spans
 pub mod Law

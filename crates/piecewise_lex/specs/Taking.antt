@@ -1,5 +1,5 @@
 -- Taking tokens off the front of a text, of which more may come.
-use Rattle.std.specs.Prelude.{◌≡◌, ℕ, ◌<◌, Bool, true, false, ◌&&◌, ◌==◌, List, [], ◌∷◌, length, slice_index, Option, Some, None, Result, Ok, Err}
+use Rattle.std.specs.Prelude.{◌≡◌, ℕ, ◌<◌, Bool, true, false, ◌&&◌, ◌==◌, List, [], ◌∷◌, ◌++◌, length, slice_index, Option, Some, None, Result, Ok, Err}
 use Rattle.std.specs.Str.{chars, encode_utf8_all, IsUtf8}
 use Rattle.cyc_lex.specs.declared.place.Place.{Place}
 use Rattle.cyc_lex.specs.declared.place.Bad.{Bad}
@@ -9,6 +9,7 @@ use Rattle.cyc_lex.specs.declared.token.Token.{Token}
 use Rattle.cyc_lex.specs.Placed.{Placed, placed}
 use Rattle.cyc_lex.specs.Word.{word, is_lexeme}
 use Rattle.cyc_lex.specs.Lexing.{pass_all, with_tokens, HasRoom, Stops, comment_len}
+use Rattle.cyc_lex.specs.Cutting.{cut_tokens}
 use Rattle.piecewise_lex.specs.declared.taking.Taken.{Taken}
 use Rattle.piecewise_lex.specs.Owned.{IsShort}
 use Rattle.piecewise_lex.specs.Feeding.{may_grow, taken_chars, held_chars, ends_in_comment, tokens_taken}
@@ -41,6 +42,10 @@ place_in r = pass_all r.place (taken_chars (skipped r) r.chars)
 
 abbrev pub comment_in : Reading → Bool
 comment_in r = ends_in_comment r.comment (skipped r) r.chars
+
+-- the tokens of all the characters, the end token last, where what is bad is passed over
+abbrev pub cut_in : Reading → List Placed
+cut_in r = cut_tokens r.place (skipped r) r.chars
 
 -- these tokens come first, and all else is what the other text has
 pub record HasTaken (old : Reading) (ts : List Placed) (new : Reading) : Type 0 where
@@ -76,6 +81,7 @@ pub record IsTaken (p : Place) (comment : Bool) (text : List ℕ) (t : Taken) : 
   pub room : HasRoom t.place (length t.rest.now)
   pub utf8 : IsUtf8 t.rest.now
   pub nearer : IsNearer text t t.token
+  pub cut : cut_in (reading p comment text) ≡ listed t.token ++ cut_in (reading t.place t.comment t.rest.now)
 
 -- the fault is the first of the tokens that do not wait
 abbrev pub Takes : Place → Bool → List ℕ → Result Taken Stop → Type 0

@@ -23,7 +23,7 @@ pub struct Statement<'a> {
     pub rest: &'a str,
 }
 
-fn is_semicolon(token: &Token<'_>) -> bool
+pub fn is_semicolon(token: &Token<'_>) -> bool
     ensures { result ≡ is_semicolon (placed token.now) }
 {
     match token.kind {

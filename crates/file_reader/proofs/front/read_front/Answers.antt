@@ -1,11 +1,9 @@
-use Rattle.std.proofs.Common.{◌≡◌, ◌+◌, Bool, List, [], ◌∷◌, ◌++◌, true, length, map, sym, ap, subst, ◌∙◌, arith}
+use Rattle.std.proofs.Common.{◌≡◌, ◌+◌, List, [], ◌∷◌, ◌++◌, true, length, map, sym, ap, subst, ◌∙◌, arith}
 use Rattle.std.specs.Prelude.{IfSome}
 use Rattle.std.proofs.lemmas.List.{map_push}
 use Rattle.std.proofs.lemmas.Str.{encodes-chars}
-use Rattle.cyc_lex.specs.declared.token.Token.{Token}
-use Rattle.cyc_lex.specs.Placed.{placed}
-use Rattle.cyc_grammar.specs.Classes.{are_tokens}
-use Rattle.cyc_grammar.specs.Giving.{words}
+use Rattle.cyc_lex.specs.Word.{Word}
+use Rattle.cyc_grammar.specs.Texts.{text_words}
 use Rattle.piecewise_lex.specs.Taking.{reading}
 use Rattle.proof_syntax.specs.Trees.{Definition, Line, definition_of, node_of}
 use Rattle.proof_statements.specs.declared.tree.LineOrNode.{LineOrNode}
@@ -14,19 +12,24 @@ use Rattle.proof_statements.specs.declared.tree.PredOrLater.TheVariants as parts
 use Rattle.proof_statements.specs.Trees.{pred_or_later_of}
 use Rattle.file_reader.specs.declared.front.Spot.{Spot}
 use Rattle.file_reader.specs.Wholes.{IsPart, IsFront}
-use Rattle.file_reader.proofs.ScanLaws.{words-tokens, ended-some}
-use Rattle.file_reader.proofs.WholeLaws.{at-more, front-pred, front-line, front-node-leads, front-node-span, front-node-fits}
+use Rattle.file_reader.proofs.ScanLaws.{tokens-of-lexemes, ended-some, span-size}
+use Rattle.file_reader.proofs.WholeLaws.{new_tokens, at-few, at-more, front-pred, front-line, front-node-leads, front-node-span, front-node-fits}
 use Rattle.file_reader.proofs.front.read_front.Goals as goal
-use Rattle.file_reader.proofs.front.read_front.Goals.{in-Pred+in_ok-push-in-Pred, in-Later+in-Line+in_ok-push-in-Line}
 
-pub front_part-requires : goal.front_part-requires
-front_part-requires c =
-    subst (λ (ts : List Token). are_tokens (words ts) ≡ true) (sym c.deref.ensures.value) (words-tokens c.in_ok-statement.statement.tokens.items c.in_ok-statement.ensures.taken.lexemes)
+pub of_text-cursor-requires-clause-tokens : goal.of_text-cursor-requires-clause-tokens
+of_text-cursor-requires-clause-tokens c =
+    tokens-of-lexemes (text_words c.parts.spot.place c.parts.spot.comment c.parts.spot.rest.now c.in_ok-statement.statement.tokens) c.in_ok-statement.ensures.taken.lexemes
+
+pub overflow_add-spot : goal.overflow_add-spot
+overflow_add-spot c =
+    let f = c.parts.invariant in
+    omega (arith, c.requires, at-few c.args.text.now c.parts.spot f.tokens f.at c.in_ok-statement.statement c.in_ok-statement.ensures.taken)
 
 pub returns-in-Node : goal.returns-in-Node
 returns-in-Node c =
-    let P : PredOrLater → Type 0 = λ s. IsPart c.parts.in_lines c.in-Some.opened.version (words c.deref.result.now) [] (pred_or_later_of s) in
-    let part = subst (λ o. IfSome o P) c.in-Some-2.is c.in_ok-front_part.ensures in
+    let P : PredOrLater → Type 0 = λ s. IsPart c.parts.in_lines c.in-Some.opened.version (text_words c.parts.spot.place c.parts.spot.comment c.parts.spot.rest.now c.in_ok-statement.statement.tokens) [] (pred_or_later_of s) in
+    let read = subst (λ (ws : List Word). IfSome c.in_ok-front_part.field-0 (λ s. IsPart c.parts.in_lines c.in-Some.opened.version ws [] (pred_or_later_of s))) c.of_text-cursor.ensures c.in_ok-front_part.ensures in
+    let part = subst (λ o. IfSome o P) c.in-Some-2.is read in
     let later = subst P c.in-Later.is part in
     let node = subst (λ (l : LineOrNode). P (parts.Later l)) c.in-Node.is later in
     let x = node_of c.in-Node.first in
@@ -34,51 +37,57 @@ returns-in-Node c =
     let t = c.in_ok-statement.statement in
     let k = c.in_ok-statement.ensures.taken in
     let ds = map definition_of c.parts.definitions.items in
-    let size : c.len.result ≡ length t.tokens.items = omega (arith, c.len.ensures) in
     record {
-      tokens = f.tokens ++ map placed t.tokens.items;
-      at = at-more c.args.text.now c.parts.spot f.tokens f.at t k c.len.result size;
-      leads = front-node-leads c.args.text.now c.parts.in_lines c.in-Some.opened.version ds c.parts.lines.items c.parts.spot f t k c.len.result size c.deref.result.now c.deref.ensures.value x node;
+      tokens = f.tokens ++ new_tokens c.parts.spot t;
+      at = at-more c.args.text.now c.parts.spot f.tokens f.at t k;
+      leads = front-node-leads c.args.text.now c.parts.in_lines c.in-Some.opened.version ds c.parts.lines.items c.parts.spot f t k x node;
       size = f.size;
-      span = front-node-span c.args.text.now c.parts.in_lines c.in-Some.opened.version ds c.parts.lines.items c.parts.spot f t k c.len.result size c.deref.result.now c.deref.ensures.value x node;
-      fits = front-node-fits c.args.text.now c.parts.in_lines c.in-Some.opened.version ds c.parts.lines.items c.parts.spot f t k c.len.result size c.deref.result.now c.deref.ensures.value x node;
+      span = front-node-span c.args.text.now c.parts.in_lines c.in-Some.opened.version ds c.parts.lines.items c.parts.spot f t k x node;
+      fits = front-node-fits c.args.text.now c.parts.in_lines c.in-Some.opened.version ds c.parts.lines.items c.parts.spot f t k x node;
     }
 
 pub parts-smaller : goal.parts-smaller
 parts-smaller c =
     let t = c.in_ok-statement.statement in
     let k = c.in_ok-statement.ensures.taken in
-    omega (arith, k.count, ap length (encodes-chars c.parts.spot.rest.now c.parts.invariant.at.utf8), ended-some t.tokens.items t.ended (reading t.place t.comment t.rest.now) k.ends c.if-not-statement.false)
+    omega (arith, k.count, ap length (encodes-chars c.parts.spot.rest.now c.parts.invariant.at.utf8), span-size (reading c.parts.spot.place c.parts.spot.comment c.parts.spot.rest.now) t k, ended-some (new_tokens c.parts.spot t) t.ended (reading t.place t.comment t.rest.now) k.ends c.if-not-statement.false)
 
-pub parts-preserved : goal.parts-preserved
-parts-preserved c =
+pub parts-smaller-in-Continue-branch-6 : goal.parts-smaller-in-Continue-branch-6
+parts-smaller-in-Continue-branch-6 c =
+    let t = c.in_ok-statement.statement in
+    let k = c.in_ok-statement.ensures.taken in
+    omega (arith, k.count, ap length (encodes-chars c.parts.spot.rest.now c.parts.invariant.at.utf8), span-size (reading c.parts.spot.place c.parts.spot.comment c.parts.spot.rest.now) t k, ended-some (new_tokens c.parts.spot t) t.ended (reading t.place t.comment t.rest.now) k.ends c.if-not-statement.false)
+
+pub parts-preserved-in-Continue-branch-6 : goal.parts-preserved-in-Continue-branch-6
+parts-preserved-in-Continue-branch-6 c =
     let v = c.in-Some.opened.version in
-    let P : PredOrLater → Type 0 = λ s. IsPart c.parts.in_lines v (words c.deref.result.now) [] (pred_or_later_of s) in
-    let part = subst (λ o. IfSome o P) c.in-Some-2.is c.in_ok-front_part.ensures in
+    let P : PredOrLater → Type 0 = λ s. IsPart c.parts.in_lines v (text_words c.parts.spot.place c.parts.spot.comment c.parts.spot.rest.now c.in_ok-statement.statement.tokens) [] (pred_or_later_of s) in
+    let read = subst (λ (ws : List Word). IfSome c.in_ok-front_part.field-0 (λ s. IsPart c.parts.in_lines v ws [] (pred_or_later_of s))) c.of_text-cursor.ensures c.in_ok-front_part.ensures in
+    let part = subst (λ o. IfSome o P) c.in-Some-2.is read in
     let f = c.parts.invariant in
     let t = c.in_ok-statement.statement in
     let k = c.in_ok-statement.ensures.taken in
     let ds = map definition_of c.parts.definitions.items in
     let ls = c.parts.lines.items in
-    let size : c.len.result ≡ length t.tokens.items = omega (arith, c.len.ensures) in
-    let new : Spot = record { place = t.place; comment = t.comment; rest = t.rest; tokens = c.parts.spot.tokens + c.len.result } in
-    let text = c.args.text.now in
-    elim c.match-part.branch [
-      | in-Pred+in_ok-push-in-Pred w ↦
-          let pred = subst P w.in-Pred.is part in
-          let d = definition_of w.in-Pred.tree in
-          let h = front-pred text c.parts.in_lines v ds ls c.parts.spot f t k c.len.result size c.deref.result.now c.deref.ensures.value d pred in
-          let defs : map definition_of c.match-part.definitions.items ≡ ds ++ d ∷ [] = ap (λ x. map definition_of x.items) w.definitions-is ∙ ap (map definition_of) w.in_ok-push-in-Pred.ensures.items ∙ map_push definition_of c.parts.definitions.items w.in-Pred.tree in
-          let lines : c.match-part.lines.items ≡ ls = ap (λ x. x.items) w.lines-is in
-          subst (λ (b : Bool). IsFront text b v (map definition_of c.match-part.definitions.items) c.match-part.lines.items new) (sym w.in_lines-is)
-          (subst (λ (xs : List Definition). IsFront text c.parts.in_lines v xs c.match-part.lines.items new) (sym defs) (subst (λ (xs : List Line). IsFront text c.parts.in_lines v (ds ++ d ∷ []) xs new) (sym lines) h))
-      | in-Later+in-Line+in_ok-push-in-Line w ↦
-          let later = subst P w.in-Later.is part in
-          let line = subst (λ (l : LineOrNode). P (parts.Later l)) w.in-Line.is later in
-          let l = w.in-Line.tree in
-          let h = front-line text c.parts.in_lines v ds ls c.parts.spot f t k c.len.result size c.deref.result.now c.deref.ensures.value l line in
-          let defs : map definition_of c.match-part.definitions.items ≡ ds = ap (λ x. map definition_of x.items) w.definitions-is in
-          let lines : c.match-part.lines.items ≡ ls ++ l ∷ [] = ap (λ x. x.items) w.lines-is ∙ w.in_ok-push-in-Line.ensures.items in
-          subst (λ (b : Bool). IsFront text b v (map definition_of c.match-part.definitions.items) c.match-part.lines.items new) (sym w.in_lines-is)
-          (subst (λ (xs : List Definition). IsFront text true v xs c.match-part.lines.items new) (sym defs) (subst (λ (xs : List Line). IsFront text true v ds xs new) (sym lines) h))
-    ]
+    let new : Spot = record { place = t.place; comment = t.comment; rest = t.rest; tokens = c.parts.spot.tokens + t.tokens } in
+    let d = definition_of c.in-Pred.tree in
+    let h = front-pred c.args.text.now c.parts.in_lines v ds ls c.parts.spot f t k d (subst P c.in-Pred.is part) in
+    let defs : map definition_of c.push.new.self.items ≡ ds ++ d ∷ [] = ap (map definition_of) c.in_ok-push-in-Pred.ensures.items ∙ map_push definition_of c.parts.definitions.items c.in-Pred.tree in
+    subst (λ (xs : List Definition). IsFront c.args.text.now c.parts.in_lines v xs ls new) (sym defs) h
+
+pub parts-preserved : goal.parts-preserved
+parts-preserved c =
+    let v = c.in-Some.opened.version in
+    let P : PredOrLater → Type 0 = λ s. IsPart c.parts.in_lines v (text_words c.parts.spot.place c.parts.spot.comment c.parts.spot.rest.now c.in_ok-statement.statement.tokens) [] (pred_or_later_of s) in
+    let read = subst (λ (ws : List Word). IfSome c.in_ok-front_part.field-0 (λ s. IsPart c.parts.in_lines v ws [] (pred_or_later_of s))) c.of_text-cursor.ensures c.in_ok-front_part.ensures in
+    let part = subst (λ o. IfSome o P) c.in-Some-2.is read in
+    let f = c.parts.invariant in
+    let t = c.in_ok-statement.statement in
+    let k = c.in_ok-statement.ensures.taken in
+    let ds = map definition_of c.parts.definitions.items in
+    let ls = c.parts.lines.items in
+    let new : Spot = record { place = t.place; comment = t.comment; rest = t.rest; tokens = c.parts.spot.tokens + t.tokens } in
+    let l = c.in-Line.tree in
+    let line = subst (λ (x : LineOrNode). P (parts.Later x)) c.in-Line.is (subst P c.in-Later.is part) in
+    let h = front-line c.args.text.now c.parts.in_lines v ds ls c.parts.spot f t k l line in
+    subst (λ (xs : List Line). IsFront c.args.text.now true v ds xs new) (sym c.in_ok-push-in-Line.ensures.items) h

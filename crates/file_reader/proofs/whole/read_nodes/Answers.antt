@@ -1,10 +1,8 @@
-use Rattle.std.proofs.Common.{◌≡◌, ℕ, List, [], ◌∷◌, ◌++◌, Ok, true, length, map, sym, ap, subst, ◌∙◌, arith}
+use Rattle.std.proofs.Common.{◌≡◌, ℕ, List, [], ◌∷◌, ◌++◌, Ok, length, ap, subst, ◌∙◌, arith}
 use Rattle.std.specs.Prelude.{IfSome}
 use Rattle.std.proofs.lemmas.Str.{encodes-chars}
-use Rattle.cyc_lex.specs.declared.token.Token.{Token}
-use Rattle.cyc_lex.specs.Placed.{placed}
-use Rattle.cyc_grammar.specs.Classes.{are_tokens}
-use Rattle.cyc_grammar.specs.Giving.{words}
+use Rattle.cyc_lex.specs.Word.{Word}
+use Rattle.cyc_grammar.specs.Texts.{text_words}
 use Rattle.heap_syntax.specs.Versions.{most_spatial}
 use Rattle.heap_reader.specs.Flaws.{or_later}
 use Rattle.piecewise_lex.specs.Taking.{reading}
@@ -16,8 +14,8 @@ use Rattle.proof_file.specs.declared.node.FileNode.{FileNode}
 use Rattle.proof_file.specs.Flaws.{node_flaw}
 use Rattle.proof_file.specs.Values.{node_value}
 use Rattle.file_reader.specs.Wholes.{front_defs}
-use Rattle.file_reader.proofs.ScanLaws.{words-tokens, ended-some}
-use Rattle.file_reader.proofs.WholeLaws.{at-more, later-node-fits, nodes-begin, nodes-none, nodes-more, nodes-span, nodes-end}
+use Rattle.file_reader.proofs.ScanLaws.{tokens-of-lexemes, ended-some, span-size}
+use Rattle.file_reader.proofs.WholeLaws.{new_tokens, at-few, at-more, later-node-fits, nodes-begin, nodes-none, nodes-more, nodes-span, nodes-end}
 use Rattle.file_reader.proofs.whole.read_nodes.Goals as goal
 
 pub nodes-init : goal.nodes-init
@@ -35,46 +33,53 @@ nodes-init c =
       count = count;
     }
 
-pub later_part-requires : goal.later_part-requires
-later_part-requires c =
-    subst (λ (ts : List Token). are_tokens (words ts) ≡ true) (sym c.deref.ensures.value) (words-tokens c.in_ok-statement.statement.tokens.items c.in_ok-statement.ensures.taken.lexemes)
+pub of_text-cursor-requires-clause-tokens : goal.of_text-cursor-requires-clause-tokens
+of_text-cursor-requires-clause-tokens c =
+    tokens-of-lexemes (text_words c.nodes.spot.place c.nodes.spot.comment c.nodes.spot.rest.now c.in_ok-statement.statement.tokens) c.in_ok-statement.ensures.taken.lexemes
+
+pub overflow_add-spot : goal.overflow_add-spot
+overflow_add-spot c =
+    let r = c.nodes.invariant.read in
+    omega (arith, c.requires.room, at-few c.args.text.now c.nodes.spot r.tokens r.at c.in_ok-statement.statement c.in_ok-statement.ensures.taken)
 
 pub take_node-requires-in-Node-clause-fits : goal.take_node-requires-in-Node-clause-fits
 take_node-requires-in-Node-clause-fits c =
-    let P : NodeOrEnd → Type 0 = λ s. (statement_of Nodes).read (words c.deref.result.now) ≡ Ok (node_or_end_of s, []) in
-    let part = subst (λ o. IfSome o P) c.in-Some.is c.in_ok-later_part.ensures in
-    later-node-fits (words c.deref.result.now) (node_of c.in-Node.tree) (subst P c.in-Node.is part)
+    let P : NodeOrEnd → Type 0 = λ s. (statement_of Nodes).read (text_words c.nodes.spot.place c.nodes.spot.comment c.nodes.spot.rest.now c.in_ok-statement.statement.tokens) ≡ Ok (node_or_end_of s, []) in
+    let read = subst (λ (ws : List Word). IfSome c.in_ok-later_part.field-0 (λ s. (statement_of Nodes).read ws ≡ Ok (node_or_end_of s, []))) c.of_text-cursor.ensures c.in_ok-later_part.ensures in
+    let part = subst (λ o. IfSome o P) c.in-Some.is read in
+    later-node-fits (text_words c.nodes.spot.place c.nodes.spot.comment c.nodes.spot.rest.now c.in_ok-statement.statement.tokens) (node_of c.in-Node.tree) (subst P c.in-Node.is part)
 
 pub take_node-requires-in-Node-clause-room : goal.take_node-requires-in-Node-clause-room
 take_node-requires-in-Node-clause-room c =
-    let P : NodeOrEnd → Type 0 = λ s. (statement_of Nodes).read (words c.deref.result.now) ≡ Ok (node_or_end_of s, []) in
-    let part = subst (λ o. IfSome o P) c.in-Some.is c.in_ok-later_part.ensures in
+    let P : NodeOrEnd → Type 0 = λ s. (statement_of Nodes).read (text_words c.nodes.spot.place c.nodes.spot.comment c.nodes.spot.rest.now c.in_ok-statement.statement.tokens) ≡ Ok (node_or_end_of s, []) in
+    let read = subst (λ (ws : List Word). IfSome c.in_ok-later_part.field-0 (λ s. (statement_of Nodes).read ws ≡ Ok (node_or_end_of s, []))) c.of_text-cursor.ensures c.in_ok-later_part.ensures in
+    let part = subst (λ o. IfSome o P) c.in-Some.is read in
     let f = c.args.front.now in
-    omega (arith, c.requires.room, nodes-span c.args.text.now f.version c.args.heads.now (front_defs f) f.lines.items c.args.flaw c.nodes.found.flaw c.nodes.found.nodes.items c.nodes.spot c.nodes.invariant.read c.in_ok-statement.statement c.in_ok-statement.ensures.taken c.len.result (omega (arith, c.len.ensures)) c.deref.result.now c.deref.ensures.value (node_of c.in-Node.tree) (subst P c.in-Node.is part))
+    omega (arith, c.requires.room, nodes-span c.args.text.now f.version c.args.heads.now (front_defs f) f.lines.items c.args.flaw c.nodes.found.flaw c.nodes.found.nodes.items c.nodes.spot c.nodes.invariant.read c.in_ok-statement.statement c.in_ok-statement.ensures.taken (node_of c.in-Node.tree) (subst P c.in-Node.is part))
 
 pub ends-requires : goal.ends-requires
 ends-requires c =
     let t = c.in_ok-statement.statement in
     let r = c.nodes.invariant.read in
-    (r.tokens ++ map placed t.tokens.items, at-more c.args.text.now c.nodes.spot r.tokens r.at t c.in_ok-statement.ensures.taken c.len.result (omega (arith, c.len.ensures)))
+    (r.tokens ++ new_tokens c.nodes.spot t, at-more c.args.text.now c.nodes.spot r.tokens r.at t c.in_ok-statement.ensures.taken)
 
 pub returns-then-branch : goal.returns-then-branch
 returns-then-branch c =
-    let P : NodeOrEnd → Type 0 = λ s. (statement_of Nodes).read (words c.deref.result.now) ≡ Ok (node_or_end_of s, []) in
-    let part = subst (λ o. IfSome o P) c.in-Some.is c.in_ok-later_part.ensures in
+    let P : NodeOrEnd → Type 0 = λ s. (statement_of Nodes).read (text_words c.nodes.spot.place c.nodes.spot.comment c.nodes.spot.rest.now c.in_ok-statement.statement.tokens) ≡ Ok (node_or_end_of s, []) in
+    let read = subst (λ (ws : List Word). IfSome c.in_ok-later_part.field-0 (λ s. (statement_of Nodes).read ws ≡ Ok (node_or_end_of s, []))) c.of_text-cursor.ensures c.in_ok-later_part.ensures in
+    let part = subst (λ o. IfSome o P) c.in-Some.is read in
     let f = c.args.front.now in
     let t = c.in_ok-statement.statement in
     let k = c.in_ok-statement.ensures.taken in
     let r = c.nodes.invariant.read in
-    let size : c.len.result ≡ length t.tokens.items = omega (arith, c.len.ensures) in
-    let all = c.in_ok-ends-in-End.ensures c.if-branch.true (r.tokens ++ map placed t.tokens.items) (at-more c.args.text.now c.nodes.spot r.tokens r.at t k c.len.result size) in
-    nodes-end c.args.text.now f.version c.args.heads.now (front_defs f) f.lines.items c.args.flaw c.nodes.found.flaw c.nodes.found.nodes.items c.nodes.spot r t k c.len.result size c.deref.result.now c.deref.ensures.value (subst P c.in-End.is part) all
+    let all = c.in_ok-ends-in-End.ensures c.if-branch.true (r.tokens ++ new_tokens c.nodes.spot t) (at-more c.args.text.now c.nodes.spot r.tokens r.at t k) in
+    nodes-end c.args.text.now f.version c.args.heads.now (front_defs f) f.lines.items c.args.flaw c.nodes.found.flaw c.nodes.found.nodes.items c.nodes.spot r t k (subst P c.in-End.is part) all
 
 pub nodes-smaller : goal.nodes-smaller
 nodes-smaller c =
     let t = c.in_ok-statement.statement in
     let k = c.in_ok-statement.ensures.taken in
-    omega (arith, k.count, ap length (encodes-chars c.nodes.spot.rest.now c.nodes.invariant.read.at.utf8), ended-some t.tokens.items t.ended (reading t.place t.comment t.rest.now) k.ends c.if-not-statement.false)
+    omega (arith, k.count, ap length (encodes-chars c.nodes.spot.rest.now c.nodes.invariant.read.at.utf8), span-size (reading c.nodes.spot.place c.nodes.spot.comment c.nodes.spot.rest.now) t k, ended-some (new_tokens c.nodes.spot t) t.ended (reading t.place t.comment t.rest.now) k.ends c.if-not-statement.false)
 
 pub take_node-requires-in-Node-clause-few : goal.take_node-requires-in-Node-clause-few
 take_node-requires-in-Node-clause-few c none =
@@ -83,15 +88,16 @@ take_node-requires-in-Node-clause-few c none =
 
 pub nodes-preserved : goal.nodes-preserved
 nodes-preserved c =
-    let P : NodeOrEnd → Type 0 = λ s. (statement_of Nodes).read (words c.deref.result.now) ≡ Ok (node_or_end_of s, []) in
-    let part = subst (λ o. IfSome o P) c.in-Some.is c.in_ok-later_part.ensures in
+    let P : NodeOrEnd → Type 0 = λ s. (statement_of Nodes).read (text_words c.nodes.spot.place c.nodes.spot.comment c.nodes.spot.rest.now c.in_ok-statement.statement.tokens) ≡ Ok (node_or_end_of s, []) in
+    let read = subst (λ (ws : List Word). IfSome c.in_ok-later_part.field-0 (λ s. (statement_of Nodes).read ws ≡ Ok (node_or_end_of s, []))) c.of_text-cursor.ensures c.in_ok-later_part.ensures in
+    let part = subst (λ o. IfSome o P) c.in-Some.is read in
     let f = c.args.front.now in
     let x = node_of c.in-Node.tree in
     let found = c.nodes.found in
     let next = c.in_ok-found-in-Node.found in
     record {
       read =
-          nodes-more c.args.text.now f.version c.args.heads.now (front_defs f) f.lines.items c.args.flaw found.flaw found.nodes.items c.nodes.spot c.nodes.invariant.read c.in_ok-statement.statement c.in_ok-statement.ensures.taken c.len.result (omega (arith, c.len.ensures)) c.deref.result.now c.deref.ensures.value
+          nodes-more c.args.text.now f.version c.args.heads.now (front_defs f) f.lines.items c.args.flaw found.flaw found.nodes.items c.nodes.spot c.nodes.invariant.read c.in_ok-statement.statement c.in_ok-statement.ensures.taken
           x next.flaw next.nodes.items (subst P c.in-Node.is part)
           (c.in_ok-found-in-Node.ensures.flaw ∙ ap (λ (n : ℕ). or_later found.flaw (node_flaw (most_spatial f.version) c.args.heads.now n (length found.nodes.items) c.nodes.spot.tokens x)) c.nodes.invariant.count) c.in_ok-found-in-Node.ensures.nodes;
       count = c.nodes.invariant.count;

@@ -1,4 +1,4 @@
-use Rattle.std.proofs.Common.{◌≡◌, ◌+◌, ◌≤◌, true, length, length-append, arith, ◌++◌, ◌∷◌, [], List, false, subst, sym, ap, ◌∙◌, refl}
+use Rattle.std.proofs.Common.{◌≡◌, true, length, length-append, arith, ◌++◌, ◌∷◌, [], List, false, subst, sym, ap, ◌∙◌, refl}
 use Rattle.std.specs.Prelude.{map}
 use Rattle.std.specs.List.{list_any}
 use Rattle.std.proofs.lemmas.List.{map_push}

@@ -13,7 +13,7 @@ pieces-init c = on-start c.args.place c.args.comment (chars c.args.text.now) c.s
 pub returns : goal.returns
 returns c =
     let d = all-empty c.args.place c.args.comment c.args.text.now c.pieces.place c.pieces.in_comment c.pieces.rest.now c.pieces.invariant (eqb-true _ _ (sym c.pieces-test.ensures)) in
-    record { taken = d.taken; room = d.room; utf8 = d.utf8; nearer = d.waits }
+    record { taken = d.taken; room = d.room; utf8 = d.utf8; nearer = d.waits; cut = d.cut }
 
 pub returns-then-stays : goal.returns-then-stays
 returns-then-stays c =
@@ -28,7 +28,7 @@ returns-then-stays c =
       utf8 = c.next-piece.ensures.utf8;
     } in
     let d = all-held c.args.place c.args.comment c.args.text.now c.pieces.place c.pieces.in_comment c.pieces.rest.now c.next-piece.result.0 c.next-piece.result.1.now c.next-piece.result.2.now c.next-piece.result.3 c.pieces.invariant n (sym c.if-stays.ensures) in
-    record { taken = d.taken; room = d.room; utf8 = d.utf8; nearer = d.waits }
+    record { taken = d.taken; room = d.room; utf8 = d.utf8; nearer = d.waits; cut = d.cut }
 
 pub returns-in-Stray : goal.returns-in-Stray
 returns-in-Stray c =
@@ -72,7 +72,7 @@ returns-in-Token c =
       utf8 = c.next-piece.ensures.utf8;
     } in
     let d = at-token c.args.place c.args.comment c.args.text.now c.pieces.place c.pieces.in_comment c.pieces.rest.now c.in-Token.kind c.next-piece.result.1.now c.next-piece.result.2.now c.next-piece.result.3 (record { kind = c.in-Token.kind; text = c.next-piece.result.1; line = c.pieces.place.line; column = c.pieces.place.column }) c.pieces.invariant n (ap (λ k. stays k c.next-piece.result.1.now c.next-piece.result.2.now) (sym c.in-Token.is) ∙ sym c.if-stays.ensures) (sym c.in_ok-check_len-in-Token.ensures) refl in
-    record { taken = d.taken; room = d.room; utf8 = d.utf8; nearer = (d.short, d.fewer, refl, d.lexeme, d.bytes) }
+    record { taken = d.taken; room = d.room; utf8 = d.utf8; nearer = (d.short, d.fewer, refl, d.lexeme, d.bytes); cut = d.cut }
 
 pub pieces-preserved : goal.pieces-preserved
 pieces-preserved c =
