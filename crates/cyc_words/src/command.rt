@@ -64,7 +64,8 @@ fn with<'a>(
     command: Result<Command<'a>, AllocError>,
     subcommand: Result<Command<'a>, AllocError>,
 ) -> Result<Command<'a>, AllocError>
-    ensures { (app more : App) → IfOk command.entry (λ c. IsCommand c app) → IfOk subcommand.entry (λ c. IsCommand c more)
+    ensures { (app more : App)
+        → IfOk command.entry (λ c. IsCommand c app) → IfOk subcommand.entry (λ c. IsCommand c more)
         → IfOk result (λ c. IsCommand c (with_subcommand app more.top)) }
 {
     command?.subcommand(subcommand?)

@@ -1,2 +1,3 @@
+pub mod ReadingBack
 mod Loops
 mod Told

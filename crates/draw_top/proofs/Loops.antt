@@ -1,10 +1,10 @@
 -- Attributes that are added, and one turn of the loop over the boxes.
 use Rattle.std.proofs.Common.{◌≡◌, suc, ◌+◌, List, [], ◌∷◌, ◌++◌, map, length, length-append, append_assoc, sym, ap, ◌∙◌, arith}
 use Rattle.std.proofs.lemmas.List.{map-append}
-use Rattle.dot_text.specs.declared.graph.Attribute.{Attribute}
-use Rattle.dot_text.specs.declared.graph.Vertex.{Vertex}
-use Rattle.dot_text.specs.declared.graph.Arrow.{Arrow}
-use Rattle.dot_text.specs.Graphs.{Set, set_of, node_of, edge_of}
+use Rattle.draw_top.specs.declared.graph.Attribute.{Attribute}
+use Rattle.draw_top.specs.declared.graph.Vertex.{Vertex}
+use Rattle.draw_top.specs.declared.graph.Arrow.{Arrow}
+use Rattle.draw_top.specs.Graphs.{Set, set_of, node_of, edge_of}
 use Rattle.proof_picture.specs.declared.picture.NodeBox.{NodeBox}
 use Rattle.proof_picture.specs.Pictures.{Box, box_of}
 use Rattle.draw_top.specs.Drawings.{arrow_edges, box_edges, box_node, box_nodes}

@@ -6,8 +6,8 @@ use Rattle.cyc_io.specs.Bytes.{AppendsProperPrefix}
 use Rattle.cyc_runs.specs.declared.endings.Status.{Status}
 use Rattle.cyc_runs.specs.declared.endings.Status.TheVariants.{Usage}
 use Rattle.cyc_runs.proofs.Told.{some_told}
-use Rattle.dot_text.specs.Graphs.{Drawing}
-use Rattle.dot_text.specs.Texts.{graph_text}
+use Rattle.draw_top.specs.Graphs.{Drawing}
+use Rattle.draw_top.specs.Texts.{graph_text}
 use Rattle.proof_file.specs.declared.file.ProofFile.{ProofFile}
 use Rattle.proof_check.specs.declared.verdict.Verdict.{Verdict}
 use Rattle.proof_check.specs.Verdicts.{IsVerdict}

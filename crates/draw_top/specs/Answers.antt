@@ -6,7 +6,7 @@ use Rattle.cyc_runs.specs.declared.endings.Status.TheVariants as status
 use Rattle.cyc_runs.specs.Faults.{IsFaultAnswer}
 use Rattle.cyc_runs.specs.Runs.{Answering, IsAnswerOf, AnswersTold, input_limit}
 use Rattle.cyc_runs.specs.Runs as runs
-use Rattle.dot_text.specs.Texts.{graph_text}
+use Rattle.draw_top.specs.Texts.{graph_text}
 use Rattle.proof_file.specs.declared.file.ProofFile.{ProofFile}
 use Rattle.proof_file.specs.Reading.{IsRead}
 use Rattle.proof_check.specs.declared.verdict.Verdict.{Verdict}

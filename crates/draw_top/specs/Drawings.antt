@@ -4,8 +4,8 @@ use Rattle.heap_formula.specs.declared.judgements.Pair.{Pair}
 use Rattle.heap_formula.specs.declared.proof_rules.RuleFault.{RuleFault}
 use Rattle.cyc_texts.specs.Names.{fault_name_of, fault_number_of}
 use Rattle.cyc_texts.specs.Texts.{number_text}
-use Rattle.dot_text.specs.Graphs.{Look, Plain, Bold, LabelRun, Text, Break, Quoted, Label as LabelSetting, Set, Node, Edge, Drawing}
-use Rattle.node_labels.specs.Pieces.{LabelPart, Words, Space, Line}
+use Rattle.draw_top.specs.Graphs.{Look, Plain, Bold, LabelRun, Text, Break, Quoted, Label as LabelSetting, Set, Node, Edge, Drawing}
+use Rattle.proof_picture.specs.Pieces.{LabelPart, Words, Space, Line}
 use Rattle.proof_picture.specs.Arrows.{Drawn}
 use Rattle.proof_picture.specs.Pictures.{Box}
 

@@ -1,2 +1,6 @@
+pub mod Graphs
+pub mod Quoting
+pub mod Reading
+pub mod Texts
 pub mod Drawings
 pub mod Answers

@@ -3,9 +3,9 @@ ghost use Rattle.std.specs.Prelude.{◌≡◌, IfOk};
 ghost use Rattle.draw_top.specs.Answers.{IsTextOf};
 
 use crate::drawing::graph_of;
+use crate::writing::write_graph;
 use cyc_memory::OutOfMemory;
 use cyc_runs::{Answer, Status, Tool, answer_to_fault};
-use dot_text::write_graph;
 use proof_check::check;
 use proof_file::{ProofFile, read_file};
 use proof_picture::picture_of;

@@ -1,14 +1,14 @@
 //! A picture as a graph of DOT.
 ghost use Rattle.std.specs.Prelude.{◌≡◌, ◌<◌, ◌^◌, length, map, IfOk};
-ghost use Rattle.dot_text.specs.Graphs.{drawing_of, set_of};
+ghost use Rattle.draw_top.specs.Graphs.{drawing_of, set_of};
 ghost use Rattle.proof_picture.specs.Pictures.{box_of};
 ghost use Rattle.draw_top.specs.Drawings.{drawing, edge_defaults, node_defaults, whole_sets};
 
 use crate::edges::add_edges;
+use crate::graph::{Attribute, Graph};
 use crate::nodes::vertex;
 use crate::sets::set;
 use cyc_memory::OutOfMemory;
-use dot_text::{Attribute, Graph};
 use proof_picture::Picture;
 use std::alloc::Global;
 

@@ -1,12 +1,12 @@
 //! Edges of a picture as edges of a graph.
 ghost use Rattle.std.specs.Prelude.{◌≡◌, ◌++◌, ◌∷◌, [], map, IfOk, OnOk};
-ghost use Rattle.dot_text.specs.Graphs.{edge_of, look_of, run_of, set_of};
+ghost use Rattle.draw_top.specs.Graphs.{edge_of, look_of, run_of, set_of};
 ghost use Rattle.proof_picture.specs.Arrows.{drawn_of};
 ghost use Rattle.draw_top.specs.Drawings.{arrow_edge, arrow_edges, arrow_sets, link_sets, pair_look, pair_text, pairs_runs, pairs_sets};
 
+use crate::graph::{Arrow as Edge, Attribute, Run, Style, Value};
 use crate::sets::{add_red, number, plain, set};
 use cyc_memory::OutOfMemory;
-use dot_text::{Arrow as Edge, Attribute, Run, Style, Value};
 use heap_formula::Pair;
 use proof_picture::Arrow;
 use std::alloc::Global;

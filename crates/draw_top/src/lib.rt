@@ -1,4 +1,5 @@
-//! The top call of `draw`: words and a source of bytes in, a drawing and a status out.
+//! The top call of `draw`: words and a source of bytes in, a drawing and a status out. A drawing is a graph in Graphviz's DOT
+//! language (Gansner and North 2000): a small part of it, as data and as text.
 #![tactic(auto)]
 
 ghost use Rattle.std.specs.Prelude.{◌≡◌, ◌≤◌, length, true};
@@ -10,14 +11,22 @@ ghost use Rattle.draw_top.specs.Answers.{WroteDrawing, WrotePartOfDrawing};
 mod answering;
 mod drawing;
 mod edges;
+mod escapes;
+mod graph;
+mod laws;
 mod nodes;
 mod sets;
+mod text;
+mod writing;
 
 use answering::Drawer;
 use cyc_io::{Sink, Source};
 pub use cyc_runs::Status;
 use cyc_runs::{fixed_answer, give_made, run_over};
+pub use graph::{Arrow, Attribute, Graph, Run, Style, Value, Vertex};
+pub use laws::{marked_text_reads_back, quoted_strings_read_back};
 use std::alloc::Global;
+pub use writing::write_graph;
 
 /// Where there are no words beyond the program's name, draws the proof that the source holds, or says why it cannot be
 /// read; any word gives the usage. The whole text is made before its first byte is written.

@@ -1,14 +1,14 @@
 //! Boxes as nodes of a graph.
 ghost use Rattle.std.specs.Prelude.{◌≡◌, ◌++◌, ◌∷◌, [], map, IfOk, OnOk};
-ghost use Rattle.dot_text.specs.Graphs.{node_of, run_of, set_of};
-ghost use Rattle.node_labels.specs.Pieces.{piece_of, pieces_of};
+ghost use Rattle.draw_top.specs.Graphs.{node_of, run_of, set_of};
+ghost use Rattle.proof_picture.specs.Pieces.{piece_of, pieces_of};
 ghost use Rattle.draw_top.specs.Drawings.{box_node, fault_runs, label_runs, part_run};
 
+use crate::graph::{Attribute, Run, Style, Value, Vertex};
 use crate::sets::{add_red, fault_text, number};
 use cyc_memory::OutOfMemory;
-use dot_text::{Attribute, Run, Style, Value, Vertex};
 use heap_formula::RuleFault;
-use node_labels::{Label, Piece};
+use proof_picture::{Label, Piece};
 use std::alloc::Global;
 
 /// A piece of a text as a part of a label.

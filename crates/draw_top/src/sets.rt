@@ -1,11 +1,11 @@
 //! Attributes, and texts of labels.
 ghost use Rattle.std.specs.Prelude.{◌≡◌, ◌++◌, decimal, map, IfOk, OnOk};
-ghost use Rattle.dot_text.specs.Graphs.{Text, look_of, run_of, set_of};
+ghost use Rattle.draw_top.specs.Graphs.{Text, look_of, run_of, set_of};
 ghost use Rattle.draw_top.specs.Drawings.{fault_line, refused_sets, set_to};
 
+use crate::graph::{Attribute, Run, Style, Value};
 use cyc_memory::OutOfMemory;
 use cyc_texts::node_refused_line;
-use dot_text::{Attribute, Run, Style, Value};
 use heap_formula::RuleFault;
 use itoa::Buffer;
 use std::alloc::Global;

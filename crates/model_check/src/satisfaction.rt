@@ -91,7 +91,8 @@ fn masks_of(
     requires covers { Covers places.now.keys cells.now }
     requires heap { IsHeap cells.now }
     requires only { IsOnly cells.now stack.now (stack_of locals.now) ask.now }
-    ensures { IfOk result (λ masks. HoldsMask (mask_of places.now.keys cells.now) masks ↔ Satisfies defs.now.list stack.now cells.now ask.now) }
+    ensures { IfOk result (λ masks. HoldsMask (mask_of places.now.keys cells.now) masks
+        ↔ Satisfies defs.now.list stack.now cells.now ask.now) }
 {
     let mut questions = IndexSet::new(alloc);
     let mut rules = Vec::new(alloc);

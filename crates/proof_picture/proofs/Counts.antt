@@ -4,8 +4,8 @@ use Rattle.std.proofs.lemmas.List.{length-map}
 use Rattle.proof_check.specs.declared.verdict.Verdict.{Verdict}
 use Rattle.proof_file.specs.declared.file.ProofFile.{ProofFile}
 use Rattle.proof_file.specs.declared.node.FileNode.{FileNode}
-use Rattle.node_labels.specs.Pieces.{LabelPart}
-use Rattle.node_labels.specs.Labels.{labels_with}
+use Rattle.proof_picture.specs.Pieces.{LabelPart}
+use Rattle.proof_picture.specs.Labels.{labels_with}
 use Rattle.proof_picture.specs.declared.picture.Picture.{Picture}
 use Rattle.proof_picture.specs.Red.{has_step, refused_steps}
 use Rattle.proof_picture.specs.Arrows.{DrawnRow, rows_from}

@@ -4,8 +4,8 @@ use Rattle.heap_formula.specs.declared.proof_rules.RuleFault.{RuleFault}
 use Rattle.proof_check.specs.declared.verdict.Verdict.{Verdict}
 use Rattle.proof_check.specs.declared.verdict.Verdict.TheVariants.{Accepted, RuleRefused, PathRefused, TooManyStates}
 use Rattle.proof_file.specs.declared.file.ProofFile.{ProofFile}
-use Rattle.node_labels.specs.Labels.{labels_with}
-use Rattle.node_labels.specs.Pieces.{LabelPart, pieces_of}
+use Rattle.proof_picture.specs.Labels.{labels_with}
+use Rattle.proof_picture.specs.Pieces.{LabelPart, pieces_of}
 use Rattle.proof_picture.specs.declared.picture.NodeBox.{NodeBox}
 use Rattle.proof_picture.specs.declared.picture.Picture.{Picture}
 use Rattle.proof_picture.specs.Red.{refused_steps, has_step}

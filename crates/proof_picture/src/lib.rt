@@ -1,12 +1,18 @@
 //! What stands in the picture of a proof: a box for each node, an edge for each premise and companion with its trace pairs,
-//! and in red what a verdict refuses.
+//! and in red what a verdict refuses. A box has its node's judgement and its reason in the file's own notation, in lines.
 #![tactic(auto)]
 
 mod arrows;
 mod carried;
+mod labels;
+mod layout;
 mod picture;
+mod piece;
+mod spot;
 mod steps;
 
 pub use arrows::{Arrow, Row};
 pub use cyc_memory::OutOfMemory;
+pub use labels::labels_of_file;
 pub use picture::{NodeBox, Picture, picture_of};
+pub use piece::{Label, Piece};

@@ -2,14 +2,15 @@
 ghost use Rattle.std.specs.Prelude.{◌≡◌, IfOk, map};
 ghost use Rattle.proof_picture.specs.Pictures.{IsPicture, boxes_from, box_of, fault_at as fault_of_node, is_large as has_many_states};
 ghost use Rattle.proof_picture.specs.Arrows.{row_of};
-ghost use Rattle.node_labels.specs.Pieces.{pieces_of};
+ghost use Rattle.proof_picture.specs.Pieces.{pieces_of};
 
 use crate::arrows::{Arrow, Row, rows};
 use crate::carried::atoms_carried;
+use crate::labels::labels_of_file;
+use crate::piece::Label;
 use crate::steps::RefusedSteps;
 use cyc_memory::OutOfMemory;
 use heap_formula::RuleFault;
-use node_labels::{Label, labels_of_file};
 use proof_check::Verdict;
 use proof_file::ProofFile;
 use std::alloc::Global;

@@ -1,6 +1,6 @@
 -- Rules that leave premises, and lists of such rules.
-use Rattle.std.proofs.Common.{◌≡◌, ℕ, zero, suc, ◌+◌, Bool, true, false, ◌&&◌, List, [], ◌∷◌, ◌++◌, map, length, Option, Some, None, slice_get, refl, sym, ap, subst, ◌∙◌, arith}
-use Rattle.std.specs.Prelude.{nat_lt, nat_eq, max, if◌then◌else◌, Ok, Err}
+use Rattle.std.proofs.Common.{◌≡◌, ℕ, zero, suc, ◌+◌, Bool, true, false, List, [], ◌∷◌, ◌++◌, map, length, Option, Some, None, slice_get, refl, sym, ap, subst, ◌∙◌, arith}
+use Rattle.std.specs.Prelude.{nat_lt, nat_eq, max, if◌then◌else◌, Ok}
 use Rattle.std.specs.List.{filter}
 use Rattle.std.proofs.lemmas.Bool.{both_ways, and_parts}
 use Rattle.heap_formula.specs.declared.terms.Term.{Term}
@@ -18,7 +18,6 @@ use Rattle.heap_formula.specs.declared.proof_rules.RuleFault.TheVariants.{TooMan
 use Rattle.heap_formula.specs.declared.proof_rules.Rule.{Rule}
 use Rattle.heap_formula.specs.declared.proof_rules.Rule.TheVariants.{Absurd, Rewrite, Split, Distinct, Weaken, Unfold, Cut, Done, Choose, PureRight, Instantiate, Frame, UnfoldRight, Exec, Drop}
 use Rattle.heap_formula.specs.Symbolic.{SymbolicHeap}
-use Rattle.heap_formula.specs.Definitions.{Definition}
 use Rattle.heap_formula.specs.Judgements.{antecedent}
 use Rattle.heap_formula.specs.Meaning.{cases_of}
 use Rattle.heap_formula.specs.Fresh.{heap_bound, heap_exists, fresh_number}
@@ -33,7 +32,7 @@ use Rattle.fold_offers.specs.Places.{each_from, each_of, or_else, first_line, fi
 use Rattle.fold_offers.specs.Kinds.{is_cell, is_predicate}
 use Rattle.search_moves.specs.declared.instances.Instance.{Instance}
 use Rattle.search_moves.specs.Trying.{Theory, goes}
-use Rattle.search_moves.specs.Entailments.{choices, choice_at, unfolds, unfold_at, pure_rights, pure_right_at, frame_at, frames_from, frames_if, cell_frames, predicate_frames, apart as told_apart, is_or_mirrors, distinct_at, distincts_with, distincts_for, distincts_if, distincts, argument_instances, equation_instances, field_instances, instance_rule, may_unfold, right_unfold_at, right_unfolds_of, right_unfolds, last_line, instance_lines, single_lines, entailment_after}
+use Rattle.search_moves.specs.Entailments.{choices, choice_at, unfolds, unfold_at, pure_rights, pure_right_at, frame_at, frames_from, frames_if, cell_frames, predicate_frames, distinct_at, distincts_with, distincts_for, distincts_if, distincts, argument_instances, equation_instances, field_instances, instance_rule, right_unfold_at, right_unfolds_of, right_unfolds, last_line, instance_lines, entailment_after}
 use Rattle.search_moves.specs.Closing.{has_no_premise, closes, has_case, has_case_if, leaves, CloseAlike}
 
 abbrev HasSome : Answer → Type 0

@@ -115,6 +115,28 @@ fn is_cut(next: &Move, places: &[u32], formula: &Heap) -> bool {
     }
 }
 
+/// The atoms that a map of a companion's antecedent covers, and what its succedent says of them, unless that is known here.
+fn application(
+    sequent: &Sequent<'_>,
+    matcher: &Matcher<'_>,
+    lemma: (&Heap, &Heap),
+    matching: Matching,
+) -> Result<Option<(Vec<u32>, Heap)>, OutOfMemory> {
+    let alloc = matcher.alloc;
+    let (antecedent, succedent) = lemma;
+    let places = places_of(alloc, &matching.places)?;
+    let pairs = completed(matcher, matching.pairs, succedent, sequent.right)?;
+    let subst = Subst::from_vec(Vec::from_slice(alloc, &pairs)?);
+    if !is_known_heap(&pairs, succedent) || !has_pures(sequent.left, antecedent, &pairs, &subst) {
+        return Ok(None);
+    }
+    let formula = apply_to_heap(alloc, succedent, &subst)?;
+    if is_idle(sequent.left, &places, &formula) {
+        return Ok(None);
+    }
+    Ok(Some((places, formula)))
+}
+
 /// The Cut by a companion's succedent under a map of its antecedent.
 fn push_application(
     moves: &mut Vec<Move>,
@@ -124,21 +146,13 @@ fn push_application(
     lemma: (&Heap, &Heap),
     matching: Matching,
 ) -> Result<(), OutOfMemory> {
-    let alloc = matcher.alloc;
-    let (antecedent, succedent) = lemma;
-    let places = places_of(alloc, &matching.places)?;
-    let pairs = completed(matcher, matching.pairs, succedent, sequent.right)?;
-    let subst = Subst::from_vec(Vec::from_slice(alloc, &pairs)?);
-    if !is_known_heap(&pairs, succedent) || !has_pures(sequent.left, antecedent, &pairs, &subst) {
+    let Some((places, formula)) = application(sequent, matcher, lemma, matching)? else {
+        return Ok(());
+    };
+    if moves.iter().any(|next| is_cut(next, &places, &formula)) {
         return Ok(());
     }
-    let formula = apply_to_heap(alloc, succedent, &subst)?;
-    if is_idle(sequent.left, &places, &formula)
-        || moves.iter().any(|next| is_cut(next, &places, &formula))
-    {
-        return Ok(());
-    }
-    let mut rules = Vec::new(alloc);
+    let mut rules = Vec::new(matcher.alloc);
     rules.push(Rule::Cut(Positions::from_vec(places), formula))?;
     moves.push(Move::Step(Step {
         rules,

@@ -124,10 +124,10 @@ impl Matcher<'_> {
         from: &Spatial,
         to: &Spatial,
     ) -> Result<Option<Vec<(u16, Term)>>, OutOfMemory> {
-        let mut longer = Vec::from_slice(self.alloc, pairs)?;
         if !is_alike(from, to) {
             return Ok(None);
         }
+        let mut longer = Vec::from_slice(self.alloc, pairs)?;
         if let (Some(t), Some(u)) = (address(from), address(to)) {
             if !self.match_term(&mut longer, t, u)? {
                 return Ok(None);

@@ -1,5 +1,5 @@
 use Rattle.std.proofs.Common.{arith}
-use Rattle.dot_text.specs.Graphs.{drawing_of}
+use Rattle.draw_top.specs.Graphs.{drawing_of}
 use Rattle.proof_picture.proofs.Counts.{picture_few}
 use Rattle.draw_top.proofs.Told.{text_is}
 use Rattle.draw_top.proofs.answering.text_of.Goals as goal

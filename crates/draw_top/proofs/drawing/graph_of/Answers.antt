@@ -1,6 +1,6 @@
 use Rattle.std.proofs.Common.{◌≡◌, ◌++◌, length, map, ap, ◌∙◌, arith}
-use Rattle.dot_text.specs.Graphs.{edge_of}
-use Rattle.node_labels.specs.Pieces.{pieces_of}
+use Rattle.draw_top.specs.Graphs.{edge_of}
+use Rattle.proof_picture.specs.Pieces.{pieces_of}
 use Rattle.proof_picture.specs.Arrows.{drawn_of}
 use Rattle.proof_picture.specs.Pictures.{box_of}
 use Rattle.draw_top.specs.Drawings.{arrow_edges, box_node}

@@ -1,5 +1,5 @@
 use Rattle.std.proofs.Common.{◌≡◌, ◌+◌, ◌++◌, map, length}
-use Rattle.dot_text.specs.Graphs.{edge_of, node_of}
+use Rattle.draw_top.specs.Graphs.{edge_of, node_of}
 use Rattle.proof_picture.specs.Pictures.{box_of}
 use Rattle.draw_top.specs.Drawings.{box_edges, box_nodes}
 use Rattle.draw_top.proofs.drawing.graph_of.Given as goal

@@ -1,5 +1,5 @@
 use Rattle.std.proofs.Common.{◌≡◌, ◌++◌, map, drop}
-use Rattle.dot_text.specs.Graphs.{edge_of}
+use Rattle.draw_top.specs.Graphs.{edge_of}
 use Rattle.proof_picture.specs.Arrows.{drawn_of}
 use Rattle.draw_top.specs.Drawings.{arrow_edges}
 use Rattle.draw_top.proofs.edges.add_edges.Given as goal

@@ -1,5 +1,5 @@
 use Rattle.std.proofs.Common.{◌≡◌, ◌++◌, map, drop}
-use Rattle.dot_text.specs.Graphs.{run_of}
+use Rattle.draw_top.specs.Graphs.{run_of}
 use Rattle.draw_top.specs.Drawings.{pairs_runs}
 use Rattle.draw_top.proofs.edges.runs_of.Given as goal
 

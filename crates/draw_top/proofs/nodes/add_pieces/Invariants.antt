@@ -1,6 +1,6 @@
 use Rattle.std.proofs.Common.{◌≡◌, ◌++◌, map}
-use Rattle.dot_text.specs.Graphs.{run_of}
-use Rattle.node_labels.specs.Pieces.{piece_of, pieces_of}
+use Rattle.draw_top.specs.Graphs.{run_of}
+use Rattle.proof_picture.specs.Pieces.{piece_of, pieces_of}
 use Rattle.draw_top.specs.Drawings.{part_run}
 use Rattle.draw_top.proofs.nodes.add_pieces.Given as goal
 

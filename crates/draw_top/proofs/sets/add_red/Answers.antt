@@ -1,5 +1,5 @@
 use Rattle.std.proofs.Common.{Bool, ◌++◌, map, sym, ap, ◌∙◌}
-use Rattle.dot_text.specs.Graphs.{set_of}
+use Rattle.draw_top.specs.Graphs.{set_of}
 use Rattle.draw_top.specs.Drawings.{refused_sets}
 use Rattle.draw_top.proofs.Loops.{two_more}
 use Rattle.draw_top.proofs.sets.add_red.Goals as goal

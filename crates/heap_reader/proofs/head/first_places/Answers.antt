@@ -1,4 +1,4 @@
-use Rattle.std.proofs.Common.{◌+◌, [], true, sym, ap, subst, ◌∙◌}
+use Rattle.std.proofs.Common.{sym, ap, subst, ◌∙◌}
 use Rattle.heap_reader.specs.Indexes.{IsIndex}
 use Rattle.indexmap.proofs.CallerLemmas.{insert_entry-new}
 use Rattle.heap_reader.proofs.Indexes.{index_notes, index_keeps, is_none}

@@ -1,5 +1,5 @@
 use Rattle.std.proofs.Common.{◌≡◌, ◌++◌, map, length}
-use Rattle.node_labels.specs.Pieces.{pieces_of}
+use Rattle.proof_picture.specs.Pieces.{pieces_of}
 use Rattle.proof_picture.specs.Arrows.{row_of}
 use Rattle.proof_picture.specs.Pictures.{box_of, boxes_from}
 use Rattle.proof_picture.proofs.picture.boxes.Given as goal

@@ -1,8 +1,0 @@
-use Rattle.dot_text.proofs.ReadingBack.{marked-read, marked-no-tag}
-use Rattle.dot_text.proofs.laws.marked_text_reads_back.Goals as goal
-
-pub returns-clause-tags : goal.returns-clause-tags
-returns-clause-tags c = marked-no-tag
-
-pub returns-clause-again : goal.returns-clause-again
-returns-clause-again c = marked-read

@@ -1,7 +1,0 @@
-use Rattle.std.proofs.Common.{◌≡◌, ◌++◌, drop}
-use Rattle.dot_text.specs.Quoting.{marked_up}
-use Rattle.dot_text.proofs.text.DotText.marked_up.Given as goal
-
--- The text so far and the texts of what is left.
-abbrev pub invariant-loop-byte : goal.invariant-loop-byte
-invariant-loop-byte l = l.self ++ marked_up (drop l.byte-index l.bytes) ≡ l.fn.self ++ marked_up l.bytes

@@ -1,8 +1,0 @@
-use Rattle.std.proofs.Common.{◌≡◌, ◌++◌, drop, map}
-use Rattle.dot_text.specs.Graphs.{run_of}
-use Rattle.dot_text.specs.Texts.{runs_text}
-use Rattle.dot_text.proofs.writing.write_runs.Given as goal
-
--- The text so far and the texts of what is left.
-abbrev pub invariant-loop-run : goal.invariant-loop-run
-invariant-loop-run l = l.out ++ runs_text (map run_of (drop l.run-index l.runs)) ≡ l.fn.out ++ runs_text (map run_of l.runs)

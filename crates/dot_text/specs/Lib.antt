@@ -1,4 +1,0 @@
-pub mod Graphs
-pub mod Quoting
-pub mod Reading
-pub mod Texts

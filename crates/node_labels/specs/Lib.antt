@@ -1,4 +1,0 @@
-pub mod Pieces
-pub mod Layout
-pub mod Places
-pub mod Labels
