@@ -19,8 +19,7 @@ use Rattle.proof_statements.specs.Left.{Reached, At, Ended, Left, Statement as R
 use Rattle.proof_statements.proofs.LeftLaws.{statement-law}
 use Rattle.cyc_lex.specs.declared.place.Place.{Place}
 use Rattle.piecewise_lex.specs.declared.spans.Span.{Span}
-use Rattle.piecewise_lex.specs.Statements.{Ends}
-use Rattle.piecewise_lex.specs.Spans.{IsSpan, front_tokens}
+use Rattle.piecewise_lex.specs.Spans.{Ends, IsSpan, front_tokens}
 use Rattle.piecewise_lex.specs.Taking.{Reading as Text, reading, cut_in, HasTaken}
 use Rattle.piecewise_lex.proofs.TakingLaws.{taken-more}
 use Rattle.file_reader.specs.declared.awaited.Awaited.{Awaited}

@@ -58,7 +58,8 @@ fn last_fault(alloc: Global, alive: &Alive, text: &str, count: usize) -> Option<
     requires count { count ≤ length (cut_text alive.now.place alive.now.comment text.now) }
     requires words { are_tokens (text_words alive.now.place alive.now.comment text.now count) ≡ true }
     requires few { alive.now.tokens + count < 2 ^ 32 }
-    ensures { IfSome result (IsLast (reached_of alive.now.awaited) alive.now.tokens (take count (cut_text alive.now.place alive.now.comment text.now))) }
+    ensures { IfSome result (IsLast (reached_of alive.now.awaited) alive.now.tokens
+        (take count (cut_text alive.now.place alive.now.comment text.now))) }
 {
     let cursor = Cursor::of_text(alive.place, alive.comment, text, count);
     match take_step(alloc, alive.awaited, cursor) {

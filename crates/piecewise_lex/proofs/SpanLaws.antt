@@ -12,8 +12,7 @@ use Rattle.cyc_lex.specs.Lexing.{HasRoom}
 use Rattle.piecewise_lex.specs.declared.taking.Taken.{Taken}
 use Rattle.piecewise_lex.specs.declared.spans.Span.{Span}
 use Rattle.piecewise_lex.specs.Taking.{Reading, reading, cut_in, HasTaken, Waits, listed, IsTaken}
-use Rattle.piecewise_lex.specs.Statements.{is_semicolon, Ends}
-use Rattle.piecewise_lex.specs.Spans.{IsSpan}
+use Rattle.piecewise_lex.specs.Spans.{is_semicolon, Ends, IsSpan}
 use Rattle.piecewise_lex.proofs.TakingLaws.{taken-none}
 use Rattle.piecewise_lex.proofs.FrontLaws.{one-more, lexeme-one, fewer-bytes-left, none-left, all-wait, none-more-left, lexemes-more}
 

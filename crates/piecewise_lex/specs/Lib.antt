@@ -6,6 +6,5 @@ pub mod Taking
 pub mod Fronts
 pub mod Runs
 pub mod Batches
-pub mod Statements
 pub mod Spans
 pub mod Law

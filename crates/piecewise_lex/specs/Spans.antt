@@ -1,13 +1,33 @@
 -- How many tokens a statement has, and where it ends.
-use Rattle.std.specs.Prelude.{◌≡◌, ℕ, ◌+◌, ◌≤◌, true, List, length, take, map, Result, Ok, Err}
-use Rattle.std.specs.Str.{IsUtf8, encode_utf8_all}
+use Rattle.std.specs.Prelude.{◌≡◌, ℕ, ◌+◌, ◌≤◌, Bool, true, false, ◌&&◌, List, [], ◌∷◌, ◌++◌, length, take, map, codes, Result, Ok, Err}
+use Rattle.std.specs.List.{list_any}
+use Rattle.std.specs.Str.{IsUtf8, bytes_eq, encode_utf8_all}
 use Rattle.cyc_lex.specs.declared.place.Stop.{Stop}
 use Rattle.cyc_lex.specs.Placed.{Placed}
-use Rattle.cyc_lex.specs.Word.{word_of, are_lexemes}
+use Rattle.cyc_lex.specs.Word.{word_of, is_symbol, are_lexemes}
 use Rattle.cyc_lex.specs.Lexing.{HasRoom, Stops}
 use Rattle.piecewise_lex.specs.declared.spans.Span.{Span}
-use Rattle.piecewise_lex.specs.Taking.{Reading, reading, tokens_in, cut_in, HasTaken}
-use Rattle.piecewise_lex.specs.Statements.{Ends}
+use Rattle.piecewise_lex.specs.Taking.{Reading, reading, tokens_in, cut_in, HasTaken, Waits}
+
+abbrev pub is_semicolon : Placed → Bool
+is_semicolon t = is_symbol t.kind && bytes_eq t.text (codes ";")
+
+-- the last of the tokens, and no other, is a ';'
+pub record EndsThere (ts : List Placed) : Type 0 where
+  pub body : List Placed
+  pub last : Placed
+  pub all : ts ≡ body ++ last ∷ []
+  pub none : list_any is_semicolon body ≡ false
+  pub semicolon : is_semicolon last ≡ true
+
+-- no token is a ';', and all that is left waits
+pub record GoesOn (ts : List Placed) (left : Reading) : Type 0 where
+  pub none : list_any is_semicolon ts ≡ false
+  pub waits : Waits left
+
+abbrev pub Ends : Bool → List Placed → Reading → Type 0
+Ends true ts left = EndsThere ts
+Ends false ts left = GoesOn ts left
 
 -- the first n of the tokens
 abbrev pub front_tokens : ℕ → Reading → List Placed

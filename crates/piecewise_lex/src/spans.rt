@@ -1,14 +1,15 @@
 //! Where a statement ends, and how many tokens it has.
 
-ghost use Rattle.std.specs.Prelude.{◌≡◌, ◌++◌, IfOk, List, length, ℕ};
+ghost use Rattle.std.specs.Prelude.{◌≡◌, ◌&&◌, ◌++◌, IfOk, List, codes, length, ℕ};
+ghost use Rattle.std.specs.Str.{bytes_eq};
 ghost use Rattle.cyc_lex.specs.Lexing.{HasRoom, with_tokens};
+ghost use Rattle.cyc_lex.specs.Placed.{placed};
 ghost use Rattle.piecewise_lex.specs.Feeding.{tokens_from};
 ghost use Rattle.piecewise_lex.specs.Taking.{reading};
-ghost use Rattle.piecewise_lex.specs.Spans.{Spans, front_tokens};
+ghost use Rattle.piecewise_lex.specs.Spans.{Spans, front_tokens, is_semicolon};
 
-use crate::statements::is_semicolon;
 use crate::taking::take_token;
-use cyc_lex::{Place, Stop};
+use cyc_lex::{Kind, Place, Stop, Token};
 
 /// How many tokens a text has up to its first `;`, and that one too, or all that do not wait where there is none; the place
 /// after them, whether a comment goes on there, and the text that is left.
@@ -19,6 +20,15 @@ pub struct Span<'a> {
     pub place: Place,
     pub comment: bool,
     pub rest: &'a str,
+}
+
+fn is_semicolon(token: &Token<'_>) -> bool
+    ensures { result ≡ is_semicolon (placed token.now) }
+{
+    match token.kind {
+        Kind::Symbol => token.text == ";",
+        _ => false,
+    }
 }
 
 /// Passes the tokens of a statement at the front of a text that stands at a place, where a comment goes on or none does, and

@@ -1,4 +1,4 @@
-use cyc_lex::{Kind, Token, WordWriter, tokens};
+use cyc_lex::{Kind, Place, Token, WordWriter, count_tokens, token_at, tokens};
 use cyc_memory::OutOfMemory;
 use cyc_texts::{Line, lexical_line};
 use std::alloc::Global;
@@ -131,5 +131,21 @@ fn written(alloc: Global, words: &[Piece]) -> Result<Vec<u8>, OutOfMemory> {
 fn writes_with_gaps(rt: HostRuntime) -> Result<(), Fail> {
     let text = written(rt.alloc(), WORDS)?;
     assert_eq!(rt; text.as_slice(), b"p($10, nil) -> (?0);\nend;\n".as_slice());
+    Ok(())
+}
+
+/// Tokens are counted, the end token too, and found by their numbers.
+#[test]
+fn finds_tokens_by_their_numbers(rt: HostRuntime) -> Result<(), Fail> {
+    let text = "a  bc # ;\n->;";
+    let count = match count_tokens(Place::START, false, text) {
+        Ok(count) => count,
+        Err(_) => return Err(Fail::from("refused")),
+    };
+    assert_eq!(rt; count, 5);
+    let token = token_at(Place::START, false, text, 2);
+    assert_eq!(rt; (token.text, token.line, token.column), ("->", 2, 1));
+    let last = token_at(Place::START, false, text, 4);
+    assert_eq!(rt; (last.text, last.line, last.column), ("", 2, 4));
     Ok(())
 }

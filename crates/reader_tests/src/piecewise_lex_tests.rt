@@ -1,5 +1,5 @@
 use cyc_lex::{LexFault, Token, tokens};
-use piecewise_lex::{Lexer, OwnedToken, take_statement};
+use piecewise_lex::{Lexer, OwnedToken, pass_statement};
 use std::alloc::Global;
 use std::test::Fail;
 
@@ -211,34 +211,27 @@ fn keeps_the_first_fault(rt: HostRuntime) {
 
 /// The statements of a text, and what is left after the last `;`.
 #[test]
-fn takes_statement_after_statement(rt: HostRuntime) -> Result<(), Fail> {
-    let alloc = rt.alloc();
+fn passes_statement_after_statement(rt: HostRuntime) -> Result<(), Fail> {
     let text = "a; b c # ;\n; d";
     let start = cyc_lex::Place::START;
-    let first = match take_statement(alloc, start, false, text) {
+    let first = match pass_statement(start, false, text) {
         Ok(first) => first,
         Err(_) => return Err(Fail::from("refused")),
     };
     assert_eq!(rt;
-        (first.tokens.len(), first.ended, first.rest),
+        (first.tokens, first.ended, first.rest),
         (2, true, " b c # ;\n; d")
     );
-    let second = match take_statement(alloc, first.place, first.comment, first.rest) {
+    let second = match pass_statement(first.place, first.comment, first.rest) {
         Ok(second) => second,
         Err(_) => return Err(Fail::from("refused")),
     };
-    assert_eq!(rt;
-        (second.tokens.len(), second.ended, second.rest),
-        (3, true, " d")
-    );
+    assert_eq!(rt; (second.tokens, second.ended, second.rest), (3, true, " d"));
     assert_eq!(rt; (second.place.line, second.place.column), (2, 2));
-    let third = match take_statement(alloc, second.place, second.comment, second.rest) {
+    let third = match pass_statement(second.place, second.comment, second.rest) {
         Ok(third) => third,
         Err(_) => return Err(Fail::from("refused")),
     };
-    assert_eq!(rt;
-        (third.tokens.len(), third.ended, third.rest),
-        (0, false, "d")
-    );
+    assert_eq!(rt; (third.tokens, third.ended, third.rest), (0, false, "d"));
     Ok(())
 }

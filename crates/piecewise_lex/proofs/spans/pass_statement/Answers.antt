@@ -4,8 +4,7 @@ use Rattle.std.proofs.lemmas.Str.{encodes-chars}
 use Rattle.cyc_lex.specs.Placed.{placed}
 use Rattle.piecewise_lex.specs.declared.spans.Span.{Span}
 use Rattle.piecewise_lex.specs.Taking.{reading}
-use Rattle.piecewise_lex.specs.Statements.{Ends, is_semicolon}
-use Rattle.piecewise_lex.specs.Spans.{front_tokens}
+use Rattle.piecewise_lex.specs.Spans.{Ends, is_semicolon, front_tokens}
 use Rattle.piecewise_lex.proofs.TakingLaws.{taken-stops}
 use Rattle.piecewise_lex.proofs.TakingBytes.{taken-law}
 use Rattle.piecewise_lex.proofs.FrontLaws.{none-more}
