@@ -3,7 +3,7 @@ use Rattle.std.proofs.Common.{◌≡◌, length, arith, sym, subst}
 use Rattle.buchi_core.specs.declared.event.Event.{Event}
 use Rattle.buchi_inclusion.specs.declared.product.Product.{Product}
 use Rattle.buchi_inclusion.specs.Table.{state_of, states_of, AreItems, Extends, IsState, IsStep, IsLast}
-use Rattle.buchi_inclusion.proofs.Exploring.{found_extends, found_states, extends_within, items_more, more_than, some_of, none_of}
+use Rattle.buchi_inclusion.proofs.Exploring.{found_extends, found_states, items_more, more_than, some_of}
 use Rattle.buchi_inclusion.proofs.product.explore_row.Goals as goal
 
 pub step_from-requires-clause-state : goal.step_from-requires-clause-state

@@ -1,5 +1,5 @@
 -- The edge's step.
-use Rattle.std.proofs.Common.{arith, ap, ◌∙◌, length, sym}
+use Rattle.std.proofs.Common.{arith, ap, ◌∙◌, length}
 use Rattle.buchi_core.specs.View.{entries_of}
 use Rattle.buchi_inclusion.specs.Table.{state_of}
 use Rattle.buchi_inclusion.proofs.Stepping.{step_is}
