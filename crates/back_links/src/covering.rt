@@ -5,6 +5,7 @@ ghost use Rattle.rule_table.specs.LinkTable.{counts_agree, same_atoms as atoms_a
 ghost use Rattle.rule_table.specs.RuleLink.{count_of};
 ghost use Rattle.rule_table.specs.Tests.{has_pure, follows};
 
+use cyc_limits::MOST_DISJUNCTS;
 use heap_formula::{Heap, Pure, RuleFault, Spatial, Subst, apply_to_pure, apply_to_spatial};
 use rule_table::{equated, has_pure as has_atom};
 
@@ -123,7 +124,7 @@ pub fn disjunct_fault(
     subst: &Subst,
     cs: &[Heap],
 ) -> Option<RuleFault>
-    requires { length cs.now ≤ 16 }
+    requires { length cs.now ≤ MOST_DISJUNCTS }
     ensures { result ≡ first_disjunct_fault disjuncts.now 0 entries.now (map (apply_heap subst.now) cs.now) }
 {
     for (k, c) in cs.iter().enumerate() {

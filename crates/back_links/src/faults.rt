@@ -8,6 +8,7 @@ ghost use Rattle.rule_table.specs.Soundness.{AreUniversal, HasVariables};
 
 use crate::covering::disjunct_fault;
 use crate::matching::{pure_fault, spatial_fault};
+use cyc_limits::MOST_DISJUNCTS;
 use heap_formula::{Heap, Judgement, Link, RuleFault, Subst, Term, apply_to_term};
 use rule_table::same_term;
 
@@ -32,7 +33,7 @@ fn parts_fault(
     whole: bool,
     link: &Link,
 ) -> Option<RuleFault>
-    requires { length cs.now ≤ 16 }
+    requires { length cs.now ≤ MOST_DISJUNCTS }
     ensures { result ≡ first_parts_fault a.now bs.now b.now cs.now whole link.now }
 {
     if let Some(fault) = pure_fault(a.pure(), &link.subst, b.pure()) {

@@ -14,6 +14,7 @@ use crate::prospects::{
     Search, Start, are_alike, could_send, could_take, have_covers, have_values, start_of,
 };
 use crate::variables::{universals, values};
+use cyc_limits::MOST_DISJUNCTS;
 use heap_formula::{Heap, Judgement, Link, OutOfMemory, Positions, Spatial, Subst, Term};
 use rule_table::antecedent;
 use std::alloc::Global;
@@ -21,7 +22,7 @@ use std::alloc::Global;
 /// The disjuncts; none of a `from` judgement.
 fn disjuncts(judgement: &Judgement) -> &[Heap]
     ensures value { result.now ≡ disjuncts_of judgement.now }
-    ensures few { length result.now ≤ 16 }
+    ensures few { length result.now ≤ MOST_DISJUNCTS }
 {
     match judgement {
         Judgement::Entail(_, bs) => bs.heaps(),

@@ -8,6 +8,7 @@ ghost use Rattle.back_links.specs.Searching.{MayStart, MayStartAt, MustEqual, co
 use crate::covering::covers_at;
 use crate::shapes::{all_have_shapes, has_shapes, same_shapes};
 use crate::variables::{stands_in_pure, stands_in_spatial};
+use cyc_limits::MOST_DISJUNCTS;
 use heap_formula::{Heap, Judgement, Pure, Spatial, Subst, Term};
 use rule_table::{antecedent, equated, follows, is_among, same_term};
 
@@ -366,7 +367,7 @@ pub fn are_alike(bud: &Judgement, companion: &Judgement) -> bool
 }
 
 fn has_cover(subst: &Subst, c: &Heap, disjuncts: &[Heap]) -> bool
-    requires { length disjuncts.now ≤ 16 }
+    requires { length disjuncts.now ≤ MOST_DISJUNCTS }
     ensures { result ≡ cover_left disjuncts.now subst.now c.now }
 {
     for m in 0..disjuncts.len() {
@@ -379,7 +380,7 @@ fn has_cover(subst: &Subst, c: &Heap, disjuncts: &[Heap]) -> bool
 
 /// Whether each disjunct of the companion covers some disjunct of the bud.
 pub fn have_covers(subst: &Subst, cs: &[Heap], disjuncts: &[Heap]) -> bool
-    requires { length disjuncts.now ≤ 16 }
+    requires { length disjuncts.now ≤ MOST_DISJUNCTS }
     ensures { result ≡ covers_left disjuncts.now subst.now cs.now }
 {
     for c in cs {

@@ -66,7 +66,7 @@ unfolding operand
 operand-not-star v a Nil f = refl
 operand-not-star v a (Variable x) f = a.not_star x f.1
 
--- ---- what stands behind a variable
+-- ---- what stands after a variable
 
 last_number-law : Lawful last_number
 unfolding last_number

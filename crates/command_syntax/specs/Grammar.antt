@@ -51,7 +51,7 @@ from_operand (Variable v) = inr v
 unfoldable pub operand : {V : Type 0} → Syntax V → Syntax (OperandTree V)
 operand {V = V} v = shaped {A = Unit {0} ⊎ V} to_operand from_operand Any (alt (is_one nil) (one nil) v)
 
--- ---- what stands behind a variable, and the semicolon
+-- ---- what stands after a variable, and the semicolon
 
 -- number ";"
 unfoldable pub last_number : Syntax ℕ
@@ -88,7 +88,7 @@ from_change (Assign t) = inr (inr (t, inr tt))
 unfoldable pub change : {V : Type 0} → Syntax V → Syntax (ChangeTree V)
 change {V = V} v = shaped {A = Changes V} to_change from_change Any (alt (is_one dot) (store v) (after assign (source v)))
 
--- ---- command, and the semicolon behind it
+-- ---- command, and the semicolon after it
 
 -- operand ( "=" | "!=" ) operand "goto" number ";"
 abbrev pub Branch : Type 0 → Type 0
@@ -106,7 +106,7 @@ abbrev pub has_free_branches : Version → Bool
 has_free_branches One = false
 has_free_branches Two = true
 
--- what stands behind "if": free_branch, where the version has it, or branch
+-- what stands after "if": free_branch, where the version has it, or branch
 abbrev pub IsBranch : {V : Type 0} → ℕ ⊎ Branch V → Type 0
 IsBranch (inl n) = ⊥
 IsBranch (inr p) = Unit {0}

@@ -1,4 +1,4 @@
-//! Writing commands, each with the semicolon behind it.
+//! Writing commands, each with the semicolon after it.
 
 ghost use Rattle.std.specs.Prelude.{◌≡◌, OnOk};
 ghost use Rattle.cyc_lex.specs.Writing.{write_all};
@@ -113,7 +113,7 @@ fn write_branch<'a, F: WrittenVariable<'a>>(
     write_last_number(target, writer)
 }
 
-/// Writes a command and the semicolon behind it.
+/// Writes a command and the semicolon after it.
 #[tactic(auto, using(cyc_lex::proofs::WritingLaws::write_all_on), unfolding(crate::specs::Grammar::command, crate::specs::Grammar::behind_if, crate::specs::Grammar::free_branch, crate::specs::Grammar::update, cyc_lex::specs::Writing::write_all))]
 pub fn write_command<'a, F: WrittenVariable<'a>>(
     form: &F,

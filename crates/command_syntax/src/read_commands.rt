@@ -1,4 +1,4 @@
-//! Reading commands, each with the semicolon behind it.
+//! Reading commands, each with the semicolon after it.
 
 ghost use Rattle.std.specs.Prelude.{◌≡◌};
 ghost use Rattle.cyc_grammar.specs.Giving.{Gives};
@@ -118,7 +118,7 @@ fn free_branch(cursor: &mut Cursor<'_, '_>) -> Result<u32, Refusal>
     last_number(cursor)
 }
 
-/// Reads a command and the semicolon behind it.
+/// Reads a command and the semicolon after it.
 #[tactic(auto, unfolding(crate::specs::Grammar::command, crate::specs::Grammar::behind_if, crate::specs::Grammar::update))]
 pub fn command<'a, F: VariableForm<'a>>(
     form: &F,

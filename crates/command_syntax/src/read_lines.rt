@@ -28,7 +28,7 @@ pub fn line<'a, F: VariableForm<'a>>(
     Ok(LineTree { number, command })
 }
 
-/// Reads the lines behind some.
+/// Reads the lines after some.
 #[tactic(auto, unfolding(crate::specs::Grammar::lines))]
 fn more_lines<'a, F: VariableForm<'a>>(
     form: &F,

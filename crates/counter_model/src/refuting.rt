@@ -9,15 +9,13 @@ ghost use Rattle.model_check.specs.FirstPlaces.{IsPlace, IsFirstPlace};
 ghost use Rattle.counter_model.specs.FirstCounter.{HasSize, IsCounter, IsFirstCounter};
 
 use crate::first_stacks::first_model;
+use cyc_limits::MOST_UNIVERSALS;
 use cyc_memory::OutOfMemory;
 use goto_lang::{Cells, Stack};
 use heap_formula::{Disjuncts, Heap, bound_of_heap};
 use model_check::{Place, constructive_all};
 use pred_defs::Defs;
 use std::alloc::Global;
-
-/// The greatest number of different universal variables, whose numbers are from 0 on.
-const MOST_UNIVERSALS: u32 = 8;
 
 /// What a search for a counter-model comes to: the first one, or none of the size, or why no search was made.
 #[derive(Drop)]
@@ -60,8 +58,8 @@ pub fn refute(
         → IsFirstPlace defs.now.list disjuncts.now None) }
     ensures not_found_searched { IfOk result (λ r. r ≡ Refuted.NotFound
         → IsFirstPlace defs.now.list disjuncts.now None) }
-    ensures not_constructive { IfOk result (λ r. (place : _) → (r ≡ Refuted.NotConstructive place) ↔ ((judgement_bound (Judgement.Entail antecedent.now disjuncts.now) ≤ 8) × IsPlace defs.now.list disjuncts.now place)) }
-    ensures too_many { IfOk result (λ r. (r ≡ Refuted.TooManyUniversals) ↔ (8 < judgement_bound (Judgement.Entail antecedent.now disjuncts.now))) }
+    ensures not_constructive { IfOk result (λ r. (place : _) → (r ≡ Refuted.NotConstructive place) ↔ ((judgement_bound (Judgement.Entail antecedent.now disjuncts.now) ≤ MOST_UNIVERSALS) × IsPlace defs.now.list disjuncts.now place)) }
+    ensures too_many { IfOk result (λ r. (r ≡ Refuted.TooManyUniversals) ↔ (MOST_UNIVERSALS < judgement_bound (Judgement.Entail antecedent.now disjuncts.now))) }
 {
     let bound = bound_of_heap(antecedent).max(bound_of_heaps(disjuncts.heaps()));
     if bound > MOST_UNIVERSALS {

@@ -10,7 +10,7 @@ ghost use Rattle.cyc_grammar.specs.Texts.{text_words};
 use cyc_lex::{Place, Token, cut_token, skip_comment};
 use std::marker::Model;
 
-/// What is left of the first tokens of a text: their number, the first, the place behind it, and the text there.
+/// What is left of the first tokens of a text: their number, the first, the place after it, and the text there.
 #[derive(Drop)]
 pub struct TextTokens<'a> {
     left: usize,

@@ -32,7 +32,7 @@ unfolding cut_tokens pass_all
 cut-piece p [] h = absurd (omega arith)
 cut-piece p (c ∷ cs) h = ap (λ r. with_piece (piece_at c cs).0 p (encode_utf8_all (c ∷ take (piece_at c cs).1 cs)) r) (cut-skip (pass p c) (piece_at c cs).1 cs)
 
--- behind the first piece of a text
+-- after the first piece of a text
 pub cut-next : (p : Place) (rest : List ℕ) (piece : Piece) (front after : List ℕ) (q : Place) → IsUtf8 rest → IsNext p rest piece front after q → cut_tokens p 0 (chars rest) ≡ with_piece piece p front (cut_tokens q 0 (chars after))
 cut-next p rest piece front after q utf8 n = rw (n.kind, n.front, n.rest, n.place) (cut-piece p (chars rest) (some-chars rest utf8 n.some))
 

@@ -1,4 +1,4 @@
--- The tokens of a text, one behind the other, where what is bad in it is passed over.
+-- The tokens of a text, one after the other, where what is bad in it is passed over.
 use Rattle.std.specs.Prelude.{◌≡◌, ℕ, zero, suc, Bool, List, [], ◌∷◌, length, take, Result, Ok, Err, ◌⊎◌}
 use Rattle.std.specs.Str.{chars, encode_utf8_all, IsUtf8}
 use Rattle.cyc_lex.specs.declared.token.Kind.TheVariants.{End}
@@ -11,7 +11,7 @@ use Rattle.cyc_lex.specs.declared.cuts.Cut.{Cut}
 use Rattle.cyc_lex.specs.Placed.{Placed, placed}
 use Rattle.cyc_lex.specs.Lexing.{pass, piece_at, token_at, HasRoom, Stops, comment_len}
 
--- the tokens, where a piece with these bytes stands at p, and others are the tokens behind it
+-- the tokens, where a piece with these bytes stands at p, and others are the tokens after it
 abbrev pub with_piece : Piece → Place → List ℕ → List Placed → List Placed
 with_piece pieces.Gap p bytes others = others
 with_piece pieces.Stray p bytes others = others
@@ -27,7 +27,7 @@ cut_tokens p zero (c ∷ cs) = with_piece (piece_at c cs).0 p (encode_utf8_all (
 abbrev pub cut_text : Place → Bool → List ℕ → List Placed
 cut_text p comment text = cut_tokens p (comment_len comment (chars text)) (chars text)
 
--- the first of the tokens of a text is cut off; where it is the end token, no others are behind it
+-- the first of the tokens of a text is cut off; where it is the end token, no others are after it
 pub record IsCut (p : Place) (text : List ℕ) (c : Cut) : Type 0 where
   pub others : List Placed
   pub tokens : cut_tokens p 0 (chars text) ≡ placed c.token ∷ others

@@ -10,7 +10,7 @@ use crate::lexing::{check_len, next, skip_comment};
 use crate::place::{Bad, Piece, Place, Stop};
 use crate::token::{Kind, Token};
 
-/// The token at the front of a text, the place behind it, and the text there.
+/// The token at the front of a text, the place after it, and the text there.
 #[derive(Clone, Copy)]
 pub struct Cut<'a> {
     pub token: Token<'a>,
@@ -59,7 +59,7 @@ pub fn cut_token(place: Place, text: &str) -> Cut<'_>
     }
 }
 
-/// The number of the tokens of a text that stands at a place, where a comment goes on or none does, and behind which nothing
+/// The number of the tokens of a text that stands at a place, where a comment goes on or none does, and after which nothing
 /// comes; the end token is one of them.
 pub fn count_tokens(place: Place, comment: bool, text: &str) -> Result<usize, Stop>
     requires { HasRoom place (length text.now) }

@@ -13,6 +13,7 @@ use crate::place::{
     Bad, Piece, Place, Run, Stop, goes_on, is_double, is_plain, is_single, is_space, starts_name,
 };
 use crate::token::{Kind, Token};
+use cyc_limits::{LONGEST_NAME, LONGEST_NUMBER};
 use std::alloc::Global;
 
 /// The first character of a text, and the text after it.
@@ -27,7 +28,7 @@ pub fn first(text: &str) -> Option<(char, &str)>
     Some((c, rest.as_str()))
 }
 
-/// The place behind the run at the front of a text.
+/// The place after the run at the front of a text.
 pub fn run(run: Run, place: Place, text: &str) -> Place
     requires { HasRoom place (length text.now) }
     ensures { result ≡ pass_all place (take (prefix_len (goes_on run) (chars text.now)) (chars text.now)) }
@@ -42,7 +43,7 @@ pub fn run(run: Run, place: Place, text: &str) -> Place
     place
 }
 
-/// What a text begins with, and the place behind it.
+/// What a text begins with, and the place after it.
 #[tactic(auto, unfolding(crate::specs::Lexing::pass_all))]
 #[inline(always)]
 fn piece(place: Place, text: &str) -> (Piece, Place)
@@ -185,8 +186,8 @@ pub fn check_len(kind: Kind, place: Place, text: &str) -> Result<(), Stop>
     ensures { result ≡ len_fault kind place text.now }
 {
     match kind {
-        Kind::Name if text.len() > 64 => Err(Stop::At(Bad::LongName, place)),
-        Kind::Number if text.len() > 9 => Err(Stop::At(Bad::LongNumber, place)),
+        Kind::Name if text.len() > LONGEST_NAME => Err(Stop::At(Bad::LongName, place)),
+        Kind::Number if text.len() > LONGEST_NUMBER => Err(Stop::At(Bad::LongNumber, place)),
         _ => Ok(()),
     }
 }

@@ -1,4 +1,4 @@
--- What is found behind a subcommand with one such argument, where there is no fault: its row, with a value that passed.
+-- What is found after a subcommand with one such argument, where there is no fault: its row, with a value that passed.
 use Rattle.std.proofs.Common.{◌≡◌, Bool, true, false, cond, List, [], ◌∷◌, ◌++◌, length, Some, refl, sym, subst, arith}
 use Rattle.std.specs.Prelude.{◌&&◌, ◌||◌, not, ◌≤◌}
 use Rattle.std.specs.List.{list_any}

@@ -41,7 +41,7 @@ one_size = record { action = refl; range = refl }
 one_cells : TakesOne cells_full
 one_cells = record { action = refl; range = refl }
 
--- behind a subcommand with an argument there is a number in the argument's range
+-- after a subcommand with an argument there is a number in the argument's range
 prove_number : (words : List Text) → level_fault (leaf prove_app) [] nothing_held words false [] ≡ [] → (n : ℕ) × (argument_in 1 40 (codes "depth") (rows_after (leaf prove_app).rules [] words) ≡ Some n)
 prove_number words e =
     number_there depth_full 1 40 (rows_after (pair depth_full) [] words) refl (omega arith) (omega arith)

@@ -1,4 +1,4 @@
--- Walks over the words behind a subcommand with one such argument and help: without a fault the rows stay sound.
+-- Walks over the words after a subcommand with one such argument and help: without a fault the rows stay sound.
 use Rattle.std.proofs.Common.{◌≡◌, ℕ, zero, suc, Bool, true, false, cond, List, [], ◌∷◌, length, Option, Some, None, refl}
 use Rattle.std.specs.Prelude.{◌&&◌, not, fold, drop, slice_get, encode_utf8, is_some, find, ◌==◌}
 use Rattle.std.specs.Option.{option_map_or}

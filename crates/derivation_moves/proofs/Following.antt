@@ -162,7 +162,7 @@ fits_is s r e order has bound depth made others count b is_depth is_made is_othe
     sums : length (reasons_in s) + 1 + (length (map traced e.premises.items) + length has.rest) ≡ made + 1 + (count + others)
     sums = omega (arith, length-map s.made.items (λ (m : NodeOfCode). m.reason), length-map e.premises.items traced, is_made, is_others, is_count)
 
--- the goals behind the next one
+-- the goals after the next one
 pub others_are : (s : Derivation) (r : Reason) (e : Effect) (has : HasEffect s r e) (n : ℕ) → n ≡ length s.goals.items → n - 1 ≡ length has.rest
 others_are s r e has n number = omega (arith, number, ap length has.next, length-map (reverse s.goals.items) goal_of, length-reverse s.goals.items)
 

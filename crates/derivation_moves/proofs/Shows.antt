@@ -41,7 +41,7 @@ last_of {X} xs x h =
           record { rest = some.0; are = some.2 ∙ ap (λ (y : X). some.0 ++ y ∷ []) same })
     ]
 
--- the next goal, and those behind it
+-- the next goal, and those after it
 pub record HasNext (s : Derivation) (g : OpenGoal) : Type 0 where
   pub rest : List OpenGoal
   pub are : goals_in s ≡ g ∷ rest

@@ -1,5 +1,6 @@
 -- Partial derivations of a problem's goal.
 use Rattle.std.specs.Prelude.{◌≡◌, ◌+◌, ◌<◌, ◌≤◌, List, [], ◌∷◌, map, reverse, length, Some}
+use Rattle.cyc_limits.specs.declared.TheConstants.{MOST_NODES}
 use Rattle.heap_formula.specs.declared.proof_rules.Reason.{Reason}
 use Rattle.heap_formula.specs.Words.{Each}
 use Rattle.proof_graph.specs.declared.nodes.GraphNode.{GraphNode}
@@ -51,7 +52,7 @@ pub record IsReplayed (s : Derivation) : Type 0 where
   pub problem : IsSmallProblem (theory_in s) s.root
   pub small : Each IsSmall s.defs.list
   pub replayed : replay (calculus_of (theory_in s)) s.root (reasons_in s) ≡ Some (tableau_in s)
-  pub few : length s.made.items + length s.goals.items ≤ 20000
+  pub few : length s.made.items + length s.goals.items ≤ MOST_NODES
 
 -- and the graph has the next goal, if there is one, as its last node
 pub record IsInOrder (s : Derivation) : Type 0 where
@@ -80,7 +81,7 @@ pub record MayTake (s : Derivation) (reason : Reason) (effect : Effect) : Type 0
   pub rest : List OpenGoal
   pub next : goals_in s ≡ goal ∷ rest
   pub effects : IsEffect (theory_in s) (nodes_in s) goal reason (Some effect)
-  pub room : length s.made.items + 1 + (length effect.premises.items + length rest) ≤ 20000
+  pub room : length s.made.items + 1 + (length effect.premises.items + length rest) ≤ MOST_NODES
   pub depth : 0 < length effect.premises.items → goal.depth < 4294967295
 
 -- the system is the search for a proof of the goal

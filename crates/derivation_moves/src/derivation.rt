@@ -6,11 +6,12 @@ ghost use Rattle.proof_graph.specs.Nodes.{open_node, with_premise, changed_at, H
 use crate::effects::Effect;
 use crate::goals::{MadeNode, OpenGoal, drop_goals, push_goals};
 use bumpalo::Bump;
+use cyc_limits::MOST_NODES;
 use cyc_memory::OutOfMemory;
 use goto_lang::Program;
 use heap_formula::{Judgement, Pairs, Premise, Reason};
 use pred_defs::Defs;
-use proof_graph::{Graph, MOST_NODES};
+use proof_graph::Graph;
 use std::alloc::Global;
 
 /// A partial derivation of a goal over definitions and a program. The goals stand on a stack, the next one on top; it is the
@@ -28,8 +29,8 @@ pub struct Derivation<'a> {
 /// Whether premises fit at a goal of some depth, beside the nodes made and the other goals: they need a depth below the
 /// bound, and all together are at most the limit.
 pub fn has_room(bound: u32, depth: u32, made: usize, others: usize, count: usize) -> bool
-    requires { made + others < 20000 }
-    ensures fits { result ≡ ((count == 0 || nat_lt depth bound) && nat_le (made + 1 + (count + others)) 20000) }
+    requires { made + others < MOST_NODES }
+    ensures fits { result ≡ ((count == 0 || nat_lt depth bound) && nat_le (made + 1 + (count + others)) MOST_NODES) }
 {
     if count > 0 && depth >= bound {
         return false;
@@ -40,7 +41,7 @@ pub fn has_room(bound: u32, depth: u32, made: usize, others: usize, count: usize
 /// Makes the goal a node of the graph, and fills its parent's slot with it.
 pub fn show_goal(graph: &mut Graph<'_>, goal: &OpenGoal) -> Result<(), OutOfMemory>
     requires some_node { 0 < length graph.old }
-    requires few { length graph.old < 20000 }
+    requires few { length graph.old < MOST_NODES }
     requires slot { HasPremise (graph.old ++ open_node goal.now.premise.judgement ∷ []) goal.now.parent goal.now.place }
     requires parent { goal.now.parent < length graph.old }
     ensures { OnOk result (graph.new ≡ changed_at (with_premise goal.now.place (length graph.old)) (graph.old ++ open_node goal.now.premise.judgement ∷ []) goal.now.parent) }
@@ -52,7 +53,7 @@ pub fn show_goal(graph: &mut Graph<'_>, goal: &OpenGoal) -> Result<(), OutOfMemo
 
 /// Makes the judgement a node of the graph, without a reason.
 pub fn push_goal(graph: &mut Graph<'_>, judgement: &Judgement) -> Result<u32, OutOfMemory>
-    requires { length graph.old < 20000 }
+    requires { length graph.old < MOST_NODES }
     ensures number { IfOk result (λ number. number ≡ length graph.old) }
     ensures pushed { OnOk result (graph.new ≡ graph.old ++ open_node judgement.now ∷ []) }
 {

@@ -1,5 +1,6 @@
 -- What is answered to the question whether an entailment has a counter-model of a size.
 use Rattle.std.specs.Prelude.{◌≡◌, ◌≤◌, ◌<◌, ◌⊎◌, ℕ, List, ◌++◌, length, codes, decimal, None, Result, Ok, Err}
+use Rattle.cyc_limits.specs.declared.TheConstants.{MOST_UNIVERSALS}
 use Rattle.heap_formula.specs.declared.judgements.Judgement.{Judgement}
 use Rattle.heap_formula.specs.declared.judgements.Judgement.TheVariants.{Entail, Term as Runs}
 use Rattle.heap_formula.specs.Definitions.{Definition}
@@ -36,11 +37,11 @@ not_found_text n = codes "not found cells " ++ decimal n ++ codes "\n"
 -- ---- the answers
 
 abbrev pub IsTooWide : SymbolicHeap → List SymbolicHeap → Type 0
-IsTooWide a bs = 8 < judgement_bound (Entail a bs)
+IsTooWide a bs = MOST_UNIVERSALS < judgement_bound (Entail a bs)
 
 -- a search is made: few universals, and cases and disjuncts that are constructive
 pub record IsSearched (ds : List Definition) (a : SymbolicHeap) (bs : List SymbolicHeap) : Type 0 where
-  pub few : judgement_bound (Entail a bs) ≤ 8
+  pub few : judgement_bound (Entail a bs) ≤ MOST_UNIVERSALS
   pub constructive : IsFirstPlace ds bs None
 
 -- no stack and heap of the size is a counter-model
@@ -52,7 +53,7 @@ IsWideAnswer a bs ending text = IsTooWide a bs × (ending ≡ Limit) × (text �
 
 abbrev pub IsPlaceAnswer : List Definition → SymbolicHeap → List SymbolicHeap → Status → List ℕ → Type 0
 IsPlaceAnswer ds a bs ending text =
-    (place : Place) × (judgement_bound (Entail a bs) ≤ 8) × IsPlace ds bs place × (ending ≡ IllFormed) × (text ≡ place_text place)
+    (place : Place) × (judgement_bound (Entail a bs) ≤ MOST_UNIVERSALS) × IsPlace ds bs place × (ending ≡ IllFormed) × (text ≡ place_text place)
 
 abbrev pub IsNoneAnswer : ℕ → List Definition → SymbolicHeap → List SymbolicHeap → Status → List ℕ → Type 0
 IsNoneAnswer n ds a bs ending text =

@@ -67,7 +67,7 @@ progress_look false = Plain
 abbrev pub pair_look : Pair → Look
 pair_look p = progress_look p.progress
 
--- the pairs, each behind a space
+-- the pairs, each after a space
 abbrev pub pairs_runs : List Pair → List LabelRun
 pairs_runs [] = []
 pairs_runs (p ∷ ps) = Text Plain (codes " ") ∷ Text (pair_look p) (pair_text p) ∷ pairs_runs ps

@@ -6,19 +6,19 @@ abbrev pub with_front : ℕ → Option (List ℕ × List ℕ) → Option (List �
 with_front b None = None
 with_front b (Some r) = Some (b ∷ r.0, r.1)
 
--- the string that ends at the first quote without a backslash before it, and what stands behind that quote; the first
+-- the string that ends at the first quote without a backslash before it, and what stands after that quote; the first
 -- argument says that a backslash was just passed
 abbrev pub read_string : Bool → List ℕ → Option (List ℕ × List ℕ)
 read_string escapes [] = None
 read_string true (b ∷ bs) = with_front b (read_string false bs)
 read_string false (b ∷ bs) = if nat_eq b 34 then Some ([], bs) else (if nat_eq b 92 then read_string true bs else with_front b (read_string false bs))
 
--- the string that stands quoted at the front, and what stands behind it
+-- the string that stands quoted at the front, and what stands after it
 abbrev pub read_quoted : List ℕ → Option (List ℕ × List ℕ)
 read_quoted [] = None
 read_quoted (b ∷ bs) = if nat_eq b 34 then read_string false bs else None
 
--- where a reader of a label is: in its text, behind the sign that begins an entity, or behind the entity's first letter
+-- where a reader of a label is: in its text, after the sign that begins an entity, or after the entity's first letter
 pub data Spot : Type 0 where
   InText : Spot
   AtEntity : Spot

@@ -3,14 +3,14 @@ use Rattle.std.specs.Prelude.{ℕ, List, [], ◌∷◌, ◌++◌, codes, decimal
 use Rattle.draw_top.specs.Graphs.{LabelRun, Text, Break, Plain, Bold, Setting, Quoted, Label, Set, Node, Edge, Drawing}
 use Rattle.draw_top.specs.Quoting.{quoted, marked_up}
 
--- the tags behind which a text is bold and of a colour
+-- the tags after which a text is bold and of a colour
 abbrev pub bold_begins : List ℕ → List ℕ
 bold_begins color = codes "<FONT COLOR=" ++ quoted color ++ codes "><B>"
 
 abbrev pub bold_text : List ℕ → List ℕ → List ℕ
 bold_text color text = bold_begins color ++ marked_up text ++ codes "</B></FONT>"
 
--- a part of a label; behind a break the next line begins at the left
+-- a part of a label; after a break the next line begins at the left
 abbrev pub run_text : LabelRun → List ℕ
 run_text (Text Plain text) = marked_up text
 run_text (Text (Bold color) text) = bold_text color text

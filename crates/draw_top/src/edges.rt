@@ -32,7 +32,7 @@ fn style_of(pair: Pair) -> Style
     }
 }
 
-/// The pairs, each behind a space.
+/// The pairs, each after a space.
 fn runs_of(alloc: Global, pairs: &[Pair]) -> Result<Vec<Run>, OutOfMemory>
     ensures { IfOk result (λ r. map run_of r.items ≡ pairs_runs pairs.now) }
 {

@@ -8,7 +8,7 @@ pub enum Style {
     Bold(&'static str),
 }
 
-/// A part of a label: bytes that look alike, or the end of a line, behind which the next begins at the left.
+/// A part of a label: bytes that look alike, or the end of a line, after which the next begins at the left.
 #[derive(Drop)]
 pub enum Run {
     Text(Style, Vec<u8>),

@@ -3,7 +3,7 @@ ghost use Rattle.std.specs.Prelude.{◌≡◌, ◌++◌, ℕ, List, Some};
 ghost use Rattle.draw_top.specs.Quoting.{quoted, marked_up};
 ghost use Rattle.draw_top.specs.Reading.{read_quoted, read_marked, HasNoTag};
 
-/// A quoted string, whatever stands behind it, reads back as the bytes that it quotes.
+/// A quoted string, whatever stands after it, reads back as the bytes that it quotes.
 pub fn quoted_strings_read_back()
     ensures { (bytes others : List ℕ) → read_quoted (quoted bytes ++ others) ≡ Some (bytes, others) }
 {}

@@ -8,7 +8,7 @@ use crate::text::DotText;
 use cyc_memory::OutOfMemory;
 use std::alloc::Global;
 
-/// Writes the tags behind which a text is bold and of a colour.
+/// Writes the tags after which a text is bold and of a colour.
 fn begin_bold(color: &str, out: &mut DotText) -> Result<(), OutOfMemory>
     ensures { OnOk result (out.new ≡ out.old ++ bold_begins color.now) }
 {

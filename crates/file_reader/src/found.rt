@@ -10,6 +10,7 @@ ghost use Rattle.proof_file.specs.Spans.{node_span};
 ghost use Rattle.proof_file.specs.Values.{node_value};
 
 use cyc_lex::OutOfMemory;
+use cyc_limits::MOST_PREDICATES;
 use heap_reader::{Flaw, Heads};
 use heap_syntax::Version;
 use proof_file::{FileNode, NodeFault, node_of_tree};
@@ -34,7 +35,7 @@ pub fn take_node(
     found: Found,
 ) -> Result<Found, OutOfMemory>
     requires fits { node.fits (node_of tree.now) }
-    requires few { found.flaw ≡ None → length heads.now ≤ 4096 }
+    requires few { found.flaw ≡ None → length heads.now ≤ MOST_PREDICATES }
     requires room { at + node_span (node_of tree.now) < 2 ^ 64 }
     ensures flaw { IfOk result (λ f. f.flaw ≡ or_later found.flaw (node_flaw (most_spatial version) heads.now lines (length found.nodes.items) at (node_of tree.now))) }
     ensures nodes { IfOk result (λ f. f.flaw ≡ None → f.nodes.items ≡ found.nodes.items ++ node_value heads.now (node_of tree.now) ∷ []) }

@@ -10,6 +10,7 @@ use crate::front::{Front, Spot, read_front};
 use crate::part::{is_the_end, later_part};
 use cyc_grammar::Cursor;
 use cyc_lex::{OutOfMemory, ReadFault, Stop, count_tokens};
+use cyc_limits::MOST_PREDICATES;
 use heap_reader::{Flaw, Heads};
 use piecewise_lex::{pass_statement, valid_front};
 use pred_reader::heads;
@@ -54,7 +55,7 @@ fn read_nodes(
     flaw: Option<Flaw>,
 ) -> Result<Option<Found>, Stop>
     requires room { length text.now < 2 ^ 32 - 1 }
-    requires few { flaw ≡ None → length heads.now ≤ 4096 }
+    requires few { flaw ≡ None → length heads.now ≤ MOST_PREDICATES }
     requires begun { IsBegun text.now front.now }
     ensures { IfOk result (λ o. IfSome o (λ f. AreAllNodes text.now front.now.version heads.now (front_defs front.now) front.now.lines.items flaw f.flaw f.nodes.items)) }
 {

@@ -12,7 +12,7 @@ pub record IsChoice (n count : ℕ) (s : Stack) (pure : List Pure) (e : Stack) :
   pub small : AreAtMost n e
   pub holds : Each (PureHolds s e) pure
 
--- these values and this one, with which the pure atoms hold for some values behind them
+-- these values and this one, with which the pure atoms hold for some values after them
 pub record IsNext (s : Stack) (pure : List Pure) (l : Stack) (v : ℕ) (e : Stack) : Type 0 where
   pub whole : e ≡ l ++ v ∷ []
   pub behind : Stack

@@ -44,7 +44,7 @@ pub fn values_of(
     Ok(out)
 }
 
-/// Whether the term's value is known, whatever locals come behind these.
+/// Whether the term's value is known, whatever locals come after these.
 fn is_known(locals: &[u64], term: Term) -> bool
     ensures { IsTrue result → exist_bound term ≤ length locals.now }
 {
@@ -54,7 +54,7 @@ fn is_known(locals: &[u64], term: Term) -> bool
     }
 }
 
-/// Whether the atom may hold for some locals behind these.
+/// Whether the atom may hold for some locals after these.
 fn may_hold(stack: &[u64], locals: &[u64], atom: &Pure) -> bool
     ensures { (behind : List ℕ) → PureHolds stack.now (locals.now ++ behind) atom.now → IsTrue result }
 {
@@ -70,7 +70,7 @@ fn may_hold(stack: &[u64], locals: &[u64], atom: &Pure) -> bool
     }
 }
 
-/// Whether each of the atoms may hold for some locals behind these.
+/// Whether each of the atoms may hold for some locals after these.
 pub fn may_all_hold(stack: &[u64], locals: &[u64], atoms: &[Pure]) -> bool
     ensures { (behind : List ℕ) → Each (PureHolds stack.now (locals.now ++ behind)) atoms.now → IsTrue result }
 {

@@ -24,7 +24,7 @@ use Rattle.tableaux.specs.Room.{is_nil}
 use Rattle.tableaux.specs.Fair.{AllOccur}
 use Rattle.fo_calculus.specs.Calculus.{OpenGoal, MadeNode, sequent_of, back, links_by_reason, links_to_node, links_at, rules_at}
 use Rattle.fo_calculus.specs.Occurring.{MayOccur}
-use Rattle.fo_calculus.specs.declared.TheConstants.{MOST_LINKS}
+use Rattle.cyc_limits.specs.declared.TheConstants.{MOST_LINKS}
 
 each_else : {X : Type 0} (P : X → Type 0) (xs ys : List X) → Each P xs → Each P ys → Each P (or_else xs ys)
 each_else P [] ys a b = b

@@ -1,5 +1,6 @@
 -- The rules and links of first-order logic as a calculus, with what a goal is offered.
 use Rattle.std.specs.Prelude.{ℕ, List, [], map, Option, Some, None, Ok, Err, slice_get, if◌then◌else◌}
+use Rattle.cyc_limits.specs.declared.TheConstants.{MOST_LINKS, MOST_NODES}
 use Rattle.fo_formula.specs.declared.nodes.FoLink.{FoLink}
 use Rattle.fo_formula.specs.declared.nodes.FoReason.{FoReason}
 use Rattle.fo_formula.specs.declared.nodes.FoReason.TheVariants.{Rule, Link}
@@ -17,14 +18,12 @@ use Rattle.fo_moves.specs.Before.{rules_before}
 use Rattle.fo_moves.specs.Links.{links_to}
 use Rattle.fo_moves.specs.After.{rules_after}
 use Rattle.trace_pairs.specs.Graph.{Edge}
-use Rattle.proof_graph.specs.declared.graph.TheConstants.{MOST_NODES}
 use Rattle.proof_graph.specs.Traces.{trace_edge, trace_pairs_of}
 use Rattle.derivation_search.specs.System.{System, or_else}
 use Rattle.buchi_inclusion.specs.Answers.{state_limit}
 use Rattle.tableaux.specs.Tableau.{Premise, Goal, Made, Calculus}
 use Rattle.tableaux.specs.Room.{is_nil}
 use Rattle.tableaux.specs.Search.{system_of}
-use Rattle.fo_calculus.specs.declared.TheConstants.{MOST_LINKS}
 
 -- a goal that is open
 abbrev pub OpenGoal : Type 0

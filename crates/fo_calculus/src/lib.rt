@@ -8,9 +8,6 @@ ghost use Rattle.tableaux.specs.Fair.{IsFair};
 ghost use Rattle.fo_calculus.specs.Calculus.{calculus_of};
 ghost use Rattle.fo_calculus.specs.Occurring.{MayOccur};
 
-/// How many links to one companion are tried.
-pub const MOST_LINKS: u32 = 1_000_000;
-
 /// The calculus is in order for sequents and reasons within the limits. So the laws of tableaux are so of it.
 pub fn first_order_is_fair()
     ensures { (t : FoTheory) → IsFair (calculus_of t) (MayOccur t) (IsReasonWithin t) }

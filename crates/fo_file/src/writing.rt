@@ -10,6 +10,7 @@ ghost use Rattle.fo_values.specs.declared.problem.FoProblem.{FoProblem as Questi
 ghost use Rattle.fo_file.specs.Questions.{IsFoQuestion};
 ghost use Rattle.fo_file.specs.Reading.{text_of_file, IsRead, IsReadAgain, IsWritable, IsWritableProblem, Reads};
 
+use cyc_limits::MOST_NODES;
 use cyc_memory::OutOfMemory;
 use fo_formula::FoFile;
 use fo_proof_syntax::write_tree;
@@ -41,6 +42,6 @@ pub fn bytes_spell_one_file()
 /// Nodes within the limits make a proof over the theory of a problem that was read, and that proof has a text. The function
 /// does nothing.
 pub fn proofs_of_problems_have_texts()
-    ensures { (p : Question) (nodes : List FoNode) → IsFoQuestion p → IsWritableProblem p → 0 < length nodes → length nodes ≤ 20000
+    ensures { (p : Question) (nodes : List FoNode) → IsFoQuestion p → IsWritableProblem p → 0 < length nodes → length nodes ≤ MOST_NODES
         → Each (IsNodeWithin p.theory) nodes → IsWritable (record { theory = p.theory; nodes = nodes }) }
 {}

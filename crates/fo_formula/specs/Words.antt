@@ -30,7 +30,7 @@ end_of zero w = 0
 end_of (suc n) [] = 0
 end_of (suc n) (s ∷ w) = suc (end_of (arity s + n) w)
 
--- the first term of a word, and what stands behind it
+-- the first term of a word, and what stands after it
 abbrev pub first_term : Word → Word
 first_term w = take (end_of 1 w) w
 

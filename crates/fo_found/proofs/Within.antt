@@ -19,7 +19,7 @@ use Rattle.tableaux.specs.Tableau.{Premise, Tableau}
 use Rattle.tableaux.specs.Nodes.{MayStand, AllOffered}
 use Rattle.tableaux.proofs.Made.{AllLead}
 use Rattle.fo_calculus.specs.Calculus.{OpenGoal, MadeNode, sequent_of, traced, links_at, rules_at, calculus_of}
-use Rattle.fo_calculus.specs.declared.TheConstants.{MOST_LINKS}
+use Rattle.cyc_limits.specs.declared.TheConstants.{MOST_LINKS}
 use Rattle.fo_calculus.specs.Occurring.{MayOccur}
 use Rattle.fo_calculus.proofs.Offers.{offers_are}
 use Rattle.fo_found.specs.Files.{numbers_of, proof_nodes}

@@ -1,5 +1,6 @@
 -- What a search finds, as a proof.
 use Rattle.std.specs.Prelude.{◌≡◌, ◌≤◌, List, [], Some, length, slice_get}
+use Rattle.cyc_limits.specs.declared.TheConstants.{MOST_NODES}
 use Rattle.heap_formula.specs.Words.{Each}
 use Rattle.fo_formula.specs.declared.nodes.FoNode.{FoNode}
 use Rattle.fo_formula.specs.declared.nodes.FoReason.{FoReason}
@@ -22,7 +23,7 @@ pub record AreProof (t : FoTheory) (goal : FoSequent) (nodes : List FoNode) : Ty
   pub paths : AllProgress (graph_of t nodes)
   pub states : HasAtMost (graph_of t nodes) state_limit
   pub within : Each (IsNodeWithin t) nodes
-  pub few : length nodes ≤ 20000
+  pub few : length nodes ≤ MOST_NODES
 
 -- the reasons make a proof of the goal, with no goal left open
 pub record MakesProof (t : FoTheory) (goal : FoSequent) (reasons : List FoReason) : Type 0 where

@@ -1,6 +1,7 @@
 -- Theories, sequents and reasons within the limits of a file: terms over the constructors, predicates with as many
 -- arguments as they take, variables up to number 65,534, and few atoms and terms.
 use Rattle.std.specs.Prelude.{ℕ, ◌≡◌, ◌≤◌, ◌<◌, ◌+◌, ◌^◌, List, [], ◌∷◌, ◌++◌, map, length, Some, slice_get}
+use Rattle.cyc_limits.specs.declared.TheConstants.{GREATEST_VARIABLE, MOST_TERMS}
 use Rattle.heap_formula.specs.Words.{Each}
 use Rattle.fo_formula.specs.declared.terms.Sign.{Sign}
 use Rattle.fo_formula.specs.declared.terms.Sign.TheVariants.{Universal, Local, Constructor}
@@ -24,7 +25,7 @@ use Rattle.fo_nodes.specs.Files.{IsSmallSequent, IsSmallDefinition}
 
 -- a sign of a sequent: a variable whose number a file may have, or a constructor with its number of arguments
 abbrev pub IsSignWithin : FoTheory → Sign → Type 0
-IsSignWithin t (Universal n) = n ≤ 65534
+IsSignWithin t (Universal n) = n ≤ GREATEST_VARIABLE
 IsSignWithin t (Local n) = ⊥
 IsSignWithin t (Constructor c k) = IsConstructor t.constructors c k
 
@@ -68,7 +69,7 @@ IsRuleWithin t _ = Unit {0}
 
 -- a variable and its term
 abbrev pub IsPairWithin : FoTheory → ℕ × Word → Type 0
-IsPairWithin t pair = (pair.0 ≤ 65534) × IsTermWithin t pair.1
+IsPairWithin t pair = (pair.0 ≤ GREATEST_VARIABLE) × IsTermWithin t pair.1
 
 abbrev pub IsReasonWithin : FoTheory → FoReason → Type 0
 IsReasonWithin t (Rule rule) = IsRuleWithin t rule
@@ -102,7 +103,7 @@ IsNumberWithin n = n < 10 ^ 9
 pub record IsNodeWithin (t : FoTheory) (n : FoNode) : Type 0 where
   pub sequent : IsSequentWithin t n.sequent
   pub reason : IsReasonWithin t n.reason
-  pub size : sequent_size n.sequent + reason_size n.reason ≤ 4096
+  pub size : sequent_size n.sequent + reason_size n.reason ≤ MOST_TERMS
   pub numbers : Each IsNumberWithin (numbers_of n.reason)
   pub premises : Each IsNumberWithin n.premises
 

@@ -17,6 +17,8 @@ ghost use Rattle.fo_table.specs.Soundness.{HasOpenReason};
 ghost use Rattle.fo_table.specs.Table.{rule_answer};
 ghost use Rattle.fo_limits.specs.Limits.{IsTheoryWithin, IsSequentWithin, HasAtomsWithin, IsRuleWithin, IsReasonWithin, IsNumberWithin, numbers_of};
 
+use cyc_limits::MOST_NODES;
+
 /// The premises of a rule are within the limits where the theory, the sequent and the rule are.
 pub fn premises_stay_within()
     ensures { (t : FoTheory) (s : FoSequent) (rule : FoRule) (ps : List FoPremise) → IsTheoryWithin t → IsSequentWithin t s → IsRuleWithin t rule
@@ -33,6 +35,6 @@ pub fn within_is_open()
 pub fn numbers_stay_within()
     ensures rules { (t : FoTheory) (s : FoSequent) (rule : FoRule) (ps : List FoPremise) → IsTheoryWithin t → IsSequentWithin t s
         → rule_answer t s rule ≡ Ok ps → Each IsNumberWithin (numbers_of (Rule rule)) }
-    ensures links { (t : FoTheory) (bud companion : FoSequent) (link : FoLink) → IsSequentWithin t bud → link.to < 20000
+    ensures links { (t : FoTheory) (bud companion : FoSequent) (link : FoLink) → IsSequentWithin t bud → link.to < MOST_NODES
         → link_fault bud companion link ≡ None → Each IsNumberWithin (numbers_of (Link link)) }
 {}

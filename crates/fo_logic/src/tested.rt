@@ -7,6 +7,7 @@ ghost use Rattle.fo_nodes.specs.Once.{proof_once};
 ghost use Rattle.fo_logic.specs.Tested.{rows_of, first_rows, EndsBy, is_untested};
 ghost use Rattle.fo_logic.specs.Verdicts.{file_graph, IsRightBefore, IsLeastFault};
 
+use cyc_limits::MOST_LEFT;
 use cyc_memory::OutOfMemory;
 use fo_formula::{FoAtom, FoFile};
 use fo_nodes::{NodeAnswer, NodeEdge, test_node};
@@ -60,7 +61,7 @@ fn trace_edges(alloc: Global, edges: &[NodeEdge]) -> Result<Vec<Edge>, OutOfMemo
 
 /// The places of the predicate atoms.
 pub fn predicate_positions(alloc: Global, atoms: &[FoAtom]) -> Result<Vec<u8>, OutOfMemory>
-    requires { length atoms.now ≤ 32 }
+    requires { length atoms.now ≤ MOST_LEFT }
     ensures { IfOk result (λ v. v.items ≡ predicate_places 0 atoms.now) }
 {
     let mut positions = Vec::new(alloc);

@@ -1,6 +1,7 @@
 -- Terms that are chosen one after another, and whether those chosen leave a choice possible.
 use Rattle.std.specs.Prelude.{◌≤◌, ℕ, List, [], ◌∷◌, length, Bool, true, ◌&&◌, ◌||◌, not, nat_eq, nat_lt, replicate}
 use Rattle.std.specs.List.{filter, list_any, list_all, zip}
+use Rattle.cyc_limits.specs.declared.TheConstants.{MOST_LEFT, MOST_RIGHT, MOST_TERMS}
 use Rattle.fo_formula.specs.declared.terms.Sign.{Sign}
 use Rattle.fo_formula.specs.declared.terms.Sign.TheVariants.{Universal, Local, Constructor}
 use Rattle.fo_formula.specs.declared.atoms.FoAtom.{FoAtom}
@@ -50,7 +51,7 @@ may_hold change left x = not (settles_atom change x) || holds_by left (in_atom (
 
 -- the sequents are within the limits of a node
 abbrev pub IsLimited : FoSequent → Type 0
-IsLimited s = (length s.left ≤ 32) × (length s.right ≤ 16) × (sequent_size s ≤ 4096)
+IsLimited s = (length s.left ≤ MOST_LEFT) × (length s.right ≤ MOST_RIGHT) × (sequent_size s ≤ MOST_TERMS)
 
 abbrev pub IsWithin : Wanted → Type 0
 IsWithin (Values goal) = IsLimited goal.bud.now × IsLimited goal.companion.now

@@ -1,6 +1,7 @@
 -- The links from a bud to a companion.
 use Rattle.std.specs.Prelude.{ℕ, suc, ◌+◌, List, [], ◌∷◌, map, length, take, Bool, ◌&&◌, ◌||◌, nat_le, is_none, if◌then◌else◌}
 use Rattle.std.specs.List.{filter, list_any, range_with_len, zip}
+use Rattle.cyc_limits.specs.declared.TheConstants.{MOST_TERMS}
 use Rattle.fo_formula.specs.declared.atoms.FoAtom.{FoAtom}
 use Rattle.fo_formula.specs.declared.nodes.FoLink.{FoLink}
 use Rattle.fo_formula.specs.declared.nodes.FoReason.TheVariants.{Link}
@@ -46,7 +47,7 @@ link_by bud companion number s =
 -- the link has no fault, and the bud with it at most 4,096 terms
 abbrev pub is_fit : FoSequent → FoSequent → FoLink → Bool
 is_fit bud companion link =
-    is_none (link_fault bud companion link) && nat_le (sequent_size bud + reason_size (Link link)) 4096
+    is_none (link_fault bud companion link) && nat_le (sequent_size bud + reason_size (Link link)) MOST_TERMS
 
 -- the substitutions of subterms of the bud for the companion's variables, in lexicographic order
 abbrev pub substitutions : FoSequent → FoSequent → List Bindings

@@ -9,6 +9,7 @@ use crate::choosing::{Search, choices};
 use crate::subterms::subterms;
 use crate::trying::those_that_go;
 use crate::wanted::{CaseLocals, Wanted};
+use cyc_limits::{MOST_LEFT, MOST_RIGHT};
 use cyc_memory::OutOfMemory;
 use fo_formula::{FoAtom, FoAtoms, FoRule, FoSequent, FoTheory, Kind, Term, Terms, bound_of_atoms};
 use fo_rules::cases;
@@ -101,7 +102,7 @@ fn push_atom(
 
 /// Right, for each atom on the right.
 fn rights(alloc: Global, theory: &FoTheory, sequent: &FoSequent) -> Result<Vec<FoRule>, OutOfMemory>
-    requires right_fits { length sequent.now.right ≤ 16 }
+    requires right_fits { length sequent.now.right ≤ MOST_RIGHT }
     requires few_cases { (p : ℕ) → length (cases_of theory.now.definitions p) ≤ 65536 }
     ensures { IfOk result (λ v. v.items ≡ each_place (rights_at theory.now sequent.now) sequent.now.right) }
 {
@@ -115,7 +116,7 @@ fn rights(alloc: Global, theory: &FoTheory, sequent: &FoSequent) -> Result<Vec<F
 
 /// Adds Unfold, for each predicate atom.
 fn push_unfolds(rules: &mut Vec<FoRule>, left: &[FoAtom]) -> Result<(), OutOfMemory>
-    requires { length left.now ≤ 32 }
+    requires { length left.now ≤ MOST_LEFT }
     ensures { OnOk result (rules.new.items ≡ rules.old.items ++ each_place unfold_at left.now) }
 {
     for (i, atom) in left.iter().enumerate() {
@@ -134,8 +135,8 @@ pub fn rules_after(
     theory: &FoTheory,
     sequent: &FoSequent,
 ) -> Result<Vec<FoRule>, OutOfMemory>
-    requires left_fits { length sequent.now.left ≤ 32 }
-    requires right_fits { length sequent.now.right ≤ 16 }
+    requires left_fits { length sequent.now.left ≤ MOST_LEFT }
+    requires right_fits { length sequent.now.right ≤ MOST_RIGHT }
     requires few_cases { (p : ℕ) → length (cases_of theory.now.definitions p) ≤ 65536 }
     ensures { IfOk result (λ v. v.items ≡ offers_after theory.now sequent.now) }
 {

@@ -4,12 +4,13 @@ ghost use Rattle.fold_offers.specs.Places.{each_place, first_line};
 ghost use Rattle.fo_moves.specs.Before.{axiom_at, axioms_with, refl_at, clash_at, decompose_at, replace_at, equation_lines, rules_before as offers_before};
 
 use crate::trying::first_that_goes;
+use cyc_limits::{MOST_LEFT, MOST_RIGHT};
 use cyc_memory::OutOfMemory;
 use fo_formula::{FoAtom, FoRule, FoSequent, FoTheory, Side};
 use std::alloc::Global;
 
 fn push_axioms(rules: &mut Vec<FoRule>, left: u32, atoms: &[FoAtom]) -> Result<(), OutOfMemory>
-    requires { length atoms.now ≤ 32 }
+    requires { length atoms.now ≤ MOST_LEFT }
     ensures { OnOk result (rules.new.items ≡ rules.old.items ++ each_place (axiom_at left) atoms.now) }
 {
     for (j, _atom) in atoms.iter().enumerate() {
@@ -23,8 +24,8 @@ fn push_axioms(rules: &mut Vec<FoRule>, left: u32, atoms: &[FoAtom]) -> Result<(
 
 /// Axiom, for each atom on the left with each on the right.
 fn axioms(alloc: Global, left: &[FoAtom], right: &[FoAtom]) -> Result<Vec<FoRule>, OutOfMemory>
-    requires left { length left.now ≤ 32 }
-    requires right { length right.now ≤ 32 }
+    requires left { length left.now ≤ MOST_LEFT }
+    requires right { length right.now ≤ MOST_LEFT }
     ensures { IfOk result (λ v. v.items ≡ each_place (axioms_with right.now) left.now) }
 {
     let mut rules = Vec::new(alloc);
@@ -36,7 +37,7 @@ fn axioms(alloc: Global, left: &[FoAtom], right: &[FoAtom]) -> Result<Vec<FoRule
 
 /// Refl, for each atom on the right.
 fn refls(alloc: Global, right: &[FoAtom]) -> Result<Vec<FoRule>, OutOfMemory>
-    requires { length right.now ≤ 32 }
+    requires { length right.now ≤ MOST_LEFT }
     ensures { IfOk result (λ v. v.items ≡ each_place refl_at right.now) }
 {
     let mut rules = Vec::new(alloc);
@@ -48,7 +49,7 @@ fn refls(alloc: Global, right: &[FoAtom]) -> Result<Vec<FoRule>, OutOfMemory>
 
 /// Clash, for each atom on the left.
 fn clashes(alloc: Global, left: &[FoAtom]) -> Result<Vec<FoRule>, OutOfMemory>
-    requires { length left.now ≤ 32 }
+    requires { length left.now ≤ MOST_LEFT }
     ensures { IfOk result (λ v. v.items ≡ each_place clash_at left.now) }
 {
     let mut rules = Vec::new(alloc);
@@ -60,7 +61,7 @@ fn clashes(alloc: Global, left: &[FoAtom]) -> Result<Vec<FoRule>, OutOfMemory>
 
 /// Decompose, for each atom on the left.
 fn decompositions(alloc: Global, left: &[FoAtom]) -> Result<Vec<FoRule>, OutOfMemory>
-    requires { length left.now ≤ 32 }
+    requires { length left.now ≤ MOST_LEFT }
     ensures { IfOk result (λ v. v.items ≡ each_place decompose_at left.now) }
 {
     let mut rules = Vec::new(alloc);
@@ -72,7 +73,7 @@ fn decompositions(alloc: Global, left: &[FoAtom]) -> Result<Vec<FoRule>, OutOfMe
 
 /// Replace, for each atom on the left, the left side first.
 fn replacements(alloc: Global, left: &[FoAtom]) -> Result<Vec<FoRule>, OutOfMemory>
-    requires { length left.now ≤ 32 }
+    requires { length left.now ≤ MOST_LEFT }
     ensures { IfOk result (λ v. v.items ≡ each_place replace_at left.now) }
 {
     let mut rules = Vec::new(alloc);
@@ -96,8 +97,8 @@ fn rules_by_equation(
     theory: &FoTheory,
     sequent: &FoSequent,
 ) -> Result<Vec<FoRule>, OutOfMemory>
-    requires left_fits { length sequent.now.left ≤ 32 }
-    requires right_fits { length sequent.now.right ≤ 16 }
+    requires left_fits { length sequent.now.left ≤ MOST_LEFT }
+    requires right_fits { length sequent.now.right ≤ MOST_RIGHT }
     ensures { IfOk result (λ v. v.items ≡ first_line (equation_lines theory.now sequent.now)) }
 {
     let left = sequent.left.as_slice();
@@ -120,8 +121,8 @@ pub fn rules_before(
     theory: &FoTheory,
     sequent: &FoSequent,
 ) -> Result<Vec<FoRule>, OutOfMemory>
-    requires left_fits { length sequent.now.left ≤ 32 }
-    requires right_fits { length sequent.now.right ≤ 16 }
+    requires left_fits { length sequent.now.left ≤ MOST_LEFT }
+    requires right_fits { length sequent.now.right ≤ MOST_RIGHT }
     ensures { IfOk result (λ v. v.items ≡ offers_before theory.now sequent.now) }
 {
     let left = sequent.left.as_slice();

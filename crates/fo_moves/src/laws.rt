@@ -14,6 +14,8 @@ ghost use Rattle.fo_moves.specs.Before.{rules_before};
 ghost use Rattle.fo_moves.specs.Links.{links_to};
 ghost use Rattle.fo_moves.specs.After.{rules_after};
 
+use cyc_limits::MOST_TERMS;
+
 /// Each rule that is offered has premises.
 pub fn offered_rules_have_premises()
     ensures before { (t : FoTheory) (s : FoSequent) → Each (λ (rule : FoRule). is_ok (rule_answer t s rule) ≡ true) (rules_before t s) }
@@ -28,9 +30,9 @@ pub fn offered_links_have_no_fault()
 
 /// A sequent of at most 4,096 terms has no more with the reason that is offered to it.
 pub fn offered_reasons_are_small()
-    ensures before { (t : FoTheory) (s : FoSequent) → sequent_size s ≤ 4096 → Each (λ (rule : FoRule). sequent_size s + reason_size (Rule rule) ≤ 4096) (rules_before t s) }
-    ensures links { (most number : ℕ) (bud companion : FoSequent) → Each (λ (link : FoLink). sequent_size bud + reason_size (Link link) ≤ 4096) (links_to most bud companion number) }
-    ensures after { (t : FoTheory) (s : FoSequent) → sequent_size s ≤ 4096 → Each (λ (rule : FoRule). sequent_size s + reason_size (Rule rule) ≤ 4096) (rules_after t s) }
+    ensures before { (t : FoTheory) (s : FoSequent) → sequent_size s ≤ MOST_TERMS → Each (λ (rule : FoRule). sequent_size s + reason_size (Rule rule) ≤ MOST_TERMS) (rules_before t s) }
+    ensures links { (most number : ℕ) (bud companion : FoSequent) → Each (λ (link : FoLink). sequent_size bud + reason_size (Link link) ≤ MOST_TERMS) (links_to most bud companion number) }
+    ensures after { (t : FoTheory) (s : FoSequent) → sequent_size s ≤ MOST_TERMS → Each (λ (rule : FoRule). sequent_size s + reason_size (Rule rule) ≤ MOST_TERMS) (rules_after t s) }
 {}
 
 /// What is offered stays within the limits of a file.

@@ -7,13 +7,12 @@ ghost use Rattle.fo_parts.specs.Capping.{capped};
 ghost use Rattle.fo_parts.specs.Putting.{put};
 ghost use Rattle.fo_moves.specs.Links.{least_place as place_in, link_by as link_by_pairs, is_fit as link_is_fit};
 
+use cyc_limits::{MOST_LEFT, MOST_RIGHT, MOST_TERMS, PAST_MOST_TERMS};
 use cyc_memory::OutOfMemory;
 use fo_formula::{FoAtom, FoLink, FoSequent, FoSubst, Positions, Term};
 use fo_parts::{Change, changed_atom, is_one_atom, is_small_with};
 use fo_rules::link_fault;
 use std::alloc::Global;
-
-const PAST_MOST: usize = 4097;
 
 /// Each source with the term at its place.
 pub fn paired(alloc: Global, sources: &[u16], terms: &[Term]) -> Result<FoSubst, OutOfMemory>
@@ -30,7 +29,7 @@ pub fn paired(alloc: Global, sources: &[u16], terms: &[Term]) -> Result<FoSubst,
 }
 
 fn least_place(atoms: &[FoAtom], atom: &FoAtom) -> u32
-    requires { length atoms.now ≤ 32 }
+    requires { length atoms.now ≤ MOST_LEFT }
     ensures { result ≡ place_in atoms.now atom.now }
 {
     for (k, other) in atoms.iter().enumerate() {
@@ -47,7 +46,7 @@ fn least_places(
     others: &[FoAtom],
     atoms: &[FoAtom],
 ) -> Result<Positions, OutOfMemory>
-    requires { length others.now ≤ 32 }
+    requires { length others.now ≤ MOST_LEFT }
     ensures { IfOk result (λ ps. ps ≡ map (λ x. place_in others.now (in_atom (put change.now) x)) atoms.now) }
 {
     let mut places = Vec::new(alloc);
@@ -66,8 +65,8 @@ pub fn link_by(
     number: u32,
     substitution: FoSubst,
 ) -> Result<FoLink, OutOfMemory>
-    requires left_fits { length bud.now.left ≤ 32 }
-    requires right_fits { length bud.now.right ≤ 16 }
+    requires left_fits { length bud.now.left ≤ MOST_LEFT }
+    requires right_fits { length bud.now.right ≤ MOST_RIGHT }
     ensures { IfOk result (λ l. l ≡ link_by_pairs bud.now companion.now number substitution) }
 {
     let change = Change::Substitution(substitution.clone()?);
@@ -88,7 +87,7 @@ fn size_of_values(pairs: &[(u16, Term)]) -> usize
 {
     let mut size = 0;
     for (_source, term) in pairs {
-        size = (size + term.as_slice().len().min(PAST_MOST)).min(PAST_MOST);
+        size = (size + term.as_slice().len().min(PAST_MOST_TERMS)).min(PAST_MOST_TERMS);
     }
     size
 }
@@ -100,9 +99,9 @@ pub fn is_fit(
     companion: &FoSequent,
     link: &FoLink,
 ) -> Result<bool, OutOfMemory>
-    requires bud_small { sequent_size bud.now ≤ 4096 }
-    requires left_few { length companion.now.left ≤ 32 }
-    requires right_few { length companion.now.right ≤ 16 }
+    requires bud_small { sequent_size bud.now ≤ MOST_TERMS }
+    requires left_few { length companion.now.left ≤ MOST_LEFT }
+    requires right_few { length companion.now.right ≤ MOST_RIGHT }
     ensures { IfOk result (λ b. b ≡ link_is_fit bud.now companion.now link.now) }
 {
     match link_fault(alloc, bud, companion, link)? {

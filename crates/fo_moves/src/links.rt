@@ -9,6 +9,7 @@ use crate::linking::{link_by, paired};
 use crate::subterms::subterms;
 use crate::variables::variables;
 use crate::wanted::{LinkValues, Wanted};
+use cyc_limits::{MOST_LEFT, MOST_RIGHT, MOST_TERMS};
 use cyc_memory::OutOfMemory;
 use fo_formula::{FoLink, FoSequent, Terms};
 use std::alloc::Global;
@@ -18,8 +19,8 @@ fn links_by(
     goal: &LinkValues<'_>,
     choices: &[Terms],
 ) -> Result<Vec<FoLink>, OutOfMemory>
-    requires left_fits { length goal.now.bud.now.left ≤ 32 }
-    requires right_fits { length goal.now.bud.now.right ≤ 16 }
+    requires left_fits { length goal.now.bud.now.left ≤ MOST_LEFT }
+    requires right_fits { length goal.now.bud.now.right ≤ MOST_RIGHT }
     ensures { IfOk result (λ v. v.items ≡ map (λ ts. link_by_pairs goal.now.bud.now goal.now.companion.now goal.now.number (zip goal.now.sources.now ts)) choices.now) }
 {
     let mut links = Vec::new(alloc);
@@ -41,12 +42,12 @@ pub fn links_to(
     number: u32,
     most: u32,
 ) -> Result<Vec<FoLink>, OutOfMemory>
-    requires bud_left { length bud.now.left ≤ 32 }
-    requires bud_right { length bud.now.right ≤ 16 }
-    requires bud_small { sequent_size bud.now ≤ 4096 }
-    requires companion_left { length companion.now.left ≤ 32 }
-    requires companion_right { length companion.now.right ≤ 16 }
-    requires companion_small { sequent_size companion.now ≤ 4096 }
+    requires bud_left { length bud.now.left ≤ MOST_LEFT }
+    requires bud_right { length bud.now.right ≤ MOST_RIGHT }
+    requires bud_small { sequent_size bud.now ≤ MOST_TERMS }
+    requires companion_left { length companion.now.left ≤ MOST_LEFT }
+    requires companion_right { length companion.now.right ≤ MOST_RIGHT }
+    requires companion_small { sequent_size companion.now ≤ MOST_TERMS }
     ensures { IfOk result (λ v. v.items ≡ first_links most bud.now companion.now number) }
 {
     let sources = variables(alloc, companion)?;

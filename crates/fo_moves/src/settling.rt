@@ -9,6 +9,7 @@ ghost use Rattle.fo_table.specs.Tests.{same_atom};
 ghost use Rattle.fo_moves.specs.After.{holds_by as atom_holds_by};
 ghost use Rattle.fo_moves.specs.Choosing.{has_pair as some_pair, settles as sign_settled, settles_word as word_settled, settles_atom as atom_settled, may_stand as atom_may_stand, may_hold as atom_may_hold};
 
+use cyc_limits::MOST_TERMS;
 use cyc_memory::OutOfMemory;
 use fo_formula::{FoAtom, Sign, Term};
 use fo_parts::{Change, changed_atom, is_one_atom, is_one_term, size_of_changed_atom};
@@ -91,10 +92,10 @@ fn is_among_changed(
     atoms: &[FoAtom],
     atom: &FoAtom,
 ) -> Result<bool, OutOfMemory>
-    requires { atoms_size atoms.now ≤ 4096 }
+    requires { atoms_size atoms.now ≤ MOST_TERMS }
     ensures { IfOk result (λ b. b ≡ list_any (λ (y : AtomValue). same_atom y (in_atom (put change.now) atom.now)) atoms.now) }
 {
-    if size_of_changed_atom(change, atom) > 4096 {
+    if size_of_changed_atom(change, atom) > MOST_TERMS {
         return Ok(false);
     }
     let changed = changed_atom(alloc, change, atom)?;
@@ -107,7 +108,7 @@ fn may_stand(
     atoms: &[FoAtom],
     atom: &FoAtom,
 ) -> Result<bool, OutOfMemory>
-    requires { atoms_size atoms.now ≤ 4096 }
+    requires { atoms_size atoms.now ≤ MOST_TERMS }
     ensures { IfOk result (λ b. b ≡ atom_may_stand change.now atoms.now atom.now) }
 {
     if !settles_atom(change, atom) {
@@ -123,7 +124,7 @@ pub fn may_all_stand(
     others: &[FoAtom],
     atoms: &[FoAtom],
 ) -> Result<bool, OutOfMemory>
-    requires { atoms_size others.now ≤ 4096 }
+    requires { atoms_size others.now ≤ MOST_TERMS }
     ensures { IfOk result (λ b. b ≡ list_all (atom_may_stand change.now others.now) atoms.now) }
 {
     for atom in atoms {

@@ -4,6 +4,7 @@ ghost use Rattle.std.specs.List.{filter};
 ghost use Rattle.fold_offers.specs.Places.{first_that};
 ghost use Rattle.fo_moves.specs.Trying.{goes as goes_at};
 
+use cyc_limits::{MOST_LEFT, MOST_RIGHT};
 use cyc_memory::OutOfMemory;
 use fo_formula::{FoRule, FoSequent, FoTheory};
 use fo_rules::premises;
@@ -17,8 +18,8 @@ fn goes(
     sequent: &FoSequent,
     rule: &FoRule,
 ) -> Result<bool, OutOfMemory>
-    requires left_fits { length sequent.now.left ≤ 32 }
-    requires right_fits { length sequent.now.right ≤ 16 }
+    requires left_fits { length sequent.now.left ≤ MOST_LEFT }
+    requires right_fits { length sequent.now.right ≤ MOST_RIGHT }
     ensures { IfOk result (λ b. b ≡ goes_at theory.now sequent.now rule.now) }
 {
     match premises(alloc, theory, sequent, rule) {
@@ -35,8 +36,8 @@ pub fn those_that_go(
     sequent: &FoSequent,
     rules: Vec<FoRule>,
 ) -> Result<Vec<FoRule>, OutOfMemory>
-    requires left_fits { length sequent.now.left ≤ 32 }
-    requires right_fits { length sequent.now.right ≤ 16 }
+    requires left_fits { length sequent.now.left ≤ MOST_LEFT }
+    requires right_fits { length sequent.now.right ≤ MOST_RIGHT }
     ensures { IfOk result (λ v. v.items ≡ filter (goes_at theory.now sequent.now) rules.items) }
 {
     let mut kept = Vec::new(alloc);
@@ -55,8 +56,8 @@ pub fn first_that_goes(
     sequent: &FoSequent,
     rules: Vec<FoRule>,
 ) -> Result<Vec<FoRule>, OutOfMemory>
-    requires left_fits { length sequent.now.left ≤ 32 }
-    requires right_fits { length sequent.now.right ≤ 16 }
+    requires left_fits { length sequent.now.left ≤ MOST_LEFT }
+    requires right_fits { length sequent.now.right ≤ MOST_RIGHT }
     ensures { IfOk result (λ v. v.items ≡ first_that (goes_at theory.now sequent.now) rules.items) }
 {
     let mut kept = Vec::new(alloc);

@@ -1,5 +1,6 @@
 -- A proof as a list of nodes and as a trace graph, and what its reader sees to.
 use Rattle.std.specs.Prelude.{◌≡◌, ◌<◌, ◌≤◌, ℕ, suc, length, List, [], ◌∷◌, map, Some, None, slice_get}
+use Rattle.cyc_limits.specs.declared.TheConstants.{MOST_CASES, MOST_CASE_ATOMS, MOST_LEFT, MOST_NODES, MOST_RIGHT, MOST_TERMS}
 use Rattle.heap_formula.specs.Meaning.{Stages}
 use Rattle.heap_formula.specs.Words.{Each}
 use Rattle.fo_formula.specs.declared.atoms.FoAtom.{FoAtom}
@@ -49,14 +50,14 @@ AreRight t nodes = (v : ℕ) (node : FoNode) → slice_get nodes v ≡ Some node
 
 -- at most 32 atoms on the left and 16 on the right, and at most 4,096 terms
 pub record IsSmallSequent (s : FoSequent) : Type 0 where
-  pub left : length s.left ≤ 32
-  pub right : length s.right ≤ 16
-  pub size : sequent_size s ≤ 4096
+  pub left : length s.left ≤ MOST_LEFT
+  pub right : length s.right ≤ MOST_RIGHT
+  pub size : sequent_size s ≤ MOST_TERMS
 
 -- at most 16 cases, each of at most 16 atoms
 pub record IsSmallDefinition (d : FoDefinition) : Type 0 where
-  pub cases : length d.cases ≤ 16
-  pub atoms : Each (λ (c : List FoAtom). length c ≤ 16) d.cases
+  pub cases : length d.cases ≤ MOST_CASES
+  pub atoms : Each (λ (c : List FoAtom). length c ≤ MOST_CASE_ATOMS) d.cases
 
 -- a node of terms over the constructors, within the limits
 pub record IsReadNode (cs : List ConstructorValue) (n : FoNode) : Type 0 where
@@ -68,7 +69,7 @@ pub record IsReadNode (cs : List ConstructorValue) (n : FoNode) : Type 0 where
 -- definitions within the limits, of terms over the constructors
 pub record IsFoProof (f : FoFile) : Type 0 where
   pub some : 0 < length f.nodes
-  pub few : length f.nodes ≤ 20000
+  pub few : length f.nodes ≤ MOST_NODES
   pub constant : HasConstant f.theory
   pub definitions : Each IsSmallDefinition f.theory.definitions
   pub nodes : Each (IsReadNode f.theory.constructors) f.nodes

@@ -2,6 +2,7 @@
 use Rattle.std.specs.Prelude.{ℕ, zero, suc, ◌+◌, ◌≤◌, List, [], ◌∷◌, length, Option}
 use Rattle.std.specs.Coded.{×_prop, Unit-prop, le_prop}
 use Rattle.std.proofs.Props.{props}
+use Rattle.cyc_limits.specs.declared.TheConstants.{MOST_CASE_ATOMS}
 use Rattle.heap_formula.specs.Words.{Each}
 use Rattle.fo_formula.specs.declared.terms.Sign.{Sign}
 use Rattle.fo_formula.specs.declared.terms.Sign.TheVariants.{Universal, Local, Constructor}
@@ -89,7 +90,7 @@ module _ (cs : List ConstructorValue) where
 definition_prop : (d : FoDefinition) → IsProp (IsSmallDefinition d)
 definition_prop d p q = λ i. record {
   cases = le_prop p.cases q.cases i;
-  atoms = each_prop (λ (c : List FoAtom). length c ≤ 16) (λ c. le_prop) d.cases p.atoms q.atoms i;
+  atoms = each_prop (λ (c : List FoAtom). length c ≤ MOST_CASE_ATOMS) (λ c. le_prop) d.cases p.atoms q.atoms i;
 }
 
 pub proof_once : (f : FoFile) → IsProp (IsFoProof f)

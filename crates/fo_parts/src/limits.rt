@@ -8,19 +8,20 @@ ghost use Rattle.fo_table.specs.declared.premises.FoPremise.{FoPremise as Premis
 ghost use Rattle.fo_parts.specs.Capping.{capped};
 
 use crate::sizes::size_of_sequent;
+use cyc_limits::{MOST_LEFT, MOST_RIGHT, MOST_TERMS, PAST_MOST_TERMS};
 use fo_formula::FoSequent;
 use fo_table::{FoFault, FoPremise, FoRuleError};
 
 fn is_short(sequent: &FoSequent) -> bool
     ensures { result ≡ short sequent.now }
 {
-    sequent.left.as_slice().len() <= 32 && sequent.right.as_slice().len() <= 16
+    sequent.left.as_slice().len() <= MOST_LEFT && sequent.right.as_slice().len() <= MOST_RIGHT
 }
 
 fn is_small(sequent: &FoSequent) -> bool
     ensures { result ≡ small sequent.now }
 {
-    size_of_sequent(sequent) <= 4096
+    size_of_sequent(sequent) <= MOST_TERMS
 }
 
 fn are_short(premises: &[FoPremise]) -> bool
@@ -47,10 +48,10 @@ fn are_small(premises: &[FoPremise]) -> bool
 
 /// Whether the sequent with its reason's terms, of which the number is given up to 4,097, has at most 4,096 terms.
 pub fn is_small_with(sequent: &FoSequent, carried: usize) -> bool
-    requires { carried ≤ 4097 }
-    ensures { (n : ℕ) → carried ≡ capped n → result ≡ nat_le (sequent_size sequent.now + n) 4096 }
+    requires { carried ≤ PAST_MOST_TERMS }
+    ensures { (n : ℕ) → carried ≡ capped n → result ≡ nat_le (sequent_size sequent.now + n) MOST_TERMS }
 {
-    size_of_sequent(sequent) + carried <= 4096
+    size_of_sequent(sequent) + carried <= MOST_TERMS
 }
 
 /// The premises, if none has too many atoms, and neither a premise nor the sequent with its reason's terms, of which
@@ -60,7 +61,7 @@ pub fn limited(
     carried: usize,
     premises: Vec<FoPremise>,
 ) -> Result<Vec<FoPremise>, FoRuleError>
-    requires { carried ≤ 4097 }
+    requires { carried ≤ PAST_MOST_TERMS }
     ensures { (n : ℕ) → carried ≡ capped n → IsAnswer result (limited_answer sequent.now n premises.items) }
 {
     if !are_short(&premises) {

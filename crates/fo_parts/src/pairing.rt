@@ -3,13 +3,14 @@ ghost use Rattle.std.specs.Prelude.{◌≡◌, ◌<◌, ◌≤◌, ◌+◌, ◌+
 ghost use Rattle.heap_formula.specs.Positions.{before};
 ghost use Rattle.fo_table.specs.Traces.{pairs_from, same_pairs, child_pairs};
 
+use cyc_limits::MOST_LEFT;
 use cyc_memory::OutOfMemory;
 use fo_formula::{FoAtom, Pair, Pairs};
 use std::alloc::Global;
 
 /// Every predicate atom is paired with itself.
 pub fn pairs_of_same(alloc: Global, atoms: &[FoAtom]) -> Result<Pairs, OutOfMemory>
-    requires { length atoms.now ≤ 32 }
+    requires { length atoms.now ≤ MOST_LEFT }
     ensures { IfOk result (λ p. p ≡ same_pairs atoms.now) }
 {
     let mut pairs = Pairs::new(alloc);
@@ -26,16 +27,16 @@ pub fn pairs_of_same(alloc: Global, atoms: &[FoAtom]) -> Result<Pairs, OutOfMemo
 }
 
 fn place_before(i: usize, new: usize) -> usize
-    requires { new < 32 }
+    requires { new < MOST_LEFT }
     ensures value { result ≡ before i new }
-    ensures fits { result ≤ 32 }
+    ensures fits { result ≤ MOST_LEFT }
 {
     if new < i { new } else { new + 1 }
 }
 
 /// Each predicate atom of `kept` is paired with the place where it stood before the atom at place `i` was removed.
 pub fn pairs_of_kept(alloc: Global, kept: &[FoAtom], i: usize) -> Result<Pairs, OutOfMemory>
-    requires { length kept.now ≤ 32 }
+    requires { length kept.now ≤ MOST_LEFT }
     ensures { IfOk result (λ p. p ≡ pairs_from (before i) 0 kept.now) }
 {
     let mut pairs = Pairs::new(alloc);
@@ -58,7 +59,7 @@ pub fn push_children(
     first: usize,
     atoms: &[FoAtom],
 ) -> Result<(), OutOfMemory>
-    requires k_fits { k < 32 }
+    requires k_fits { k < MOST_LEFT }
     requires fits { first + length atoms.now ≤ 64 }
     ensures { OnOk result (pairs.new ≡ pairs.old ++ child_pairs k first atoms.now) }
 {
@@ -76,8 +77,8 @@ pub fn push_children(
 
 /// Adds the pair by which an atom at place `n`, if it is a predicate atom, goes on from place `i`.
 pub fn push_copy(pairs: &mut Pairs, i: usize, n: usize, atom: &FoAtom) -> Result<(), OutOfMemory>
-    requires i_fits { i ≤ 32 }
-    requires n_fits { n ≤ 32 }
+    requires i_fits { i ≤ MOST_LEFT }
+    requires n_fits { n ≤ MOST_LEFT }
     ensures { OnOk result (pairs.new ≡ pairs.old ++ pairs_from (λ _. i) n (atom.now ∷ [])) }
 {
     if let FoAtom::Predicate { .. } = atom {

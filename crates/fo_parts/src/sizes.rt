@@ -6,9 +6,8 @@ ghost use Rattle.fo_parts.specs.Putting.{put};
 ghost use Rattle.fo_parts.specs.Capping.{capped};
 
 use crate::changes::Change;
+use cyc_limits::PAST_MOST_TERMS;
 use fo_formula::{FoAtom, FoSequent, Sign, Term};
-
-const PAST_MOST: usize = 4097;
 
 /// The number of terms of these terms.
 pub fn size_of_terms(terms: &[Term]) -> usize
@@ -16,7 +15,7 @@ pub fn size_of_terms(terms: &[Term]) -> usize
 {
     let mut size = 0;
     for term in terms {
-        size = (size + term.as_slice().len().min(PAST_MOST)).min(PAST_MOST);
+        size = (size + term.as_slice().len().min(PAST_MOST_TERMS)).min(PAST_MOST_TERMS);
     }
     size
 }
@@ -27,8 +26,8 @@ pub fn size_of_atom(atom: &FoAtom) -> usize
 {
     match atom {
         FoAtom::Equation { left, right } => {
-            let size = left.as_slice().len().min(PAST_MOST);
-            (size + right.as_slice().len().min(PAST_MOST)).min(PAST_MOST)
+            let size = left.as_slice().len().min(PAST_MOST_TERMS);
+            (size + right.as_slice().len().min(PAST_MOST_TERMS)).min(PAST_MOST_TERMS)
         }
         FoAtom::Predicate { arguments, .. } => size_of_terms(arguments.as_slice()),
     }
@@ -40,7 +39,7 @@ pub fn size_of_atoms(atoms: &[FoAtom]) -> usize
 {
     let mut size = 0;
     for atom in atoms {
-        size = (size + size_of_atom(atom)).min(PAST_MOST);
+        size = (size + size_of_atom(atom)).min(PAST_MOST_TERMS);
     }
     size
 }
@@ -50,14 +49,14 @@ pub fn size_of_sequent(sequent: &FoSequent) -> usize
     ensures { result ≡ capped (sequent_size sequent.now) }
 {
     let left = size_of_atoms(sequent.left.as_slice());
-    (left + size_of_atoms(sequent.right.as_slice())).min(PAST_MOST)
+    (left + size_of_atoms(sequent.right.as_slice())).min(PAST_MOST_TERMS)
 }
 
 fn size_of_image(change: &Change, sign: Sign) -> usize
     ensures { result ≡ capped (length (put change.now sign)) }
 {
     match change.term_for(sign) {
-        Some(term) => term.as_slice().len().min(PAST_MOST),
+        Some(term) => term.as_slice().len().min(PAST_MOST_TERMS),
         None => 1,
     }
 }
@@ -67,7 +66,7 @@ fn size_of_changed_word(change: &Change, word: &[Sign]) -> usize
 {
     let mut size = 0;
     for sign in word {
-        size = (size + size_of_image(change, *sign)).min(PAST_MOST);
+        size = (size + size_of_image(change, *sign)).min(PAST_MOST_TERMS);
     }
     size
 }
@@ -77,7 +76,7 @@ fn size_of_changed_terms(change: &Change, terms: &[Term]) -> usize
 {
     let mut size = 0;
     for term in terms {
-        size = (size + size_of_changed_word(change, term.as_slice())).min(PAST_MOST);
+        size = (size + size_of_changed_word(change, term.as_slice())).min(PAST_MOST_TERMS);
     }
     size
 }
@@ -89,7 +88,7 @@ pub fn size_of_changed_atom(change: &Change, atom: &FoAtom) -> usize
     match atom {
         FoAtom::Equation { left, right } => {
             let size = size_of_changed_word(change, left.as_slice());
-            (size + size_of_changed_word(change, right.as_slice())).min(PAST_MOST)
+            (size + size_of_changed_word(change, right.as_slice())).min(PAST_MOST_TERMS)
         }
         FoAtom::Predicate { arguments, .. } => size_of_changed_terms(change, arguments.as_slice()),
     }
@@ -101,7 +100,7 @@ pub fn size_of_changed_atoms(change: &Change, atoms: &[FoAtom]) -> usize
 {
     let mut size = 0;
     for atom in atoms {
-        size = (size + size_of_changed_atom(change, atom)).min(PAST_MOST);
+        size = (size + size_of_changed_atom(change, atom)).min(PAST_MOST_TERMS);
     }
     size
 }

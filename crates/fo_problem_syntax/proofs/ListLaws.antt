@@ -22,7 +22,7 @@ rest-law c a p = many-law (is_one c) (after c a) (after-law c a p.word p.law) (r
 is-word : (c : Class (Unit {0})) → ClassLaw c → is_one c (c.word tt) ≡ true
 is-word c l = rw (l.value tt l.fits) refl
 
--- a list is what stands behind a first separator
+-- a list is what stands after a first separator
 shifted : {A : Type 0} (c : Class (Unit {0})) (a : Syntax A) → ClassLaw c → (ts : List Word) → (many (is_one c) (after c a)).read (c.word tt ∷ ts) ≡ read_list c a ts
 shifted c a l ts = rw (l.value tt l.fits) refl
 

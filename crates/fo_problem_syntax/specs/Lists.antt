@@ -1,4 +1,4 @@
--- One item or more, with a word between neighbours, where a text may go on behind an item.
+-- One item or more, with a word between neighbours, where a text may go on after an item.
 use Rattle.std.specs.Prelude.{◌<◌, List, [], ◌∷◌, ◌++◌, length, Ok}
 use Rattle.cyc_lex.specs.Word.{Word}
 use Rattle.cyc_grammar.specs.Syntax.{Reading, ◌>>=◌, Syntax, Class, is_one, after, read_many, words_many, more_many, fits_many}

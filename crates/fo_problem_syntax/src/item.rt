@@ -43,7 +43,7 @@ pub trait Item<'a> {
         ensures { OnOk result (writer.new ≡ write_all writer.old ((syntax self.now).words (seen tree.now))) };
 }
 
-/// Reads the items behind some, at most so many.
+/// Reads the items after some, at most so many.
 fn more_listed<'a, I: Item<'a>>(
     alloc: Global,
     most: usize,
@@ -83,7 +83,7 @@ pub fn listed<'a, I: Item<'a>>(
     more_listed(alloc, most, between, item, items, cursor)
 }
 
-/// Reads the items behind some, as long as this word is next.
+/// Reads the items after some, as long as this word is next.
 pub fn more_statements<'a, I: Item<'a>>(
     alloc: Global,
     word: &str,

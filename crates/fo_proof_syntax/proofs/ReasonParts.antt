@@ -1,4 +1,4 @@
--- What is read behind a rule's word, and a fault there.
+-- What is read after a rule's word, and a fault there.
 use Rattle.std.proofs.Common.{◌≡◌, Ok, List, ◌∷◌, refl, sym, subst}
 use Rattle.cyc_lex.specs.Word.{Word}
 use Rattle.cyc_grammar.specs.declared.cursor.Refusal.{Refusal}

@@ -67,7 +67,7 @@ from_link l = (l.target, (l.substitution, (l.left, l.right)))
 unfoldable pub link : Syntax LinkData
 link = shaped {A = ℕ × (List Entry × (List ℕ × List ℕ))} to_link from_link Any (seq (one number) (after opening_brace (seq entries (seq bracketed bracketed))))
 
--- ---- foreason: a rule's word, and what this rule has behind it
+-- ---- foreason: a rule's word, and what this rule has after it
 
 abbrev pub Parts : ReasonWord → Type 0
 Parts words.Axiom = ℕ × ℕ
@@ -128,14 +128,14 @@ from_reason (Cut a) = (words.Cut, a)
 from_reason (Right j k ts) = (words.Right, (j, (k, ts)))
 from_reason (Link l) = (words.Link, l)
 
--- what is read behind a rule's word, as a reason
+-- what is read after a rule's word, as a reason
 abbrev pub parts_read : ReasonWord → List Word → Reading Reason
 parts_read w ws = (parts w).read ws >>= λ y. Ok (made_of w y.0, y.1)
 
 unfoldable pub reason : Syntax Reason
 reason = shaped {A = (w : ReasonWord) × Parts w} to_reason from_reason Any (headed reason_word parts)
 
--- the words behind a rule's word, case by case
+-- the words after a rule's word, case by case
 abbrev pub behind_word : Reason → List Word
 behind_word (Axiom i j) = two_numbers.words (i, j)
 behind_word (Refl j) = (one number).words j

@@ -112,7 +112,7 @@ impl<'a> Item<'a> for NodeKind {
     }
 }
 
-/// Reads the nodes, of which there is one at least, and the word behind them.
+/// Reads the nodes, of which there is one at least, and the word after them.
 #[tactic(auto, unfolding(crate::specs::Grammar::nodes))]
 pub fn nodes<'a>(alloc: Global, cursor: &mut Cursor<'_, 'a>) -> Result<Vec<NodeTree<'a>>, Refusal>
     ensures { Gives (λ x. (map node_of x.items, cursor.new)) result (nodes.read cursor.old) }
@@ -124,7 +124,7 @@ pub fn nodes<'a>(alloc: Global, cursor: &mut Cursor<'_, 'a>) -> Result<Vec<NodeT
     Ok(items)
 }
 
-/// Writes the nodes and the word behind them.
+/// Writes the nodes and the word after them.
 #[tactic(auto, using(cyc_lex::proofs::WritingLaws::write_all_on), unfolding(crate::specs::Grammar::nodes, cyc_lex::specs::Writing::write_all))]
 pub fn write_nodes(
     alloc: Global,

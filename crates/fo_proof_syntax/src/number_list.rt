@@ -9,7 +9,7 @@ use cyc_grammar::{Cursor, Refusal};
 use cyc_lex::WordWriter;
 use cyc_memory::OutOfMemory;
 
-/// Reads the numbers behind some.
+/// Reads the numbers after some.
 #[tactic(auto, unfolding(crate::specs::Grammar::numbers))]
 pub fn more_numbers(mut items: Vec<u32>, cursor: &mut Cursor<'_, '_>) -> Result<Vec<u32>, Refusal>
     ensures { Gives (λ x. (x.items, cursor.new)) result (with_front items.items (numbers.read cursor.old)) }

@@ -112,7 +112,7 @@ fn reason_word(cursor: &mut Cursor<'_, '_>) -> Result<ReasonWord, Refusal>
     }
 }
 
-/// Reads what stands behind the word of a reason.
+/// Reads what stands after the word of a reason.
 #[tactic(auto, unfolding(crate::specs::Grammar::parts))]
 fn parts<'a>(
     alloc: Global,

@@ -13,6 +13,7 @@ use crate::structural::{
     premises_contract, premises_cut, premises_weaken_left, premises_weaken_right,
 };
 use crate::unfolding::premises_unfold;
+use cyc_limits::{MOST_LEFT, MOST_RIGHT};
 use fo_formula::{FoRule, FoSequent, FoTheory};
 use fo_table::{FoPremise, FoRuleError};
 use std::alloc::Global;
@@ -23,8 +24,8 @@ fn premises_by_rule(
     sequent: &FoSequent,
     rule: &FoRule,
 ) -> Result<Vec<FoPremise>, FoRuleError>
-    requires left_fits { length sequent.now.left ≤ 32 }
-    requires right_fits { length sequent.now.right ≤ 16 }
+    requires left_fits { length sequent.now.left ≤ MOST_LEFT }
+    requires right_fits { length sequent.now.right ≤ MOST_RIGHT }
     ensures { IsAnswer result (rule_answer theory.now sequent.now rule.now) }
 {
     match rule {
@@ -52,8 +53,8 @@ pub fn premises(
     sequent: &FoSequent,
     rule: &FoRule,
 ) -> Result<Vec<FoPremise>, FoRuleError>
-    requires left_fits { length sequent.now.left ≤ 32 }
-    requires right_fits { length sequent.now.right ≤ 16 }
+    requires left_fits { length sequent.now.left ≤ MOST_LEFT }
+    requires right_fits { length sequent.now.right ≤ MOST_RIGHT }
     ensures answer { IsAnswer result (rule_answer theory.now sequent.now rule.now) }
     ensures sound { IfOk result (λ v. HasConstant theory.now → IsOpenSequent theory.now.constructors sequent.now → HasOpenTerms theory.now.constructors rule.now → IsLocallySound theory.now sequent.now v.items) }
 {

@@ -10,6 +10,7 @@ ghost use Rattle.fo_table.specs.Traces.{pairs_from};
 ghost use Rattle.fo_parts.specs.Putting.{put};
 ghost use Rattle.fo_parts.specs.declared.changes.Change.TheVariants.{Substitution};
 
+use cyc_limits::{MOST_LEFT, MOST_RIGHT, MOST_TERMS};
 use cyc_memory::OutOfMemory;
 use fo_formula::{FoAtom, FoLink, FoSequent, Pair, Pairs};
 use fo_parts::{Change, atom_at, changed_atom, is_one_atom, one_premise, size_of_changed_atom};
@@ -24,13 +25,13 @@ fn names(
     bud: &[FoAtom],
     m: u32,
 ) -> Result<bool, OutOfMemory>
-    requires { atoms_size bud.now ≤ 4096 }
+    requires { atoms_size bud.now ≤ MOST_TERMS }
     ensures { IfOk result (λ b. b ≡ is_atom (in_atom (put change.now) atom.now) (slice_get bud.now m)) }
 {
     let Some(there) = atom_at(bud, m) else {
         return Ok(false);
     };
-    if size_of_changed_atom(change, atom) > 4096 {
+    if size_of_changed_atom(change, atom) > MOST_TERMS {
         return Ok(false);
     }
     let changed = changed_atom(alloc, change, atom)?;
@@ -46,7 +47,7 @@ fn map_place(
     entries: &[u32],
     atoms: &[FoAtom],
 ) -> Result<Option<u32>, OutOfMemory>
-    requires small { atoms_size bud.now ≤ 4096 }
+    requires small { atoms_size bud.now ≤ MOST_TERMS }
     requires few { length atoms.now < 2 ^ 32 }
     ensures { IfOk result (λ o. o ≡ place_of bud.now 0 entries.now (map (in_atom (put change.now)) atoms.now)) }
 {
@@ -79,8 +80,8 @@ fn right_fault(
     change: &Change,
 ) -> Result<Option<FoFault>, OutOfMemory>
     requires change { change.now ≡ Substitution link.now.substitution }
-    requires small { atoms_size bud.now.right ≤ 4096 }
-    requires few { length companion.now.right ≤ 16 }
+    requires small { atoms_size bud.now.right ≤ MOST_TERMS }
+    requires few { length companion.now.right ≤ MOST_RIGHT }
     ensures { IfOk result (λ o. o ≡ option_map FoFault.LinkRight (place_of bud.now.right 0 link.now.right_map (linked link.now companion.now.right))) }
 {
     let entries = link.right_map.as_slice();
@@ -99,10 +100,10 @@ pub fn link_fault(
     companion: &FoSequent,
     link: &FoLink,
 ) -> Result<Option<FoFault>, OutOfMemory>
-    requires left_small { atoms_size bud.now.left ≤ 4096 }
-    requires right_small { atoms_size bud.now.right ≤ 4096 }
-    requires left_few { length companion.now.left ≤ 32 }
-    requires right_few { length companion.now.right ≤ 16 }
+    requires left_small { atoms_size bud.now.left ≤ MOST_TERMS }
+    requires right_small { atoms_size bud.now.right ≤ MOST_TERMS }
+    requires left_few { length companion.now.left ≤ MOST_LEFT }
+    requires right_few { length companion.now.right ≤ MOST_RIGHT }
     ensures { IfOk result (λ o. o ≡ fault_of_link bud.now companion.now link.now) }
 {
     let change = substitution(link)?;
@@ -127,7 +128,7 @@ fn entry_at(entries: &[u32], k: usize) -> u8
 
 /// The map's entry for each predicate atom of the companion.
 fn link_pairs(alloc: Global, entries: &[u32], atoms: &[FoAtom]) -> Result<Pairs, OutOfMemory>
-    requires few { length atoms.now ≤ 32 }
+    requires few { length atoms.now ≤ MOST_LEFT }
     requires small { (j : ℕ) → slice_index entries.now j < 256 }
     ensures { IfOk result (λ p. p ≡ pairs_from (slice_index entries.now) 0 atoms.now) }
 {
@@ -149,7 +150,7 @@ fn link_premise(
     companion: &FoSequent,
     link: &FoLink,
 ) -> Result<FoPremise, OutOfMemory>
-    requires few { length companion.now.left ≤ 32 }
+    requires few { length companion.now.left ≤ MOST_LEFT }
     requires small { (j : ℕ) → slice_index link.now.left_map j < 256 }
     ensures { IfOk result (λ p. p ≡ premise_of companion.now link.now) }
 {
@@ -165,11 +166,11 @@ pub fn premises_by_link(
     companion: &FoSequent,
     link: &FoLink,
 ) -> Result<Vec<FoPremise>, FoRuleError>
-    requires left_small { atoms_size bud.now.left ≤ 4096 }
-    requires right_small { atoms_size bud.now.right ≤ 4096 }
-    requires bud_few { length bud.now.left ≤ 32 }
-    requires left_few { length companion.now.left ≤ 32 }
-    requires right_few { length companion.now.right ≤ 16 }
+    requires left_small { atoms_size bud.now.left ≤ MOST_TERMS }
+    requires right_small { atoms_size bud.now.right ≤ MOST_TERMS }
+    requires bud_few { length bud.now.left ≤ MOST_LEFT }
+    requires left_few { length companion.now.left ≤ MOST_LEFT }
+    requires right_few { length companion.now.right ≤ MOST_RIGHT }
     ensures { IsAnswer result (unless_fault (fault_of_link bud.now companion.now link.now) (premise_of companion.now link.now)) }
 {
     let fault = link_fault(alloc, bud, companion, link)?;

@@ -10,6 +10,7 @@ ghost use Rattle.fo_table.specs.Tests.{only_variable as only_variable_of};
 ghost use Rattle.fo_parts.specs.Putting.{put};
 ghost use Rattle.fo_parts.specs.declared.changes.Change.TheVariants.{Substitution};
 
+use cyc_limits::{MOST_LEFT, MOST_RIGHT, MOST_TERMS};
 use cyc_memory::OutOfMemory;
 use fo_formula::{FoAtom, FoAtoms, FoSequent, FoSubst, Side, Term};
 use fo_parts::{
@@ -29,9 +30,9 @@ fn one_term(alloc: Global, n: u16, term: &Term) -> Result<Change, OutOfMemory>
 
 /// Whether the two sides have at most 4,096 terms after a change.
 fn are_small(change: &Change, left: &[FoAtom], right: &[FoAtom]) -> bool
-    ensures { result ≡ nat_le (atoms_size (map (in_atom (put change.now)) left.now) + atoms_size (map (in_atom (put change.now)) right.now)) 4096 }
+    ensures { result ≡ nat_le (atoms_size (map (in_atom (put change.now)) left.now) + atoms_size (map (in_atom (put change.now)) right.now)) MOST_TERMS }
 {
-    size_of_changed_atoms(change, left) + size_of_changed_atoms(change, right) <= 4096
+    size_of_changed_atoms(change, left) + size_of_changed_atoms(change, right) <= MOST_TERMS
 }
 
 fn changed_atoms(alloc: Global, change: &Change, atoms: &[FoAtom]) -> Result<FoAtoms, OutOfMemory>
@@ -52,7 +53,7 @@ fn changed_premise(
     change: &Change,
 ) -> Result<FoPremise, OutOfMemory>
     requires kept { kept.now ≡ without i sequent.now.left }
-    requires few { length kept.now ≤ 32 }
+    requires few { length kept.now ≤ MOST_LEFT }
     requires change { change.now ≡ Substitution ((n, term.now) ∷ []) }
     ensures { IfOk result (λ p. p ≡ with_term sequent.now i n term.now) }
 {
@@ -73,8 +74,8 @@ fn replaced(
     term: &Term,
 ) -> Result<Vec<FoPremise>, FoRuleError>
     requires i_in { i < length sequent.now.left }
-    requires left_fits { length sequent.now.left ≤ 32 }
-    requires right_fits { length sequent.now.right ≤ 16 }
+    requires left_fits { length sequent.now.left ≤ MOST_LEFT }
+    requires right_fits { length sequent.now.right ≤ MOST_RIGHT }
     ensures { IsAnswer result (limited_answer sequent.now 0 (with_term sequent.now i n term.now ∷ [])) }
 {
     let kept = atoms_without(&sequent.left, i)?;
@@ -97,8 +98,8 @@ fn replaced_named(
     other: &Term,
 ) -> Result<Vec<FoPremise>, FoRuleError>
     requires i_in { i < length sequent.now.left }
-    requires left_fits { length sequent.now.left ≤ 32 }
-    requires right_fits { length sequent.now.right ≤ 16 }
+    requires left_fits { length sequent.now.left ≤ MOST_LEFT }
+    requires right_fits { length sequent.now.right ≤ MOST_RIGHT }
     ensures { IsAnswer result (finds (only_variable_of named.now) FoFault.NotVariable (λ n. limited_answer sequent.now 0 (with_term sequent.now i n other.now ∷ []))) }
 {
     match only_variable(named.as_slice()) {
@@ -116,8 +117,8 @@ fn replaced_side(
     right: &Term,
 ) -> Result<Vec<FoPremise>, FoRuleError>
     requires i_in { i < length sequent.now.left }
-    requires left_fits { length sequent.now.left ≤ 32 }
-    requires right_fits { length sequent.now.right ≤ 16 }
+    requires left_fits { length sequent.now.left ≤ MOST_LEFT }
+    requires right_fits { length sequent.now.right ≤ MOST_RIGHT }
     ensures { IsAnswer result (finds (only_variable_of (named_of side left.now right.now)) FoFault.NotVariable (λ n. limited_answer sequent.now 0 (with_term sequent.now i n (unnamed_of side left.now right.now) ∷ []))) }
 {
     match side {
@@ -133,8 +134,8 @@ pub fn premises_replace(
     i: u32,
     side: Side,
 ) -> Result<Vec<FoPremise>, FoRuleError>
-    requires left_fits { length sequent.now.left ≤ 32 }
-    requires right_fits { length sequent.now.right ≤ 16 }
+    requires left_fits { length sequent.now.left ≤ MOST_LEFT }
+    requires right_fits { length sequent.now.right ≤ MOST_RIGHT }
     ensures { IsAnswer result (replace_answer sequent.now i side) }
 {
     let Some(x) = atom_at(sequent.left.as_slice(), i) else {

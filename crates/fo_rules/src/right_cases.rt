@@ -13,6 +13,7 @@ ghost use Rattle.fo_table.specs.Table.{right_premise as premise_of, right_answer
 ghost use Rattle.fo_parts.specs.Putting.{put};
 ghost use Rattle.fo_rules.specs.Making.{right_by};
 
+use cyc_limits::{MOST_LEFT, MOST_RIGHT, MOST_TERMS};
 use cyc_memory::OutOfMemory;
 use fo_formula::{FoAtom, FoAtoms, FoDefinition, FoSequent, FoTheory, Kind, Terms, bound_of_atoms};
 use fo_parts::{
@@ -41,7 +42,7 @@ fn one_premise(
     atom: &FoAtom,
 ) -> Result<FoPremise, OutOfMemory>
     requires j_in { j < length sequent.now.right }
-    requires few { length sequent.now.left ≤ 32 }
+    requires few { length sequent.now.left ≤ MOST_LEFT }
     ensures { IfOk result (λ p. p ≡ right_by sequent.now j change.now atom.now) }
 {
     let pairs = pairs_of_same(alloc, sequent.left.as_slice())?;
@@ -65,7 +66,7 @@ fn case_premises(
     case: &[FoAtom],
 ) -> Result<Vec<FoPremise>, OutOfMemory>
     requires j_in { j < length sequent.now.right }
-    requires few { length sequent.now.left ≤ 32 }
+    requires few { length sequent.now.left ≤ MOST_LEFT }
     ensures { IfOk result (λ v. v.items ≡ map (right_by sequent.now j change.now) case.now) }
 {
     let mut premises = Vec::new(alloc);
@@ -78,10 +79,10 @@ fn case_premises(
 /// Whether each atom of the case, after a change, has with `others` terms at most 4,096.
 fn are_small(others: usize, change: &Change, case: &[FoAtom]) -> bool
     requires { others ≤ 8194 }
-    ensures { result ≡ list_all (λ (x : AtomValue). nat_le (others + atom_size (in_atom (put change.now) x)) 4096) case.now }
+    ensures { result ≡ list_all (λ (x : AtomValue). nat_le (others + atom_size (in_atom (put change.now) x)) MOST_TERMS) case.now }
 {
     for atom in case {
-        if others + size_of_changed_atom(change, atom) > 4096 {
+        if others + size_of_changed_atom(change, atom) > MOST_TERMS {
             return false;
         }
     }
@@ -97,8 +98,8 @@ fn case_in_place(
     case: &[FoAtom],
 ) -> Result<Vec<FoPremise>, FoRuleError>
     requires j_in { j < length sequent.now.right }
-    requires left_fits { length sequent.now.left ≤ 32 }
-    requires right_fits { length sequent.now.right ≤ 16 }
+    requires left_fits { length sequent.now.left ≤ MOST_LEFT }
+    requires right_fits { length sequent.now.right ≤ MOST_RIGHT }
     ensures { IsAnswer result (limited_answer sequent.now (words_size terms.now) (map (premise_of sequent.now j arguments.now terms.now) case.now)) }
 {
     if !is_small_with(sequent, size_of_terms(terms.as_slice())) {
@@ -125,8 +126,8 @@ fn numbered_case(
     case: &[FoAtom],
 ) -> Result<Vec<FoPremise>, FoRuleError>
     requires j_in { j < length sequent.now.right }
-    requires left_fits { length sequent.now.left ≤ 32 }
-    requires right_fits { length sequent.now.right ≤ 16 }
+    requires left_fits { length sequent.now.left ≤ MOST_LEFT }
+    requires right_fits { length sequent.now.right ≤ MOST_RIGHT }
     ensures { IsAnswer result (needs (nat_eq (length terms.now) (atoms_bound Locals case.now)) FoFault.TermCount (limited_answer sequent.now (words_size terms.now) (map (premise_of sequent.now j arguments.now terms.now) case.now))) }
 {
     if terms.as_slice().len() != bound_of_atoms(Kind::Locals, case) as usize {
@@ -145,8 +146,8 @@ fn chosen_case(
     terms: &Terms,
 ) -> Result<Vec<FoPremise>, FoRuleError>
     requires j_in { j < length sequent.now.right }
-    requires left_fits { length sequent.now.left ≤ 32 }
-    requires right_fits { length sequent.now.right ≤ 16 }
+    requires left_fits { length sequent.now.left ≤ MOST_LEFT }
+    requires right_fits { length sequent.now.right ≤ MOST_RIGHT }
     ensures { IsAnswer result (finds (slice_get cases.now c) FoFault.NoSuchCase (λ case. needs (nat_eq (length terms.now) (atoms_bound Locals case)) FoFault.TermCount (limited_answer sequent.now (words_size terms.now) (map (premise_of sequent.now j arguments.now terms.now) case)))) }
 {
     match cases.get(c as usize) {
@@ -165,8 +166,8 @@ pub fn premises_right(
     c: u32,
     terms: &Terms,
 ) -> Result<Vec<FoPremise>, FoRuleError>
-    requires left_fits { length sequent.now.left ≤ 32 }
-    requires right_fits { length sequent.now.right ≤ 16 }
+    requires left_fits { length sequent.now.left ≤ MOST_LEFT }
+    requires right_fits { length sequent.now.right ≤ MOST_RIGHT }
     ensures { IsAnswer result (right_answer theory.now sequent.now j c terms.now) }
 {
     let Some(y) = atom_at(sequent.right.as_slice(), j) else {

@@ -4,6 +4,7 @@ ghost use Rattle.fo_formula.specs.Words.{arity as arity_of_sign, end_of, first_t
 ghost use Rattle.fo_table.specs.Answered.{IsAnswer};
 ghost use Rattle.fo_table.specs.Table.{equations as equations_of, argument_equations as arguments_of, decomposed, decompose_answer};
 
+use cyc_limits::MOST_LEFT;
 use cyc_memory::OutOfMemory;
 use fo_formula::{FoAtom, FoAtoms, FoSequent, Sign, Term};
 use fo_parts::{
@@ -106,7 +107,7 @@ fn split(
     b: &[Sign],
 ) -> Result<FoPremise, OutOfMemory>
     requires i_in { i < length sequent.now.left }
-    requires few { length sequent.now.left ≤ 32 }
+    requires few { length sequent.now.left ≤ MOST_LEFT }
     ensures { IfOk result (λ p. p ≡ decomposed sequent.now i a.now b.now) }
 {
     let mut left = atoms_without(&sequent.left, i)?;
@@ -122,7 +123,7 @@ pub fn premises_decompose(
     sequent: &FoSequent,
     i: u32,
 ) -> Result<Vec<FoPremise>, FoRuleError>
-    requires { length sequent.now.left ≤ 32 }
+    requires { length sequent.now.left ≤ MOST_LEFT }
     ensures { IsAnswer result (decompose_answer sequent.now i) }
 {
     let Some(x) = atom_at(sequent.left.as_slice(), i) else {

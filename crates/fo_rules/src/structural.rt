@@ -3,6 +3,7 @@ ghost use Rattle.std.specs.Prelude.{◌≡◌, ◌<◌, ◌≤◌, ◌∷◌, []
 ghost use Rattle.fo_table.specs.Answered.{IsAnswer};
 ghost use Rattle.fo_table.specs.Table.{weakened_left, weakened_right, contracted, cut_right, cut_left, weaken_left_answer, weaken_right_answer, contract_answer, cut_answer};
 
+use cyc_limits::MOST_LEFT;
 use cyc_memory::OutOfMemory;
 use fo_formula::{FoAtom, FoAtoms, FoSequent};
 use fo_parts::{
@@ -14,7 +15,7 @@ use std::alloc::Global;
 
 fn without_left(alloc: Global, sequent: &FoSequent, i: usize) -> Result<FoPremise, OutOfMemory>
     requires i_in { i < length sequent.now.left }
-    requires few { length sequent.now.left ≤ 32 }
+    requires few { length sequent.now.left ≤ MOST_LEFT }
     ensures { IfOk result (λ p. p ≡ weakened_left sequent.now i) }
 {
     let kept = atoms_without(&sequent.left, i)?;
@@ -25,7 +26,7 @@ fn without_left(alloc: Global, sequent: &FoSequent, i: usize) -> Result<FoPremis
 
 fn without_right(alloc: Global, sequent: &FoSequent, j: usize) -> Result<FoPremise, OutOfMemory>
     requires j_in { j < length sequent.now.right }
-    requires few { length sequent.now.left ≤ 32 }
+    requires few { length sequent.now.left ≤ MOST_LEFT }
     ensures { IfOk result (λ p. p ≡ weakened_right sequent.now j) }
 {
     let pairs = pairs_of_same(alloc, sequent.left.as_slice())?;
@@ -41,7 +42,7 @@ fn with_copy(
     atom: &FoAtom,
 ) -> Result<FoPremise, OutOfMemory>
     requires i_in { i < length sequent.now.left }
-    requires few { length sequent.now.left ≤ 32 }
+    requires few { length sequent.now.left ≤ MOST_LEFT }
     ensures { IfOk result (λ p. p ≡ contracted sequent.now i atom.now) }
 {
     let mut pairs = pairs_of_same(alloc, sequent.left.as_slice())?;
@@ -57,7 +58,7 @@ pub fn premises_weaken_left(
     sequent: &FoSequent,
     i: u32,
 ) -> Result<Vec<FoPremise>, FoRuleError>
-    requires { length sequent.now.left ≤ 32 }
+    requires { length sequent.now.left ≤ MOST_LEFT }
     ensures { IsAnswer result (weaken_left_answer sequent.now i) }
 {
     let Some(_) = atom_at(sequent.left.as_slice(), i) else {
@@ -73,7 +74,7 @@ pub fn premises_weaken_right(
     sequent: &FoSequent,
     j: u32,
 ) -> Result<Vec<FoPremise>, FoRuleError>
-    requires { length sequent.now.left ≤ 32 }
+    requires { length sequent.now.left ≤ MOST_LEFT }
     ensures { IsAnswer result (weaken_right_answer sequent.now j) }
 {
     let Some(_) = atom_at(sequent.right.as_slice(), j) else {
@@ -83,13 +84,13 @@ pub fn premises_weaken_right(
     limited(sequent, 0, one_premise(alloc, premise)?)
 }
 
-/// The sequent with a copy of left atom `i` behind the others, which goes on from it.
+/// The sequent with a copy of left atom `i` after the others, which goes on from it.
 pub fn premises_contract(
     alloc: Global,
     sequent: &FoSequent,
     i: u32,
 ) -> Result<Vec<FoPremise>, FoRuleError>
-    requires { length sequent.now.left ≤ 32 }
+    requires { length sequent.now.left ≤ MOST_LEFT }
     ensures { IsAnswer result (contract_answer sequent.now i) }
 {
     let Some(x) = atom_at(sequent.left.as_slice(), i) else {
@@ -104,7 +105,7 @@ fn with_atom_right(
     sequent: &FoSequent,
     atom: &FoAtom,
 ) -> Result<FoPremise, OutOfMemory>
-    requires { length sequent.now.left ≤ 32 }
+    requires { length sequent.now.left ≤ MOST_LEFT }
     ensures { IfOk result (λ p. p ≡ cut_right sequent.now atom.now) }
 {
     let pairs = pairs_of_same(alloc, sequent.left.as_slice())?;
@@ -118,7 +119,7 @@ fn with_atom_left(
     sequent: &FoSequent,
     atom: &FoAtom,
 ) -> Result<FoPremise, OutOfMemory>
-    requires { length sequent.now.left ≤ 32 }
+    requires { length sequent.now.left ≤ MOST_LEFT }
     ensures { IfOk result (λ p. p ≡ cut_left sequent.now atom.now) }
 {
     let pairs = pairs_of_same(alloc, sequent.left.as_slice())?;
@@ -133,7 +134,7 @@ pub fn premises_cut(
     sequent: &FoSequent,
     atom: &FoAtom,
 ) -> Result<Vec<FoPremise>, FoRuleError>
-    requires { length sequent.now.left ≤ 32 }
+    requires { length sequent.now.left ≤ MOST_LEFT }
     ensures { IsAnswer result (cut_answer sequent.now atom.now) }
 {
     let first = with_atom_right(alloc, sequent, atom)?;

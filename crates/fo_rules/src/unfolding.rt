@@ -15,6 +15,7 @@ ghost use Rattle.fo_rules.specs.Making.{unfold_by};
 ghost use Rattle.fo_parts.specs.Putting.{put};
 
 use crate::right_cases::cases;
+use cyc_limits::{MOST_LEFT, MOST_RIGHT, MOST_TERMS, VARIABLE_NUMBERS};
 use cyc_memory::OutOfMemory;
 use fo_formula::{
     FoAtom, FoAtoms, FoSequent, FoTheory, Kind, Sign, Term, Terms, bound_of_atoms, bound_of_sequent,
@@ -28,11 +29,11 @@ use std::alloc::Global;
 
 /// Whether each case has, with `kept` atoms, at most 32.
 fn are_short(kept: usize, cases: &[FoAtoms]) -> bool
-    requires { kept ≤ 32 }
-    ensures { result ≡ list_all (λ (c : List AtomValue). nat_le (kept + length c) 32) cases.now }
+    requires { kept ≤ MOST_LEFT }
+    ensures { result ≡ list_all (λ (c : List AtomValue). nat_le (kept + length c) MOST_LEFT) cases.now }
 {
     for case in cases {
-        if case.as_slice().len() > 32 - kept {
+        if case.as_slice().len() > MOST_LEFT - kept {
             return false;
         }
     }
@@ -42,10 +43,10 @@ fn are_short(kept: usize, cases: &[FoAtoms]) -> bool
 /// Whether each case, after a change, has with `others` terms at most 4,096.
 fn are_small(others: usize, change: &Change, cases: &[FoAtoms]) -> bool
     requires { others ≤ 8194 }
-    ensures { result ≡ list_all (λ (c : List AtomValue). nat_le (others + atoms_size (map (in_atom (put change.now)) c)) 4096) cases.now }
+    ensures { result ≡ list_all (λ (c : List AtomValue). nat_le (others + atoms_size (map (in_atom (put change.now)) c)) MOST_TERMS) cases.now }
 {
     for case in cases {
-        if others + size_of_changed_atoms(change, case.as_slice()) > 4096 {
+        if others + size_of_changed_atoms(change, case.as_slice()) > MOST_TERMS {
             return false;
         }
     }
@@ -58,7 +59,7 @@ fn are_numbered(number: u32, cases: &[FoAtoms]) -> bool
     ensures { result ≡ list_all (is_numbered number) cases.now }
 {
     for case in cases {
-        if number + bound_of_atoms(Kind::Locals, case.as_slice()) > 65535 {
+        if number + bound_of_atoms(Kind::Locals, case.as_slice()) > VARIABLE_NUMBERS {
             return false;
         }
     }
@@ -74,7 +75,7 @@ fn variable(alloc: Global, n: u16) -> Result<Term, OutOfMemory>
 }
 
 fn variables(alloc: Global, number: u32, count: u32) -> Result<Terms, OutOfMemory>
-    requires { number + count ≤ 65535 }
+    requires { number + count ≤ VARIABLE_NUMBERS }
     ensures { IfOk result (λ ts. ts ≡ variables_from number count) }
 {
     let mut all = Vec::new(alloc);
@@ -92,8 +93,8 @@ fn changed_premise(
     case: &[FoAtom],
 ) -> Result<FoPremise, OutOfMemory>
     requires i_in { i < length sequent.now.left }
-    requires left_fits { length sequent.now.left ≤ 32 }
-    requires case_fits { length case.now ≤ 32 }
+    requires left_fits { length sequent.now.left ≤ MOST_LEFT }
+    requires case_fits { length case.now ≤ MOST_LEFT }
     ensures { IfOk result (λ p. p ≡ unfold_by sequent.now i change.now case.now) }
 {
     let mut left = atoms_without(&sequent.left, i)?;
@@ -113,9 +114,9 @@ fn case_premise(
     case: &[FoAtom],
 ) -> Result<FoPremise, OutOfMemory>
     requires i_in { i < length sequent.now.left }
-    requires left_fits { length sequent.now.left ≤ 32 }
-    requires case_fits { length case.now ≤ 32 }
-    requires numbered { number + atoms_bound Locals case.now ≤ 65535 }
+    requires left_fits { length sequent.now.left ≤ MOST_LEFT }
+    requires case_fits { length case.now ≤ MOST_LEFT }
+    requires numbered { number + atoms_bound Locals case.now ≤ VARIABLE_NUMBERS }
     ensures { IfOk result (λ p. p ≡ premise_of sequent.now i arguments.now number case.now) }
 {
     let count = bound_of_atoms(Kind::Locals, case);
@@ -135,8 +136,8 @@ fn case_premises(
     cases: &[FoAtoms],
 ) -> Result<Vec<FoPremise>, OutOfMemory>
     requires i_in { i < length sequent.now.left }
-    requires left_fits { length sequent.now.left ≤ 32 }
-    requires short { list_all (λ (c : List AtomValue). nat_le (kept + length c) 32) cases.now ≡ true }
+    requires left_fits { length sequent.now.left ≤ MOST_LEFT }
+    requires short { list_all (λ (c : List AtomValue). nat_le (kept + length c) MOST_LEFT) cases.now ≡ true }
     requires numbered { list_all (is_numbered number) cases.now ≡ true }
     ensures { IfOk result (λ v. v.items ≡ map (premise_of sequent.now i arguments.now number) cases.now) }
 {
@@ -155,7 +156,7 @@ fn fit(
     arguments: &Terms,
     cases: &[FoAtoms],
 ) -> Result<bool, OutOfMemory>
-    ensures { IfOk result (λ b. b ≡ nat_le (sequent_size sequent.now + 0) 4096 && list_all (λ (c : List AtomValue). nat_le ((capped (atoms_size kept.now) + capped (atoms_size sequent.now.right)) + atoms_size (map (in_atom (sign_value arguments.now [])) c)) 4096) cases.now) }
+    ensures { IfOk result (λ b. b ≡ nat_le (sequent_size sequent.now + 0) MOST_TERMS && list_all (λ (c : List AtomValue). nat_le ((capped (atoms_size kept.now) + capped (atoms_size sequent.now.right)) + atoms_size (map (in_atom (sign_value arguments.now [])) c)) MOST_TERMS) cases.now) }
 {
     if !is_small_with(sequent, 0) {
         return Ok(false);
@@ -176,8 +177,8 @@ fn unfold_cases(
     cases: &[FoAtoms],
 ) -> Result<Vec<FoPremise>, FoRuleError>
     requires i_in { i < length sequent.now.left }
-    requires left_fits { length sequent.now.left ≤ 32 }
-    requires right_fits { length sequent.now.right ≤ 16 }
+    requires left_fits { length sequent.now.left ≤ MOST_LEFT }
+    requires right_fits { length sequent.now.right ≤ MOST_RIGHT }
     ensures { IsAnswer result (cases_answer sequent.now i arguments.now (sequent_bound sequent.now) cases.now) }
 {
     let kept = atoms_without(&sequent.left, i)?;
@@ -195,7 +196,7 @@ fn unfold_cases(
     Ok(case_premises(alloc, sequent, i, arguments, number, count, cases)?)
 }
 
-/// One premise for each case of the predicate at left atom `i`: the case's atoms behind the others in its place, the
+/// One premise for each case of the predicate at left atom `i`: the case's atoms after the others in its place, the
 /// arguments standing for the parameters and fresh variables for the locals. Their traces progress.
 pub fn premises_unfold(
     alloc: Global,
@@ -203,8 +204,8 @@ pub fn premises_unfold(
     sequent: &FoSequent,
     i: u32,
 ) -> Result<Vec<FoPremise>, FoRuleError>
-    requires left_fits { length sequent.now.left ≤ 32 }
-    requires right_fits { length sequent.now.right ≤ 16 }
+    requires left_fits { length sequent.now.left ≤ MOST_LEFT }
+    requires right_fits { length sequent.now.right ≤ MOST_RIGHT }
     ensures { IsAnswer result (unfold_answer theory.now sequent.now i) }
 {
     let Some(x) = atom_at(sequent.left.as_slice(), i) else {

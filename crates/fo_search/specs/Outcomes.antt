@@ -1,5 +1,6 @@
 -- What the answers of the prover say.
 use Rattle.std.specs.Prelude.{◌≡◌, ◌≤◌, ℕ, List, length, map, Some, slice_get}
+use Rattle.cyc_limits.specs.declared.TheConstants.{MOST_NODES}
 use Rattle.fo_formula.specs.declared.nodes.FoFile.{FoFile}
 use Rattle.fo_formula.specs.declared.nodes.FoNode.{FoNode}
 use Rattle.fo_formula.specs.declared.nodes.FoReason.{FoReason}
@@ -43,7 +44,7 @@ pub record IsProofFor (problem : FoProblem) (f : FoFile) : Type 0 where
   pub is_root : slice_get f.nodes 0 ≡ Some root
   pub goal : root.sequent ≡ problem.goal
   pub within : Each (IsNodeWithin problem.theory) f.nodes
-  pub few : length f.nodes ≤ 20000
+  pub few : length f.nodes ≤ MOST_NODES
   pub correct : IsCorrect f
   pub states : HasAtMost (file_graph f) state_limit
   pub holds : RootHolds f

@@ -7,9 +7,9 @@ ghost use Rattle.fold_offers.specs.Places.{each_place};
 ghost use Rattle.fo_calculus.specs.Calculus.{links_to_node as reasons_to_node, links_at, rules_at};
 ghost use Rattle.fo_calculus.specs.Occurring.{MayOccur};
 
+use cyc_limits::MOST_LINKS;
 use cyc_memory::OutOfMemory;
 use derivation_search::Offers;
-use fo_calculus::MOST_LINKS;
 use fo_formula::{FoLink, FoReason, FoRule, FoSequent, FoTheory};
 use fo_moves::{links_to, rules_after, rules_before};
 use std::alloc::Global;

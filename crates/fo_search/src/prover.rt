@@ -8,12 +8,12 @@ ghost use Rattle.fo_search.specs.Outcomes.{search_for, outcome_of, IsFirst, IsPr
 
 use crate::found::file_of;
 use crate::logic::FirstOrder;
+use cyc_limits::MOST_NODES;
 use cyc_memory::OutOfMemory;
 use derivation_search::{Stop, search_depth};
 use derivations::Derivation;
 use fo_formula::{FoFile, FoReason, FoSequent};
 use fo_values::FoProblem;
-use proof_graph::MOST_NODES;
 use std::alloc::Global;
 
 /// What comes of a search: a proof; nothing, within the depth; or that a limit was met, on partial derivations of one depth

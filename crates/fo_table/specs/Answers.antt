@@ -1,6 +1,7 @@
 -- What a rule answers: its first fault, or its premises.
 use Rattle.std.specs.Prelude.{ℕ, ◌+◌, List, length, Bool, true, false, ◌&&◌, nat_le, Option, Some, None, Result, Ok, Err}
 use Rattle.std.specs.List.{list_all}
+use Rattle.cyc_limits.specs.declared.TheConstants.{MOST_LEFT, MOST_RIGHT, MOST_TERMS}
 use Rattle.fo_formula.specs.declared.atoms.FoAtom.{FoAtom}
 use Rattle.fo_formula.specs.declared.atoms.FoAtom.TheVariants.{Equation, Predicate}
 use Rattle.fo_formula.specs.declared.sequents.FoSequent.{FoSequent}
@@ -36,17 +37,17 @@ predicate (Predicate p ts) rest = rest p ts
 
 -- at most 32 atoms on the left and 16 on the right
 abbrev pub is_short : FoSequent → Bool
-is_short s = nat_le (length s.left) 32 && nat_le (length s.right) 16
+is_short s = nat_le (length s.left) MOST_LEFT && nat_le (length s.right) MOST_RIGHT
 
 -- at most 4,096 variables and applications
 abbrev pub is_small : FoSequent → Bool
-is_small s = nat_le (sequent_size s) 4096
+is_small s = nat_le (sequent_size s) MOST_TERMS
 
 -- the faults that come last: a premise has too many atoms; a premise, or the sequent with the n terms of its reason, has
 -- too many terms
 abbrev pub within : FoSequent → ℕ → List FoPremise → Answer → Answer
 within s n ps rest =
-    needs (list_all (λ (p : FoPremise). is_short p.sequent) ps) TooManyAtoms (needs (nat_le (sequent_size s + n) 4096 && list_all (λ (p : FoPremise). is_small p.sequent) ps) TooManyTerms rest)
+    needs (list_all (λ (p : FoPremise). is_short p.sequent) ps) TooManyAtoms (needs (nat_le (sequent_size s + n) MOST_TERMS && list_all (λ (p : FoPremise). is_small p.sequent) ps) TooManyTerms rest)
 
 abbrev pub limited : FoSequent → ℕ → List FoPremise → Answer
 limited s n ps = within s n ps (Ok ps)

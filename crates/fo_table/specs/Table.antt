@@ -1,6 +1,7 @@
 -- The rules, each as its faults in their order and then its premises.
 use Rattle.std.specs.Prelude.{ℕ, zero, suc, ◌+◌, List, [], ◌∷◌, ◌++◌, map, length, Bool, nat_eq, nat_le, Ok, if◌then◌else◌, slice_get, slice_set}
 use Rattle.std.specs.List.{list_all}
+use Rattle.cyc_limits.specs.declared.TheConstants.{VARIABLE_NUMBERS}
 use Rattle.heap_formula.specs.declared.proof_rules.Side.{Side}
 use Rattle.heap_formula.specs.declared.proof_rules.Side.TheVariants.{Left as TheLeft, Right as TheRight}
 use Rattle.heap_formula.specs.Positions.{without}
@@ -121,7 +122,7 @@ unfold_premise s i args n case =
 
 -- the numbers of these variables are at most 65,534
 abbrev pub is_numbered : ℕ → List FoAtom → Bool
-is_numbered n case = nat_le (n + atoms_bound Locals case) 65535
+is_numbered n case = nat_le (n + atoms_bound Locals case) VARIABLE_NUMBERS
 
 -- an atom of a case in place of right atom j
 abbrev pub right_premise : FoSequent → ℕ → List Word → List Word → FoAtom → FoPremise

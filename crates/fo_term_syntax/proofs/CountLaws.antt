@@ -1,4 +1,4 @@
--- Counts stay below the number of marks; lists from behind.
+-- Counts stay below the number of marks; lists from their ends.
 use Rattle.std.proofs.Common.{◌≡◌, ℕ, zero, suc, ◌+◌, ◌-◌, ◌≤◌, ◌<◌, List, [], ◌∷◌, ◌++◌, length, drop, get_or, refl, sym, ap, ◌∙◌, arith}
 use Rattle.std.specs.Prelude.{map, reverse, Option, Some, None, MatchOption, unwrap_or}
 use Rattle.std.proofs.lemmas.List.{append-nil, append_assoc, map-append, reverse-append}
@@ -21,7 +21,7 @@ counted-total (Leaf s ∷ ms) = omega (arith, one_more-total (counted ms).1, cou
 counted-total (Opening name ∷ ms) = omega (arith, one_more-total (outer (counted ms).1), outer-total (counted ms).1, counted-total ms)
 counted-total (Closing ∷ ms) = omega (arith, counted-total ms)
 
--- a count of what is behind a mark
+-- a count of what is after a mark
 pub counts-few : (ms : List Mark) → (innermost (counted ms).1 ≤ length ms) × (innermost (outer (counted ms).1) ≤ length ms)
 counts-few ms = (omega (arith, outer-total (counted ms).1, counted-total ms), omega (arith, outer-total (counted ms).1, outer-total (outer (counted ms).1), counted-total ms))
 
@@ -53,7 +53,7 @@ map-reverse : {X Y : Type 0} (f : X → Y) (xs : List X) → map f (reverse xs) 
 map-reverse f [] = refl
 map-reverse f (x ∷ xs) = ap (map f) (reverse-append (x ∷ []) xs) ∙ map-append f (reverse xs) (x ∷ []) ∙ ap (λ ys. ys ++ f x ∷ []) (map-reverse f xs) ∙ sym (reverse-append (f x ∷ []) (map f xs))
 
--- one more behind, and all turned round
+-- one more at the end, and all turned round
 pub turned : {X Y : Type 0} (f : X → Y) (xs : List X) (x : X) → map f (reverse (xs ++ x ∷ [])) ≡ f x ∷ reverse (map f xs)
 turned f xs x = ap (map f) (reverse-append xs (x ∷ [])) ∙ ap (λ ys. f x ∷ ys) (map-reverse f xs)
 
@@ -79,7 +79,7 @@ pub none-left : (waits : List ℕ) → length waits ≡ 0 → waits ≡ []
 none-left [] e = refl
 none-left (n ∷ waits) e = absurd (omega (arith, e))
 
--- a sign was put behind the marks before it
+-- a sign was put after the marks before it
 pub opened-next : (front closed both : List Mark) (waits : List ℕ) (s : Sign) (ss whole : List Sign) (all : List Mark) → whole ≡ s ∷ ss → closed ≡ front ++ closings waits → both ≡ closed ++ mark_of s ∷ [] → front ++ brackets waits whole ≡ all → both ++ brackets (opened s (behind_next waits)) ss ≡ all
 opened-next front closed both waits s ss whole all is one two so_far =
     let rest = brackets (opened s (behind_next waits)) ss in

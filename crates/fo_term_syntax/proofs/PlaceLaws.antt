@@ -65,7 +65,7 @@ mark-some (Leaf s) = omega arith
 mark-some (Opening name) = omega arith
 mark-some Closing = omega arith
 
--- a mark's place was put behind the others
+-- a mark's place was put after the others
 pub placed : (k : ℕ) (a : Awaited) (m : Mark) (ms whole : List Mark) (front both total : List ℕ) → whole ≡ m ∷ ms → both ≡ front ++ sign_at k a m → front ++ (marks_at k a whole ++ marks_end k a whole ∷ []) ≡ total
     → both ++ (marks_at (k + commas a m + tokens_of_mark m) (behind_mark a m) ms ++ marks_end (k + commas a m + tokens_of_mark m) (behind_mark a m) ms ∷ []) ≡ total
 placed k a m ms whole front both total is put so_far =

@@ -26,7 +26,7 @@ closings [] = []
 closings (zero ∷ waits) = Closing ∷ closings waits
 closings (suc n ∷ waits) = []
 
--- what the open brackets wait for behind the next argument
+-- what the open brackets wait for after the next argument
 abbrev pub behind_next : List ℕ → List ℕ
 behind_next [] = []
 behind_next (zero ∷ waits) = behind_next waits

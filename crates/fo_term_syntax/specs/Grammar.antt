@@ -111,7 +111,7 @@ behind_mark Nothing m = Nothing
 abbrev pub within : Bool → Steps Awaited Mark
 within locals = record { wants = is_awaited; item = mark locals; next = behind_mark }
 
--- what stands behind the opening bracket of an application, its closing bracket too
+-- what stands after the opening bracket of an application, its closing bracket too
 unfoldable pub marks : Bool → Syntax (List Mark)
 marks locals = steps (within locals) (First 0)
 

@@ -22,7 +22,7 @@ tokens_of_mark (Leaf s) = 2
 tokens_of_mark (Opening name) = 2
 tokens_of_mark Closing = 1
 
--- the token behind the marks, the first of which begins at token k
+-- the token after the marks, the first of which begins at token k
 abbrev pub marks_end : ℕ → Awaited → List Mark → ℕ
 marks_end k a [] = k
 marks_end k a (m ∷ ms) = marks_end (k + commas a m + tokens_of_mark m) (behind_mark a m) ms
@@ -37,7 +37,7 @@ abbrev pub marks_at : ℕ → Awaited → List Mark → List ℕ
 marks_at k a [] = []
 marks_at k a (m ∷ ms) = sign_at k a m ++ marks_at (k + commas a m + tokens_of_mark m) (behind_mark a m) ms
 
--- the first token of each sign, and last the token behind the term; a term begins at token 0
+-- the first token of each sign, and last the token after the term; a term begins at token 0
 abbrev pub places_of : List Sign → List ℕ
 places_of [] = 0 ∷ []
 places_of (Variable n ∷ ss) = 0 ∷ 2 ∷ []

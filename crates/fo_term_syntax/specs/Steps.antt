@@ -4,7 +4,7 @@ use Rattle.std.proofs.Common.{inl, inr}
 use Rattle.cyc_lex.specs.Word.{Word}
 use Rattle.cyc_grammar.specs.Syntax.{Reading, ◌>>=◌, Syntax, Class, never, begins, is_one, after}
 
--- at a state: whether an item is wanted, which it may be, and the state behind it
+-- at a state: whether an item is wanted, which it may be, and the state after it
 pub record Steps (S A : Type 0) : Type 1 where
   pub wants : S → Bool
   pub item : S → Syntax A

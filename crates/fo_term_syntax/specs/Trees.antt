@@ -11,7 +11,7 @@ pub data Sign : Type 0 where
   Local : ℕ → Sign
   Apply : List ℕ → ℕ → Sign
 
--- how many terms come behind a sign
+-- how many terms come after a sign
 abbrev pub arguments_of : Sign → ℕ
 arguments_of (Variable n) = 0
 arguments_of (Local n) = 0

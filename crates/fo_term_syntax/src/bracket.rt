@@ -37,7 +37,7 @@ fn closed_in(others: usize) -> Awaited
 }
 
 impl Awaited {
-    /// What may come behind this mark.
+    /// What may come after this mark.
     pub fn behind(self, mark: Mark<'_>) -> Awaited
         requires { depth self + 1 < 2 ^ 64 }
         ensures { result ≡ behind_mark self (mark_seen mark.entry) }

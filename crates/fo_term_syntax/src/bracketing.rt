@@ -25,7 +25,7 @@ fn close(marks: &mut Vec<Mark<'_>>, waits: &mut Stack) -> Result<(), AllocError>
     Ok(())
 }
 
-/// Puts a sign behind the marks, and waits for its arguments.
+/// Puts a sign after the marks, and waits for its arguments.
 fn put<'a>(
     sign: SignTree<'a>,
     marks: &mut Vec<Mark<'a>>,

@@ -22,7 +22,7 @@ fn one_more(numbers: &mut Stack) -> Result<(), AllocError>
     Ok(())
 }
 
-/// Puts a mark before the signs behind it, the last of which comes first.
+/// Puts a mark before the signs after it, the last of which comes first.
 fn count<'a>(
     mark: Mark<'a>,
     signs: &mut Vec<SignTree<'a>>,
@@ -47,7 +47,7 @@ fn count<'a>(
     }
 }
 
-/// The signs of an application, from its name and the marks behind its opening bracket.
+/// The signs of an application, from its name and the marks after its opening bracket.
 pub fn applied<'a>(
     alloc: Global,
     name: &'a str,

@@ -29,7 +29,7 @@ fn tokens_of_mark(mark: Mark<'_>) -> usize
     }
 }
 
-/// Puts the place of a mark that is a sign behind the others; the mark, with a comma before it, begins at token `at`.
+/// Puts the place of a mark that is a sign after the others; the mark, with a comma before it, begins at token `at`.
 fn put_place(
     awaited: Awaited,
     mark: Mark<'_>,
@@ -48,7 +48,7 @@ fn put_place(
     }
 }
 
-/// The places of the signs among marks, and last the token behind the marks, which begin at token 2 of a term.
+/// The places of the signs among marks, and last the token after the marks, which begin at token 2 of a term.
 fn places_of_marks(alloc: Global, marks: &[Mark<'_>]) -> Result<Vec<usize>, AllocError>
     requires { marks_end 2 (First 0) (map mark_seen marks.now) < 2 ^ 64 }
     ensures { IfOk result (λ x. x.items ≡ 0 ∷ marks_at 2 (First 0) (map mark_seen marks.now) ++ marks_end 2 (First 0) (map mark_seen marks.now) ∷ []) }

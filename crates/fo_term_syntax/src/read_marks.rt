@@ -82,7 +82,7 @@ fn mark<'a>(
     }
 }
 
-/// Reads what stands behind the opening bracket of an application, its closing bracket too.
+/// Reads what stands after the opening bracket of an application, its closing bracket too.
 #[tactic(auto, unfolding(crate::specs::Grammar::marks))]
 pub fn marks<'a>(
     alloc: Global,

@@ -25,7 +25,7 @@ listed : {A : Type 0} (c : Class (Unit {0})) (a : Syntax A) (span : A → ℕ) �
 listed c a span one [] f = absurd (omega (arith, f.0))
 listed c a span one (x ∷ xs) f = between x c a span one (x ∷ xs) f
 
--- the same with a word behind the last, or that word alone
+-- the same with a word after the last, or that word alone
 listed_or : {A : Type 0} (c behind : Class (Unit {0})) (a : Syntax A) (span : A → ℕ) → ((x : A) → a.fits x → length (a.words x) + 1 ≡ span x) → (xs : List A) → (or_empty behind (before (list_of c a) behind)).fits xs → length ((or_empty behind (before (list_of c a) behind)).words xs) ≡ total_or 1 span xs
 listed_or c behind a span one [] f = refl
 listed_or c behind a span one (x ∷ xs) f =
@@ -144,7 +144,7 @@ nodes_words (n ∷ ns) f =
     let more = words_many node ns in
     omega (arith, node_words n f.1.0, alone (is_one node_word) node node_span node_words ns f.1.1, length-append more (last_word.word tt ∷ []), length-append (node.words n) (more ++ last_word.word tt ∷ []))
 
--- behind the nodes stand the last statement and the end
+-- after the nodes stand the last statement and the end
 pub file_words : (f : File) → file.fits f → length (file.words f) ≡ file_end f + 3
 unfolding file body
 file_words f fits =
@@ -153,7 +153,7 @@ file_words f fits =
     let ns = nodes.words f.nodes in
     omega (arith, constructors_words f.constructors fits.1.0, definitions_words f.definitions fits.1.1.0, nodes_words f.nodes fits.1.1.1, length-append ns (semicolon.word tt ∷ []), length-append ds (ns ++ semicolon.word tt ∷ []), length-append cs (ds ++ (ns ++ semicolon.word tt ∷ [])), length-append (body.words f) (the_end.word tt ∷ []))
 
--- behind the goal stand the last statement and the end
+-- after the goal stand the last statement and the end
 pub problem_words : (p : Problem) → problem.fits p → length (problem.words p) ≡ problem_end p + 3
 unfolding problem problem_body goal
 problem_words p fits =

@@ -57,7 +57,7 @@ last-place (Apply name n ∷ ss) d h = at-end (places-count (Apply name n ∷ ss
     at-end : length (places_of (Apply name n ∷ ss)) ≡ length (Apply name n ∷ ss) + 1 → get_or (places_of (Apply name n ∷ ss)) (length (Apply name n ∷ ss)) d ≡ tokens_in (Apply name n ∷ ss)
     at-end e = behind (marks_at 2 (First 0) (brackets (n ∷ []) ss)) (marks_end 2 (First 0) (brackets (n ∷ []) ss)) (length ss) (omega (arith, e, length-append (marks_at 2 (First 0) (brackets (n ∷ []) ss)) (marks_end 2 (First 0) (brackets (n ∷ []) ss) ∷ [])))
 
--- ---- what is behind the first place
+-- ---- what is after the first place
 
 pub length-tail : (xs : List ℕ) → length (drop 1 xs) ≡ length xs - 1
 length-tail [] = omega arith

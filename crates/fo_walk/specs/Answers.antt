@@ -4,7 +4,7 @@ use Rattle.heap_reader.specs.Flaws.{Found}
 use Rattle.fo_walk.specs.declared.flaw.Stop.{Stop}
 use Rattle.fo_walk.specs.declared.flaw.Stop.TheVariants.{Flaw, OutOfMemory}
 
--- the walk ends behind the part where it has no flaw, and else names the first; out of memory is free
+-- the walk ends after the part where it has no flaw, and else names the first; out of memory is free
 abbrev pub IsPassed : Result ℕ Stop → Found → ℕ → Type 0
 IsPassed (Ok next) found behind = (found ≡ None) × (next ≡ behind)
 IsPassed (Err (Flaw flaw)) found behind = found ≡ Some flaw

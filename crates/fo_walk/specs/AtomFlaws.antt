@@ -2,6 +2,7 @@
 -- cases, atoms, terms. A ninth argument needs no place here: where all constructors and predicates have at most eight,
 -- the name before it has another number of arguments than it should.
 use Rattle.std.specs.Prelude.{◌≡◌, ℕ, ◌+◌, nat_lt, nat_le, List, [], ◌∷◌, length, drop, Some, None, Result, Ok, Err}
+use Rattle.cyc_limits.specs.declared.TheConstants.{GREATEST_LOCAL, GREATEST_VARIABLE, MOST_TERMS}
 use Rattle.cyc_lex.specs.declared.fault.IllFault.TheVariants.{Parameter}
 use Rattle.cyc_lex.specs.declared.fault.What.TheVariants.{Atoms, Locals, Terms, Variable as VariableLimit}
 use Rattle.heap_reader.specs.Trees.{Heading}
@@ -17,19 +18,19 @@ use Rattle.fo_walk.specs.AtomSpans.{atom_span, terms_in}
 
 -- in a case $n is a parameter; elsewhere a number is at most 65,534
 abbrev pub variable_flaw : Scope → ℕ → ℕ → Found
-variable_flaw Node k n = over_if (nat_lt 65534 n) VariableLimit k
+variable_flaw Node k n = over_if (nat_lt GREATEST_VARIABLE n) VariableLimit k
 variable_flaw (Case arity) k n = ill_if (nat_le arity n) Parameter k
 
 -- a term more than 4,096
 abbrev pub terms_flaw : ℕ → ℕ → Found
-terms_flaw m k = over_if (nat_le 4096 m) Terms k
+terms_flaw m k = over_if (nat_le MOST_TERMS m) Terms k
 
 -- Each sign begins at token k, with m terms before it; limit is what the
 -- case or the list of atoms that begins here has against it.
 module _ (constructors : List Heading) (scope : Scope) where
   abbrev pub sign_flaw : ℕ → ℕ → Found → Sign → Found
   sign_flaw m k limit (Variable n) = or_later limit (or_later (terms_flaw m k) (variable_flaw scope (k + 1) n))
-  sign_flaw m k limit (Local n) = or_later limit (or_later (terms_flaw m k) (over_if (nat_lt 15 n) Locals (k + 1)))
+  sign_flaw m k limit (Local n) = or_later limit (or_later (terms_flaw m k) (over_if (nat_lt GREATEST_LOCAL n) Locals (k + 1)))
   sign_flaw m k limit (Apply name n) = or_later (use_flaw (arity_in constructors name) n k) (or_later limit (terms_flaw m k))
 
   -- signs at these places, counted from token k on
@@ -65,7 +66,7 @@ module _ (constructors : List Heading) (scope : Scope) where
 
 -- ---- answers
 
--- the walk ends behind the part where it has no flaw, and else names the first; out of memory is free
+-- the walk ends after the part where it has no flaw, and else names the first; out of memory is free
 abbrev pub IsWalk : Result Reached Stop → Found → ℕ → ℕ → Type 0
 IsWalk (Ok reached) found token terms = (found ≡ None) × ((reached.token ≡ token) × (reached.terms ≡ terms))
 IsWalk (Err (Flaw flaw)) found token terms = found ≡ Some flaw

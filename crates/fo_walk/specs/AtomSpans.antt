@@ -1,4 +1,4 @@
--- How many tokens atoms have, the one token behind a part counted in, and how many terms.
+-- How many tokens atoms have, the one token after a part counted in, and how many terms.
 use Rattle.std.specs.Prelude.{ℕ, ◌+◌, List, [], ◌∷◌, length}
 use Rattle.heap_formula.specs.Words.{Each}
 use Rattle.heap_reader.specs.Spans.{total, total_or}

@@ -1,6 +1,7 @@
 -- The first flaw of a text of first-order logic that the grammar has: what is ill-formed or passes a limit, and at which
 -- token. At one token what is ill-formed goes before limits.
 use Rattle.std.specs.Prelude.{ℕ, ◌+◌, ◌&&◌, ◌||◌, not, nat_eq, nat_lt, nat_le, is_some, List, [], ◌∷◌, length, map, take, None}
+use Rattle.cyc_limits.specs.declared.TheConstants.{MOST_ARGUMENTS, MOST_CASES, MOST_CASE_ATOMS, MOST_CONSTRUCTORS, MOST_LEFT, MOST_NODES, MOST_PREDICATES, MOST_RIGHT}
 use Rattle.cyc_lex.specs.declared.fault.IllFault.TheVariants.{Duplicate, Constant}
 use Rattle.cyc_lex.specs.declared.fault.What.TheVariants.{Constructors, Predicates, Arguments, Cases, Nodes}
 use Rattle.heap_reader.specs.Trees.{Heading}
@@ -31,7 +32,7 @@ predicate_heads ds = map predicate_heading ds
 
 -- a number of arguments is at most eight
 abbrev pub arguments_flaw : ℕ → ℕ → Found
-arguments_flaw k n = over_if (nat_lt 8 n) Arguments k
+arguments_flaw k n = over_if (nat_lt MOST_ARGUMENTS n) Arguments k
 
 -- the first constructor is a constant
 abbrev pub constant_flaw : ℕ → ℕ → ℕ → Found
@@ -41,7 +42,7 @@ module _ (constructors : List Heading) where
   -- at most 64, no two with one name
   abbrev pub constructor_flaw : ℕ → ℕ → Constructor → Found
   constructor_flaw n k c =
-      or_later (over_if (nat_le 64 n) Constructors k) (or_later (ill_if (is_some (arity_in (take n constructors) c.name)) Duplicate (k + 1)) (or_later (constant_flaw n (k + 2) c.arguments) (arguments_flaw (k + 2) c.arguments)))
+      or_later (over_if (nat_le MOST_CONSTRUCTORS n) Constructors k) (or_later (ill_if (is_some (arity_in (take n constructors) c.name)) Duplicate (k + 1)) (or_later (constant_flaw n (k + 2) c.arguments) (arguments_flaw (k + 2) c.arguments)))
 
   -- terms and substitutions in a reason, before which m terms stand in their node
   abbrev pub terms_flaw : ℕ → ℕ → List (List Sign) → Found
@@ -60,11 +61,11 @@ module _ (constructors : List Heading) where
     -- at most 4,096, none with the name of a constructor or of an earlier one
     abbrev pub definition_head_flaw : ℕ → ℕ → Definition → Found
     definition_head_flaw n k d =
-        or_later (over_if (nat_le 4096 n) Predicates k) (or_later (ill_if (is_some (arity_in constructors d.name) || is_some (arity_in (take n predicates) d.name)) Duplicate (k + 1)) (arguments_flaw (k + 3) d.arity))
+        or_later (over_if (nat_le MOST_PREDICATES n) Predicates k) (or_later (ill_if (is_some (arity_in constructors d.name) || is_some (arity_in (take n predicates) d.name)) Duplicate (k + 1)) (arguments_flaw (k + 3) d.arity))
 
     -- at most sixteen cases of a predicate with so many parameters, of at most sixteen atoms each
     abbrev pub case_flaw : ℕ → ℕ → ℕ → List Atom → Found
-    case_flaw arity n k xs = side_flaw constructors (InCase arity) predicates 16 0 k (over_if (nat_le 16 n) Cases k) xs
+    case_flaw arity n k xs = side_flaw constructors (InCase arity) predicates MOST_CASE_ATOMS 0 k (over_if (nat_le MOST_CASES n) Cases k) xs
 
     abbrev pub cases_flaw : ℕ → ℕ → List (List Atom) → Found
     cases_flaw arity k cases = listed_flaw (case_flaw arity) atoms_span 0 k cases
@@ -75,7 +76,7 @@ module _ (constructors : List Heading) where
     -- at most 32 atoms on the left and sixteen on the right
     abbrev pub sequent_flaw : ℕ → Sequent → Found
     sequent_flaw k s =
-        or_later (side_flaw constructors InNode predicates 32 0 k None s.left) (side_flaw constructors InNode predicates 16 (total_terms s.left) (k + atoms_span s.left) None s.right)
+        or_later (side_flaw constructors InNode predicates MOST_LEFT 0 k None s.left) (side_flaw constructors InNode predicates MOST_RIGHT (total_terms s.left) (k + atoms_span s.left) None s.right)
 
     -- a reason, before which m terms stand in its node: the word, two numbers and "[" stand before the terms, the word,
     -- a number and "{" before the entries
@@ -96,7 +97,7 @@ module _ (constructors : List Heading) where
     -- at most 20,000; the terms of the sequent and of the reason count together
     abbrev pub node_flaw : ℕ → ℕ → Node → Found
     node_flaw n k x =
-        or_later (over_if (nat_le 20000 n) Nodes k) (or_later (sequent_flaw (k + 1) x.sequent) (reason_flaw (sequent_terms x.sequent) (k + 1 + sequent_span x.sequent) x.reason))
+        or_later (over_if (nat_le MOST_NODES n) Nodes k) (or_later (sequent_flaw (k + 1) x.sequent) (reason_flaw (sequent_terms x.sequent) (k + 1 + sequent_span x.sequent) x.reason))
 
     abbrev pub nodes_flaw : ℕ → List Node → Found
     nodes_flaw k nodes = listed_flaw node_flaw node_span 0 k nodes

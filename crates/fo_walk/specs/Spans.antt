@@ -1,4 +1,4 @@
--- How many tokens the parts of a text have, the one token behind an atom, a term, a sequent or a reason counted in, and
+-- How many tokens the parts of a text have, the one token after an atom, a term, a sequent or a reason counted in, and
 -- how many terms.
 use Rattle.std.specs.Prelude.{ℕ, ◌+◌, List, [], ◌∷◌, length}
 use Rattle.heap_reader.specs.Spans.{total, total_or}
@@ -8,22 +8,22 @@ use Rattle.fo_problem_syntax.specs.Trees.{Constructor, Definition, Sequent, Prob
 use Rattle.fo_proof_syntax.specs.Trees.{Entry, LinkData, Reason, Axiom, Refl, Clash, Decompose, Replace, WeakenLeft, WeakenRight, Contract, Unfold, Cut, Right, Link, Node, File}
 use Rattle.fo_walk.specs.AtomSpans.{atom_span, atoms_span, terms_in, total_terms}
 
--- "con", the name, the number, and ";"; nothing behind it
+-- "con", the name, the number, and ";"; nothing after it
 abbrev pub constructor_span : Constructor → ℕ
 constructor_span c = 4
 
--- "pred", the name, "(", the arity, ")", "{", the cases, and ";"; nothing behind it
+-- "pred", the name, "(", the arity, ")", "{", the cases, and ";"; nothing after it
 abbrev pub definition_span : Definition → ℕ
 definition_span d = 6 + total atoms_span d.cases + 1
 
--- "|-" stands behind the left side
+-- "|-" stands after the left side
 abbrev pub sequent_span : Sequent → ℕ
 sequent_span s = atoms_span s.left + atoms_span s.right
 
 abbrev pub sequent_terms : Sequent → ℕ
 sequent_terms s = total_terms s.left + total_terms s.right
 
--- ---- reasons: the word, what stands behind it, and one token more
+-- ---- reasons: the word, what stands after it, and one token more
 
 abbrev pub term_span : List Sign → ℕ
 term_span t = tokens_in t + 1
@@ -69,20 +69,20 @@ reason_terms (Link l) = total entry_terms l.substitution
 
 -- ---- nodes and texts
 
--- where there are premises, the numbers and ";", since "to" is behind the reason
+-- where there are premises, the numbers and ";", since "to" is after the reason
 abbrev pub premises_span : List ℕ → ℕ
 premises_span [] = 0
 premises_span (n ∷ ns) = length (n ∷ ns) + 1
 
--- "node" and its parts; nothing behind it
+-- "node" and its parts; nothing after it
 abbrev pub node_span : Node → ℕ
 node_span n = 1 + sequent_span n.sequent + reason_span n.reason + premises_span n.premises
 
--- the token behind the definitions; four tokens stand before the first constructor
+-- the token after the definitions; four tokens stand before the first constructor
 abbrev pub behind_theory : List Constructor → List Definition → ℕ
 behind_theory cs ds = 4 + total constructor_span cs + total definition_span ds
 
--- the token behind the nodes of a proof file, and the one behind the goal of a problem file
+-- the token after the nodes of a proof file, and the one after the goal of a problem file
 abbrev pub file_end : File → ℕ
 file_end f = behind_theory f.constructors f.definitions + total node_span f.nodes
 

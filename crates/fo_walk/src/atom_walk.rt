@@ -65,7 +65,7 @@ fn check_predicate(
     walk_signs(constructors, scope, None, from, signs, places)
 }
 
-/// A predicate's name with its arguments, which have these places, and the token behind them.
+/// A predicate's name with its arguments, which have these places, and the token after them.
 fn walk_use(
     constructors: &Heads<'_>,
     predicates: &Heads<'_>,
@@ -104,7 +104,7 @@ fn walk_use(
     }
 }
 
-/// A predicate's name with its arguments, and the token behind them.
+/// A predicate's name with its arguments, and the token after them.
 fn walk_predicate(
     alloc: Global,
     constructors: &Heads<'_>,
@@ -138,7 +138,7 @@ fn walk_predicate(
     }
 }
 
-/// An atom and the token behind it: its first flaw, or how far the walk is. `limit` is what the list that begins with
+/// An atom and the token after it: its first flaw, or how far the walk is. `limit` is what the list that begins with
 /// this atom has against it.
 pub fn walk_atom(
     alloc: Global,
@@ -211,7 +211,7 @@ fn walk_some_atoms(
     Ok(reached)
 }
 
-/// A side of a sequent or a case, of at most so many atoms, and the token behind it: its first flaw, or how far the walk
+/// A side of a sequent or a case, of at most so many atoms, and the token after it: its first flaw, or how far the walk
 /// is. `limit` is what stands against it at its first token.
 pub fn walk_atoms(
     alloc: Global,

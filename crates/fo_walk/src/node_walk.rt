@@ -19,13 +19,14 @@ use crate::flaw::{Reached, Scope, Stop};
 use crate::known::Names;
 use crate::reason_walk::walk_reason;
 use cyc_lex::What;
+use cyc_limits::{MOST_LEFT, MOST_NODES, MOST_RIGHT};
 use fo_problem_syntax::SequentTree;
 use fo_proof_syntax::NodeTree;
 use fo_term_syntax::AtomTree;
 use heap_reader::over;
 use std::alloc::Global;
 
-/// A side of a sequent, of at most so many atoms, and the token behind it.
+/// A side of a sequent, of at most so many atoms, and the token after it.
 fn walk_side(
     alloc: Global,
     names: &Names<'_>,
@@ -51,7 +52,7 @@ fn walk_side(
     )
 }
 
-/// A sequent and the token behind it, with the number of its terms.
+/// A sequent and the token after it, with the number of its terms.
 pub fn walk_sequent(
     alloc: Global,
     names: &Names<'_>,
@@ -67,11 +68,11 @@ pub fn walk_sequent(
         token: at,
         terms: 0,
     };
-    let middle = walk_side(alloc, names, 32, from, &tree.left)?;
-    walk_side(alloc, names, 16, middle, &tree.right)
+    let middle = walk_side(alloc, names, MOST_LEFT, from, &tree.left)?;
+    walk_side(alloc, names, MOST_RIGHT, middle, &tree.right)
 }
 
-/// The token behind the premises, which stand behind the token of this number.
+/// The token after the premises, which stand after the token of this number.
 fn behind_premises(at: usize, premises: &[u32]) -> usize
     requires { at + premises_span premises.now < 2 ^ 64 }
     ensures { result ≡ at + premises_span premises.now }
@@ -95,7 +96,7 @@ fn walk_node(
     ensures { IsPassed result (node_flaw names.now.constructors names.now.predicates n at (node_of tree.now))
         (at + node_span (node_of tree.now)) }
 {
-    if n >= 20000 {
+    if n >= MOST_NODES {
         return Err(Stop::Flaw(over(What::Nodes, at)));
     }
     let reached = walk_sequent(alloc, names, at + 1, &tree.sequent)?;

@@ -19,6 +19,7 @@ use crate::flaw::{Reached, Scope, Stop};
 use crate::known::Names;
 use crate::term_walk::walk_term;
 use cyc_lex::What;
+use cyc_limits::GREATEST_VARIABLE;
 use fo_proof_syntax::{LinkTree, PairTree, ReasonTree};
 use fo_term_syntax::{AtomTree, SignTree};
 use heap_reader::{Heads, over};
@@ -76,7 +77,7 @@ fn walk_entry(
     ensures { IsWalk result (entry_flaw constructors.now from.terms from.token (entry_of tree.now))
         (from.token + entry_span (entry_of tree.now)) (from.terms + entry_terms (entry_of tree.now)) }
 {
-    if tree.variable > 65534 {
+    if tree.variable > GREATEST_VARIABLE {
         return Err(Stop::Flaw(over(What::Variable, from.token + 1)));
     }
     let behind = walk_term(
@@ -169,7 +170,7 @@ fn walk_cut(
     Ok(behind.token)
 }
 
-/// The reason of a node and the token behind it.
+/// The reason of a node and the token after it.
 pub fn walk_reason(
     alloc: Global,
     names: &Names<'_>,

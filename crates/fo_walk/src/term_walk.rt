@@ -10,6 +10,7 @@ ghost use Rattle.fo_walk.specs.AtomFlaws.{variable_flaw, terms_flaw, sign_flaw, 
 
 use crate::flaw::{Reached, Scope, Stop};
 use cyc_lex::{IllFault, What};
+use cyc_limits::{GREATEST_LOCAL, GREATEST_VARIABLE, MOST_TERMS};
 use fo_term_syntax::{SignTree, places_of};
 use heap_reader::{Flaw, Heads, ill, over};
 use std::alloc::Global;
@@ -29,7 +30,7 @@ fn check_variable(scope: Scope, at: usize, number: u32) -> Result<(), Flaw>
     ensures { IsName result (variable_flaw scope at number) }
 {
     match scope {
-        Scope::Node if number > 65534 => Err(over(What::Variable, at)),
+        Scope::Node if number > GREATEST_VARIABLE => Err(over(What::Variable, at)),
         Scope::Case(arity) if number >= arity => Err(ill(IllFault::Parameter, at)),
         _ => Ok(()),
     }
@@ -38,7 +39,7 @@ fn check_variable(scope: Scope, at: usize, number: u32) -> Result<(), Flaw>
 fn check_terms(terms: usize, at: usize) -> Result<(), Flaw>
     ensures { IsName result (terms_flaw terms at) }
 {
-    if terms >= 4096 {
+    if terms >= MOST_TERMS {
         return Err(over(What::Terms, at));
     }
     Ok(())
@@ -74,7 +75,7 @@ fn check_sign(
         SignTree::Local(number) => {
             check_limit(limit)?;
             check_terms(terms, at)?;
-            if number > 15 {
+            if number > GREATEST_LOCAL {
                 return Err(over(What::Locals, at + 1));
             }
             Ok(())
@@ -117,7 +118,7 @@ pub fn walk_signs(
     Ok(())
 }
 
-/// A term: its first flaw, or the token behind it and the number of terms with its own. `limit` is what the list that
+/// A term: its first flaw, or the token after it and the number of terms with its own. `limit` is what the list that
 /// begins with this term has against it.
 pub fn walk_term(
     alloc: Global,

@@ -22,7 +22,7 @@ use fo_proof_syntax::FileTree;
 use heap_reader::Flaw;
 use std::alloc::Global;
 
-/// The constructors and definitions of a text, and the token behind them.
+/// The constructors and definitions of a text, and the token after them.
 fn walk_theory(
     alloc: Global,
     names: &Names<'_>,

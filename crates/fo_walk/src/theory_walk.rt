@@ -1,5 +1,5 @@
 //! A walk over constructors and definitions in the order of their tokens, up to the first flaw. Each function is given the
-//! number of the part's first token and gives that of the token behind it and the one that follows every part of its kind.
+//! number of the part's first token and gives that of the token after it and the one that follows every part of its kind.
 
 ghost use Rattle.std.specs.Prelude.{◌≡◌, ◌+◌, ◌<◌, ◌≤◌, ◌^◌, length, map, nat_le};
 ghost use Rattle.cyc_lex.specs.declared.fault.What.TheVariants.{Cases};
@@ -18,6 +18,7 @@ use crate::atom_walk::walk_atoms;
 use crate::flaw::{Reached, Scope, Stop};
 use crate::known::Names;
 use cyc_lex::{IllFault, What};
+use cyc_limits::{MOST_ARGUMENTS, MOST_CASE_ATOMS, MOST_CASES, MOST_CONSTRUCTORS, MOST_PREDICATES};
 use fo_problem_syntax::{ConstructorTree, DefinitionTree};
 use fo_term_syntax::AtomTree;
 use heap_reader::{Flaw, Heads, ill, over};
@@ -27,7 +28,7 @@ use std::alloc::Global;
 fn check_arguments(at: usize, number: u32) -> Result<(), Flaw>
     ensures { IsName result (arguments_flaw at number) }
 {
-    if number > 8 {
+    if number > MOST_ARGUMENTS as u32 {
         return Err(over(What::Arguments, at));
     }
     Ok(())
@@ -45,7 +46,7 @@ fn walk_constructor(
     ensures { IsWalk result (constructor_flaw constructors.now n at (constructor_of tree.now))
         (at + constructor_span (constructor_of tree.now)) }
 {
-    if n >= 64 {
+    if n >= MOST_CONSTRUCTORS {
         return Err(over(What::Constructors, at));
     }
     if constructors.has_among(n, tree.name) {
@@ -87,7 +88,7 @@ fn check_definition_head(
     requires fits { at + 3 < 2 ^ 64 }
     ensures { IsName result (definition_head_flaw names.now.constructors names.now.predicates n at (definition_of tree.now)) }
 {
-    if n >= 4096 {
+    if n >= MOST_PREDICATES {
         return Err(over(What::Predicates, at));
     }
     if names.constructors.arity_of(tree.name).is_some()
@@ -100,9 +101,9 @@ fn check_definition_head(
 
 /// What a definition has against the case before which n of its cases stand.
 fn case_limit(n: usize, at: usize) -> Option<Flaw>
-    ensures { result ≡ over_if (nat_le 16 n) Cases at }
+    ensures { result ≡ over_if (nat_le MOST_CASES n) Cases at }
 {
-    if n >= 16 {
+    if n >= MOST_CASES {
         return Some(over(What::Cases, at));
     }
     None
@@ -131,7 +132,7 @@ fn walk_case(
         &names.constructors,
         &names.predicates,
         Scope::Case(arity),
-        16,
+        MOST_CASE_ATOMS,
         case_limit(n, at),
         from,
         trees,

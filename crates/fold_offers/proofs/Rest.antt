@@ -24,7 +24,7 @@ step_on f k xs x items items' all l at given so_far =
     let before : items ++ (f k x ++ rest) ≡ all = rw cut at so_far in
     rw (add-one, given, append_assoc items (f k x) rest) before
 
--- behind the last member nothing is left to give
+-- after the last member nothing is left to give
 pub all_given : {X Y : Type 0} (f : ℕ → X → List Y) (k : ℕ) (xs : List X) (items all : List Y) → length xs ≤ k → items ++ each_from f k (drop k xs) ≡ all → items ≡ all
 all_given f k xs items all l so_far =
     let h : items ++ [] ≡ all = rw (drop_all k xs l) at so_far in sym (append-nil items) ∙ h

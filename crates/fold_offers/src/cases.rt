@@ -7,6 +7,7 @@ ghost use Rattle.fold_offers.specs.Folds.{is_named_by, is_named as is_named_in, 
 
 use crate::binding::{bound_pure, bound_term};
 use crate::kinds::is_cell;
+use cyc_limits::MOST_ARGUMENTS;
 use cyc_memory::OutOfMemory;
 use heap_formula::{Args, Heap, Positions, Pure, Rule, Spatial, Term};
 use rule_table::{follows, is_among, is_universal, same_term};
@@ -117,7 +118,7 @@ fn has_cell(atoms: &[Spatial]) -> bool
 
 /// Whether the spatial atoms have a cell, and name every parameter and each local of the case.
 pub fn can_fold(arity: usize, case: &Heap) -> bool
-    requires { arity ≤ 8 }
+    requires { arity ≤ MOST_ARGUMENTS }
     ensures { result ≡ can_fold_case arity case.now }
 {
     has_cell(case.spatial())
@@ -165,7 +166,7 @@ fn bound_terms(
 
 /// The predicate at what its parameters are bound to.
 fn folded(alloc: Global, fold: &Fold<'_>, binding: &[(Term, Term)]) -> Result<Heap, OutOfMemory>
-    requires { fold.now.arity ≤ 8 }
+    requires { fold.now.arity ≤ MOST_ARGUMENTS }
     ensures { IfOk result (λ h. h ≡ folded_by fold.now.predicate fold.now.arity binding.now) }
 {
     let terms = bound_terms(alloc, binding, &PARAMETERS[..fold.arity])?;
@@ -182,7 +183,7 @@ pub fn push_fold(
     places: &[u32],
     binding: &[(Term, Term)],
 ) -> Result<(), OutOfMemory>
-    requires { fold.now.arity ≤ 8 }
+    requires { fold.now.arity ≤ MOST_ARGUMENTS }
     ensures { OnOk result (rules.new.items ≡ rules.old.items ++ fold_by fold.now.state.now fold.now.predicate fold.now.arity fold.now.case.now places.now binding.now) }
 {
     if case_follows(fold, binding) {

@@ -7,6 +7,7 @@ ghost use Rattle.heap_formula.specs.Words.{Each};
 
 use crate::binding::bind_atom;
 use crate::cases::{Fold, can_fold, push_fold};
+use cyc_limits::{MOST_ARGUMENTS, MOST_PREDICATES};
 use cyc_memory::OutOfMemory;
 use heap_formula::{Def, Heap, Rule, Spatial, Term};
 use rule_table::is_among;
@@ -45,7 +46,7 @@ fn place_atoms(
     places: &[u32],
     binding: &[(Term, Term)],
 ) -> Result<(), OutOfMemory>
-    requires { fold.now.arity ≤ 8 }
+    requires { fold.now.arity ≤ MOST_ARGUMENTS }
     ensures { OnOk result (rules.new.items ≡ rules.old.items ++ placed (fold_by fold.now.state.now fold.now.predicate fold.now.arity fold.now.case.now) fold.now.state.now.spatial atoms.now places.now (Some binding.now)) }
 {
     let [atom, rest @ ..] = atoms else {
@@ -70,7 +71,7 @@ fn push_case(
     arity: usize,
     case: &Heap,
 ) -> Result<(), OutOfMemory>
-    requires { arity ≤ 8 }
+    requires { arity ≤ MOST_ARGUMENTS }
     ensures { OnOk result (rules.new.items ≡ rules.old.items ++ folds_of_case state.now predicate arity case.now) }
 {
     if !can_fold(arity, case) {
@@ -92,7 +93,7 @@ fn push_predicate(
     predicate: u16,
     def: &Def,
 ) -> Result<(), OutOfMemory>
-    requires { def.now.arity ≤ 8 }
+    requires { def.now.arity ≤ MOST_ARGUMENTS }
     ensures { OnOk result (rules.new.items ≡ rules.old.items ++ folds_of state.now predicate def.now) }
 {
     for case in def.cases.heaps() {
@@ -104,7 +105,7 @@ fn push_predicate(
 /// A Cut for each way to fold atoms of the state into a predicate, by predicate, then by case, then by places.
 pub fn folds(alloc: Global, state: &Heap, defs: &[Def]) -> Result<Vec<Rule>, OutOfMemory>
     requires parameters { Each HasFewParameters defs.now }
-    requires few { length defs.now ≤ 4096 }
+    requires few { length defs.now ≤ MOST_PREDICATES }
     ensures { IfOk result (λ v. v.items ≡ folds_of_state state.now defs.now) }
 {
     let mut rules = Vec::new(alloc);

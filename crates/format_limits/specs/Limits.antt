@@ -1,5 +1,6 @@
 -- What may stand in a proof file whose heaps have at most so many spatial atoms.
 use Rattle.std.specs.Prelude.{◌≡◌, ℕ, ◌<◌, ◌≤◌, ◌^◌, List, length, true, None}
+use Rattle.cyc_limits.specs.declared.TheConstants.{GREATEST_VARIABLE, MOST_ARGUMENTS, MOST_CASES, MOST_DISJUNCTS, MOST_LOCALS, VARIABLE_NUMBERS}
 use Rattle.heap_formula.specs.declared.terms.Term.{Term}
 use Rattle.heap_formula.specs.declared.atoms.Spatial.{Spatial}
 use Rattle.heap_formula.specs.declared.atoms.Spatial.TheVariants.{Cell, Pred}
@@ -25,7 +26,7 @@ use Rattle.rule_table.specs.Answer.{number_bound, heaps_of, is_short, has_number
 
 -- a cell has one to eight fields
 abbrev pub HasFields : Spatial → Type 0
-HasFields (Cell t ts) = (0 < length ts) × (length ts ≤ 8)
+HasFields (Cell t ts) = (0 < length ts) × (length ts ≤ MOST_ARGUMENTS)
 HasFields (Pred q ts) = Unit {0}
 
 -- a heap outside definitions: at most 64 pure and `most` spatial atoms, variables up to number 65,534, known predicates with
@@ -38,7 +39,7 @@ pub record IsHeapWithin (most : ℕ) (ds : List Definition) (a : SymbolicHeap) :
 
 -- one to sixteen disjuncts; or one of so many lines
 abbrev pub IsFormWithin : ℕ → Judgement → Type 0
-IsFormWithin count (Entail a bs) = (0 < length bs) × (length bs ≤ 16)
+IsFormWithin count (Entail a bs) = (0 < length bs) × (length bs ≤ MOST_DISJUNCTS)
 IsFormWithin count (Runs i a) = IsLineOf count i
 
 -- a judgement over these definitions, and so many lines
@@ -56,30 +57,30 @@ IsPremiseWithin most ds count p = IsJudgementWithin most ds count p.judgement
 pub record IsCaseWithin (most : ℕ) (ds : List Definition) (arity : ℕ) (case : SymbolicHeap) : Type 0 where
   pub heap : IsHeapWithin most ds case
   pub parameters : heap_bound case ≤ arity
-  pub locals : heap_exists case ≤ 16
+  pub locals : heap_exists case ≤ MOST_LOCALS
 
 -- a definition: at most eight parameters, one to sixteen cases
 pub record IsDefinitionWithin (most : ℕ) (ds : List Definition) (d : Definition) : Type 0 where
-  pub arity : d.arity ≤ 8
+  pub arity : d.arity ≤ MOST_ARGUMENTS
   pub some_case : 0 < length d.cases
-  pub few : length d.cases ≤ 16
+  pub few : length d.cases ≤ MOST_CASES
   pub cases : Each (IsCaseWithin most ds d.arity) d.cases
 
 -- ---- reasons
 
 -- a variable up to number 65,534, and no existential
 abbrev pub IsTermWithin : Term → Type 0
-IsTermWithin t = IsUniversal t × (number_bound t ≤ 65535)
+IsTermWithin t = IsUniversal t × (number_bound t ≤ VARIABLE_NUMBERS)
 
 -- the terms and the formula of a rule
 abbrev pub IsRuleWithin : ℕ → List Definition → Rule → Type 0
 IsRuleWithin most ds (Split t u) = IsTermWithin t × IsTermWithin u
 IsRuleWithin most ds (Cut places f) = IsHeapWithin most ds f
-IsRuleWithin most ds (Instantiate v t) = (v ≤ 65534) × IsTermWithin t
+IsRuleWithin most ds (Instantiate v t) = (v ≤ GREATEST_VARIABLE) × IsTermWithin t
 IsRuleWithin most ds _ = Unit {0}
 
 abbrev pub IsPairWithin : ℕ × Term → Type 0
-IsPairWithin pair = (pair.0 ≤ 65534) × IsTermWithin pair.1
+IsPairWithin pair = (pair.0 ≤ GREATEST_VARIABLE) × IsTermWithin pair.1
 
 -- what a rule or a link brings in of its own
 abbrev pub IsReasonWithin : ℕ → List Definition → Reason → Type 0

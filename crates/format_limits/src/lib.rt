@@ -15,6 +15,8 @@ ghost use Rattle.rule_table.specs.LinkTable.{link_fault};
 ghost use Rattle.rule_table.specs.RuleBook.{rule_answer};
 ghost use Rattle.format_limits.specs.Limits.{IsDefinitionWithin, IsJudgementWithin, IsPremiseWithin, IsRuleWithin, HasShortNumbers, IsShortNumber};
 
+use cyc_limits::{MOST_DISJUNCTS, MOST_SPATIAL};
+
 /// The premises of a rule stay within the limits that its judgement keeps, and are at most sixteen.
 /// What a rule brings in of its own, the terms of a Split or an Instantiate and the formula of a Cut, has to be within them too, and so have the definitions.
 pub fn premises_stay_within()
@@ -24,17 +26,17 @@ pub fn premises_stay_within()
         → rule_answer most ds lines j rule ≡ Ok ps → Each (IsPremiseWithin most ds (length lines)) ps }
     ensures few { (most : ℕ) (ds : List Definition) (lines : List Command) (j : Judgement) (rule : Rule)
         (ps : List Premise) → Each (IsDefinitionWithin most ds) ds → rule_answer most ds lines j rule ≡ Ok ps
-        → length ps ≤ 16 }
+        → length ps ≤ MOST_DISJUNCTS }
 {}
 
 /// A rule or a link without a fault names small numbers alone: places in lists of at most 64 members, so each fits nine digits.
 /// A link's target is no place in its bud, so no fault bounds it: it is the number of a node, and has to be short by itself.
 pub fn reasons_are_short()
     ensures rules { (most : ℕ) (ds : List Definition) (lines : List Command) (j : Judgement) (rule : Rule)
-        (ps : List Premise) → most ≤ 32 → Each (IsDefinitionWithin most ds) ds
+        (ps : List Premise) → most ≤ MOST_SPATIAL → Each (IsDefinitionWithin most ds) ds
         → IsJudgementWithin most ds (length lines) j → rule_answer most ds lines j rule ≡ Ok ps
         → HasShortNumbers (Step rule) }
     ensures links { (most : ℕ) (ds : List Definition) (count p : ℕ) (bud companion : Judgement) (link : Link)
-        → most ≤ 32 → IsJudgementWithin most ds count bud → link_fault bud companion link p ≡ None
+        → most ≤ MOST_SPATIAL → IsJudgementWithin most ds count bud → link_fault bud companion link p ≡ None
         → IsShortNumber link.target → HasShortNumbers (Back link) }
 {}

@@ -2,6 +2,7 @@
 use Rattle.std.specs.Prelude.{ℕ, ◌+◌, ◌||◌, nat_eq, nat_lt, nat_le, is_some, List, length, map, take, None}
 use Rattle.std.specs.List.{list_any}
 use Rattle.std.specs.Str.{bytes_eq}
+use Rattle.cyc_limits.specs.declared.TheConstants.{GREATEST_LOCAL, GREATEST_PROGRAM_VARIABLE, GREATEST_VARIABLE, MOST_ARGUMENTS, MOST_PREDICATES}
 use Rattle.cyc_lex.specs.declared.fault.IllFault.TheVariants.{Duplicate, Parameter, NoLine}
 use Rattle.cyc_lex.specs.declared.fault.What.TheVariants.{Predicates, Arguments, Cases, Locals, Disjuncts, ProgramVariables, Variable}
 use Rattle.heap_syntax.specs.Versions.{most_spatial}
@@ -29,20 +30,20 @@ headings ds = map heading ds
 -- holds in each text whose other parts are within their limits
 abbrev pub term_flaw : Scope → ℕ → NumberedTerm → Found
 term_flaw scope k Nil = None
-term_flaw InGoal k (Universal n primed) = over_if (nat_lt 65534 n) Variable k
-term_flaw InGoal k (Existential n primed) = over_if (nat_lt 65534 n) Variable k
+term_flaw InGoal k (Universal n primed) = over_if (nat_lt GREATEST_VARIABLE n) Variable k
+term_flaw InGoal k (Existential n primed) = over_if (nat_lt GREATEST_VARIABLE n) Variable k
 term_flaw (InCase arity) k (Universal n primed) = ill_if (nat_le arity n) Parameter k
-term_flaw (InCase arity) k (Existential n primed) = over_if (nat_lt 15 n) Locals k
+term_flaw (InCase arity) k (Existential n primed) = over_if (nat_lt GREATEST_LOCAL n) Locals k
 
 -- a program has at most 64 variables
 abbrev pub variable_flaw : ℕ → ℕ → Found
-variable_flaw k v = over_if (nat_lt 63 v) ProgramVariables k
+variable_flaw k v = over_if (nat_lt GREATEST_PROGRAM_VARIABLE v) ProgramVariables k
 
 -- ---- definitions
 
 -- at most eight parameters, no two with one name
 abbrev pub parameter_flaw : List (List ℕ) → ℕ → ℕ → List ℕ → Found
-parameter_flaw ps n k s = or_later (ill_if (list_any (bytes_eq s) (take n ps)) Duplicate k) (over_if (nat_le 8 n) Arguments k)
+parameter_flaw ps n k s = or_later (ill_if (list_any (bytes_eq s) (take n ps)) Duplicate k) (over_if (nat_le MOST_ARGUMENTS n) Arguments k)
 
 abbrev pub parameters_flaw : ℕ → List (List ℕ) → Found
 parameters_flaw k ps = listed_flaw (parameter_flaw ps) parameter_span 0 k ps
@@ -50,7 +51,7 @@ parameters_flaw k ps = listed_flaw (parameter_flaw ps) parameter_span 0 k ps
 -- the name, which no definition before has, and the parameters
 abbrev pub head_flaw : List Heading → ℕ → ℕ → Definition → Found
 head_flaw hs n k d =
-    or_later (over_if (nat_le 4096 n) Predicates k) (or_later (ill_if (is_some (arity_in (take n hs) d.name)) Duplicate (k + 1)) (parameters_flaw (k + 3) d.parameters))
+    or_later (over_if (nat_le MOST_PREDICATES n) Predicates k) (or_later (ill_if (is_some (arity_in (take n hs) d.name)) Duplicate (k + 1)) (parameters_flaw (k + 3) d.parameters))
 
 -- of heaps that have at most so many spatial atoms, by the file's version
 abbrev pub cases_flaw : ℕ → List Heading → ℕ → ℕ → List Heap → Found

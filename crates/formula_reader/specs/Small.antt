@@ -1,5 +1,6 @@
 -- Parts of numbered problems that fit the values' types: numbers of sixteen bits, lists within the limits.
 use Rattle.std.specs.Prelude.{◌≡◌, ◌<◌, ◌≤◌, List, length, map, None}
+use Rattle.cyc_limits.specs.declared.TheConstants.{MOST_ARGUMENTS, MOST_CASES, MOST_DISJUNCTS, MOST_PREDICATES}
 use Rattle.heap_formula.specs.Words.{Each}
 use Rattle.goto_lang.specs.Faults.{program_fault}
 use Rattle.heap_reader.specs.Small.{IsSmallHeap}
@@ -8,14 +9,14 @@ use Rattle.name_numbers.specs.Numbered.{Heap, Definition, Goal, Entailment, From
 use Rattle.formula_reader.specs.Values.{term_value, variable_value}
 
 pub record IsSmallDefinition (d : Definition) : Type 0 where
-  pub parameters : length d.parameters ≤ 8
+  pub parameters : length d.parameters ≤ MOST_ARGUMENTS
   pub cases : Each (IsSmallHeap term_value) d.cases
-  pub few : length d.cases ≤ 16
+  pub few : length d.cases ≤ MOST_CASES
 
 pub record AreSmallDisjuncts (ds : List Heap) : Type 0 where
   pub heaps : Each (IsSmallHeap term_value) ds
   pub some : 0 < length ds
-  pub few : length ds ≤ 16
+  pub few : length ds ≤ MOST_DISJUNCTS
 
 -- an entailment has a disjunct
 abbrev pub HasDisjunct : Goal → Type 0
@@ -28,6 +29,6 @@ IsSmallGoal (From n h) = IsSmallHeap term_value h
 
 pub record IsSmallProblem (p : Problem) : Type 0 where
   pub definitions : Each IsSmallDefinition p.definitions
-  pub few : length p.definitions ≤ 4096
+  pub few : length p.definitions ≤ MOST_PREDICATES
   pub program : program_fault (map (line_value variable_value) p.lines) ≡ None
   pub goal : IsSmallGoal p.goal

@@ -1,4 +1,4 @@
--- How many tokens the parts of a problem file have, the one token behind a part counted in.
+-- How many tokens the parts of a problem file have, the one token after a part counted in.
 use Rattle.std.specs.Prelude.{ℕ, ◌+◌, Bool, true, false, List}
 use Rattle.heap_reader.specs.Spans.{total, total_or, heap_span, line_span}
 use Rattle.name_numbers.specs.declared.tree.NumberedTerm.{NumberedTerm}
@@ -24,22 +24,22 @@ heaps_span hs = total (heap_span term_span) hs
 abbrev pub lines_span : List Line → ℕ
 lines_span ls = total (line_span variable_span) ls
 
--- a comma or ")" stands behind a parameter
+-- a comma or ")" stands after a parameter
 abbrev pub parameter_span : List ℕ → ℕ
 parameter_span s = 2
 
 abbrev pub parameters_span : List (List ℕ) → ℕ
 parameters_span ps = total_or 1 parameter_span ps
 
--- "pred", the name, "(", the parameters, "{", the cases, and ";"; nothing behind it
+-- "pred", the name, "(", the parameters, "{", the cases, and ";"; nothing after it
 abbrev pub definition_span : Definition → ℕ
 definition_span d = 3 + parameters_span d.parameters + 1 + heaps_span d.cases + 1
 
 abbrev pub definitions_span : List Definition → ℕ
 definitions_span ds = total definition_span ds
 
--- "goal", "from", the number and "given" before a state, and ";" behind it; "goal" before an antecedent, the turnstile
--- behind it, and ";" behind the last disjunct; nothing behind
+-- "goal", "from", the number and "given" before a state, and ";" after it; "goal" before an antecedent, the turnstile
+-- after it, and ";" after the last disjunct; nothing after
 abbrev pub goal_span : Goal → ℕ
 goal_span (Entailment h ds) = 1 + heap_span term_span h + heaps_span ds
 goal_span (From n h) = 4 + heap_span term_span h

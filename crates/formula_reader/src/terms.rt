@@ -6,6 +6,7 @@ ghost use Rattle.heap_reader.specs.Flaws.{over_if, IsWalk};
 ghost use Rattle.formula_reader.specs.Spans.{name_span};
 
 use cyc_lex::{IllFault, What};
+use cyc_limits::{GREATEST_LOCAL, GREATEST_PROGRAM_VARIABLE, GREATEST_VARIABLE};
 use heap_formula::Term;
 use heap_reader::{Flaw, TermReader, VariableReader, ill, over};
 use name_numbers::NumberedTerm;
@@ -17,7 +18,7 @@ pub enum Scope {
     Case(usize),
 }
 
-/// The token behind a variable and the one that follows it.
+/// The token after a variable and the one that follows it.
 fn behind(at: usize, primed: bool) -> usize
     requires { at + name_span primed < 2 ^ 64 }
     ensures { result ≡ at + name_span primed }
@@ -27,9 +28,9 @@ fn behind(at: usize, primed: bool) -> usize
 
 fn goal_number(at: usize, n: usize, primed: bool) -> Result<usize, Flaw>
     requires { at + name_span primed < 2 ^ 64 }
-    ensures { IsWalk result (over_if (nat_lt 65534 n) Variable at) (at + name_span primed) }
+    ensures { IsWalk result (over_if (nat_lt GREATEST_VARIABLE n) Variable at) (at + name_span primed) }
 {
-    if n > 65534 {
+    if n > GREATEST_VARIABLE as usize {
         return Err(over(What::Variable, at));
     }
     Ok(behind(at, primed))
@@ -60,7 +61,7 @@ impl TermReader for Scope {
                 Ok(behind(at, primed))
             }
             (Scope::Case(_), NumberedTerm::Existential(n, primed)) => {
-                if n > 15 {
+                if n > GREATEST_LOCAL as usize {
                     return Err(over(What::Locals, at));
                 }
                 Ok(behind(at, primed))
@@ -95,7 +96,7 @@ impl VariableReader for Variables {
     ghost value = { values.variable_value };
 
     fn walk(&self, at: usize, variable: usize) -> Result<usize, Flaw> {
-        if variable > 63 {
+        if variable > GREATEST_PROGRAM_VARIABLE as usize {
             return Err(over(What::ProgramVariables, at));
         }
         Ok(at + 2)

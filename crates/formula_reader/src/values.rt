@@ -7,6 +7,7 @@ ghost use Rattle.formula_reader.specs.Small.{IsSmallDefinition, IsSmallGoal};
 ghost use Rattle.formula_reader.specs.Values.{definition_value as value_of_definition, goal_value};
 
 use crate::terms::Scope;
+use cyc_limits::MOST_PREDICATES;
 use cyc_memory::OutOfMemory;
 use heap_formula::{Def, Judgement};
 use heap_reader::{Heads, definition_value, entailment_value, heap_value};
@@ -19,7 +20,7 @@ fn definition(
     tree: &NumberedDefinition<'_>,
 ) -> Result<Def, OutOfMemory>
     requires small { IsSmallDefinition (definition_of tree.now) }
-    requires few { length heads.now ≤ 4096 }
+    requires few { length heads.now ≤ MOST_PREDICATES }
     ensures { IfOk result (λ d. d ≡ value_of_definition heads.now (definition_of tree.now)) }
 {
     let arity = tree.parameters.len();
@@ -34,7 +35,7 @@ pub fn definitions(
     trees: &[NumberedDefinition<'_>],
 ) -> Result<Vec<Def>, OutOfMemory>
     requires small { Each IsSmallDefinition (map definition_of trees.now) }
-    requires few { length heads.now ≤ 4096 }
+    requires few { length heads.now ≤ MOST_PREDICATES }
     ensures value { IfOk result (λ v. v.items ≡ map (value_of_definition heads.now) (map definition_of trees.now)) }
     ensures size { IfOk result (λ v. length v.items ≡ length trees.now) }
 {
@@ -52,7 +53,7 @@ pub fn goal(
     tree: &NumberedGoal<'_>,
 ) -> Result<Judgement, OutOfMemory>
     requires small { IsSmallGoal (goal_of tree.now) }
-    requires few { length heads.now ≤ 4096 }
+    requires few { length heads.now ≤ MOST_PREDICATES }
     ensures { IfOk result (λ j. j ≡ goal_value heads.now (goal_of tree.now)) }
 {
     match tree {

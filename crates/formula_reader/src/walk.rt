@@ -1,5 +1,5 @@
 //! A walk over a problem's definitions in the order of their tokens, up to the first flaw. Each function is given the number
-//! of the part's first token and gives that of the token behind it and the one that follows every part of its kind.
+//! of the part's first token and gives that of the token after it and the one that follows every part of its kind.
 
 ghost use Rattle.std.specs.Prelude.{◌≡◌, ◌+◌, ◌<◌, ◌≤◌, ◌^◌, length, map, take};
 ghost use Rattle.std.specs.List.{list_any};
@@ -12,6 +12,7 @@ ghost use Rattle.formula_reader.specs.Flaws.{parameter_flaw, parameters_flaw, he
 
 use crate::terms::Scope;
 use cyc_lex::{IllFault, What};
+use cyc_limits::{MOST_ARGUMENTS, MOST_PREDICATES};
 use heap_reader::{Flaw, Heads, ill, over, walk_heaps};
 use name_numbers::NumberedDefinition;
 
@@ -43,7 +44,7 @@ fn parameter(parameters: &[&str], n: usize, at: usize, text: &str) -> Result<usi
     if is_before(parameters, n, text) {
         return Err(ill(IllFault::Duplicate, at));
     }
-    if n >= 8 {
+    if n >= MOST_ARGUMENTS {
         return Err(over(What::Arguments, at));
     }
     Ok(at + 2)
@@ -60,7 +61,7 @@ fn some_parameters(parameters: &[&str], at: usize) -> Result<usize, Flaw>
     Ok(next)
 }
 
-/// The parameters of a predicate and the parenthesis behind them.
+/// The parameters of a predicate and the parenthesis after them.
 fn parameters(parameters: &[&str], at: usize) -> Result<usize, Flaw>
     requires { at + parameters_span (map text_of parameters.now) < 2 ^ 64 }
     ensures { IsWalk result (parameters_flaw at (map text_of parameters.now)) (at + parameters_span (map text_of parameters.now)) }
@@ -71,7 +72,7 @@ fn parameters(parameters: &[&str], at: usize) -> Result<usize, Flaw>
     }
 }
 
-/// The word, the name and the parameters of a definition, and the brace behind them.
+/// The word, the name and the parameters of a definition, and the brace after them.
 fn definition_head(
     heads: &Heads<'_>,
     n: usize,
@@ -82,7 +83,7 @@ fn definition_head(
     requires fits { at + definition_span (definition_of tree.now) < 2 ^ 64 }
     ensures { IsWalk result (head_flaw heads.now n at (definition_of tree.now)) (at + 3 + parameters_span (definition_of tree.now).parameters + 1) }
 {
-    if n >= 4096 {
+    if n >= MOST_PREDICATES {
         return Err(over(What::Predicates, at));
     }
     if heads.has_among(n, tree.name) {
@@ -109,7 +110,7 @@ fn definition(
     Ok(behind + 1)
 }
 
-/// Goes over definitions, the first of which begins at a token, and gives the token behind them. A heap has at most `most`
+/// Goes over definitions, the first of which begins at a token, and gives the token after them. A heap has at most `most`
 /// spatial atoms.
 pub fn definitions(
     heads: &Heads<'_>,

@@ -11,7 +11,7 @@ const E: Term = Term::Exist(0);
 
 const END: HeapRow = HeapRow(&[Pure::Eq(X, Term::Nil)], &[]);
 
-/// A cell at x, and the predicate behind it.
+/// A cell at x, and the predicate after it.
 const LIST: HeapRow = HeapRow(&[], &[Shape::At(X, &[E]), Shape::Pred(0, &[E])]);
 
 const OF_ANOTHER: HeapRow = HeapRow(&[], &[Shape::At(X, &[E]), Shape::Pred(1, &[E])]);

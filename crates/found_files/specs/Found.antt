@@ -1,5 +1,6 @@
 -- What a search finds, as a proof.
 use Rattle.std.specs.Prelude.{◌≡◌, ◌<◌, ◌≤◌, List, [], Some, length, slice_get}
+use Rattle.cyc_limits.specs.declared.TheConstants.{MOST_NODES, MOST_SPATIAL}
 use Rattle.heap_formula.specs.declared.judgements.Judgement.{Judgement}
 use Rattle.heap_formula.specs.declared.proof_rules.Reason.{Reason}
 use Rattle.heap_formula.specs.Words.{Each}
@@ -18,7 +19,7 @@ use Rattle.found_files.specs.Files.{nodes_made}
 -- a problem within the limits of a proof file
 pub record IsWithinLimits (t : Theory) (goal : Judgement) : Type 0 where
   pub some : 0 < t.most
-  pub most : t.most ≤ 32
+  pub most : t.most ≤ MOST_SPATIAL
   pub definitions : Each (IsDefinitionWithin t.most t.definitions) t.definitions
   pub program : IsProgram t.lines
   pub goal_within : IsJudgementWithin t.most t.definitions (length t.lines) goal
@@ -32,7 +33,7 @@ pub record AreProof (t : Theory) (goal : Judgement) (nodes : List FileNode) : Ty
   pub paths : AllProgress (graph_of t.most t.definitions t.lines (nodes_of nodes))
   pub states : HasAtMost (graph_of t.most t.definitions t.lines (nodes_of nodes)) state_limit
   pub within : Each (IsNodeWithin t.most t.definitions (length t.lines)) nodes
-  pub few : length nodes ≤ 20000
+  pub few : length nodes ≤ MOST_NODES
 
 -- the reasons make a proof of the goal, with no goal left open
 pub record MakesProof (t : Theory) (goal : Judgement) (reasons : List Reason) : Type 0 where

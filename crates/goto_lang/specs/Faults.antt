@@ -1,6 +1,7 @@
 -- Why numbered lines are no program: the first fault in the order of the text.
 use Rattle.std.specs.Prelude.{◌≡◌, ℕ, ◌+◌, Result, Ok, Err, List, [], ◌∷◌, length, Bool, true, false, not, ◌&&◌, ◌||◌, nat_eq, nat_lt, if◌then◌else◌, Option, Some, None}
 use Rattle.std.specs.Option.{option_or}
+use Rattle.cyc_limits.specs.declared.TheConstants.{GREATEST_PROGRAM_VARIABLE, MOST_ARGUMENTS, MOST_LINES}
 use Rattle.heap_formula.specs.declared.terms.Term.{Term}
 use Rattle.heap_formula.specs.declared.terms.Term.TheVariants.{Nil, Univ, Exist}
 use Rattle.heap_formula.specs.declared.commands.Command.{Command}
@@ -10,7 +11,7 @@ use Rattle.goto_lang.specs.declared.faults.ProgramFault.{ProgramFault}
 use Rattle.goto_lang.specs.declared.faults.ProgramFault.TheVariants.{Jump, FallsOff, Numbering, Limit, OutOfMemory}
 
 abbrev pub variable_fault : ℕ → Option ProgramFault
-variable_fault x = if nat_lt 63 x then Some (Limit ProgramVariables) else None
+variable_fault x = if nat_lt GREATEST_PROGRAM_VARIABLE x then Some (Limit ProgramVariables) else None
 
 abbrev pub term_fault : Term → Option ProgramFault
 term_fault Nil = None
@@ -19,7 +20,7 @@ term_fault (Exist x) = None
 
 -- a number of fields, or of a field
 abbrev pub field_fault : ℕ → Option ProgramFault
-field_fault k = if nat_eq k 0 || nat_lt 8 k then Some (Limit Fields) else None
+field_fault k = if nat_eq k 0 || nat_lt MOST_ARGUMENTS k then Some (Limit Fields) else None
 
 -- line i of n goes to line j
 abbrev pub jump_fault : ℕ → ℕ → ℕ → Option ProgramFault
@@ -48,7 +49,7 @@ goes_on x = true
 abbrev pub line_fault : ℕ → ℕ → ℕ × Command → Option ProgramFault
 line_fault n i l =
     if nat_eq i n && goes_on l.1 then Some FallsOff
-    else if nat_lt 4096 i then Some (Limit Lines)
+    else if nat_lt MOST_LINES i then Some (Limit Lines)
     else if not (nat_eq l.0 i) then Some (Numbering i)
     else command_fault n i l.1
 

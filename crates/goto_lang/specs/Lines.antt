@@ -1,5 +1,6 @@
 -- What the lines of a program keep.
 use Rattle.std.specs.Prelude.{◌≡◌, ℕ, ◌<◌, ◌≤◌, List, map, length, Some}
+use Rattle.cyc_limits.specs.declared.TheConstants.{MOST_ARGUMENTS, MOST_LINES, MOST_VARIABLES}
 use Rattle.heap_formula.specs.declared.commands.Command.{Command}
 use Rattle.heap_formula.specs.declared.commands.Command.TheVariants.{Assign, Load, Store, New, Free, IfEq, IfNeq, IfAny, Goto, Stop}
 use Rattle.heap_formula.specs.Words.{Each}
@@ -24,7 +25,7 @@ abbrev pub commands_of : List (ℕ × Command) → List Command
 commands_of ls = map (λ l. l.1) ls
 
 abbrev pub IsFieldNumber : ℕ → Type 0
-IsFieldNumber k = (0 < k) × (k ≤ 8)
+IsFieldNumber k = (0 < k) × (k ≤ MOST_ARGUMENTS)
 
 abbrev pub IsLineOf : ℕ → ℕ → Type 0
 IsLineOf n j = (0 < j) × (j ≤ n)
@@ -44,7 +45,7 @@ MayStandAt n i Stop = Unit {0}
 
 -- at most 4,096 lines and 64 variables; each command may stand at its line
 pub record IsProgram (lines : List Command) : Type 0 where
-  pub few_lines : length lines ≤ 4096
-  pub few_variables : program_variables lines ≤ 64
+  pub few_lines : length lines ≤ MOST_LINES
+  pub few_variables : program_variables lines ≤ MOST_VARIABLES
   pub commands : (i : ℕ) (x : Command) → counted_from_one lines i ≡ Some x → MayStandAt (length lines) i x
   pub universal : Each IsUniversalCommand lines

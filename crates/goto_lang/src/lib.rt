@@ -15,7 +15,7 @@ pub use cells::Cells;
 pub use configs::Config;
 pub use faults::ProgramFault;
 pub use laws::{lowest_steps_are_steps, some_step_is_allowed, successors_are_steps};
-pub use programs::{MOST_LINES, MOST_VARIABLES, Program};
+pub use programs::Program;
 pub use runs::{Ran, run_lowest};
 pub use stacks::Stack;
 pub use steps::{Stepped, step};

@@ -7,15 +7,10 @@ ghost use Rattle.goto_lang.specs.Faults.{variable_fault, term_fault, field_fault
 ghost use Rattle.goto_lang.specs.Lines.{IsUniversalCommand, commands_of, IsProgram};
 
 use crate::faults::ProgramFault;
+use cyc_limits::{MOST_ARGUMENTS, MOST_LINES, MOST_VARIABLES};
 use heap_formula::{Command, Count, Term};
 use std::alloc::{AllocError, Global};
 use std::marker::Model;
-
-/// The greatest number of lines.
-pub const MOST_LINES: usize = 4096;
-
-/// The greatest number of program variables.
-pub const MOST_VARIABLES: u16 = 64;
 
 /// A program: the commands of its lines in order. Each jump leads to one of the lines, and the last line is `stop` or
 /// `goto`, so a run never leaves them. No lines are a program too.
@@ -48,7 +43,7 @@ impl Clone for Program {
 fn fault_of_variable(variable: u16) -> Option<ProgramFault>
     ensures { result ≡ variable_fault variable }
 {
-    if variable >= MOST_VARIABLES {
+    if u32::from(variable) >= MOST_VARIABLES {
         Some(ProgramFault::Limit(Count::ProgramVariables))
     } else {
         None
@@ -67,7 +62,7 @@ fn fault_of_term(term: Term) -> Option<ProgramFault>
 fn fault_of_field(k: u8) -> Option<ProgramFault>
     ensures { result ≡ field_fault k }
 {
-    if k == 0 || k > 8 {
+    if k == 0 || k > MOST_ARGUMENTS as u8 {
         Some(ProgramFault::Limit(Count::Fields))
     } else {
         None

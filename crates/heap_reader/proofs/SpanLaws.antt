@@ -37,7 +37,7 @@ between default c a span one (x ∷ xs) f =
     let l = length-append (a.words x) (words_many (after c a) xs) in
     omega arith
 
--- members with a word between neighbours and one behind the last
+-- members with a word between neighbours and one after the last
 pub listed_words : {A : Type 0} (default : A) (c behind : Class (Unit {0})) (a : Syntax A) (span : A → ℕ) → ((x : A) → a.fits x → length (a.words x) + 1 ≡ span x) → (xs : List A) → (listed default c behind a).fits xs → length ((listed default c behind a).words xs) ≡ total span xs
 unfolding listed
 listed_words default c behind a span one [] f = absurd (omega (arith, f.0))
@@ -124,7 +124,7 @@ module _ {V : Type 0} (v : Syntax V) (span : V → ℕ) (variable_words : (x : V
   operand_words Nil f = refl
   operand_words (Variable x) f = variable_words x f.1
 
-  -- the word behind the variable, and what follows it
+  -- the word after the variable, and what follows it
   change_words : (c : ChangeTree V) → (change v).fits c → length ((change v).words c) ≡ 1 + change_span span c
   unfolding change store source field last_number
   change_words (New n) f = refl
@@ -141,7 +141,7 @@ module _ {V : Type 0} (v : Syntax V) (span : V → ℕ) (variable_words : (x : V
       let l = length-append ((operand v).words t) (semicolon.word tt ∷ []) in
       omega arith
 
-  -- the word "if" and what stands behind it
+  -- the word "if" and what stands after it
   branch_words : (p : Branch V) → (branch v).fits p → 1 + length ((branch v).words p) ≡ command_span span (If p.0 p.1.0 p.1.1.0 p.1.1.1)
   unfolding branch last_number
   branch_words p f =

@@ -1,6 +1,7 @@
 -- The first flaw of a text that the grammar has: what is ill-formed or passes a limit, and at which token.
 use Rattle.std.specs.Prelude.{◌≡◌, ℕ, suc, ◌+◌, Bool, true, false, not, nat_eq, nat_le, if◌then◌else◌, List, [], ◌∷◌, length, Option, Some, None, Result, Ok, Err}
 use Rattle.std.specs.Str.{bytes_eq}
+use Rattle.cyc_limits.specs.declared.TheConstants.{MOST_ARGUMENTS, MOST_DISJUNCTS, MOST_PURE}
 use Rattle.cyc_lex.specs.declared.fault.IllFault.{IllFault}
 use Rattle.cyc_lex.specs.declared.fault.IllFault.TheVariants.{Unknown, Arity}
 use Rattle.cyc_lex.specs.declared.fault.What.{What}
@@ -51,14 +52,14 @@ use_flaw (Some arity) n k = ill_if (not (nat_eq n arity)) Arity k
 module _ {T : Type 0} (flaw : ℕ → T → Found) (span : T → ℕ) where
   -- at most eight
   abbrev pub argument_flaw : ℕ → ℕ → T → Found
-  argument_flaw n k t = or_later (over_if (nat_le 8 n) Arguments k) (flaw k t)
+  argument_flaw n k t = or_later (over_if (nat_le MOST_ARGUMENTS n) Arguments k) (flaw k t)
 
   abbrev pub arguments_flaw : ℕ → List T → Found
   arguments_flaw k ts = listed_flaw argument_flaw span 0 k ts
 
   -- at most 64
   abbrev pub pure_flaw : ℕ → ℕ → PureTree T → Found
-  pure_flaw n k x = or_later (over_if (nat_le 64 n) Pure k) (or_later (flaw k x.left) (flaw (k + span x.left) x.right))
+  pure_flaw n k x = or_later (over_if (nat_le MOST_PURE n) Pure k) (or_later (flaw k x.left) (flaw (k + span x.left) x.right))
 
   -- a cell of a heap that has at most so many spatial atoms
   abbrev pub cell_flaw : ℕ → ℕ → ℕ → T → List T → Found
@@ -78,14 +79,14 @@ module _ {T : Type 0} (flaw : ℕ → T → Found) (span : T → ℕ) where
 
     -- at most sixteen of what is counted
     abbrev pub counted_flaw : What → ℕ → ℕ → Heap T → Found
-    counted_flaw what n k h = or_later (over_if (nat_le 16 n) what k) (heap_flaw k h)
+    counted_flaw what n k h = or_later (over_if (nat_le MOST_DISJUNCTS n) what k) (heap_flaw k h)
 
     abbrev pub heaps_flaw : What → ℕ → List (Heap T) → Found
     heaps_flaw what k heaps = listed_flaw (counted_flaw what) (heap_span span) 0 k heaps
 
 -- ---- answers
 
--- the walk ends behind the part where it has no flaw, and else names the first
+-- the walk ends after the part where it has no flaw, and else names the first
 abbrev pub IsWalk : Result ℕ Flaw → Found → ℕ → Type 0
 IsWalk (Ok next) found behind = (found ≡ None) × (next ≡ behind)
 IsWalk (Err flaw) found behind = found ≡ Some flaw

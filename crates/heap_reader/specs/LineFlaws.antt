@@ -1,5 +1,6 @@
 -- The first flaw of a program's lines, each part of which begins at token k.
 use Rattle.std.specs.Prelude.{ℕ, suc, ◌+◌, Bool, true, false, not, ◌&&◌, ◌||◌, nat_eq, nat_lt, nat_le, List, length, None}
+use Rattle.cyc_limits.specs.declared.TheConstants.{MOST_ARGUMENTS, MOST_LINES}
 use Rattle.cyc_lex.specs.declared.fault.IllFault.TheVariants.{Numbering, Jump, FallsOff}
 use Rattle.cyc_lex.specs.declared.fault.What.TheVariants.{Lines, Fields}
 use Rattle.command_syntax.specs.declared.tree.OperandTree.{OperandTree}
@@ -14,13 +15,13 @@ use Rattle.heap_reader.specs.Flaws.{Found, ill_if, over_if, or_later, listed_fla
 
 -- a number of fields, or of a field, is 1 to 8
 abbrev pub field_flaw : ℕ → ℕ → Found
-field_flaw k n = over_if (nat_eq n 0 || nat_lt 8 n) Fields k
+field_flaw k n = over_if (nat_eq n 0 || nat_lt MOST_ARGUMENTS n) Fields k
 
 -- a jump leads to one of so many lines
 abbrev pub jump_flaw : ℕ → ℕ → ℕ → Found
 jump_flaw count k n = ill_if (nat_eq n 0 || nat_lt count n) Jump k
 
--- behind the command the next line may follow
+-- after the command the next line may follow
 abbrev pub goes_on : {V : Type 0} → CommandTree V → Bool
 goes_on Stop = false
 goes_on (Goto n) = false
@@ -30,11 +31,11 @@ goes_on (IfAny n) = true
 goes_on (StoreAtNil n t) = true
 goes_on (Change v c) = true
 
--- the number of the line at place n, from 0, of so many lines, behind which the next may follow or not: the last may not
+-- the number of the line at place n, from 0, of so many lines, after which the next may follow or not: the last may not
 -- fall off; at most 4,096; the number is the place counted from 1
 abbrev pub line_head_flaw : ℕ → ℕ → ℕ → ℕ → Bool → Found
 line_head_flaw count n k number follows =
-    or_later (ill_if (nat_eq (suc n) count && follows) FallsOff k) (or_later (over_if (nat_le 4096 n) Lines k) (ill_if (not (nat_eq number (suc n))) Numbering (k + 1)))
+    or_later (ill_if (nat_eq (suc n) count && follows) FallsOff k) (or_later (over_if (nat_le MOST_LINES n) Lines k) (ill_if (not (nat_eq number (suc n))) Numbering (k + 1)))
 
 -- over the flaw and the span of a variable
 module _ {V : Type 0} (flaw : ℕ → V → Found) (span : V → ℕ) where
@@ -42,7 +43,7 @@ module _ {V : Type 0} (flaw : ℕ → V → Found) (span : V → ℕ) where
   operand_flaw k Nil = None
   operand_flaw k (Variable v) = flaw k v
 
-  -- what stands behind a variable and the word behind it
+  -- what stands after a variable and the word after it
   abbrev pub change_flaw : ℕ → ChangeTree V → Found
   change_flaw k (New n) = field_flaw (k + 1) n
   change_flaw k (Assign t) = operand_flaw k t

@@ -1,5 +1,6 @@
 -- Parts of trees that fit the values' types: numbers of 16 bits, lists within the limits; over the value of a term.
 use Rattle.std.specs.Prelude.{ℕ, ◌<◌, ◌≤◌, List, length}
+use Rattle.cyc_limits.specs.declared.TheConstants.{MOST_ARGUMENTS, MOST_PURE, MOST_SPATIAL}
 use Rattle.heap_formula.specs.declared.terms.Term.{Term}
 use Rattle.heap_formula.specs.declared.terms.Term.TheVariants.{Nil, Univ, Exist}
 use Rattle.heap_formula.specs.declared.commands.Command.{Command}
@@ -18,7 +19,7 @@ module _ {T : Type 0} (value : T → Term) where
   IsSmall t = IsSmallTerm (value t)
 
   abbrev pub AreSmallTerms : List T → Type 0
-  AreSmallTerms ts = Each IsSmall ts × (length ts ≤ 8)
+  AreSmallTerms ts = Each IsSmall ts × (length ts ≤ MOST_ARGUMENTS)
 
   abbrev pub IsSmallPure : PureTree T → Type 0
   IsSmallPure x = IsSmall x.left × IsSmall x.right
@@ -29,9 +30,9 @@ module _ {T : Type 0} (value : T → Term) where
 
   pub record IsSmallHeap (h : Heap T) : Type 0 where
     pub pure : Each IsSmallPure h.pure
-    pub pure_few : length h.pure ≤ 64
+    pub pure_few : length h.pure ≤ MOST_PURE
     pub spatial : Each IsSmallSpatial h.spatial
-    pub spatial_few : length h.spatial ≤ 32
+    pub spatial_few : length h.spatial ≤ MOST_SPATIAL
 
 -- ---- lines
 

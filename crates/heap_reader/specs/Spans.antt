@@ -1,4 +1,4 @@
--- How many tokens the parts of a text have, the one token behind a part counted in.
+-- How many tokens the parts of a text have, the one token after a part counted in.
 use Rattle.std.specs.Prelude.{ℕ, ◌+◌, List, [], ◌∷◌}
 use Rattle.heap_syntax.specs.declared.tree.PureTree.{PureTree}
 use Rattle.heap_syntax.specs.Trees.{Spatial, Cell, Predicate, Heap}
@@ -22,7 +22,7 @@ total_or empty span (x ∷ xs) = total span (x ∷ xs)
 
 -- ---- heaps, over the span of a term
 
--- the sign stands behind the left side
+-- the sign stands after the left side
 abbrev pub pure_span : {T : Type 0} → (T → ℕ) → PureTree T → ℕ
 pure_span span x = span x.left + span x.right
 
@@ -30,7 +30,7 @@ pure_span span x = span x.left + span x.right
 abbrev pub pures_span : {T : Type 0} → (T → ℕ) → List (PureTree T) → ℕ
 pures_span span xs = total_or 2 (pure_span span) xs
 
--- the arrow stands behind the address, then "(", and ")" behind the last field
+-- the arrow stands after the address, then "(", and ")" after the last field
 abbrev pub spatial_span : {T : Type 0} → (T → ℕ) → Spatial T → ℕ
 spatial_span span (Cell t ts) = span t + 1 + total span ts + 1
 spatial_span span (Predicate name ts) = 2 + total_or 1 span ts + 1
@@ -39,7 +39,7 @@ spatial_span span (Predicate name ts) = 2 + total_or 1 span ts + 1
 abbrev pub spatials_span : {T : Type 0} → (T → ℕ) → List (Spatial T) → ℕ
 spatials_span span xs = total_or 2 (spatial_span span) xs
 
--- the colon stands behind the pure atoms
+-- the colon stands after the pure atoms
 abbrev pub heap_span : {T : Type 0} → (T → ℕ) → Heap T → ℕ
 heap_span span h = pures_span span h.pure + spatials_span span h.spatial
 
@@ -49,14 +49,14 @@ abbrev pub operand_span : {V : Type 0} → (V → ℕ) → OperandTree V → ℕ
 operand_span span Nil = 2
 operand_span span (Variable v) = span v
 
--- what stands behind the variable and the word behind it, and the semicolon
+-- what stands after the variable and the word after it, and the semicolon
 abbrev pub change_span : {V : Type 0} → (V → ℕ) → ChangeTree V → ℕ
 change_span span (New n) = 3
 change_span span (Assign t) = operand_span span t
 change_span span (Load t n) = operand_span span t + 2
 change_span span (Store n t) = 2 + operand_span span t
 
--- the semicolon stands behind a command
+-- the semicolon stands after a command
 abbrev pub command_span : {V : Type 0} → (V → ℕ) → CommandTree V → ℕ
 command_span span Stop = 2
 command_span span (IfAny n) = 5
@@ -66,6 +66,6 @@ command_span span (If t b u n) = 1 + operand_span span t + operand_span span u +
 command_span span (StoreAtNil n t) = 4 + operand_span span t
 command_span span (Change v c) = span v + change_span span c
 
--- "line", the number, ":" and the command; nothing behind it
+-- "line", the number, ":" and the command; nothing after it
 abbrev pub line_span : {V : Type 0} → (V → ℕ) → LineTree V → ℕ
 line_span span l = 3 + command_span span l.command

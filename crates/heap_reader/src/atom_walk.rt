@@ -1,5 +1,5 @@
 // A walk over atoms in the order of their tokens, up to the first flaw. Each function is given the number of the part's
-// first token and gives that of the token behind it and the one that follows every part of its kind.
+// first token and gives that of the token after it and the one that follows every part of its kind.
 ghost use Rattle.std.specs.Prelude.{◌+◌, ◌<◌, ◌^◌};
 ghost use Rattle.heap_syntax.specs.Trees.{Cell, Predicate};
 ghost use Rattle.heap_reader.specs.Trees.{spatial_of};
@@ -10,13 +10,14 @@ use crate::flaw::{Flaw, ill, over};
 use crate::form::TermReader;
 use crate::head::Heads;
 use cyc_lex::{IllFault, What};
+use cyc_limits::{MOST_ARGUMENTS, MOST_PURE};
 use heap_syntax::{PureTree, SpatialTree};
 
 fn argument<F: TermReader>(form: &F, n: usize, at: usize, term: F::Term) -> Result<usize, Flaw>
     requires { at + F.span term < 2 ^ 64 }
     ensures { IsWalk result (argument_flaw (F.flaw form.now) F.span n at term) (at + F.span term) }
 {
-    if n >= 8 {
+    if n >= MOST_ARGUMENTS {
         return Err(over(What::Arguments, at));
     }
     form.walk(at, term)
@@ -43,7 +44,7 @@ fn pure_atom<F: TermReader>(
     requires { at + pure_span F.span tree < 2 ^ 64 }
     ensures { IsWalk result (pure_flaw (F.flaw form.now) F.span n at tree) (at + pure_span F.span tree) }
 {
-    if n >= 64 {
+    if n >= MOST_PURE {
         return Err(over(What::Pure, at));
     }
     let right = form.walk(at, tree.left)?;
@@ -100,7 +101,7 @@ fn cell<F: TermReader>(
     Ok(behind + 1)
 }
 
-/// The arguments of a predicate and the parenthesis behind them.
+/// The arguments of a predicate and the parenthesis after them.
 fn argument_part<F: TermReader>(form: &F, at: usize, terms: &[F::Term]) -> Result<usize, Flaw>
     requires { at + total_or 1 F.span terms.now < 2 ^ 64 }
     ensures { IsWalk result (arguments_flaw (F.flaw form.now) F.span at terms.now) (at + total_or 1 F.span terms.now) }

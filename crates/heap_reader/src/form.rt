@@ -13,7 +13,7 @@ pub trait TermReader {
     /// A term, which holds nothing borrowed.
     type Term: Copy + Drop;
 
-    /// The tokens of a term and the one behind it.
+    /// The tokens of a term and the one after it.
     ghost span: { Self.Term → ℕ };
 
     /// The first flaw of a term that begins at a token.
@@ -22,7 +22,7 @@ pub trait TermReader {
     /// What a term says.
     ghost value: { Self.Term → TermValue };
 
-    /// Goes over a term that begins at a token, and gives the token behind it and the one that follows it.
+    /// Goes over a term that begins at a token, and gives the token after it and the one that follows it.
     fn walk(&self, at: usize, term: Self::Term) -> Result<usize, Flaw>
         requires { at + span term < 2 ^ 64 }
         ensures { IsWalk result (flaw self.now at term) (at + span term) };
@@ -38,7 +38,7 @@ pub trait VariableReader {
     /// A variable, which holds nothing borrowed.
     type Variable: Copy + Drop;
 
-    /// The tokens of a variable and the one behind it.
+    /// The tokens of a variable and the one after it.
     ghost span: { Self.Variable → ℕ };
 
     /// The first flaw of a variable that begins at a token.
@@ -47,7 +47,7 @@ pub trait VariableReader {
     /// The number of a variable.
     ghost value: { Self.Variable → ℕ };
 
-    /// Goes over a variable that begins at a token, and gives the token behind it and the one that follows it.
+    /// Goes over a variable that begins at a token, and gives the token after it and the one that follows it.
     fn walk(&self, at: usize, variable: Self::Variable) -> Result<usize, Flaw>
         requires { at + span variable < 2 ^ 64 }
         ensures { IsWalk result (flaw self.now at variable) (at + span variable) };

@@ -9,6 +9,7 @@ use crate::flaw::{Flaw, over};
 use crate::form::TermReader;
 use crate::head::Heads;
 use cyc_lex::What;
+use cyc_limits::MOST_DISJUNCTS;
 use heap_syntax::{HeapTree, SpatialTree};
 
 fn spatial_atoms<F: TermReader>(
@@ -45,7 +46,7 @@ fn spatial_part<F: TermReader>(
     }
 }
 
-/// Goes over a heap that begins at a token, and gives the token behind it and the one that follows it. Its predicates
+/// Goes over a heap that begins at a token, and gives the token after it and the one that follows it. Its predicates
 /// are compared with the heads; a heap has at most 64 pure atoms, and at most `most` spatial ones.
 pub fn walk_heap<F: TermReader>(
     heads: &Heads<'_>,
@@ -73,7 +74,7 @@ fn counted_heap<F: TermReader>(
     requires { at + heap_span F.span (heap_of tree.now) < 2 ^ 64 }
     ensures { IsWalk result (counted_flaw (F.flaw form.now) F.span most heads.now what n at (heap_of tree.now)) (at + heap_span F.span (heap_of tree.now)) }
 {
-    if n >= 16 {
+    if n >= MOST_DISJUNCTS {
         return Err(over(what, at));
     }
     walk_heap(heads, form, most, at, tree)

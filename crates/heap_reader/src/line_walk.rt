@@ -9,12 +9,13 @@ use crate::flaw::{Flaw, ill, over};
 use crate::form::VariableReader;
 use command_syntax::{ChangeTree, CommandTree, LineTree, OperandTree};
 use cyc_lex::{IllFault, What};
+use cyc_limits::{MOST_ARGUMENTS, MOST_LINES};
 
 /// A number of fields, or of a field, at a token.
 fn field_number(at: usize, number: u32) -> Result<(), Flaw>
     ensures { IsName result (flaw_of_field at number) }
 {
-    if number == 0 || number > 8 {
+    if number == 0 || number > MOST_ARGUMENTS as u32 {
         return Err(over(What::Fields, at));
     }
     Ok(())
@@ -72,7 +73,7 @@ fn store<F: VariableReader>(
     operand(form, at + 2, value)
 }
 
-/// What stands behind a variable and the word behind it, and the semicolon.
+/// What stands after a variable and the word after it, and the semicolon.
 fn change<F: VariableReader>(
     form: &F,
     at: usize,
@@ -157,7 +158,7 @@ fn line_head(count: usize, n: usize, at: usize, number: u32, follows: bool) -> R
     if n + 1 == count && follows {
         return Err(ill(IllFault::FallsOff, at));
     }
-    if n >= 4096 {
+    if n >= MOST_LINES {
         return Err(over(What::Lines, at));
     }
     if number as usize != n + 1 {
@@ -181,7 +182,7 @@ fn line<F: VariableReader>(
     command(form, count, at + 3, tree.command)
 }
 
-/// Goes over the lines of a program, the first of which begins at a token, and gives the token behind them. There are at
+/// Goes over the lines of a program, the first of which begins at a token, and gives the token after them. There are at
 /// most 4,096 lines, each numbered by its place from 1; jumps lead to lines, and the last line stops or jumps.
 pub fn walk_lines<F: VariableReader>(
     form: &F,

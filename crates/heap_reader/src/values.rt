@@ -7,6 +7,7 @@ ghost use Rattle.heap_reader.specs.Values.{pure_value, spatial_value, heap_value
 
 use crate::form::TermReader;
 use crate::head::Heads;
+use cyc_limits::{MOST_ARGUMENTS, MOST_DISJUNCTS, MOST_PREDICATES};
 use cyc_memory::OutOfMemory;
 use heap_formula::{Args, Cases, Def, DefName, Disjuncts, Heap, Judgement, Pure, Spatial, Term};
 use heap_syntax::{HeapTree, PureTree, SpatialTree};
@@ -14,7 +15,7 @@ use std::alloc::Global;
 
 fn args<F: TermReader>(form: &F, trees: &[F::Term]) -> Args
     requires small { Each (IsSmall F.value) trees.now }
-    requires few { length trees.now ≤ 8 }
+    requires few { length trees.now ≤ MOST_ARGUMENTS }
     ensures { result ≡ map F.value trees.now }
 {
     let mut terms = [Term::Nil; 8];
@@ -57,7 +58,7 @@ fn spatial_atom<F: TermReader>(
     tree: &SpatialTree<'_, F::Term>,
 ) -> Spatial
     requires small { IsSmallSpatial F.value (spatial_of tree.now) }
-    requires few { length heads.now ≤ 4096 }
+    requires few { length heads.now ≤ MOST_PREDICATES }
     ensures { result ≡ spatial_value F.value heads.now (spatial_of tree.now) }
 {
     match tree {
@@ -77,7 +78,7 @@ fn spatial_atoms<F: TermReader>(
     trees: &[SpatialTree<'_, F::Term>],
 ) -> Result<Vec<Spatial>, OutOfMemory>
     requires small { Each (IsSmallSpatial F.value) (map spatial_of trees.now) }
-    requires few { length heads.now ≤ 4096 }
+    requires few { length heads.now ≤ MOST_PREDICATES }
     ensures value { IfOk result (λ v. v.items ≡ map (spatial_value F.value heads.now) (map spatial_of trees.now)) }
     ensures size { IfOk result (λ v. length v.items ≡ length trees.now) }
 {
@@ -96,7 +97,7 @@ pub fn heap_value<F: TermReader>(
     tree: &HeapTree<'_, F::Term>,
 ) -> Result<Heap, OutOfMemory>
     requires small { IsSmallHeap F.value (heap_of tree.now) }
-    requires few { length heads.now ≤ 4096 }
+    requires few { length heads.now ≤ MOST_PREDICATES }
     ensures { IfOk result (λ h. h ≡ value_of_heap F.value heads.now (heap_of tree.now)) }
 {
     let pure = pure_atoms(alloc, form, &tree.pure)?;
@@ -112,7 +113,7 @@ pub fn heap_values<F: TermReader>(
     trees: &[HeapTree<'_, F::Term>],
 ) -> Result<Vec<Heap>, OutOfMemory>
     requires small { Each (IsSmallHeap F.value) (map heap_of trees.now) }
-    requires few { length heads.now ≤ 4096 }
+    requires few { length heads.now ≤ MOST_PREDICATES }
     ensures value { IfOk result (λ v. v.items ≡ map (value_of_heap F.value heads.now) (map heap_of trees.now)) }
     ensures size { IfOk result (λ v. length v.items ≡ length trees.now) }
 {
@@ -133,7 +134,7 @@ pub fn definition_value<F: TermReader>(
     cases: &[HeapTree<'_, F::Term>],
 ) -> Result<Def, OutOfMemory>
     requires small { Each (IsSmallHeap F.value) (map heap_of cases.now) }
-    requires few { length heads.now ≤ 4096 }
+    requires few { length heads.now ≤ MOST_PREDICATES }
     ensures { IfOk result (λ d. d ≡ value_of_definition F.value heads.now name.now arity (map heap_of cases.now)) }
 {
     let name = String::from_str(alloc, name)?;
@@ -156,8 +157,8 @@ pub fn entailment_value<F: TermReader>(
     requires left { IsSmallHeap F.value (heap_of antecedent.now) }
     requires right { Each (IsSmallHeap F.value) (map heap_of disjuncts.now) }
     requires some { 0 < length disjuncts.now }
-    requires most { length disjuncts.now ≤ 16 }
-    requires few { length heads.now ≤ 4096 }
+    requires most { length disjuncts.now ≤ MOST_DISJUNCTS }
+    requires few { length heads.now ≤ MOST_PREDICATES }
     ensures { IfOk result (λ j. j ≡ value_of_entailment F.value heads.now (heap_of antecedent.now) (map heap_of disjuncts.now)) }
 {
     let antecedent = heap_value(alloc, heads, form, antecedent)?;

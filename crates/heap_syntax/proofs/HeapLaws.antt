@@ -29,7 +29,7 @@ list-end c a closed d h [] f = h
 list-end c a closed d h (x ∷ []) f = rw (h, closed x d f.0) refl
 list-end c a closed d h (x ∷ y ∷ ys) f = list-end c a closed d h (y ∷ ys) f.1
 
--- ---- one or more, with a word between neighbours and one behind
+-- ---- one or more, with a word between neighbours and one after
 
 -- two different words, neither of which goes on an item
 pub record Between {A : Type 0} (between behind : Class (Unit {0})) (a : Syntax A) : Type 0 where
@@ -306,7 +306,7 @@ pub heap-end : {T : Type 0} (t : Terms T) (atom : Syntax (Spatial T)) → AtomLa
 unfolding heap
 heap-end t atom b d h x f = spatials-end t atom b d h x.spatial f.1.1
 
--- two words that are no '*', behind heaps
+-- two words that are no '*', after heaps
 pub heaps-law : {T : Type 0} (m n : Class (Unit {0})) (t : Terms T) (atom : Syntax (Spatial T)) → ClassLaw m → ClassLaw n → is_one star (m.word tt) ≡ false → is_one star (n.word tt) ≡ false → is_one m (n.word tt) ≡ false → TermLaw t → AtomLaw atom → Lawful (heaps m n (heap t atom))
 heaps-law m n t atom lm ln sm sn differ a b =
     listed-law some_heap m n (heap t atom) (record { law = lm; last = ln; apart = λ x f. heap-end t atom b (m.word tt) sm x f; last_apart = λ x f. heap-end t atom b (n.word tt) sn x f; differ = differ }) (heap-law t atom a b)

@@ -16,7 +16,7 @@ cons p = p.0 ∷ p.1
 abbrev pub IsSome : {A : Type 0} → List A → Type 0
 IsSome xs = 0 < length xs
 
--- one a or more, with a word between neighbours, and a word behind the last
+-- one a or more, with a word between neighbours, and a word after the last
 abbrev pub more_listed : {A : Type 0} → Class (Unit {0}) → Syntax A → Syntax (List A)
 more_listed between a = many (is_one between) (after between a)
 
@@ -50,7 +50,7 @@ from_pure p = (p.left, (p.is_equation, p.right))
 unfoldable pub pure : {T : Type 0} → Syntax T → Syntax (PureTree T)
 pure {T = T} t = shaped {A = T × (Bool × T)} to_pure from_pure Any (seq t (seq sign t))
 
--- ---- pures = "true" | pure { "," pure }, and ":" behind it
+-- ---- pures = "true" | pure { "," pure }, and ":" after it
 
 abbrev pub some_pure : {T : Type 0} → Terms T → PureTree T
 some_pure t = record { left = t.some; is_equation = true; right = t.some }
@@ -63,7 +63,7 @@ pures {T = T} t = shaped {A = Unit {0} ⊎ List (PureTree T)} join_empty split_e
 
 -- ---- spat = term "->" "(" term { "," term } ")" | name "(" [ term { "," term } ] ")"
 
--- what stands behind the opening parenthesis
+-- what stands after the opening parenthesis
 unfoldable pub fields : {T : Type 0} → Terms T → Syntax (List T)
 fields t = listed t.some comma closing t.syntax
 
@@ -110,7 +110,7 @@ from_heap h = (h.pure, h.spatial)
 unfoldable pub heap : {T : Type 0} → Terms T → Syntax (Spatial T) → Syntax (Heap T)
 heap {T = T} t atom = shaped {A = List (PureTree T) × List (Spatial T)} to_heap from_heap Any (seq (pures t) (spatials t atom))
 
--- ---- one heap or more, with a word between neighbours, and a word behind the last
+-- ---- one heap or more, with a word between neighbours, and a word after the last
 
 abbrev pub some_heap : {T : Type 0} → Heap T
 some_heap = record { pure = []; spatial = [] }

@@ -1,5 +1,6 @@
 -- The versions of the formats of proof files and of problem files.
 use Rattle.std.specs.Prelude.{ℕ, List, [], ◌∷◌, codes}
+use Rattle.cyc_limits.specs.declared.TheConstants.{MOST_SPATIAL}
 use Rattle.cyc_grammar.specs.Syntax.{Class}
 use Rattle.cyc_grammar.specs.Classes.{numeral_of}
 use Rattle.heap_syntax.specs.declared.version.Version.{Version}
@@ -20,4 +21,4 @@ version = numeral_of version_text versions
 -- the greatest number of spatial atoms of one heap
 abbrev pub most_spatial : Version → ℕ
 most_spatial One = 16
-most_spatial Two = 32
+most_spatial Two = MOST_SPATIAL

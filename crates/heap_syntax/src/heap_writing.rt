@@ -77,7 +77,7 @@ fn write_more_heaps<'a, F: WrittenForm<'a>>(
     Ok(())
 }
 
-/// Writes one heap or more, with a word between neighbours and one behind the last.
+/// Writes one heap or more, with a word between neighbours and one after the last.
 #[tactic(auto, using(cyc_lex::proofs::WritingLaws::write_all_on), unfolding(crate::specs::Grammar::listed, cyc_lex::specs::Writing::write_all))]
 pub fn write_heaps<'a, F: WrittenForm<'a>>(
     form: &F,

@@ -1,4 +1,4 @@
-//! The words that stand between heaps and behind them.
+//! The words that stand between heaps and after them.
 
 ghost use Rattle.std.specs.Prelude.{◌≡◌, OnOk};
 ghost use Rattle.cyc_grammar.specs.Syntax.{read_class, begins, is_one};

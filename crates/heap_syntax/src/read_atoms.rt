@@ -43,7 +43,7 @@ fn pure<'a, F: TermForm<'a>>(
     })
 }
 
-/// Reads the pure atoms behind some.
+/// Reads the pure atoms after some.
 fn more_pures<'a, F: TermForm<'a>>(
     form: &F,
     mut items: Vec<PureTree<F::Term>>,
@@ -86,7 +86,7 @@ pub fn pures<'a, F: TermForm<'a>>(
     Ok(items)
 }
 
-/// Reads the terms behind some.
+/// Reads the terms after some.
 fn more_terms<'a, F: TermForm<'a>>(
     form: &F,
     mut items: Vec<F::Term>,

@@ -14,7 +14,7 @@ use crate::tree::{HeapTree, SpatialTree};
 use cyc_grammar::{Cursor, Refusal};
 use std::alloc::Global;
 
-/// Reads the spatial atoms behind some.
+/// Reads the spatial atoms after some.
 fn more_spatials<'a, F: AtomForm<'a>>(
     alloc: Global,
     form: &F,
@@ -68,7 +68,7 @@ pub fn heap<'a, F: AtomForm<'a>>(
     Ok(HeapTree { pure, spatial })
 }
 
-/// Reads the heaps behind some.
+/// Reads the heaps after some.
 fn more_heaps<'a, F: AtomForm<'a>>(
     alloc: Global,
     form: &F,
@@ -92,7 +92,7 @@ fn more_heaps<'a, F: AtomForm<'a>>(
     Ok(items)
 }
 
-/// Reads one heap or more, with a word between neighbours and one behind the last.
+/// Reads one heap or more, with a word between neighbours and one after the last.
 #[tactic(auto, unfolding(crate::specs::Grammar::listed))]
 pub fn heaps<'a, F: AtomForm<'a>>(
     alloc: Global,

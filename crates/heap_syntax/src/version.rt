@@ -10,6 +10,7 @@ ghost use Rattle.heap_syntax.specs.Versions as formats;
 
 use cyc_grammar::{Cursor, Refusal};
 use cyc_lex::WordWriter;
+use cyc_limits::MOST_SPATIAL;
 use cyc_memory::OutOfMemory;
 
 /// A version of the formats of proof files and of problem files, which the first statement of a file names.
@@ -44,11 +45,11 @@ impl Version {
     /// The greatest number of spatial atoms of one heap.
     pub fn most_spatial(self) -> u8
         ensures value { result ≡ most_of self }
-        ensures fits { result ≤ 32 }
+        ensures fits { result ≤ MOST_SPATIAL }
     {
         match self {
             Version::One => 16,
-            Version::Two => 32,
+            Version::Two => MOST_SPATIAL as u8,
         }
     }
 }

@@ -19,7 +19,7 @@ use Rattle.cyc_grammar.specs.Faults.{BeginsText, IsFirstDead}
 use Rattle.cyc_grammar.proofs.Laws.{Lawful, Faults}
 use Rattle.item_reader.specs.Items.{SpellsPart, IsReadPart}
 
--- the words behind a place are those of tokens too
+-- the words after a place are those of tokens too
 pub tokens_behind : (ws : List Word) (n : ℕ) → are_tokens ws ≡ true → are_tokens (drop n ws) ≡ true
 tokens_behind ws zero e = e
 tokens_behind [] (suc n) e = refl

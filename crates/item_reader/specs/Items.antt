@@ -62,7 +62,7 @@ IsReadPart s is ts place (Err (faults.Lex fault)) = ⊥
 IsReadPart s is ts place (Err (faults.IllFormed fault token line column)) = ⊥
 IsReadPart s is ts place (Err (faults.Limit what token line column)) = ⊥
 
--- ---- heaps, and the definition behind those so far
+-- ---- heaps, and the definition after those so far
 
 abbrev pub heap_found : DefinitionBook → ℕ → Heap → List Heading → Found
 heap_found book place tree more = heap_flaw (term_flaw Outside) term_span book.most (defined_heads book.list ++ more) place tree

@@ -9,6 +9,7 @@ ghost use Rattle.pred_syntax.specs.Trees.{heap_of, definition_of};
 ghost use Rattle.item_reader.specs.Items.{is_unknown, defined_heads, IsItem, heap_found, says_heap, definition_found, says_definition};
 
 use cyc_lex::{IllFault, What};
+use cyc_limits::MOST_PREDICATES;
 use cyc_memory::OutOfMemory;
 use heap_formula::{Def, Heap};
 use heap_reader::{
@@ -21,7 +22,7 @@ use std::alloc::Global;
 use std::slice;
 
 /// What a part of a text is, as far as the definitions so far tell. A predicate that they do not have may be defined
-/// behind the part.
+/// after the part.
 #[derive(Drop)]
 pub enum Item<V, T> {
     /// The part has no flaw, and says this.
@@ -86,7 +87,7 @@ fn walk_definition(
     requires fits { at + definition_span (definition_of tree.now) < 2 ^ 64 }
     ensures { IsName result (definition_flaw most heads.now n at (definition_of tree.now)) }
 {
-    if n >= 4096 {
+    if n >= MOST_PREDICATES {
         return Err(over(What::Predicates, at));
     }
     if heads.has_among(n, tree.name) {
@@ -112,7 +113,7 @@ fn heads_with<'a>(
     Heads::new(alloc, list)
 }
 
-/// The definition that begins at a token, behind those so far.
+/// The definition that begins at a token, after those so far.
 pub fn definition_item<'a>(
     alloc: Global,
     at: usize,

@@ -1,4 +1,4 @@
-//! Reading one definition or one heap out of a text, before the definitions behind it are known.
+//! Reading one definition or one heap out of a text, before the definitions after it are known.
 #![tactic(auto)]
 
 mod items;

@@ -23,7 +23,7 @@ fn cursor_at<'s, 'a>(tokens: &'s Tokens<'a>, place: usize) -> Cursor<'s, 'a>
     Cursor::new(&tokens.as_slice()[place..])
 }
 
-/// The heap that begins at a token, outside cases, and the place behind it; or the token with which no heap goes on.
+/// The heap that begins at a token, outside cases, and the place after it; or the token with which no heap goes on.
 pub fn read_heap<'a>(
     alloc: Global,
     tokens: &Tokens<'a>,
@@ -47,7 +47,7 @@ pub fn read_heap<'a>(
     }
 }
 
-/// The definition that begins at a token and the place behind it; or the token with which no definition goes on.
+/// The definition that begins at a token and the place after it; or the token with which no definition goes on.
 pub fn read_pred<'a>(
     alloc: Global,
     tokens: &Tokens<'a>,

@@ -5,6 +5,7 @@ ghost use Rattle.model_check.specs.Constructive.{IsConstructive, AreConstructive
 ghost use Rattle.model_check.specs.FirstPlaces.{IsFirstBad, IsFirstBadCase, IsFirstPlace};
 
 use crate::known::is_constructive;
+use cyc_limits::MOST_PREDICATES;
 use cyc_memory::OutOfMemory;
 use heap_formula::{Def, Heap};
 use pred_defs::Defs;
@@ -41,7 +42,7 @@ fn first_bad(alloc: Global, heaps: &[Heap]) -> Result<Option<u32>, OutOfMemory>
 
 /// The first case that is not constructive.
 fn first_bad_case(alloc: Global, defs: &[Def]) -> Result<Option<(u16, u32)>, OutOfMemory>
-    requires { length defs.now ≤ 4096 }
+    requires { length defs.now ≤ MOST_PREDICATES }
     ensures { IfOk result (λ o. MatchOption o (AreConstructive defs.now) (λ p. IsFirstBadCase defs.now p.0 p.1)) }
 {
     for (p, def) in defs.iter().enumerate() {

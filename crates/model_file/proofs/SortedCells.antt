@@ -153,7 +153,7 @@ one_longer : {X : Type 0} (xs : List X) (y : X) → length (xs ++ y ∷ []) ≡ 
 one_longer [] y = refl
 one_longer (x ∷ xs) y = ap suc (one_longer xs y)
 
--- the cell behind some others
+-- the cell after some others
 cell_right : (before es : List Entry) (k : ℕ) (e : Entry) → length before < 16 → IsFine (cell_tree e) → IsNew before e → cell_flaw (map cell_tree (before ++ es)) (length before) k (cell_tree e) ≡ None
 cell_right before es k e few fine new =
     let own : map address_of (take (length before) (map cell_tree (before ++ es))) ≡ addresses before =

@@ -1,6 +1,7 @@
 -- The first flaw of a model file that the grammar has: what is ill-formed or passes a limit, and at which token.
 use Rattle.std.specs.Prelude.{ℕ, ◌+◌, ◌||◌, nat_eq, nat_le, List, length, map, take}
 use Rattle.std.specs.List.{list_any}
+use Rattle.cyc_limits.specs.declared.TheConstants.{MOST_CELLS, MOST_SPATIAL}
 use Rattle.cyc_lex.specs.declared.fault.IllFault.TheVariants.{Address}
 use Rattle.cyc_lex.specs.declared.fault.What.TheVariants.{Arguments, Stack, Cells}
 use Rattle.heap_reader.specs.Spans.{total}
@@ -31,7 +32,7 @@ address_of c = c.address
 -- the cell before which n of all stand: a positive address that no cell before has, at most sixteen cells
 abbrev pub cell_flaw : List Cell → ℕ → ℕ → Cell → Found
 cell_flaw all n k c =
-    or_later (address_flaw (map address_of (take n all)) k c.address) (or_later (over_if (nat_le 16 n) Cells k) (fields_flaw (k + 3) c.fields))
+    or_later (address_flaw (map address_of (take n all)) k c.address) (or_later (over_if (nat_le MOST_CELLS n) Cells k) (fields_flaw (k + 3) c.fields))
 
 abbrev pub cells_flaw : ℕ → List Cell → Found
 cells_flaw k cs = listed_flaw (cell_flaw cs) cell_span 0 k cs
@@ -49,10 +50,10 @@ abbrev pub first_atom : Model → ℕ
 first_atom m = first_cell m + cells_span m.cells + 1
 
 abbrev pub definitions_flaw : Model → Found
-definitions_flaw m = listed_flaw (definition_flaw 32 (headings m.definitions)) definition_span 0 4 m.definitions
+definitions_flaw m = listed_flaw (definition_flaw MOST_SPATIAL (headings m.definitions)) definition_span 0 4 m.definitions
 
 abbrev pub ask_flaw : Model → Found
-ask_flaw m = heap_flaw (term_flaw Outside) term_span 32 (headings m.definitions) (first_atom m) m.ask
+ask_flaw m = heap_flaw (term_flaw Outside) term_span MOST_SPATIAL (headings m.definitions) (first_atom m) m.ask
 
 abbrev pub model_flaw : Model → Found
 model_flaw m =

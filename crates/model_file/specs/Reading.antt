@@ -1,5 +1,6 @@
 -- What reading a model file answers.
 use Rattle.std.specs.Prelude.{◌≡◌, ℕ, List, map, Result}
+use Rattle.cyc_limits.specs.declared.TheConstants.{MOST_SPATIAL}
 use Rattle.cyc_lex.specs.declared.fault.ReadFault.{ReadFault}
 use Rattle.cyc_lex.specs.Placed.{Placed}
 use Rattle.heap_reader.specs.Reading as reading
@@ -14,7 +15,7 @@ use Rattle.model_file.specs.Values.{cells_value}
 
 -- the model that a tree says
 pub record IsModelOf (tree : trees.Model) (m : Model) : Type 0 where
-  pub most : m.defs.most ≡ 32
+  pub most : m.defs.most ≡ MOST_SPATIAL
   pub definitions : m.defs.list ≡ map (definition_value (headings tree.definitions)) tree.definitions
   pub stack : m.stack ≡ tree.stack
   pub heap : m.heap ≡ cells_value tree.cells

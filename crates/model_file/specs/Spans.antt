@@ -1,9 +1,9 @@
--- How many tokens the parts of a model file have, the one token behind a part counted in.
+-- How many tokens the parts of a model file have, the one token after a part counted in.
 use Rattle.std.specs.Prelude.{ℕ, ◌+◌, ◌*◌, List, [], ◌∷◌, length}
 use Rattle.heap_reader.specs.Spans.{total_or}
 use Rattle.model_syntax.specs.Trees.{Cell}
 
--- a word stands behind each number
+-- a word stands after each number
 abbrev pub numbers_span : List ℕ → ℕ
 numbers_span ns = 2 * length ns
 

@@ -4,6 +4,7 @@ ghost use Rattle.model_syntax.specs.Grammar.{model};
 ghost use Rattle.model_file.specs.Flaws.{model_flaw};
 ghost use Rattle.model_file.specs.Fits.{model-fit};
 ghost use Rattle.model_file.specs.Written.{tree_of};
+ghost use Rattle.cyc_limits.specs.declared.TheConstants.{MOST_SPATIAL};
 
 use goto_lang::{Cells, Stack};
 use heap_formula::Heap;
@@ -18,7 +19,7 @@ pub struct Model {
     pub stack: Stack,
     pub heap: Cells,
     pub ask: Heap,
-    ghost limit: { defs.most ≡ 32 },
+    ghost limit: { defs.most ≡ MOST_SPATIAL },
     ghost fits: { model.fits (tree_of defs.list stack heap ask) } by { model-fit (tree_of defs.list stack heap ask) },
     ghost flawless: { model_flaw (tree_of defs.list stack heap ask) ≡ None },
 }

@@ -11,6 +11,7 @@ use crate::cell_values::{cells, wide_numbers};
 use crate::file::Model;
 use crate::walk::model_flaw;
 use cyc_lex::{LexFault, ReadFault, Tokens, tokens};
+use cyc_limits::MOST_SPATIAL;
 use cyc_memory::OutOfMemory;
 use goto_lang::Stack;
 use heap_reader::{Heads, flaw_fault, heap_value};
@@ -31,7 +32,7 @@ fn model_of_tree(
     ensures { IfOk result (IsModelOf (model_of tree.now)) }
 {
     let definitions = definition_values(alloc, heads, &tree.definitions)?;
-    let defs = Defs::from_vec(alloc, 32, definitions);
+    let defs = Defs::from_vec(alloc, MOST_SPATIAL as u8, definitions);
     let stack = Stack::from_vec(wide_numbers(alloc, &tree.stack)?);
     let heap = cells(alloc, &tree.cells)?;
     let ask = heap_value(alloc, heads, &Scope::Outside, &tree.ask)?;

@@ -1,5 +1,5 @@
 // A walk over a model file's tree in the order of its tokens, up to the first flaw. Each function is given the number of
-// the part's first token and gives that of the token behind it and the one that follows every part of its kind.
+// the part's first token and gives that of the token after it and the one that follows every part of its kind.
 ghost use Rattle.std.specs.Prelude.{◌≡◌, ◌+◌, ◌<◌, ◌≤◌, ◌^◌, ◌||◌, length, map, nat_eq, take};
 ghost use Rattle.std.specs.List.{list_any};
 ghost use Rattle.pred_syntax.specs.Trees.{heap_of, definition_of};
@@ -13,6 +13,7 @@ ghost use Rattle.model_file.specs.Spans.{numbers_span, values_span, cell_span, c
 ghost use Rattle.model_file.specs.Flaws.{address_of, stack_flaw, fields_flaw, address_flaw, cell_flaw, cells_flaw, first_value, first_cell, first_atom, definitions_flaw, ask_flaw, model_flaw as first_flaw};
 
 use cyc_lex::{IllFault, What};
+use cyc_limits::{MOST_ARGUMENTS, MOST_CELLS, MOST_SPATIAL, MOST_VALUES};
 use heap_reader::{Flaw, Heads, ill, over, walk_heap};
 use model_syntax::{CellTree, ModelTree};
 use pred_reader::{Scope, walk_definitions};
@@ -22,7 +23,7 @@ fn stack(at: usize, values: &[u32]) -> Result<usize, Flaw>
     requires { at + values_span values.now < 2 ^ 64 }
     ensures { IsWalk result (stack_flaw at values.now) (at + values_span values.now) }
 {
-    if values.len() > 65535 {
+    if values.len() > MOST_VALUES {
         return Err(over(What::Stack, at + 131070));
     }
     match values {
@@ -36,7 +37,7 @@ fn fields(at: usize, values: &[u32]) -> Result<usize, Flaw>
     requires { at + numbers_span values.now < 2 ^ 64 }
     ensures { IsWalk result (fields_flaw at values.now) (at + numbers_span values.now) }
 {
-    if values.len() > 8 {
+    if values.len() > MOST_ARGUMENTS {
         return Err(over(What::Arguments, at + 16));
     }
     Ok(at + 2 * values.len())
@@ -75,7 +76,7 @@ fn cell(cells: &[CellTree], n: usize, at: usize, tree: &CellTree) -> Result<usiz
     ensures { IsWalk result (cell_flaw (map cell_of cells.now) n at (cell_of tree.now)) (at + cell_span (cell_of tree.now)) }
 {
     address(cells, n, at, tree.address)?;
-    if n >= 16 {
+    if n >= MOST_CELLS {
         return Err(over(What::Cells, at));
     }
     let behind = fields(at + 3, &tree.fields)?;
@@ -114,7 +115,13 @@ fn behind_definitions(heads: &Heads<'_>, at: usize, tree: &ModelTree<'_>) -> Res
 {
     let behind_stack = stack(at + 1, &tree.stack)?;
     let behind_cells = cells(behind_stack + 1, &tree.cells)?;
-    walk_heap(heads, &Scope::Outside, 32, behind_cells + 1, &tree.ask)
+    walk_heap(
+        heads,
+        &Scope::Outside,
+        MOST_SPATIAL as u8,
+        behind_cells + 1,
+        &tree.ask,
+    )
 }
 
 /// All parts, from the fourth token on.
@@ -123,7 +130,7 @@ fn parts(heads: &Heads<'_>, tree: &ModelTree<'_>) -> Result<usize, Flaw>
     requires fits { first_atom (model_of tree.now) + heap_span term_span (model_of tree.now).ask < 2 ^ 64 }
     ensures { IsWalk result (first_flaw (model_of tree.now)) (first_atom (model_of tree.now) + heap_span term_span (model_of tree.now).ask) }
 {
-    let behind = walk_definitions(heads, 32, 4, &tree.definitions)?;
+    let behind = walk_definitions(heads, MOST_SPATIAL as u8, 4, &tree.definitions)?;
     behind_definitions(heads, behind, tree)
 }
 

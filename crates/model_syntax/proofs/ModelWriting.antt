@@ -12,7 +12,7 @@ use Rattle.pred_syntax.specs.Grammar.{definitions}
 use Rattle.model_syntax.specs.Trees.{Model}
 use Rattle.model_syntax.specs.Grammar.{model_word, first_version, question, state, body}
 
--- a word, some words, and a word behind them
+-- a word, some words, and a word after them
 pub number-wrote : (old mid late new : Written) (first : Word) (ws : List Word) (last : Word) → mid ≡ write old first → late ≡ write_all mid ws → new ≡ write late last → new ≡ write_all old (first ∷ (ws ++ last ∷ []))
 unfolding write_all
 number-wrote old mid late new first ws last ha hb hc =

@@ -30,7 +30,7 @@ first_text u = codes "1"
 abbrev pub first_version : Class (Unit {0})
 first_version = numeral_of first_text (tt ∷ [])
 
--- ---- number { "," number }, and a word behind it
+-- ---- number { "," number }, and a word after it
 
 unfoldable pub numbers : Class (Unit {0}) → Syntax (List ℕ)
 numbers behind = listed 0 comma behind (one number)

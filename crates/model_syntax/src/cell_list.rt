@@ -26,7 +26,7 @@ fn cell(alloc: Global, cursor: &mut Cursor<'_, '_>) -> Result<CellTree, Refusal>
     Ok(CellTree { address, fields })
 }
 
-/// Reads the cells behind some.
+/// Reads the cells after some.
 fn more_cells(
     alloc: Global,
     mut items: Vec<CellTree>,

@@ -13,7 +13,7 @@ use cyc_lex::WordWriter;
 use cyc_memory::OutOfMemory;
 use std::alloc::Global;
 
-/// Reads the numbers behind some.
+/// Reads the numbers after some.
 fn more_numbers(mut items: Vec<u32>, cursor: &mut Cursor<'_, '_>) -> Result<Vec<u32>, Refusal>
     ensures { Gives (λ x. (x.items, cursor.new)) result (with_front items.items ((many (is_one comma) (after comma (one number))).read cursor.old)) }
 {
@@ -30,7 +30,7 @@ fn more_numbers(mut items: Vec<u32>, cursor: &mut Cursor<'_, '_>) -> Result<Vec<
     Ok(items)
 }
 
-/// Reads one number or more, and the symbol behind the last.
+/// Reads one number or more, and the symbol after the last.
 #[tactic(auto, unfolding(crate::specs::Grammar::numbers, heap_syntax::specs::Grammar::listed))]
 pub fn numbers(
     alloc: Global,
@@ -68,7 +68,7 @@ fn write_more_numbers(trees: &[u32], writer: &mut WordWriter) -> Result<(), OutO
     Ok(())
 }
 
-/// Writes one number or more, and the symbol behind the last.
+/// Writes one number or more, and the symbol after the last.
 #[tactic(auto, using(cyc_lex::proofs::WritingLaws::write_all_on), unfolding(crate::specs::Grammar::numbers, heap_syntax::specs::Grammar::listed, cyc_lex::specs::Writing::write_all))]
 pub fn write_numbers(
     behind: &str,

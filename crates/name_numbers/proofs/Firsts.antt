@@ -1,4 +1,4 @@
--- What is inserted behind the first occurrences of some names are the first occurrences of all.
+-- What is inserted after the first occurrences of some names are the first occurrences of all.
 use Rattle.std.proofs.Common.{◌≡◌, ℕ, Bool, true, false, not, cond, ◌&&◌, ◌||◌, ◌+◌, ◌<◌, take, get_or, nat_lt, List, [], ◌∷◌, ◌++◌, map, filter, length, Some, None, position, refl, sym, ap, ◌∙◌, subst, true≢false, arith, if◌then◌else◌}
 use Rattle.std.proofs.Math.Bool.{beq}
 use Rattle.std.proofs.lemmas.Bool.{and_parts, and_from, ltb-false}

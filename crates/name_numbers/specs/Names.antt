@@ -4,7 +4,7 @@ use Rattle.std.proofs.Math.Bool.{beq}
 use Rattle.std.specs.Str.{bytes_eq}
 use Rattle.std.specs.List.{list_any, position_or_len}
 
--- a name, and whether a prime stands behind it
+-- a name, and whether a prime stands after it
 pub record Name : Type 0 where
   pub text : List ℕ
   pub primed : Bool

@@ -72,7 +72,7 @@ abbrev pub goal : List Name → named.Goal → Goal
 goal universals (named.Entailment h ds) = Entailment (heap (Antecedent universals) h) (map (disjunct universals) ds)
 goal universals (named.From n h) = From n (heap (Antecedent universals) h)
 
--- ---- problems: the goal's universal variables come behind the program's variables
+-- ---- problems: the goal's universal variables come after the program's variables
 
 abbrev pub program_variables : List named.Line → List Name
 program_variables ls = firsts (program_names ls)

@@ -8,7 +8,7 @@ use cyc_memory::OutOfMemory;
 use indexmap::IndexSet;
 use std::alloc::Global;
 
-/// A name, and whether a prime stands behind it.
+/// A name, and whether a prime stands after it.
 #[derive(Clone, Copy, PartialEq, Eq, Hash)]
 pub struct NameUse<'a> {
     pub text: &'a str,

@@ -17,7 +17,7 @@ use heap_syntax::{PureTree, SpatialTree};
 use problem_syntax::{HeapTree, LineTree, NameTree};
 use std::alloc::Global;
 
-/// The names with a term's name behind them, if it has one; the functions below do the same for larger parts.
+/// The names with a term's name after them, if it has one; the functions below do the same for larger parts.
 fn term_names<'a>(
     mut names: Vec<NameUse<'a>>,
     term: NameTree<'a>,
@@ -90,7 +90,7 @@ fn spatial_names<'a>(
     Ok(names)
 }
 
-/// The names with those of a heap behind them.
+/// The names with those of a heap after them.
 pub fn with_heap_names<'a>(
     names: Vec<NameUse<'a>>,
     heap: &HeapTree<'a>,
@@ -142,7 +142,7 @@ pub fn primed_names<'a>(
     Ok(names)
 }
 
-/// The names with those of others behind them that have no prime.
+/// The names with those of others after them that have no prime.
 pub fn with_plain_names<'a>(
     mut names: Vec<NameUse<'a>>,
     uses: &[NameUse<'a>],

@@ -22,7 +22,7 @@ use cyc_memory::OutOfMemory;
 use problem_syntax::{GoalTree, HeapTree, ProblemTree};
 use std::alloc::Global;
 
-/// The names with the plain ones of these heaps behind them.
+/// The names with the plain ones of these heaps after them.
 fn with_disjunct_names<'a>(
     alloc: Global,
     mut names: Vec<NameUse<'a>>,
@@ -37,7 +37,7 @@ fn with_disjunct_names<'a>(
     Ok(names)
 }
 
-/// The names with those of a goal's universal variables behind them.
+/// The names with those of a goal's universal variables after them.
 fn with_goal_names<'a>(
     alloc: Global,
     names: Vec<NameUse<'a>>,
@@ -102,7 +102,7 @@ fn goal<'a>(
     }
 }
 
-/// The goal, whose universal variables are numbered behind the names that are used before it.
+/// The goal, whose universal variables are numbered after the names that are used before it.
 fn goal_behind<'a>(
     alloc: Global,
     uses: Vec<NameUse<'a>>,
@@ -132,7 +132,7 @@ fn lines_and_goal<'a>(
 
 /// The problem with numbers in place of its names. In a case a name is a parameter if it is one, and else a local, with a
 /// number of its own in this case. The variables of the program are numbered over its lines, the other universal variables
-/// of the goal behind them, those of the antecedent first, and existential variables in each disjunct.
+/// of the goal after them, those of the antecedent first, and existential variables in each disjunct.
 pub fn number_problem<'a>(
     alloc: Global,
     tree: &ProblemTree<'a>,

@@ -6,6 +6,7 @@ ghost use Rattle.rule_table.specs.Answer.{has_numbers};
 ghost use Rattle.format_limits.specs.Limits.{HasFields, IsHeapWithin, IsJudgementWithin};
 
 use crate::terms::is_universal_heap;
+use cyc_limits::VARIABLE_NUMBERS;
 use heap_formula::{Def, Heap, Judgement, Spatial, Variables, bound_in_heap};
 use pred_defs::Defs;
 use rule_table::is_short;
@@ -59,7 +60,7 @@ fn are_known(defs: &[Def], atoms: &[Spatial]) -> bool
 fn is_small(heap: &Heap) -> bool
     ensures { result ≡ has_numbers heap.now }
 {
-    bound_in_heap(Variables::All, heap) <= 65535
+    bound_in_heap(Variables::All, heap) <= VARIABLE_NUMBERS
 }
 
 /// Whether a file over the definitions may have the heap.

@@ -5,6 +5,7 @@ ghost use Rattle.format_limits.specs.Limits.{HasShortLink, HasShortNumbers, HasS
 
 use crate::heaps::is_heap_within;
 use crate::terms::is_term_within;
+use cyc_limits::GREATEST_VARIABLE;
 use heap_formula::{Link, Reason, Rule, Term};
 use pred_defs::Defs;
 
@@ -14,7 +15,7 @@ fn is_rule_within(defs: &Defs, rule: &Rule) -> bool
     match rule {
         Rule::Split(t, u) => is_term_within(*t) && is_term_within(*u),
         Rule::Cut(_, formula) => is_heap_within(defs, formula),
-        Rule::Instantiate(v, t) => *v <= 65534 && is_term_within(*t),
+        Rule::Instantiate(v, t) => u32::from(*v) <= GREATEST_VARIABLE && is_term_within(*t),
         Rule::Absurd
         | Rule::Rewrite(_, _)
         | Rule::Distinct(_, _)
@@ -34,7 +35,7 @@ fn are_pairs_within(pairs: &[(u16, Term)]) -> bool
     ensures { IsTrue result → Each IsPairWithin pairs.now }
 {
     for pair in pairs {
-        if pair.0 > 65534 || !is_term_within(pair.1) {
+        if u32::from(pair.0) > GREATEST_VARIABLE || !is_term_within(pair.1) {
             return false;
         }
     }

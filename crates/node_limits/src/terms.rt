@@ -4,6 +4,7 @@ ghost use Rattle.heap_formula.specs.Words.{Each};
 ghost use Rattle.heap_formula.specs.Closedness.{InPure, IsUniversal, IsUniversalHeap, IsUniversalSpatial};
 ghost use Rattle.format_limits.specs.Limits.{IsTermWithin};
 
+use cyc_limits::GREATEST_VARIABLE;
 use heap_formula::{Heap, Pure, Spatial, Term};
 
 /// Whether the term is no existential and has a number that a file may have.
@@ -12,7 +13,7 @@ pub fn is_term_within(term: Term) -> bool
 {
     match term {
         Term::Nil => true,
-        Term::Univ(n) => n <= 65534,
+        Term::Univ(n) => u32::from(n) <= GREATEST_VARIABLE,
         Term::Exist(_) => false,
     }
 }

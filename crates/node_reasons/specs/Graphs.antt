@@ -1,5 +1,6 @@
 -- The nodes of a proof as a trace graph.
 use Rattle.std.specs.Prelude.{◌≡◌, ◌≤◌, ℕ, length, List, map, Some, None, slice_get}
+use Rattle.cyc_limits.specs.declared.TheConstants.{MOST_CASES, MOST_SPATIAL}
 use Rattle.heap_formula.specs.declared.commands.Command.{Command}
 use Rattle.heap_formula.specs.Definitions.{Definition}
 use Rattle.heap_formula.specs.Judgements.{HoldsAt, antecedent}
@@ -30,11 +31,11 @@ AreReadable nodes = (v : ℕ) (node : Node) → slice_get nodes v ≡ Some node 
 
 -- a predicate has at most sixteen cases
 abbrev pub HasFewCases : Definition → Type 0
-HasFewCases d = length d.cases ≤ 16
+HasFewCases d = length d.cases ≤ MOST_CASES
 
 -- the antecedents have at most 32 spatial atoms
 abbrev pub HasSmallHeaps : List Node → Type 0
-HasSmallHeaps nodes = (v : ℕ) (node : Node) → slice_get nodes v ≡ Some node → length (antecedent node.judgement).spatial ≤ 32
+HasSmallHeaps nodes = (v : ℕ) (node : Node) → slice_get nodes v ≡ Some node → length (antecedent node.judgement).spatial ≤ MOST_SPATIAL
 
 -- the judgement of node v holds at the stages
 abbrev pub HoldsAtNode : List Definition → List Command → List Node → ℕ → Stages → Type 0

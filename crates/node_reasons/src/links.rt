@@ -10,6 +10,7 @@ ghost use Rattle.rule_table.specs.Soundness.{AreUniversal};
 ghost use Rattle.node_reasons.specs.Answers.{entry_of, link_answer};
 
 use back_links::link_fault;
+use cyc_limits::MOST_SPATIAL;
 use cyc_memory::OutOfMemory;
 use goto_lang::Program;
 use heap_formula::{Judgement, Link, Pair, Pairs, Premise, RuleError, Spatial};
@@ -32,7 +33,7 @@ fn old_at(entries: &[u32], k: usize) -> u8
 
 /// The map's entry for each predicate atom of the companion.
 fn link_pairs(alloc: Global, entries: &[u32], atoms: &[Spatial]) -> Result<Pairs, OutOfMemory>
-    requires few { length atoms.now ≤ 32 }
+    requires few { length atoms.now ≤ MOST_SPATIAL }
     requires small { Each (λ p. p.old < 256) (pairs_from (entry_of entries.now) 0 atoms.now) }
     ensures { IfOk result (λ p. p ≡ pairs_from (entry_of entries.now) 0 atoms.now) }
 {

@@ -10,6 +10,7 @@ ghost use Rattle.rule_table.specs.Answered.{IsAnswer};
 ghost use Rattle.rule_table.specs.Table.{with_pure, distinct_answer};
 ghost use Rattle.rule_table.specs.Tests.{address_of as address};
 
+use cyc_limits::MOST_PURE;
 use cyc_memory::OutOfMemory;
 use heap_formula::{Judgement, Premise, Pure, RuleError, RuleFault, Spatial, Term};
 use rule_table::{antecedent, has_room, numbered, one_premise, with_pure_atom};
@@ -36,7 +37,7 @@ fn with_difference(
     t: Term,
     u: Term,
 ) -> Result<Vec<Premise>, OutOfMemory>
-    requires { length (antecedent_of judgement.now).pure < 64 }
+    requires { length (antecedent_of judgement.now).pure < MOST_PURE }
     ensures { IfOk result (λ v. v.items ≡ one (with_pure judgement.now (Neq t u))) }
 {
     one_premise(alloc, with_pure_atom(alloc, judgement, Pure::Neq(t, u))?)

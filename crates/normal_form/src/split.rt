@@ -8,6 +8,7 @@ ghost use Rattle.rule_table.specs.Answer.{two};
 ghost use Rattle.rule_table.specs.Answered.{IsAnswer};
 ghost use Rattle.rule_table.specs.Table.{with_pure, split_answer};
 
+use cyc_limits::MOST_PURE;
 use cyc_memory::OutOfMemory;
 use heap_formula::{Judgement, Premise, Pure, RuleError, RuleFault, Term};
 use rule_table::{has_room, numbered, two_premises, with_pure_atom};
@@ -19,7 +20,7 @@ fn halves(
     t: Term,
     u: Term,
 ) -> Result<Vec<Premise>, OutOfMemory>
-    requires { length (antecedent_of judgement.now).pure < 64 }
+    requires { length (antecedent_of judgement.now).pure < MOST_PURE }
     ensures { IfOk result (λ v. v.items ≡ two (with_pure judgement.now (Eq t u)) (with_pure judgement.now (Neq t u))) }
 {
     let equal = with_pure_atom(alloc, judgement, Pure::Eq(t, u))?;

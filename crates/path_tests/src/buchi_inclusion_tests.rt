@@ -55,7 +55,7 @@ fn answer_of(alloc: Global, nodes: &[Edges], limit: u32) -> Result<&'static str,
 }
 
 /// The nodes of the ring's proof for two predicates: an Unfold, whose first case takes four nodes and whose second gives
-/// the predicate's atom the place behind a cell, which a Frame takes away; twice, and then the link to node 0.
+/// the predicate's atom the place after a cell, which a Frame takes away; twice, and then the link to node 0.
 static RING_OF_TWO: &[(&[u8], Edges)] = &[
     (&[0], &[(1, &[]), (5, &[(0, 1, true)])]),
     (&[], &[(2, &[])]),

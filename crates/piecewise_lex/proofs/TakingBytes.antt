@@ -38,7 +38,7 @@ taken-law p q c d text rest ts utf8 fine h more =
     ∙ sym (with-then ts (tokens_in new) (tokens_from (place_in new) (comment_in new) (encode_utf8_all (held_in new) ++ more)))
     ∙ ap (with_tokens ts) (sym (text-law q d rest more fine))
 
--- no byte is lost: those that are taken stand before the place behind them, and the others wait
+-- no byte is lost: those that are taken stand before the place after them, and the others wait
 reading-count : (p : Place) (c : Bool) (text : List ℕ) → IsUtf8 text → (place_in (reading p c text)).offset + length (encode_utf8_all (held_in (reading p c text))) ≡ p.offset + length text
 reading-count p c text utf8 =
     let k = comment_len c (chars text) in

@@ -1,5 +1,6 @@
 -- Tokens with texts of their own.
 use Rattle.std.specs.Prelude.{◌≤◌, length}
+use Rattle.cyc_limits.specs.declared.TheConstants.{LONGEST_NAME}
 use Rattle.cyc_lex.specs.declared.token.Token.{Token}
 use Rattle.cyc_lex.specs.Placed.{Placed}
 use Rattle.piecewise_lex.specs.declared.owned.OwnedToken.{OwnedToken}
@@ -9,4 +10,4 @@ owned t = record { kind = t.kind; text = t.text; line = t.line; column = t.colum
 
 -- its text has at most 64 bytes
 abbrev pub IsShort : Token → Type 0
-IsShort t = length t.text.now ≤ 64
+IsShort t = length t.text.now ≤ LONGEST_NAME

@@ -1,5 +1,6 @@
 -- The text of a token, where its bytes lie.
 use Rattle.std.specs.Prelude.{ℕ, ◌≤◌, List, take}
+use Rattle.cyc_limits.specs.declared.TheConstants.{LONGEST_NAME}
 use Rattle.piecewise_lex.specs.declared.text.Form.{Form}
 use Rattle.piecewise_lex.specs.declared.text.Form.TheVariants as forms
 
@@ -11,4 +12,4 @@ written (forms.Long bytes len) = take len bytes.value
 -- there is room for them
 abbrev pub IsWritten : Form → Type 0
 IsWritten (forms.Short bytes len) = len ≤ 22
-IsWritten (forms.Long bytes len) = len ≤ 64
+IsWritten (forms.Long bytes len) = len ≤ LONGEST_NAME

@@ -6,6 +6,7 @@ ghost use Rattle.piecewise_lex.specs.Owned.{owned, IsShort};
 
 use crate::text::Text;
 use cyc_lex::{Kind, OutOfMemory, Token};
+use cyc_limits::LONGEST_NAME;
 use std::alloc::Global;
 
 /// A token with its own text: what a `Token` has, without the bytes that it was cut from.
@@ -19,7 +20,7 @@ pub struct OwnedToken {
 
 /// A copy of a token.
 fn own(alloc: Global, token: &Token<'_>) -> Result<OwnedToken, OutOfMemory>
-    requires { length token.now.text.now ≤ 64 }
+    requires { length token.now.text.now ≤ LONGEST_NAME }
     ensures { IfOk result (λ t. owned t ≡ placed token.now) }
 {
     Ok(OwnedToken {
@@ -37,7 +38,7 @@ pub fn push_own(
     tokens: &mut Vec<OwnedToken>,
     token: &Token<'_>,
 ) -> Result<(), OutOfMemory>
-    requires { length token.now.text.now ≤ 64 }
+    requires { length token.now.text.now ≤ LONGEST_NAME }
     ensures { OnOk result (map owned tokens.new.items ≡ map owned tokens.old.items ++ placed token.now ∷ []) }
 {
     match token.text.as_bytes() {

@@ -3,6 +3,7 @@
 ghost use Rattle.std.specs.Prelude.{◌≡◌, ◌≤◌, ◌∷◌, [], length, IfOk};
 
 use cyc_lex::OutOfMemory;
+use cyc_limits::LONGEST_NAME;
 use std::alloc::Global;
 use std::marker::Model;
 
@@ -34,7 +35,7 @@ impl Text {
     /// The text, in place where it fits.
     #[inline(always)]
     pub(crate) fn new(alloc: Global, text: &str) -> Result<Text, OutOfMemory>
-        requires { length text.now ≤ 64 }
+        requires { length text.now ≤ LONGEST_NAME }
         ensures { IfOk result (λ t. t ≡ text.now) }
     {
         let len = text.len();

@@ -1,6 +1,7 @@
 -- Why definitions are refused: the first cause in a written order.
 use Rattle.std.specs.Prelude.{◌≡◌, ℕ, List, [], ◌∷◌, length, Bool, true, false, ◌||◌, nat_eq, nat_lt, nat_le, if◌then◌else◌, Option, Some, None, slice_get, Result, Ok, Err}
 use Rattle.std.specs.Str.{bytes_eq}
+use Rattle.cyc_limits.specs.declared.TheConstants.{MOST_ARGUMENTS, MOST_CASES, MOST_LOCALS, MOST_PREDICATES}
 use Rattle.heap_formula.specs.declared.atoms.Spatial.{Spatial}
 use Rattle.heap_formula.specs.declared.atoms.Spatial.TheVariants.{Cell, Pred}
 use Rattle.heap_formula.specs.declared.heaps.Count.TheVariants.{Predicates, Arguments, Cases, Spatial as SpatialAtoms, Locals}
@@ -27,7 +28,7 @@ is_long most case = nat_lt most (length case.spatial)
 
 -- a case has a local past the sixteenth
 abbrev pub has_far_local : SymbolicHeap → Bool
-has_far_local case = nat_lt 16 (heap_exists case)
+has_far_local case = nat_lt MOST_LOCALS (heap_exists case)
 
 -- a case has a universal variable that is no parameter
 abbrev pub has_stranger : ℕ → SymbolicHeap → Bool
@@ -37,9 +38,9 @@ has_stranger arity case = nat_lt arity (heap_bound case)
 abbrev pub push_fault : DefinitionBook → List ℕ → ℕ → List SymbolicHeap → Option DefFault
 push_fault book name arity cases =
     if has_name book.list name then Some Duplicate
-    else if nat_le 4096 (length book.list) then Some (Limit Predicates)
-    else if nat_lt 8 arity then Some (Limit Arguments)
-    else if nat_lt 16 (length cases) then Some (Limit Cases)
+    else if nat_le MOST_PREDICATES (length book.list) then Some (Limit Predicates)
+    else if nat_lt MOST_ARGUMENTS arity then Some (Limit Arguments)
+    else if nat_lt MOST_CASES (length cases) then Some (Limit Cases)
     else if some_member (is_long book.most) cases then Some (Limit SpatialAtoms)
     else if some_member has_far_local cases then Some (Limit Locals)
     else if some_member (has_stranger arity) cases then Some Parameter

@@ -6,12 +6,10 @@ ghost use Rattle.heap_formula.specs.Fresh.{heap_bound, heap_exists};
 ghost use Rattle.pred_defs.specs.Faults.{first_fault, has_name as list_has_name, some_member, is_long, has_far_local, has_stranger, push_fault, use_fault, case_fault, definition_fault, closed_fault, IsRefusal};
 
 use crate::faults::DefFault;
+use cyc_limits::{MOST_ARGUMENTS, MOST_CASES, MOST_LOCALS, MOST_PREDICATES, MOST_SPATIAL};
 use heap_formula::{Cases, Count, Def, DefName, Heap, Spatial, bound_of_heap, exists_in_heap};
 use std::alloc::{AllocError, Global};
 use std::marker::Model;
-
-/// The greatest number of predicates.
-pub const MOST_PREDICATES: usize = 4096;
 
 /// Inductive definitions in the order of their numbers, and how many spatial atoms a case may have. No two have one
 /// name; what else `push` refuses is in none of them.
@@ -25,12 +23,13 @@ pub struct Defs {
 impl Model for Defs {
     ghost use Rattle.pred_defs.specs.Book.{DefinitionBook};
     ghost use Rattle.std.specs.Prelude.{length, ◌≤◌};
+    ghost use Rattle.cyc_limits.specs.declared.TheConstants.{MOST_PREDICATES, MOST_SPATIAL};
 
     ghost Value = { DefinitionBook };
 
     ghost view = { λ d. record { most = d.most; list = d.items.items } };
 
-    ghost invariant = { λ d. (d.most ≤ 32) × (length d.items.items ≤ 4096) };
+    ghost invariant = { λ d. (d.most ≤ MOST_SPATIAL) × (length d.items.items ≤ MOST_PREDICATES) };
 }
 
 impl Clone for Defs {
@@ -49,7 +48,7 @@ impl Clone for Defs {
 impl Defs {
     /// No definitions. `most` is the greatest number of spatial atoms of a heap, 16 or 32 by the format's version.
     pub fn new(alloc: Global, most: u8) -> Defs
-        requires { most ≤ 32 }
+        requires { most ≤ MOST_SPATIAL }
         ensures { result ≡ record { most = most; list = [] } }
     {
         Defs {
@@ -62,14 +61,14 @@ impl Defs {
     /// The greatest number of spatial atoms of a heap.
     pub fn most(&self) -> u8
         ensures value { result ≡ self.now.most }
-        ensures fits { self.now.most ≤ 32 }
+        ensures fits { self.now.most ≤ MOST_SPATIAL }
     {
         self.most
     }
 
     /// Sets the greatest number of spatial atoms of a heap, 16 or 32 by the format's version; takes no memory.
     pub fn set_most(&mut self, most: u8)
-        requires { most ≤ 32 }
+        requires { most ≤ MOST_SPATIAL }
         ensures { self.new ≡ record { most = most; list = self.old.list } }
     {
         self.most = most;
@@ -105,7 +104,7 @@ impl Defs {
     }
 
     fn append(&mut self, def: Def) -> Result<(), DefFault>
-        requires { length self.old.list < 4096 }
+        requires { length self.old.list < MOST_PREDICATES }
         ensures appended { OnOk result (self.new ≡ record { most = self.old.most; list = self.old.list ++ def ∷ [] }) }
         ensures unchanged { OnErr result (self.new ≡ self.old) }
         ensures memory { IsOkUnless result DefFault.OutOfMemory }
@@ -174,7 +173,7 @@ fn some_has_far_local(cases: &[Heap]) -> bool
     ensures { result ≡ some_member has_far_local cases.now }
 {
     for case in cases {
-        if exists_in_heap(case) > 16 {
+        if exists_in_heap(case) > MOST_LOCALS {
             return true;
         }
     }
@@ -201,10 +200,10 @@ fn fault_of_push(defs: &Defs, name: &str, arity: u32, cases: &[Heap]) -> Option<
     if defs.as_slice().len() >= MOST_PREDICATES {
         return Some(DefFault::Limit(Count::Predicates));
     }
-    if arity > 8 {
+    if arity > MOST_ARGUMENTS as u32 {
         return Some(DefFault::Limit(Count::Arguments));
     }
-    if cases.len() > 16 {
+    if cases.len() > MOST_CASES {
         return Some(DefFault::Limit(Count::Cases));
     }
     if some_is_long(defs.most() as usize, cases) {
@@ -291,8 +290,8 @@ impl Defs {
 impl Defs {
     /// The definitions in this order, without a copy. The caller has seen to what `push` would refuse.
     pub fn from_vec(alloc: Global, most: u8, items: Vec<Def>) -> Defs
-        requires fits { most ≤ 32 }
-        requires few { length items.items ≤ 4096 }
+        requires fits { most ≤ MOST_SPATIAL }
+        requires few { length items.items ≤ MOST_PREDICATES }
         ensures { result ≡ record { most = most; list = items.items } }
     {
         Defs { alloc, most, items }

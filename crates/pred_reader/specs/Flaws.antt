@@ -1,5 +1,6 @@
 -- The first flaw of terms and of definitions: what is ill-formed or passes a limit, and at which token.
 use Rattle.std.specs.Prelude.{ℕ, ◌+◌, nat_lt, nat_le, is_some, List, map, take, None}
+use Rattle.cyc_limits.specs.declared.TheConstants.{GREATEST_LOCAL, GREATEST_VARIABLE, MOST_ARGUMENTS, MOST_PREDICATES}
 use Rattle.cyc_lex.specs.declared.fault.IllFault.TheVariants.{Duplicate, Parameter}
 use Rattle.cyc_lex.specs.declared.fault.What.TheVariants.{Predicates, Arguments, Cases, Locals, Variable}
 use Rattle.heap_reader.specs.Trees.{Heading}
@@ -23,17 +24,17 @@ headings ds = map heading ds
 -- outside cases a number is at most 65,534; in a case $n is a parameter and ?n one of sixteen locals
 abbrev pub term_flaw : Scope → ℕ → TermTree → Found
 term_flaw scope k Nil = None
-term_flaw Outside k (Univ n) = over_if (nat_lt 65534 n) Variable (k + 1)
-term_flaw Outside k (Exist n) = over_if (nat_lt 65534 n) Variable (k + 1)
+term_flaw Outside k (Univ n) = over_if (nat_lt GREATEST_VARIABLE n) Variable (k + 1)
+term_flaw Outside k (Exist n) = over_if (nat_lt GREATEST_VARIABLE n) Variable (k + 1)
 term_flaw (InCase arity) k (Univ n) = ill_if (nat_le arity n) Parameter (k + 1)
-term_flaw (InCase arity) k (Exist n) = over_if (nat_lt 15 n) Locals (k + 1)
+term_flaw (InCase arity) k (Exist n) = over_if (nat_lt GREATEST_LOCAL n) Locals (k + 1)
 
 -- ---- a heap has at most so many spatial atoms
 
 -- the name, which no definition before has, and the arity
 abbrev pub head_flaw : List Heading → ℕ → ℕ → Definition → Found
 head_flaw hs n k d =
-    or_later (over_if (nat_le 4096 n) Predicates k) (or_later (ill_if (is_some (arity_in (take n hs) d.name)) Duplicate (k + 1)) (over_if (nat_lt 8 d.arity) Arguments (k + 3)))
+    or_later (over_if (nat_le MOST_PREDICATES n) Predicates k) (or_later (ill_if (is_some (arity_in (take n hs) d.name)) Duplicate (k + 1)) (over_if (nat_lt MOST_ARGUMENTS d.arity) Arguments (k + 3)))
 
 -- at most 4,096, no two with one name
 abbrev pub definition_flaw : ℕ → List Heading → ℕ → ℕ → Definition → Found

@@ -1,5 +1,6 @@
 -- Definitions that fit the values' types.
 use Rattle.std.specs.Prelude.{◌≤◌, length}
+use Rattle.cyc_limits.specs.declared.TheConstants.{MOST_CASES}
 use Rattle.heap_formula.specs.Words.{Each}
 use Rattle.heap_reader.specs.Small.{IsSmallHeap}
 use Rattle.pred_syntax.specs.Trees.{Definition}
@@ -7,4 +8,4 @@ use Rattle.pred_reader.specs.Values.{term_value}
 
 pub record IsSmallDefinition (d : Definition) : Type 0 where
   pub cases : Each (IsSmallHeap term_value) d.cases
-  pub few : length d.cases ≤ 16
+  pub few : length d.cases ≤ MOST_CASES

@@ -1,4 +1,4 @@
--- How many tokens terms and definitions have, the one token behind a term counted in.
+-- How many tokens terms and definitions have, the one token after a term counted in.
 use Rattle.std.specs.Prelude.{ℕ, ◌+◌}
 use Rattle.heap_reader.specs.Spans.{total, heap_span}
 use Rattle.pred_syntax.specs.declared.tree.TermTree.{TermTree}
@@ -10,6 +10,6 @@ term_span Nil = 2
 term_span (Univ n) = 3
 term_span (Exist n) = 3
 
--- "pred", the name, "(", the arity, ")", "{", the cases, and ";"; nothing behind it
+-- "pred", the name, "(", the arity, ")", "{", the cases, and ";"; nothing after it
 abbrev pub definition_span : Definition → ℕ
 definition_span d = 6 + total (heap_span term_span) d.cases + 1

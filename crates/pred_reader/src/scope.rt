@@ -7,6 +7,7 @@ ghost use Rattle.pred_reader.specs.Flaws.{term_flaw};
 ghost use Rattle.pred_reader.specs.declared.scope.Scope.TheVariants.{Outside};
 
 use cyc_lex::{IllFault, What};
+use cyc_limits::{GREATEST_LOCAL, GREATEST_VARIABLE};
 use heap_formula::Term;
 use heap_reader::{Flaw, TermReader, ill, over};
 use pred_syntax::TermTree;
@@ -22,7 +23,7 @@ fn outside_number(at: usize, n: u32) -> Result<usize, Flaw>
     requires { at + 3 < 2 ^ 64 }
     ensures { IsWalk result (term_flaw Outside at (Univ n)) (at + 3) }
 {
-    if n > 65534 {
+    if n > GREATEST_VARIABLE {
         return Err(over(What::Variable, at + 1));
     }
     Ok(at + 3)
@@ -53,7 +54,7 @@ impl TermReader for Scope {
                 Ok(at + 3)
             }
             (Scope::Case(_), TermTree::Exist(n)) => {
-                if n > 15 {
+                if n > GREATEST_LOCAL {
                     return Err(over(What::Locals, at + 1));
                 }
                 Ok(at + 3)

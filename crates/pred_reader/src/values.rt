@@ -6,6 +6,7 @@ ghost use Rattle.pred_reader.specs.Small.{IsSmallDefinition};
 ghost use Rattle.pred_reader.specs.Values.{definition_value as value_of_definition};
 
 use crate::scope::Scope;
+use cyc_limits::MOST_PREDICATES;
 use cyc_memory::OutOfMemory;
 use heap_formula::Def;
 use heap_reader::{Heads, definition_value};
@@ -18,7 +19,7 @@ fn definition(
     tree: &DefinitionTree<'_>,
 ) -> Result<Def, OutOfMemory>
     requires small { IsSmallDefinition (definition_of tree.now) }
-    requires few { length heads.now ≤ 4096 }
+    requires few { length heads.now ≤ MOST_PREDICATES }
     ensures { IfOk result (λ d. d ≡ value_of_definition heads.now (definition_of tree.now)) }
 {
     let scope = Scope::Case(tree.arity);
@@ -32,7 +33,7 @@ pub fn definition_values(
     trees: &[DefinitionTree<'_>],
 ) -> Result<Vec<Def>, OutOfMemory>
     requires small { Each IsSmallDefinition (map definition_of trees.now) }
-    requires few { length heads.now ≤ 4096 }
+    requires few { length heads.now ≤ MOST_PREDICATES }
     ensures value { IfOk result (λ v. v.items ≡ map (value_of_definition heads.now) (map definition_of trees.now)) }
     ensures size { IfOk result (λ v. length v.items ≡ length trees.now) }
 {

@@ -1,5 +1,5 @@
 // A walk over definitions in the order of their tokens, up to the first flaw. Each function is given the number of the
-// part's first token and gives that of the token behind it and the one that follows every part of its kind. A heap has at
+// part's first token and gives that of the token after it and the one that follows every part of its kind. A heap has at
 // most `most` spatial atoms.
 ghost use Rattle.std.specs.Prelude.{◌≡◌, ◌+◌, ◌<◌, ◌≤◌, ◌^◌, length, map};
 ghost use Rattle.cyc_lex.specs.declared.fault.What.TheVariants.{Cases};
@@ -12,6 +12,7 @@ ghost use Rattle.pred_reader.specs.declared.scope.Scope.TheVariants.{Case};
 
 use crate::scope::Scope;
 use cyc_lex::{IllFault, What};
+use cyc_limits::{MOST_ARGUMENTS, MOST_PREDICATES};
 use heap_reader::{Flaw, Heads, ill, over, walk_heaps};
 use pred_syntax::{DefinitionTree, HeapTree};
 
@@ -25,13 +26,13 @@ fn definition_head(
     requires fits { at + 3 < 2 ^ 64 }
     ensures { IsName result (head_flaw heads.now n at (definition_of tree.now)) }
 {
-    if n >= 4096 {
+    if n >= MOST_PREDICATES {
         return Err(over(What::Predicates, at));
     }
     if heads.has_among(n, tree.name) {
         return Err(ill(IllFault::Duplicate, at + 1));
     }
-    if tree.arity > 8 {
+    if tree.arity > MOST_ARGUMENTS as u32 {
         return Err(over(What::Arguments, at + 3));
     }
     Ok(())
@@ -67,7 +68,7 @@ fn definition(
 }
 
 /// Goes over the definitions of a text, the first of which begins at a token, up to the first flaw, and gives the token
-/// behind them. The heads are those of the definitions, in which a heap has at most `most` spatial atoms.
+/// after them. The heads are those of the definitions, in which a heap has at most `most` spatial atoms.
 pub fn walk_definitions(
     heads: &Heads<'_>,
     most: u8,

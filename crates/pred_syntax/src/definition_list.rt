@@ -41,7 +41,7 @@ pub fn definition<'a>(
     Ok(DefinitionTree { name, arity, cases })
 }
 
-/// Reads the definitions behind some.
+/// Reads the definitions after some.
 #[tactic(auto, unfolding(crate::specs::Grammar::definitions))]
 fn more_definitions<'a>(
     alloc: Global,

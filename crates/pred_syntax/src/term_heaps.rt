@@ -26,7 +26,7 @@ pub fn heap<'a>(
     heap_syntax::heap(alloc, &NumberedForm { universal }, cursor)
 }
 
-/// One heap or more, with a word between neighbours and one behind the last.
+/// One heap or more, with a word between neighbours and one after the last.
 pub fn heaps<'a>(
     alloc: Global,
     between: &Mark<'_>,
@@ -56,7 +56,7 @@ pub fn write_heap(
     heap_syntax::write_heap(&NumberedForm { universal }, tree, writer)
 }
 
-/// Writes one heap or more, with a word between neighbours and one behind the last.
+/// Writes one heap or more, with a word between neighbours and one after the last.
 pub fn write_heaps(
     between: &Mark<'_>,
     behind: &Mark<'_>,

@@ -36,7 +36,7 @@ use Rattle.formula_reader.specs.Values.{term_value}
 mapped : {X Y : Type 0} (f : X → Y) (P : Y → Type 0) (xs : List X) → Each (λ x. P (f x)) xs → Each P (map f xs)
 mapped f P xs e = Each-map (λ x. P (f x)) P f (λ x p. p) xs e
 
--- members of a text, and members that stand behind a word
+-- members of a text, and members that stand after a word
 
 pub many_parts : {T : Type 0} (a : Syntax T) (xs : List T) → fits_many a xs → Each a.fits xs
 many_parts a [] f = tt

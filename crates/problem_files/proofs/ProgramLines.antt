@@ -41,7 +41,7 @@ record IsLineAt (count i : ℕ) (c : Command) : Type 0 where
   few : command_bound c ≤ 64
   universal : IsUniversalCommand c
 
--- each of the lines behind n others
+-- each of the lines after n others
 abbrev AreLines : ℕ → ℕ → List Command → Type 0
 AreLines count n [] = Unit {0}
 AreLines count n (c ∷ cs) = IsLineAt count (n + 1) c × AreLines count (n + 1) cs
@@ -207,7 +207,7 @@ module _ (count : ℕ) (most : count ≤ 4096) where
   command_good i (commands.Goto j) l k = jump_good j l.stands (k + 1)
   command_good i commands.Stop l k = refl
 
-  -- behind the last line none follows
+  -- after the last line none follows
   before : (n : ℕ) → n + 1 < count → (b : Bool) → (nat_eq (suc n) count && b) ≡ false
   before n h b = and_left (nat_eq (suc n) count) b (ne_eqb (suc n) count (λ e. omega arith))
 

@@ -3,6 +3,7 @@ ghost use Rattle.std.specs.Prelude.{◌≡◌, ◌<◌, ◌≤◌, length, IfOk}
 ghost use Rattle.heap_formula.specs.Words.{Each};
 ghost use Rattle.problem_files.specs.Nodes.{IsNodeWithin};
 
+use cyc_limits::MOST_NODES;
 use cyc_memory::OutOfMemory;
 use formula_reader::Problem;
 use proof_file::{FileNodes, ProofFile};
@@ -15,7 +16,7 @@ pub fn file_for(
     nodes: FileNodes,
 ) -> Result<ProofFile, OutOfMemory>
     requires some_node { 0 < length nodes }
-    requires few { length nodes ≤ 20000 }
+    requires few { length nodes ≤ MOST_NODES }
     requires within { Each (IsNodeWithin problem.now.defs.most problem.now.defs.list (length problem.now.program)) nodes }
     ensures version { IfOk result (λ f. f.version ≡ problem.now.version) }
     ensures definitions { IfOk result (λ f. f.defs ≡ problem.now.defs) }

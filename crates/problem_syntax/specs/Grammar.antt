@@ -98,7 +98,7 @@ from_spatial (Cell (Primed s) ts) = inl (s, inr (true, ts))
 abbrev pub behind_address : Bool → Syntax (List Named)
 behind_address b = after arrow (after opening (fields (terms b)))
 
--- what stands behind a name
+-- what stands after a name
 unfoldable pub behind_name : Bool → Syntax (List Named ⊎ (Bool × List Named))
 behind_name b = alt (is_one opening) (after opening (arguments (terms b))) (seq (primes b) (behind_address b))
 
@@ -167,7 +167,7 @@ from_problem p = (p.version, (p.definitions, (p.lines, p.goal)))
 unfoldable pub last_part : Syntax Goal
 last_part = after goal_word (before (before goal last_word) semicolon)
 
--- what stands behind the version
+-- what stands after the version
 abbrev pub contents : Version → Syntax (List Definition × (List Line × Goal))
 contents v = after semicolon (seq definitions (seq (lines v) last_part))
 

@@ -13,7 +13,7 @@ use Rattle.problem_syntax.specs.declared.tree.GoalTree.TheVariants as goals
 use Rattle.problem_syntax.specs.declared.tree.ProblemTree.{ProblemTree}
 use Rattle.heap_syntax.specs.declared.tree.HeapTree.{HeapTree}
 
--- a term: nil, a name, or a name with a prime behind it
+-- a term: nil, a name, or a name with a prime after it
 pub data Named : Type 0 where
   Nil : Named
   Plain : List ℕ → Named

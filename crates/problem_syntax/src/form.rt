@@ -62,7 +62,7 @@ impl<'a> TermForm<'a> for NameForm {
     }
 }
 
-/// The fields of a cell, behind its address.
+/// The fields of a cell, after its address.
 fn cell_fields<'a>(
     alloc: Global,
     primed: bool,

@@ -14,7 +14,7 @@ use cyc_grammar::{Cursor, Refusal};
 use heap_syntax::{Mark, free_name, heaps};
 use std::alloc::Global;
 
-/// Reads the names behind some.
+/// Reads the names after some.
 fn more_names<'a>(
     mut items: Vec<&'a str>,
     cursor: &mut Cursor<'_, 'a>,
@@ -80,7 +80,7 @@ fn definition<'a>(alloc: Global, cursor: &mut Cursor<'_, 'a>) -> Result<Definiti
     })
 }
 
-/// Reads the definitions behind some.
+/// Reads the definitions after some.
 #[tactic(auto, unfolding(crate::specs::Grammar::definitions))]
 fn more_definitions<'a>(
     alloc: Global,

@@ -2,7 +2,7 @@
 
 use heap_syntax::Version;
 
-/// A term: `nil`, a name, or a name with a prime behind it.
+/// A term: `nil`, a name, or a name with a prime after it.
 #[derive(Clone, Copy)]
 pub enum NameTree<'a> {
     Nil,

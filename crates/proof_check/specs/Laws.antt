@@ -3,6 +3,7 @@ use Rattle.std.proofs.Common.{◌≡◌, ℕ, suc, ◌<◌, Bool, true, List, []
 use Rattle.std.specs.List.{list_all}
 use Rattle.std.proofs.lemmas.List.{length-map}
 use Rattle.std.proofs.lemmas.Bool.{leb-true, leb-false}
+use Rattle.cyc_limits.specs.declared.TheConstants.{MOST_CASES}
 use Rattle.heap_formula.specs.declared.terms.Term.{Term}
 use Rattle.heap_formula.specs.declared.commands.Command.{Command}
 use Rattle.heap_formula.specs.declared.commands.Command.TheVariants.{Assign, Load, Store, New, Free, IfEq, IfNeq, IfAny, Goto, Stop}
@@ -51,7 +52,7 @@ nodes_readable ns e v node at =
     subst (λ (n : Node). IsReadable n.judgement n.reason) m.is (node_readable m.from r)
 
 few_cases : (ds : List Definition) → all_have_few_cases ds ≡ true → Each HasFewCases ds
-few_cases ds e = each_passes has_few_cases HasFewCases (λ d h. leb-true (length d.cases) 16 h) ds e
+few_cases ds e = each_passes has_few_cases HasFewCases (λ d h. leb-true (length d.cases) MOST_CASES h) ds e
 
 pub file_readable : (f : ProofFile) → AreReadable (nodes_of f.nodes)
 file_readable f = nodes_readable f.nodes f.readable

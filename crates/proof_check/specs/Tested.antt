@@ -1,6 +1,7 @@
 -- A proof file of which the nodes are tested up to the first fault.
 use Rattle.std.specs.Prelude.{◌≡◌, ◌<◌, ◌≤◌, ℕ, Bool, nat_le, List, map, take, length, Option, Some, None, slice_get, Vec}
 use Rattle.std.specs.declared.alloc.Global.{Global}
+use Rattle.cyc_limits.specs.declared.TheConstants.{MOST_SPATIAL}
 use Rattle.heap_formula.specs.declared.commands.Command.{Command}
 use Rattle.heap_formula.specs.declared.commands.Command.TheVariants.{New}
 use Rattle.heap_formula.specs.declared.proof_rules.RuleFault.{RuleFault}
@@ -24,7 +25,7 @@ HasFields lines = (i x k : ℕ) → slice_get lines i ≡ Some (New x k) → 0 <
 
 -- the antecedents of the nodes before v have at most 32 spatial atoms
 abbrev pub IsSmallBefore : ProofFile → ℕ → Type 0
-IsSmallBefore f v = (u : ℕ) (node : Node) → u < v → slice_get (nodes_of f.nodes) u ≡ Some node → length (antecedent node.judgement).spatial ≤ 32
+IsSmallBefore f v = (u : ℕ) (node : Node) → u < v → slice_get (nodes_of f.nodes) u ≡ Some node → length (antecedent node.judgement).spatial ≤ MOST_SPATIAL
 
 -- the first n nodes have no fault
 pub record IsTested (f : ProofFile) (n : ℕ) : Type 0 where

@@ -1,5 +1,6 @@
 -- The first flaw of a file that the grammar has: what is ill-formed or passes a limit, and at which token.
 use Rattle.std.specs.Prelude.{ℕ, ◌+◌, ◌||◌, nat_eq, nat_lt, nat_le, List, length, None}
+use Rattle.cyc_limits.specs.declared.TheConstants.{GREATEST_PROGRAM_VARIABLE, GREATEST_VARIABLE, MOST_NODES}
 use Rattle.cyc_lex.specs.declared.fault.IllFault.TheVariants.{NoLine}
 use Rattle.cyc_lex.specs.declared.fault.What.TheVariants.{Disjuncts, ProgramVariables, Nodes, Variable}
 use Rattle.heap_syntax.specs.Versions.{most_spatial}
@@ -17,7 +18,7 @@ use Rattle.proof_file.specs.Spans.{term_span, variable_span, definition_span, ju
 
 -- a program variable is one of 64
 abbrev pub variable_flaw : ℕ → ℕ → Found
-variable_flaw k n = over_if (nat_lt 63 n) ProgramVariables (k + 1)
+variable_flaw k n = over_if (nat_lt GREATEST_PROGRAM_VARIABLE n) ProgramVariables (k + 1)
 
 abbrev pub program_flaw : ℕ → List Line → Found
 program_flaw k ls = lines_flaw variable_flaw variable_span k ls
@@ -38,7 +39,7 @@ judgement_flaw most hs count k (Entails e) = entailment_flaw most hs k e
 judgement_flaw most hs count k (From n h) = state_flaw most hs count k n h
 
 abbrev pub pair_flaw : ℕ → PairTree → Found
-pair_flaw k p = or_later (over_if (nat_lt 65534 p.variable) Variable (k + 1)) (term_flaw InNode (k + 3) p.value)
+pair_flaw k p = or_later (over_if (nat_lt GREATEST_VARIABLE p.variable) Variable (k + 1)) (term_flaw InNode (k + 3) p.value)
 
 abbrev pub reason_flaw : ℕ → List Heading → ℕ → Reason → Found
 reason_flaw most hs k Absurd = None
@@ -51,7 +52,7 @@ reason_flaw most hs k (Cut places formula) = heap_flaw (term_flaw InNode) term_s
 reason_flaw most hs k Done = None
 reason_flaw most hs k (Choose j) = None
 reason_flaw most hs k (PureRight i) = None
-reason_flaw most hs k (Instantiate v t) = or_later (over_if (nat_lt 65534 v) Variable (k + 2)) (term_flaw InNode (k + 3) t)
+reason_flaw most hs k (Instantiate v t) = or_later (over_if (nat_lt GREATEST_VARIABLE v) Variable (k + 2)) (term_flaw InNode (k + 3) t)
 reason_flaw most hs k (Frame i j) = None
 reason_flaw most hs k (UnfoldRight j c) = None
 reason_flaw most hs k Exec = None
@@ -61,7 +62,7 @@ reason_flaw most hs k (Link l) = listed_flaw (λ n. pair_flaw) pair_span 0 (k + 
 -- at most 20,000
 abbrev pub node_flaw : ℕ → List Heading → ℕ → ℕ → ℕ → Node → Found
 node_flaw most hs count n k node =
-    or_later (over_if (nat_le 20000 n) Nodes k) (or_later (judgement_flaw most hs count (k + 1) node.judgement) (reason_flaw most hs (k + 1 + judgement_span node.judgement) node.reason))
+    or_later (over_if (nat_le MOST_NODES n) Nodes k) (or_later (judgement_flaw most hs count (k + 1) node.judgement) (reason_flaw most hs (k + 1 + judgement_span node.judgement) node.reason))
 
 -- ---- files: four tokens stand before the definitions
 

@@ -2,6 +2,7 @@
 -- reason and in a command.
 use Rattle.std.specs.Prelude.{ℕ, Bool, true, ◌&&◌, List, length, nat_lt, nat_le}
 use Rattle.std.specs.List.{list_all}
+use Rattle.cyc_limits.specs.declared.TheConstants.{MOST_CASES}
 use Rattle.heap_formula.specs.declared.commands.Command.{Command}
 use Rattle.heap_formula.specs.declared.commands.Command.TheVariants as commands
 use Rattle.heap_formula.specs.declared.judgements.Judgement.{Judgement}
@@ -59,7 +60,7 @@ are_at_lines count ns = list_all (λ n. is_at_line count n.judgement) ns
 
 -- a predicate has at most sixteen cases
 abbrev pub has_few_cases : Definition → Bool
-has_few_cases d = nat_le (length d.cases) 16
+has_few_cases d = nat_le (length d.cases) MOST_CASES
 
 abbrev pub all_have_few_cases : List Definition → Bool
 all_have_few_cases ds = list_all has_few_cases ds

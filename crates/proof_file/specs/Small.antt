@@ -1,5 +1,6 @@
 -- Parts of trees that fit the values' types: numbers of 16 bits, lists within the limits.
 use Rattle.std.specs.Prelude.{◌<◌, ◌≤◌, length}
+use Rattle.cyc_limits.specs.declared.TheConstants.{MOST_DISJUNCTS, MOST_NODES, MOST_PREDICATES}
 use Rattle.heap_formula.specs.Words.{Each}
 use Rattle.heap_reader.specs.Small.{IsSmall, IsSmallHeap}
 use Rattle.proof_syntax.specs.declared.tree.PairTree.{PairTree}
@@ -11,7 +12,7 @@ pub record IsSmallEntailment (e : Entailment) : Type 0 where
   pub antecedent : IsSmallHeap term_value e.antecedent
   pub disjuncts : Each (IsSmallHeap term_value) e.disjuncts
   pub some : 0 < length e.disjuncts
-  pub few : length e.disjuncts ≤ 16
+  pub few : length e.disjuncts ≤ MOST_DISJUNCTS
 
 abbrev pub IsSmallJudgement : Judgement → Type 0
 IsSmallJudgement (Entails e) = IsSmallEntailment e
@@ -43,6 +44,6 @@ IsSmallNode n = IsSmallJudgement n.judgement × IsSmallReason n.reason
 
 pub record IsSmallFile (f : File) : Type 0 where
   pub definitions : Each IsSmallDefinition f.definitions
-  pub few : length f.definitions ≤ 4096
+  pub few : length f.definitions ≤ MOST_PREDICATES
   pub nodes : Each IsSmallNode f.nodes
-  pub nodes_few : length f.nodes ≤ 20000
+  pub nodes_few : length f.nodes ≤ MOST_NODES

@@ -1,4 +1,4 @@
--- How many tokens the parts of a file have, the one token behind a part counted in.
+-- How many tokens the parts of a file have, the one token after a part counted in.
 use Rattle.std.specs.Prelude.{ℕ, ◌+◌, List, [], ◌∷◌, length}
 use Rattle.heap_reader.specs.Spans.{total, total_or, heap_span}
 pub use Rattle.pred_reader.specs.Spans.{term_span, definition_span}
@@ -9,11 +9,11 @@ use Rattle.proof_syntax.specs.Trees.{Entailment, Judgement, Entails, From, LinkD
 abbrev pub variable_span : ℕ → ℕ
 variable_span n = 3
 
--- the turnstile stands behind the antecedent, and "by" behind the last disjunct
+-- the turnstile stands after the antecedent, and "by" after the last disjunct
 abbrev pub entailment_span : Entailment → ℕ
 entailment_span e = heap_span term_span e.antecedent + total (heap_span term_span) e.disjuncts
 
--- "from", the number, "given" and the state, behind which "by" stands
+-- "from", the number, "given" and the state, after which "by" stands
 abbrev pub judgement_span : Judgement → ℕ
 judgement_span (Entails e) = entailment_span e
 judgement_span (From n h) = 3 + heap_span term_span h
@@ -44,11 +44,11 @@ reason_span Exec = 2
 reason_span (Drop k) = 3
 reason_span (Link l) = link_span l
 
--- what stands behind the first word of "to", the premises and ";", or behind ";" alone
+-- what stands after the first word of "to", the premises and ";", or after ";" alone
 abbrev pub premises_rest : List ℕ → ℕ
 premises_rest [] = 0
 premises_rest (n ∷ ns) = length (n ∷ ns) + 1
 
--- "node" and what follows it; nothing behind it
+-- "node" and what follows it; nothing after it
 abbrev pub node_span : Node → ℕ
 node_span n = 1 + judgement_span n.judgement + reason_span n.reason + premises_rest n.premises

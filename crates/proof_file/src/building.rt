@@ -14,6 +14,7 @@ use crate::node::{FileNode, FileNodes};
 use crate::scope::ProgramVariables;
 use crate::values::node;
 use crate::walk;
+use cyc_limits::MOST_PREDICATES;
 use cyc_memory::OutOfMemory;
 use goto_lang::Program;
 use heap_reader::{Flaw, Heads, program, walk_lines};
@@ -98,7 +99,7 @@ pub fn node_of_tree(
     tree: &NodeTree<'_>,
 ) -> Result<FileNode, NodeFault>
     requires fits { node.fits (node_of tree.now) }
-    requires few { length heads.now ≤ 4096 }
+    requires few { length heads.now ≤ MOST_PREDICATES }
     requires room { at + node_span (node_of tree.now) < 2 ^ 64 }
     ensures { IsNodeMade (node_flaw (most_spatial version) heads.now lines n at (node_of tree.now)) (node_value heads.now (node_of tree.now)) result }
 {

@@ -6,6 +6,7 @@ ghost use Rattle.proof_file.specs.Readable.{are_readable, are_universal_commands
 ghost use Rattle.proof_file.specs.Flaws.{file_flaw};
 ghost use Rattle.proof_file.specs.Fits.{file-fit};
 ghost use Rattle.proof_file.specs.Written.{tree_of};
+ghost use Rattle.cyc_limits.specs.declared.TheConstants.{MOST_NODES};
 
 use crate::node::FileNodes;
 use goto_lang::Program;
@@ -23,7 +24,7 @@ pub struct ProofFile {
     pub program: Program,
     pub nodes: FileNodes,
     ghost some: { 0 < length nodes },
-    ghost few: { length nodes ≤ 20000 },
+    ghost few: { length nodes ≤ MOST_NODES },
     ghost readable: { are_readable nodes ≡ true },
     ghost universal: { are_universal_commands program ≡ true },
     ghost at_lines: { are_at_lines (length program) nodes ≡ true },

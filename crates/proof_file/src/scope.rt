@@ -1,6 +1,7 @@
 // The program variables of proof files.
 
 use cyc_lex::What;
+use cyc_limits::GREATEST_PROGRAM_VARIABLE;
 use heap_reader::{Flaw, VariableReader, over};
 
 /// Universal variables as program variables, of which there are at most 64.
@@ -21,7 +22,7 @@ impl VariableReader for ProgramVariables {
     ghost value = { values.variable_value };
 
     fn walk(&self, at: usize, variable: u32) -> Result<usize, Flaw> {
-        if variable > 63 {
+        if variable > GREATEST_PROGRAM_VARIABLE {
             return Err(over(What::ProgramVariables, at + 1));
         }
         Ok(at + 3)

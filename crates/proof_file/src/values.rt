@@ -6,6 +6,7 @@ ghost use Rattle.proof_file.specs.Small.{IsSmallJudgement, IsSmallPair, IsSmallR
 ghost use Rattle.proof_file.specs.Values.{judgement_value, side_value, pair_value, link_value, reason_value, node_value};
 
 use crate::node::FileNode;
+use cyc_limits::MOST_PREDICATES;
 use cyc_memory::OutOfMemory;
 use heap_formula::{Judgement, Link, Positions, Reason, Rule, Side, Subst};
 use heap_reader::{Heads, TermReader, entailment_value, heap_value};
@@ -19,7 +20,7 @@ fn judgement(
     tree: &JudgementTree<'_>,
 ) -> Result<Judgement, OutOfMemory>
     requires small { IsSmallJudgement (judgement_of tree.now) }
-    requires few { length heads.now ≤ 4096 }
+    requires few { length heads.now ≤ MOST_PREDICATES }
     ensures { IfOk result (λ j. j ≡ judgement_value heads.now (judgement_of tree.now)) }
 {
     match tree {
@@ -82,7 +83,7 @@ fn link(alloc: Global, tree: &LinkTree) -> Result<Link, OutOfMemory>
 
 fn reason(alloc: Global, heads: &Heads<'_>, tree: &ReasonTree<'_>) -> Result<Reason, OutOfMemory>
     requires small { IsSmallReason (reason_of tree.now) }
-    requires few { length heads.now ≤ 4096 }
+    requires few { length heads.now ≤ MOST_PREDICATES }
     ensures { IfOk result (λ r. r ≡ reason_value heads.now (reason_of tree.now)) }
 {
     let rule = match tree {
@@ -119,7 +120,7 @@ fn reason(alloc: Global, heads: &Heads<'_>, tree: &ReasonTree<'_>) -> Result<Rea
 
 pub fn node(alloc: Global, heads: &Heads<'_>, tree: &NodeTree<'_>) -> Result<FileNode, OutOfMemory>
     requires small { IsSmallNode (node_of tree.now) }
-    requires few { length heads.now ≤ 4096 }
+    requires few { length heads.now ≤ MOST_PREDICATES }
     ensures { IfOk result (λ n. n ≡ node_value heads.now (node_of tree.now)) }
 {
     let judgement = judgement(alloc, heads, &tree.judgement)?;
@@ -139,7 +140,7 @@ pub fn nodes(
     trees: &[NodeTree<'_>],
 ) -> Result<Vec<FileNode>, OutOfMemory>
     requires small { Each IsSmallNode (map node_of trees.now) }
-    requires few { length heads.now ≤ 4096 }
+    requires few { length heads.now ≤ MOST_PREDICATES }
     ensures { IfOk result (λ v. v.items ≡ map (node_value heads.now) (map node_of trees.now)) }
 {
     let mut nodes = Vec::with_capacity(alloc, trees.len())?;

@@ -1,5 +1,5 @@
 // A walk over a file's tree in the order of its tokens, up to the first flaw. Each function is given the number of the
-// part's first token and gives that of the token behind it and the one that follows every part of its kind. A heap has at
+// part's first token and gives that of the token after it and the one that follows every part of its kind. A heap has at
 // most `most` spatial atoms.
 ghost use Rattle.std.specs.Prelude.{◌≡◌, ◌+◌, ◌<◌, ◌≤◌, ◌^◌, length, map, nat_lt};
 ghost use Rattle.cyc_lex.specs.declared.fault.What.TheVariants.{Variable};
@@ -12,6 +12,7 @@ ghost use Rattle.pred_reader.specs.declared.scope.Scope.TheVariants.{Outside};
 
 use crate::scope::ProgramVariables;
 use cyc_lex::{IllFault, What};
+use cyc_limits::{GREATEST_VARIABLE, MOST_NODES};
 use heap_reader::{Flaw, Heads, TermReader, ill, over, walk_heap, walk_heaps, walk_lines};
 use pred_reader::{Scope, walk_definitions};
 use proof_syntax::{
@@ -77,7 +78,7 @@ fn pair(at: usize, tree: PairTree) -> Result<usize, Flaw>
     requires { at + pair_span tree < 2 ^ 64 }
     ensures { IsWalk result (pair_flaw at tree) (at + pair_span tree) }
 {
-    if tree.variable > 65534 {
+    if tree.variable > GREATEST_VARIABLE {
         return Err(over(What::Variable, at + 1));
     }
     Scope::Outside.walk(at + 3, tree.value)
@@ -94,7 +95,7 @@ fn pairs(at: usize, trees: &[PairTree]) -> Result<usize, Flaw>
     Ok(next)
 }
 
-/// The pairs of a substitution and the brace behind them.
+/// The pairs of a substitution and the brace after them.
 fn pair_part(at: usize, trees: &[PairTree]) -> Result<usize, Flaw>
     requires { at + total_or 1 pair_span trees.now < 2 ^ 64 }
     ensures { IsWalk result (listed_flaw (λ n. pair_flaw) pair_span 0 at trees.now) (at + total_or 1 pair_span trees.now) }
@@ -115,9 +116,9 @@ fn link(at: usize, tree: &LinkTree) -> Result<usize, Flaw>
 
 fn instantiate(at: usize, variable: u32, tree: TermTree) -> Result<usize, Flaw>
     requires { at + 3 + term_span tree < 2 ^ 64 }
-    ensures { IsWalk result (or_later (over_if (nat_lt 65534 variable) Variable (at + 2)) (term_flaw Outside (at + 3) tree)) (at + 3 + term_span tree) }
+    ensures { IsWalk result (or_later (over_if (nat_lt GREATEST_VARIABLE variable) Variable (at + 2)) (term_flaw Outside (at + 3) tree)) (at + 3 + term_span tree) }
 {
-    if variable > 65534 {
+    if variable > GREATEST_VARIABLE {
         return Err(over(What::Variable, at + 2));
     }
     Scope::Outside.walk(at + 3, tree)
@@ -177,7 +178,7 @@ pub fn node(
     requires { at + node_span (node_of tree.now) < 2 ^ 64 }
     ensures { IsWalk result (node_flaw most heads.now count n at (node_of tree.now)) (at + node_span (node_of tree.now)) }
 {
-    if n >= 20000 {
+    if n >= MOST_NODES {
         return Err(over(What::Nodes, at));
     }
     let by = judgement(heads, most, count, at + 1, &tree.judgement)?;

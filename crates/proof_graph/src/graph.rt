@@ -10,14 +10,12 @@ use crate::graph_nodes::{NodeView, StoredNode};
 use crate::nodes::{GraphNode, PremisePairs};
 use crate::traces::{traces_of, traces_with};
 use bumpalo::Bump;
+use cyc_limits::MOST_NODES;
 use cyc_memory::OutOfMemory;
 use heap_formula::{Judgement, Reason};
 use std::alloc::{AllocError, Global};
 use std::marker::Model;
 use trace_pairs::TraceGraph;
-
-/// The greatest number of nodes.
-pub const MOST_NODES: usize = 20000;
 
 /// Why a graph takes no further node: it has 20,000, or memory was refused.
 #[derive(Clone, Copy, Debug, PartialEq, Eq)]
@@ -58,12 +56,13 @@ impl From<AllocError> for GraphFault {
 impl<'a> Model for Graph<'a> {
     ghost use Rattle.std.specs.Prelude.{List, length, ◌≤◌};
     ghost use Rattle.proof_graph.specs.declared.nodes.GraphNode.{GraphNode};
+    ghost use Rattle.cyc_limits.specs.declared.TheConstants.{MOST_NODES};
 
     ghost Value = { List GraphNode };
 
     ghost view = { λ g. g.nodes.items };
 
-    ghost invariant = { λ g. length g.nodes.items ≤ 20000 };
+    ghost invariant = { λ g. length g.nodes.items ≤ MOST_NODES };
 }
 
 impl<'a> Graph<'a> {

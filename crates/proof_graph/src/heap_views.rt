@@ -1,6 +1,7 @@
 //! Heaps and judgements whose atoms lie in an arena.
 
 ghost use Rattle.std.specs.Prelude.{◌≡◌, ◌<◌, ◌≤◌, length, IfOk};
+ghost use Rattle.cyc_limits.specs.declared.TheConstants.{MOST_DISJUNCTS, MOST_PURE, MOST_SPATIAL};
 
 use crate::heap_lists::heap_views;
 use bumpalo::Bump;
@@ -13,8 +14,8 @@ use std::alloc::Global;
 pub struct HeapView<'a> {
     pub pure: &'a [Pure],
     pub spatial: &'a [Spatial],
-    pub ghost pure_fits: { length pure.now ≤ 64 },
-    pub ghost spatial_fits: { length spatial.now ≤ 32 },
+    pub ghost pure_fits: { length pure.now ≤ MOST_PURE },
+    pub ghost spatial_fits: { length spatial.now ≤ MOST_SPATIAL },
 }
 
 /// The disjuncts of a succedent, in an arena.
@@ -22,7 +23,7 @@ pub struct HeapView<'a> {
 pub struct DisjunctsView<'a> {
     pub heaps: &'a [HeapView<'a>],
     pub ghost some: { 0 < length heaps.now },
-    pub ghost few: { length heaps.now ≤ 16 },
+    pub ghost few: { length heaps.now ≤ MOST_DISJUNCTS },
 }
 
 /// A judgement whose atoms lie in an arena.

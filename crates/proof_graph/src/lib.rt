@@ -11,7 +11,7 @@ mod reason_views;
 mod traces;
 
 pub use cyc_memory::OutOfMemory;
-pub use graph::{Graph, GraphFault, MOST_NODES};
+pub use graph::{Graph, GraphFault};
 pub use graph_nodes::NodeView;
 pub use heap_views::{DisjunctsView, HeapView, JudgementView};
 pub use nodes::{GraphNode, GraphPremise, GraphPremises, PremisePairs, PremiseView};

@@ -10,6 +10,7 @@ ghost use Rattle.proof_graph.specs.Traces.{positions_of, predicate_places as pla
 use crate::graph_nodes::{StoredNode, first_slot};
 use crate::heap_views::{HeapView, JudgementView};
 use crate::nodes::PremiseView;
+use cyc_limits::MOST_SPATIAL;
 use cyc_memory::OutOfMemory;
 use heap_formula::{Heap, Judgement, Pair, Pairs, Reason, Spatial};
 use std::alloc::Global;
@@ -37,7 +38,7 @@ fn antecedent(judgement: &Judgement) -> &Heap
 
 /// The places of the predicate atoms, from 0.
 fn predicate_places(alloc: Global, atoms: &[Spatial]) -> Result<Vec<u8>, OutOfMemory>
-    requires { length atoms.now ≤ 32 }
+    requires { length atoms.now ≤ MOST_SPATIAL }
     ensures value { IfOk result (λ v. v.items ≡ places_from 0 atoms.now) }
     ensures set { IfOk result (λ v. IsPositionSet v.items) }
 {

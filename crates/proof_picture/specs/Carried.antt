@@ -15,7 +15,7 @@ flag_in (Some flags) k = in_case (slice_get flags k)
     in_case None = false
     in_case (Some flag) = flag
 
--- whether atom k of node u stands out, where the flags of the nodes behind v are known; no other is asked for in a proof
+-- whether atom k of node u stands out, where the flags of the nodes after v are known; no other is asked for in a proof
 -- in order, whose premises have greater numbers
 abbrev pub flag_at : List (List Bool) → ℕ → ℕ → ℕ → Bool
 flag_at behind v u k = if nat_le u v then false else flag_in (slice_get behind (u - v - 1)) k

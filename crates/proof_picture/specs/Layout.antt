@@ -13,7 +13,7 @@ abbrev pub begins_line : List ℕ → Bool
 begins_line text = bytes_eq text (codes "|-") || (bytes_eq text (codes "or") || bytes_eq text (codes "by"))
 
 -- how far the words have come: whether the spatial atoms of the antecedent have begun; for the atom that is next or has
--- begun, and for each behind it, whether it stands out; how many bytes the words of the line have, counted up to a hundred
+-- begun, and for each after it, whether it stands out; how many bytes the words of the line have, counted up to a hundred
 -- or so; and whether the last word is a comma
 pub record Place : Type 0 where
   pub inside : Bool
@@ -39,7 +39,7 @@ signs_with signs text = if nat_lt signs 100 then signs + length text else signs
 abbrev pub stands_out : Place → List ℕ → Bool
 stands_out place text = place.inside && (not (bytes_eq text (codes "*") || begins_line text) && first_flag place.flags)
 
--- a long line ends before the next star, and one that is longer behind the next comma
+-- a long line ends before the next star, and one that is longer after the next comma
 abbrev pub ends_line : Place → List ℕ → Bool
 ends_line place text =
     begins_line text || ((nat_lt 34 place.signs && bytes_eq text (codes "*")) || (nat_lt 52 place.signs && place.comma))
@@ -57,7 +57,7 @@ signs_behind place gaps.Line = 0
 signs_behind place gaps.Within = place.signs
 signs_behind place gaps.Space = place.signs
 
--- a star leads to the next atom, and a line behind the antecedent has none
+-- a star leads to the next atom, and a line after the antecedent has none
 abbrev pub flags_behind : Place → List ℕ → List Bool
 flags_behind place text =
     if begins_line text then [] else (if place.inside && bytes_eq text (codes "*") then other_flags place.flags else place.flags)

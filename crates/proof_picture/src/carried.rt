@@ -8,7 +8,7 @@ use cyc_memory::OutOfMemory;
 use std::alloc::Global;
 use std::collections::VecDeque;
 
-/// Whether an atom of the node with number `target` stands out, where the flags of the nodes behind `v` are known.
+/// Whether an atom of the node with number `target` stands out, where the flags of the nodes after `v` are known.
 fn flag_at(behind: &VecDeque<Vec<bool>>, v: usize, target: usize, atom: usize) -> bool
     ensures { result ≡ flag_in (map flags_of behind.now.items) v target atom }
 {

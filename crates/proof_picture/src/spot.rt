@@ -13,7 +13,7 @@ pub enum Gap {
 }
 
 /// How far the words have come: whether the spatial atoms of the antecedent have begun; for the atom that is next or has
-/// begun, and for each behind it, whether it stands out; how many bytes the words of the line have, counted up to a
+/// begun, and for each after it, whether it stands out; how many bytes the words of the line have, counted up to a
 /// hundred or so; and whether the last word is a comma.
 #[derive(Drop)]
 pub struct Spot<'a> {

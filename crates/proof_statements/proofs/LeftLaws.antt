@@ -1,4 +1,4 @@
--- What is left of a proof file is read as a statement, and then as what is left behind that one.
+-- What is left of a proof file is read as a statement, and then as what is left after that one.
 use Rattle.std.proofs.Common.{◌≡◌, ℕ, suc, ◌+◌, Bool, true, false, List, [], ◌∷◌, ◌++◌, length, Ok, Err, refl, sym, ap, ◌∙◌, arith, inl, inr, ◌⊎◌}
 use Rattle.cyc_lex.specs.Word.{Word}
 use Rattle.cyc_grammar.specs.Syntax.{Reading, ◌>>=◌, one, seq, begins, alt, many, after, before, read_class, is_one}
@@ -121,7 +121,7 @@ preds-first v ws = by (begins (is_one pred_word) ws) refl
         ∙ past-definitions v ws
         ∙ sym (alt-second (is_one pred_word) definition (line_or_node v) ws (from_statement (Preds v)) h)
 
--- what stands behind the version
+-- what stands after the version
 abbrev Behind : Type 0
 Behind = List Definition × (List Line × List Node)
 
@@ -164,7 +164,7 @@ begins-with (Preds v) ws = preds-first v ws
 begins-with (Lines v) ws = lines-first v ws
 begins-with Nodes ws = nodes-first ws
 
--- ---- each statement is read in one way, and nothing goes on behind it
+-- ---- each statement is read in one way, and nothing goes on after it
 
 first-law : Lawful first_statement
 unfolding first_statement

@@ -1,4 +1,4 @@
--- What is read of lists of statements, and of what stands behind them.
+-- What is read of lists of statements, and of what stands after them.
 use Rattle.std.proofs.Common.{◌≡◌, Bool, true, false, cond, List, [], ◌∷◌, Ok, Err, refl, ap, ◌∙◌, inl, inr, ◌⊎◌}
 use Rattle.cyc_lex.specs.Word.{Word}
 use Rattle.cyc_grammar.specs.Syntax.{Reading, ◌>>=◌, Syntax, Class, one, seq, begins, alt, many, after, before, read_class}
@@ -6,13 +6,13 @@ use Rattle.cyc_grammar.proofs.Laws.{Lawful}
 use Rattle.proof_statements.specs.Left.{joined}
 use Rattle.proof_statements.proofs.Statements.{HasWords, with_first, many-more, many-none}
 
--- ---- what is read behind a value
+-- ---- what is read after a value
 
--- a word behind it
+-- a word after it
 abbrev pub then_word : {A : Type 0} → Class (Unit {0}) → Reading A → Reading A
 then_word c q = q >>= λ x. read_class c x.1 >>= λ y. Ok (x.0, y.1)
 
--- b behind it
+-- b after it
 abbrev pub then_read : {A B : Type 0} → Syntax B → Reading A → Reading (A × B)
 then_read b q = q >>= λ x. b.read x.1 >>= λ y. Ok ((x.0, y.0), y.1)
 
@@ -63,7 +63,7 @@ alt-second {A = A} {B = B} {C = C} test a b ws F h = ap (λ (c : Bool). cond c (
     by (Err n) = refl
     by (Ok x) = refl
 
--- ---- a list of statements, and what stands behind it
+-- ---- a list of statements, and what stands after it
 
 pub listed-more : {A B : Type 0} (test : Word → Bool) (a : Syntax A) (b : Syntax B) (e : Class (Unit {0})) → Lawful a → HasWords a → (ws : List Word) → begins test ws ≡ true
     → (before (seq (many test a) b) e).read ws ≡ (a.read ws >>= λ x. joined {A = List A × B} {B = List A × B} (λ p. (x.0 ∷ p.0, p.1)) ((before (seq (many test a) b) e).read x.1))
@@ -83,7 +83,7 @@ listed-none {A = A} {B = B} test a b e ws h =
     ∙ ap (λ q. then_word e q) (read-value b [] ws)
     ∙ word-joined {A = B} {B = List A × B} e (λ y. ([], y)) (b.read ws)
 
--- the words c and s behind the list, and e behind those
+-- the words c and s after the list, and e after those
 pub ending-more : {A : Type 0} (test : Word → Bool) (a : Syntax A) (c s e : Class (Unit {0})) → Lawful a → HasWords a → (ws : List Word) → begins test ws ≡ true
     → (before (before (before (many test a) c) s) e).read ws ≡ (a.read ws >>= λ x. joined (λ y. x.0 ∷ y) ((before (before (before (many test a) c) s) e).read x.1))
 ending-more {A = A} test a c s e law some ws h = ap (λ q. then_word e (then_word s (then_word c q))) (many-more test a law some ws h) ∙ by (a.read ws)

@@ -27,7 +27,7 @@ fault-stays s law ws more left e = by (law.fault ws (suc left) e) (law.fault ws 
         let size : suc (length (r ++ more)) ≡ suc (left + length more) = omega (arith, f.size, ap length is, length-append r more) in
         ap s.read whole ∙ f.stays d r (r ++ more) is ∙ ap (λ n. Err n) size
 
--- ---- a list of statements is one, and the list behind it
+-- ---- a list of statements is one, and the list after it
 
 -- each text of a has a word
 abbrev pub HasWords : {A : Type 0} → Syntax A → Type 0

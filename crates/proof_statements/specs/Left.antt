@@ -1,4 +1,4 @@
--- What is left of a proof file behind some of its statements: a statement, and what is left behind that one.
+-- What is left of a proof file after some of its statements: a statement, and what is left after that one.
 use Rattle.std.specs.Prelude.{List, [], ◌∷◌, ◌⊎◌, Ok, Err}
 use Rattle.std.proofs.Common.{inl, inr}
 use Rattle.cyc_grammar.specs.Syntax.{Reading, Syntax, one, seq, alt, after, before, is_one}
@@ -73,7 +73,7 @@ next (Lines v) (inr n) = At Nodes
 next Nodes (inl n) = At Nodes
 next Nodes (inr u) = Ended
 
--- with what is left behind it
+-- with what is left after it
 abbrev pub join : (p : Part) (t : Statement p) → Left (next p t) → Left (At p)
 join First v x = record { version = v; definitions = x.0; lines = x.1.0; nodes = x.1.1 }
 join (Preds v) (inl d) x = (d ∷ x.0, x.1)
@@ -84,7 +84,7 @@ join (Lines v) (inr n) x = ([], n ∷ x)
 join Nodes (inl n) x = n ∷ x
 join Nodes (inr u) x = []
 
--- what is read behind a statement, with the statement
+-- what is read after a statement, with the statement
 abbrev pub joined : {A B : Type 0} → (A → B) → Reading A → Reading B
 joined f (Ok x) = Ok (f x.0, x.1)
 joined f (Err left) = Err left

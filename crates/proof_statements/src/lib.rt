@@ -1,4 +1,4 @@
-//! Proof files statement by statement: the statement that may come next, and what is left behind it.
+//! Proof files statement by statement: the statement that may come next, and what is left after it.
 #![tactic(auto)]
 
 mod read_statements;
@@ -12,7 +12,7 @@ pub use read_statements::{first_statement, line_or_node, node_or_end, pred_or_la
 pub use tree::{LineOrNode, NodeOrEnd, PredOrLater};
 
 /// A statement comes off the front of what is left of a file: whatever words follow, what is read of all is the
-/// statement, joined with what is read of those words as what is left behind it.
+/// statement, joined with what is read of those words as what is left after it.
 pub fn statements_come_off_the_front()
     ensures { (p : Part) (ws more : List Word) (t : Statement p) → (statement_of p).read ws ≡ Ok (t, [])
         → (left_of (At p)).read (ws ++ more) ≡ joined (join p t) ((left_of (next p t)).read more) }

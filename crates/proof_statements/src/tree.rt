@@ -2,21 +2,21 @@
 
 use proof_syntax::{DefinitionTree, LineTree, NodeTree};
 
-/// A statement that may come behind a line.
+/// A statement that may come after a line.
 #[derive(Drop)]
 pub enum LineOrNode<'a> {
     Line(LineTree),
     Node(NodeTree<'a>),
 }
 
-/// A statement that may come behind the first one or a definition.
+/// A statement that may come after the first one or a definition.
 #[derive(Drop)]
 pub enum PredOrLater<'a> {
     Pred(DefinitionTree<'a>),
     Later(LineOrNode<'a>),
 }
 
-/// A statement that may come behind a node.
+/// A statement that may come after a node.
 #[derive(Drop)]
 pub enum NodeOrEnd<'a> {
     Node(NodeTree<'a>),

@@ -55,7 +55,7 @@ variable = after dollar (one number)
 abbrev pub lines : Version → Syntax (List Line)
 lines v = commands.lines v variable
 
--- ---- judgement = uheap "|-" heap { "or" heap } | "from" number "given" uheap, and "by" behind it
+-- ---- judgement = uheap "|-" heap { "or" heap } | "from" number "given" uheap, and "by" after it
 
 abbrev pub to_entailment : Heap × List Heap → Entailment
 to_entailment p = record { antecedent = p.0; disjuncts = p.1 }
@@ -144,7 +144,7 @@ from_link l = (l.target, (l.substitution, (l.mapped, l.disjuncts)))
 unfoldable pub link : Syntax LinkData
 link = shaped {A = ℕ × (List PairTree × (List ℕ × List ℕ))} to_link from_link Any (seq (one number) (after opening_brace (seq pairs (seq bracketed bracketed))))
 
--- ---- reason: a rule's word, and what this rule has behind it
+-- ---- reason: a rule's word, and what this rule has after it
 
 abbrev pub Parts : ReasonWord → Type 0
 Parts words.Absurd = Unit {0}
@@ -221,7 +221,7 @@ from_reason Exec = (words.Exec, tt)
 from_reason (Drop k) = (words.Drop, k)
 from_reason (Link l) = (words.Link, l)
 
--- what is read behind a rule's word, as a reason
+-- what is read after a rule's word, as a reason
 abbrev pub parts_read : ReasonWord → List Word → Reading Reason
 parts_read w ws = (parts w).read ws >>= λ y. Ok (made_of w y.0, y.1)
 
@@ -231,7 +231,7 @@ reason_word = keyword_of reason_text reason_words
 unfoldable pub reason : Syntax Reason
 reason = shaped {A = (w : ReasonWord) × Parts w} to_reason from_reason Any (headed reason_word parts)
 
--- the words behind a rule's word, case by case
+-- the words after a rule's word, case by case
 abbrev pub behind_word : Reason → List Word
 behind_word Absurd = []
 behind_word (Rewrite k s) = rewrite.words (k, s)
@@ -311,7 +311,7 @@ to_file p = record { version = p.0; definitions = p.1.0; lines = p.1.1.0; nodes 
 abbrev pub from_file : File → (v : Version) × (List Definition × (List Line × List Node))
 from_file f = (f.version, (f.definitions, (f.lines, f.nodes)))
 
--- what stands behind the version
+-- what stands after the version
 abbrev pub contents : Version → Syntax (List Definition × (List Line × List Node))
 contents v = after semicolon (seq definitions (seq (lines v) (before nodes semicolon)))
 

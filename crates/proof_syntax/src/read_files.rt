@@ -95,7 +95,7 @@ pub fn node<'a>(alloc: Global, cursor: &mut Cursor<'_, 'a>) -> Result<NodeTree<'
     })
 }
 
-/// Reads the nodes behind some.
+/// Reads the nodes after some.
 #[tactic(auto, unfolding(crate::specs::Grammar::more_nodes))]
 fn more_nodes<'a>(
     alloc: Global,

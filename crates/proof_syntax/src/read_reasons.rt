@@ -102,7 +102,7 @@ fn pair(cursor: &mut Cursor<'_, '_>) -> Result<PairTree, Refusal>
     Ok(PairTree { variable, value })
 }
 
-/// Reads the entries of a substitution behind some.
+/// Reads the entries of a substitution after some.
 fn more_pairs(
     mut items: Vec<PairTree>,
     cursor: &mut Cursor<'_, '_>,
@@ -170,7 +170,7 @@ fn reason_word(cursor: &mut Cursor<'_, '_>) -> Result<ReasonWord, Refusal>
     }
 }
 
-/// Reads what stands behind the word of a reason.
+/// Reads what stands after the word of a reason.
 #[tactic(auto, unfolding(crate::specs::Grammar::parts))]
 fn parts<'a>(
     alloc: Global,

@@ -3,7 +3,7 @@
 use heap_syntax::Version;
 pub use pred_syntax::{DefinitionTree, HeapTree, PureTree, SpatialTree, TermTree};
 
-/// A line of the program; a program variable is the number behind its `$`.
+/// A line of the program; a program variable is the number after its `$`.
 pub type LineTree = command_syntax::LineTree<u32>;
 
 /// An entailment; the antecedent has universal variables alone, and there is at least one disjunct.

@@ -17,7 +17,7 @@ line 3 : stop;
 line 4 : stop;
 ";
 
-/// The file whose node 0 is the companion; node 1 and those behind it are the bud, by these links from node 2 on.
+/// The file whose node 0 is the companion; node 1 and those after it are the bud, by these links from node 2 on.
 fn file_of(alloc: Global, ends: Ends, links: &[&[u8]]) -> Result<ProofFile, Fail> {
     let (bud, companion) = ends;
     let mut text = Vec::from_slice(alloc, NAMES)?;

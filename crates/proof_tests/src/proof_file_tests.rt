@@ -103,7 +103,7 @@ end;
 ";
 
 /// Texts, whether the file is upgraded, and what is written of it: a text in the written form as it stands, other spaces
-/// and comments not, and an upgraded file with version 2 and the same statements behind the first.
+/// and comments not, and an upgraded file with version 2 and the same statements after the first.
 static WRITTEN_TEXTS: &[(&[u8], bool, &[u8])] = &[
     (NO_DEFINITION, false, NO_DEFINITION),
     (PREDICATES, false, PREDICATES),

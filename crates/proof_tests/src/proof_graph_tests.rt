@@ -184,7 +184,7 @@ fn numbered(alloc: Global, line: u32) -> Judgement {
     Judgement::Term(line, Heap::new(alloc))
 }
 
-/// A node that is pushed after others were cut off lies behind those that were left.
+/// A node that is pushed after others were cut off comes after those that were left.
 #[test]
 fn nodes_are_cut_off(rt: HostRuntime) -> Result<(), Fail> {
     let alloc = rt.alloc();

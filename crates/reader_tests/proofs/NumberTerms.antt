@@ -27,7 +27,7 @@ atoms-all = spatial-all numbers numbers-all numbers-nameless
 pub number-heap : Lawful (heap numbers (spatial numbers))
 number-heap = heap-law numbers (spatial numbers) numbers-all atoms-all
 
--- heaps with "or" between neighbours and ";" behind the last
+-- heaps with "or" between neighbours and ";" after the last
 abbrev pub number-list : Syntax (List (Heap ℕ))
 number-list = heaps or_word semicolon (heap numbers (spatial numbers))
 

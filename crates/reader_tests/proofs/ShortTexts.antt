@@ -1,4 +1,4 @@
--- Texts whose terms and variables have three tokens, the one behind them counted in.
+-- Texts whose terms and variables have three tokens, the one after them counted in.
 use Rattle.std.proofs.Common.{◌≡◌, ℕ, ◌+◌, ◌*◌, ◌<◌, ◌≤◌, List, [], ◌∷◌, length, map, None, refl, arith}
 use Rattle.std.specs.Prelude.{nat_lt}
 use Rattle.cyc_lex.specs.declared.fault.What.TheVariants.{ProgramVariables}

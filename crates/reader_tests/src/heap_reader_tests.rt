@@ -505,7 +505,7 @@ fn flaws_stand_at_their_tokens(rt: HostRuntime) -> Result<(), Fail> {
 }
 
 /// The numbers of the predicates in two heaps of one, or the first flaw of the two, whose first word is token 4; such a
-/// heap without arguments and the word behind it are six tokens.
+/// heap without arguments and the word after it are six tokens.
 fn two_heaps(
     alloc: Global,
     list: &[Head<'_>],
@@ -530,7 +530,7 @@ fn two_heaps(
     }
 }
 
-/// Heaps are walked and made in order, the second one behind the first.
+/// Heaps are walked and made in order, the second one after the first.
 #[test]
 fn heaps_stand_one_behind_the_other(rt: HostRuntime) -> Result<(), Fail> {
     let alloc = rt.alloc();

@@ -211,7 +211,7 @@ fn heap_again(alloc: Global, bytes: &[u8]) -> Result<Vec<u8>, &'static str> {
     }
 }
 
-/// What is written of heaps with `or` between neighbours and `;` behind the last.
+/// What is written of heaps with `or` between neighbours and `;` after the last.
 fn heaps_again(alloc: Global, bytes: &[u8]) -> Result<Vec<u8>, &'static str> {
     let list = cut(alloc, bytes)?;
     let (between, behind) = (Mark::Keyword("or"), Mark::Symbol(";"));
@@ -281,7 +281,7 @@ fn heaps_are_read(rt: HostRuntime) -> Result<(), Fail> {
     Ok(())
 }
 
-/// Texts of heaps with `or` between neighbours and `;` behind the last, and how many tokens there are from the dead one on.
+/// Texts of heaps with `or` between neighbours and `;` after the last, and how many tokens there are from the dead one on.
 static DEAD: &[(&[u8], usize)] = &[
     (b"", 1),
     (b"1 : 2 : emp;", 6),

@@ -6,7 +6,7 @@ use model_file::{Model, read_model};
 use std::alloc::Global;
 use std::test::Fail;
 
-/// What is read: the token at which a syntax fault stands; or the token behind, and whether there is no flaw, or the flaw
+/// What is read: the token at which a syntax fault stands; or the token after, and whether there is no flaw, or the flaw
 /// and whether a definition to come may mend it.
 #[derive(Clone, Copy, Debug, PartialEq, Eq)]
 enum Read {
@@ -17,7 +17,7 @@ enum Read {
     Other,
 }
 
-/// A heap or a definition, and what is read of it behind the definitions of `DEFINED`, from token 3 on.
+/// A heap or a definition, and what is read of it after the definitions of `DEFINED`, from token 3 on.
 static HEAPS: &[(&[u8], Read)] = &[
     (b". . . true:ls($0,?3) . .", Read::Value(13)),
     (b". . . true:emp*emp", Read::Value(6)),

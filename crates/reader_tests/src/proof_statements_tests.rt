@@ -70,7 +70,7 @@ fn statement(
     }
 }
 
-/// What stands at the front of a text, and how many tokens are left behind it, or from the first dead one on.
+/// What stands at the front of a text, and how many tokens are left after it, or from the first dead one on.
 fn front(alloc: Global, part: Part, bytes: &[u8]) -> Result<(&'static str, usize), &'static str> {
     let list = cut(alloc, bytes)?;
     let mut cursor = start(&list);

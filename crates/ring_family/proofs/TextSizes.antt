@@ -10,7 +10,7 @@ use Rattle.cyc_lex.specs.Spacing.{is_text, closes_up, is_closed_up, ends_line, g
 abbrev pub spaced_word : Word → ℕ
 spaced_word w = length w.text + 1
 
--- the length of these words with a space behind each
+-- the length of these words with a space after each
 abbrev pub spaced_words : List Word → ℕ
 spaced_words ws = sum_by spaced_word ws
 
@@ -31,7 +31,7 @@ behind_short u [] = feed_short (ends_line u)
 behind_short u (v ∷ vs) =
     omega (arith, length-append (gap u v) (v.text ++ text_behind v vs), length-append v.text (text_behind v vs), gap_short u v, behind_short v vs, sum_by-cons spaced_word v vs)
 
--- a text is no longer than its words with a space behind each
+-- a text is no longer than its words with a space after each
 pub text_short : (ws : List Word) → length (text_of ws) ≤ spaced_words ws
 unfolding text_of
 text_short [] = omega arith

@@ -37,7 +37,7 @@ fn rewritten(alloc: Global, k: u16, i: u16) -> Result<FileNode, OutOfMemory>
     )
 }
 
-/// The nodes of the case of `nil`, behind the first.
+/// The nodes of the case of `nil`, after the first.
 fn push_nil_case(
     alloc: Global,
     k: u16,

@@ -47,7 +47,7 @@ first_set (suc p) (suc n) zero a (v ∷ s) ys le = ap (λ l. a ∷ l) (first_sho
 first_set (suc p) (suc n) (suc x) a [] ys le = ap (λ l. 0 ∷ l) (first_set p n x a [] ys (omega arith))
 first_set (suc p) (suc n) (suc x) a (v ∷ s) ys le = ap (λ l. v ∷ l) (first_set p n x a s ys (omega arith))
 
--- the stack after x is set to a: its old value and the new cell's fields go behind
+-- the stack after x is set to a: its old value and the new cell's fields go after
 abbrev pub after_new : ℕ → ℕ → Stack → ℕ → List ℕ → Stack
 after_new n x s a vs = set (first_values n s) x a ++ (slice_index s x ∷ vs)
 

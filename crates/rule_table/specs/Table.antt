@@ -1,5 +1,6 @@
 -- The rules but Exec: the first fault, or the premises with their trace pairs.
 use Rattle.std.specs.Prelude.{ℕ, ◌+◌, max, List, [], ◌∷◌, ◌++◌, map, length, nat_eq, nat_le, if◌then◌else◌, Ok, Err, slice_get, slice_set, slice_index_or}
+use Rattle.cyc_limits.specs.declared.TheConstants.{MOST_SPATIAL}
 use Rattle.heap_formula.specs.declared.terms.Term.{Term}
 use Rattle.heap_formula.specs.declared.terms.Term.TheVariants.{Nil, Univ, Exist}
 use Rattle.heap_formula.specs.declared.atoms.Pure.{Pure}
@@ -97,7 +98,7 @@ rewrite_answer p j k side = finds (slice_get (antecedent j).pure k) NoSuchAtom (
 
 -- Split: `t = u` is appended, and `t != u`; no spatial atom comes in, so the limit is what any version allows
 abbrev pub split_answer : Judgement → Term → Term → Answer
-split_answer j t u = limited 32 (two (with_pure j (Eq t u)) (with_pure j (Neq t u)))
+split_answer j t u = limited MOST_SPATIAL (two (with_pure j (Eq t u)) (with_pure j (Neq t u)))
 
 -- Distinct i k: cells i and k have different addresses; where i is k, its address is not `nil`
 abbrev pub distinct_answer : Judgement → ℕ → ℕ → Answer
@@ -106,7 +107,7 @@ distinct_answer j i k =
     finds (slice_get (antecedent j).spatial k) NoSuchAtom (λ y.
     finds (address_of x) NoCell (λ t.
     finds (address_of y) NoCell (λ u.
-    limited 32 (one (with_pure j (Neq t (if nat_eq i k then Nil else u))))))))
+    limited MOST_SPATIAL (one (with_pure j (Neq t (if nat_eq i k then Nil else u))))))))
 
 -- Weaken k: pure atom k is dropped
 abbrev pub weaken_answer : Judgement → ℕ → Answer

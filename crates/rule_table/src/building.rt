@@ -6,6 +6,7 @@ ghost use Rattle.rule_table.specs.Answer.{one, two};
 ghost use Rattle.rule_table.specs.Table.{with_pures, with_pure, with_right};
 
 use crate::pairing::pairs_of_same;
+use cyc_limits::MOST_PURE;
 use heap_formula::{Disjuncts, Heap, Judgement, OutOfMemory, Premise, Pure};
 use std::alloc::Global;
 
@@ -69,7 +70,7 @@ pub fn with_pure_atoms(
     judgement: &Judgement,
     pure: Vec<Pure>,
 ) -> Result<Premise, OutOfMemory>
-    requires { length pure.items ≤ 64 }
+    requires { length pure.items ≤ MOST_PURE }
     ensures { IfOk result (λ p. p ≡ with_pures judgement.now pure.items) }
 {
     let spatial = Vec::from_slice(alloc, antecedent(judgement).spatial())?;
@@ -94,7 +95,7 @@ pub fn with_pure_atom(
     judgement: &Judgement,
     atom: Pure,
 ) -> Result<Premise, OutOfMemory>
-    requires { length (antecedent_of judgement.now).pure < 64 }
+    requires { length (antecedent_of judgement.now).pure < MOST_PURE }
     ensures { IfOk result (λ p. p ≡ with_pure judgement.now atom) }
 {
     let pure = pure_atoms_and(alloc, antecedent(judgement).pure(), atom)?;

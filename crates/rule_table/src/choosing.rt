@@ -4,6 +4,7 @@ ghost use Rattle.heap_formula.specs.Positions.{chosen, chosen_place, pairs_from}
 ghost use Rattle.rule_table.specs.Tests.{ascend_from, has_number};
 ghost use Rattle.rule_table.specs.Choosing.{chosen_from, chosen_pairs as pairs_chosen, taken};
 
+use cyc_limits::MOST_SPATIAL;
 use heap_formula::{OutOfMemory, Pair, Pairs, Spatial};
 use std::alloc::Global;
 
@@ -67,7 +68,7 @@ fn pick_pairs(
     places: &[u32],
     atoms: &[Spatial],
 ) -> Result<Pairs, OutOfMemory>
-    requires { length atoms.now ≤ 32 }
+    requires { length atoms.now ≤ MOST_SPATIAL }
     ensures { IfOk result (λ p. p ≡ pairs_chosen (taken outside places.now) 0 0 atoms.now) }
 {
     let mut pairs = Pairs::new(alloc);
@@ -107,7 +108,7 @@ pub fn chosen_pairs(
     places: &[u32],
     atoms: &[Spatial],
 ) -> Result<Pairs, OutOfMemory>
-    requires { length atoms.now ≤ 32 }
+    requires { length atoms.now ≤ MOST_SPATIAL }
     ensures { IfOk result (λ p. p ≡ pairs_from (chosen_place (taken outside places.now) atoms.now) 0 (chosen (taken outside places.now) atoms.now)) }
 {
     pick_pairs(alloc, outside, places, atoms)

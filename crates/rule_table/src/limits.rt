@@ -8,6 +8,7 @@ ghost use Rattle.rule_table.specs.Table.{with_pure};
 ghost use Rattle.heap_formula.specs.Judgements.{antecedent};
 ghost use Rattle.heap_formula.specs.declared.atoms.Pure.{Pure};
 
+use cyc_limits::{MOST_PURE, MOST_SPATIAL, VARIABLE_NUMBERS};
 use heap_formula::{
     Heap, Judgement, Premise, RuleError, RuleFault, Variables, bound_in_heap, bound_of_judgement,
 };
@@ -15,7 +16,7 @@ use heap_formula::{
 fn are_small(heap: &Heap) -> bool
     ensures { result ≡ has_numbers heap.now }
 {
-    bound_in_heap(Variables::All, heap) <= 65535
+    bound_in_heap(Variables::All, heap) <= VARIABLE_NUMBERS
 }
 
 fn all_small(heaps: &[Heap]) -> bool
@@ -64,7 +65,7 @@ pub fn numbered(premises: Vec<Premise>) -> Result<Vec<Premise>, RuleError>
 pub fn is_short(most: u8, heap: &Heap) -> bool
     ensures { result ≡ short most heap.now }
 {
-    heap.pure().len() <= 64 && heap.spatial().len() <= most as usize
+    heap.pure().len() <= MOST_PURE && heap.spatial().len() <= most as usize
 }
 
 /// Whether each heap has at most `most` spatial atoms, and at most 64 pure ones.
@@ -91,14 +92,14 @@ pub fn are_disjuncts_short(most: u8, judgement: &Judgement) -> bool
 
 /// Whether one more pure atom on the left keeps the limits.
 pub fn has_room(judgement: &Judgement) -> bool
-    ensures each { (x : Pure) → result ≡ every (short 32) (heaps_of (with_pure judgement.now x).judgement) }
-    ensures room { result ≡ true → length (antecedent judgement.now).pure < 64 }
+    ensures each { (x : Pure) → result ≡ every (short MOST_SPATIAL) (heaps_of (with_pure judgement.now x).judgement) }
+    ensures room { result ≡ true → length (antecedent judgement.now).pure < MOST_PURE }
 {
     match judgement {
-        Judgement::Entail(a, bs) => a.pure().len() < 64
-            && a.spatial().len() <= 32
+        Judgement::Entail(a, bs) => a.pure().len() < MOST_PURE
+            && a.spatial().len() <= MOST_SPATIAL
             && are_short(32, bs.heaps()),
-        Judgement::Term(_, a) => a.pure().len() < 64 && a.spatial().len() <= 32,
+        Judgement::Term(_, a) => a.pure().len() < MOST_PURE && a.spatial().len() <= MOST_SPATIAL,
     }
 }
 

@@ -14,7 +14,7 @@ use Rattle.search_calculus.specs.Calculus.{OpenGoal, MadeNode, back, premises, b
 use Rattle.search_calculus.specs.Graphs.{traces_from, traces_of}
 use Rattle.search_calculus.specs.Search.{calculus_of}
 
--- the graph with node m more, behind the nodes before
+-- the graph with node m more, after the nodes before
 abbrev pub traced_with : Theory → List MadeNode → List Node → MadeNode → List Node
 traced_with t before graph m =
     linked (length before) (grown (bare_calculus t) graph m.goal) (back t before m.goal m.reason)

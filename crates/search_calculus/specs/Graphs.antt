@@ -15,7 +15,7 @@ use Rattle.search_calculus.specs.Calculus.{OpenGoal, MadeNode, judgement_of, bar
 
 -- ---- trace graphs
 
--- the graph with these nodes more, behind those before
+-- the graph with these nodes more, after those before
 abbrev pub traces_from : Theory → List MadeNode → List Node → List MadeNode → List Node
 traces_from t before graph [] = graph
 traces_from t before graph (m ∷ ms) =
@@ -38,7 +38,7 @@ abbrev pub graph_node : Theory → List MadeNode → Node → MadeNode → Graph
 graph_node t before traces m =
     record { judgement = judgement_of m; reason = Some m.reason; premises = filled (pairs_of t before (judgement_of m) m.reason) traces.edges }
 
--- these nodes, behind those before, with the edges of a trace graph
+-- these nodes, after those before, with the edges of a trace graph
 abbrev pub nodes_from : Theory → List MadeNode → List Node → List MadeNode → List GraphNode
 nodes_from t before [] ms = []
 nodes_from t before (n ∷ ns) [] = []

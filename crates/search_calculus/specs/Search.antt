@@ -1,11 +1,11 @@
 -- The search for a proof of a judgement.
 use Rattle.std.specs.Prelude.{ℕ, List, map, length}
+use Rattle.cyc_limits.specs.declared.TheConstants.{MOST_NODES}
 use Rattle.heap_formula.specs.declared.judgements.Judgement.{Judgement}
 use Rattle.heap_formula.specs.declared.proof_rules.Reason.{Reason}
 use Rattle.heap_formula.specs.declared.proof_rules.Reason.TheVariants.{Step, Back}
 use Rattle.derivation_search.specs.System.{System}
 use Rattle.buchi_inclusion.specs.Answers.{state_limit}
-use Rattle.proof_graph.specs.declared.graph.TheConstants.{MOST_NODES}
 use Rattle.search_moves.specs.Trying.{Theory}
 use Rattle.search_moves.specs.Offering.{links_offered, rules_offered}
 use Rattle.tableaux.specs.Tableau.{Calculus}

@@ -18,10 +18,12 @@ ghost use Rattle.search_calculus.specs.Graphs.{traces_of, made_graph, goal_graph
 ghost use Rattle.search_calculus.specs.Problems.{IsSmallProblem};
 ghost use Rattle.search_calculus.specs.Search.{calculus_of};
 
+use cyc_limits::{MOST_CASES, MOST_SPATIAL};
+
 /// The calculus is in order where heaps have at most as many spatial atoms as a version allows and definitions at most
 /// sixteen cases. So the laws of tableaux are so of it.
 pub fn small_problems_are_fair()
-    ensures { (t : Theory) → t.most ≤ 32 → Each (λ d. length d.cases ≤ 16) t.definitions → IsFair (calculus_of t) (λ j. length (antecedent j).spatial ≤ t.most) (λ r. Unit {0}) }
+    ensures { (t : Theory) → t.most ≤ MOST_SPATIAL → Each (λ d. length d.cases ≤ MOST_CASES) t.definitions → IsFair (calculus_of t) (λ j. length (antecedent j).spatial ≤ t.most) (λ r. Unit {0}) }
 {}
 
 /// The trace graph of a partial derivation is that of its nodes, with one node for each; that of a small problem is in order.

@@ -25,6 +25,6 @@ agree_to_end ts us k h = rw (drop_all k us h) (agree_with_none (drop k ts))
 pub agreed : (ts us : List Term) (k : ℕ) → length ts ≤ k → agree (drop k ts) (drop k us) ≡ true
 agreed ts us k h = rw (drop_all k ts h) refl
 
--- where there is no instance at a place, it is looked for behind it
+-- where there is no instance at a place, it is looked for after it
 pub goes_on : (ts us : List Term) (k : ℕ) → k < length ts → k < length us → instance_at (slice_index_or ts k Nil) (slice_index_or us k Nil) ≡ None → first_instance (drop k ts) (drop k us) ≡ first_instance (drop (k + 1) ts) (drop (k + 1) us)
 goes_on ts us k l m none = rw (add-one, drop-cons ts k Nil l, drop-cons us k Nil m, none) refl

@@ -1,5 +1,6 @@
 -- Room for a case of a predicate on the right side, and for the cases of one on the left.
 use Rattle.std.specs.Prelude.{ℕ, ◌+◌, max, map, List, length, Bool, ◌&&◌, nat_le}
+use Rattle.cyc_limits.specs.declared.TheConstants.{MOST_PURE, VARIABLE_NUMBERS}
 use Rattle.heap_formula.specs.declared.judgements.Judgement.{Judgement}
 use Rattle.heap_formula.specs.Judgements.{antecedent}
 use Rattle.heap_formula.specs.Symbolic.{SymbolicHeap}
@@ -10,10 +11,10 @@ use Rattle.rule_table.specs.Answer.{disjuncts, every, heap_numbers, heaps_of, is
 abbrev pub has_room_for : ℕ → SymbolicHeap → SymbolicHeap → SymbolicHeap → Bool
 has_room_for most a b case =
     is_short most a
-    && (nat_le (length b.pure + length case.pure) 64
+    && (nat_le (length b.pure + length case.pure) MOST_PURE
     && (nat_le (length b.spatial + length case.spatial) (most + 1)
-    && (nat_le (heap_numbers a) 65535
-    && nat_le (heap_numbers b + heap_numbers case) 65535)))
+    && (nat_le (heap_numbers a) VARIABLE_NUMBERS
+    && nat_le (heap_numbers b + heap_numbers case) VARIABLE_NUMBERS)))
 
 -- 1 plus the greatest number of a variable of the judgement, 0 if it has none
 abbrev pub judgement_numbers : Judgement → ℕ
@@ -22,9 +23,9 @@ judgement_numbers j = max_of (map heap_numbers (heaps_of j))
 -- a case can stand in the place of an atom of a, its locals having numbers from n on
 abbrev pub has_room_from : ℕ → ℕ → SymbolicHeap → SymbolicHeap → Bool
 has_room_from most n a case =
-    nat_le (length a.pure + length case.pure) 64
+    nat_le (length a.pure + length case.pure) MOST_PURE
     && (nat_le (length a.spatial + length case.spatial) (most + 1)
-    && nat_le (n + heap_numbers case) 65535)
+    && nat_le (n + heap_numbers case) VARIABLE_NUMBERS)
 
 -- each case can stand in the place of an atom of the antecedent, its locals having numbers above all of the judgement
 abbrev pub has_room_left : ℕ → ℕ → Judgement → List SymbolicHeap → Bool

@@ -237,7 +237,7 @@ works_on i node = is_on_line i node.judgement && has_rule is_work node.reason
 
 -- ---- the lines
 
--- folds are tried behind Exec alone, where the line was worked on before
+-- folds are tried after Exec alone, where the line was worked on before
 abbrev pub folds_if : Theory → List GraphNode → ℕ → ℕ → SymbolicHeap → List Rule
 folds_if t nodes goal i a =
     if climbs nodes goal goal && list_any (works_on i) (take goal nodes) then folds a t.definitions else []

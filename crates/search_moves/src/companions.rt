@@ -7,15 +7,13 @@ ghost use Rattle.search_moves.specs.Offering.{is_companion as is_companion_of, i
 
 use crate::ways::{unfolds, works_on};
 use back_links::all_links;
+use cyc_limits::MOST_LINKS;
 use cyc_memory::OutOfMemory;
 use goto_lang::Program;
 use heap_formula::{Judgement, Link};
 use proof_graph::{Graph, JudgementView};
 use rule_book::variables_of;
 use std::alloc::Global;
-
-/// The greatest number of links to one companion.
-const MOST_LINKS: u32 = 1_000_000;
 
 fn is_entailment(judgement: &JudgementView<'_>) -> bool
     ensures { result ≡ is_entailment_judgement (judgement_of judgement.now) }

@@ -8,6 +8,7 @@ ghost use Rattle.rule_table.specs.Table.{choose_answer, done_answer, frame_answe
 ghost use Rattle.search_moves.specs.Rooms.{has_room_for as case_has_room, has_room_from as case_has_room_from, judgement_numbers};
 ghost use Rattle.search_moves.specs.Trying.{has_premises};
 
+use cyc_limits::{MOST_PURE, VARIABLE_NUMBERS};
 use goto_lang::Program;
 use heap_formula::{Heap, Judgement, Spatial, Variables, bound_in_heap};
 use pred_defs::Defs;
@@ -95,10 +96,11 @@ fn has_room_for(most: u8, a: &Heap, b: &Heap, case: &Heap) -> bool
     ensures { result ≡ case_has_room most a.now b.now case.now }
 {
     is_short(most, a)
-        && b.pure().len() + case.pure().len() <= 64
+        && b.pure().len() + case.pure().len() <= MOST_PURE
         && b.spatial().len() + case.spatial().len() <= most as usize + 1
-        && bound_in_heap(Variables::All, a) <= 65535
-        && bound_in_heap(Variables::All, b) + bound_in_heap(Variables::All, case) <= 65535
+        && bound_in_heap(Variables::All, a) <= VARIABLE_NUMBERS
+        && bound_in_heap(Variables::All, b) + bound_in_heap(Variables::All, case)
+            <= VARIABLE_NUMBERS
 }
 
 /// Whether a case has room enough on the right side, so that UnfoldRight has no fault; where not, it may have one.
@@ -148,9 +150,9 @@ fn has_room_from(most: u8, number: u32, a: &Heap, case: &Heap) -> bool
     requires { number ≤ 65536 }
     ensures { result ≡ case_has_room_from most number a.now case.now }
 {
-    a.pure().len() + case.pure().len() <= 64
+    a.pure().len() + case.pure().len() <= MOST_PURE
         && a.spatial().len() + case.spatial().len() <= most as usize + 1
-        && number + bound_in_heap(Variables::All, case) <= 65535
+        && number + bound_in_heap(Variables::All, case) <= VARIABLE_NUMBERS
 }
 
 fn have_room_from(most: u8, number: u32, a: &Heap, cases: &[Heap]) -> bool

@@ -3,6 +3,7 @@ ghost use Rattle.std.specs.Prelude.{◌≡◌, ◌≤◌, ◌++◌, IfOk, OnOk, 
 ghost use Rattle.fold_offers.specs.Places.{each_place};
 ghost use Rattle.search_moves.specs.Entailments.{choices as choices_of, unfolds as unfolds_of, pure_rights as pure_rights_of, rewrites as rewrites_of, side_of, frames_from, cell_frames as cell_frames_of, predicate_frames as predicate_frames_of};
 
+use cyc_limits::MOST_PURE;
 use cyc_memory::OutOfMemory;
 use fold_offers::{is_cell, is_predicate};
 use heap_formula::{Heap, Pure, Rule, Side, Spatial, Term};
@@ -26,7 +27,7 @@ fn side(atom: Pure) -> Option<Side>
 
 /// Rewrite by the first equation.
 pub fn rewrites(alloc: Global, pures: &[Pure]) -> Result<Vec<Rule>, OutOfMemory>
-    requires { length pures.now ≤ 64 }
+    requires { length pures.now ≤ MOST_PURE }
     ensures { IfOk result (λ v. v.items ≡ rewrites_of pures.now) }
 {
     let mut rules = Vec::new(alloc);
@@ -67,7 +68,7 @@ pub fn unfolds(alloc: Global, atoms: &[Spatial]) -> Result<Vec<Rule>, OutOfMemor
 
 /// PureRight, for each pure atom.
 pub fn pure_rights(alloc: Global, pures: &[Pure]) -> Result<Vec<Rule>, OutOfMemory>
-    requires { length pures.now ≤ 64 }
+    requires { length pures.now ≤ MOST_PURE }
     ensures { IfOk result (λ v. v.items ≡ pure_rights_of pures.now) }
 {
     let mut rules = Vec::new(alloc);

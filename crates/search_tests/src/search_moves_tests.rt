@@ -317,7 +317,7 @@ const NOTHING: Said = Said::Entails(
 const FOLDED: &[Named] = &[Named::Fold(&[0, 1], Shape::List(X)), Named::Exec];
 
 static DERIVATIONS: &[Row] = &[
-    // behind Exec, also over Rewrite, at a line that was worked on
+    // after Exec, also over Rewrite, at a line that was worked on
     Row {
         before: &[Earlier(Said::From(2, LIST_AT_Z), Made::Executed, Some(1))],
         goal: CELL_AND_LIST,
@@ -333,7 +333,7 @@ static DERIVATIONS: &[Row] = &[
         links: &[0],
         rules: FOLDED,
     },
-    // no fold behind Unfold, nor where the line is new
+    // no fold after Unfold, nor where the line is new
     Row {
         before: &[Earlier(Said::From(2, LIST_AT_Z), Made::Unfolded, Some(1))],
         goal: CELL_AND_LIST,

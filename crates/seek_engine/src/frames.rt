@@ -89,7 +89,7 @@ fn line_of(judgement: &Judgement) -> u32 {
 }
 
 /// The premises of a step's first rule as goals, the first one at the end. Of two lines the lower one comes first, so that
-/// a loop is settled before the code behind it.
+/// a loop is settled before the code after it.
 pub fn goals_of(
     alloc: Global,
     premises: Vec<Premise>,

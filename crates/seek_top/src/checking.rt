@@ -4,6 +4,7 @@ ghost use Rattle.heap_formula.specs.declared.judgements.Judgement.{Judgement as 
 ghost use Rattle.proof_file.specs.declared.node.FileNode.{FileNode as Node};
 ghost use Rattle.seek_top.specs.Found.{IsSought};
 
+use cyc_limits::MOST_NODES;
 use cyc_memory::OutOfMemory;
 use formula_reader::Problem;
 use heap_formula::{Judgement, is_same_judgement};
@@ -31,7 +32,7 @@ pub fn checked(
 ) -> Result<Option<ProofFile>, OutOfMemory>
     ensures { IfOk result (IsSought problem.now) }
 {
-    if nodes.is_empty() || nodes.len() > 20000 || !has_goal(&nodes, &problem.goal) {
+    if nodes.is_empty() || nodes.len() > MOST_NODES || !has_goal(&nodes, &problem.goal) {
         return Ok(None);
     }
     let lines = problem.program.lines().len();

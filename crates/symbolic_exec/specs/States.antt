@@ -1,5 +1,6 @@
 -- Symbolic states as the program makes them, and their sizes.
 use Rattle.std.specs.Prelude.{ℕ, zero, suc, ◌+◌, ◌≤◌, min, List, [], ◌∷◌, length, Bool, ◌&&◌, nat_le}
+use Rattle.cyc_limits.specs.declared.TheConstants.{MOST_LINES, MOST_PURE, MOST_SPATIAL}
 use Rattle.heap_formula.specs.declared.terms.Term.{Term}
 use Rattle.heap_formula.specs.declared.terms.Term.TheVariants.{Univ}
 use Rattle.heap_formula.specs.declared.commands.Command.{Command}
@@ -14,11 +15,11 @@ variables_up_to n (suc k) = Univ (min n 65535) ∷ variables_up_to (suc n) k
 
 -- within the limits with this many more pure atoms, and this many more spatial ones
 abbrev pub has_room_for : ℕ → ℕ → ℕ → SymbolicHeap → Bool
-has_room_for most pure spatial a = nat_le (length a.pure + pure) 64 && nat_le (length a.spatial + spatial) most
+has_room_for most pure spatial a = nat_le (length a.pure + pure) MOST_PURE && nat_le (length a.spatial + spatial) most
 
 -- a line of a program, a number for a fresh variable, and a limit of some version
 abbrev pub IsSetting : Setting → Type 0
-IsSetting at = (at.line ≤ 4096) × (at.fresh ≤ 65536) × (at.most ≤ 32)
+IsSetting at = (at.line ≤ MOST_LINES) × (at.fresh ≤ 65536) × (at.most ≤ MOST_SPATIAL)
 
 -- the number of fields of a new cell, 0 where there is none
 abbrev pub new_fields : Command → ℕ

@@ -13,6 +13,7 @@ ghost use Rattle.symbolic_exec.specs.States.{has_room_for, IsSetting, new_fields
 
 use crate::cells::{FoundCell, cell_at, field_at, with_field};
 use crate::states::{allocated, assigned, at_line, only_at_line, with_atom};
+use cyc_limits::{MOST_ARGUMENTS, MOST_PURE};
 use cyc_memory::OutOfMemory;
 use heap_formula::{Command, Heap, Judgement, Premise, Pure, RuleError, RuleFault, Spatial, Term};
 use rule_table::{is_short, numbered, one_premise, pairs_of_kept, two_premises};
@@ -32,7 +33,7 @@ fn has_room(most: u8, a: &Heap, pure: usize, spatial: usize) -> bool
     requires few_spatial { spatial ≤ 1 }
     ensures { result ≡ has_room_for most pure spatial a.now }
 {
-    if a.pure().len() + pure > 64 {
+    if a.pure().len() + pure > MOST_PURE {
         return false;
     }
     a.spatial().len() + spatial <= most as usize
@@ -107,7 +108,7 @@ fn store(
 
 fn new(alloc: Global, at: Setting, a: &Heap, x: u16, k: u8) -> Result<Vec<Premise>, RuleError>
     requires setting { IsSetting at }
-    requires few { k ≤ 8 }
+    requires few { k ≤ MOST_ARGUMENTS }
     ensures { IsAnswer result (command_answer at.most at.line a.now at.fresh (New x k)) }
 {
     if !has_room(at.most, a, 0, 1) {
@@ -158,7 +159,7 @@ fn branches(
     fails: Pure,
 ) -> Result<Vec<Premise>, OutOfMemory>
     requires setting { IsSetting at }
-    requires room { length a.now.pure < 64 }
+    requires room { length a.now.pure < MOST_PURE }
     ensures { IfOk result (λ v. v.items ≡ two (premise_at target a.now (heap_with_atom a.now holds)) (premise_at (at.line + 1) a.now (heap_with_atom a.now fails))) }
 {
     let jumps = at_line(alloc, target, a, with_atom(alloc, a, holds)?)?;
@@ -213,7 +214,7 @@ pub fn command_premises(
     command: Command,
 ) -> Result<Vec<Premise>, RuleError>
     requires setting { IsSetting at }
-    requires few { new_fields command ≤ 8 }
+    requires few { new_fields command ≤ MOST_ARGUMENTS }
     ensures { IsAnswer result (command_answer at.most at.line a.now at.fresh command) }
 {
     match command {

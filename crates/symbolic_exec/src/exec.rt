@@ -11,6 +11,7 @@ ghost use Rattle.rule_table.specs.Soundness.{IsUniversalPremise};
 ghost use Rattle.symbolic_exec.specs.Lines.{IsPremiseAtLine};
 
 use crate::commands::{Setting, command_premises};
+use cyc_limits::MOST_SPATIAL;
 use goto_lang::Program;
 use heap_formula::{Command, Judgement, Premise, RuleError, RuleFault};
 use rule_table::fresh;
@@ -33,7 +34,7 @@ fn exec(
     judgement: &Judgement,
     most: u8,
 ) -> Result<Vec<Premise>, RuleError>
-    requires { most ≤ 32 }
+    requires { most ≤ MOST_SPATIAL }
     ensures { IsAnswer result (exec_answer most program.now judgement.now) }
 {
     let Judgement::Term(line, a) = judgement else {
@@ -61,7 +62,7 @@ pub fn premises_exec(
     judgement: &Judgement,
     most: u8,
 ) -> Result<Vec<Premise>, RuleError>
-    requires { most ≤ 32 }
+    requires { most ≤ MOST_SPATIAL }
     ensures answer { IsAnswer result (exec_answer most program.now judgement.now) }
     ensures sound { IfOk result (λ v. (ds : List Definition) → IsLocallySound ds program.now judgement.now v.items) }
     ensures keeps { IfOk result (λ v. IsUniversalHeap (antecedent judgement.now) → Each IsUniversalPremise v.items) }

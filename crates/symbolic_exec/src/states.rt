@@ -6,6 +6,7 @@ ghost use Rattle.rule_table.specs.Answer.{one};
 ghost use Rattle.rule_table.specs.ExecTable.{renamed, renamed_term, with_atom as heap_with_atom, with_cell as heap_with_cell, at_line as premise_at};
 ghost use Rattle.symbolic_exec.specs.States.{variables_up_to};
 
+use cyc_limits::{MOST_ARGUMENTS, MOST_PURE, MOST_SPATIAL};
 use cyc_memory::OutOfMemory;
 use heap_formula::{
     Args, Heap, Judgement, Premise, Pure, Spatial, Subst, Term, apply_to_heap, apply_to_term,
@@ -38,7 +39,7 @@ pub fn only_at_line(
 
 /// The state with one more pure atom.
 pub fn with_atom(alloc: Global, a: &Heap, atom: Pure) -> Result<Heap, OutOfMemory>
-    requires { length a.now.pure < 64 }
+    requires { length a.now.pure < MOST_PURE }
     ensures { IfOk result (λ h. h ≡ heap_with_atom a.now atom) }
 {
     let mut pure = Vec::from_slice(alloc, a.pure())?;
@@ -47,7 +48,7 @@ pub fn with_atom(alloc: Global, a: &Heap, atom: Pure) -> Result<Heap, OutOfMemor
 }
 
 fn with_cell(alloc: Global, a: &Heap, x: u16, fields: Args) -> Result<Heap, OutOfMemory>
-    requires { length a.now.spatial < 32 }
+    requires { length a.now.spatial < MOST_SPATIAL }
     ensures { IfOk result (λ h. h ≡ heap_with_cell a.now x fields) }
 {
     let mut spatial = Vec::from_slice(alloc, a.spatial())?;
@@ -73,7 +74,7 @@ fn renaming(alloc: Global, x: u16, n: u32) -> Result<Subst, OutOfMemory>
 
 /// The state after `x := t`: variable `n` stands for the old value of `x`.
 pub fn assigned(alloc: Global, a: &Heap, x: u16, n: u32, t: Term) -> Result<Heap, OutOfMemory>
-    requires { length a.now.pure < 64 }
+    requires { length a.now.pure < MOST_PURE }
     ensures { IfOk result (λ h. h ≡ heap_with_atom (renamed x (min n 65535) a.now) (Eq (Univ x) (renamed_term x (min n 65535) t))) }
 {
     let subst = renaming(alloc, x, n)?;
@@ -88,7 +89,7 @@ pub fn assigned(alloc: Global, a: &Heap, x: u16, n: u32, t: Term) -> Result<Heap
 // The variables from number n on, k of them.
 fn variables(n: u32, k: u8) -> Args
     requires small { n ≤ 65537 }
-    requires few { k ≤ 8 }
+    requires few { k ≤ MOST_ARGUMENTS }
     ensures { result ≡ variables_up_to n k }
 {
     let mut terms = [Term::Nil; 8];
@@ -101,8 +102,8 @@ fn variables(n: u32, k: u8) -> Args
 /// The state after `x := new k`: variable `n` stands for the old value of `x`, and those after it for the cell's fields.
 pub fn allocated(alloc: Global, a: &Heap, x: u16, n: u32, k: u8) -> Result<Heap, OutOfMemory>
     requires small { n ≤ 65536 }
-    requires few { k ≤ 8 }
-    requires room { length a.now.spatial < 32 }
+    requires few { k ≤ MOST_ARGUMENTS }
+    requires room { length a.now.spatial < MOST_SPATIAL }
     ensures { IfOk result (λ h. h ≡ heap_with_cell (renamed x (min n 65535) a.now) x (variables_up_to (n + 1) k)) }
 {
     let subst = renaming(alloc, x, n)?;

@@ -1,5 +1,6 @@
 -- The premises of Cut, as the program makes them, and their sizes.
 use Rattle.std.specs.Prelude.{ℕ, ◌+◌, length, Bool, ◌&&◌, nat_le}
+use Rattle.cyc_limits.specs.declared.TheConstants.{MOST_PURE}
 use Rattle.heap_formula.specs.declared.terms.Term.{Term}
 use Rattle.heap_formula.specs.declared.judgements.Judgement.{Judgement}
 use Rattle.heap_formula.specs.declared.judgements.Premise.{Premise}
@@ -21,4 +22,4 @@ cut_right_by j p f formula =
 -- both premises are within the limits, where n spatial atoms stay: the first has the others, the second these and the formula's
 abbrev pub cut_fits : ℕ → Judgement → ℕ → SymbolicHeap → Bool
 cut_fits most j n formula =
-    nat_le (length (antecedent j).spatial) (n + most) && (nat_le (length (antecedent j).pure + length formula.pure) 64 && (nat_le (n + length formula.spatial) most && every (is_short most) (disjuncts j)))
+    nat_le (length (antecedent j).spatial) (n + most) && (nat_le (length (antecedent j).pure + length formula.pure) MOST_PURE && (nat_le (n + length formula.spatial) most && every (is_short most) (disjuncts j)))

@@ -1,5 +1,6 @@
 -- The premises of Unfold and UnfoldRight, as the program makes them, and their sizes.
 use Rattle.std.specs.Prelude.{ℕ, ◌+◌, [], ◌∷◌, ◌++◌, length, Bool, ◌&&◌, nat_le}
+use Rattle.cyc_limits.specs.declared.TheConstants.{MOST_PURE}
 use Rattle.heap_formula.specs.declared.terms.Term.{Term}
 use Rattle.heap_formula.specs.declared.judgements.Judgement.{Judgement}
 use Rattle.heap_formula.specs.declared.judgements.Premise.{Premise}
@@ -22,7 +23,7 @@ unfolded_by j k f case =
 -- the premise of this case is within the limits; one spatial atom goes
 abbrev pub case_fits : ℕ → Judgement → SymbolicHeap → Bool
 case_fits most j case =
-    nat_le (length (antecedent j).pure + length case.pure) 64 && (nat_le (length (antecedent j).spatial + length case.spatial) (most + 1) && every (is_short most) (disjuncts j))
+    nat_le (length (antecedent j).pure + length case.pure) MOST_PURE && (nat_le (length (antecedent j).spatial + length case.spatial) (most + 1) && every (is_short most) (disjuncts j))
 
 -- with a map of terms for the case's
 abbrev pub right_by : SymbolicHeap → SymbolicHeap → ℕ → (Term → Term) → SymbolicHeap → Premise
@@ -31,4 +32,4 @@ right_by a b k f case = with_right a (unfolded_right b k (in_heap f case) ∷ []
 -- the premise is within the limits; one spatial atom of the disjunct goes
 abbrev pub right_fits : ℕ → SymbolicHeap → SymbolicHeap → SymbolicHeap → Bool
 right_fits most a b case =
-    is_short most a && (nat_le (length b.pure + length case.pure) 64 && nat_le (length b.spatial + length case.spatial) (most + 1))
+    is_short most a && (nat_le (length b.pure + length case.pure) MOST_PURE && nat_le (length b.spatial + length case.spatial) (most + 1))

@@ -15,6 +15,7 @@ ghost use Rattle.rule_table.specs.Tests.{has_number};
 ghost use Rattle.unfold_rule.specs.Cutting.{cut_right_by, cut_fits};
 
 use crate::joining::joined_heap;
+use cyc_limits::{MOST_PURE, MOST_SPATIAL};
 use cyc_memory::OutOfMemory;
 use heap_formula::{
     Disjuncts, Heap, Judgement, Positions, Premise, RuleError, RuleFault, Spatial, bound_of_heap,
@@ -55,8 +56,8 @@ fn right_premise(
 ) -> Result<Premise, OutOfMemory>
     requires small { IsSmall change.now }
     requires stays { rest.items ≡ chosen (others_of (has_number places.now)) (antecedent_of judgement.now).spatial }
-    requires pure_fits { length (antecedent_of judgement.now).pure + length formula.now.pure ≤ 64 }
-    requires spatial_fits { length rest.items + length formula.now.spatial ≤ 32 }
+    requires pure_fits { length (antecedent_of judgement.now).pure + length formula.now.pure ≤ MOST_PURE }
+    requires spatial_fits { length rest.items + length formula.now.spatial ≤ MOST_SPATIAL }
     ensures { IfOk result (λ p. p ≡ cut_right_by judgement.now (has_number places.now) (changed change.now) formula.now) }
 {
     let a = antecedent(judgement);
@@ -78,8 +79,8 @@ fn cut_premises(
 ) -> Result<Vec<Premise>, OutOfMemory>
     requires small { IsSmall change.now }
     requires stays { rest.items ≡ chosen (others_of (has_number places.now)) (antecedent_of judgement.now).spatial }
-    requires pure_fits { length (antecedent_of judgement.now).pure + length formula.now.pure ≤ 64 }
-    requires spatial_fits { length rest.items + length formula.now.spatial ≤ 32 }
+    requires pure_fits { length (antecedent_of judgement.now).pure + length formula.now.pure ≤ MOST_PURE }
+    requires spatial_fits { length rest.items + length formula.now.spatial ≤ MOST_SPATIAL }
     ensures { IfOk result (λ v. v.items ≡ two (cut_left (antecedent_of judgement.now) (has_number places.now) formula.now) (cut_right_by judgement.now (has_number places.now) (changed change.now) formula.now)) }
 {
     let left = left_premise(alloc, antecedent(judgement), places, formula)?;
@@ -88,17 +89,17 @@ fn cut_premises(
 }
 
 fn fits(most: u8, judgement: &Judgement, stay: usize, formula: &Heap) -> bool
-    requires most_fits { most ≤ 32 }
-    requires few { stay ≤ 32 }
+    requires most_fits { most ≤ MOST_SPATIAL }
+    requires few { stay ≤ MOST_SPATIAL }
     ensures value { result ≡ cut_fits most judgement.now stay formula.now }
-    ensures pure_fits { result ≡ true → length (antecedent_of judgement.now).pure + length formula.now.pure ≤ 64 }
-    ensures spatial_fits { result ≡ true → stay + length formula.now.spatial ≤ 32 }
+    ensures pure_fits { result ≡ true → length (antecedent_of judgement.now).pure + length formula.now.pure ≤ MOST_PURE }
+    ensures spatial_fits { result ≡ true → stay + length formula.now.spatial ≤ MOST_SPATIAL }
 {
     let a = antecedent(judgement);
     if a.spatial().len() > stay + most as usize {
         return false;
     }
-    if a.pure().len() + formula.pure().len() > 64 {
+    if a.pure().len() + formula.pure().len() > MOST_PURE {
         return false;
     }
     if stay + formula.spatial().len() > most as usize {
@@ -116,9 +117,9 @@ fn cut_at(
     rest: Vec<Spatial>,
     formula: &Heap,
 ) -> Result<Vec<Premise>, RuleError>
-    requires most_fits { most ≤ 32 }
+    requires most_fits { most ≤ MOST_SPATIAL }
     requires stays { rest.items ≡ chosen (others_of (has_number places.now)) (antecedent_of judgement.now).spatial }
-    requires few { length rest.items ≤ 32 }
+    requires few { length rest.items ≤ MOST_SPATIAL }
     ensures { IsAnswer result (limited most (two (cut_left (antecedent_of judgement.now) (has_number places.now) formula.now) (cut_right judgement.now (has_number places.now) formula.now (max (fresh_number p judgement.now) (heap_bound formula.now))))) }
 {
     if !fits(most, judgement, rest.len(), formula) {
@@ -137,7 +138,7 @@ fn cut(
     formula: &Heap,
     most: u8,
 ) -> Result<Vec<Premise>, RuleError>
-    requires { most ≤ 32 }
+    requires { most ≤ MOST_SPATIAL }
     ensures { IsAnswer result (cut_answer most p judgement.now places.now formula.now) }
 {
     let a = antecedent(judgement);
@@ -160,7 +161,7 @@ pub fn premises_cut(
     formula: &Heap,
     most: u8,
 ) -> Result<Vec<Premise>, RuleError>
-    requires { most ≤ 32 }
+    requires { most ≤ MOST_SPATIAL }
     ensures answer { IsAnswer result (cut_answer most p judgement.now positions.now formula.now) }
     ensures sound { IfOk result (λ v. (ds : List Definition) (lines : List Command)
         → HasVariables lines p judgement.now → IsLocallySound ds lines judgement.now v.items) }

@@ -5,6 +5,7 @@ ghost use Rattle.heap_formula.specs.Substitution.{in_heap};
 ghost use Rattle.rule_table.specs.Changes.{changed, IsSmall};
 ghost use Rattle.unfold_rule.specs.Joining.{joined};
 
+use cyc_limits::{MOST_PURE, MOST_SPATIAL};
 use cyc_memory::OutOfMemory;
 use heap_formula::{Heap, Pure, Spatial};
 use rule_table::{Change, push_changed_pure, push_changed_spatial};
@@ -37,8 +38,8 @@ pub fn joined_heap(
     formula: &Heap,
 ) -> Result<Heap, OutOfMemory>
     requires small { IsSmall change.now }
-    requires pure_fits { length first_pure.now + length formula.now.pure ≤ 64 }
-    requires spatial_fits { length first_spatial.items + length formula.now.spatial ≤ 32 }
+    requires pure_fits { length first_pure.now + length formula.now.pure ≤ MOST_PURE }
+    requires spatial_fits { length first_spatial.items + length formula.now.spatial ≤ MOST_SPATIAL }
     ensures { IfOk result (λ h. h ≡ joined first_pure.now first_spatial.items (in_heap (changed change.now) formula.now)) }
 {
     let mut pure = Vec::with_capacity(alloc, first_pure.len() + formula.pure().len())?;

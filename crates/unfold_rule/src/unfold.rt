@@ -13,6 +13,7 @@ ghost use Rattle.rule_table.specs.Table.{unfold_answer};
 ghost use Rattle.unfold_rule.specs.Unfolding.{unfolded_by, case_fits};
 
 use crate::joining::{joined_heap, kept_atoms};
+use cyc_limits::{MOST_PURE, MOST_SPATIAL};
 use cyc_memory::OutOfMemory;
 use heap_formula::{Args, Heap, Judgement, Pair, Pairs, Premise, RuleError, RuleFault, Spatial};
 use pred_defs::Defs;
@@ -51,8 +52,8 @@ fn unfolded_pairs(
     body: &[Spatial],
 ) -> Result<Pairs, OutOfMemory>
     requires k_fits { k < 32 }
-    requires kept_fits { length kept.now ≤ 32 }
-    requires body_fits { length body.now ≤ 32 }
+    requires kept_fits { length kept.now ≤ MOST_SPATIAL }
+    requires body_fits { length body.now ≤ MOST_SPATIAL }
     ensures { IfOk result (λ p. p ≡ pairs_from (before k) 0 kept.now ++ child_pairs k (length kept.now) body.now) }
 {
     let mut pairs = pairs_of_kept(alloc, kept, k)?;
@@ -69,8 +70,8 @@ fn unfolded_premise(
 ) -> Result<Premise, OutOfMemory>
     requires small { IsSmall change.now }
     requires k_in { k < length (antecedent_of judgement.now).spatial }
-    requires pure_fits { length (antecedent_of judgement.now).pure + length case.now.pure ≤ 64 }
-    requires spatial_fits { length (antecedent_of judgement.now).spatial + length case.now.spatial ≤ 33 }
+    requires pure_fits { length (antecedent_of judgement.now).pure + length case.now.pure ≤ MOST_PURE }
+    requires spatial_fits { length (antecedent_of judgement.now).spatial + length case.now.spatial ≤ MOST_SPATIAL + 1 }
     ensures { IfOk result (λ p. p ≡ unfolded_by judgement.now k (changed change.now) case.now) }
 {
     let a = antecedent(judgement);
@@ -88,7 +89,7 @@ fn fits(most: u8, judgement: &Judgement, case: &Heap) -> bool
     ensures { result ≡ case_fits most judgement.now case.now }
 {
     let a = antecedent(judgement);
-    if a.pure().len() + case.pure().len() > 64 {
+    if a.pure().len() + case.pure().len() > MOST_PURE {
         return false;
     }
     if a.spatial().len() + case.spatial().len() > most as usize + 1 {
@@ -116,7 +117,7 @@ fn unfolded_premises(
     change: &Change,
     cases: &[Heap],
 ) -> Result<Vec<Premise>, OutOfMemory>
-    requires most_fits { most ≤ 32 }
+    requires most_fits { most ≤ MOST_SPATIAL }
     requires small { IsSmall change.now }
     requires k_in { k < length (antecedent_of judgement.now).spatial }
     requires fit { every (case_fits most judgement.now) cases.now ≡ true }
@@ -138,7 +139,7 @@ fn unfold_cases(
     args: &Args,
     cases: &[Heap],
 ) -> Result<Vec<Premise>, RuleError>
-    requires most_fits { most ≤ 32 }
+    requires most_fits { most ≤ MOST_SPATIAL }
     requires k_in { k < length (antecedent_of judgement.now).spatial }
     ensures { IsAnswer result (limited most (map (unfold_premise judgement.now k args.now (fresh_number p judgement.now)) cases.now)) }
 {

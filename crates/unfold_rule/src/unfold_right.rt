@@ -12,6 +12,7 @@ ghost use Rattle.rule_table.specs.Table.{calls, right_term, unfold_right_answer}
 ghost use Rattle.unfold_rule.specs.Unfolding.{right_by, right_fits};
 
 use crate::joining::{joined_heap, kept_atoms};
+use cyc_limits::{MOST_PURE, MOST_SPATIAL};
 use cyc_memory::OutOfMemory;
 use heap_formula::{Args, Heap, Judgement, Premise, RuleError, RuleFault, Spatial, exists_in_heap};
 use pred_defs::Defs;
@@ -28,8 +29,8 @@ fn right_premises(
 ) -> Result<Vec<Premise>, OutOfMemory>
     requires small { IsSmall change.now }
     requires k_in { k < length b.now.spatial }
-    requires pure_fits { length b.now.pure + length case.now.pure ≤ 64 }
-    requires spatial_fits { length b.now.spatial + length case.now.spatial ≤ 33 }
+    requires pure_fits { length b.now.pure + length case.now.pure ≤ MOST_PURE }
+    requires spatial_fits { length b.now.spatial + length case.now.spatial ≤ MOST_SPATIAL + 1 }
     ensures { IfOk result (λ v. v.items ≡ one (right_by a.now b.now k (changed change.now) case.now)) }
 {
     let kept = kept_atoms(alloc, b.spatial(), k, case.spatial().len())?;
@@ -43,7 +44,7 @@ fn fits(most: u8, a: &Heap, b: &Heap, case: &Heap) -> bool
     if !is_short(most, a) {
         return false;
     }
-    if b.pure().len() + case.pure().len() > 64 {
+    if b.pure().len() + case.pure().len() > MOST_PURE {
         return false;
     }
     b.spatial().len() + case.spatial().len() <= most as usize + 1
@@ -58,7 +59,7 @@ fn unfold_case(
     args: &Args,
     case: &Heap,
 ) -> Result<Vec<Premise>, RuleError>
-    requires most_fits { most ≤ 32 }
+    requires most_fits { most ≤ MOST_SPATIAL }
     requires k_in { k < length b.now.spatial }
     ensures { IsAnswer result (limited most (one (right_by a.now b.now k (right_term args.now (heap_exists b.now)) case.now))) }
 {

@@ -24,7 +24,7 @@ with_more book k d more =
     let own = length-map {B = Heading} book.list (λ (e : DefinitionValue). record { name = e.name; arity = e.arity }) in
     subst (λ (all : List Heading). Stable (definition_flaw book.most (hs ++ heading d ∷ []) (length book.list) k d) (definition_flaw book.most all (length book.list) k d)) (append_assoc hs (heading d ∷ []) more) (definition_stable book.most (hs ++ heading d ∷ []) more (length book.list) k d (omega (arith, size, own)))
 
--- the walk's flaw is that of the definition behind those so far
+-- the walk's flaw is that of the definition after those so far
 walked : (book : DefinitionBook) (k : ℕ) (d : Definition) (most n : ℕ) (heads : List Heading) (so_far : List DefinitionValue) (found : Found) → most ≡ book.most → so_far ≡ book.list → n ≡ length so_far → heads ≡ defined_heads so_far ++ heading d ∷ [] → definition_flaw most heads n k d ≡ found → definition_flaw book.most (defined_heads book.list ++ heading d ∷ []) (length book.list) k d ≡ found
 walked book k d most n heads so_far found most_is list_is n_is heads_is e =
     sym (λ i. definition_flaw (most_is i) ((heads_is ∙ ap (λ (ds : List DefinitionValue). defined_heads ds ++ heading d ∷ []) list_is) i) ((n_is ∙ ap length list_is) i) k d) ∙ e
