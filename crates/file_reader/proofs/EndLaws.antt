@@ -29,7 +29,7 @@ use Rattle.file_reader.specs.declared.held.Alive.{Alive}
 use Rattle.file_reader.specs.declared.held.Faulty.{Faulty}
 use Rattle.file_reader.specs.declared.held.Held.TheVariants as kinds
 use Rattle.file_reader.specs.declared.passing.Passed.{Passed}
-use Rattle.file_reader.specs.Helds.{parts_of, IsAlive, IsLast, IsToldStop}
+use Rattle.file_reader.specs.Helds.{parts_of, waiting_of, IsAlive, IsLast, IsToldStop}
 use Rattle.file_reader.specs.Scans.{reached_of, IsDead}
 use Rattle.file_reader.specs.Outcomes.{Outcome, Faulty as Bears, syntax_fault}
 use Rattle.file_reader.specs.Passing.{IsPassed}
@@ -106,13 +106,13 @@ some-all None P Q f h = tt
 -- ---- a text without a fault so far
 
 abbrev Wait : Alive → Result (List Placed) (Bad × Place)
-Wait a = tokens_from a.place a.comment a.waiting.items
+Wait a = tokens_from a.place a.comment (waiting_of a)
 
 abbrev pub EndsWith : Alive → ReadFault → Type 0
 EndsWith a x = Tells (outcome (parts_of (kinds.Alive a)) []) (Err x)
 
 alive-outcome : (a : Alive) (k : IsAlive a) (r : Result (List Placed) (Bad × Place)) → Wait a ≡ r → outcome (parts_of (kinds.Alive a)) [] ≡ behind (Head []) (with_tokens k.taken r)
-alive-outcome a k r e = ap (behind (Head [])) (k.law [] ∙ ap (λ (b : List ℕ). with_tokens k.taken (tokens_from a.place a.comment b)) (append-nil a.waiting.items) ∙ ap (with_tokens k.taken) e)
+alive-outcome a k r e = ap (behind (Head [])) (k.law [] ∙ ap (λ (b : List ℕ). with_tokens k.taken (tokens_from a.place a.comment b)) (append-nil (waiting_of a)) ∙ ap (with_tokens k.taken) e)
 
 pub alive-stop : (a : Alive) (e : Stop) (x : ReadFault) → IsAlive a → Stops e (Wait a) → IsToldStop e x → EndsWith a x
 alive-stop a stops.OutOfMemory x k h told = subst (EndsWith a) (sym told) tt
@@ -130,7 +130,7 @@ all-tokens-of a k us e =
     sym (from-start a.all.items)
     ∙ ap (tokens_from start false) (sym (append-nil a.all.items))
     ∙ k.law []
-    ∙ ap (λ (b : List ℕ). with_tokens k.taken (tokens_from a.place a.comment b)) (append-nil a.waiting.items)
+    ∙ ap (λ (b : List ℕ). with_tokens k.taken (tokens_from a.place a.comment b)) (append-nil (waiting_of a))
     ∙ ap (with_tokens k.taken) e
     ∙ with_tokens-ok k.taken us
 

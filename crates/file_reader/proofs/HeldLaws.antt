@@ -1,9 +1,9 @@
 -- What a reader holds keeps what the text comes to.
 use Rattle.std.proofs.Common.{◌≡◌, ℕ, zero, suc, ◌+◌, ◌-◌, ◌^◌, ◌<◌, ◌≤◌, Bool, true, false, List, [], ◌++◌, length, Some, None, Result, Ok, Err, refl, sym, ap, subst, ◌∙◌, arith, length-append, append_assoc}
-use Rattle.std.specs.Prelude.{map, IfOk}
+use Rattle.std.specs.Prelude.{map, drop, IfOk}
 use Rattle.std.specs.Global.{Vec}
 use Rattle.std.specs.Str.{chars}
-use Rattle.std.proofs.lemmas.List.{length-map}
+use Rattle.std.proofs.lemmas.List.{length-map, length-drop, drop-drop, drop_at, drop-append-le}
 use Rattle.cyc_lex.specs.declared.fault.LexFault.{LexFault}
 use Rattle.cyc_lex.specs.declared.fault.ReadFault.{ReadFault}
 use Rattle.cyc_lex.specs.declared.fault.ReadFault.TheVariants as faults
@@ -32,7 +32,7 @@ use Rattle.file_reader.specs.declared.held.Held.TheVariants as kinds
 use Rattle.file_reader.specs.declared.passing.Passed.{Passed}
 use Rattle.file_reader.specs.declared.scan.DeadToken.{DeadToken}
 use Rattle.file_reader.specs.declared.scan.Scan.{Scan}
-use Rattle.file_reader.specs.Helds.{parts_of, behind_bytes, IsSmall, IsAlive, IsHeld, IsKept, IsStopped}
+use Rattle.file_reader.specs.Helds.{parts_of, waiting_of, behind_bytes, IsSmall, IsAlive, IsHeld, IsKept, IsStopped}
 use Rattle.file_reader.specs.Outcomes.{Faulty as Bears, syntax_fault}
 use Rattle.file_reader.specs.Passing.{IsPassed}
 use Rattle.file_reader.specs.Pieces.{parts, Comes, IsBad}
@@ -51,37 +51,40 @@ ok-all (Err e) P Q f h = tt
 -- ---- bytes that were fed
 
 -- none
-pub alive-new : (all waiting : Vec ℕ) (enough : ℕ) → all.items ≡ [] → waiting.items ≡ [] → IsAlive (record { all = all; awaited = awaited.First; tokens = 0; place = start; comment = false; waiting = waiting; enough = enough })
-alive-new all waiting enough none empty = record {
+pub alive-new : (all : Vec ℕ) (enough : ℕ) → all.items ≡ [] → IsAlive (record { all = all; awaited = awaited.First; tokens = 0; place = start; comment = false; enough = enough })
+alive-new all enough none = record {
   taken = [];
-  law = λ more. ap (λ (b : List ℕ). tokens_from start false (b ++ more)) (none ∙ sym empty);
+  law = λ more. refl;
   count = refl;
-  few = omega (arith, ap length none, ap length empty);
-  size = omega (arith, ap length none, ap length empty);
+  few = omega arith;
+  size = omega arith;
   small = (omega arith, omega arith);
   led = ((λ x. x), lead-none);
 }
 
 -- with bytes after all of them
-pub alive-fed : (a : Alive) (all waiting : Vec ℕ) (enough : ℕ) (piece : List ℕ) → IsAlive a → all.items ≡ a.all.items ++ piece → waiting.items ≡ a.waiting.items ++ piece → IsAlive (record { all = all; awaited = a.awaited; tokens = a.tokens; place = a.place; comment = a.comment; waiting = waiting; enough = enough })
-alive-fed a all waiting enough piece h more later = record {
+pub alive-fed : (a : Alive) (all : Vec ℕ) (enough : ℕ) (piece : List ℕ) → IsAlive a → all.items ≡ a.all.items ++ piece → IsAlive (record { all = all; awaited = a.awaited; tokens = a.tokens; place = a.place; comment = a.comment; enough = enough })
+alive-fed a all enough piece h more = record {
   taken = h.taken;
   law = λ rest.
       ap (λ (b : List ℕ). tokens_from start false (b ++ rest)) more
       ∙ ap (tokens_from start false) (append_assoc a.all.items piece rest)
       ∙ h.law (piece ++ rest)
-      ∙ ap (λ (b : List ℕ). with_tokens h.taken (tokens_from a.place a.comment b)) (sym (ap (λ (b : List ℕ). b ++ rest) later ∙ append_assoc a.waiting.items piece rest));
+      ∙ ap (λ (b : List ℕ). with_tokens h.taken (tokens_from a.place a.comment b)) (sym (ap (λ (b : List ℕ). b ++ rest) later ∙ append_assoc (waiting_of a) piece rest));
   count = h.count;
-  few = omega (arith, h.few, ap length more, ap length later, length-append a.all.items piece, length-append a.waiting.items piece);
-  size = omega (arith, h.size, ap length more, ap length later, length-append a.all.items piece, length-append a.waiting.items piece);
+  few = h.few;
+  size = omega (arith, h.size, ap length more, length-append a.all.items piece);
   small = h.small;
   led = h.led;
 }
+  where
+    later : drop a.place.offset all.items ≡ waiting_of a ++ piece
+    later = ap (drop a.place.offset) more ∙ drop-append-le a.place.offset a.all.items piece h.size
 
-pub alive-waits : (a : Alive) (all waiting : Vec ℕ) (enough : ℕ) (piece : List ℕ) → IsAlive a → all.items ≡ a.all.items ++ piece → waiting.items ≡ a.waiting.items ++ piece
-    → IsKept (parts_of (kinds.Alive a)) piece (kinds.Alive (record { all = all; awaited = a.awaited; tokens = a.tokens; place = a.place; comment = a.comment; waiting = waiting; enough = enough }))
-alive-waits a all waiting enough piece h more later = record {
-  held = alive-fed a all waiting enough piece h more later;
+pub alive-waits : (a : Alive) (all : Vec ℕ) (enough : ℕ) (piece : List ℕ) → IsAlive a → all.items ≡ a.all.items ++ piece
+    → IsKept (parts_of (kinds.Alive a)) piece (kinds.Alive (record { all = all; awaited = a.awaited; tokens = a.tokens; place = a.place; comment = a.comment; enough = enough }))
+alive-waits a all enough piece h more = record {
+  held = alive-fed a all enough piece h more;
   law = λ rest. piece-waits (parts_of (kinds.Alive a)) piece rest ∙ ap (λ (b : List ℕ). outcome (parts (Head []) start false b) rest) (sym more);
   count = omega (arith, ap length more, length-append a.all.items piece);
 }
@@ -125,10 +128,10 @@ unlexed-stays fault n m piece is = record {
   count = omega (arith, is);
 }
 
-alive-bad : (a : Alive) (bad : Bad) (p : Place) → IsAlive a → IsBad (parts (Head []) a.place a.comment a.waiting.items) bad p → IsBad (parts_of (kinds.Alive a)) bad p
+alive-bad : (a : Alive) (bad : Bad) (p : Place) → IsAlive a → IsBad (parts (Head []) a.place a.comment (waiting_of a)) bad p → IsBad (parts_of (kinds.Alive a)) bad p
 alive-bad a bad p h is more = h.law more ∙ ap (with_tokens h.taken) (is more) ∙ with_tokens-err h.taken (bad, p)
 
-alive-unlexed : (a : Alive) (bad : Bad) (p : Place) (n : ℕ) → IsAlive a → n ≡ length a.all.items → IsBad (parts (Head []) a.place a.comment a.waiting.items) bad p → IsKept (parts_of (kinds.Alive a)) [] (kinds.Unlexed (fault_of bad p) n)
+alive-unlexed : (a : Alive) (bad : Bad) (p : Place) (n : ℕ) → IsAlive a → n ≡ length a.all.items → IsBad (parts (Head []) a.place a.comment (waiting_of a)) bad p → IsKept (parts_of (kinds.Alive a)) [] (kinds.Unlexed (fault_of bad p) n)
 alive-unlexed a bad p n h size is = record {
   held = tt;
   law = bad-place (parts_of (kinds.Alive a)) (parts_of (kinds.Unlexed (fault_of bad p) n)) bad p tt (alive-bad a bad p h is) refl;
@@ -152,15 +155,15 @@ TextBad p c v e = Stops e (tokens_in (reading p c v.text.now))
 abbrev Stopped : Parts → Stop → ℕ → Held → Type 0
 Stopped old e n new = IsStopped e n new → IsKept old [] new
 
-pub alive-first : (a : Alive) (v : Valid) (e : Stop) (n : ℕ) (new : Held) → IsAlive a → IsValid a.waiting.items v → v.cut ≡ false → n ≡ length a.all.items → FirstBad a.place a.comment v e → Stopped (parts_of (kinds.Alive a)) e n new
+pub alive-first : (a : Alive) (v : Valid) (e : Stop) (n : ℕ) (new : Held) → IsAlive a → IsValid (waiting_of a) v → v.cut ≡ false → n ≡ length a.all.items → FirstBad a.place a.comment v e → Stopped (parts_of (kinds.Alive a)) e n new
 alive-first a v stops.OutOfMemory n new h valid whole size bad stopped = absurd stopped
 alive-first a v (stops.At b p) n new h valid whole size bad stopped =
-    subst (IsKept (parts_of (kinds.Alive a)) []) (sym stopped) (alive-unlexed a b p n h size (bytes-bad (Head []) a.place p a.comment a.waiting.items v.text.now b valid.text (sym valid.cut ∙ whole) bad))
+    subst (IsKept (parts_of (kinds.Alive a)) []) (sym stopped) (alive-unlexed a b p n h size (bytes-bad (Head []) a.place p a.comment (waiting_of a) v.text.now b valid.text (sym valid.cut ∙ whole) bad))
 
-pub alive-text : (a : Alive) (v : Valid) (e : Stop) (n : ℕ) (new : Held) → IsAlive a → IsValid a.waiting.items v → v.cut ≡ true → n ≡ length a.all.items → TextBad a.place a.comment v e → Stopped (parts_of (kinds.Alive a)) e n new
+pub alive-text : (a : Alive) (v : Valid) (e : Stop) (n : ℕ) (new : Held) → IsAlive a → IsValid (waiting_of a) v → v.cut ≡ true → n ≡ length a.all.items → TextBad a.place a.comment v e → Stopped (parts_of (kinds.Alive a)) e n new
 alive-text a v stops.OutOfMemory n new h valid cut size bad stopped = absurd stopped
 alive-text a v (stops.At b p) n new h valid cut size bad stopped =
-    subst (IsKept (parts_of (kinds.Alive a)) []) (sym stopped) (alive-unlexed a b p n h size (statement-bad (Head []) a.place p a.comment a.waiting.items v.text.now b valid.text (sym valid.cut ∙ cut) bad))
+    subst (IsKept (parts_of (kinds.Alive a)) []) (sym stopped) (alive-unlexed a b p n h size (statement-bad (Head []) a.place p a.comment (waiting_of a) v.text.now b valid.text (sym valid.cut ∙ cut) bad))
 
 pub faulty-first : (f : Faulty) (v : Valid) (e : Stop) (n : ℕ) (new : Held) → IsValid f.waiting.items v → v.cut ≡ false → n ≡ f.place.offset + length f.waiting.items → FirstBad f.place f.comment v e → Stopped (parts_of (kinds.Faulty f)) e n new
 faulty-first f v stops.OutOfMemory n new valid whole size bad stopped = absurd stopped
@@ -187,33 +190,45 @@ comes-on stage after p q c d bytes v rest new ts valid is law more =
     ∙ statement-comes stage after p q c d v.text.now rest v.tail.now ts law more
     ∙ ap (λ (b : List ℕ). with_tokens ts (tokens_from q d (b ++ more))) (sym is)
 
-scan-comes : (a : Alive) (v : Valid) (s : Scan) (new : List ℕ) (h : IsScan a.place a.comment v.text.now (reached_of a.awaited) s) → IsValid a.waiting.items v → new ≡ s.rest.now ++ v.tail.now
-    → (more : List ℕ) → tokens_from a.place a.comment (a.waiting.items ++ more) ≡ with_tokens h.tokens (tokens_from s.place s.comment (new ++ more))
+scan-comes : (a : Alive) (v : Valid) (s : Scan) (new : List ℕ) (h : IsScan a.place a.comment v.text.now (reached_of a.awaited) s) → IsValid (waiting_of a) v → new ≡ s.rest.now ++ v.tail.now
+    → (more : List ℕ) → tokens_from a.place a.comment (waiting_of a ++ more) ≡ with_tokens h.tokens (tokens_from s.place s.comment (new ++ more))
 scan-comes a v s new h valid is more =
-    comes-on (Head []) (Head []) a.place s.place a.comment s.comment a.waiting.items v s.rest.now new h.tokens valid is (taken-law a.place s.place a.comment s.comment v.text.now s.rest.now h.tokens valid.utf8 h.utf8 h.taken) more
+    comes-on (Head []) (Head []) a.place s.place a.comment s.comment (waiting_of a) v s.rest.now new h.tokens valid is (taken-law a.place s.place a.comment s.comment v.text.now s.rest.now h.tokens valid.utf8 h.utf8 h.taken) more
 
 -- all tokens so far, and those that are taken now
-all-comes : (a : Alive) (v : Valid) (s : Scan) (new : List ℕ) (k : IsAlive a) (h : IsScan a.place a.comment v.text.now (reached_of a.awaited) s) → IsValid a.waiting.items v → new ≡ s.rest.now ++ v.tail.now
+all-comes : (a : Alive) (v : Valid) (s : Scan) (new : List ℕ) (k : IsAlive a) (h : IsScan a.place a.comment v.text.now (reached_of a.awaited) s) → IsValid (waiting_of a) v → new ≡ s.rest.now ++ v.tail.now
     → (more : List ℕ) → tokens_from start false (a.all.items ++ more) ≡ with_tokens (k.taken ++ h.tokens) (tokens_from s.place s.comment (new ++ more))
 all-comes a v s new k h valid is more =
     k.law more ∙ ap (with_tokens k.taken) (scan-comes a v s new h valid is more) ∙ sym (with_tokens-append k.taken h.tokens (tokens_from s.place s.comment (new ++ more)))
 
-sizes : (a : Alive) (v : Valid) (s : Scan) (new : List ℕ) → IsAlive a → IsScan a.place a.comment v.text.now (reached_of a.awaited) s → IsValid a.waiting.items v → new ≡ s.rest.now ++ v.tail.now → ((a.tokens + s.tokens) + length new ≤ length a.all.items) × (s.place.offset + length new ≡ length a.all.items)
-sizes a v s new k h valid is =
-    let all : length a.waiting.items ≡ length v.text.now + length v.tail.now = ap length (sym valid.whole) ∙ length-append v.text.now v.tail.now in
-    let rest : length new ≡ length s.rest.now + length v.tail.now = ap length is ∙ length-append s.rest.now v.tail.now in
+-- where the bytes that wait begin, and those that are left of them
+sizes : (a : Alive) (v : Valid) (s : Scan) → IsAlive a → IsScan a.place a.comment v.text.now (reached_of a.awaited) s → IsValid (waiting_of a) v → (a.tokens + s.tokens ≤ s.place.offset) × (s.place.offset + (length s.rest.now + length v.tail.now) ≡ length a.all.items)
+sizes a v s k h valid =
+    let all : length (waiting_of a) ≡ length v.text.now + length v.tail.now = ap length (sym valid.whole) ∙ length-append v.text.now v.tail.now in
+    let behind = length-drop a.place.offset a.all.items in
     let same = taken-count a.place s.place a.comment s.comment v.text.now s.rest.now h.tokens valid.utf8 h.utf8 h.taken in
-    (omega (arith, k.few, h.few, all, rest), omega (arith, k.size, all, rest, same))
+    (omega (arith, k.few, h.few, same), omega (arith, k.size, all, behind, same))
 
-pub alive-led : (a : Alive) (v : Valid) (s : Scan) (new : Vec ℕ) (enough : ℕ) → IsAlive a → IsValid a.waiting.items v → IsScan a.place a.comment v.text.now (reached_of a.awaited) s → new.items ≡ s.rest.now ++ v.tail.now → s.dead ≡ None
-    → IsKept (parts_of (kinds.Alive a)) [] (kinds.Alive (record { all = a.all; awaited = s.awaited; tokens = a.tokens + s.tokens; place = s.place; comment = s.comment; waiting = new; enough = enough }))
-alive-led a v s new enough k valid h is none = record {
+-- what is left of the bytes that wait stands from the new place on
+left-waits : (a : Alive) (v : Valid) (s : Scan) (front : List ℕ) → IsScan a.place a.comment v.text.now (reached_of a.awaited) s → IsValid (waiting_of a) v → v.text.now ≡ front ++ s.rest.now → drop s.place.offset a.all.items ≡ s.rest.now ++ v.tail.now
+left-waits a v s front h valid parted =
+    ap (λ n. drop n a.all.items) there
+    ∙ sym (drop-drop (length front) a.place.offset a.all.items)
+    ∙ ap (drop (length front)) (sym valid.whole ∙ ap (λ (b : List ℕ). b ++ v.tail.now) parted ∙ append_assoc front s.rest.now v.tail.now)
+    ∙ drop_at front (s.rest.now ++ v.tail.now) (length front) refl
+  where
+    there : s.place.offset ≡ a.place.offset + length front
+    there = omega (arith, taken-count a.place s.place a.comment s.comment v.text.now s.rest.now h.tokens valid.utf8 h.utf8 h.taken, ap length parted, length-append front s.rest.now)
+
+pub alive-led : (a : Alive) (v : Valid) (s : Scan) (enough : ℕ) → IsAlive a → IsValid (waiting_of a) v → IsScan a.place a.comment v.text.now (reached_of a.awaited) s → (front : List ℕ) × (v.text.now ≡ front ++ s.rest.now) → s.dead ≡ None
+    → IsKept (parts_of (kinds.Alive a)) [] (kinds.Alive (record { all = a.all; awaited = s.awaited; tokens = a.tokens + s.tokens; place = s.place; comment = s.comment; enough = enough }))
+alive-led a v s enough k valid h parted none = record {
   held = record {
     taken = k.taken ++ h.tokens;
-    law = all-comes a v s new.items k h valid is;
+    law = all-comes a v s (drop s.place.offset a.all.items) k h valid (left-waits a v s parted.0 h valid parted.1);
     count = omega (arith, k.count, h.count, length-append k.taken h.tokens);
-    few = (sizes a v s new.items k h valid is).0;
-    size = (sizes a v s new.items k h valid is).1;
+    few = (sizes a v s k h valid).0;
+    size = omega (arith, (sizes a v s k h valid).1);
     small = (h.room.line, h.room.column);
     led = led;
   };
@@ -241,12 +256,12 @@ dead-all a k ts left is = dead-takes (k.taken ++ ts) left (syntax_fault a.tokens
     told : syntax_fault 0 (k.taken ++ ts) left ≡ syntax_fault a.tokens ts left
     told = syntax-later 0 left k.taken ts (omega (arith, is.within, length-map ts word_of)) ∙ ap (λ n. syntax_fault n ts left) (omega (arith, k.count))
 
-pub alive-dies : (a : Alive) (v : Valid) (s : Scan) (d : DeadToken) (new : Vec ℕ) (enough : ℕ) → IsAlive a → IsValid a.waiting.items v → IsScan a.place a.comment v.text.now (reached_of a.awaited) s → new.items ≡ s.rest.now ++ v.tail.now → s.dead ≡ Some d
+pub alive-dies : (a : Alive) (v : Valid) (s : Scan) (d : DeadToken) (new : Vec ℕ) (enough : ℕ) → IsAlive a → IsValid (waiting_of a) v → IsScan a.place a.comment v.text.now (reached_of a.awaited) s → new.items ≡ s.rest.now ++ v.tail.now → s.dead ≡ Some d
     → IsKept (parts_of (kinds.Alive a)) [] (kinds.Faulty (record { fault = faults.Syntax (a.tokens + d.token) d.line d.column; place = s.place; comment = s.comment; waiting = new; enough = enough }))
 alive-dies a v s d new enough k valid h is some = record {
   held = (h.room.line, h.room.column);
   law = tokens-taken (parts_of (kinds.Alive a)) (parts (Dead (faults.Syntax (a.tokens + d.token) d.line d.column)) s.place s.comment new.items) (k.taken ++ h.tokens) tt tt takes (all-comes a v s new.items k h valid is);
-  count = omega (arith, (sizes a v s new.items k h valid is).1);
+  count = omega (arith, (sizes a v s k h valid).1, ap length is, length-append s.rest.now v.tail.now);
 }
   where
     dead : HasDead (reached_of a.awaited) h.tokens d

@@ -1,5 +1,5 @@
 -- What a reader holds, as contracts see it.
-use Rattle.std.specs.Prelude.{◌⊎◌, ◌≡◌, ℕ, ◌+◌, ◌≤◌, false, List, [], ◌++◌, length, map}
+use Rattle.std.specs.Prelude.{◌⊎◌, ◌≡◌, ℕ, ◌+◌, ◌≤◌, false, List, [], ◌++◌, length, drop, map}
 use Rattle.cyc_lex.specs.declared.place.Place.{Place}
 use Rattle.cyc_lex.specs.declared.place.Stop.{Stop}
 use Rattle.cyc_lex.specs.declared.place.Stop.TheVariants as stops
@@ -32,6 +32,10 @@ parts_of (kinds.Faulty f) = parts (Dead f.fault) f.place f.comment f.waiting.ite
 parts_of (kinds.Unlexed fault n) = parts (Unlexed fault) (behind_bytes n) false []
 parts_of (kinds.Lost n) = parts Lost (behind_bytes n) false []
 
+-- the bytes of a text without a fault from the place on after those whose tokens were taken
+abbrev pub waiting_of : Alive → List ℕ
+waiting_of a = drop a.place.offset a.all.items
+
 -- line and column are small
 abbrev pub IsSmall : Place → Type 0
 IsSmall p = (p.line ≤ p.offset + 1) × (p.column ≤ p.offset + 1)
@@ -43,10 +47,10 @@ Led ts a = (f : Left (reached_of a.awaited) → File) × Leads (map word_of ts) 
 -- the tokens of the statements so far lead to the part that is reached; no byte after them is lost, whatever comes
 pub record IsAlive (a : Alive) : Type 0 where
   pub taken : List Placed
-  pub law : (more : List ℕ) → tokens_from start false (a.all.items ++ more) ≡ with_tokens taken (tokens_from a.place a.comment (a.waiting.items ++ more))
+  pub law : (more : List ℕ) → tokens_from start false (a.all.items ++ more) ≡ with_tokens taken (tokens_from a.place a.comment (waiting_of a ++ more))
   pub count : length taken ≡ a.tokens
-  pub few : a.tokens + length a.waiting.items ≤ length a.all.items
-  pub size : a.place.offset + length a.waiting.items ≡ length a.all.items
+  pub few : a.tokens ≤ a.place.offset
+  pub size : a.place.offset ≤ length a.all.items
   pub small : IsSmall a.place
   pub led : Led taken a
 

@@ -1,6 +1,6 @@
 //! What a reader holds after a piece of the text.
 
-ghost use Rattle.std.specs.Prelude.{◌≡◌, ◌+◌, ◌-◌, ◌<◌, ◌^◌, [], length, IfOk};
+ghost use Rattle.std.specs.Prelude.{◌≡◌, ◌+◌, ◌-◌, ◌<◌, ◌^◌, ◌++◌, ℕ, List, [], true, length, IfOk};
 ghost use Rattle.file_reader.specs.Pieces.{bytes_fed};
 ghost use Rattle.file_reader.specs.Helds.{parts_of, IsAlive, IsHeld, IsKept, IsSmall, IsStopped};
 ghost use Rattle.file_reader.specs.declared.held.Held.TheVariants as kinds;
@@ -38,39 +38,43 @@ fn stopped(stop: Stop, fed: u32) -> Result<Held, OutOfMemory>
     }
 }
 
+/// Whether a text ends with another. What `pass_statement` leaves of a text is its end, but no clause of it says so: where it
+/// were not, nothing would be taken.
+fn is_end(text: &str, left: &str) -> bool
+    ensures { result ≡ true → (front : List ℕ) × (text.now ≡ front ++ left.now) }
+{
+    text.as_bytes().ends_with(left.as_bytes())
+}
+
 /// Reads the statements among the bytes that wait.
 fn look(alloc: Global, alive: Alive) -> Result<Held, OutOfMemory>
     requires alive { IsAlive alive }
     requires room { length alive.all.items < 2 ^ 32 - 1 }
     ensures { IfOk result (IsKept (parts_of (kinds.Alive alive)) []) }
 {
-    let Alive {
-        all,
-        awaited,
-        tokens,
-        place,
-        comment,
-        waiting,
-        enough: _,
-    } = alive;
-    let fed = all.len() as u32;
-    let valid = valid_front(&waiting);
+    let fed = alive.all.len() as u32;
+    let tokens = alive.tokens;
+    let valid = valid_front(alive.waiting());
     if !valid.cut {
-        return stopped(first_bad(place, comment, valid.text), fed);
+        return stopped(first_bad(alive.place, alive.comment, valid.text), fed);
     }
-    match read_statements(alloc, awaited, place, comment, valid.text) {
+    match read_statements(alloc, alive.awaited, alive.place, alive.comment, valid.text) {
         Ok(found) => {
-            let rest = joined(alloc, found.rest.as_bytes(), valid.tail)?;
+            let left = found.rest.len() + valid.tail.len();
             match found.dead {
-                None => Ok(Held::Alive(Alive {
-                    all,
-                    awaited: found.awaited,
-                    tokens: tokens + found.tokens,
-                    place: found.place,
-                    comment: found.comment,
-                    enough: rest.len() + rest.len(),
-                    waiting: rest,
-                })),
+                None => {
+                    if !is_end(valid.text, found.rest) {
+                        return Ok(Held::Alive(alive));
+                    }
+                    Ok(Held::Alive(Alive {
+                        awaited: found.awaited,
+                        tokens: tokens + found.tokens,
+                        place: found.place,
+                        comment: found.comment,
+                        enough: left + left,
+                        all: alive.all,
+                    }))
+                }
                 Some(dead) => Ok(Held::Faulty(Faulty {
                     fault: ReadFault::Syntax {
                         token: tokens + dead.token,
@@ -79,7 +83,7 @@ fn look(alloc: Global, alive: Alive) -> Result<Held, OutOfMemory>
                     },
                     place: found.place,
                     comment: found.comment,
-                    waiting: rest,
+                    waiting: joined(alloc, found.rest.as_bytes(), valid.tail)?,
                     enough: 0,
                 })),
             }
@@ -95,8 +99,7 @@ fn feed_alive(alloc: Global, alive: Alive, piece: &[u8]) -> Result<Held, OutOfMe
 {
     let mut alive = alive;
     alive.all.extend_from_slice(piece)?;
-    alive.waiting.extend_from_slice(piece)?;
-    if alive.waiting.len() < alive.enough {
+    if alive.waiting().len() < alive.enough {
         return Ok(Held::Alive(alive));
     }
     look(alloc, alive)

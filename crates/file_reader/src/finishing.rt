@@ -83,7 +83,7 @@ fn end_fault(alloc: Global, alive: &Alive) -> Option<ReadFault>
     requires room { length alive.now.all.items < 2 ^ 32 - 1 }
     ensures { IfSome result (λ f. Tells (outcome (parts_of (kinds.Alive alive.now)) []) (Err f)) }
 {
-    let valid = valid_front(&alive.waiting);
+    let valid = valid_front(alive.waiting());
     if !valid.tail.is_empty() {
         return Some(told_stop(first_bad(alive.place, alive.comment, valid.text)));
     }

@@ -48,7 +48,6 @@ impl FileReader {
                 tokens: 0,
                 place: Place::START,
                 comment: false,
-                waiting: Vec::new(alloc),
                 enough: 0,
             }),
         }

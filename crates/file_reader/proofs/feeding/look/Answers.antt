@@ -10,27 +10,27 @@ returns-then-not-valid c =
     let a = c.args.alive in
     let v = c.valid_front-valid.result in
     let fed = c.len-fed.result in
-    let valid = subst (λ (b : List ℕ). IsValid b v) c.deref.ensures.value c.valid_front-valid.ensures in
+    let valid = subst (λ (b : List ℕ). IsValid b v) c.waiting.ensures c.valid_front-valid.ensures in
     ok-all c.stopped.result (IsStopped c.first_bad.result fed) (IsKept (parts_of (kinds.Alive a)) [])
     (λ new h. alive-first a v c.first_bad.result fed new c.requires.alive valid c.if-not-valid.true (omega (arith, c.len-fed.ensures)) c.first_bad.ensures h) c.stopped.ensures
 
-pub returns-in-None : goal.returns-in-None
-returns-in-None c =
+pub returns-else-not-is_end : goal.returns-else-not-is_end
+returns-else-not-is_end c =
     let v = c.valid_front-valid.result in
-    let valid = subst (λ (b : List ℕ). IsValid b v) c.deref.ensures.value c.valid_front-valid.ensures in
-    alive-led c.args.alive v c.in-Ok.found c.in_ok-rest-in-Ok.rest _ c.requires.alive valid c.in-Ok.ensures (c.in_ok-rest-in-Ok.ensures ∙ ap (λ (b : List ℕ). b ++ v.tail.now) c.as_bytes.ensures.value) c.in-None.is
+    let valid = subst (λ (b : List ℕ). IsValid b v) c.waiting.ensures c.valid_front-valid.ensures in
+    alive-led c.args.alive v c.in-Ok.found _ c.requires.alive valid c.in-Ok.ensures (c.is_end.ensures c.if-not-is_end.false) c.in-None.is
 
-pub returns-in-Some : goal.returns-in-Some
-returns-in-Some c =
+pub returns-in_ok-joined-in-Some : goal.returns-in_ok-joined-in-Some
+returns-in_ok-joined-in-Some c =
     let v = c.valid_front-valid.result in
-    let valid = subst (λ (b : List ℕ). IsValid b v) c.deref.ensures.value c.valid_front-valid.ensures in
-    alive-dies c.args.alive v c.in-Ok.found c.in-Some.dead c.in_ok-rest-in-Ok.rest 0 c.requires.alive valid c.in-Ok.ensures (c.in_ok-rest-in-Ok.ensures ∙ ap (λ (b : List ℕ). b ++ v.tail.now) c.as_bytes.ensures.value) c.in-Some.is
+    let valid = subst (λ (b : List ℕ). IsValid b v) c.waiting.ensures c.valid_front-valid.ensures in
+    alive-dies c.args.alive v c.in-Ok.found c.in-Some.dead c.in_ok-joined-in-Some.field-0 0 c.requires.alive valid c.in-Ok.ensures (c.in_ok-joined-in-Some.ensures ∙ ap (λ (b : List ℕ). b ++ v.tail.now) c.as_bytes.ensures.value) c.in-Some.is
 
 pub returns-in-Err : goal.returns-in-Err
 returns-in-Err c =
     let a = c.args.alive in
     let v = c.valid_front-valid.result in
     let fed = c.len-fed.result in
-    let valid = subst (λ (b : List ℕ). IsValid b v) c.deref.ensures.value c.valid_front-valid.ensures in
+    let valid = subst (λ (b : List ℕ). IsValid b v) c.waiting.ensures c.valid_front-valid.ensures in
     ok-all c.stopped-in-Err.result (IsStopped c.in-Err.stop fed) (IsKept (parts_of (kinds.Alive a)) [])
     (λ new h. alive-text a v c.in-Err.stop fed new c.requires.alive valid c.if-not-valid.false (omega (arith, c.len-fed.ensures)) c.in-Err.ensures h) c.stopped-in-Err.ensures
