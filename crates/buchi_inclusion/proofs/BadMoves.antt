@@ -9,7 +9,7 @@ use Rattle.buchi_core.specs.declared.event.Event.{Event}
 use Rattle.buchi_core.proofs.Lists.{get_within, get_one}
 use Rattle.buchi_inclusion.specs.declared.product.Transition.{Transition}
 use Rattle.buchi_inclusion.specs.declared.decision.BadMove.{BadMove}
-use Rattle.buchi_inclusion.specs.Product.{State, Moves, Run, Each, BadCycle}
+use Rattle.buchi_inclusion.specs.Product.{State, Moves, Run, BadCycle}
 use Rattle.buchi_inclusion.specs.Table.{IsItem, IsTable}
 use Rattle.buchi_inclusion.specs.Decision.{IsAtLeast, IsWalk, IsNoWay, HasWay, AreLed}
 use Rattle.buchi_inclusion.specs.BadMoves.{IsBadMove}
