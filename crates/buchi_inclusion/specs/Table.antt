@@ -37,6 +37,10 @@ pub record IsState (g : List Node) (s : State) : Type 0 where
   pub node : s.node < length g
   pub short : length s.forest ≤ 32
 
+-- over edge k a state that was found leads to t, which is found so, with the event
+abbrev pub Finds : List Node → State → ℕ → State → Event → Type 0
+Finds g s k t event = IsStep g s k t event × IsState g t
+
 -- each state was found
 abbrev pub AreStates : List Node → List State → Type 0
 AreStates g states = (i : ℕ) (s : State) → slice_get states i ≡ Some s → IsState g s

@@ -1,12 +1,14 @@
 //! The reachable states of the product, each once, in the order of discovery.
 
 ghost use Rattle.std.specs.Prelude.{ℕ, ◌≡◌, ◌≤◌, ◌<◌, ◌^◌, Some, length, slice_get, IfOk, OnOk, MatchOption};
-ghost use Rattle.buchi_inclusion.specs.Table.{state_of, states_of, IsFound, IsStep, IsLast, IsState, AreStates, IsRow, Extends, IsTable};
+ghost use Rattle.buchi_core.specs.Stepping.{forest_in};
+ghost use Rattle.buchi_core.specs.View.{forest_of};
+ghost use Rattle.buchi_inclusion.specs.Table.{state_of, states_of, IsFound, IsLast, IsState, Finds, AreStates, IsRow, Extends, IsTable};
 ghost use Rattle.trace_pairs.specs.Graph.{IsGraph};
 ghost use Rattle.buchi_inclusion.specs.Answers.{HasMoreThan};
 ghost use Rattle.buchi_inclusion.specs.Product.{State, IsStart};
 
-use buchi_core::{Entry, Event, Stepper, entries_in, start};
+use buchi_core::{AgeForest, Entry, Event, Stepper, entries_in, start};
 use bumpalo::Bump;
 use cyc_memory::OutOfMemory;
 use indexmap::IndexSet;
@@ -20,15 +22,22 @@ pub struct Product<'a> {
     pub forest: &'a [Entry],
 }
 
-/// The place of a state among the states, to which it is added if it is new; and whether it is new.
+/// The place of a state among the states, to which it is added if it is new; and whether it is new. Its entries are
+/// copied into the arena only then, so that the arena grows with the states and not with the steps.
 pub fn intern<'a>(
+    arena: &'a Bump,
     states: &mut IndexSet<Product<'a>>,
-    state: Product<'a>,
+    state: Product<'_>,
 ) -> Result<(usize, bool), OutOfMemory>
     ensures { IfOk result (λ r. IsFound (states_of states.old) (states_of states.new) (state_of state.entry) r.0 r.1) }
 {
-    let found = states.insert_full(state)?;
-    Ok(found)
+    if let Some(place) = states.get_index_of(&state) {
+        return Ok((place, false));
+    }
+    let forest: &'a [Entry] = arena.try_alloc_slice_copy(state.forest)?;
+    let node = state.node;
+    let (place, is_new) = states.insert_full(Product { node, forest })?;
+    Ok((place, is_new))
 }
 
 /// How many states there are. No state stands there twice.
@@ -67,32 +76,31 @@ struct Steps<'a> {
     arena: &'a Bump,
 }
 
-/// The state that edge `edge` leads to, with its event; none where the node has no such edge.
-fn step_from<'a>(
-    steps: &mut Steps<'a>,
+/// The node that edge `edge` leads a state to, with the event; none where the state's node has no such edge. The forest
+/// after the step lies in the stepper.
+fn step_from(
+    stepper: &mut Stepper,
     graph: &TraceGraph,
-    state: Product<'a>,
+    state: Product<'_>,
     edge: usize,
-) -> Result<Option<(Product<'a>, Event)>, OutOfMemory>
+) -> Option<(u32, Event)>
     requires graph { IsGraph graph.now }
     requires state { IsState graph.now (state_of state) }
-    ensures { IfOk result (λ o. MatchOption o (IsLast graph.now (state_of state.entry) edge) (λ r. IsStep graph.now (state_of state.entry) edge (state_of r.0) r.1 × IsState graph.now (state_of r.0))) }
+    ensures { MatchOption result (IsLast graph.now (state_of state.entry) edge)
+        (λ r. Finds graph.now (state_of state.entry) edge (record { node = r.0; forest = forest_in stepper.new }) r.1) }
 {
     let Some(node) = graph.node(state.node as usize) else {
         unreachable!()
     };
     let Some(edge) = node.edge(edge) else {
-        return Ok(None);
+        return None;
     };
     let node = edge.target();
     let Some(target) = graph.node(node as usize) else {
         unreachable!()
     };
-    let event = steps
-        .stepper
-        .step(state.forest, edge.pairs(), target.positions());
-    let forest: &'a [Entry] = steps.arena.try_alloc_slice_copy(steps.stepper.entries())?;
-    Ok(Some((Product { node, forest }, event)))
+    let event = stepper.step(state.forest, edge.pairs(), target.positions());
+    Some((node, event))
 }
 
 /// The moves from the state at a place, whose targets are added to the states. None if there are more states than the
@@ -118,11 +126,11 @@ fn explore_row<'a>(
         unreachable!()
     };
     for edge in 0..usize::MAX {
-        let stepped = step_from(steps, graph, state, edge)?;
-        let Some((state, event)) = stepped else {
+        let Some((node, event)) = step_from(&mut steps.stepper, graph, state, edge) else {
             return Ok(Some(row));
         };
-        let (target, _) = intern(states, state)?;
+        let forest = steps.stepper.entries();
+        let (target, _) = intern(steps.arena, states, Product { node, forest })?;
         if count_of(states) > limit as usize {
             return Ok(None);
         }
@@ -142,17 +150,16 @@ pub struct Table<'a> {
     pub rows: Vec<Vec<Transition>>,
 }
 
-/// The state that begins: node 0 with its first forest.
-fn first_state<'a>(arena: &'a Bump, graph: &TraceGraph) -> Result<Product<'a>, OutOfMemory>
+/// The forest of the state that begins, at node 0.
+fn first_forest(graph: &TraceGraph) -> AgeForest
     requires graph { IsGraph graph.now }
-    ensures { IfOk result (λ p. IsStart graph.now (state_of p) × IsState graph.now (state_of p)) }
+    ensures start { IsStart graph.now (record { node = 0; forest = forest_of result }) }
+    ensures found { IsState graph.now (record { node = 0; forest = forest_of result }) }
 {
     let Some(root) = graph.node(0) else {
         unreachable!()
     };
-    let first = start(root.positions());
-    let forest: &'a [Entry] = arena.try_alloc_slice_copy(entries_in(&first))?;
-    Ok(Product { node: 0, forest })
+    start(root.positions())
 }
 
 /// Explores the product, whose states lie in the arena. None if there are more states than the limit.
@@ -166,8 +173,9 @@ pub fn explore<'a>(
     ensures { IfOk result (λ o. MatchOption o (HasMoreThan graph.now limit) (λ t. IsTable graph.now (states_of t.states) t.rows.items × (length (states_of t.states) ≤ limit))) }
 {
     let mut states = IndexSet::with_capacity(alloc, graph.len())?;
-    let first = first_state(arena, graph)?;
-    intern(&mut states, first)?;
+    let first = first_forest(graph);
+    let forest = entries_in(&first);
+    intern(arena, &mut states, Product { node: 0, forest })?;
     if count_of(&states) > limit as usize {
         return Ok(None);
     }

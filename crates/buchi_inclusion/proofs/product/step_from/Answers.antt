@@ -1,6 +1,6 @@
 -- The edge's step.
-use Rattle.std.proofs.Common.{arith, ap, ◌∙◌, length}
-use Rattle.buchi_core.specs.View.{entries_of}
+use Rattle.std.proofs.Common.{arith}
+use Rattle.buchi_core.specs.Stepping.{forest_in}
 use Rattle.buchi_inclusion.specs.Table.{state_of}
 use Rattle.buchi_inclusion.proofs.Stepping.{step_is}
 use Rattle.buchi_inclusion.proofs.product.step_from.Goals as goal
@@ -11,6 +11,5 @@ unreachable-requires-in_default-node c =
 
 pub returns : goal.returns
 returns c =
-    let here = ap entries_of c.in_ok-forest.ensures ∙ c.entries.ensures in
-    step_is c.args.graph.now (state_of c.args.state) c.in-Some.node.now c.in-Some-node.target.now c.args.edge c.in-Some-edge.edge.now c.target-node.result c.pairs.result.now c.positions.result.now (entries_of c.in_ok-forest.field-0.now) c.step-event.result
-    c.requires.graph c.requires.state c.in-Some.ensures c.in-Some-edge.ensures c.target-node.ensures c.in-Some-node.ensures c.pairs.ensures c.positions.ensures (here ∙ c.step-event.ensures.forest) c.step-event.ensures.event (omega (arith, ap length here, c.step-event.ensures.few))
+    step_is c.args.graph.now (state_of c.args.state) c.in-Some.node.now c.in-Some-node.target.now c.args.edge c.in-Some-edge.edge.now c.target-node.result c.pairs.result.now c.positions.result.now (forest_in c.step-event.new.self) c.step-event.result
+    c.requires.graph c.requires.state c.in-Some.ensures c.in-Some-edge.ensures c.target-node.ensures c.in-Some-node.ensures c.pairs.ensures c.positions.ensures c.step-event.ensures.forest c.step-event.ensures.event c.step-event.ensures.few
