@@ -27,20 +27,18 @@ use Rattle.derivation_search.specs.declared.Tried.TheVariants.{Admitted, Refused
 use Rattle.tableaux.specs.Tableau.{Tableau, replay}
 use Rattle.tableaux.specs.Room.{is_nil, is_done, offered, offered_at, has_room, fits_at, fits_in}
 use Rattle.tableaux.specs.Search.{on_graph}
+use Rattle.tableaux.proofs.Stack.{room_is}
 use Rattle.tableaux.proofs.Steps.{Fits, next_tableau, next_is}
-use Rattle.search_calculus.specs.Calculus.{OpenGoal, MadeNode, traced, answered}
+use Rattle.search_calculus.specs.Calculus.{OpenGoal, MadeNode, answered}
 use Rattle.search_calculus.specs.Graphs.{traces_of, made_graph, goal_graph}
 use Rattle.search_calculus.specs.Search.{links_at, rules_at, calculus_of, search_system}
 use Rattle.search_calculus.proofs.MadeRows.{made_in_order, made_is_graph, made_traces}
 use Rattle.search_calculus.proofs.ProofGraphs.{reason_given, goal_last}
 use Rattle.search_calculus.proofs.TraceGraphs.{replay_traces}
-use Rattle.derivation_moves.specs.declared.goals.MadeNode.{MadeNode as NodeOfCode}
 use Rattle.derivation_moves.specs.declared.effects.Effect.{Effect}
 use Rattle.derivation_moves.specs.declared.derivation.Derivation.{Derivation}
-use Rattle.derivation_moves.specs.declared.goals.OpenGoal.{OpenGoal as GoalOfCode}
-use Rattle.derivation_moves.specs.Opened.{goal_of, node_of}
 use Rattle.derivation_moves.proofs.Gives.{goal_graph_size}
-use Rattle.derivation_moves.proofs.Shows.{HasNext, last_of, next_goal}
+use Rattle.derivation_moves.proofs.Shows.{HasNext, next_seen}
 use Rattle.derivation_moves.specs.Effects.{IsEffect}
 use Rattle.derivation_moves.specs.Leaving.{LeavesPremises}
 use Rattle.tableaux.specs.Fares.{GraphFares}
@@ -54,18 +52,15 @@ pub record HasEffect (s : Derivation) (r : Reason) (e : Effect) : Type 0 where
   pub effects : IsEffect (theory_in s) (nodes_in s) goal r (Some e)
 
 -- the goal on top of the stack, and the effect at it
-abbrev pub with_effect : (s : Derivation) (r : Reason) (e : Effect) (goals : List GoalOfCode) (g : GoalOfCode) (made : List NodeOfCode) (o : Option Effect) → goals ≡ s.goals.items → Some g ≡ slice_get goals (length goals - 1) → made ≡ s.made.items → o ≡ Some e → IsEffect (theory_in s) (map node_of made) (goal_of g) r o → HasEffect s r e
+abbrev pub with_effect : (s : Derivation) (r : Reason) (e : Effect) (goals : List OpenGoal) (g : OpenGoal) (made : List MadeNode) (o : Option Effect) → goals ≡ s.goals.items → Some g ≡ slice_get goals (length goals - 1) → made ≡ s.made.items → o ≡ Some e → IsEffect (theory_in s) made g r o → HasEffect s r e
 with_effect s r e goals g made o same at made_is o_is is_effect =
-    let effects : IsEffect (theory_in s) (nodes_in s) (goal_of g) r (Some e) = subst (IsEffect (theory_in s) (nodes_in s) (goal_of g) r) o_is (subst (λ ms. IsEffect (theory_in s) (map node_of ms) (goal_of g) r o) made_is is_effect) in
-    let next = next_goal s g (last_of s.goals.items g (subst (λ gs. Some g ≡ slice_get gs (length gs - 1)) same at)) in
-    record { goal = goal_of g; rest = next.rest; next = next.are; effects = effects }
+    let effects : IsEffect (theory_in s) (nodes_in s) g r (Some e) = subst (IsEffect (theory_in s) (nodes_in s) g r) o_is (subst (λ ms. IsEffect (theory_in s) ms g r o) made_is is_effect) in
+    let next = next_seen s goals g same at in
+    record { goal = g; rest = next.0; next = next.1; effects = effects }
 
 module _ (s : Derivation) (r : Reason) (e : Effect) (order : IsInOrder s) (has : HasEffect s r e) where
   abbrev t : Theory
   t = theory_in s
-
-  size : length (nodes_in s) ≡ length s.made.items
-  size = length-map s.made.items node_of
 
   abbrev more : List MadeNode
   more = nodes_in s ++ record { goal = has.goal; reason = r } ∷ []
@@ -74,18 +69,18 @@ module _ (s : Derivation) (r : Reason) (e : Effect) (order : IsInOrder s) (has :
   graph_now = order.graph ∙ ap (graph_with t (nodes_in s)) has.next
 
   abbrev fits : Fits (calculus_of t) (replay (calculus_of t) s.root (reasons_in s)) r
-  fits = record { t = tableau_in s; is = order.is.replayed; g = has.goal; rest = has.rest; goals = has.next; ps = map traced e.premises.items; has = has.effects.0 }
+  fits = record { t = tableau_in s; is = order.is.replayed; g = has.goal; rest = has.rest; goals = has.next; ps = e.premises.items; has = has.effects.0 }
 
   abbrev tableau_then : Tableau Judgement Reason
-  tableau_then = next_tableau (calculus_of t) (nodes_in s) (traces_of t (nodes_in s)) has.goal has.rest (map traced e.premises.items) r
+  tableau_then = next_tableau (calculus_of t) (nodes_in s) (traces_of t (nodes_in s)) has.goal has.rest e.premises.items r
 
   pub stepped : replay (calculus_of t) s.root (after (reasons_in s) r) ≡ Some tableau_then
   stepped = next_is (calculus_of t) s.root (reasons_in s) r fits
 
   made : changed_at (with_reason r e.pairs) s.graph (length s.made.items) ≡ made_graph t more
   made =
-      (λ i. changed_at (with_reason r (sym has.effects.1 i)) (graph_now i) (sym size i))
-      ∙ reason_given t (nodes_in s) has.goal r (map traced e.premises.items) has.effects.0
+      (λ i. changed_at (with_reason r (sym has.effects.1 i)) (graph_now i) (length s.made.items))
+      ∙ reason_given t (nodes_in s) has.goal r e.premises.items has.effects.0
 
   -- the trace graph that was made
   pub traces_are : (n : ℕ) (traces : List Node) → n ≡ length s.made.items → traces ≡ trace_graph_of (changed_at (with_reason r e.pairs) s.graph n) → traces ≡ tableau_then.graph
@@ -139,14 +134,6 @@ above_is s order complete traces b is is_b system search =
 
 -- ---- whether a reason fits
 
-nil_length : {X : Type 0} (xs : List X) (n : ℕ) → n ≡ length xs → is_nil xs ≡ nat_eq n 0
-nil_length [] n e = ap (λ k. nat_eq k 0) (sym e)
-nil_length {X} (x ∷ xs) n e =
-    elim (cases_Bool (nat_eq n 0)) [
-      | inl yes' ↦ absurd (let z = eqb-true n 0 yes' in omega (arith, z, e))
-      | inr no' ↦ sym no'
-    ]
-
 pub fits_is : (s : Derivation) (r : Reason) (e : Effect) → IsInOrder s → (has : HasEffect s r e) → (bound depth made others count : ℕ) (b : Bool) → depth ≡ has.goal.depth → made ≡ length s.made.items → others ≡ length has.rest → count ≡ length e.premises.items →
     b ≡ ((nat_eq count 0 || nat_lt depth bound) && nat_le (made + 1 + (count + others)) 20000) → (system : System Reason) → IsItsSearch s system → system.fits bound (reasons_in s) r ≡ b
 fits_is s r e order has bound depth made others count b is_depth is_made is_others is_count is_b system search =
@@ -154,17 +141,11 @@ fits_is s r e order has bound depth made others count b is_depth is_made is_othe
     (ap (λ p. fits_in (calculus_of (theory_in s)) 20000 bound (length (reasons_in s)) p r) order.is.replayed
     ∙ (ap (fits_at (calculus_of (theory_in s)) 20000 bound (length (reasons_in s)) (nodes_in s) r) has.next
     ∙ (ap (has_room 20000 bound (length (reasons_in s)) has.goal has.rest) has.effects.0
-    ∙ ((λ i. (nils i || nat_lt (sym is_depth i) bound) && nat_le (sums i) 20000) ∙ sym is_b))))
-  where
-    nils : is_nil (map traced e.premises.items) ≡ nat_eq count 0
-    nils = nil_length (map traced e.premises.items) count (is_count ∙ sym (length-map e.premises.items traced))
-
-    sums : length (reasons_in s) + 1 + (length (map traced e.premises.items) + length has.rest) ≡ made + 1 + (count + others)
-    sums = omega (arith, length-map s.made.items (λ (m : NodeOfCode). m.reason), length-map e.premises.items traced, is_made, is_others, is_count)
+    ∙ room_is 20000 bound (length (reasons_in s)) has.goal has.rest e.premises.items depth made others count b is_depth (is_made ∙ sym (length-map s.made.items (λ (m : MadeNode). m.reason))) is_others is_count is_b)))
 
 -- the goals after the next one
 pub others_are : (s : Derivation) (r : Reason) (e : Effect) (has : HasEffect s r e) (n : ℕ) → n ≡ length s.goals.items → n - 1 ≡ length has.rest
-others_are s r e has n number = omega (arith, number, ap length has.next, length-map (reverse s.goals.items) goal_of, length-reverse s.goals.items)
+others_are s r e has n number = omega (arith, number, ap length has.next, length-reverse s.goals.items)
 
 -- ---- what is offered
 
@@ -201,19 +182,15 @@ filter_twice p b (x ∷ xs) =
 pub not_below : (d e : ℕ) → e ≤ d → nat_lt d e ≡ false
 not_below d e h = elim (cases_Bool (nat_lt d e)) [ inl yes' ↦ absurd (omega (arith, h, ltb-true d e yes')) | inr no' ↦ no' ]
 
--- the goal on top of the stack
-pub next_seen : (s : Derivation) (goals : List GoalOfCode) (g : GoalOfCode) → goals ≡ s.goals.items → Some g ≡ slice_get goals (length goals - 1) → HasNext s (goal_of g)
-next_seen s goals g same at = next_goal s g (last_of s.goals.items g (subst (λ gs. Some g ≡ slice_get gs (length gs - 1)) same at))
-
 module _ (s : Derivation) (g : OpenGoal) (order : IsInOrder s) (next : HasNext s g) (n : ℕ) (number : n ≡ length s.made.items) where
   abbrev u : Theory
   u = theory_in s
 
   is_graph : s.graph ≡ goal_graph u (nodes_in s) g
-  is_graph = order.graph ∙ ap (graph_with u (nodes_in s)) next.are
+  is_graph = order.graph ∙ ap (graph_with u (nodes_in s)) next.1
 
   is_number : n ≡ length (nodes_in s)
-  is_number = number ∙ sym (length-map s.made.items node_of)
+  is_number = number
 
   pub goal_within : n < length s.graph
   goal_within = omega (arith, ap length is_graph, goal_graph_size u (nodes_in s) g, is_number)
@@ -228,14 +205,14 @@ module _ (s : Derivation) (g : OpenGoal) (order : IsInOrder s) (next : HasNext s
       subst (λ (y : System Reason). reasons ≡ y.candidates (reasons_in s)) (sym search)
       (are
       ∙ (ap (map Back) (offers.2 ∙ (λ i. links_offered u (is_graph i) (is_number i) (is_goal offers.0 offers.1 i).judgement))
-      ∙ sym (ap (offered (links_at u)) order.is.replayed ∙ ap (offered_at (links_at u) (nodes_in s)) next.are)))
+      ∙ sym (ap (offered (links_at u)) order.is.replayed ∙ ap (offered_at (links_at u) (nodes_in s)) next.1)))
 
   pub rules_are : (rules : List Rule) (reasons : List Reason) → OffersRules u s.graph n rules → reasons ≡ map Step rules → (system : System Reason) → IsItsSearch s system → reasons ≡ system.rules (reasons_in s)
   rules_are rules reasons offers are system search =
       subst (λ (y : System Reason). reasons ≡ y.rules (reasons_in s)) (sym search)
       (are
       ∙ (ap (map Step) (offers.2 ∙ (λ i. rules_offered u (is_graph i) (is_number i) (is_goal offers.0 offers.1 i).judgement))
-      ∙ sym (ap (offered (rules_at u)) order.is.replayed ∙ ap (offered_at (rules_at u) (nodes_in s)) next.are)))
+      ∙ sym (ap (offered (rules_at u)) order.is.replayed ∙ ap (offered_at (rules_at u) (nodes_in s)) next.1)))
 
   -- the goal's judgement stands in the graph
   pub goal_judgement : HasJudgement s.graph n g.premise.judgement
@@ -245,15 +222,15 @@ module _ (s : Derivation) (g : OpenGoal) (order : IsInOrder s) (next : HasNext s
 
   module _ (bound : ℕ) (deep : nat_lt g.depth bound ≡ false) (system : System Reason) (search : IsItsSearch s system) where
     abbrev room : Bool
-    room = nat_le (length (reasons_in s) + 1 + (0 + length next.rest)) 20000
+    room = nat_le (length (reasons_in s) + 1 + (0 + length next.0)) 20000
 
     -- a rule fits there if it leaves nothing to be shown, and there is room
     fits_deep : (rule : Rule) → system.fits bound (reasons_in s) (Step rule) ≡ (closes u g.premise.judgement rule && room)
     fits_deep rule =
         subst (λ (y : System Reason). y.fits bound (reasons_in s) (Step rule) ≡ (closes u g.premise.judgement rule && room)) (sym search)
         (ap (λ p. fits_in (calculus_of u) 20000 bound (length (reasons_in s)) p (Step rule)) order.is.replayed
-        ∙ (ap (fits_at (calculus_of u) 20000 bound (length (reasons_in s)) (nodes_in s) (Step rule)) next.are
-        ∙ deep_room 20000 bound (length (reasons_in s)) g next.rest (rule_answer u.most u.definitions u.lines g.premise.judgement rule) deep))
+        ∙ (ap (fits_at (calculus_of u) 20000 bound (length (reasons_in s)) (nodes_in s) (Step rule)) next.1
+        ∙ deep_room 20000 bound (length (reasons_in s)) g next.0 (rule_answer u.most u.definitions u.lines g.premise.judgement rule) deep))
 
     pub misfits : (reason : Reason) → LeavesPremises u g.premise.judgement reason → system.fits bound (reasons_in s) reason ≡ false
     misfits (Step rule) h = fits_deep rule ∙ ap (λ b. b && room) h
@@ -285,4 +262,4 @@ module _ (s : Derivation) (g : OpenGoal) (order : IsInOrder s) (next : HasNext s
         are_offered : system.rules (reasons_in s) ≡ map Step all_offered
         are_offered =
             subst (λ (y : System Reason). y.rules (reasons_in s) ≡ map Step all_offered) (sym search)
-            (ap (offered (rules_at u)) order.is.replayed ∙ ap (offered_at (rules_at u) (nodes_in s)) next.are)
+            (ap (offered (rules_at u)) order.is.replayed ∙ ap (offered_at (rules_at u) (nodes_in s)) next.1)

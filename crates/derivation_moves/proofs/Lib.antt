@@ -1,5 +1,4 @@
 mod ReasonEffects
-mod Stack
 mod Begins
 mod Gives
 mod Shows

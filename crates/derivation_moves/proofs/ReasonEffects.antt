@@ -1,16 +1,19 @@
--- A reason with a fault has no effect.
-use Rattle.std.proofs.Common.{◌≡◌, List, Option, Some, None, Err, refl, ap}
+-- The effect of a reason, and none at a fault.
+use Rattle.std.proofs.Common.{◌≡◌, List, [], ◌∷◌, map, Option, Some, None, Ok, Err, refl, sym, ap, ◌∙◌}
 use Rattle.std.specs.Prelude.{slice_get}
 use Rattle.std.specs.Option.{option_map}
+use Rattle.heap_formula.specs.declared.judgements.Premise.{Premise}
 use Rattle.heap_formula.specs.declared.proof_rules.Reason.{Reason}
 use Rattle.heap_formula.specs.declared.proof_rules.Reason.TheVariants.{Step, Back}
 use Rattle.heap_formula.specs.declared.proof_rules.RuleFault.{RuleFault}
+use Rattle.heap_formula.specs.declared.proof_rules.RuleFault.TheVariants.{NoSuchNode}
 use Rattle.rule_table.specs.LinkTable.{link_fault, link_premise}
 use Rattle.rule_table.specs.RuleBook.{variables_of}
 use Rattle.node_reasons.specs.Answers.{unless_fault, link_answer, reason_answer, companion_in}
 use Rattle.search_moves.specs.Trying.{Theory}
-use Rattle.search_calculus.specs.Calculus.{OpenGoal, MadeNode, judgement_of, answered, edge_unless, edge_to, none_beside}
-use Rattle.derivation_moves.specs.Effects.{IsEffect}
+use Rattle.search_calculus.specs.Calculus.{OpenGoal, MadeNode, judgement_of, answered, edge_unless, edge_to, none_beside, answer_pairs, link_pairs}
+use Rattle.derivation_moves.specs.declared.effects.Effect.{Effect}
+use Rattle.derivation_moves.specs.Effects.{IsEffectBy, IsEffect}
 
 module _ (t : Theory) (nodes : List MadeNode) (g : OpenGoal) where
   pub no_effect : (reason : Reason) (f : RuleFault) → reason_answer t.most t.definitions t.lines g.premise.judgement reason (companion_in judgement_of nodes reason) ≡ Err f → IsEffect t nodes g reason None
@@ -24,3 +27,15 @@ module _ (t : Theory) (nodes : List MadeNode) (g : OpenGoal) where
       by_node : (o : Option MadeNode) → link_answer t.lines g.premise.judgement link (option_map judgement_of o) ≡ Err f → none_beside (edge_to t g.premise.judgement link o) ≡ None
       by_node None e = refl
       by_node (Some m) e = by_fault m (link_fault g.premise.judgement (judgement_of m) link (variables_of t.lines g.premise.judgement)) e
+
+  pub has_effect : (reason : Reason) (ps : List Premise) (e : Effect) → reason_answer t.most t.definitions t.lines g.premise.judgement reason (companion_in judgement_of nodes reason) ≡ Ok ps → IsEffectBy reason ps e → IsEffect t nodes g reason (Some e)
+  has_effect (Step rule) ps e answer by = (ap answered answer ∙ ap Some (sym by.0), ap answer_pairs answer ∙ sym by.1)
+  has_effect (Back link) ps e answer by = by_node (slice_get nodes link.target) answer
+    where
+      by_fault : (m : MadeNode) (o : Option RuleFault) → unless_fault o (link_premise (judgement_of m) link) ≡ Ok ps → (none_beside (edge_unless o (judgement_of m) link) ≡ Some e.premises.items) × (link_pairs link (Some m) ≡ e.pairs)
+      by_fault m None h = (ap Some (sym by.0), let one : link_premise (judgement_of m) link ∷ [] ≡ ps = cc in ap (map (λ (p : Premise). p.pairs)) one ∙ sym by.1)
+      by_fault m (Some f) h = absurd (let h' : Err f ≡ Ok ps = h in cc)
+
+      by_node : (o : Option MadeNode) → link_answer t.lines g.premise.judgement link (option_map judgement_of o) ≡ Ok ps → (none_beside (edge_to t g.premise.judgement link o) ≡ Some e.premises.items) × (link_pairs link o ≡ e.pairs)
+      by_node None h = absurd (let h' : Err NoSuchNode ≡ Ok ps = h in cc)
+      by_node (Some m) h = by_fault m (link_fault g.premise.judgement (judgement_of m) link (variables_of t.lines g.premise.judgement)) h

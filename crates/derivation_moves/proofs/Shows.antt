@@ -1,91 +1,42 @@
 -- The next goal becomes a node of the graph, or is no more one.
-use Rattle.std.proofs.Common.{◌≡◌, ℕ, zero, suc, ◌-◌, ◌<◌, ◌⊎◌, inl, inr, List, [], ◌∷◌, ◌++◌, map, reverse, Some, None, slice_get, length, length-append, arith, refl, sym, ap, subst, ◌∙◌}
-use Rattle.std.proofs.lemmas.List.{reverse-append, length-map}
+use Rattle.std.proofs.Common.{◌≡◌, ℕ, zero, suc, ◌-◌, ◌<◌, ◌⊎◌, inl, inr, List, [], ◌∷◌, ◌++◌, Some, None, slice_get, length, arith, sym, ap, subst, ◌∙◌}
+use Rattle.std.proofs.lemmas.List.{length-reverse}
 use Rattle.proof_graph.specs.declared.nodes.GraphNode.{GraphNode}
-use Rattle.proof_graph.specs.Nodes.{open_node, with_premise, changed_at, nodes_below, HasPremise}
+use Rattle.proof_graph.specs.Nodes.{open_node, nodes_below, HasPremise}
+use Rattle.tableaux.proofs.Stack.{top_next}
 use Rattle.search_calculus.specs.Calculus.{OpenGoal}
-use Rattle.search_calculus.specs.Graphs.{made_graph}
+use Rattle.search_calculus.specs.Graphs.{made_graph, with_goal, with_goal_at}
 use Rattle.search_calculus.proofs.ProofGraphs.{length-made_graph}
 use Rattle.search_calculus.proofs.NextGoals.{goal_shown, slot_free, goal_hidden}
-use Rattle.derivation_moves.specs.declared.goals.OpenGoal.{OpenGoal as GoalOfCode}
 use Rattle.derivation_moves.specs.declared.derivation.Derivation.{Derivation}
-use Rattle.derivation_moves.specs.Opened.{goal_of, node_of}
 use Rattle.derivation_moves.specs.Derivations.{theory_in, nodes_in, goals_in, reasons_in, graph_with, tableau_in, IsInOrder, IsMade}
 
--- the last of a list is known
-pub record HasLast {X : Type 0} (xs : List X) (x : X) : Type 0 where
-  pub rest : List X
-  pub are : xs ≡ rest ++ x ∷ []
-
-get_end : {X : Type 0} (xs : List X) (x : X) → slice_get (xs ++ x ∷ []) (length xs) ≡ Some x
-get_end [] x = refl
-get_end (y ∷ xs) x = get_end xs x
-
-split_last : {X : Type 0} (xs : List X) → (xs ≡ []) ⊎ ((ys : List X) × (y : X) × (xs ≡ ys ++ y ∷ []))
-split_last [] = inl refl
-split_last {X} (x ∷ xs) =
-    elim (split_last xs) [
-      | inl none ↦ inr ([], x, ap (λ (zs : List X). x ∷ zs) none)
-      | inr some ↦ inr (x ∷ some.0, some.1, ap (λ (zs : List X). x ∷ zs) some.2)
-    ]
-
-pub last_of : {X : Type 0} (xs : List X) (x : X) → Some x ≡ slice_get xs (length xs - 1) → HasLast xs x
-last_of {X} xs x h =
-    elim (split_last xs) [
-      | inl none ↦ absurd (let e : Some x ≡ None = subst (λ (ys : List X). Some x ≡ slice_get ys (length ys - 1)) none h in cc)
-      | inr some ↦
-          (let n : length (some.0 ++ some.1 ∷ []) - 1 ≡ length some.0 = omega (arith, length-append some.0 (some.1 ∷ [])) in
-          let e : Some x ≡ Some some.1 =
-          subst (λ (ys : List X). Some x ≡ slice_get ys (length ys - 1)) some.2 h ∙ (ap (slice_get (some.0 ++ some.1 ∷ [])) n ∙ get_end some.0 some.1) in
-          let same : some.1 ≡ x = cc in
-          record { rest = some.0; are = some.2 ∙ ap (λ (y : X). some.0 ++ y ∷ []) same })
-    ]
-
 -- the next goal, and those after it
-pub record HasNext (s : Derivation) (g : OpenGoal) : Type 0 where
-  pub rest : List OpenGoal
-  pub are : goals_in s ≡ g ∷ rest
-  pub some_goal : 0 < length s.goals.items
+abbrev pub HasNext : Derivation → OpenGoal → Type 0
+HasNext s g = (rest : List OpenGoal) × (goals_in s ≡ g ∷ rest)
 
-pub next_goal : (s : Derivation) (g : GoalOfCode) → HasLast s.goals.items g → HasNext s (goal_of g)
-next_goal s g last = record {
-  rest = map goal_of (reverse last.rest);
-  are = ap (λ gs. map goal_of (reverse gs)) last.are ∙ ap (map goal_of) (reverse-append last.rest (g ∷ []));
-  some_goal = omega (arith, ap length last.are, length-append last.rest (g ∷ []));
-}
-
--- where a goal is open, there is a next one
-pub some_next : (s : Derivation) → 0 < length s.goals.items → (g : OpenGoal) × HasNext s g
-some_next s some' =
-    elim (split_last s.goals.items) [
-      | inl none ↦ absurd (omega (arith, some', ap length none))
-      | inr last ↦ (goal_of last.1, next_goal s last.1 (record { rest = last.0; are = last.2 }))
-    ]
+-- the goal on top of the stack
+pub next_seen : (s : Derivation) (goals : List OpenGoal) (g : OpenGoal) → goals ≡ s.goals.items → Some g ≡ slice_get goals (length goals - 1) → HasNext s g
+next_seen s goals g same at = top_next s.goals.items goals g same at
 
 module _ (s : Derivation) (g : OpenGoal) (order : IsMade s) (next : HasNext s g) where
   pub graph_size : length s.graph ≡ length s.made.items
-  graph_size = ap length order.graph ∙ (length-made_graph (theory_in s) (nodes_in s) ∙ length-map s.made.items node_of)
-
-  size : length (nodes_in s) ≡ length s.made.items
-  size = length-map s.made.items node_of
-
-  some_node : 0 < length (nodes_in s)
-  some_node = omega (arith, size, order.some_node)
+  graph_size = ap length order.graph ∙ length-made_graph (theory_in s) (nodes_in s)
 
   pub room : length s.graph < 20000
-  room = omega (arith, graph_size, order.is.few, next.some_goal)
+  room = omega (arith, graph_size, order.is.few, ap length next.1, length-reverse s.goals.items)
 
-  pub slot : HasPremise (s.graph ++ open_node g.premise.judgement ∷ []) g.parent g.place
+  pub slot : HasPremise (with_goal s.graph g) g.parent g.place
   slot =
-      subst (λ ns. HasPremise (ns ++ open_node g.premise.judgement ∷ []) g.parent g.place) (sym order.graph)
-      (slot_free (theory_in s) s.root (reasons_in s) (tableau_in s) g next.rest order.is.problem order.is.replayed next.are some_node)
+      subst (λ ns. HasPremise (with_goal ns g) g.parent g.place) (sym order.graph)
+      (slot_free (theory_in s) s.root (reasons_in s) (tableau_in s) g next.0 order.is.problem order.is.replayed next.1 order.some_node)
 
-  pub shown_graph : (graph : List GraphNode) → graph ≡ changed_at (with_premise g.place (length s.graph)) (s.graph ++ open_node g.premise.judgement ∷ []) g.parent → graph ≡ graph_with (theory_in s) (nodes_in s) (goals_in s)
+  pub shown_graph : (graph : List GraphNode) → graph ≡ with_goal_at (length s.graph) s.graph g → graph ≡ graph_with (theory_in s) (nodes_in s) (goals_in s)
   shown_graph graph e =
       e
-      ∙ ((λ i. changed_at (with_premise g.place ((graph_size ∙ sym size) i)) (order.graph i ++ open_node g.premise.judgement ∷ []) g.parent)
-      ∙ (goal_shown (theory_in s) s.root (reasons_in s) (tableau_in s) g next.rest order.is.problem order.is.replayed next.are some_node
-      ∙ ap (graph_with (theory_in s) (nodes_in s)) (sym next.are)))
+      ∙ ((λ i. with_goal_at (graph_size i) (order.graph i) g)
+      ∙ (goal_shown (theory_in s) s.root (reasons_in s) (tableau_in s) g next.0 order.is.problem order.is.replayed next.1 order.some_node
+      ∙ ap (graph_with (theory_in s) (nodes_in s)) (sym next.1)))
 
 get_end_other : (nodes : List GraphNode) (x node : GraphNode) (i : ℕ) → slice_get (nodes ++ x ∷ []) i ≡ Some node → (i < length nodes) ⊎ (node ≡ x)
 get_end_other [] x node zero h = inr (let e : Some x ≡ Some node = h in cc)
@@ -94,7 +45,7 @@ get_end_other (y ∷ nodes) x node zero h = inl (omega arith)
 get_end_other (y ∷ nodes) x node (suc i) h = elim (get_end_other nodes x node i h) [ inl less ↦ inl (omega (arith, less)) | inr same ↦ inr same ]
 
 -- a node with a premise is not the one that was just made
-pub parent_before : (nodes : List GraphNode) (g : OpenGoal) → HasPremise (nodes ++ open_node g.premise.judgement ∷ []) g.parent g.place → g.parent < length nodes
+pub parent_before : (nodes : List GraphNode) (g : OpenGoal) → HasPremise (with_goal nodes g) g.parent g.place → g.parent < length nodes
 parent_before nodes g has =
     elim (get_end_other nodes (open_node g.premise.judgement) has.0 g.parent has.1) [
       | inl less ↦ less
@@ -105,5 +56,5 @@ parent_before nodes g has =
 pub hidden_graph : (s : Derivation) (g : OpenGoal) → IsInOrder s → HasNext s g → (n : ℕ) (graph : List GraphNode) → n ≡ length s.made.items → graph ≡ nodes_below n s.graph → graph ≡ made_graph (theory_in s) (nodes_in s)
 hidden_graph s g order next n graph number e =
     e
-    ∙ ((λ i. nodes_below ((number ∙ sym (length-map s.made.items node_of)) i) ((order.graph ∙ ap (graph_with (theory_in s) (nodes_in s)) next.are) i))
+    ∙ ((λ i. nodes_below (number i) ((order.graph ∙ ap (graph_with (theory_in s) (nodes_in s)) next.1) i))
     ∙ goal_hidden (theory_in s) s.root (reasons_in s) (tableau_in s) g order.is.problem order.is.replayed)

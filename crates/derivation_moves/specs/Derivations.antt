@@ -16,10 +16,8 @@ use Rattle.search_calculus.specs.Calculus.{OpenGoal, MadeNode}
 use Rattle.search_calculus.specs.Graphs.{traces_of, made_graph, goal_graph}
 use Rattle.search_calculus.specs.Problems.{IsSmallProblem}
 use Rattle.search_calculus.specs.Search.{calculus_of, search_system}
-use Rattle.derivation_moves.specs.declared.goals.MadeNode.{MadeNode as NodeOfCode}
 use Rattle.derivation_moves.specs.declared.derivation.Derivation.{Derivation}
 use Rattle.derivation_moves.specs.declared.effects.Effect.{Effect}
-use Rattle.derivation_moves.specs.Opened.{goal_of, node_of}
 use Rattle.derivation_moves.specs.Effects.{IsEffect}
 
 -- the problem's definitions and lines
@@ -28,15 +26,15 @@ theory_in s = theory s.defs s.program
 
 -- the nodes made
 abbrev pub nodes_in : Derivation → List MadeNode
-nodes_in s = map node_of s.made.items
+nodes_in s = s.made.items
 
 -- the open goals, the next one first; it stands last on the stack
 abbrev pub goals_in : Derivation → List OpenGoal
-goals_in s = map goal_of (reverse s.goals.items)
+goals_in s = reverse s.goals.items
 
 -- the reasons so far
 abbrev pub reasons_in : Derivation → List Reason
-reasons_in s = map (λ (m : NodeOfCode). m.reason) s.made.items
+reasons_in s = map (λ (m : MadeNode). m.reason) s.made.items
 
 -- the proof graph of nodes and the next goal, if there is one
 abbrev pub graph_with : Theory → List MadeNode → List OpenGoal → List GraphNode

@@ -1,23 +1,24 @@
 -- What a reason makes of a goal.
 use Rattle.std.specs.Prelude.{◌≡◌, List, [], map, Option, Some, None}
+use Rattle.heap_formula.specs.declared.judgements.Judgement.{Judgement}
 use Rattle.heap_formula.specs.declared.judgements.Premise.{Premise}
 use Rattle.heap_formula.specs.declared.proof_rules.Reason.{Reason}
 use Rattle.heap_formula.specs.declared.proof_rules.Reason.TheVariants.{Step, Back}
 use Rattle.search_moves.specs.Trying.{Theory}
+use Rattle.tableaux.specs.Tableau.{Premise as TracedPremise}
 use Rattle.search_calculus.specs.Calculus.{OpenGoal, MadeNode, traced, premises, pairs_of}
 use Rattle.derivation_moves.specs.declared.effects.Effect.{Effect}
 
--- what premises leave to be proved: those of a link are made already
-abbrev pub open_premises : Reason → List Premise → List Premise
-open_premises (Step rule) ps = ps
-open_premises (Back link) ps = []
+-- the effect that leaves these to be proved, and has the pairs of these premises
+abbrev pub Leaves : List (TracedPremise Judgement) → List Premise → Effect → Type 0
+Leaves left ps e = (e.premises.items ≡ left) × (e.pairs ≡ map (λ (p : Premise). p.pairs) ps)
 
--- the effect of a reason with these premises
-pub record IsEffectBy (reason : Reason) (ps : List Premise) (e : Effect) : Type 0 where
-  pub premises : e.premises.items ≡ open_premises reason ps
-  pub pairs : e.pairs ≡ map (λ (p : Premise). p.pairs) ps
+-- the effect of a reason with these premises: a link's are made already
+abbrev pub IsEffectBy : Reason → List Premise → Effect → Type 0
+IsEffectBy (Step rule) ps e = Leaves (map traced ps) ps e
+IsEffectBy (Back link) ps e = Leaves [] ps e
 
 -- a reason's premises, and the pairs of its edges
 abbrev pub IsEffect : Theory → List MadeNode → OpenGoal → Reason → Option Effect → Type 0
 IsEffect t nodes g r None = premises t nodes g r ≡ None
-IsEffect t nodes g r (Some e) = (premises t nodes g r ≡ Some (map traced e.premises.items)) × (pairs_of t nodes g.premise.judgement r ≡ e.pairs)
+IsEffect t nodes g r (Some e) = (premises t nodes g r ≡ Some e.premises.items) × (pairs_of t nodes g.premise.judgement r ≡ e.pairs)

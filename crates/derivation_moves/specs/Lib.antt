@@ -1,5 +1,3 @@
-pub mod Opened
 pub mod Effects
-pub mod PremiseCounts
 pub mod Derivations
 pub mod Leaving

@@ -1,50 +1,42 @@
 // A partial derivation: the nodes made, the open goals, and the proof graph of both.
-ghost use Rattle.std.specs.Prelude.{◌≡◌, ◌<◌, ◌+◌, ◌&&◌, ◌||◌, ◌==◌, [], ◌∷◌, ◌++◌, length, nat_lt, nat_le, IfOk, OnOk};
-ghost use Rattle.derivation_moves.specs.PremiseCounts.{IsPremiseCount};
-ghost use Rattle.proof_graph.specs.Nodes.{open_node, with_premise, changed_at, HasPremise};
+ghost use Rattle.std.specs.Prelude.{◌≡◌, ◌<◌, [], ◌∷◌, ◌++◌, length, IfOk, OnOk};
+ghost use Rattle.proof_graph.specs.Nodes.{open_node, HasPremise};
+ghost use Rattle.search_calculus.specs.Graphs.{with_goal, with_goal_at};
 
 use crate::effects::Effect;
-use crate::goals::{MadeNode, OpenGoal, drop_goals, push_goals};
 use bumpalo::Bump;
 use cyc_limits::MOST_NODES;
 use cyc_memory::OutOfMemory;
 use goto_lang::Program;
-use heap_formula::{Judgement, Pairs, Premise, Reason};
+use heap_formula::{Judgement, Reason};
 use pred_defs::Defs;
 use proof_graph::Graph;
 use std::alloc::Global;
+use tableaux::{MadeNode, OpenGoal, drop_goals, first_goal, push_goals};
 
-/// A partial derivation of a goal over definitions and a program. The goals stand on a stack, the next one on top; it is the
-/// last node of the graph, which else has the nodes made. What the graph holds lies in an arena that stands outside it.
+/// A partial derivation of a goal over definitions and a program. The goals stand on a stack, the next one on top; it
+/// is the last node of the graph, which else has the nodes made. What the graph holds lies in an arena that stands
+/// outside it.
 #[derive(Drop)]
 pub struct Derivation<'a> {
     pub defs: Defs,
     pub program: Program,
     pub root: Judgement,
     pub graph: Graph<'a>,
-    pub made: Vec<MadeNode>,
-    pub goals: Vec<OpenGoal>,
-}
-
-/// Whether premises fit at a goal of some depth, beside the nodes made and the other goals: they need a depth below the
-/// bound, and all together are at most the limit.
-pub fn has_room(bound: u32, depth: u32, made: usize, others: usize, count: usize) -> bool
-    requires { made + others < MOST_NODES }
-    ensures fits { result ≡ ((count == 0 || nat_lt depth bound) && nat_le (made + 1 + (count + others)) MOST_NODES) }
-{
-    if count > 0 && depth >= bound {
-        return false;
-    }
-    count <= MOST_NODES - 1 - made - others
+    pub made: Vec<MadeNode<Judgement, Reason>>,
+    pub goals: Vec<OpenGoal<Judgement>>,
 }
 
 /// Makes the goal a node of the graph, and fills its parent's slot with it.
-pub fn show_goal(graph: &mut Graph<'_>, goal: &OpenGoal) -> Result<(), OutOfMemory>
+pub fn show_goal(
+    graph: &mut Graph<'_>,
+    goal: &OpenGoal<Judgement>,
+) -> Result<(), OutOfMemory>
     requires some_node { 0 < length graph.old }
     requires few { length graph.old < MOST_NODES }
-    requires slot { HasPremise (graph.old ++ open_node goal.now.premise.judgement ∷ []) goal.now.parent goal.now.place }
+    requires slot { HasPremise (with_goal graph.old goal.now) goal.now.parent goal.now.place }
     requires parent { goal.now.parent < length graph.old }
-    ensures { OnOk result (graph.new ≡ changed_at (with_premise goal.now.place (length graph.old)) (graph.old ++ open_node goal.now.premise.judgement ∷ []) goal.now.parent) }
+    ensures { OnOk result (graph.new ≡ with_goal_at (length graph.old) graph.old goal.now) }
 {
     let node = push_goal(graph, &goal.premise.judgement)?;
     graph.set_premise(goal.parent, goal.place, node)?;
@@ -61,22 +53,6 @@ pub fn push_goal(graph: &mut Graph<'_>, judgement: &Judgement) -> Result<u32, Ou
         Ok(number) => Ok(number),
         Err(_) => Err(OutOfMemory),
     }
-}
-
-/// The goal that a derivation begins with.
-fn first_goal(alloc: Global, goal: &Judgement) -> Result<OpenGoal, OutOfMemory>
-    ensures { IfOk result (λ g. g ≡ record { parent = 0; place = 0; depth = 1; premise = record { judgement = goal.now; pairs = [] } }) }
-{
-    let premise = Premise {
-        judgement: goal.clone()?,
-        pairs: Pairs::new(alloc),
-    };
-    Ok(OpenGoal {
-        parent: 0,
-        place: 0,
-        depth: 1,
-        premise,
-    })
 }
 
 impl<'a> Derivation<'a> {
@@ -106,7 +82,7 @@ impl<'a> Derivation<'a> {
         let mut graph = Graph::new_in(alloc, arena);
         let _ = push_goal(&mut graph, goal)?;
         let mut goals = Vec::new(alloc);
-        goals.push(first_goal(alloc, goal)?)?;
+        goals.push(first_goal(alloc, goal.clone()?))?;
         let defs = defs.clone()?;
         let program = program.clone()?;
         let root = goal.clone()?;
@@ -197,21 +173,9 @@ impl<'a> Derivation<'a> {
             return Ok(());
         };
         let number = self.made.len() as u32;
-        let count = premise_count(&self.graph, number, &node.reason);
         self.graph.clear_reason(number);
-        drop_goals(&mut self.goals, count);
+        drop_goals(&mut self.goals, number);
         self.goals.push(node.goal)?;
         Ok(())
-    }
-}
-
-/// How many premises a node has; a link has none.
-fn premise_count(graph: &Graph<'_>, node: u32, reason: &Reason) -> usize
-    requires { node < length graph.now }
-    ensures { IsPremiseCount graph.now node reason.now result }
-{
-    match reason {
-        Reason::Step(_) => graph.node(node).premises.len(),
-        Reason::Back(_) => 0,
     }
 }

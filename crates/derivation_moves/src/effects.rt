@@ -1,43 +1,81 @@
 // What a reason makes of a goal.
-ghost use Rattle.std.specs.Prelude.{◌≡◌, IfOk, map};
+ghost use Rattle.std.specs.Prelude.{◌≡◌, [], IfOk, map};
 ghost use Rattle.std.specs.Option.{option_copied};
-ghost use Rattle.heap_formula.specs.declared.judgements.Premise.{Premise as PremiseValue};
 ghost use Rattle.search_moves.specs.Settings.{theory};
-ghost use Rattle.derivation_moves.specs.Opened.{goal_of, node_of};
-ghost use Rattle.derivation_moves.specs.Effects.{IsEffectBy, IsEffect};
+ghost use Rattle.derivation_moves.specs.Effects.{Leaves, IsEffectBy, IsEffect};
 ghost use Rattle.node_reasons.specs.Answers.{companion_in};
-ghost use Rattle.search_calculus.specs.Calculus.{judgement_of};
+ghost use Rattle.proof_graph.specs.Traces.{trace_pairs_of};
+ghost use Rattle.search_calculus.specs.Calculus.{judgement_of, traced};
 
-use crate::goals::{MadeNode, OpenGoal};
 use cyc_memory::OutOfMemory;
 use goto_lang::Program;
-use heap_formula::{Judgement, Premise, Reason, RuleError};
+use heap_formula::{Judgement, Pair, Premise, Reason, RuleError};
 use node_reasons::premises_by_reason;
 use pred_defs::Defs;
 use proof_graph::PremisePairs;
 use std::alloc::Global;
+use tableaux::{MadeNode, OpenGoal, TracePairs};
 
-/// What a reason makes of a goal: the premises that it leaves to be proved, and the trace pairs of its edges. A link leaves
-/// nothing, and has one edge.
+/// What a reason makes of a goal: the premises that it leaves to be proved, and the trace pairs of its edges. A link
+/// leaves nothing, and has one edge.
 #[derive(Drop)]
 pub struct Effect {
-    pub premises: Vec<Premise>,
+    pub premises: Vec<tableaux::Premise<Judgement>>,
     pub pairs: PremisePairs,
 }
 
-fn pairs_of_premises(alloc: Global, premises: &[Premise]) -> Result<PremisePairs, OutOfMemory>
-    ensures { IfOk result (λ pairs. pairs ≡ map (λ (p : PremiseValue). p.pairs) premises.now) }
+/// The pairs as the automaton has them.
+fn traced_pairs(alloc: Global, pairs: &[Pair]) -> Result<TracePairs, OutOfMemory>
+    ensures { IfOk result (λ p. p ≡ trace_pairs_of pairs.now) }
+{
+    let mut triples = Vec::new(alloc);
+    for pair in pairs {
+        triples.push((pair.old, pair.new, pair.progress))?;
+    }
+    Ok(TracePairs::from_vec(triples))
+}
+
+/// The effect of a rule with these premises.
+fn rule_effect(alloc: Global, premises: Vec<Premise>) -> Result<Effect, OutOfMemory>
+    ensures { IfOk result (Leaves (map traced premises.items) premises.items) }
+{
+    let mut goals = Vec::new(alloc);
+    let mut lists = Vec::new(alloc);
+    for premise in premises {
+        let Premise { judgement, pairs } = premise;
+        let triples = traced_pairs(alloc, pairs.as_slice())?;
+        goals.push(tableaux::Premise {
+            judgement,
+            pairs: triples,
+        })?;
+        lists.push(pairs)?;
+    }
+    Ok(Effect {
+        premises: goals,
+        pairs: PremisePairs::from_vec(lists),
+    })
+}
+
+/// The effect of a link: its premise is made already.
+fn link_effect(alloc: Global, premises: Vec<Premise>) -> Result<Effect, OutOfMemory>
+    ensures { IfOk result (Leaves [] premises.items) }
 {
     let mut lists = Vec::new(alloc);
     for premise in premises {
-        lists.push(premise.pairs.clone()?)?;
+        lists.push(premise.pairs)?;
     }
-    Ok(PremisePairs::from_vec(lists))
+    Ok(Effect {
+        premises: Vec::new(alloc),
+        pairs: PremisePairs::from_vec(lists),
+    })
 }
 
 /// The judgement of the node that a link names, if it is made.
-fn companion_of<'a>(made: &'a [MadeNode], reason: &Reason) -> Option<&'a Judgement>
-    ensures { option_copied result ≡ companion_in judgement_of (map node_of made.now) reason.now }
+fn companion_of<'a>(
+    made: &'a [MadeNode<Judgement, Reason>],
+    reason: &Reason,
+) -> Option<&'a Judgement>
+    ensures { option_copied result ≡ companion_in judgement_of made.now reason.now }
 {
     match reason {
         Reason::Step(_) => None,
@@ -48,16 +86,14 @@ fn companion_of<'a>(made: &'a [MadeNode], reason: &Reason) -> Option<&'a Judgeme
     }
 }
 
-/// The effect of a reason with these premises: of a link they are made already.
+/// The effect of a reason with these premises.
 fn effect_by(alloc: Global, reason: &Reason, premises: Vec<Premise>) -> Result<Effect, OutOfMemory>
     ensures { IfOk result (IsEffectBy reason.now premises.items) }
 {
-    let pairs = pairs_of_premises(alloc, &premises)?;
-    let premises = match reason {
-        Reason::Step(_) => premises,
-        Reason::Back(_) => Vec::new(alloc),
-    };
-    Ok(Effect { premises, pairs })
+    match reason {
+        Reason::Step(_) => rule_effect(alloc, premises),
+        Reason::Back(_) => link_effect(alloc, premises),
+    }
 }
 
 /// What the reason makes of a goal over the nodes made; nothing where it has a fault.
@@ -65,11 +101,11 @@ pub fn effect_of(
     alloc: Global,
     defs: &Defs,
     program: &Program,
-    made: &[MadeNode],
-    goal: &OpenGoal,
+    made: &[MadeNode<Judgement, Reason>],
+    goal: &OpenGoal<Judgement>,
     reason: &Reason,
 ) -> Result<Option<Effect>, OutOfMemory>
-    ensures { IfOk result (IsEffect (theory defs.now program.now) (map node_of made.now) (goal_of goal.now) reason.now) }
+    ensures { IfOk result (IsEffect (theory defs.now program.now) made.now goal.now reason.now) }
 {
     let companion = companion_of(made, reason);
     match premises_by_reason(

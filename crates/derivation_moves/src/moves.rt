@@ -6,8 +6,9 @@ ghost use Rattle.search_moves.specs.Settings.{theory};
 ghost use Rattle.derivation_moves.specs.Leaving.{LeavesPremises};
 ghost use Rattle.derivation_moves.specs.Derivations.{IsInOrder, IsItsSearch, reasons_in, about};
 
-use crate::derivation::{Derivation, has_room};
+use crate::derivation::Derivation;
 use crate::effects::effect_of;
+use cyc_limits::MOST_NODES;
 use cyc_memory::OutOfMemory;
 use derivation_search::{Moves, Offers, Tried};
 use goto_lang::Program;
@@ -16,7 +17,7 @@ use pred_defs::Defs;
 use search_moves::{closing_offers, leaves_premises, offers_of};
 use std::alloc::Global;
 use std::collections::VecDeque;
-use tableaux::{is_above, tried};
+use tableaux::{has_room, is_above, tried};
 
 fn as_links(alloc: Global, links: Vec<Link>) -> Result<VecDeque<Reason>, OutOfMemory>
     ensures { IfOk result (λ q. q.items ≡ map by_link links.items) }
@@ -150,6 +151,7 @@ impl<'a> Moves for Derivation<'a> {
         };
         let others = self.goals.len() - 1;
         if !has_room(
+            MOST_NODES,
             bound,
             goal.depth,
             self.made.len(),

@@ -21,6 +21,7 @@ use Rattle.tableaux.specs.Leaves.{without_leaf}
 use Rattle.tableaux.proofs.Leaves.{leaf_removed}
 use Rattle.tableaux.proofs.Graphs.{InOrder, graph_in_order}
 use Rattle.tableaux.proofs.Replays.{replayed_from}
+use Rattle.tableaux.proofs.Stack.{room_is}
 use Rattle.tableaux.proofs.Steps.{Fits, next_tableau, next_is, begins, next_in_order}
 use Rattle.tableaux.proofs.Found.{nil_is}
 use Rattle.derivations.specs.declared.derivation.Derivation.{Derivation}
@@ -75,14 +76,6 @@ module _ {L J R : Type 0} (calculus : L → Calculus J R) (Occurs : L → J → 
       at [] e = refl
       at (g ∷ rest) e = room g rest (c.premises s.made.items g r) e
 
-  nil_length : {X : Type 0} (xs : List X) (n : ℕ) → n ≡ length xs → is_nil xs ≡ nat_eq n 0
-  nil_length [] n e = ap (λ k. nat_eq k 0) (sym e)
-  nil_length {X} (x ∷ xs) n e =
-      elim (cases_Bool (nat_eq n 0)) [
-        | inl yes' ↦ absurd (let z = eqb-true n 0 yes' in omega (arith, z, e))
-        | inr no' ↦ sym no'
-      ]
-
   reasons_long : length (reasons_in s) ≡ length s.made.items
   reasons_long = length-map s.made.items (λ (m : Made J R). m.reason)
 
@@ -92,13 +85,7 @@ module _ {L J R : Type 0} (calculus : L → Calculus J R) (Occurs : L → J → 
       fits_by bound r
       ∙ (ap (fits_at c s.limit bound (length (reasons_in s)) s.made.items r) has.next
       ∙ (ap (has_room s.limit bound (length (reasons_in s)) has.goal has.rest) has.effect.0
-      ∙ ((λ i. (nils i || nat_lt (sym is_depth i) bound) && nat_le (sums i) s.limit) ∙ sym is_b)))
-    where
-      nils : is_nil e.premises.items ≡ nat_eq count 0
-      nils = nil_length e.premises.items count is_count
-
-      sums : length (reasons_in s) + 1 + (length e.premises.items + length has.rest) ≡ made + 1 + (count + others)
-      sums = omega (arith, reasons_long, is_made, is_others, is_count)
+      ∙ room_is s.limit bound (length (reasons_in s)) has.goal has.rest e.premises.items depth made others count b is_depth (is_made ∙ sym reasons_long) is_others is_count is_b))
 
   -- the goal that the code sees is the next one
   pub same_goal : (r : R) (e : Effect J) (has : HasEffect calculus s r e) (g : Goal J) (rest : List (Goal J)) → goals_in s ≡ g ∷ rest → has.goal ≡ g

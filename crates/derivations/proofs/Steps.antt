@@ -11,9 +11,9 @@ use Rattle.tableaux.proofs.Steps.{next_tableau}
 use Rattle.derivations.specs.declared.derivation.Derivation.{Derivation}
 use Rattle.derivations.specs.declared.logic.Effect.{Effect}
 use Rattle.derivations.specs.Derivations.{goals_in, reasons_in, tableau_in, about, IsInOrder, HasEffect}
-use Rattle.derivations.proofs.Stack.{split_last}
+use Rattle.tableaux.proofs.Stack.{split_last}
+use Rattle.tableaux.proofs.TakenBack.{WasAt, was_at}
 use Rattle.derivations.proofs.Nexts.{replayed_next}
-use Rattle.derivations.proofs.Returning.{WasAt, was_at}
 
 -- the last reason's goal, and what was made before it
 pub record Before {L J R : Type 0} (calculus : L → Calculus J R) (s s' : Derivation L J R) : Type 0 where

@@ -9,12 +9,8 @@ use Rattle.tableaux.proofs.Waiting.{get_end_cases}
 use Rattle.derivations.specs.declared.derivation.Derivation.{Derivation}
 use Rattle.derivations.specs.declared.logic.Effect.{Effect}
 use Rattle.derivations.specs.Derivations.{reasons_in, tableau_in, about, IsInOrder, HasEffect, MayTake, next_graph}
-use Rattle.derivations.proofs.Stack.{next_of}
+use Rattle.tableaux.proofs.Stack.{next_of, length-goals_of}
 use Rattle.derivations.proofs.Nexts.{replayed_next, graph_is}
-
-pub length-goals_of : {J : Type 0} (node depth k : ℕ) (ps : List (Premise J)) → length (goals_of node depth k ps) ≡ length ps
-length-goals_of node depth k [] = refl
-length-goals_of node depth k (p ∷ ps) = ap suc (length-goals_of node depth (k + 1) ps)
 
 -- the derivation with these nodes, goals and graph, about the same, is in order
 pub in_order_about : {L J R : Type 0} (calculus : L → Calculus J R) (Occurs : L → J → Type 0) (Allows : L → R → Type 0) (s s' : Derivation L J R) → IsInOrder calculus Occurs Allows s → about s' ≡ about s →

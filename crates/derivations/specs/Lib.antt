@@ -1,3 +1,2 @@
-pub mod Goals
 pub mod Effects
 pub mod Derivations

@@ -1,16 +1,17 @@
 // A partial derivation: the nodes made, the open goals, and the trace graph of the nodes.
-ghost use Rattle.std.specs.Prelude.{◌≡◌, ◌<◌, ◌+◌, ◌&&◌, ◌||◌, ◌==◌, [], length, nat_lt, nat_le};
+ghost use Rattle.std.specs.Prelude.{◌≡◌, ◌<◌, [], length};
 
-use crate::goals::{drop_goals, push_goals};
 use crate::logic::{Effect, Logic};
 use cyc_memory::OutOfMemory;
 use derivation_search::Tried;
 use std::alloc::Global;
-use tableaux::{GrowingTraces, MadeNode, OpenGoal, Premise, TracePairs, is_above, tried};
+use tableaux::{
+    GrowingTraces, MadeNode, OpenGoal, drop_goals, first_goal, has_room, is_above, push_goals, tried,
+};
 use trace_pairs::{Edge, TraceGraph};
 
-/// A partial derivation of a judgement of a logic, with at most `limit` nodes. The goals stand on a stack, the next one on
-/// top. The trace graph has the nodes made.
+/// A partial derivation of a judgement of a logic, with at most `limit` nodes. The goals stand on a stack, the next one
+/// on top. The trace graph has the nodes made.
 #[derive(Drop)]
 pub struct Derivation<L, J, R> {
     pub logic: L,
@@ -21,40 +22,16 @@ pub struct Derivation<L, J, R> {
     pub traces: GrowingTraces,
 }
 
-/// Whether premises fit at a goal of some depth, beside the nodes made and the other goals: they need a depth below the
-/// bound, and all together are at most the limit.
-fn has_room(limit: u32, bound: u32, depth: u32, made: usize, others: usize, count: usize) -> bool
-    requires { made + others < limit }
-    ensures fits { result ≡ ((count == 0 || nat_lt depth bound) && nat_le (made + 1 + (count + others)) limit) }
-{
-    if count > 0 && depth >= bound {
-        return false;
-    }
-    count <= limit as usize - 1 - made - others
-}
-
-/// The goal that a derivation begins with.
-fn first_goal<J>(alloc: Global, judgement: J) -> OpenGoal<J>
-    ensures { result ≡ record { parent = 0; place = 0; depth = 1; premise = record { judgement = judgement; pairs = [] } } }
-{
-    let pairs = TracePairs::from_vec(Vec::new(alloc));
-    let premise = Premise { judgement, pairs };
-    OpenGoal {
-        parent: 0,
-        place: 0,
-        depth: 1,
-        premise,
-    }
-}
-
 impl<L: Logic> Derivation<L, L::Judgement, L::Reason> {
     ghost use Rattle.std.specs.Prelude.{◌∷◌, true, IfOk, OnOk};
     ghost use Rattle.derivation_search.specs.System.{after};
     ghost use Rattle.derivation_search.specs.Stack.{front};
     ghost use Rattle.derivation_search.specs.Engine.{FaresSo};
+    ghost use Rattle.tableaux.specs.Tableau.{root_goal};
     ghost use Rattle.tableaux.specs.Fair.{IsFair};
     ghost use Rattle.tableaux.specs.Room.{is_nil};
-    ghost use Rattle.derivations.specs.Derivations.{IsInOrder, MayTake, reasons_in, goals_in, about, search_in, IsNextEffect, IsFitting, next_graph};
+    ghost use Rattle.derivations.specs.Derivations.{IsInOrder, MayTake, reasons_in, goals_in, about, search_in};
+    ghost use Rattle.derivations.specs.Derivations.{IsNextEffect, IsFitting, next_graph};
 
     /// Nothing is made, and the goal is open. The judgement is passed twice, to be kept and to be proved.
     pub fn new(
@@ -71,7 +48,7 @@ impl<L: Logic> Derivation<L, L::Judgement, L::Reason> {
         ensures order { IfOk result (IsInOrder L.calculus L.occurs L.allows) }
         ensures subject { IfOk result (λ s. about s ≡ (logic, (limit, root))) }
         ensures nothing { IfOk result (λ s. reasons_in s ≡ []) }
-        ensures goals { IfOk result (λ s. s.goals.items ≡ record { parent = 0; place = 0; depth = 1; premise = record { judgement = root; pairs = [] } } ∷ []) }
+        ensures goals { IfOk result (λ s. s.goals.items ≡ root_goal root ∷ []) }
     {
         let mut goals = Vec::new(alloc);
         goals.push(first_goal(alloc, goal))?;
@@ -129,7 +106,7 @@ impl<L: Logic> Derivation<L, L::Judgement, L::Reason> {
         let made = self.made.len();
         let others = self.goals.len() - 1;
         let count = effect.premises.len();
-        if !has_room(self.limit, bound, depth, made, others, count) {
+        if !has_room(self.limit as usize, bound, depth, made, others, count) {
             return Ok(None);
         }
         Ok(Some(effect))
@@ -216,7 +193,7 @@ impl<L: Logic> Derivation<L, L::Judgement, L::Reason> {
         requires order { IsInOrder L.calculus L.occurs L.allows self.old }
         requires allowed { L.allows self.old.logic link.now }
         ensures same { OnOk result (self.new ≡ self.old) }
-        ensures tried { IfOk result (λ t. FaresSo (search_in L.calculus self.old) (after (reasons_in self.old) link.now) t) }
+        ensures tried { IfOk result (FaresSo (search_in L.calculus self.old) (after (reasons_in self.old) link.now)) }
     {
         let Some(effect) = self.effect_at_next(alloc, link)? else {
             return Ok(Tried::Refused);

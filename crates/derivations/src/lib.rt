@@ -1,9 +1,8 @@
-//! Partial derivations that are extended and taken back in place, in any logic of rules and links back: the moves of the
-//! search for cyclic proofs (Brotherston, Gorogiannis and Petersen 2012).
+//! Partial derivations that are extended and taken back in place, in any logic of rules and links back: the moves of
+//! the search for cyclic proofs (Brotherston, Gorogiannis and Petersen 2012).
 #![tactic(auto)]
 
 mod derivation;
-mod goals;
 mod logic;
 mod moves;
 

@@ -9,8 +9,8 @@ use std::alloc::Global;
 use tableaux::{MadeNode, OpenGoal, Premise, Rules};
 use trace_pairs::Edge;
 
-/// What a reason makes of a goal: the premises that it leaves to be proved, and, of a link, the edge to where it leads. A
-/// link leaves nothing.
+/// What a reason makes of a goal: the premises that it leaves to be proved, and, of a link, the edge to where it leads.
+/// A link leaves nothing.
 #[derive(Drop)]
 pub struct Effect<J> {
     pub premises: Vec<Premise<J>>,

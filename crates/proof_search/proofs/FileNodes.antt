@@ -1,6 +1,5 @@
 -- A derivation's nodes as a file's.
 use Rattle.std.proofs.Common.{◌≡◌, ℕ, zero, suc, ◌+◌, ◌≤◌, List, [], ◌∷◌, map, Option, Some, slice_get, length, arith, refl, sym, ap, ◌∙◌}
-use Rattle.std.proofs.lemmas.List.{length-map}
 use Rattle.std.proofs.lemmas.Option.{slice_get_within}
 use Rattle.heap_formula.specs.declared.proof_rules.Reason.{Reason}
 use Rattle.heap_formula.specs.declared.proof_rules.Reason.TheVariants.{Step, Back}
@@ -9,14 +8,12 @@ use Rattle.proof_file.specs.declared.node.FileNode.{FileNode}
 use Rattle.proof_graph.specs.declared.nodes.GraphPremise.{GraphPremise}
 use Rattle.proof_graph.specs.declared.nodes.GraphNode.{GraphNode}
 use Rattle.search_moves.specs.Trying.{Theory}
-use Rattle.search_calculus.specs.Calculus.{MadeNode}
+use Rattle.search_calculus.specs.Calculus.{MadeNode, judgement_of}
 use Rattle.search_calculus.specs.Graphs.{traces_of, made_graph, slots_filled}
 use Rattle.search_calculus.proofs.MadeRows.{made_slots}
 use Rattle.search_calculus.proofs.ProofGraphs.{length-made_graph}
 use Rattle.search_calculus.proofs.TraceGraphs.{length-traces_of}
-use Rattle.derivation_moves.specs.declared.goals.MadeNode.{MadeNode as NodeOfCode}
 use Rattle.derivation_moves.specs.declared.derivation.Derivation.{Derivation}
-use Rattle.derivation_moves.specs.Opened.{node_of}
 use Rattle.derivation_moves.specs.Derivations.{theory_in, nodes_in, goals_in, reasons_in, graph_with, tableau_in, IsInOrder}
 use Rattle.found_files.specs.Files.{numbers_of, file_node, file_nodes, nodes_made}
 use Rattle.proof_search.specs.Results.{numbers_in, file_node_at, file_nodes_from}
@@ -29,11 +26,11 @@ numbers_are (Back link) premises edges e = refl
 abbrev Names : List GraphNode → ℕ → ℕ → Node → Type 0
 Names graph k v n = (node : GraphNode) × (slice_get graph (k + v) ≡ Some node) × (slots_filled node.premises ≡ map (λ (e : Edge). e.target) n.edges)
 
-one_node : (o : Option GraphNode) (n : Node) (m : NodeOfCode) (node : GraphNode) → o ≡ Some node → slots_filled node.premises ≡ map (λ (e : Edge). e.target) n.edges → file_node_at o m ≡ file_node n (node_of m)
+one_node : (o : Option GraphNode) (n : Node) (m : MadeNode) (node : GraphNode) → o ≡ Some node → slots_filled node.premises ≡ map (λ (e : Edge). e.target) n.edges → file_node_at o m ≡ file_node n m
 one_node o n m node at named =
-    ap (λ x. file_node_at x m) at ∙ (λ i. record { judgement = m.goal.premise.judgement; reason = m.reason; premises = numbers_are m.reason node.premises n.edges named i })
+    ap (λ x. file_node_at x m) at ∙ (λ i. record { judgement = judgement_of m; reason = m.reason; premises = numbers_are m.reason node.premises n.edges named i })
 
-zipped : (graph : List GraphNode) (k : ℕ) (ns : List Node) (made : List NodeOfCode) → length ns ≡ length made → ((v : ℕ) (n : Node) → slice_get ns v ≡ Some n → Names graph k v n) → file_nodes_from graph k made ≡ file_nodes ns (map node_of made)
+zipped : (graph : List GraphNode) (k : ℕ) (ns : List Node) (made : List MadeNode) → length ns ≡ length made → ((v : ℕ) (n : Node) → slice_get ns v ≡ Some n → Names graph k v n) → file_nodes_from graph k made ≡ file_nodes ns made
 zipped graph k [] [] e named = refl
 zipped graph k (n ∷ ns) [] e named = absurd (omega (arith, e))
 zipped graph k [] (m ∷ ms) e named = absurd (omega (arith, e))
@@ -48,13 +45,9 @@ reasons_zip [] (m ∷ ms) e = absurd (omega (arith, e))
 reasons_zip (n ∷ ns) [] e = absurd (omega (arith, e))
 reasons_zip (n ∷ ns) (m ∷ ms) e = ap (λ rs. m.reason ∷ rs) (reasons_zip ns ms (omega (arith, e)))
 
-reasons_map : (made : List NodeOfCode) → map (λ (m : MadeNode). m.reason) (map node_of made) ≡ map (λ (m : NodeOfCode). m.reason) made
-reasons_map [] = refl
-reasons_map (m ∷ ms) = ap (λ rs. m.reason ∷ rs) (reasons_map ms)
-
 -- the reasons of the nodes of the file
-pub reasons_made : (t : Theory) (made : List NodeOfCode) → map (λ (n : FileNode). n.reason) (nodes_made t (map node_of made)) ≡ map (λ (m : NodeOfCode). m.reason) made
-reasons_made t made = reasons_zip (traces_of t (map node_of made)) (map node_of made) (length-traces_of t (map node_of made)) ∙ reasons_map made
+pub reasons_made : (t : Theory) (made : List MadeNode) → map (λ (n : FileNode). n.reason) (nodes_made t made) ≡ map (λ (m : MadeNode). m.reason) made
+reasons_made t made = reasons_zip (traces_of t made) made (length-traces_of t made)
 
 get_within : {X : Type 0} (xs : List X) (v : ℕ) → v ≤ length xs → (v ≡ length xs → ⊥) → (x : X) × (slice_get xs v ≡ Some x)
 get_within [] v h ne = absurd (ne (omega (arith, h)))
@@ -68,7 +61,7 @@ some_is x y e = cc
 pub nodes_are : (s : Derivation) → IsInOrder s → goals_in s ≡ [] → file_nodes_from s.graph 0 s.made.items ≡ nodes_made (theory_in s) (nodes_in s)
 nodes_are s order closed =
     ap (λ graph. file_nodes_from graph 0 s.made.items) (order.graph ∙ ap (graph_with (theory_in s) (nodes_in s)) closed)
-    ∙ zipped (made_graph (theory_in s) (nodes_in s)) 0 (traces_of (theory_in s) (nodes_in s)) s.made.items (length-traces_of (theory_in s) (nodes_in s) ∙ length-map s.made.items node_of) named
+    ∙ zipped (made_graph (theory_in s) (nodes_in s)) 0 (traces_of (theory_in s) (nodes_in s)) s.made.items (length-traces_of (theory_in s) (nodes_in s)) named
   where
     named : (v : ℕ) (n : Node) → slice_get (traces_of (theory_in s) (nodes_in s)) v ≡ Some n → Names (made_graph (theory_in s) (nodes_in s)) 0 v n
     named v n at_n =
@@ -80,4 +73,4 @@ nodes_are s order closed =
 -- the graph has a node for each that is made
 pub graph_long : (s : Derivation) → IsInOrder s → goals_in s ≡ [] → length s.made.items ≤ length s.graph
 graph_long s order closed =
-    omega (arith, ap length (order.graph ∙ ap (graph_with (theory_in s) (nodes_in s)) closed), length-made_graph (theory_in s) (nodes_in s), length-map s.made.items node_of)
+    omega (arith, ap length (order.graph ∙ ap (graph_with (theory_in s) (nodes_in s)) closed), length-made_graph (theory_in s) (nodes_in s))

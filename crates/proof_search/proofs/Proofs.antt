@@ -39,7 +39,7 @@ use Rattle.found_files.specs.Found.{IsWithinLimits, AreProof}
 use Rattle.found_files.proofs.Found.{makes_proof}
 use Rattle.derivation_moves.specs.declared.derivation.Derivation.{Derivation}
 use Rattle.derivation_moves.specs.Derivations.{theory_in, nodes_in, goals_in, reasons_in, tableau_in, about, IsInOrder, IsItsSearch}
-use Rattle.proof_search.specs.Outcomes.{search_for, reasons_of, IsProofFor}
+use Rattle.proof_search.specs.Outcomes.{theory_for, search_for, reasons_of, IsProofFor}
 use Rattle.proof_search.proofs.FileNodes.{reasons_made, some_is}
 
 -- the limit of each version
@@ -52,9 +52,6 @@ limit_bounded problem = subst (λ (most : ℕ). most ≤ 32) (sym problem.limit)
 
 limit_positive : (problem : Problem) → 0 < problem.defs.most
 limit_positive problem = subst (λ (most : ℕ). 0 < most) (sym problem.limit) (some_atoms problem.version)
-
-abbrev pub theory_for : Problem → Theory
-theory_for problem = theory problem.defs problem.program
 
 small_each : (most : ℕ) (ds xs : List Definition) → Each (IsDefinitionWithin most ds) xs → Each IsSmall xs
 small_each most ds [] h = tt

@@ -9,16 +9,26 @@ use Rattle.proof_file.specs.declared.file.ProofFile.{ProofFile}
 use Rattle.proof_file.specs.declared.node.FileNode.{FileNode}
 use Rattle.proof_check.specs.Verdicts.{file_graph, state_limit, IsCorrect, RootHolds}
 use Rattle.search_moves.specs.Settings.{theory}
+use Rattle.search_moves.specs.Trying.{Theory}
 use Rattle.heap_formula.specs.declared.judgements.Judgement.{Judgement}
 use Rattle.tableaux.specs.Tableau.{Tableau, replay}
+use Rattle.search_calculus.specs.Calculus.{MadeNode}
 use Rattle.search_calculus.specs.Search.{calculus_of, search_system}
 use Rattle.found_files.specs.Files.{nodes_made}
 use Rattle.proof_search.specs.declared.prover.Proved.{Proved}
 use Rattle.proof_search.specs.declared.prover.Proved.TheVariants.{Found, NotFound, TooManyDerivations, TooManyStates}
 
+-- the definitions and lines of a problem
+abbrev pub theory_for : Problem → Theory
+theory_for problem = theory problem.defs problem.program
+
 -- the search for a proof of a problem's goal
 abbrev pub search_for : Problem → System Reason
-search_for problem = search_system (theory problem.defs problem.program) problem.goal
+search_for problem = search_system (theory_for problem) problem.goal
+
+-- the nodes of a file that nodes made for the problem are
+abbrev pub nodes_for : Problem → List MadeNode → List FileNode
+nodes_for problem nodes = nodes_made (theory_for problem) nodes
 
 -- the reasons of a file's nodes
 abbrev pub reasons_of : ProofFile → List Reason
@@ -37,8 +47,8 @@ pub record IsProofFor (problem : Problem) (f : ProofFile) : Type 0 where
   pub definitions : f.defs ≡ problem.defs
   pub program : f.program ≡ problem.program
   pub tableau : Tableau Judgement Reason
-  pub made : replay (calculus_of (theory problem.defs problem.program)) problem.goal (reasons_of f) ≡ Some tableau
-  pub nodes : f.nodes ≡ nodes_made (theory problem.defs problem.program) tableau.nodes
+  pub made : replay (calculus_of (theory_for problem)) problem.goal (reasons_of f) ≡ Some tableau
+  pub nodes : f.nodes ≡ nodes_for problem tableau.nodes
   pub root : FileNode
   pub is_root : slice_get f.nodes 0 ≡ Some root
   pub goal : root.judgement ≡ problem.goal

@@ -1,20 +1,20 @@
 // A derivation without open goals as a proof file.
 ghost use Rattle.std.specs.Prelude.{◌≡◌, ◌≤◌, ◌<◌, [], length, slice_get, IfOk};
 ghost use Rattle.search_calculus.specs.Graphs.{slots_filled};
-ghost use Rattle.search_moves.specs.Settings.{theory};
-ghost use Rattle.found_files.specs.Files.{nodes_made};
 ghost use Rattle.found_files.specs.Found.{AreProof};
 ghost use Rattle.derivation_moves.specs.Derivations.{IsInOrder, theory_in, nodes_in, goals_in};
+ghost use Rattle.proof_search.specs.Outcomes.{theory_for, nodes_for};
 ghost use Rattle.proof_search.specs.Results.{numbers_in, file_node_at, file_nodes_from};
 
 use cyc_memory::OutOfMemory;
-use derivation_moves::{Derivation, MadeNode};
+use derivation_moves::Derivation;
 use formula_reader::Problem;
 use heap_formula::{Judgement, Positions, Reason};
 use problem_files::file_for;
 use proof_file::{FileNode, FileNodes, ProofFile};
 use proof_graph::{Graph, PremiseView};
 use std::alloc::Global;
+use tableaux::MadeNode;
 
 fn filled_slots(alloc: Global, premises: &[PremiseView<'_>]) -> Result<Vec<u32>, OutOfMemory>
     ensures { IfOk result (λ v. v.items ≡ slots_filled premises.now) }
@@ -47,7 +47,7 @@ fn file_node(
     alloc: Global,
     graph: &Graph<'_>,
     number: u32,
-    node: &MadeNode,
+    node: &MadeNode<Judgement, Reason>,
 ) -> Result<FileNode, OutOfMemory>
     requires { number < length graph.now }
     ensures { IfOk result (λ f. f ≡ file_node_at (slice_get graph.now number) node.now) }
@@ -66,7 +66,7 @@ fn file_node(
 fn file_nodes(
     alloc: Global,
     graph: &Graph<'_>,
-    made: &[MadeNode],
+    made: &[MadeNode<Judgement, Reason>],
 ) -> Result<Vec<FileNode>, OutOfMemory>
     requires { length made.now ≤ length graph.now }
     ensures { IfOk result (λ v. v.items ≡ file_nodes_from graph.now 0 made.now) }
@@ -87,12 +87,12 @@ pub fn file_of(
 ) -> Result<ProofFile, OutOfMemory>
     requires order { IsInOrder moves.now }
     requires closed { goals_in moves.now ≡ [] }
-    requires theory { theory_in moves.now ≡ theory problem.now.defs problem.now.program }
-    requires proof { AreProof (theory problem.now.defs problem.now.program) problem.now.goal (nodes_made (theory problem.now.defs problem.now.program) (nodes_in moves.now)) }
+    requires theory { theory_in moves.now ≡ theory_for problem.now }
+    requires proof { AreProof (theory_for problem.now) problem.now.goal (nodes_for problem.now (nodes_in moves.now)) }
     ensures version { IfOk result (λ f. f.version ≡ problem.now.version) }
     ensures definitions { IfOk result (λ f. f.defs ≡ problem.now.defs) }
     ensures program { IfOk result (λ f. f.program ≡ problem.now.program) }
-    ensures nodes { IfOk result (λ f. f.nodes ≡ nodes_made (theory problem.now.defs problem.now.program) (nodes_in moves.now)) }
+    ensures nodes { IfOk result (λ f. f.nodes ≡ nodes_for problem.now (nodes_in moves.now)) }
 {
     let nodes = file_nodes(alloc, &moves.graph, &moves.made)?;
     file_for(alloc, problem, FileNodes::from_vec(nodes))

@@ -1,4 +1,5 @@
-//! The search for a cyclic proof of a problem's goal (Brotherston, Gorogiannis and Petersen 2012), by iterative deepening.
+//! The search for a cyclic proof of a problem's goal (Brotherston, Gorogiannis and Petersen 2012), by iterative
+//! deepening.
 #![tactic(auto)]
 
 mod found;

@@ -13,8 +13,8 @@ use problem_files::problem_is_within;
 use proof_file::ProofFile;
 use std::alloc::Global;
 
-/// What comes of a search: a proof; nothing, within the depth; or that a limit was met, on partial derivations of one depth
-/// or on product states.
+/// What comes of a search: a proof; nothing, within the depth; or that a limit was met, on partial derivations of one
+/// depth or on product states.
 #[derive(Drop)]
 pub enum Proved {
     Found(ProofFile),
@@ -24,8 +24,8 @@ pub enum Proved {
 }
 
 /// Searches for a proof of the problem's goal at depth 1, 2, .. up to `depth`. At each depth partial derivations are
-/// counted, the empty one first, and links that are not admitted; the search stops where `most` are counted. The graph of
-/// a depth lies in an arena of its own, which is given up before the next depth, or the answer.
+/// counted, the empty one first, and links that are not admitted; the search stops where `most` are counted. The graph
+/// of a depth lies in an arena of its own, which is given up before the next depth, or the answer.
 pub fn prove(alloc: Global, problem: &Problem, depth: u32, most: u32) -> Result<Proved, OutOfMemory>
     requires depth { depth ≤ 40 }
     requires most { 0 < most }

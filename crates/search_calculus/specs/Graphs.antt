@@ -8,7 +8,7 @@ use Rattle.heap_formula.specs.declared.proof_rules.Reason.TheVariants.{Step, Bac
 use Rattle.trace_pairs.specs.Graph.{Node, Edge}
 use Rattle.proof_graph.specs.declared.nodes.GraphPremise.{GraphPremise}
 use Rattle.proof_graph.specs.declared.nodes.GraphNode.{GraphNode}
-use Rattle.proof_graph.specs.Nodes.{open_node}
+use Rattle.proof_graph.specs.Nodes.{open_node, with_reason, with_premise, changed_at}
 use Rattle.search_moves.specs.Trying.{Theory}
 use Rattle.tableaux.specs.Tableau.{Premise as TracedPremise, grown, linked}
 use Rattle.search_calculus.specs.Calculus.{OpenGoal, MadeNode, judgement_of, bare_calculus, back, premises, pairs_of}
@@ -51,6 +51,22 @@ made_graph t nodes = nodes_from t [] (traces_of t nodes) nodes
 -- and of the next goal, which has no reason yet
 abbrev pub goal_graph : Theory → List MadeNode → OpenGoal → List GraphNode
 goal_graph t nodes g = nodes_from t [] (grown (bare_calculus t) (traces_of t nodes) g) nodes ++ open_node g.premise.judgement ∷ []
+
+-- the graph with the goal as a node more
+abbrev pub with_goal : List GraphNode → OpenGoal → List GraphNode
+with_goal graph g = graph ++ open_node g.premise.judgement ∷ []
+
+-- and the number of that node in its parent's slot
+abbrev pub with_goal_at : ℕ → List GraphNode → OpenGoal → List GraphNode
+with_goal_at number graph g = changed_at (with_premise g.place number) (with_goal graph g) g.parent
+
+-- a node more, made of the goal by the reason
+abbrev pub and_node : List MadeNode → OpenGoal → Reason → List MadeNode
+and_node nodes g r = nodes ++ record { goal = g; reason = r } ∷ []
+
+-- the graph of the nodes made and the goal, whose node has got the reason
+abbrev pub with_reason_at_goal : Theory → List MadeNode → OpenGoal → Reason → List GraphNode
+with_reason_at_goal t nodes g r = changed_at (with_reason r (pairs_of t nodes g.premise.judgement r)) (goal_graph t nodes g) (length nodes)
 
 -- node v has the judgement and the reason of this one
 pub record ShowsMade (graph : List GraphNode) (v : ℕ) (m : MadeNode) : Type 0 where

@@ -17,7 +17,7 @@ use Rattle.derivation_search.proofs.Induction.{IsOffered, found_has}
 use Rattle.derivation_search.proofs.Firsts.{first_found}
 use Rattle.tableaux.specs.Tableau.{Premise, Goal, Made, Tableau, Calculus, grown, linked, begin, replay}
 use Rattle.tableaux.specs.Room.{is_nil, is_done, offered, offered_at}
-use Rattle.tableaux.specs.Search.{on_graph, system_of, EachFound}
+use Rattle.tableaux.specs.Search.{on_graph, system_of, EachFound, EachIsSmall}
 use Rattle.tableaux.specs.Fair.{AllOccur, IsFair}
 use Rattle.tableaux.specs.Nodes.{HasRoot, reasons_of, MayStand, AllOffered, IsSmall, AreEdges, AllHavePremises, StandApart, AllHaveEdges}
 use Rattle.tableaux.proofs.Grown.{link_edges}
@@ -273,8 +273,7 @@ found_this c Occurs P each limit states most depth j d t occurs h is =
     let e : Some x.0 ≡ Some t = sym x.1 ∙ is in
     let e' : x.0 ≡ t = cc in subst (P j d) e' x.2
 
-pub all_small : {J R : Type 0} (c : Calculus J R) (Occurs : J → Type 0) (Allows : R → Type 0) → IsFair c Occurs Allows → (limit states most depth : ℕ) (j : J) (d : List R) (t : Tableau J R) → Occurs j →
-    search_of (system_of c limit states j) most depth ≡ IsFound d → replay c j d ≡ Some t → IsSmall limit states t
+pub all_small : {J R : Type 0} (c : Calculus J R) (Occurs : J → Type 0) (Allows : R → Type 0) → IsFair c Occurs Allows → EachIsSmall c Occurs
 all_small {J} {R} c Occurs Allows fair limit states most depth j d t occurs h is =
     let ends = found_ends (system_of c limit states j) most depth d h in
     let reasons = found_this c Occurs (λ j d t. reasons_of t ≡ d) (all_reasoned c Occurs Allows fair) limit states most depth j d t occurs h is in

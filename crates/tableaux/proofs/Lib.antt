@@ -1,6 +1,8 @@
 pub mod Grown
 pub mod Leaves
 pub mod Waiting
+pub mod Stack
+pub mod TakenBack
 pub mod Rows
 pub mod Graphs
 pub mod Steps

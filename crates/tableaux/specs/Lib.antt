@@ -1,4 +1,5 @@
 pub mod Tableau
+pub mod Goals
 pub mod Room
 pub mod Search
 pub mod Fair

@@ -5,6 +5,7 @@ use Rattle.trace_pairs.specs.Graph.{Node}
 use Rattle.trace_decision.specs.Decide.{progresses, number_of}
 use Rattle.tableaux.specs.Tableau.{Tableau, Calculus, replay}
 use Rattle.tableaux.specs.Room.{is_done, offered, fits_in, fits_short}
+use Rattle.tableaux.specs.Nodes.{IsSmall}
 
 abbrev pub on_graph : {J R : Type 0} → (List Node → Bool) → Option (Tableau J R) → Bool
 on_graph test None = false
@@ -27,6 +28,11 @@ system_of c limit states j = record {
 abbrev pub EachFound : {J R : Type 0} → Calculus J R → (J → Type 0) → (J → List R → Tableau J R → Type 0) → Type 0
 EachFound {J} {R} c Occurs P =
     (limit states most depth : ℕ) (j : J) (d : List R) → Occurs j → search_of (system_of c limit states j) most depth ≡ IsFound d → (t : Tableau J R) × (replay c j d ≡ Some t) × P j d t
+
+-- what a search finds for a judgement that may occur has no open goal, and no more than the search allows
+abbrev pub EachIsSmall : {J R : Type 0} → Calculus J R → (J → Type 0) → Type 0
+EachIsSmall {J} {R} c Occurs =
+    (limit states most depth : ℕ) (j : J) (d : List R) (t : Tableau J R) → Occurs j → search_of (system_of c limit states j) most depth ≡ IsFound d → replay c j d ≡ Some t → IsSmall limit states t
 
 -- what reasons that may be given make of a judgement that may occur, once a node is made, has property P
 abbrev pub EachReplayed : {J R : Type 0} → Calculus J R → (J → Type 0) → (R → Type 0) → (Tableau J R → Type 0) → Type 0

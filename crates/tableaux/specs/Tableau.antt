@@ -68,9 +68,13 @@ abbrev pub step : {J R : Type 0} → Calculus J R → Option (Tableau J R) → R
 step c None r = None
 step c (Some t) r = at_next c t.nodes t.graph r t.goals
 
--- no node, and the judgement as the one goal
+-- the goal that a derivation of the judgement begins with
+abbrev pub root_goal : {J : Type 0} → J → Goal J
+root_goal j = record { parent = 0; place = 0; depth = 1; premise = record { judgement = j; pairs = [] } }
+
+-- no node, and that goal
 abbrev pub begin : {J R : Type 0} → J → Tableau J R
-begin j = record { nodes = []; goals = record { parent = 0; place = 0; depth = 1; premise = record { judgement = j; pairs = [] } } ∷ []; graph = [] }
+begin j = record { nodes = []; goals = root_goal j ∷ []; graph = [] }
 
 -- what a list of reasons makes of a judgement; None where a reason has a fault or no goal is open for it
 abbrev pub replay : {J R : Type 0} → Calculus J R → J → List R → Option (Tableau J R)

@@ -113,8 +113,8 @@ impl GrowingTraces {
         }
     }
 
-    /// Appends a node with these positions, to which the node `parent`, if there is one, gets an edge with these pairs. A
-    /// link's node gets the edge to where it leads.
+    /// Appends a node with these positions, to which the node `parent`, if there is one, gets an edge with these pairs.
+    /// A link's node gets the edge to where it leads.
     pub fn add_node(
         &mut self,
         alloc: Global,
@@ -124,7 +124,8 @@ impl GrowingTraces {
         back: Option<Edge>,
     ) -> Result<(), OutOfMemory>
         requires { length self.old < 4294967296 }
-        ensures { OnOk result (self.new ≡ linked (length self.old) (with_leaf self.old parent pairs.now positions.items) back) }
+        ensures { OnOk result (self.new
+            ≡ linked (length self.old) (with_leaf self.old parent pairs.now positions.items) back) }
     {
         let target = self.nodes.len();
         let edge = Edge::new(target as u32, copied_pairs(alloc, pairs)?);

@@ -5,4 +5,4 @@ pub returns-clause-traces : goal.returns-clause-traces
 returns-clause-traces c = made_traces
 
 pub returns-clause-slots : goal.returns-clause-slots
-returns-clause-slots c = λ t j d b v m small h at. made_slots t j d b small h v m at
+returns-clause-slots c = made_slots

@@ -2,4 +2,4 @@ use Rattle.tableaux.proofs.Found.{all_small}
 use Rattle.tableaux.proofs.found_is_small.Goals as goal
 
 pub returns : goal.returns
-returns g c limit states most depth j d t occurs h is = all_small (g.C.Rules.calculus c.args._rules.now) (g.C.Rules.occurs c.args._rules.now) (g.C.Rules.allows c.args._rules.now) c.requires.fair limit states most depth j d t occurs h is
+returns g c = all_small (g.C.Rules.calculus c.args._rules.now) (g.C.Rules.occurs c.args._rules.now) (g.C.Rules.allows c.args._rules.now) c.requires.fair

@@ -1,6 +1,6 @@
-use Rattle.std.proofs.Common.{◌≡◌, ◌<◌, ◌++◌, length, reverse, sym, ap, refl, subst, ◌∙◌}
+use Rattle.std.proofs.Common.{◌≡◌, ◌<◌, ◌+◌, ◌++◌, length, reverse, sym, ap, refl, subst, ◌∙◌}
 use Rattle.proof_graph.specs.Nodes.{with_reason, changed_at}
-use Rattle.derivation_moves.specs.Opened.{opened}
+use Rattle.tableaux.specs.Tableau.{goals_of}
 use Rattle.derivation_moves.proofs.Gives.{given, node_there}
 use Rattle.derivation_moves.proofs.derivation.Derivation.give.Goals as goal
 
@@ -13,7 +13,7 @@ returns-clause-order c =
     let number : c.len-node.result ≡ length c.args.self.now.made.items = c.len-node.ensures ∙ c.args.self.now.made.ok.0 in
     given c.args.self.now _ c.in-Some.goal c.pop.new.self.items c.args.reason c.args.effect c.requires.order c.requires.effect (record {
       goals = c.in-Some.ensures.items;
-      opened' = c.in_ok-push_goals.ensures ∙ ap (λ n. opened n c.in-Some.goal.depth 0 c.args.effect.premises.items ++ reverse c.pop.new.self.items) number;
+      opened = c.in_ok-push_goals.ensures ∙ ap (λ n. goals_of n (c.in-Some.goal.depth + 1) 0 c.args.effect.premises.items ++ reverse c.pop.new.self.items) number;
       made = c.in_ok-push.ensures.items;
       graph = c.in_ok-set_reason.ensures.replaced ∙ ap (λ n. changed_at (with_reason c.args.reason c.args.effect.pairs) c.args.self.now.graph n) number;
       defs = refl;

@@ -3,8 +3,9 @@ use Rattle.heap_formula.specs.Words.{Each}
 use Rattle.proof_graph.specs.Nodes.{open_node}
 use Rattle.search_moves.specs.Limits.{IsSmall}
 use Rattle.search_moves.specs.Settings.{theory}
+use Rattle.tableaux.specs.Tableau.{root_goal}
 use Rattle.search_calculus.specs.Problems.{IsSmallProblem}
-use Rattle.derivation_moves.proofs.Begins.{begun, first_goal}
+use Rattle.derivation_moves.proofs.Begins.{begun}
 use Rattle.derivation_moves.proofs.derivation.Derivation.new_in.Goals as goal
 
 pub returns-clause-order : goal.returns-clause-order
@@ -15,5 +16,5 @@ returns-clause-order c =
     (subst (λ (j : _). IsSmallProblem (theory c.args.defs.now c.args.program.now) j) (sym c.in_ok-root.ensures.cases) c.requires.problem)))
     (subst (λ (d : _). Each IsSmall d.list) (sym c.in_ok-defs.ensures.cases) c.requires.small)
     c.new.ensures.items
-    (c.in_ok-push.ensures.items ∙ (ap (λ (gs : _). gs ++ c.in_ok-first_goal.field-0 ∷ []) c.new-goals.ensures.items ∙ (ap (λ (g : _). g ∷ []) (c.in_ok-first_goal.ensures ∙ ap first_goal (sym c.in_ok-root.ensures.cases)))))
+    (c.in_ok-push.ensures.items ∙ (ap (λ (gs : _). gs ++ c.first_goal.result ∷ []) c.new-goals.ensures.items ∙ (ap (λ (g : _). g ∷ []) (c.first_goal.ensures ∙ ap root_goal (c.in_ok-clone.ensures.cases ∙ sym c.in_ok-root.ensures.cases)))))
     (c.in_ok-push_goal.ensures.pushed ∙ (ap (λ (ns : _). ns ++ open_node c.args.goal.now ∷ []) c.new_in-graph.ensures ∙ ap (λ (j : _). open_node j ∷ []) (sym c.in_ok-root.ensures.cases)))

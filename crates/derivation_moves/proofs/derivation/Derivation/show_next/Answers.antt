@@ -1,36 +1,30 @@
-use Rattle.std.proofs.Common.{◌≡◌, ◌-◌, ◌<◌, List, Some, slice_get, length, sym, subst}
+use Rattle.std.proofs.Common.{◌<◌, sym, subst}
 use Rattle.std.proofs.lemmas.Result.{on_ok_weaker}
-use Rattle.derivation_moves.specs.declared.goals.OpenGoal.{OpenGoal}
-use Rattle.derivation_moves.specs.declared.derivation.Derivation.{Derivation}
-use Rattle.derivation_moves.specs.Opened.{goal_of}
-use Rattle.derivation_moves.proofs.Shows.{last_of, HasNext, next_goal, graph_size, room, slot, shown_graph, parent_before}
+use Rattle.derivation_moves.proofs.Shows.{next_seen, graph_size, room, slot, shown_graph, parent_before}
 use Rattle.derivation_moves.proofs.derivation.Derivation.show_next.Goals as goal
-
-next_is : (s : Derivation) (xs : List OpenGoal) (g : OpenGoal) → xs ≡ s.goals.items → Some g ≡ slice_get xs (length xs - 1) → HasNext s (goal_of g)
-next_is s xs g e h = next_goal s g (last_of s.goals.items g (subst (λ ys. Some g ≡ slice_get ys (length ys - 1)) e h))
 
 pub show_goal-requires-clause-some_node : goal.show_goal-requires-clause-some_node
 show_goal-requires-clause-some_node c =
-    subst (λ n. 0 < n) (sym (graph_size c.args.self.now _ c.requires (next_is c.args.self.now c.deref.result.now c.in-Some.next.now c.deref.ensures.value c.in-Some.ensures.value))) c.requires.some_node
+    subst (λ n. 0 < n) (sym (graph_size c.args.self.now _ c.requires (next_seen c.args.self.now c.deref.result.now c.in-Some.next.now c.deref.ensures.value c.in-Some.ensures.value))) c.requires.some_node
 
 pub show_goal-requires-clause-few : goal.show_goal-requires-clause-few
 show_goal-requires-clause-few c =
-    room c.args.self.now _ c.requires (next_is c.args.self.now c.deref.result.now c.in-Some.next.now c.deref.ensures.value c.in-Some.ensures.value)
+    room c.args.self.now _ c.requires (next_seen c.args.self.now c.deref.result.now c.in-Some.next.now c.deref.ensures.value c.in-Some.ensures.value)
 
 pub show_goal-requires-clause-slot : goal.show_goal-requires-clause-slot
 show_goal-requires-clause-slot c =
-    slot c.args.self.now _ c.requires (next_is c.args.self.now c.deref.result.now c.in-Some.next.now c.deref.ensures.value c.in-Some.ensures.value)
+    slot c.args.self.now _ c.requires (next_seen c.args.self.now c.deref.result.now c.in-Some.next.now c.deref.ensures.value c.in-Some.ensures.value)
 
 pub show_goal-requires-clause-parent : goal.show_goal-requires-clause-parent
 show_goal-requires-clause-parent c =
-    parent_before c.args.self.now.graph (goal_of c.in-Some.next.now)
-    (slot c.args.self.now _ c.requires (next_is c.args.self.now c.deref.result.now c.in-Some.next.now c.deref.ensures.value c.in-Some.ensures.value))
+    parent_before c.args.self.now.graph c.in-Some.next.now
+    (slot c.args.self.now _ c.requires (next_seen c.args.self.now c.deref.result.now c.in-Some.next.now c.deref.ensures.value c.in-Some.ensures.value))
 
 pub returns-in-Some-clause-order : goal.returns-in-Some-clause-order
 returns-in-Some-clause-order c =
     on_ok_weaker c.show_goal.result
     (λ e. record {
       is = record { problem = c.requires.is.problem; small = c.requires.is.small; replayed = c.requires.is.replayed; few = c.requires.is.few };
-      graph = shown_graph c.args.self.now _ c.requires (next_is c.args.self.now c.deref.result.now c.in-Some.next.now c.deref.ensures.value c.in-Some.ensures.value) c.show_goal.new.graph e;
+      graph = shown_graph c.args.self.now _ c.requires (next_seen c.args.self.now c.deref.result.now c.in-Some.next.now c.deref.ensures.value c.in-Some.ensures.value) c.show_goal.new.graph e;
     })
     c.show_goal.ensures

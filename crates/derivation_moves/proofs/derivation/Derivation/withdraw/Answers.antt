@@ -1,12 +1,9 @@
-use Rattle.std.proofs.Common.{◌≡◌, ◌<◌, length, sym, subst, ap, refl, ◌∙◌}
+use Rattle.std.proofs.Common.{◌≡◌, ◌<◌, length, reverse, sym, subst, ap, refl, ◌∙◌}
 use Rattle.proof_graph.specs.Nodes.{without_reason, changed_at}
-use Rattle.derivation_moves.specs.PremiseCounts.{IsPremiseCount}
-use Rattle.derivation_moves.proofs.Withdraws.{withdrawn, reasons_front, last_there}
+use Rattle.tableaux.specs.Goals.{others_of}
+use Rattle.tableaux.proofs.TakenBack.{reasons_front}
+use Rattle.derivation_moves.proofs.Withdraws.{withdrawn, last_there}
 use Rattle.derivation_moves.proofs.derivation.Derivation.withdraw.Goals as goal
-
-pub premise_count-count-requires : goal.premise_count-count-requires
-premise_count-count-requires c =
-    subst (λ n. n < length c.args.self.now.graph) (sym (c.len-number.ensures ∙ c.pop.new.self.ok.0)) (last_there c.args.self.now c.pop.new.self.items c.in-Some.node c.requires c.in-Some.ensures.items)
 
 pub clear_reason-requires : goal.clear_reason-requires
 clear_reason-requires c =
@@ -15,11 +12,10 @@ clear_reason-requires c =
 pub returns-clause-order : goal.returns-clause-order
 returns-clause-order c =
     let number : c.len-number.result ≡ length c.pop.new.self.items = c.len-number.ensures ∙ c.pop.new.self.ok.0 in
-    withdrawn c.args.self.now _ c.in-Some.node c.drop_goals.new.goals.items c.premise_count-count.result c.requires (record {
+    withdrawn c.args.self.now _ c.in-Some.node c.drop_goals.new.goals.items c.requires (record {
       made = c.in-Some.ensures.items;
-      counted = subst (λ n. IsPremiseCount c.args.self.now.graph n c.in-Some.node.reason c.premise_count-count.result) number c.premise_count-count.ensures;
       graph = c.clear_reason.ensures ∙ ap (λ n. changed_at without_reason c.args.self.now.graph n) number;
-      dropped = c.drop_goals.ensures;
+      dropped = c.drop_goals.ensures ∙ ap (λ n. others_of n (reverse c.args.self.now.goals.items)) number;
       goals = c.in_ok-push.ensures.items;
       defs = refl;
       program = refl;

@@ -1,5 +1,6 @@
 use Rattle.std.proofs.Common.{length, refl, ◌∙◌}
-use Rattle.derivation_moves.proofs.Following.{with_effect, fits_is, others_are, next_seen, not_below, misfits}
+use Rattle.derivation_moves.proofs.Shows.{next_seen}
+use Rattle.derivation_moves.proofs.Following.{with_effect, fits_is, others_are, not_below, misfits}
 use Rattle.derivation_moves.proofs.moves.DerivationMoves.follow.Goals as goal
 
 pub returns-then-not-has_room-clause-fits : goal.returns-then-not-has_room-clause-fits

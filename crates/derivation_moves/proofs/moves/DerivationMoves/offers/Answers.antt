@@ -1,6 +1,7 @@
 use Rattle.std.proofs.Common.{◌∙◌}
 use Rattle.derivation_search.proofs.Offered.{all_so}
-use Rattle.derivation_moves.proofs.Following.{next_seen, goal_within, goal_judgement, links_are, rules_are}
+use Rattle.derivation_moves.proofs.Shows.{next_seen}
+use Rattle.derivation_moves.proofs.Following.{goal_within, goal_judgement, links_are, rules_are}
 use Rattle.derivation_moves.proofs.moves.DerivationMoves.offers.Goals as goal
 
 pub offers_of-requires-clause-goal : goal.offers_of-requires-clause-goal

@@ -1,6 +1,7 @@
 use Rattle.std.proofs.Common.{ap, ◌∙◌}
 use Rattle.derivation_search.proofs.Offered.{all_so}
-use Rattle.derivation_moves.proofs.Following.{next_seen, goal_within, goal_judgement, links_are, not_below, rules_alike}
+use Rattle.derivation_moves.proofs.Shows.{next_seen}
+use Rattle.derivation_moves.proofs.Following.{goal_within, goal_judgement, links_are, not_below, rules_alike}
 use Rattle.derivation_moves.proofs.moves.DerivationMoves.offers_within.Goals as goal
 
 pub closing_offers-requires-clause-goal : goal.closing_offers-requires-clause-goal

@@ -2,7 +2,7 @@ use Rattle.std.proofs.Common.{sym, subst}
 use Rattle.std.proofs.lemmas.Result.{IfOk-weaker}
 use Rattle.tableaux.specs.Fair.{AllOccur}
 use Rattle.derivations.specs.Effects.{IsEffect}
-use Rattle.derivations.proofs.Stack.{top_next, no_top}
+use Rattle.tableaux.proofs.Stack.{top_next, no_top}
 use Rattle.derivations.proofs.Nexts.{next_occurs, none_open, next_effect}
 use Rattle.derivations.proofs.derivation.Derivation+L+L+Judgement+L+Reason.effect_at_next.Goals as goal
 

@@ -1,7 +1,7 @@
 use Rattle.std.proofs.Common.{arith, sym, subst, ap, length, ◌∙◌}
 use Rattle.std.proofs.lemmas.List.{length-reverse}
 use Rattle.derivations.specs.Derivations.{IsNextEffect}
-use Rattle.derivations.proofs.Stack.{top_next, no_top}
+use Rattle.tableaux.proofs.Stack.{top_next, no_top}
 use Rattle.derivations.proofs.Nexts.{none_open, none_fits, fits_is, may_take, same_goal, others_are}
 use Rattle.derivations.proofs.derivation.Derivation+L+L+Judgement+L+Reason.fitting_effect.Goals as goal
 

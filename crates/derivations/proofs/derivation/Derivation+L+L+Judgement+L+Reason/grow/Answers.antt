@@ -2,7 +2,7 @@ use Rattle.std.proofs.Common.{length, sym, ◌∙◌}
 use Rattle.std.proofs.lemmas.Result.{on_ok_weaker}
 use Rattle.trace_decision.specs.Leaf.{with_leaf}
 use Rattle.tableaux.specs.Tableau.{linked}
-use Rattle.derivations.proofs.Stack.{top_next}
+use Rattle.tableaux.proofs.Stack.{top_next}
 use Rattle.derivations.proofs.Nexts.{next_occurs, traces_fit, graph_at}
 use Rattle.derivations.proofs.derivation.Derivation+L+L+Judgement+L+Reason.grow.Goals as goal
 

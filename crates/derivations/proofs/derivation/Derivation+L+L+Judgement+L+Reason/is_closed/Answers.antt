@@ -1,5 +1,5 @@
 use Rattle.std.proofs.Common.{◌∙◌}
-use Rattle.derivations.proofs.Stack.{closed_is}
+use Rattle.tableaux.proofs.Stack.{closed_is}
 use Rattle.derivations.proofs.derivation.Derivation+L+L+Judgement+L+Reason.is_closed.Goals as goal
 
 pub returns : goal.returns

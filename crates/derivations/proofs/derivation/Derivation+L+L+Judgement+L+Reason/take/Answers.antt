@@ -1,7 +1,7 @@
 use Rattle.std.proofs.Common.{◌<◌, ◌+◌, ◌∷◌, [], ◌++◌, length, reverse, arith, sym, ap, subst, ◌∙◌}
 use Rattle.tableaux.specs.Tableau.{Goal, goals_of}
 use Rattle.derivations.specs.Derivations.{about}
-use Rattle.derivations.proofs.Stack.{next_of}
+use Rattle.tableaux.proofs.Stack.{next_of}
 use Rattle.derivations.proofs.Nexts.{same_goal}
 use Rattle.derivations.proofs.Taking.{taken}
 use Rattle.derivations.proofs.derivation.Derivation+L+L+Judgement+L+Reason.take.Goals as goal

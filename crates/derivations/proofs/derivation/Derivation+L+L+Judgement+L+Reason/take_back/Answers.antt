@@ -1,6 +1,7 @@
 use Rattle.std.proofs.Common.{◌∷◌, [], length, length-append, reverse, arith, refl, ap, ◌∙◌}
-use Rattle.derivations.specs.Goals.{others_of}
-use Rattle.derivations.proofs.Returning.{returned, reasons_front}
+use Rattle.tableaux.specs.Goals.{others_of}
+use Rattle.tableaux.proofs.TakenBack.{reasons_front}
+use Rattle.derivations.proofs.Returning.{returned}
 use Rattle.derivations.proofs.derivation.Derivation+L+L+Judgement+L+Reason.take_back.Goals as goal
 
 pub overflow_cast-len : goal.overflow_cast-len

@@ -1,6 +1,6 @@
 use Rattle.std.proofs.Common.{ap, ◌∙◌}
 use Rattle.tableaux.specs.Leaves.{without_leaf}
-use Rattle.derivations.proofs.Stack.{top_next}
+use Rattle.tableaux.proofs.Stack.{top_next}
 use Rattle.derivations.proofs.Nexts.{graph_again}
 use Rattle.derivations.proofs.derivation.Derivation+L+L+Judgement+L+Reason.trial.Goals as goal
 

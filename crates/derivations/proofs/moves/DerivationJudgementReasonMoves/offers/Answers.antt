@@ -1,7 +1,7 @@
 use Rattle.std.proofs.Common.{◌<◌, length, arith, sym, subst, ap, ◌∙◌}
 use Rattle.tableaux.specs.Fair.{AllOccur}
 use Rattle.derivation_search.specs.Engine.{AllAre}
-use Rattle.derivations.proofs.Stack.{top_next}
+use Rattle.tableaux.proofs.Stack.{top_next}
 use Rattle.derivations.proofs.Nexts.{next_occurs, offered_allowed, if_both}
 use Rattle.derivations.proofs.moves.DerivationJudgementReasonMoves.offers.Goals as goal
 

@@ -1,6 +1,6 @@
 use Rattle.std.proofs.Common.{◌≡◌, ◌≤◌, ◌+◌, ◌++◌, length, reverse}
 use Rattle.tableaux.specs.Tableau.{goals_of}
-use Rattle.derivations.proofs.goals.push_goals.Given as goal
+use Rattle.tableaux.proofs.goals.push_goals.Given as goal
 
 abbrev pub invariant-loop-premise : goal.invariant-loop-premise
 invariant-loop-premise g l =

@@ -1,12 +1,12 @@
 -- Goals on a stack, the next one last.
-use Rattle.std.proofs.Common.{◌≡◌, ℕ, ◌+◌, ◌-◌, ◌<◌, ◌⊎◌, inl, inr, true, false, eqb-true, List, [], ◌∷◌, ◌++◌, Option, None, Some, length, length-append, slice_get, reverse, arith, refl, sym, ap, subst, ◌∙◌}
-use Rattle.std.specs.Prelude.{nat_eq}
+use Rattle.std.proofs.Common.{◌≡◌, ℕ, suc, ◌+◌, ◌-◌, ◌<◌, ◌⊎◌, inl, inr, Bool, true, false, ◌&&◌, ◌||◌, eqb-true, List, [], ◌∷◌, ◌++◌, Option, None, Some, length, length-append, slice_get, reverse, arith, refl, sym, ap, subst, ◌∙◌}
+use Rattle.std.specs.Prelude.{nat_eq, nat_lt, nat_le}
 use Rattle.std.specs.Option.{option_to_list}
 use Rattle.std.proofs.lemmas.List.{append_assoc, append-nil, reverse-append, length-reverse}
-use Rattle.std.proofs.lemmas.Bool.{cases_Bool}
+use Rattle.std.proofs.lemmas.Bool.{cases_Bool, eq-eqb}
 use Rattle.tableaux.specs.Tableau.{Premise, Goal, goals_of}
-use Rattle.tableaux.specs.Room.{is_nil}
-use Rattle.derivations.specs.Goals.{begins_with, others_of}
+use Rattle.tableaux.specs.Room.{is_nil, has_room}
+use Rattle.tableaux.specs.Goals.{begins_with, others_of}
 
 -- the goal of a premise
 abbrev pub goal_at : {J : Type 0} → ℕ → ℕ → ℕ → Premise J → Goal J
@@ -108,14 +108,49 @@ some_next goals some' =
       | inr last ↦ (last.1, reverse last.0, next_of goals last.1 last.0 last.2)
     ]
 
+-- ---- the goals that are no premises of the node
+
+eq_self : (n : ℕ) → nat_eq n n ≡ true
+eq_self n = eq-eqb n n refl
+
+other_number : (m n : ℕ) → m < n → nat_eq m n ≡ false
+other_number m n less =
+    elim (cases_Bool (nat_eq m n)) [
+      | inl same ↦ absurd (let e = eqb-true m n same in omega (arith, e, less))
+      | inr not' ↦ not'
+    ]
+
+others_only : {J : Type 0} (node : ℕ) (rest : List (Goal J)) → ((k : ℕ) (x : Goal J) → slice_get rest k ≡ Some x → x.parent < node) → others_of node rest ≡ rest
+others_only node [] earlier = refl
+others_only node (x ∷ rest) earlier = rw (other_number x.parent node (earlier 0 x refl)) refl
+
+pub others_goals : {J : Type 0} (node depth k : ℕ) (ps : List (Premise J)) (rest : List (Goal J)) → ((k : ℕ) (x : Goal J) → slice_get rest k ≡ Some x → x.parent < node) → others_of node (goals_of node depth k ps ++ rest) ≡ rest
+others_goals node depth k [] rest earlier = others_only node rest earlier
+others_goals node depth k (p ∷ ps) rest earlier = rw (eq_self node) (others_goals node depth (k + 1) ps rest earlier)
+
+pub length-goals_of : {J : Type 0} (node depth k : ℕ) (ps : List (Premise J)) → length (goals_of node depth k ps) ≡ length ps
+length-goals_of node depth k [] = refl
+length-goals_of node depth k (p ∷ ps) = ap suc (length-goals_of node depth (k + 1) ps)
+
+-- ---- room for premises
+
+nil_length : {X : Type 0} (xs : List X) (n : ℕ) → n ≡ length xs → is_nil xs ≡ nat_eq n 0
+nil_length [] n e = ap (λ k. nat_eq k 0) (sym e)
+nil_length {X} (x ∷ xs) n e =
+    elim (cases_Bool (nat_eq n 0)) [
+      | inl yes' ↦ absurd (let z = eqb-true n 0 yes' in omega (arith, z, e))
+      | inr no' ↦ sym no'
+    ]
+
 -- no goal is open where the stack is empty
 pub closed_is : {X : Type 0} (goals : List X) (n : ℕ) → n ≡ length goals → nat_eq n 0 ≡ is_nil (reverse goals)
-closed_is {X} goals n number = by_list (reverse goals) (number ∙ sym (length-reverse goals))
+closed_is goals n number = sym (nil_length (reverse goals) n (number ∙ sym (length-reverse goals)))
+
+-- whether premises fit, by the numbers that the code has
+pub room_is : {J : Type 0} (limit bound n : ℕ) (g : Goal J) (rest : List (Goal J)) (ps : List (Premise J)) (depth made others count : ℕ) (b : Bool) → depth ≡ g.depth → made ≡ n → others ≡ length rest → count ≡ length ps →
+    b ≡ ((nat_eq count 0 || nat_lt depth bound) && nat_le (made + 1 + (count + others)) limit) → has_room limit bound n g rest (Some ps) ≡ b
+room_is limit bound n g rest ps depth made others count b is_depth is_made is_others is_count is_b =
+    (λ i. (nil_length ps count is_count i || nat_lt (sym is_depth i) bound) && nat_le (sums i) limit) ∙ sym is_b
   where
-    by_list : (xs : List X) → n ≡ length xs → nat_eq n 0 ≡ is_nil xs
-    by_list [] e = ap (λ k. nat_eq k 0) e
-    by_list (x ∷ xs) e =
-        elim (cases_Bool (nat_eq n 0)) [
-          | inl yes' ↦ absurd (let z = eqb-true n 0 yes' in omega (arith, z, e))
-          | inr no' ↦ no'
-        ]
+    sums : n + 1 + (length ps + length rest) ≡ made + 1 + (count + others)
+    sums = omega (arith, is_made, is_others, is_count)

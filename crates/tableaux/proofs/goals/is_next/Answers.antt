@@ -1,7 +1,7 @@
 use Rattle.std.proofs.Common.{sym, ap}
-use Rattle.derivations.specs.Goals.{begins_with}
-use Rattle.derivations.proofs.Stack.{no_top, begins_last}
-use Rattle.derivations.proofs.goals.is_next.Goals as goal
+use Rattle.tableaux.specs.Goals.{begins_with}
+use Rattle.tableaux.proofs.Stack.{no_top, begins_last}
+use Rattle.tableaux.proofs.goals.is_next.Goals as goal
 use Rattle.std.proofs.Common.{refl}
 
 pub returns-in-None : goal.returns-in-None

@@ -1,6 +1,6 @@
 use Rattle.std.proofs.Common.{◌+◌, arith, refl, ◌∙◌}
-use Rattle.derivations.proofs.Stack.{pushed_goal, popped_fewer}
-use Rattle.derivations.proofs.goals.push_goals.Goals as goal
+use Rattle.tableaux.proofs.Stack.{pushed_goal, popped_fewer}
+use Rattle.tableaux.proofs.goals.push_goals.Goals as goal
 
 pub loop-premise-smaller : goal.loop-premise-smaller
 loop-premise-smaller g c = omega (arith, popped_fewer c.loop-premise.premises.items c.pop.new.self.items c.in-Some.premise c.in-Some.ensures.items)
