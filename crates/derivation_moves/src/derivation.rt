@@ -28,10 +28,7 @@ pub struct Derivation<'a> {
 }
 
 /// Makes the goal a node of the graph, and fills its parent's slot with it.
-pub fn show_goal(
-    graph: &mut Graph<'_>,
-    goal: &OpenGoal<Judgement>,
-) -> Result<(), OutOfMemory>
+pub fn show_goal(graph: &mut Graph<'_>, goal: &OpenGoal<Judgement>) -> Result<(), OutOfMemory>
     requires some_node { 0 < length graph.old }
     requires few { length graph.old < MOST_NODES }
     requires slot { HasPremise (with_goal graph.old goal.now) goal.now.parent goal.now.place }

@@ -6,7 +6,8 @@ use cyc_memory::OutOfMemory;
 use derivation_search::Tried;
 use std::alloc::Global;
 use tableaux::{
-    GrowingTraces, MadeNode, OpenGoal, drop_goals, first_goal, has_room, is_above, push_goals, tried,
+    GrowingTraces, MadeNode, OpenGoal, drop_goals, first_goal, has_room, is_above, push_goals,
+    tried,
 };
 use trace_pairs::{Edge, TraceGraph};
 
