@@ -1,7 +1,6 @@
 -- The next goal, and what a reason makes of it.
-use Rattle.std.proofs.Common.{◌≡◌, ℕ, suc, ◌+◌, ◌-◌, ◌<◌, ◌≤◌, inl, inr, Bool, true, false, ◌&&◌, ◌||◌, List, [], ◌∷◌, Option, Some, None, slice_get, length, length-append, eqb-true, arith, refl, sym, ap, subst, ◌∙◌}
+use Rattle.std.proofs.Common.{◌≡◌, ℕ, suc, ◌+◌, ◌-◌, ◌<◌, ◌≤◌, inl, inr, Bool, true, false, ◌&&◌, ◌||◌, List, [], ◌∷◌, Option, Some, None, slice_get, length, length-append, arith, refl, sym, ap, subst, ◌∙◌}
 use Rattle.std.specs.Prelude.{nat_eq, nat_lt, nat_le, Result, Ok, Err, IfOk}
-use Rattle.std.proofs.lemmas.Bool.{cases_Bool, and_parts, leb-true, ltb-true}
 use Rattle.std.proofs.lemmas.List.{length-map, length-reverse}
 use Rattle.std.proofs.lemmas.List.Sums.{fold-append}
 use Rattle.std.proofs.lemmas.Option.{slice_get_within}
@@ -21,7 +20,7 @@ use Rattle.tableaux.specs.Leaves.{without_leaf}
 use Rattle.tableaux.proofs.Leaves.{leaf_removed}
 use Rattle.tableaux.proofs.Graphs.{InOrder, graph_in_order}
 use Rattle.tableaux.proofs.Replays.{replayed_from}
-use Rattle.tableaux.proofs.Stack.{room_is}
+use Rattle.tableaux.proofs.Stack.{room_is, room_tells}
 use Rattle.tableaux.proofs.Steps.{Fits, next_tableau, next_is, begins, next_in_order}
 use Rattle.tableaux.proofs.Found.{nil_is}
 use Rattle.derivations.specs.declared.derivation.Derivation.{Derivation}
@@ -96,26 +95,9 @@ module _ {L J R : Type 0} (calculus : L → Calculus J R) (Occurs : L → J → 
 
   pub may_take : (r : R) (e : Effect J) (has : HasEffect calculus s r e) (bound depth made others count : ℕ) → bound < 4294967296 → depth ≡ has.goal.depth → made ≡ length s.made.items → others ≡ length has.rest → count ≡ length e.premises.items →
       ((nat_eq count 0 || nat_lt depth bound) && nat_le (made + 1 + (count + others)) s.limit) ≡ true → IsFitting calculus s bound r (Some e)
-  may_take r e has bound depth made others count small is_depth is_made is_others is_count fits = (
-    fits_is r e has bound depth made others count true is_depth is_made is_others is_count (sym fits),
-    record { has = has; room = room; depth = deep },
-  )
-    where
-      parts : ((nat_eq count 0 || nat_lt depth bound) ≡ true) × (nat_le (made + 1 + (count + others)) s.limit ≡ true)
-      parts = and_parts (nat_eq count 0 || nat_lt depth bound) (nat_le (made + 1 + (count + others)) s.limit) fits
-
-      room : length s.made.items + 1 + (length e.premises.items + length has.rest) ≤ s.limit
-      room = let l = leb-true (made + 1 + (count + others)) s.limit parts.1 in omega (arith, l, is_made, is_others, is_count)
-
-      deep : 0 < length e.premises.items → has.goal.depth < 4294967295
-      deep some' =
-          elim (cases_Bool (nat_eq count 0)) [
-            | inl zero' ↦ absurd (let z = eqb-true count 0 zero' in omega (arith, z, some', is_count))
-            | inr more ↦
-                (let h : (nat_eq count 0 || nat_lt depth bound) ≡ true = parts.0 in
-                let h' : nat_lt depth bound ≡ true = (rw more at h) in
-                let l = ltb-true depth bound h' in omega (arith, l, small, is_depth))
-          ]
+  may_take r e has bound depth made others count small is_depth is_made is_others is_count fits =
+      let room = room_tells s.limit bound (length s.made.items) has.goal has.rest e.premises.items depth made others count small is_depth is_made is_others is_count fits in
+      (fits_is r e has bound depth made others count true is_depth is_made is_others is_count (sym fits), record { has = has; room = room.0; depth = room.1 })
 
   -- ---- the graph with the next goal
 

@@ -1,9 +1,9 @@
 -- Goals on a stack, the next one last.
-use Rattle.std.proofs.Common.{◌≡◌, ℕ, suc, ◌+◌, ◌-◌, ◌<◌, ◌⊎◌, inl, inr, Bool, true, false, ◌&&◌, ◌||◌, eqb-true, List, [], ◌∷◌, ◌++◌, Option, None, Some, length, length-append, slice_get, reverse, arith, refl, sym, ap, subst, ◌∙◌}
+use Rattle.std.proofs.Common.{◌≡◌, ℕ, suc, ◌+◌, ◌-◌, ◌<◌, ◌≤◌, ◌⊎◌, inl, inr, Bool, true, false, ◌&&◌, ◌||◌, eqb-true, List, [], ◌∷◌, ◌++◌, Option, None, Some, length, length-append, slice_get, reverse, arith, refl, sym, ap, subst, ◌∙◌}
 use Rattle.std.specs.Prelude.{nat_eq, nat_lt, nat_le}
 use Rattle.std.specs.Option.{option_to_list}
 use Rattle.std.proofs.lemmas.List.{append_assoc, append-nil, reverse-append, length-reverse}
-use Rattle.std.proofs.lemmas.Bool.{cases_Bool, eq-eqb}
+use Rattle.std.proofs.lemmas.Bool.{cases_Bool, and_parts, leb-true, ltb-true, eq-eqb}
 use Rattle.tableaux.specs.Tableau.{Premise, Goal, goals_of}
 use Rattle.tableaux.specs.Room.{is_nil, has_room}
 use Rattle.tableaux.specs.Goals.{begins_with, others_of}
@@ -154,3 +154,24 @@ room_is limit bound n g rest ps depth made others count b is_depth is_made is_ot
   where
     sums : n + 1 + (length ps + length rest) ≡ made + 1 + (count + others)
     sums = omega (arith, is_made, is_others, is_count)
+
+-- what room tells of them
+pub room_tells : {J : Type 0} (limit bound n : ℕ) (g : Goal J) (rest : List (Goal J)) (ps : List (Premise J)) (depth made others count : ℕ) → bound < 4294967296 → depth ≡ g.depth → made ≡ n → others ≡ length rest → count ≡ length ps →
+    ((nat_eq count 0 || nat_lt depth bound) && nat_le (made + 1 + (count + others)) limit) ≡ true → (n + 1 + (length ps + length rest) ≤ limit) × (0 < length ps → g.depth < 4294967295)
+room_tells limit bound n g rest ps depth made others count small is_depth is_made is_others is_count fits = (room, deep)
+  where
+    parts : ((nat_eq count 0 || nat_lt depth bound) ≡ true) × (nat_le (made + 1 + (count + others)) limit ≡ true)
+    parts = and_parts (nat_eq count 0 || nat_lt depth bound) (nat_le (made + 1 + (count + others)) limit) fits
+
+    room : n + 1 + (length ps + length rest) ≤ limit
+    room = let l = leb-true (made + 1 + (count + others)) limit parts.1 in omega (arith, l, is_made, is_others, is_count)
+
+    deep : 0 < length ps → g.depth < 4294967295
+    deep some' =
+        elim (cases_Bool (nat_eq count 0)) [
+          | inl zero' ↦ absurd (let z = eqb-true count 0 zero' in omega (arith, z, some', is_count))
+          | inr more ↦
+              (let h : (nat_eq count 0 || nat_lt depth bound) ≡ true = parts.0 in
+              let h' : nat_lt depth bound ≡ true = (rw more at h) in
+              let l = ltb-true depth bound h' in omega (arith, l, small, is_depth))
+        ]
