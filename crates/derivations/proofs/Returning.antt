@@ -1,5 +1,5 @@
 -- The last reason is taken back.
-use Rattle.std.proofs.Common.{◌≡◌, ℕ, ◌+◌, ◌≤◌, List, [], ◌∷◌, ◌++◌, reverse, Some, length, length-append, arith, sym, ap, ◌∙◌}
+use Rattle.std.proofs.Common.{◌≡◌, ◌+◌, ◌≤◌, List, [], ◌∷◌, ◌++◌, reverse, Some, length, length-append, arith, sym, ap, ◌∙◌}
 use Rattle.std.proofs.lemmas.List.{reverse-append, length-reverse}
 use Rattle.tableaux.specs.Tableau.{Goal, Made, Tableau, Calculus, grown, linked, replay}
 use Rattle.tableaux.specs.Leaves.{without_leaf}

@@ -1,8 +1,8 @@
 -- A reason at the next goal keeps the derivation in order.
-use Rattle.std.proofs.Common.{◌≡◌, ℕ, suc, ◌+◌, ◌<◌, ◌≤◌, inl, inr, refl, List, [], ◌∷◌, ◌++◌, map, reverse, Some, slice_get, length, length-append, arith, sym, ap, subst, ◌∙◌}
+use Rattle.std.proofs.Common.{◌≡◌, ℕ, ◌+◌, ◌<◌, ◌≤◌, inl, inr, List, [], ◌∷◌, ◌++◌, map, reverse, Some, slice_get, length, length-append, arith, sym, ap, subst, ◌∙◌}
 use Rattle.std.proofs.lemmas.List.{map-append, length-reverse}
 use Rattle.derivation_search.specs.System.{after}
-use Rattle.tableaux.specs.Tableau.{Premise, Goal, Made, Calculus, goals_of, replay}
+use Rattle.tableaux.specs.Tableau.{Goal, Made, Calculus, goals_of, replay}
 use Rattle.tableaux.specs.Fair.{IsFair}
 use Rattle.tableaux.proofs.Steps.{next_tableau}
 use Rattle.tableaux.proofs.Waiting.{get_end_cases}
