@@ -27,7 +27,7 @@ use Rattle.derivation_search.specs.declared.Tried.TheVariants.{Admitted, Refused
 use Rattle.tableaux.specs.Tableau.{Tableau, replay}
 use Rattle.tableaux.specs.Room.{is_nil, is_done, offered, offered_at, has_room, fits_at, fits_in}
 use Rattle.tableaux.specs.Search.{on_graph}
-use Rattle.tableaux.proofs.Stack.{room_is}
+use Rattle.tableaux.proofs.Stack.{room_is, room_tells}
 use Rattle.tableaux.proofs.Steps.{Fits, next_tableau, next_is}
 use Rattle.search_calculus.specs.Calculus.{OpenGoal, MadeNode, answered}
 use Rattle.search_calculus.specs.Graphs.{traces_of, made_graph, goal_graph}
@@ -42,7 +42,7 @@ use Rattle.derivation_moves.proofs.Shows.{HasNext, next_seen}
 use Rattle.derivation_moves.specs.Effects.{IsEffect}
 use Rattle.derivation_moves.specs.Leaving.{LeavesPremises}
 use Rattle.tableaux.specs.Fares.{GraphFares}
-use Rattle.derivation_moves.specs.Derivations.{theory_in, nodes_in, goals_in, reasons_in, graph_with, tableau_in, IsInOrder, IsItsSearch}
+use Rattle.derivation_moves.specs.Derivations.{theory_in, nodes_in, goals_in, reasons_in, graph_with, tableau_in, IsInOrder, MayTake, IsItsSearch}
 use Rattle.tableaux.proofs.Found.{nil_is}
 
 pub record HasEffect (s : Derivation) (r : Reason) (e : Effect) : Type 0 where
@@ -142,6 +142,13 @@ fits_is s r e order has bound depth made others count b is_depth is_made is_othe
     ∙ (ap (fits_at (calculus_of (theory_in s)) 20000 bound (length (reasons_in s)) (nodes_in s) r) has.next
     ∙ (ap (has_room 20000 bound (length (reasons_in s)) has.goal has.rest) has.effects.0
     ∙ room_is 20000 bound (length (reasons_in s)) has.goal has.rest e.premises.items depth made others count b is_depth (is_made ∙ sym (length-map s.made.items (λ (m : MadeNode). m.reason))) is_others is_count is_b)))
+
+-- and where it fits, it may be taken
+pub may_take : (s : Derivation) (r : Reason) (e : Effect) (has : HasEffect s r e) (bound depth made others count : ℕ) → bound < 4294967296 → depth ≡ has.goal.depth → made ≡ length s.made.items → others ≡ length has.rest → count ≡ length e.premises.items →
+    ((nat_eq count 0 || nat_lt depth bound) && nat_le (made + 1 + (count + others)) 20000) ≡ true → MayTake s r e
+may_take s r e has bound depth made others count small is_depth is_made is_others is_count fits =
+    let room = room_tells 20000 bound (length s.made.items) has.goal has.rest e.premises.items depth made others count small is_depth is_made is_others is_count fits in
+    record { goal = has.goal; rest = has.rest; next = has.next; effects = has.effects; room = room.0; depth = room.1 }
 
 -- the goals after the next one
 pub others_are : (s : Derivation) (r : Reason) (e : Effect) (has : HasEffect s r e) (n : ℕ) → n ≡ length s.goals.items → n - 1 ≡ length has.rest

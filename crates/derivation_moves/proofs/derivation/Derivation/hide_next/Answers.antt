@@ -9,6 +9,6 @@ returns-then-not-is_empty-clause-order c =
     let next = some_next c.args.self.now.goals.items there in
     record {
       is = record { problem = c.requires.order.is.problem; small = c.requires.order.is.small; replayed = c.requires.order.is.replayed; few = c.requires.order.is.few };
-      graph = hidden_graph c.args.self.now next.0 c.requires.order next.1 c.len.result c.truncate.new.self (c.len.ensures ∙ c.args.self.now.made.ok.0) c.truncate.ensures;
+      graph = hidden_graph c.args.self.now next.0 c.requires.order (next.1, next.2) c.len.result c.truncate.new.self (c.len.ensures ∙ c.args.self.now.made.ok.0) c.truncate.ensures;
       some_node = c.requires.some_node;
     }
