@@ -1,5 +1,5 @@
 -- What the moves tell of the search.
-use Rattle.std.proofs.Common.{◌≡◌, ℕ, ◌+◌, ◌-◌, ◌<◌, ◌≤◌, inl, inr, Bool, true, false, ◌&&◌, ◌||◌, List, [], ◌∷◌, ◌++◌, map, reverse, Option, Some, None, slice_get, length, length-append, eqb-true, arith, refl, sym, ap, subst, ◌∙◌}
+use Rattle.std.proofs.Common.{◌≡◌, ℕ, ◌+◌, ◌-◌, ◌<◌, ◌≤◌, inl, inr, Bool, true, false, ◌&&◌, ◌||◌, List, [], ◌∷◌, ◌++◌, map, Option, Some, None, slice_get, length, length-append, arith, refl, sym, ap, subst, ◌∙◌}
 use Rattle.std.specs.Prelude.{nat_eq, nat_lt, nat_le, filter, if◌then◌else◌, Ok, Err}
 use Rattle.std.proofs.lemmas.Bool.{cases_Bool, ltb-true}
 use Rattle.std.proofs.lemmas.List.{length-map, length-reverse}
@@ -25,7 +25,7 @@ use Rattle.derivation_search.specs.Engine.{FaresSo, FitAlike}
 use Rattle.derivation_search.specs.declared.Tried.{Tried}
 use Rattle.derivation_search.specs.declared.Tried.TheVariants.{Admitted, Refused, TooManyStates}
 use Rattle.tableaux.specs.Tableau.{Tableau, replay}
-use Rattle.tableaux.specs.Room.{is_nil, is_done, offered, offered_at, has_room, fits_at, fits_in}
+use Rattle.tableaux.specs.Room.{is_done, offered, offered_at, has_room, fits_at, fits_in}
 use Rattle.tableaux.specs.Search.{on_graph}
 use Rattle.tableaux.proofs.Stack.{room_is, room_tells}
 use Rattle.tableaux.proofs.Steps.{Fits, next_tableau, next_is}

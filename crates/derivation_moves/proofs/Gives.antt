@@ -1,5 +1,5 @@
 -- A reason at the next goal.
-use Rattle.std.proofs.Common.{◌≡◌, ◌+◌, ◌<◌, ◌≤◌, List, [], ◌∷◌, ◌++◌, map, reverse, Some, length, length-append, arith, refl, sym, ap, subst, ◌∙◌}
+use Rattle.std.proofs.Common.{◌≡◌, ◌+◌, ◌<◌, ◌≤◌, List, [], ◌∷◌, ◌++◌, map, reverse, Some, length, length-append, arith, sym, ap, subst, ◌∙◌}
 use Rattle.std.proofs.lemmas.List.{map-append, length-reverse}
 use Rattle.heap_formula.specs.declared.proof_rules.Reason.{Reason}
 use Rattle.proof_graph.specs.Nodes.{open_node, with_reason, changed_at}

@@ -1,4 +1,4 @@
-use Rattle.std.proofs.Common.{ap, ◌∙◌}
+use Rattle.std.proofs.Common.{◌∙◌}
 use Rattle.derivation_search.proofs.Offered.{all_so}
 use Rattle.derivation_moves.proofs.Shows.{next_seen}
 use Rattle.derivation_moves.proofs.Following.{goal_within, goal_judgement, links_are, not_below, rules_alike}
