@@ -1,0 +1,4 @@
+pub mod Addresses
+pub mod AllMembers
+pub mod Greatest
+pub mod SomeMember
