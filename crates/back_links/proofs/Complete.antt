@@ -22,13 +22,9 @@ use Rattle.rule_table.proofs.Reflects.{both}
 use Rattle.back_links.specs.Listing.{selections, number_choices, value_choices, values_of, universals, IsMade, maps, substitutions, covers, link_of, candidates, links}
 use Rattle.back_links.proofs.Selecting.{IsSelection, stands_in_range}
 use Rattle.back_links.proofs.Possible.{fits, cond_none}
+use Rattle.member_facts.proofs.SomeMember.{one_front}
 
 -- ---- members of lists
-
-one_before : {X : Type 0} (P : X → Type 0) (xs ys : List X) → OneOf P xs → OneOf P (xs ++ ys)
-one_before P [] ys o = absurd o
-one_before P (x ∷ xs) ys (inl p) = inl p
-one_before P (x ∷ xs) ys (inr o) = inr (one_before P xs ys o)
 
 one_after : {X : Type 0} (P : X → Type 0) (xs ys : List X) → OneOf P ys → OneOf P (xs ++ ys)
 one_after P [] ys o = o
@@ -36,7 +32,7 @@ one_after P (x ∷ xs) ys o = inr (one_after P xs ys o)
 
 one_flat_map : {X Y : Type 0} (P : Y → Type 0) (f : X → List Y) (x : X) (xs : List X) → OneOf (λ y. y ≡ x) xs → OneOf P (f x) → OneOf P (flat_map f xs)
 one_flat_map P f x [] o q = absurd o
-one_flat_map {X} P f x (y ∷ ys) (inl e) q = one_before P (f y) (flat_map f ys) (subst (λ (z : X). OneOf P (f z)) (sym e) q)
+one_flat_map {X} P f x (y ∷ ys) (inl e) q = one_front P (f y) (flat_map f ys) (subst (λ (z : X). OneOf P (f z)) (sym e) q)
 one_flat_map P f x (y ∷ ys) (inr o) q = one_after P (f y) (flat_map f ys) (one_flat_map P f x ys o q)
 
 one_map : {X Y : Type 0} (f : X → Y) (x : X) (xs : List X) → OneOf (λ y. y ≡ x) xs → OneOf (λ y. y ≡ f x) (map f xs)

@@ -9,6 +9,7 @@ use Rattle.std.specs.List.{filter, flat_map, range_with_len, list_any, list_all}
 use Rattle.heap_formula.specs.Words.{Each, OneOf}
 use Rattle.back_links.specs.Listing.{selections}
 use Rattle.back_links.specs.Branches.{below}
+use Rattle.member_facts.proofs.AllMembers.{each_append, each_mapped}
 
 -- ---- the choices
 
@@ -36,14 +37,6 @@ IsSelection [] (x ∷ xs) = ⊥
 IsSelection (choices ∷ rest) [] = ⊥
 IsSelection (choices ∷ rest) (x ∷ xs) = OneOf (λ y. y ≡ x) choices × IsSelection rest xs
 
-each_append : {X : Type 0} (P : X → Type 0) (xs ys : List X) → Each P xs → Each P ys → Each P (xs ++ ys)
-each_append P [] ys a b = b
-each_append P (x ∷ xs) ys a b = (a.0, each_append P xs ys a.1 b)
-
-each_map : {X Y : Type 0} (P : Y → Type 0) (f : X → Y) (xs : List X) → Each (λ x. P (f x)) xs → Each P (map f xs)
-each_map P f [] a = tt
-each_map P f (x ∷ xs) a = (a.0, each_map P f xs a.1)
-
 each_flat_map : {X Y : Type 0} (P : Y → Type 0) (f : X → List Y) (xs : List X) → ((x : X) → OneOf (λ y. y ≡ x) xs → Each P (f x)) → Each P (flat_map f xs)
 each_flat_map P f [] h = tt
 each_flat_map P f (x ∷ xs) h = each_append P (f x) (flat_map f xs) (h x (inl refl)) (each_flat_map P f xs (λ y o. h y (inr o)))
@@ -51,7 +44,7 @@ each_flat_map P f (x ∷ xs) h = each_append P (f x) (flat_map f xs) (h x (inl r
 pub each_selection : {X : Type 0} (P : List X → Type 0) (ds : List (List X)) → ((xs : List X) → IsSelection ds xs → P xs) → Each P (selections ds)
 each_selection P [] h = (h [] tt, tt)
 each_selection {X} P (choices ∷ rest) h =
-    each_flat_map P (λ (x : X). map (λ (xs : List X). x ∷ xs) (selections rest)) choices (λ x o. each_map P (λ (xs : List X). x ∷ xs) (selections rest) (each_selection (λ (xs : List X). P (x ∷ xs)) rest (λ xs s. h (x ∷ xs) (o, s))))
+    each_flat_map P (λ (x : X). map (λ (xs : List X). x ∷ xs) (selections rest)) choices (λ x o. each_mapped P (λ (xs : List X). x ∷ xs) (selections rest) (each_selection (λ (xs : List X). P (x ∷ xs)) rest (λ xs s. h (x ∷ xs) (o, s))))
 
 -- ---- tests
 

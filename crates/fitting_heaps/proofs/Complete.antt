@@ -22,6 +22,8 @@ use Rattle.model_check.proofs.OnlyLocals.{member_each, left_inside, right_inside
 use Rattle.model_check.proofs.CaseLists.{constructive_cases}
 use Rattle.fitting_heaps.specs.Bounds.{AreAtMost, IsWithin, IsAmong}
 use Rattle.fitting_heaps.specs.Findings.{Findings, found_if_asked, FitsCase, IsSettled, UnlessGrown}
+use Rattle.member_facts.proofs.AllMembers.{each_imply}
+use Rattle.member_facts.proofs.Greatest.{each_below}
 
 -- ---- values of terms are small
 
@@ -54,21 +56,17 @@ module _ (n : ℕ) (h : Cells) (s e : Stack) (b : SymbolicHeap) (w : IsWithin n 
 
 -- ---- other locals with the same values
 
-each_map : {X : Type 0} (P Q : X → Type 0) → ((x : X) → P x → Q x) → (xs : List X) → Each P xs → Each Q xs
-each_map P Q f [] k = tt
-each_map P Q f (x ∷ xs) k = (f x k.0, each_map P Q f xs k.1)
-
 module _ (P Q : Term → Type 0) (f : (t : Term) → P t → Q t) where
   in_pure : (x : Pure) → InPure P x → InPure Q x
   in_pure (Eq t u) k = (f t k.0, f u k.1)
   in_pure (Neq t u) k = (f t k.0, f u k.1)
 
   in_spatial : (x : Spatial) → InSpatial P x → InSpatial Q x
-  in_spatial (Cell t ts) k = (f t k.0, each_map P Q f ts k.1)
-  in_spatial (Pred p ts) k = each_map P Q f ts k
+  in_spatial (Cell t ts) k = (f t k.0, each_imply P Q f ts k.1)
+  in_spatial (Pred p ts) k = each_imply P Q f ts k
 
   in_heap : (b : SymbolicHeap) → InHeap P b → InHeap Q b
-  in_heap b k = (each_map (InPure P) (InPure Q) in_pure b.pure k.0, each_map (InSpatial P) (InSpatial Q) in_spatial b.spatial k.1)
+  in_heap b k = (each_imply (InPure P) (InPure Q) in_pure b.pure k.0, each_imply (InSpatial P) (InSpatial Q) in_spatial b.spatial k.1)
 
 module _ (P Q : Term → Type 0) where
   both_terms : (ts : List Term) → Each P ts → Each Q ts → Each (λ t. P t × Q t) ts
@@ -85,23 +83,18 @@ module _ (P Q : Term → Type 0) where
   both_spatials (Cell t ts ∷ xs) a b = (((a.0.0, b.0.0), both_terms ts a.0.1 b.0.1), both_spatials xs a.1 b.1)
   both_spatials (Pred p ts ∷ xs) a b = (both_terms ts a.0 b.0, both_spatials xs a.1 b.1)
 
--- each existential of the formula is below the bound
-max_each : {X : Type 0} (f : X → ℕ) (m : ℕ) (xs : List X) → max_of (map f xs) ≤ m → Each (λ x. f x ≤ m) xs
-max_each f m [] h = tt
-max_each f m (x ∷ xs) h = (omega arith, max_each f m xs (omega arith))
-
 bound_pure : (m : ℕ) (x : Pure) → most_in_pure exist_bound x ≤ m → InPure (λ t. exist_bound t ≤ m) x
 bound_pure m (Eq t u) h = (omega arith, omega arith)
 bound_pure m (Neq t u) h = (omega arith, omega arith)
 
 bound_spatial : (m : ℕ) (x : Spatial) → most_in_spatial exist_bound x ≤ m → InSpatial (λ t. exist_bound t ≤ m) x
-bound_spatial m (Cell t ts) h = (omega arith, max_each exist_bound m ts (omega arith))
-bound_spatial m (Pred p ts) h = max_each exist_bound m ts h
+bound_spatial m (Cell t ts) h = (omega arith, each_below exist_bound m ts (omega arith))
+bound_spatial m (Pred p ts) h = each_below exist_bound m ts h
 
 bound_heap : (m : ℕ) (b : SymbolicHeap) → heap_exists b ≤ m → InHeap (λ t. exist_bound t ≤ m) b
 bound_heap m b h = (
-  each_map (λ x. most_in_pure exist_bound x ≤ m) (InPure (λ t. exist_bound t ≤ m)) (bound_pure m) b.pure (max_each (most_in_pure exist_bound) m b.pure (omega arith)),
-  each_map (λ x. most_in_spatial exist_bound x ≤ m) (InSpatial (λ t. exist_bound t ≤ m)) (bound_spatial m) b.spatial (max_each (most_in_spatial exist_bound) m b.spatial (omega arith)),
+  each_imply (λ x. most_in_pure exist_bound x ≤ m) (InPure (λ t. exist_bound t ≤ m)) (bound_pure m) b.pure (each_below (most_in_pure exist_bound) m b.pure (omega arith)),
+  each_imply (λ x. most_in_spatial exist_bound x ≤ m) (InSpatial (λ t. exist_bound t ≤ m)) (bound_spatial m) b.spatial (each_below (most_in_spatial exist_bound) m b.spatial (omega arith)),
 )
 
 -- the first values, each at most n
@@ -180,8 +173,8 @@ module _ (ds : List Definition) (n : ℕ) (t : Findings) where
       let f = value_same n (heap_exists b) vs c.0 in
       let A = λ (u : Term). (value vs c.0 u ≤ n) × (exist_bound u ≤ heap_exists b) in
       let B = λ (u : Term). (value vs c.0 u ≤ n) × (value vs c.0 u ≡ value vs e' u) in
-      let pures = each_map (InPure A) (InPure B) (in_pure A B f) b.pure (both_pures (λ u. value vs c.0 u ≤ n) (λ u. exist_bound u ≤ heap_exists b) b.pure small.0 below.0) in
-      let spatials = each_map (InSpatial A) (InSpatial B) (in_spatial A B f) b.spatial (both_spatials (λ u. value vs c.0 u ≤ n) (λ u. exist_bound u ≤ heap_exists b) b.spatial small.1 below.1) in
+      let pures = each_imply (InPure A) (InPure B) (in_pure A B f) b.pure (both_pures (λ u. value vs c.0 u ≤ n) (λ u. exist_bound u ≤ heap_exists b) b.pure small.0 below.0) in
+      let spatials = each_imply (InSpatial A) (InSpatial B) (in_spatial A B f) b.spatial (both_spatials (λ u. value vs c.0 u ≤ n) (λ u. exist_bound u ≤ heap_exists b) b.spatial small.1 below.1) in
       record {
         locals = e';
         long = lowered_long n (heap_exists b) c.0;
@@ -205,7 +198,7 @@ module _ (ds : List Definition) (n : ℕ) (t : Findings) where
   asked_found k settled s h a z w u x =
       let e = x.1.0 in
       let f = λ (v : Term) (i : IsUniversal v). universal_alike v i in
-      spatial_alike n (found_if_asked n t) s e [] (λ j. at_stage ds (x.0 j)) (λ j p vs g m b d. all_found k settled p vs g (x.0 j, m) b d) a.spatial h w (each_map (InSpatial IsUniversal) (InSpatial (λ v. (value s e v ≤ n) × (value s e v ≡ value s [] v))) (in_spatial IsUniversal (λ v. (value s e v ≤ n) × (value s e v ≡ value s [] v)) f) a.spatial u.1) x.1.1.1
+      spatial_alike n (found_if_asked n t) s e [] (λ j. at_stage ds (x.0 j)) (λ j p vs g m b d. all_found k settled p vs g (x.0 j, m) b d) a.spatial h w (each_imply (InSpatial IsUniversal) (InSpatial (λ v. (value s e v ≤ n) × (value s e v ≡ value s [] v))) (in_spatial IsUniversal (λ v. (value s e v ≤ n) × (value s e v ≡ value s [] v)) f) a.spatial u.1) x.1.1.1
     where
       universal_alike : (v : Term) → IsUniversal v → (value s x.1.0 v ≤ n) × (value s x.1.0 v ≡ value s [] v)
       universal_alike Nil i = (omega arith, refl)

@@ -2,6 +2,7 @@
 use Rattle.std.proofs.Common.{◌≡◌, ℕ, zero, suc, ◌+◌, ◌<◌, ◌≤◌, List, [], ◌∷◌, ◌++◌, length, drop, get_or, add-one, drop-cons, Bool, true, false, ◌||◌, sym, ap, ◌∙◌, subst, refl, inl, inr, ◌⊎◌, arith}
 use Rattle.std.specs.Prelude.{IsTrue}
 use Rattle.heap_formula.specs.Words.{Each, OneOf}
+use Rattle.member_facts.proofs.SomeMember.{one_front, one_last}
 
 split_drop : {X : Type 0} (xs : List X) (i : ℕ) (x : X) → i < length xs → x ≡ get_or xs i x → drop i xs ≡ x ∷ drop (i + 1) xs
 split_drop xs i x h e = rw (add-one, drop-cons xs i x) (ap (λ y. y ∷ drop (suc i) xs) (sym e))
@@ -36,18 +37,9 @@ one_at P [] i x h e p = absurd (omega arith)
 one_at P (y ∷ ys) zero x h e p = inl (subst P e p)
 one_at P (y ∷ ys) (suc i) x h e p = inr (one_at P ys i x (omega arith) e p)
 
-pub one_left : {X : Type 0} (P : X → Type 0) (xs ys : List X) → OneOf P xs → OneOf P (xs ++ ys)
-one_left P [] ys o = absurd o
-one_left P (x ∷ xs) ys (inl p) = inl p
-one_left P (x ∷ xs) ys (inr o) = inr (one_left P xs ys o)
-
-pub one_last : {X : Type 0} (P : X → Type 0) (xs : List X) (x : X) → P x → OneOf P (xs ++ x ∷ [])
-one_last P [] x p = inl p
-one_last P (y ∷ ys) x p = inr (one_last P ys x p)
-
 -- a list with one more member at its end
 pub pushed : {X : Type 0} (P : X → Type 0) (old new : List X) (x : X) → new ≡ old ++ x ∷ [] → (OneOf P old ⊎ P x) → OneOf P new
-pushed P old new x e o = subst (OneOf P) (sym e) (elim o as (λ z. OneOf P (old ++ x ∷ [])) [ inl a ↦ one_left P old (x ∷ []) a | inr p ↦ one_last P old x p ])
+pushed P old new x e o = subst (OneOf P) (sym e) (elim o as (λ z. OneOf P (old ++ x ∷ [])) [ inl a ↦ one_front P old (x ∷ []) a | inr p ↦ one_last P old x p ])
 
 -- a test that fails for a member of the rest
 pub one_fails : {X : Type 0} (P : X → Type 0) (xs : List X) (i : ℕ) (d : X) (b : Bool) → i < length xs → b ≡ false → (P (get_or xs i d) → IsTrue b) → Each P (drop i xs) → ⊥

@@ -13,6 +13,7 @@ use Rattle.heap_formula.specs.Words.{Each, OneOf}
 use Rattle.heap_formula.specs.Cells.{Cells, cell_at, no_cells, Joins, IsUnion, Star, IsHeap}
 use Rattle.fitting_heaps.specs.Bounds.{AreAtMost, IsWithin, SameUpTo, IsAmong, Unites, either}
 use Rattle.fitting_heaps.proofs.Loops.{one_at, pushed}
+use Rattle.member_facts.proofs.AllMembers.{each_last}
 
 -- ---- a cell that is put
 
@@ -112,10 +113,6 @@ small_missing n none x w h old b z below above e f k o =
           let same : w ≡ h = cut_same n none x w h z below above k s in
           absurd (let t : b ≡ true = f (λ a vs l g. k.fields a vs (ap (λ c. cell_at c a) (sym same) ∙ g)) in let y : true ≡ false = sym t ∙ e in cc)
     ]
-
-pub each_last : {X : Type 0} (P : X → Type 0) (xs : List X) (x : X) → Each P xs → P x → Each P (xs ++ x ∷ [])
-each_last P [] x k p = (p, tt)
-each_last P (y ∷ ys) x k p = (k.0, each_last P ys x k.1 p)
 
 cut_within : (n : ℕ) (none w : Cells) → none ≡ no_cells → IsHeap w → ((a : ℕ) → n < a → cell_at w a ≡ cell_at none a) → ((a : ℕ) (vs : List ℕ) → a ≤ n → cell_at w a ≡ Some vs → AreAtMost n vs) → IsWithin n w
 cut_within n none w z i above f = record {

@@ -13,7 +13,6 @@ use Rattle.fo_formula.specs.declared.sequents.FoSequent.{FoSequent}
 use Rattle.fo_formula.specs.declared.theory.FoTheory.{FoTheory}
 use Rattle.fo_formula.specs.Shapes.{HasConstant}
 use Rattle.fo_formula.specs.Validity.{HoldsAt}
-use Rattle.fo_formula.proofs.Lists.{each_at}
 use Rattle.fo_table.specs.declared.premises.FoPremise.{FoPremise}
 use Rattle.fo_table.specs.Nodes.{Edge, node_fault, edges_to, edges_of, targets_of, EdgeHolds}
 use Rattle.trace_pairs.specs.Graph.{Node as GraphNode, Edge as GraphEdge, Pair as GraphPair, IsEdge, Falls, has}
@@ -27,6 +26,7 @@ use Rattle.fo_nodes.proofs.Fits.{IsPredAt, PairsFit}
 use Rattle.fo_nodes.proofs.Fine.{PremiseFits}
 use Rattle.fo_nodes.proofs.Reasons.{Leads, by_node}
 use Rattle.fo_nodes.proofs.RightNodes.{node_holds}
+use Rattle.member_facts.proofs.AllMembers.{each_at}
 
 edges_short : (ps : List FoPremise) (us : List ℕ) → length (edges_to ps us) ≤ length ps
 edges_short [] us = omega arith

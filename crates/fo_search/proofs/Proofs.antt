@@ -7,7 +7,6 @@ use Rattle.fo_formula.specs.declared.nodes.FoNode.{FoNode}
 use Rattle.fo_formula.specs.declared.nodes.FoReason.{FoReason}
 use Rattle.fo_formula.specs.declared.sequents.FoSequent.{FoSequent}
 use Rattle.fo_formula.specs.declared.theory.FoTheory.{FoTheory}
-use Rattle.fo_formula.proofs.Lists.{each_map}
 use Rattle.fo_nodes.specs.Files.{IsReadNode, IsFoProof}
 use Rattle.fo_limits.specs.Limits.{IsNodeWithin, IsReasonWithin}
 use Rattle.fo_limits.proofs.Open.{sequent_open, reason_open}
@@ -29,6 +28,7 @@ use Rattle.fo_found.specs.Found.{AreProof}
 use Rattle.fo_found.proofs.Found.{makes_proof}
 use Rattle.fo_search.specs.Moves.{Moves, calculus_in, occurs_in, allows_in, IsFirstOrder}
 use Rattle.fo_search.specs.Outcomes.{search_for, reasons_of, IsProofFor}
+use Rattle.member_facts.proofs.AllMembers.{each_imply}
 
 -- the search that the moves follow
 pub follows : (problem : FoProblem) (moves : Moves) → IsFirstOrder problem moves → IsItsSearch calculus_in moves (search_for problem)
@@ -99,7 +99,7 @@ module _ (problem : FoProblem) (moves : Moves) (f : FoFile) (may : MayOccur prob
         few = the_proof.few;
         constant = may'.0.constant;
         definitions = may'.0.small;
-        nodes = each_map (IsNodeWithin f.theory) (IsReadNode f.theory.constructors) (read_node f.theory) f.nodes the_proof.within;
+        nodes = each_imply (IsNodeWithin f.theory) (IsReadNode f.theory.constructors) (read_node f.theory) f.nodes the_proof.within;
       }
 
   pub is_proof : IsProofFor problem f

@@ -16,6 +16,7 @@ use Rattle.heap_formula.specs.Meaning.{Family, PureHolds, SpatialHolds, Holds}
 use Rattle.heap_formula.specs.Closedness.{InPure, InSpatial, IsUniversal, IsUniversalHeap}
 use Rattle.heap_formula.proofs.Unions.{union_comm}
 use Rattle.model_check.specs.Constructive.{Member, Known, nil, universal, right_side, left_side, field, IsConstructive, CellFits, Fits, IsOnly, Inside}
+use Rattle.member_facts.proofs.AllMembers.{each_imply}
 
 pub member_each : {X : Type 0} (P : X → Type 0) (x : X) (xs : List X) → Member x xs → Each P xs → P x
 member_each P x [] m a = absurd m
@@ -58,17 +59,13 @@ module _ (h : Cells) (s e e' : Stack) (a : SymbolicHeap) (p : Fits h s e a) (q :
   agree_spatial (Cell t ts) k = (sym (agree t k.0), agree_terms ts k.1)
   agree_spatial (Pred p ts) k = agree_terms ts k
 
-each_each : {X : Type 0} (P Q : X → Type 0) → ((x : X) → P x → Q x) → (xs : List X) → Each P xs → Each Q xs
-each_each P Q f [] k = tt
-each_each P Q f (x ∷ xs) k = (f x k.0, each_each P Q f xs k.1)
-
 -- values that fit a constructive formula are the only ones
 pub only_fit : (h : Cells) (s e : Stack) (a : SymbolicHeap) → IsConstructive a → Fits h s e a → IsOnly h s e a
 only_fit h s e a k p = record {
   fits = p;
   only = λ o q. (
-    each_each (InPure (Known a)) (InPure (λ t. value s o t ≡ value s e t)) (agree_pure h s e o a p q) a.pure k.0,
-    each_each (InSpatial (Known a)) (InSpatial (λ t. value s o t ≡ value s e t)) (agree_spatial h s e o a p q) a.spatial k.1,
+    each_imply (InPure (Known a)) (InPure (λ t. value s o t ≡ value s e t)) (agree_pure h s e o a p q) a.pure k.0,
+    each_imply (InSpatial (Known a)) (InSpatial (λ t. value s o t ≡ value s e t)) (agree_spatial h s e o a p q) a.spatial k.1,
   );
 }
 
@@ -83,11 +80,11 @@ universal_pure a (Eq t u) k = (universal_known a t k.0, universal_known a u k.1)
 universal_pure a (Neq t u) k = (universal_known a t k.0, universal_known a u k.1)
 
 universal_spatial : (a : SymbolicHeap) (x : Spatial) → InSpatial IsUniversal x → InSpatial (Known a) x
-universal_spatial a (Cell t ts) k = (universal_known a t k.0, each_each IsUniversal (Known a) (universal_known a) ts k.1)
-universal_spatial a (Pred p ts) k = each_each IsUniversal (Known a) (universal_known a) ts k
+universal_spatial a (Cell t ts) k = (universal_known a t k.0, each_imply IsUniversal (Known a) (universal_known a) ts k.1)
+universal_spatial a (Pred p ts) k = each_imply IsUniversal (Known a) (universal_known a) ts k
 
 pub universal_constructive : (a : SymbolicHeap) → IsUniversalHeap a → IsConstructive a
-universal_constructive a u = (each_each (InPure IsUniversal) (InPure (Known a)) (universal_pure a) a.pure u.0, each_each (InSpatial IsUniversal) (InSpatial (Known a)) (universal_spatial a) a.spatial u.1)
+universal_constructive a u = (each_imply (InPure IsUniversal) (InPure (Known a)) (universal_pure a) a.pure u.0, each_imply (InSpatial IsUniversal) (InSpatial (Known a)) (universal_spatial a) a.spatial u.1)
 
 -- ---- what holds of a part of the heap fits the heap
 

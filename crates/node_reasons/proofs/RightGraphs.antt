@@ -26,11 +26,7 @@ pub use Rattle.proof_graph.proofs.Joined.{Mapped, mapped_at}
 pub use Rattle.position_sets.proofs.Lists.{at_map as at_mapped, get_within as some_at}
 use Rattle.heap_formula.proofs.Members.{each_from}
 use Rattle.proof_graph.proofs.Places.{place_of, places_set}
-
-pub each_at : {X : Type 0} (P : X → Type 0) (xs : List X) (k : ℕ) (x : X) → slice_get xs k ≡ Some x → Each P xs → P x
-each_at P [] k x e a = cc
-each_at P (y ∷ xs) zero x e a = let same : y ≡ x = cc in subst P same a.0
-each_at P (y ∷ xs) (suc k) x e a = each_at P xs k x e a.1
+use Rattle.member_facts.proofs.AllMembers.{each_at}
 
 module _ (most : ℕ) (ds : List Definition) (lines : List Command) (nodes : List Node) where
   -- an edge leads to a node, and its pairs join predicate atoms

@@ -9,11 +9,12 @@ use Rattle.pair_family.specs.BasePairs.{BasePair}
 use Rattle.pair_family.specs.Classes.{class_of}
 use Rattle.pair_family.specs.Combination.{Two, any, upto, pairs_below, each_two, against_nil, cell_differences, is_between, is_in_class, is_least, Facts, all_differ, both, AreConsistent, said}
 use Rattle.pair_family.specs.Folding.{two_at, stated, IsOneOf}
-use Rattle.pair_family.proofs.Lists.{In, at_each, each_at, each_left, each_right, each_append, in_left, in_right, in_append, in_map, map_in, in_filter, filter_in, any_in, in_any, upto_in, in_pairs, pairs_in}
+use Rattle.pair_family.proofs.Lists.{In, at_each, each_at, in_left, in_right, in_append, in_map, map_in, in_filter, filter_in, any_in, in_any, upto_in, in_pairs, pairs_in}
 use Rattle.pair_family.proofs.Two.{two_append, append_two_left, append_two_right, append_two_cross, map_two}
 use Rattle.pair_family.proofs.Classes.{classes_have, classes_least}
 use Rattle.pair_family.proofs.Kept.{kept_differ, kept_cells_apart, cell_class, cells_two}
 use Rattle.pair_family.proofs.Assigned.{cell_kept, worth, worth_same, worth_kept, worth_apart, worth_cases}
+use Rattle.member_facts.proofs.AllMembers.{each_append, each_front, each_back}
 
 -- ---- the differences of two parts together
 
@@ -168,7 +169,7 @@ module _ (x y : Facts) (n : ℕ) (at : ℕ → Term) (consistent : AreConsistent
   f3 = class_of folded.equal
 
   one_two : (t u : Term) → f1 t ≡ f1 u → f2 t ≡ f2 u
-  one_two t u e = classes_least f2 x.equal (each_left (λ q. f2 q.0 ≡ f2 q.1) x.equal y.equal (classes_have whole.equal)) t u e
+  one_two t u e = classes_least f2 x.equal (each_front (λ q. f2 q.0 ≡ f2 q.1) x.equal y.equal (classes_have whole.equal)) t u e
 
   at_two : (i : ℕ) → f2 (at i) ≡ f2 (at i)
   at_two i = refl
@@ -180,7 +181,7 @@ module _ (x y : Facts) (n : ℕ) (at : ℕ → Term) (consistent : AreConsistent
         | inl i ↦
             (let r = map_in (λ q. (at q.0, at q.1)) q one.same i in
             subst (λ z. f2 z.0 ≡ f2 z.1) r.2 (one_two (at r.0.0) (at r.0.1) (eqb-true _ _ (filter_in (λ q. nat_eq (f1 (at q.0)) (f1 (at q.1))) r.0 (pairs_below (suc n)) r.1).1)))
-        | inr i ↦ each_at (λ q. f2 q.0 ≡ f2 q.1) y.equal q (each_right (λ q. f2 q.0 ≡ f2 q.1) x.equal y.equal (classes_have whole.equal)) i
+        | inr i ↦ each_at (λ q. f2 q.0 ≡ f2 q.1) y.equal q (each_back (λ q. f2 q.0 ≡ f2 q.1) x.equal y.equal (classes_have whole.equal)) i
       ])) t u e
 
   abbrev val : ℕ → ℕ

@@ -12,8 +12,9 @@ use Rattle.pair_family.specs.Folding.{two_at, Frame, with_atom}
 use Rattle.pair_states.specs.Labels.{said_by, labels_at, label_pairs, cell_pairs, all_pairs, AreApartLabels, pairs_at, numbers_at, combined_labels, combined_pairs, combined}
 use Rattle.pair_family.specs.Frames.{term_at}
 use Rattle.pair_family.specs.Within.{AreWithin, AreBelow, IsWithin}
-use Rattle.pair_family.proofs.Lists.{each_append, each_map, map_each}
+use Rattle.pair_family.proofs.Lists.{map_each}
 use Rattle.pair_states.proofs.Labelled.{label_of, labels_are, said_by_is}
+use Rattle.member_facts.proofs.AllMembers.{each_imply, each_append, each_mapped}
 
 map_apply : {X Y : Type 0} (f g : X → Y) (xs : List X) → Each (λ x. f x ≡ g x) xs → map f xs ≡ map g xs
 map_apply f g [] e = refl
@@ -26,10 +27,6 @@ map_both f (x ∷ xs) ys = ap (λ z. f x ∷ z) (map_both f xs ys)
 map_twice : {X Y Z : Type 0} (g : Y → Z) (f : X → Y) (xs : List X) → map g (map f xs) ≡ map (λ x. g (f x)) xs
 map_twice g f [] = refl
 map_twice g f (x ∷ xs) = ap (λ z. g (f x) ∷ z) (map_twice g f xs)
-
-each_go : {X : Type 0} (P Q : X → Type 0) → ((x : X) → P x → Q x) → (xs : List X) → Each P xs → Each Q xs
-each_go P Q f [] e = tt
-each_go P Q f (x ∷ xs) e = (f x e.0, each_go P Q f xs e.1)
 
 two_map : {X Y : Type 0} (f : X → Y) (xs : List X) → each_two (map f xs) ≡ map (λ q. (f q.0, f q.1)) (each_two xs)
 two_map f [] = refl
@@ -88,11 +85,11 @@ module _ (rest : List Term) (p : ℕ) (ts : List Term) (places : List ℕ) (b c 
 
   label_pairs_are : (qs : List (ℕ × ℕ)) → AreWithin (length kept) qs → label_pairs (map f kept) qs ≡ map (λ q. (f q.0, f q.1)) (two_at at qs)
   label_pairs_are qs w =
-      map_apply (λ q. (slice_index (map f kept) q.0, slice_index (map f kept) q.1)) (λ q. (f (at q.0), f (at q.1))) qs (each_go (λ q. (q.0 < length kept) × (q.1 < length kept)) (λ q. ◌≡◌ {A = ℕ × ℕ} (slice_index (map f kept) q.0, slice_index (map f kept) q.1) (f (at q.0), f (at q.1))) (λ q l. let x = label_of f kept q.0 l.0 in let y = label_of f kept q.1 l.1 in λ i. (x i, y i)) qs w) ∙ sym (map_twice (λ q. (f q.0, f q.1)) (λ q. (at q.0, at q.1)) qs)
+      map_apply (λ q. (slice_index (map f kept) q.0, slice_index (map f kept) q.1)) (λ q. (f (at q.0), f (at q.1))) qs (each_imply (λ q. (q.0 < length kept) × (q.1 < length kept)) (λ q. ◌≡◌ {A = ℕ × ℕ} (slice_index (map f kept) q.0, slice_index (map f kept) q.1) (f (at q.0), f (at q.1))) (λ q l. let x = label_of f kept q.0 l.0 in let y = label_of f kept q.1 l.1 in λ i. (x i, y i)) qs w) ∙ sym (map_twice (λ q. (f q.0, f q.1)) (λ q. (at q.0, at q.1)) qs)
 
   labels_at_are : (is : List ℕ) → AreBelow (length kept) is → labels_at (map f kept) is ≡ map f (map at is)
   labels_at_are is w =
-      map_apply (slice_index (map f kept)) (λ i. f (at i)) is (each_go (λ i. i < length kept) (λ i. slice_index (map f kept) i ≡ f (at i)) (λ i l. label_of f kept i l) is w) ∙ sym (map_twice f at is)
+      map_apply (slice_index (map f kept)) (λ i. f (at i)) is (each_imply (λ i. i < length kept) (λ i. slice_index (map f kept) i ≡ f (at i)) (λ i l. label_of f kept i l) is w) ∙ sym (map_twice f at is)
 
   cell_pairs_are : (cs : List Term) → cell_pairs (f Nil) (map f cs) ≡ map (λ q. (f q.0, f q.1)) (cell_differences cs)
   cell_pairs_are cs =
@@ -119,7 +116,7 @@ module _ (rest : List Term) (p : ℕ) (ts : List Term) (places : List ℕ) (b c 
 
   pub apart_consistent : AreApartLabels (combined_pairs (map term_number kept) b places c) ↔ AreConsistent facts
   apart_consistent =
-      (λ a. map_each (λ q. q.0 ≢ q.1) (λ q. (f q.0, f q.1)) (all_differ facts) (subst AreApartLabels combined_pairs_are a), λ a. subst AreApartLabels (sym combined_pairs_are) (each_map (λ q. q.0 ≢ q.1) (λ q. (f q.0, f q.1)) (all_differ facts) a))
+      (λ a. map_each (λ q. q.0 ≢ q.1) (λ q. (f q.0, f q.1)) (all_differ facts) (subst AreApartLabels combined_pairs_are a), λ a. subst AreApartLabels (sym combined_pairs_are) (each_mapped (λ q. q.0 ≢ q.1) (λ q. (f q.0, f q.1)) (all_differ facts) a))
 
   -- and what it tells of some numbers is what the facts say of the terms there
   pub combined_is : (k : ℕ) (is : List ℕ) → AreBelow (length kept) is → length (map at is) ≡ suc k → combined (map term_number kept) b places c is ≡ said k (term_at (map at is)) facts

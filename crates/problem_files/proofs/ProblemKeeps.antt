@@ -23,7 +23,6 @@ use Rattle.pred_defs.specs.declared.faults.DefFault.{DefFault}
 use Rattle.pred_defs.specs.Faults.{case_fault, definition_fault, first_fault, or_later as then_fault}
 use Rattle.rule_table.specs.Tests.{is_universal_pure, is_universal_spatial}
 use Rattle.rule_table.proofs.Reflects.{both, universal_pure_is, universal_spatial_is}
-use Rattle.rule_table.proofs.Rewrites.{Each-get}
 use Rattle.format_limits.specs.Limits.{IsHeapWithin, IsJudgementWithin, IsCaseWithin, IsDefinitionWithin}
 use Rattle.format_limits.proofs.Heaps.{IsLow}
 use Rattle.cyc_lex.specs.declared.fault.What.TheVariants.{Cases, Disjuncts, Locals, Variable}
@@ -66,6 +65,7 @@ use Rattle.problem_files.proofs.ProblemHeaps.{many_parts, behind_parts, heap_kee
 use Rattle.problem_files.proofs.ProblemNames.{own_names}
 use Rattle.problem_files.proofs.ProblemLines.{lines_known}
 use Rattle.problem_files.proofs.Kept.{IsKept, kept_prop}
+use Rattle.member_facts.proofs.AllMembers.{each_at}
 
 -- ---- lists
 
@@ -278,7 +278,7 @@ text_keeps names fits right =
       program = faultless_is_program (map (line_value variable_value) tree.lines) small.program (lines_universal variable_value tree.lines);
       commands = lines_known names.version (numbers.program_variables names.lines) names.lines fits.1.1.1.0;
       judgement = goal_within limit hs ds (numbers.universals names) (length tree.lines) goal_at names.goal fits.1.1.1.1 b.1 small.goal (is_known tree text right) (has_universal_antecedent tree text right) (length (program_value tree.lines)) (has_its_line tree text right);
-      free = λ q d at_q. Each-get (λ (v : DefinitionValue). is_free_name reserved v.name ≡ true) ds q d at_q (definitions_free limit (most_fits names.version) hs names.definitions each_fits);
+      free = λ q d at_q. each_at (λ (v : DefinitionValue). is_free_name reserved v.name ≡ true) ds q d at_q (definitions_free limit (most_fits names.version) hs names.definitions each_fits);
       own = own_names limit tree.definitions hs a.0;
     }
 

@@ -23,13 +23,13 @@ use Rattle.proof_graph.specs.Traces.{positions_of}
 use Rattle.proof_graph.proofs.Joined.{mapped_at}
 use Rattle.proof_file.specs.declared.node.FileNode.{FileNode}
 use Rattle.proof_file.specs.declared.file.ProofFile.{ProofFile}
-use Rattle.node_reasons.proofs.RightGraphs.{each_at}
 use Rattle.proof_check.specs.Files.{graph_edge, graph_node, HoldsAtNode, node_of, nodes_of}
 use Rattle.proof_check.specs.Laws.{graph_length}
 use Rattle.proof_check.specs.Tested.{rows_of, first_rows, HasFields, IsTested, EndsBy, is_untested}
 use Rattle.proof_check.specs.Verdicts.{file_graph, state_limit, HasRightNodes, IsRightBefore, IsLeastFault, IsVerdict}
 use Rattle.proof_check.specs.declared.verdict.Verdict.TheVariants as verdicts
 use Rattle.proof_check.proofs.TestLoops.{at_index, node_at}
+use Rattle.member_facts.proofs.AllMembers.{each_at}
 
 pub has_fields : (f : ProofFile) → IsProgram f.program → HasFields f.program
 has_fields f program i x k is = each_at IsCommand f.program i (New x k) is (program_commands f.program program)

@@ -23,10 +23,11 @@ use Rattle.proof_graph.proofs.Joined.{mapped_at}
 use Rattle.proof_file.specs.Readable.{is_universal_heap, is_universal_reason, is_readable, are_readable, is_universal_command, has_few_cases, all_have_few_cases}
 use Rattle.proof_file.specs.declared.node.FileNode.{FileNode}
 use Rattle.proof_file.specs.declared.file.ProofFile.{ProofFile}
-use Rattle.node_reasons.proofs.RightGraphs.{each_at, graph_right, graph_local}
+use Rattle.node_reasons.proofs.RightGraphs.{graph_right, graph_local}
 use Rattle.proof_check.specs.Files.{AreReadable, HasFewCases, HoldsAtNode, graph_node, node_of, nodes_of}
 use Rattle.proof_check.specs.Tested.{IsTested, HasFields, is_untested}
 use Rattle.proof_check.specs.Verdicts.{file_graph}
+use Rattle.member_facts.proofs.AllMembers.{each_at}
 
 -- each member passes a test that all pass
 each_passes : {X : Type 0} (p : X → Bool) (Q : X → Type 0) → ((x : X) → p x ≡ true → Q x) → (xs : List X) → list_all p xs ≡ true → Each Q xs

@@ -20,7 +20,6 @@ use Rattle.proof_file.specs.declared.node.FileNode.{FileNode}
 use Rattle.proof_check.specs.Files.{graph_of, AreRight, nodes_of, node_of, HasSmallHeaps}
 use Rattle.proof_check.specs.Verdicts.{IsCorrect}
 use Rattle.proof_graph.proofs.Joined.{mapped_at}
-use Rattle.node_reasons.proofs.RightGraphs.{each_at}
 use Rattle.proof_check.proofs.KeptFacts.{root_holds}
 use Rattle.rule_table.specs.Nodes.{Node}
 use Rattle.heap_syntax.specs.declared.version.Version.{Version}
@@ -41,6 +40,7 @@ use Rattle.derivation_moves.specs.declared.derivation.Derivation.{Derivation}
 use Rattle.derivation_moves.specs.Derivations.{theory_in, nodes_in, goals_in, reasons_in, tableau_in, about, IsInOrder, IsItsSearch}
 use Rattle.proof_search.specs.Outcomes.{search_for, reasons_of, IsProofFor}
 use Rattle.proof_search.proofs.FileNodes.{reasons_made, some_is}
+use Rattle.member_facts.proofs.AllMembers.{each_at}
 
 -- the limit of each version
 some_atoms : (version : Version) → 0 < most_spatial version

@@ -30,7 +30,6 @@ use Rattle.heap_formula.specs.Substitution.{in_heap, apply_term, apply_spatial, 
 use Rattle.rule_table.specs.RuleUnfold.{unfold_premise, unfolded}
 use Rattle.rule_table.specs.RuleCut.{cut_left, cut_right}
 use Rattle.rule_table.specs.RuleLink.{MapsInto, IsMatch}
-use Rattle.rule_table.proofs.Appends.{Each-append}
 use Rattle.rule_table.specs.Answer.{finds, limited, one, two}
 use Rattle.rule_table.specs.Tests.{same_term, same_spatial, is_universal_pure, is_universal_spatial, follows, is_absurd, address_of, has_number, ascend_from}
 use Rattle.heap_formula.specs.Fresh.{heap_exists}
@@ -42,6 +41,7 @@ use Rattle.rule_table.specs.Fits.{IsPredAt, PairsFit, PremiseFits, OnPremises}
 use Rattle.rule_table.proofs.Fits.{needs_on, finds_on, limited_on, entails_on, single_on, runs_on, get_front, get_back, get_mapped, get_written, pairs_fit_0, same_fit, kept_fit, chosen_fit, children_fit}
 use Rattle.rule_table.proofs.Commands.{found_is}
 use Rattle.rule_table.proofs.LinkRule.{parts_are, none_of_two}
+use Rattle.member_facts.proofs.AllMembers.{each_append}
 
 pred_front : (xs ys : List Spatial) (i : ℕ) → IsPredAt xs i → IsPredAt (xs ++ ys) i
 pred_front xs ys i p = (p.0, p.1, get_front xs ys i (Pred p.0 p.1) p.2)
@@ -85,7 +85,7 @@ unfold_one_fits j k q ts n case at =
     let a = antecedent j in
     let kept = without k a.spatial in
     let body = (case_body ts n case).spatial in
-    fits_with j (unfolded a k (case_body ts n case)) (kept_pairs k a.spatial ++ child_pairs k (length kept) body) (Each-append _ (kept_pairs k a.spatial) (child_pairs k (length kept) body) (kept_fit k a.spatial (kept ++ body) (λ i p. pred_front kept body i p)) (children_fit k (length kept) body a.spatial (kept ++ body) (q, ts, at) (λ i p. pred_back kept body i p)))
+    fits_with j (unfolded a k (case_body ts n case)) (kept_pairs k a.spatial ++ child_pairs k (length kept) body) (each_append _ (kept_pairs k a.spatial) (child_pairs k (length kept) body) (kept_fit k a.spatial (kept ++ body) (λ i p. pred_front kept body i p)) (children_fit k (length kept) body a.spatial (kept ++ body) (q, ts, at) (λ i p. pred_back kept body i p)))
 
 unfold_cases_fit : (j : Judgement) (k q : ℕ) (ts : List Term) (n : ℕ) (cases : List SymbolicHeap) → slice_get (antecedent j).spatial k ≡ Some (Pred q ts) → Each (PremiseFits j) (map (unfold_premise j k ts n) cases)
 unfold_cases_fit j k q ts n [] at = tt

@@ -33,8 +33,6 @@ use Rattle.heap_formula.proofs.Unions.{same_cells, union_comm}
 use Rattle.rule_table.proofs.Substitutes.{holds_same, back_along}
 use Rattle.rule_table.proofs.Agreement.{IsBelow, heap_below, first_at}
 use Rattle.rule_table.proofs.Frames.{take_out, pairs_follow}
-use Rattle.rule_table.proofs.Rewrites.{Each-get}
-use Rattle.rule_table.proofs.Appends.{Each-append}
 use Rattle.rule_table.proofs.Links.{equated_value}
 use Rattle.rule_table.proofs.Runs.{one_way, two_ways}
 use Rattle.rule_table.proofs.ExecNew.{after_new, after_at_x, renamed as renamed_is, first_set, joins_put, same_address, exec_new_sound}
@@ -46,6 +44,7 @@ use Rattle.rule_table.specs.Soundness.{IsSound, IsCommand}
 use Rattle.rule_table.proofs.Steps.{finds_sound, limited_sound}
 use Rattle.rule_table.proofs.Reflects.{equated_is}
 use Rattle.rule_table.proofs.CellsIn.{HasCell, cell_there, left_has, is_cell_has}
+use Rattle.member_facts.proofs.AllMembers.{each_append, each_at}
 
 -- ---- the command at a line
 
@@ -60,7 +59,7 @@ bound_of_command lines (suc i) c at = among lines i c at
 
 pub command_is : (lines : List Command) (i : ℕ) (c : Command) → Each IsCommand lines → counted_from_one lines i ≡ Some c → IsCommand c
 command_is lines zero c all at = cc
-command_is lines (suc i) c all at = Each-get IsCommand lines i c at all
+command_is lines (suc i) c all at = each_at IsCommand lines i c at all
 
 -- a command's term has the value that it has in the formula
 start_value : (p : ℕ) (s e : Stack) (t : Term) → IsUniversal t → term_bound t ≤ p → value (first_values p s) [] t ≡ value s e t
@@ -107,7 +106,7 @@ counted_map f (y ∷ xs) (suc (suc k)) x e = counted_map f xs (suc k) x e
 
 pub counted_get : {X : Type 0} (P : X → Type 0) (xs : List X) (k : ℕ) (x : X) → counted_from_one xs k ≡ Some x → Each P xs → P x
 counted_get P xs zero x e a = cc
-counted_get P xs (suc k) x e a = Each-get P xs k x e a
+counted_get P xs (suc k) x e a = each_at P xs k x e a
 
 -- ---- heaps after a write and after a release
 
@@ -204,7 +203,7 @@ module _ (ds : List Definition) (lines : List Command) (i : ℕ) (a : SymbolicHe
   -- a premise that keeps the spatial atoms and adds a pure one
   go_on : (j : ℕ) (x : Pure) → PremiseHolds ds lines stages (at_line j a (with_atom a x)) → PureHolds s e x → (n : ℕ) × Halts lines w n (start_at lines j s h)
   go_on j x premise holds =
-      premise stages (pairs_follow (λ k. k) stages 0 a.spatial) s part (e, (Each-append (PureHolds s e) a.pure (x ∷ []) o.1.0 (holds, tt), o.1.1)) w pos h is
+      premise stages (pairs_follow (λ k. k) stages 0 a.spatial) s part (e, (each_append (PureHolds s e) a.pure (x ∷ []) o.1.0 (holds, tt), o.1.1)) w pos h is
 
   -- x is set to the value of f
   set_on : (x n : ℕ) (f : Term) → x < n → p ≤ n → heap_bound a ≤ n → IsBelow n f → PremiseHolds ds lines stages (at_line (i + 1) a (with_atom (renamed x n a) (Eq (Univ x) (renamed_term x n f)))) → (m : ℕ) × Halts lines w m (next_line here (slice_set here.stack x (value s e f)) h)
@@ -215,7 +214,7 @@ module _ (ds : List Definition) (lines : List Command) (i : ℕ) (a : SymbolicHe
       back_along (holds_same (IsBelow n) (apply_term ((x, Univ n) ∷ [])) s' e s e (renamed_is n x s e v []) (λ m. at_stage ds (stages m)) a (heap_below n a a_below) part) o.1 in
       let equal : PureHolds s' e (Eq (Univ x) (renamed_term x n f)) = after_at_x n x s v [] x_below ∙ sym (renamed_is n x s e v [] f f_below) in
       let b = renamed x n a in
-      let r = premise stages (pairs_follow (λ k. k) stages 0 a.spatial) s' part (e, (Each-append (PureHolds s' e) b.pure (Eq (Univ x) (renamed_term x n f) ∷ []) holds.0 (equal, tt), holds.1)) w pos h is in
+      let r = premise stages (pairs_follow (λ k. k) stages 0 a.spatial) s' part (e, (each_append (PureHolds s' e) b.pure (Eq (Univ x) (renamed_term x n f) ∷ []) holds.0 (equal, tt), holds.1)) w pos h is in
       (r.0, subst (λ st. Halts lines w r.0 (record { line = i + 1; stack = st; heap = h })) (first_set p n x v s (slice_index s x ∷ []) p_below) r.1)
 
   test_value : (t u : Term) → IsUniversal t → IsUniversal u → term_bound t ≤ p → term_bound u ≤ p → (b : Bool) → nat_eq (value_in here t) (value_in here u) ≡ b → (cond b (value s e t ≡ value s e u) (value s e t ≢ value s e u))
@@ -238,7 +237,7 @@ module _ (ds : List Definition) (lines : List Command) (i : ℕ) (a : SymbolicHe
 
   fields_below : (n : ℕ) (t : Term) (c : Found) → heap_bound a ≤ n → cell_of a.pure t a.spatial ≡ Some c → Each (IsBelow n) c.fields
   fields_below n t c a_below found =
-      (Each-get (InSpatial (IsBelow n)) a.spatial c.place (Cell c.address c.fields) (found_is a.pure t a.spatial c found).at (heap_below n a a_below).1).1
+      (each_at (InSpatial (IsBelow n)) a.spatial c.place (Cell c.address c.fields) (found_is a.pure t a.spatial c found).at (heap_below n a a_below).1).1
 
   field_here : (o : Option (List ℕ)) (vs : List ℕ) (k v : ℕ) → o ≡ Some vs → counted_from_one vs k ≡ Some v → field_of o k ≡ Some v
   field_here None vs k v q f = cc

@@ -22,7 +22,6 @@ use Rattle.heap_formula.specs.Judgements.{IsLocallySound}
 use Rattle.heap_formula.specs.Closedness.{IsUniversal}
 use Rattle.heap_formula.specs.Substitution.{Bindings, image, apply_pure, apply_spatial, apply_heap}
 use Rattle.rule_table.specs.RuleLink.{minus, count_of, SameAtoms, Covers, DisjunctsCover, MapsInto, FollowsFrom, IsMatch}
-use Rattle.rule_table.proofs.Rewrites.{Each-get}
 use Rattle.rule_table.proofs.Multisets.{stands}
 use Rattle.rule_table.proofs.LinkRuns.{link_runs_sound}
 use Rattle.rule_table.proofs.LinkEntails.{link_entails_sound}
@@ -31,6 +30,7 @@ use Rattle.rule_table.specs.Tests.{same_term, follows, has_number}
 use Rattle.rule_table.specs.LinkTable.{first_of, fault_unless, keeps_below, pure_fault, matches_some, spatial_fault, counts_agree, same_atoms, all_follow, covers_some, disjunct_fault, parts_fault, link_fault, link_premise}
 use Rattle.rule_table.specs.Soundness.{HasVariables, AreUniversal}
 use Rattle.rule_table.proofs.Reflects.{both, same_term_is, follows_is, matches_is}
+use Rattle.member_facts.proofs.AllMembers.{each_at}
 
 pub none_of_two : (f g : Option RuleFault) → first_of f g ≡ None → (f ≡ None) × (g ≡ None)
 none_of_two None g e = (refl, e)
@@ -119,9 +119,9 @@ counts_are xs ys (z ∷ zs) e =
 atoms_are : (xs ys : List Spatial) → same_atoms xs ys ≡ true → SameAtoms xs ys
 atoms_are xs ys e x =
     elim (cases_lt 0 (count_of x xs)) [
-      | inl some ↦ let at = stands x xs some in Each-get (λ z. count_of z xs ≡ count_of z ys) xs at.place x at.at (counts_are xs ys xs b.0)
+      | inl some ↦ let at = stands x xs some in each_at (λ z. count_of z xs ≡ count_of z ys) xs at.place x at.at (counts_are xs ys xs b.0)
       | inr none ↦ elim (cases_lt 0 (count_of x ys)) [
-        | inl some ↦ let at = stands x ys some in Each-get (λ z. count_of z xs ≡ count_of z ys) ys at.place x at.at (counts_are xs ys ys b.1)
+        | inl some ↦ let at = stands x ys some in each_at (λ z. count_of z xs ≡ count_of z ys) ys at.place x at.at (counts_are xs ys ys b.1)
         | inr none' ↦ omega arith
       ]
     ]

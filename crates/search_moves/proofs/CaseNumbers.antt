@@ -25,6 +25,7 @@ use Rattle.rule_table.specs.Table.{calls, right_term, with_right, unfolded_right
 use Rattle.rule_table.proofs.Reflects.{both, and_true}
 use Rattle.search_moves.specs.Trying.{has_premises}
 use Rattle.search_moves.specs.Rooms.{has_room_for}
+use Rattle.member_facts.proofs.Greatest.{greatest_le}
 
 pub most_append : {X : Type 0} (f : X → ℕ) (n : ℕ) (xs ys : List X) → max_of (map f xs) ≤ n → max_of (map f ys) ≤ n → max_of (map f (xs ++ ys)) ≤ n
 most_append f n [] ys a b = b
@@ -34,10 +35,6 @@ pub most_without : {X : Type 0} (f : X → ℕ) (n k : ℕ) (xs : List X) → ma
 most_without f n k [] a = a
 most_without f n zero (x ∷ xs) a = omega arith
 most_without f n (suc k) (x ∷ xs) a = let r = most_without f n k xs (omega arith) in omega arith
-
-pub most_less : {X : Type 0} (f g : X → ℕ) → ((x : X) → f x ≤ g x) → (xs : List X) → max_of (map f xs) ≤ max_of (map g xs)
-most_less f g h [] = omega arith
-most_less f g h (x ∷ xs) = let a = h x in let r = most_less f g h xs in omega arith
 
 pub length_without : {X : Type 0} (k : ℕ) (xs : List X) (x : X) → slice_get xs k ≡ Some x → length (without k xs) + 1 ≡ length xs
 length_without k [] x e = cc
@@ -56,13 +53,13 @@ pure_less (Eq t u) = let a = term_exists t in let b = term_exists u in omega ari
 pure_less (Neq t u) = let a = term_exists t in let b = term_exists u in omega arith
 
 spatial_less : (x : Spatial) → most_in_spatial exist_bound x ≤ most_in_spatial number_bound x
-spatial_less (Cell t ts) = let a = term_exists t in let b = most_less exist_bound number_bound term_exists ts in omega arith
-spatial_less (Pred p ts) = most_less exist_bound number_bound term_exists ts
+spatial_less (Cell t ts) = let a = term_exists t in let b = greatest_le exist_bound number_bound term_exists ts in omega arith
+spatial_less (Pred p ts) = greatest_le exist_bound number_bound term_exists ts
 
 exists_less : (b : SymbolicHeap) → heap_exists b ≤ heap_numbers b
 exists_less b =
-    let p = most_less (most_in_pure exist_bound) (most_in_pure number_bound) pure_less b.pure in
-    let s = most_less (most_in_spatial exist_bound) (most_in_spatial number_bound) spatial_less b.spatial in
+    let p = greatest_le (most_in_pure exist_bound) (most_in_pure number_bound) pure_less b.pure in
+    let s = greatest_le (most_in_spatial exist_bound) (most_in_spatial number_bound) spatial_less b.spatial in
     omega arith
 
 -- ---- the terms of a case

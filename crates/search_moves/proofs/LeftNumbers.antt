@@ -25,7 +25,8 @@ use Rattle.rule_table.specs.Table.{calls, unfold_answer}
 use Rattle.rule_table.proofs.Reflects.{both, and_true}
 use Rattle.search_moves.specs.Trying.{has_premises}
 use Rattle.search_moves.specs.Rooms.{judgement_numbers, has_room_from, has_room_left}
-use Rattle.search_moves.proofs.CaseNumbers.{most_append, most_without, most_less, length_without, argument_number, pures_in, spatials_in, arguments_within, answered}
+use Rattle.search_moves.proofs.CaseNumbers.{most_append, most_without, length_without, argument_number, pures_in, spatials_in, arguments_within, answered}
+use Rattle.member_facts.proofs.Greatest.{greatest_le}
 
 -- ---- a universal's number is one of the judgement's
 
@@ -39,17 +40,17 @@ pure_below (Eq t u) = let a = term_bound t in let b = term_bound u in omega arit
 pure_below (Neq t u) = let a = term_bound t in let b = term_bound u in omega arith
 
 spatial_below : (x : Spatial) → most_in_spatial univ_bound x ≤ most_in_spatial number_bound x
-spatial_below (Cell t ts) = let a = term_bound t in let b = most_less univ_bound number_bound term_bound ts in omega arith
-spatial_below (Pred p ts) = most_less univ_bound number_bound term_bound ts
+spatial_below (Cell t ts) = let a = term_bound t in let b = greatest_le univ_bound number_bound term_bound ts in omega arith
+spatial_below (Pred p ts) = greatest_le univ_bound number_bound term_bound ts
 
 heap_below : (a : SymbolicHeap) → heap_bound a ≤ heap_numbers a
 heap_below a =
-    let p = most_less (most_in_pure univ_bound) (most_in_pure number_bound) pure_below a.pure in
-    let s = most_less (most_in_spatial univ_bound) (most_in_spatial number_bound) spatial_below a.spatial in
+    let p = greatest_le (most_in_pure univ_bound) (most_in_pure number_bound) pure_below a.pure in
+    let s = greatest_le (most_in_spatial univ_bound) (most_in_spatial number_bound) spatial_below a.spatial in
     omega arith
 
 judgement_below : (j : Judgement) → judgement_bound j ≤ judgement_numbers j
-judgement_below (Entail a bs) = let h = heap_below a in let r = most_less heap_bound heap_numbers heap_below bs in omega arith
+judgement_below (Entail a bs) = let h = heap_below a in let r = greatest_le heap_bound heap_numbers heap_below bs in omega arith
 judgement_below (Runs i a) = let h = heap_below a in omega arith
 
 antecedent_below : (j : Judgement) → heap_numbers (antecedent j) ≤ judgement_numbers j

@@ -4,7 +4,6 @@ use Rattle.std.specs.declared.alloc.Global.{Global}
 use Rattle.std.proofs.lemmas.List.{map-append}
 use Rattle.heap_formula.specs.Words.{Each}
 use Rattle.fo_formula.specs.declared.nodes.FoNode.{FoNode}
-use Rattle.fo_formula.proofs.Lists.{each_map, each_at}
 use Rattle.fo_table.specs.Nodes.{Edge, node_fault, edges_of}
 use Rattle.fo_nodes.specs.declared.node_tests.NodeAnswer.{NodeAnswer}
 use Rattle.fo_nodes.specs.Answers.{IsNodeAnswer}
@@ -13,6 +12,7 @@ use Rattle.fo_logic.specs.Tested.{rows_of, first_rows}
 use Rattle.fo_logic.specs.Verdicts.{IsRightBefore}
 use Rattle.fo_logic.proofs.TestLoops.{at_index, take_more, one_more}
 use Rattle.fo_logic.proofs.tested.test_proof.Goals as goal
+use Rattle.member_facts.proofs.AllMembers.{each_imply, each_at}
 
 pub test_node-requires : goal.test_node-requires
 test_node-requires c =
@@ -23,7 +23,7 @@ test_node-requires c =
     let same : c.as_slice-nodes.result.now ≡ f.nodes = c.as_slice-nodes.ensures in
     let within = subst (λ (ns : List FoNode). v < length ns) same c.loop-v-test.true in
     let at = at_index f.nodes v n n within (sym (c.index-nodes-v.is ∙ ap (λ (ns : List FoNode). get_or ns v n) same)) in
-    let all = each_map (IsReadNode cs) (λ (m : FoNode). IsSmallSequent m.sequent) (λ m r. r.small) f.nodes c.requires.nodes in
+    let all = each_imply (IsReadNode cs) (λ (m : FoNode). IsSmallSequent m.sequent) (λ m r. r.small) f.nodes c.requires.nodes in
     record {
       definitions = c.requires.definitions;
       small = each_at (λ (m : FoNode). IsSmallSequent m.sequent) f.nodes v n at all;
