@@ -4,7 +4,7 @@ use Rattle.std.specs.Prelude.{slice_get, nat_eq, count_by, if◌then◌else◌}
 use Rattle.std.specs.List.{list_any, list_all}
 use Rattle.std.proofs.lemmas.List.{length-map}
 use Rattle.std.proofs.lemmas.List.Sums.{sum_by-cons}
-use Rattle.std.proofs.lemmas.Bool.{le-leb}
+use Rattle.std.proofs.lemmas.Bool.{le-leb, and_from as both_true}
 use Rattle.std.proofs.lemmas.Bool.Decides.{Decides-eqb}
 use Rattle.heap_formula.specs.declared.atoms.Pure.{Pure}
 use Rattle.heap_formula.specs.declared.atoms.Spatial.{Spatial}
@@ -17,7 +17,6 @@ use Rattle.heap_formula.proofs.Equal.{spatial_eq-Decides}
 use Rattle.rule_table.specs.RuleLink.{EachPair, IsMatch, minus, MapsInto, count_of, SameAtoms, DisjunctsCover}
 use Rattle.rule_table.proofs.Links.{length_left}
 use Rattle.rule_table.proofs.Multisets.{stands}
-use Rattle.rule_table.proofs.Reflects.{and_true as both_true}
 use Rattle.back_links.specs.Shapes.{same_shape, has_as_many, has_shapes, same_shapes, some_has_shapes}
 
 count-cons : {X : Type 0} (p : X → Bool) (x : X) (xs : List X) → count_by p (x ∷ xs) ≡ cond (p x) 1 0 + count_by p xs

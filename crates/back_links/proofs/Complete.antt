@@ -18,11 +18,11 @@ use Rattle.heap_formula.specs.Substitution.{Bindings, apply_spatial, apply_heap}
 use Rattle.rule_table.specs.Answer.{disjuncts}
 use Rattle.rule_table.specs.Tests.{has_number}
 use Rattle.rule_table.specs.LinkTable.{matches_some, spatial_fault, covers_some, disjunct_fault, link_fault}
-use Rattle.rule_table.proofs.Reflects.{both}
 use Rattle.back_links.specs.Listing.{selections, number_choices, value_choices, values_of, universals, IsMade, maps, substitutions, covers, link_of, candidates, links}
 use Rattle.back_links.proofs.Selecting.{IsSelection, stands_in_range}
 use Rattle.back_links.proofs.Possible.{fits, cond_none}
 use Rattle.member_facts.proofs.SomeMember.{one_front}
+use Rattle.std.proofs.lemmas.Bool.{and_parts}
 
 -- ---- members of lists
 
@@ -64,7 +64,7 @@ places_selected pures atoms all seen k (m ∷ ms) s [] e = cc
 places_selected pures atoms all seen k [] s (x ∷ xs) e = cc
 places_selected pures atoms all seen k (m ∷ ms) s (x ∷ xs) e =
     let c = cond_none (not (has_number seen m) && matches_some pures (apply_spatial s x) (slice_get atoms m)) (spatial_fault pures atoms all (seen ++ m ∷ []) (suc k) ms (map (apply_spatial s) xs)) (LinkSpatial k) e in
-    let b = both (not (has_number seen m)) (matches_some pures (apply_spatial s x) (slice_get atoms m)) c.0 in
+    let b = and_parts (not (has_number seen m)) (matches_some pures (apply_spatial s x) (slice_get atoms m)) c.0 in
     (stands_in_range 0 (length atoms) m (omega arith) (within (slice_get atoms m) refl b.1), places_selected pures atoms all (seen ++ m ∷ []) (suc k) ms s xs c.1)
   where
     within : (o : Option Spatial) → slice_get atoms m ≡ o → matches_some pures (apply_spatial s x) o ≡ true → m < 0 + length atoms

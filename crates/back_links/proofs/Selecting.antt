@@ -4,7 +4,7 @@ use Rattle.std.proofs.lemmas.List.{append-nil, take_all, drop_all, length-append
 use Rattle.std.proofs.lemmas.List.Concat.{flat_map-append}
 use Rattle.std.proofs.lemmas.List.Folds.{flat_map-map}
 use Rattle.std.proofs.lemmas.List.Elements.{filter-append}
-use Rattle.std.proofs.lemmas.Bool.{cases_lt}
+use Rattle.std.proofs.lemmas.Bool.{cases_lt, and_from, or_left, or_right}
 use Rattle.std.specs.List.{filter, flat_map, range_with_len, list_any, list_all}
 use Rattle.heap_formula.specs.Words.{Each, OneOf}
 use Rattle.back_links.specs.Listing.{selections}
@@ -50,24 +50,12 @@ each_selection {X} P (choices ∷ rest) h =
 
 pub every_true : {X : Type 0} (test : X → Bool) (xs : List X) → ((x : X) → OneOf (λ y. y ≡ x) xs → test x ≡ true) → list_all test xs ≡ true
 every_true test [] h = refl
-every_true test (x ∷ xs) h = both_hold (test x) (list_all test xs) (h x (inl refl)) (every_true test xs (λ y o. h y (inr o)))
-  where
-    both_hold : (a b : Bool) → a ≡ true → b ≡ true → a && b ≡ true
-    both_hold true b p q = q
-    both_hold false b p q = p
+every_true test (x ∷ xs) h = and_from (test x) (list_all test xs) (h x (inl refl)) (every_true test xs (λ y o. h y (inr o)))
 
 pub any_true : {X : Type 0} (test : X → Bool) (x : X) (xs : List X) → OneOf (λ y. y ≡ x) xs → test x ≡ true → list_any test xs ≡ true
 any_true test x [] o t = absurd o
-any_true test x (y ∷ ys) (inl e) t = left (test y) (list_any test ys) (ap test e ∙ t)
-  where
-    left : (a b : Bool) → a ≡ true → a || b ≡ true
-    left true b p = refl
-    left false b p = cc
-any_true test x (y ∷ ys) (inr o) t = right (test y) (list_any test ys) (any_true test x ys o t)
-  where
-    right : (a b : Bool) → b ≡ true → a || b ≡ true
-    right true b p = refl
-    right false b p = p
+any_true test x (y ∷ ys) (inl e) t = or_left (test y) (list_any test ys) (ap test e ∙ t)
+any_true test x (y ∷ ys) (inr o) t = or_right (test y) (list_any test ys) (any_true test x ys o t)
 
 pub stands_in_range : (a n m : ℕ) → a ≤ m → m < a + n → OneOf (λ k. k ≡ m) (range_with_len a n)
 stands_in_range a zero m low high = absurd (omega arith)
@@ -197,10 +185,6 @@ none_taken {X} n xs e = ap (take n) e ∙ none n
     none : (n : ℕ) → take {A = X} n [] ≡ []
     none zero = refl
     none (suc n) = refl
-
-pub emptied : {X : Type 0} (xs : List X) → length xs ≡ 0 → xs ≡ []
-emptied [] e = refl
-emptied (x ∷ xs) e = absurd (omega arith)
 
 pub tail_is : {X : Type 0} (xs : List X) → take (length xs - 1) (drop 1 xs) ≡ drop 1 xs
 tail_is xs = take_all (length xs - 1) (drop 1 xs) (let l = length-drop 1 xs in omega (arith, l))

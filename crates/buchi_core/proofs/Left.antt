@@ -12,6 +12,7 @@ use Rattle.buchi_core.specs.View.{is_one, members, entry_of, entries_of}
 use Rattle.buchi_core.specs.Young.{AreLeft, left_of, made}
 use Rattle.buchi_core.proofs.Lists.{get_within, get_append_left, get_append_right}
 use Rattle.buchi_core.proofs.Bits.{has_members, has_members_not, members_filter, one_and, one_not, one_zero, one_all}
+use Rattle.std.proofs.lemmas.Option.{slice_get_past}
 
 -- ---- tests
 and_true : (a : Bool) → a ≡ (a && true)
@@ -29,12 +30,6 @@ neither false s = refl
 inside_neither : (h a s : Bool) → ((h && not a) && not s) ≡ (h && not (a || s))
 inside_neither true a s = neither a s
 inside_neither false a s = refl
-
--- ---- places past the end
-get_past : {X : Type 0} (xs : List X) (i : ℕ) → length xs ≤ i → slice_get xs i ≡ None
-get_past [] i l = refl
-get_past (x ∷ xs) zero l = absurd (omega arith)
-get_past (x ∷ xs) (suc i) l = get_past xs i (omega arith)
 
 or_past : (xs : List ℕ) (i : ℕ) → length xs ≤ i → get_or xs i 0 ≡ 0
 or_past [] i l = refl
@@ -101,7 +96,7 @@ give_far old r k w (Some p) q l =
 -- ---- one entry more
 module _ (made_so_far : List AgeEntry) (parent : Option ℕ) (given kept : ℕ) (keeps : (q : ℕ) → q < 32 → is_one kept q ≡ (is_one given q && stays made_so_far parent q)) where
   stays_past : (p q : ℕ) → length made_so_far ≤ p → stays made_so_far (Some p) q ≡ false
-  stays_past p q l = ap (λ (o : Option AgeEntry). entry_has o q && not (list_any (λ e. same_parent e.parent (Some p) && has e.set q) made_so_far)) (get_past made_so_far p l)
+  stays_past p q l = ap (λ (o : Option AgeEntry). entry_has o q && not (list_any (λ e. same_parent e.parent (Some p) && has e.set q) made_so_far)) (slice_get_past made_so_far p l)
 
   no_self : (o : Option ℕ) → parent ≡ o → (p q : ℕ) → length made_so_far ≤ p → q < 32 → (same_parent o (Some p) && is_one kept q) ≡ false
   no_self None e p q l k = refl
@@ -158,7 +153,7 @@ module _ (made_so_far : List AgeEntry) (parent : Option ℕ) (given kept : ℕ) 
   pub past_more : (p q : ℕ) → length made_so_far < p → (stays made_so_far (Some p) q && not (same_parent parent (Some p) && is_one kept q)) ≡ stays (made_so_far ++ (record { parent = parent; set = members kept } ∷ [])) (Some p) q
   past_more p q k =
       let gone : slice_get (made_so_far ++ (record { parent = parent; set = members kept } ∷ [])) p ≡ None =
-      get_past (made_so_far ++ (record { parent = parent; set = members kept } ∷ [])) p (omega (arith, k, length-append made_so_far (record { parent = parent; set = members kept } ∷ []))) in
+      slice_get_past (made_so_far ++ (record { parent = parent; set = members kept } ∷ [])) p (omega (arith, k, length-append made_so_far (record { parent = parent; set = members kept } ∷ []))) in
       and_left (stays made_so_far (Some p) q) (not (same_parent parent (Some p) && is_one kept q)) (stays_past p q (omega (arith, k))) ∙
       sym (ap (λ (o : Option AgeEntry). entry_has o q && not (list_any (λ (e : AgeEntry). same_parent e.parent (Some p) && has e.set q) (made_so_far ++ (record { parent = parent; set = members kept } ∷ [])))) gone)
 

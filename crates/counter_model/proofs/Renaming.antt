@@ -19,6 +19,8 @@ use Rattle.heap_formula.specs.Meaning.{Family, PureHolds, IsCell, AtomHolds, Spa
 use Rattle.heap_formula.proofs.Unions.{same_cells}
 use Rattle.heap_formula.proofs.StepLaws.{is_eq-Equal}
 use Rattle.heap_formula.proofs.StageLaws.{OneOf-map}
+use Rattle.list_facts.proofs.Tests.{bool_same}
+use Rattle.heap_formula.proofs.Insertions.{same_address}
 
 abbrev pub over : {X Y : Type 0} → (X → Y) → Option X → Option Y
 over f None = None
@@ -28,16 +30,8 @@ over_cond : {X Y : Type 0} (f : X → Y) (b : Bool) (x y : Option X) → over f 
 over_cond f true x y = refl
 over_cond f false x y = refl
 
-same_address : (q a : ℕ) → eq_by_cmp nat_cmp q a ≡ true → q ≡ a
-same_address q a t = nat_cmp-IsAntisymmetric q a (is_eq-Equal (nat_cmp q a) t)
-
 address_same : (q a : ℕ) → q ≡ a → eq_by_cmp nat_cmp q a ≡ true
 address_same q a e = subst (λ x. eq_by_cmp nat_cmp q x ≡ true) e ((eq_by_cmp_equiv nat_cmp_total).refl q)
-
-both_ways : (b c : Bool) → (b ≡ true → c ≡ true) → (c ≡ true → b ≡ true) → b ≡ c
-both_ways true c f g = sym (f refl)
-both_ways false true f g = g refl
-both_ways false false f g = refl
 
 -- swap undoes itself and leaves 0 where it is
 module _ (swap : ℕ → ℕ) (twice : (x : ℕ) → swap (swap x) ≡ x) (at_zero : swap 0 ≡ 0) where
@@ -45,7 +39,7 @@ module _ (swap : ℕ → ℕ) (twice : (x : ℕ) → swap (swap x) ≡ x) (at_ze
   renamed h = from_entries (map (λ e. (swap e.0, map swap e.1)) (entries h))
 
   swapped_eq : (q k : ℕ) → eq_by_cmp nat_cmp q (swap k) ≡ eq_by_cmp nat_cmp (swap q) k
-  swapped_eq q k = both_ways _ _ (λ t. address_same (swap q) k (ap swap (same_address q (swap k) t) ∙ twice k)) (λ t. address_same q (swap k) (sym (twice q) ∙ ap swap (same_address (swap q) k t)))
+  swapped_eq q k = bool_same _ _ (λ t. address_same (swap q) k (ap swap (same_address q (swap k) t) ∙ twice k)) (λ t. address_same q (swap k) (sym (twice q) ∙ ap swap (same_address (swap q) k t)))
 
   find_renamed : (es : List (ℕ × List ℕ)) (q : ℕ) → find nat_cmp q (map (λ e. (swap e.0, map swap e.1)) es) ≡ over (map swap) (find nat_cmp (swap q) es)
   find_renamed [] q = refl

@@ -11,23 +11,13 @@ use Rattle.derivation_moves.specs.declared.goals.OpenGoal.{OpenGoal as GoalOfCod
 use Rattle.derivation_moves.specs.declared.derivation.Derivation.{Derivation}
 use Rattle.derivation_moves.specs.Opened.{goal_of, node_of}
 use Rattle.derivation_moves.specs.Derivations.{theory_in, nodes_in, goals_in, reasons_in, graph_with, tableau_in, IsInOrder, IsMade}
+use Rattle.list_facts.proofs.Places.{get_end}
+use Rattle.list_facts.proofs.Parts.{split_last}
 
 -- the last of a list is known
 pub record HasLast {X : Type 0} (xs : List X) (x : X) : Type 0 where
   pub rest : List X
   pub are : xs ≡ rest ++ x ∷ []
-
-get_end : {X : Type 0} (xs : List X) (x : X) → slice_get (xs ++ x ∷ []) (length xs) ≡ Some x
-get_end [] x = refl
-get_end (y ∷ xs) x = get_end xs x
-
-split_last : {X : Type 0} (xs : List X) → (xs ≡ []) ⊎ ((ys : List X) × (y : X) × (xs ≡ ys ++ y ∷ []))
-split_last [] = inl refl
-split_last {X} (x ∷ xs) =
-    elim (split_last xs) [
-      | inl none ↦ inr ([], x, ap (λ (zs : List X). x ∷ zs) none)
-      | inr some ↦ inr (x ∷ some.0, some.1, ap (λ (zs : List X). x ∷ zs) some.2)
-    ]
 
 pub last_of : {X : Type 0} (xs : List X) (x : X) → Some x ≡ slice_get xs (length xs - 1) → HasLast xs x
 last_of {X} xs x h =

@@ -1,7 +1,7 @@
 -- Goals on a stack, the next one last.
 use Rattle.std.proofs.Common.{◌≡◌, ℕ, zero, suc, ◌+◌, ◌-◌, List, [], ◌∷◌, ◌++◌, Option, None, Some, length, length-append, take, drop, reverse, arith, refl, sym, ap, ◌∙◌}
 use Rattle.std.specs.Option.{option_to_list}
-use Rattle.std.proofs.lemmas.List.{append_assoc, append-nil, reverse-append, length-take}
+use Rattle.std.proofs.lemmas.List.{append_assoc, append-nil, reverse-append, length-take, nil_from_length}
 use Rattle.heap_formula.specs.declared.judgements.Premise.{Premise}
 use Rattle.derivation_moves.specs.declared.goals.OpenGoal.{OpenGoal}
 use Rattle.derivation_moves.specs.Opened.{opened}
@@ -27,10 +27,6 @@ pushed_goal node depth k old new p goals more e place pushed =
 pub popped_fewer : (old new : List Premise) (p : Premise) → old ≡ new ++ p ∷ [] → length old ≡ length new + 1
 popped_fewer old new p e = ap length e ∙ length-append new (p ∷ [])
 
-none_left : {X : Type 0} (xs : List X) → length xs ≡ 0 → xs ≡ []
-none_left [] h = refl
-none_left (x ∷ xs) h = absurd (omega arith)
-
 drop_one : {X : Type 0} (xs : List X) (i : ℕ) → drop 1 (drop i xs) ≡ drop (suc i) xs
 drop_one [] zero = refl
 drop_one [] (suc i) = refl
@@ -43,7 +39,7 @@ popped_one goals old new None i k e kk rest h =
     let o : old ≡ new = e ∙ append-nil new in
     let none : length old ≡ 0 = omega (arith, ap length (o ∙ rest), length-take (k - 1) old) in
     let n : suc i ≡ i + 1 = omega arith in
-    let old' : old ≡ [] = none_left old none in
+    let old' : old ≡ [] = nil_from_length old none in
     let b : [] ≡ drop i (reverse goals) = sym (ap reverse old') ∙ h in
     ap reverse (sym o ∙ old') ∙ (ap (drop 1) b ∙ (drop_one (reverse goals) i ∙ ap (λ k'. drop k' (reverse goals)) n))
 popped_one goals old new (Some g) i k e kk rest h =

@@ -27,6 +27,7 @@ use Rattle.derivation_moves.specs.declared.derivation.Derivation.{Derivation}
 use Rattle.derivation_moves.specs.Opened.{goal_of, node_of}
 use Rattle.derivation_moves.specs.PremiseCounts.{IsPremiseCount}
 use Rattle.derivation_moves.specs.Derivations.{theory_in, nodes_in, goals_in, reasons_in, graph_with, tableau_in, IsInOrder, IsMade}
+use Rattle.std.proofs.lemmas.Option.{same_Some}
 
 -- ---- the tableau before a reason
 
@@ -85,9 +86,6 @@ drop_map zero xs = refl
 drop_map (suc n) [] = refl
 drop_map (suc n) (x ∷ xs) = drop_map n xs
 
-some_same : {X : Type 0} (x y : X) → Some x ≡ Some y → x ≡ y
-some_same x y e = cc
-
 -- what is taken back
 pub record Withdrawn (s s' : Derivation) (m : NodeOfCode) (mid : List GoalOfCode) (count : ℕ) : Type 0 where
   pub made : s.made.items ≡ s'.made.items ++ m ∷ []
@@ -139,13 +137,13 @@ module _ (s s' : Derivation) (m : NodeOfCode) (mid : List GoalOfCode) (count : �
 
   slots_premises : slots.all_premises ≡ was.ps
   slots_premises =
-      some_same slots.all_premises was.ps
+      same_Some slots.all_premises was.ps
       (sym slots.has ∙ ((λ i. premises t ((ap (take (length s'.made.items)) nodes_were ∙ take_all (nodes_in s') (node_of m) (length s'.made.items) size) i) (goal_of m.goal) m.reason) ∙ has_premises))
 
   count_is : (r : Reason) → HasMany r slots.all_premises slots.node.premises → IsPremiseCount s.graph (length s'.made.items) r count → count ≡ length slots.all_premises
   count_is (Step rule) many counted =
       let at : Some counted.0 ≡ Some slots.node = sym counted.1 ∙ (ap (λ (ns : List GraphNode). slice_get ns (length s'.made.items)) order.graph ∙ slots.is_node) in
-      counted.2 ∙ (ap (λ (n : GraphNode). length n.premises) (some_same counted.0 slots.node at) ∙ many)
+      counted.2 ∙ (ap (λ (n : GraphNode). length n.premises) (same_Some counted.0 slots.node at) ∙ many)
   count_is (Back link) many counted = counted ∙ sym (ap length many.0)
 
   count_now : count ≡ length was.ps

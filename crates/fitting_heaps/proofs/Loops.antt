@@ -3,14 +3,12 @@ use Rattle.std.proofs.Common.{◌≡◌, ℕ, zero, suc, ◌+◌, ◌<◌, ◌�
 use Rattle.std.specs.Prelude.{IsTrue}
 use Rattle.heap_formula.specs.Words.{Each, OneOf}
 use Rattle.member_facts.proofs.SomeMember.{one_front, one_last}
-
-split_drop : {X : Type 0} (xs : List X) (i : ℕ) (x : X) → i < length xs → x ≡ get_or xs i x → drop i xs ≡ x ∷ drop (i + 1) xs
-split_drop xs i x h e = rw (add-one, drop-cons xs i x) (ap (λ y. y ∷ drop (suc i) xs) (sym e))
+use Rattle.list_facts.proofs.Places.{drop_read}
 
 -- what is among the rest, or done, still is when one more is done
 pub turn : {X M N : Type 0} (Q : X → Type 0) (xs : List X) (i : ℕ) (x : X) → i < length xs → x ≡ get_or xs i x → ((M ⊎ Q x) → N) → (M ⊎ OneOf Q (drop i xs)) → (N ⊎ OneOf Q (drop (i + 1) xs))
 turn {M = M} {N = N} Q xs i x l e f o =
-    let s = split_drop xs i x l e in
+    let s = drop_read xs i x l e in
     let p : M ⊎ (Q x ⊎ OneOf Q (drop (i + 1) xs)) = subst (λ ys. M ⊎ OneOf Q ys) s o in
     elim p as (λ z. N ⊎ OneOf Q (drop (i + 1) xs)) [
       | inl m ↦ inl (f (inl m))

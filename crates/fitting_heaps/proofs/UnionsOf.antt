@@ -14,21 +14,15 @@ use Rattle.heap_formula.specs.Cells.{Cells, cell_at, no_cells, Joins, IsUnion, S
 use Rattle.fitting_heaps.specs.Bounds.{AreAtMost, IsWithin, SameUpTo, IsAmong, Unites, either}
 use Rattle.fitting_heaps.proofs.Loops.{one_at, pushed}
 use Rattle.member_facts.proofs.AllMembers.{each_last}
+use Rattle.member_facts.proofs.Addresses.{other_address}
 
 -- ---- a cell that is put
-
-differ : (q a : ℕ) → q ≢ a → eq_by_cmp nat_cmp q a ≡ false
-differ q a n = by_test (eq_by_cmp nat_cmp q a) refl
-  where
-    by_test : (b : Bool) → eq_by_cmp nat_cmp q a ≡ b → eq_by_cmp nat_cmp q a ≡ false
-    by_test true e = absurd (n (nat_cmp-IsAntisymmetric q a (is_eq-Equal (nat_cmp q a) e)))
-    by_test false e = e
 
 pub put_here : (h g : Cells) (a : ℕ) (vs : List ℕ) → g ≡ insert h a vs → cell_at g a ≡ Some vs
 put_here h g a vs e = ap (λ c. cell_at c a) e ∙ get-insert nat_cmp_total h a vs a ∙ ap (λ b. cond b (Some vs) (cell_at h a)) ((eq_by_cmp_equiv nat_cmp_total).refl a)
 
 pub put_elsewhere : (h g : Cells) (a q : ℕ) (vs : List ℕ) → g ≡ insert h a vs → q ≢ a → cell_at g q ≡ cell_at h q
-put_elsewhere h g a q vs e n = ap (λ c. cell_at c q) e ∙ get-insert nat_cmp_total h a vs q ∙ ap (λ b. cond b (Some vs) (cell_at h q)) (differ q a n)
+put_elsewhere h g a q vs e n = ap (λ c. cell_at c q) e ∙ get-insert nat_cmp_total h a vs q ∙ ap (λ b. cond b (Some vs) (cell_at h q)) (other_address q a n)
 
 -- ---- unions
 

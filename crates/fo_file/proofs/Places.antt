@@ -23,11 +23,8 @@ use Rattle.fo_problem_syntax.specs.Trees.{Constructor, Definition}
 use Rattle.fo_walk.specs.Spans.{constructor_span, definition_span}
 use Rattle.fo_walk.specs.Flaws.{constructor_heading, predicate_heading, constructor_heads, predicate_heads, arguments_flaw, constant_flaw, constructor_flaw, definition_head_flaw, cases_flaw, definition_flaw, constructors_flaw}
 use Rattle.fo_values.specs.Written.{constructor_tree, definition_tree, constructor_name_in, predicate_name_in}
-
-get-map : {X Y : Type 0} (f : X → Y) (xs : List X) (n : ℕ) (x : X) → slice_get xs n ≡ Some x → slice_get (map f xs) n ≡ Some (f x)
-get-map f [] n x e = absurd cc
-get-map f (y ∷ ys) zero x e = let same : y ≡ x = cc in ap (λ z. Some (f z)) same
-get-map f (y ∷ ys) (suc n) x e = get-map f ys n x e
+use Rattle.list_facts.proofs.Options.{not_some}
+use Rattle.list_facts.proofs.Places.{get_map}
 
 pub get-unmap : {X Y : Type 0} (f : X → Y) (xs : List X) (n : ℕ) (y : Y) → slice_get (map f xs) n ≡ Some y
     → (x : X) × (slice_get xs n ≡ Some x) × (f x ≡ y)
@@ -90,10 +87,6 @@ record IsFirst (hs : List Heading) (p : ℕ) (x : Heading) : Type 0 where
   there : slice_get hs p ≡ Some x
   alone : arity_in (take p hs) x.name ≡ None
 
-none-of : {X : Type 0} (o : Option X) → is_some o ≡ false → o ≡ None
-none-of None e = refl
-none-of (Some x) e = absurd cc
-
 neither-true : (a b : Bool) → a || b ≡ false → b ≡ false
 neither-true true b e = absurd cc
 neither-true false b e = e
@@ -119,7 +112,7 @@ constructor-alone hs n k c e =
     let rest = or_later (constant_flaw n (k + 2) c.arguments) (arguments_flaw (k + 2) c.arguments) in
     let a = neither (over_if (nat_le 64 n) Constructors k) (or_later duplicate rest) e in
     let b = neither duplicate rest a.1 in
-    none-of (arity_in (take n hs) c.name) (not_ill _ Duplicate (k + 1) b.0)
+    not_some (arity_in (take n hs) c.name) (not_ill _ Duplicate (k + 1) b.0)
 
 -- a constructor's heading stands at its place, and none with its name before it
 constructor-first : (cs : List ConstructorValue) → constructors_flaw (map constructor_tree cs) ≡ None → (p : ℕ) (c : ConstructorValue) → slice_get cs p ≡ Some c
@@ -127,8 +120,8 @@ constructor-first : (cs : List ConstructorValue) → constructors_flaw (map cons
 constructor-first cs none p c is =
     let hs = constructor_heads (map constructor_tree cs) in
     let tree = constructor_tree c in
-    let there = get-map constructor_tree cs p c is in
-    let known = get-map constructor_heading (map constructor_tree cs) p tree there in
+    let there = get_map constructor_tree cs p c is in
+    let known = get_map constructor_heading (map constructor_tree cs) p tree there in
     let at = flaw-at (constructor_flaw hs) constructor_span 0 4 (map constructor_tree cs) p tree there none in
     let here : 0 + p ≡ p = omega arith in record {
       there = known;
@@ -164,15 +157,15 @@ predicate-alone hs ps n k d e =
     let a = neither (definition_head_flaw hs ps n k d) (cases_flaw hs ps d.arity (k + 6) d.cases) e in
     let b = neither (over_if (nat_le 4096 n) Predicates k) (or_later (ill_if taken Duplicate (k + 1)) (arguments_flaw (k + 3) d.arity)) a.0 in
     let c = neither (ill_if taken Duplicate (k + 1)) (arguments_flaw (k + 3) d.arity) b.1 in
-    none-of (arity_in (take n ps) d.name) (neither-true (is_some (arity_in hs d.name)) (is_some (arity_in (take n ps) d.name)) (not_ill _ Duplicate (k + 1) c.0))
+    not_some (arity_in (take n ps) d.name) (neither-true (is_some (arity_in hs d.name)) (is_some (arity_in (take n ps) d.name)) (not_ill _ Duplicate (k + 1) c.0))
 
 predicate-first : (hs : List Heading) (k : ℕ) (t : FoTheory) (ds : List FoDefinition) → listed_flaw (definition_flaw hs (predicate_heads (map (definition_tree t) ds))) definition_span 0 k (map (definition_tree t) ds) ≡ None
     → (p : ℕ) (d : FoDefinition) → slice_get ds p ≡ Some d → IsFirst (predicate_heads (map (definition_tree t) ds)) p (predicate_heading (definition_tree t d))
 predicate-first hs k t ds none p d is =
     let ps = predicate_heads (map (definition_tree t) ds) in
     let tree = definition_tree t d in
-    let there = get-map (definition_tree t) ds p d is in
-    let known = get-map predicate_heading (map (definition_tree t) ds) p tree there in
+    let there = get_map (definition_tree t) ds p d is in
+    let known = get_map predicate_heading (map (definition_tree t) ds) p tree there in
     let at = flaw-at (definition_flaw hs ps) definition_span 0 k (map (definition_tree t) ds) p tree there none in
     let here : 0 + p ≡ p = omega arith in record {
       there = known;

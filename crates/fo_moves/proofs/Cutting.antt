@@ -21,18 +21,16 @@ use Rattle.fo_moves.specs.declared.wanted.Wanted.TheVariants.{Values, Locals}
 use Rattle.fo_moves.specs.Links.{link_by}
 use Rattle.fo_moves.specs.After.{holds_by}
 use Rattle.fo_moves.specs.Choosing.{settles_atom, may_stand, may_hold, may_link, may_suit, may_do, does}
-use Rattle.fo_moves.proofs.Settled.{Extends, true_and, atom_stays, substitution_extends, instance_extends}
-
-both_true : (a b : Bool) → a ≡ true → b ≡ true → a && b ≡ true
-both_true true b p q = q
-both_true false b p q = cc
+use Rattle.fo_moves.proofs.Settled.{Extends, atom_stays, substitution_extends, instance_extends}
+use Rattle.std.proofs.lemmas.Bool.{and_from, and_parts}
+use Rattle.list_facts.proofs.Options.{none_is}
 
 -- a test that holds wherever another does
 all_too : {X Y : Type 0} (f : X → Y) (test : Y → Bool) (weaker : X → Bool) → ((x : X) → test (f x) ≡ true → weaker x ≡ true) → (xs : List X) → list_all test (map f xs) ≡ true → list_all weaker xs ≡ true
 all_too f test weaker h [] t = refl
 all_too f test weaker h (x ∷ xs) t =
-    let p = true_and (test (f x)) (list_all test (map f xs)) t in
-    both_true (weaker x) (list_all weaker xs) (h x p.0) (all_too f test weaker h xs p.1)
+    let p = and_parts (test (f x)) (list_all test (map f xs)) t in
+    and_from (weaker x) (list_all weaker xs) (h x p.0) (all_too f test weaker h xs p.1)
 
 -- ---- a link without a fault finds each atom
 
@@ -58,16 +56,12 @@ all_stand atoms k (m ∷ ms) [] h = cc
 all_stand atoms k [] (x ∷ xs) h = cc
 all_stand atoms k (m ∷ ms) (x ∷ xs) h =
     let p = placed_here (is_atom x (slice_get atoms m)) k (map_place atoms (suc k) ms xs) h in
-    both_true (is_among atoms x) (list_all (is_among atoms) xs) (atom_there atoms m x p.0) (all_stand atoms (suc k) ms xs p.1)
+    and_from (is_among atoms x) (list_all (is_among atoms) xs) (atom_there atoms m x p.0) (all_stand atoms (suc k) ms xs p.1)
 
 none_first : (f g : Option ℕ) → first_of (option_map LinkLeft f) (option_map LinkRight g) ≡ None → (f ≡ None) × (g ≡ None)
 none_first None None h = (refl, refl)
 none_first None (Some k) h = absurd cc
 none_first (Some k) g h = absurd cc
-
-none_is : (o : Option FoFault) → is_none o ≡ true → o ≡ None
-none_is None h = refl
-none_is (Some f) h = cc
 
 -- ---- an atom that is settled
 
@@ -93,10 +87,10 @@ link_may goal made more h =
     let d = Substitution (zip sources (made ++ more)) in
     let c = Substitution (zip sources made) in
     let link = link_by bud companion goal.number (zip sources (made ++ more)) in
-    let fit = true_and (is_none (link_fault bud companion link)) (nat_le (sequent_size bud + reason_size (Link link)) 4096) h in
+    let fit = and_parts (is_none (link_fault bud companion link)) (nat_le (sequent_size bud + reason_size (Link link)) 4096) h in
     let places = none_first (map_place bud.left 0 link.left_map (linked link companion.left)) (map_place bud.right 0 link.right_map (linked link companion.right)) (none_is (link_fault bud companion link) fit.0) in
     let same = substitution_extends sources made more in
-    both_true _ _
+    and_from _ _
     (all_too (in_atom (put d)) (is_among bud.left) (may_stand c bud.left) (stand_stays c d same bud.left) companion.left (all_stand bud.left 0 link.left_map (linked link companion.left) places.0))
     (all_too (in_atom (put d)) (is_among bud.right) (may_stand c bud.right) (stand_stays c d same bud.right) companion.right (all_stand bud.right 0 link.right_map (linked link companion.right) places.1))
 

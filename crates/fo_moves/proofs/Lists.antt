@@ -40,7 +40,7 @@ each_first P p (x ∷ xs) h = branch (p x) (each_first P p xs h.1)
     branch true rest = (h.0, tt)
     branch false rest = rest
 
-each_else : {X : Type 0} (P : X → Type 0) (xs ys : List X) → Each P xs → Each P ys → Each P (or_else xs ys)
+pub each_else : {X : Type 0} (P : X → Type 0) (xs ys : List X) → Each P xs → Each P ys → Each P (or_else xs ys)
 each_else P [] ys a b = b
 each_else P (x ∷ xs) ys a b = a
 

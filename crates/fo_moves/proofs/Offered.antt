@@ -30,11 +30,12 @@ use Rattle.fo_moves.specs.Subterms.{subterms, lists_of}
 use Rattle.fo_moves.specs.Before.{axiom_at, axioms_with, axioms, refl_at, clash_at, decompose_at, replace_at, lines_before, rules_before}
 use Rattle.fo_moves.specs.Links.{variables, link_by, is_fit, substitutions, links_to}
 use Rattle.fo_moves.specs.After.{suits, choices, rights_by, rights_at, unfold_at, rules_after}
-use Rattle.fo_moves.proofs.Settled.{true_and}
 use Rattle.fo_moves.proofs.Lists.{each_kept, each_filter, each_first_kept, each_first, each_line, each_offered, each_zipped}
 use Rattle.fo_moves.proofs.Terms.{lists_are}
 use Rattle.fo_moves.proofs.LowVariables.{variables_low}
 use Rattle.member_facts.proofs.AllMembers.{each_imply, each_append, each_mapped, each_take, each_any}
+use Rattle.std.proofs.lemmas.Bool.{and_parts}
+use Rattle.list_facts.proofs.Options.{none_is}
 
 le_true : (m n : ℕ) → nat_le m n ≡ true → m ≤ n
 le_true m n h = grind (arith, nat_tests, h)
@@ -64,12 +65,8 @@ module _ (most number : ℕ) (bud companion : FoSequent) where
   pub links_lead : Each (λ (link : FoLink). link.to ≡ number) (links_to most bud companion number)
   links_lead = made_links (λ (link : FoLink). link.to ≡ number) (each_any (λ (s : Bindings). number ≡ number) (λ s. refl) (substitutions bud companion))
 
-  none_is : (o : Option FoFault) → is_none o ≡ true → o ≡ None
-  none_is None h = refl
-  none_is (Some f) h = cc
-
   fit_parts : (link : FoLink) → is_fit bud companion link ≡ true → (is_none (link_fault bud companion link) ≡ true) × (nat_le (sequent_size bud + reason_size (Link link)) 4096 ≡ true)
-  fit_parts link h = true_and (is_none (link_fault bud companion link)) (nat_le (sequent_size bud + reason_size (Link link)) 4096) h
+  fit_parts link h = and_parts (is_none (link_fault bud companion link)) (nat_le (sequent_size bud + reason_size (Link link)) 4096) h
 
   pub links_right : Each (λ (link : FoLink). link_fault bud companion link ≡ None) (links_to most bud companion number)
   links_right =
@@ -99,7 +96,7 @@ small_if_ok : (s : FoSequent) (n : ℕ) (ps : List FoPremise) → is_ok (limited
 small_if_ok s n ps h =
     let short = ok_needs (list_all (λ (p : FoPremise). is_short p.sequent) ps) _ _ h in
     let small = ok_needs (nat_le (sequent_size s + n) 4096 && list_all (λ (p : FoPremise). is_small p.sequent) ps) _ _ short.1 in
-    let size = (true_and (nat_le (sequent_size s + n) 4096) (list_all (λ (p : FoPremise). is_small p.sequent) ps) small.0).0 in
+    let size = (and_parts (nat_le (sequent_size s + n) 4096) (list_all (λ (p : FoPremise). is_small p.sequent) ps) small.0).0 in
     grind (arith, nat_tests, size)
 
 module _ (t : FoTheory) (s : FoSequent) (j c : ℕ) (terms : List Word) where

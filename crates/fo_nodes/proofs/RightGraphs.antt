@@ -19,7 +19,6 @@ use Rattle.trace_pairs.specs.Graph.{Node as GraphNode, Edge as GraphEdge, Pair a
 use Rattle.trace_pairs.specs.System.{AreRight, IsLocalAt, IsRight}
 use Rattle.proof_graph.specs.Traces.{trace_pair}
 pub use Rattle.proof_graph.proofs.Joined.{Mapped, mapped_at}
-pub use Rattle.position_sets.proofs.Lists.{at_map as at_mapped, get_within as some_at}
 use Rattle.fo_nodes.specs.Files.{predicate_places, graph_edge, graph_node, graph_of, HoldsAtNode, IsSmallSequent, IsSmallDefinition, IsReadNode}
 use Rattle.fo_nodes.proofs.Places.{place_of, places_set}
 use Rattle.fo_nodes.proofs.Fits.{IsPredAt, PairsFit}
@@ -27,6 +26,7 @@ use Rattle.fo_nodes.proofs.Fine.{PremiseFits}
 use Rattle.fo_nodes.proofs.Reasons.{Leads, by_node}
 use Rattle.fo_nodes.proofs.RightNodes.{node_holds}
 use Rattle.member_facts.proofs.AllMembers.{each_at}
+use Rattle.list_facts.proofs.Places.{get_within as some_at, get_map as at_mapped}
 
 edges_short : (ps : List FoPremise) (us : List ℕ) → length (edges_to ps us) ≤ length ps
 edges_short [] us = omega arith

@@ -1,6 +1,6 @@
 -- What is found is a proof of the problem's goal.
 use Rattle.std.proofs.Common.{◌≡◌, ℕ, List, [], ◌∷◌, map, Some, length, refl, sym, ap, subst, ◌∙◌, arith}
-use Rattle.std.proofs.lemmas.Option.{slice_get_within}
+use Rattle.std.proofs.lemmas.Option.{slice_get_within, same_Some}
 use Rattle.heap_formula.specs.Words.{Each}
 use Rattle.fo_formula.specs.declared.nodes.FoFile.{FoFile}
 use Rattle.fo_formula.specs.declared.nodes.FoNode.{FoNode}
@@ -43,9 +43,6 @@ still problem old new is order same = record {
   root = ap (λ a. a.1.1) same ∙ is.root;
 }
 
-some_is : {X : Type 0} (x y : X) → Some x ≡ Some y → x ≡ y
-some_is x y e = cc
-
 -- the moves, with what they found
 pub record HasFound (problem : FoProblem) (moves : Moves) : Type 0 where
   pub made : replay (calculus_of problem.theory) problem.goal (reasons_in moves) ≡ Some (tableau_in moves)
@@ -56,9 +53,9 @@ pub has_found : (problem : FoProblem) (moves : Moves) (most depth : ℕ) → May
 has_found problem moves most depth may is found =
     let made : replay (calculus_of problem.theory) problem.goal (reasons_in moves) ≡ Some (tableau_in moves) = sym (λ i. replay (calculus_of (is.theory i)) (is.root i) (reasons_in moves)) ∙ is.order.replayed in
     let makes = makes_proof problem.theory problem.goal most depth (reasons_in moves) may (sym found) in
-    let both : makes.tableau ≡ tableau_in moves = some_is makes.tableau (tableau_in moves) (sym makes.made ∙ made) in
+    let both : makes.tableau ≡ tableau_in moves = same_Some makes.tableau (tableau_in moves) (sym makes.made ∙ made) in
     let sized = all_sized (calculus_of problem.theory) (MayOccur problem.theory) (IsReasonWithin problem.theory) (first_order_fair problem.theory) node_limit state_limit most depth problem.goal (reasons_in moves) may (sym found) in
-    let same : sized.0 ≡ tableau_in moves = some_is sized.0 (tableau_in moves) (sym sized.1 ∙ made) in
+    let same : sized.0 ≡ tableau_in moves = same_Some sized.0 (tableau_in moves) (sym sized.1 ∙ made) in
     record {
       made = made;
       size = sym (subst (λ (b : Tableau FoSequent FoReason). length b.graph ≡ length b.nodes) same sized.2);

@@ -13,11 +13,6 @@ here_at [] v d h = absurd (omega (arith, h))
 here_at (x ∷ xs) zero d h = refl
 here_at (x ∷ xs) (suc v) d h = here_at xs v d (omega (arith, h))
 
-pub none_at : {X : Type 0} (xs : List X) (v : ℕ) → length xs ≤ v → slice_get xs v ≡ None
-none_at [] v h = refl
-none_at (x ∷ xs) zero h = absurd (omega (arith, h))
-none_at (x ∷ xs) (suc v) h = none_at xs v (omega (arith, h))
-
 module _ (t : FoTheory) (nodes : List MadeNode) (g : OpenGoal) (occur : AllOccur (MayOccur t) nodes g) where
   pub small_goal : IsSmallSequent g.premise.judgement
   small_goal = occur.goal.1.0

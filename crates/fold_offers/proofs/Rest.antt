@@ -29,14 +29,6 @@ pub all_given : {X Y : Type 0} (f : ℕ → X → List Y) (k : ℕ) (xs : List X
 all_given f k xs items all l so_far =
     let h : items ++ [] ≡ all = rw (drop_all k xs l) at so_far in sym (append-nil items) ∙ h
 
--- a list that is not empty
-pub first_and_rest : {X : Type 0} (xs : List X) (x : X) → 1 ≤ length xs → x ≡ get_or xs 0 x → xs ≡ x ∷ take (length xs - 1) (drop 1 xs)
-first_and_rest [] x l at = absurd (omega arith)
-first_and_rest (y ∷ ys) x l at =
-    let e : x ≡ y = at in
-    let n : suc (length ys) - 1 ≡ length ys = omega arith in
-    rw (n, take_all (length ys) ys (omega arith), e) refl
-
 -- the same of what each member gives, whatever its place
 pub step_of : {X Y : Type 0} (f : X → List Y) (k : ℕ) (xs : List X) (x : X) (items items' all : List Y) → k < length xs → x ≡ get_or xs k x → items' ≡ items ++ f x → items ++ each_of f (drop k xs) ≡ all → items' ++ each_of f (drop (k + 1) xs) ≡ all
 step_of f k xs x items items' all l at given so_far =

@@ -16,10 +16,10 @@ use Rattle.heap_formula.specs.Words.{Each, max_of}
 use Rattle.pred_defs.specs.Faults.{or_later, first_fault, use_fault, arity_fault}
 use Rattle.pred_defs.specs.declared.faults.DefFault.{DefFault}
 use Rattle.rule_table.specs.Answer.{number_bound, pure_numbers, spatial_numbers, heap_numbers, is_short, has_numbers}
-use Rattle.rule_table.proofs.Reflects.{both, and_true as both_true}
 use Rattle.format_limits.specs.Limits.{HasFields, IsHeapWithin}
 use Rattle.member_facts.proofs.AllMembers.{each_imply}
 use Rattle.member_facts.proofs.Greatest.{each_below, below_each}
+use Rattle.std.proofs.lemmas.Bool.{and_from as both_true, and_parts}
 
 -- ---- lists
 
@@ -117,11 +117,11 @@ pub record IsSmall (most : ℕ) (ds : List Definition) (a : SymbolicHeap) : Type
 
 pub short_pures : (most : ℕ) (a : SymbolicHeap) → is_short most a ≡ true → length a.pure ≤ 64
 short_pures most a e =
-    leb-true (length a.pure) 64 (both (nat_le (length a.pure) 64) (nat_le (length a.spatial) most) e).0
+    leb-true (length a.pure) 64 (and_parts (nat_le (length a.pure) 64) (nat_le (length a.spatial) most) e).0
 
 pub short_spatials : (most : ℕ) (a : SymbolicHeap) → is_short most a ≡ true → length a.spatial ≤ most
 short_spatials most a e =
-    leb-true (length a.spatial) most (both (nat_le (length a.pure) 64) (nat_le (length a.spatial) most) e).1
+    leb-true (length a.spatial) most (and_parts (nat_le (length a.pure) 64) (nat_le (length a.spatial) most) e).1
 
 pub small : (most : ℕ) (ds : List Definition) (a : SymbolicHeap) → IsHeapWithin most ds a → IsSmall most ds a
 small most ds a h =

@@ -14,9 +14,7 @@ use Rattle.model_check.specs.declared.ground.Piece.TheVariants.{Here, Of}
 use Rattle.model_check.specs.WideMasks.{number, HoldsMask}
 use Rattle.model_check.specs.Ground.{Apart, Splits, Unions, PieceIs}
 use Rattle.model_check.specs.Tables.{Row, Added, JoinsOne, JoinsSome, HasIn, HasMask, JoinsIn, JoinsPiece}
-
-split_drop : {X : Type 0} (xs : List X) (i : ℕ) (x : X) → i < length xs → x ≡ get_or xs i x → drop i xs ≡ x ∷ drop (i + 1) xs
-split_drop xs i x h e = rw (add-one, drop-cons xs i x) (ap (λ y. y ∷ drop (suc i) xs) (sym e))
+use Rattle.list_facts.proofs.Places.{drop_read}
 
 -- what each member adds to a list
 pub appended : {X Y : Type 0} (F : List X → List Y) (one : X → List Y) (xs : List X) (i : ℕ) (d : X) (old new whole : List Y) → ((x : X) (ys : List X) → F (x ∷ ys) ≡ one x ++ F ys) → i < length xs → new ≡ old ++ one (get_or xs i d) → old ++ F (drop i xs) ≡ whole → new ++ F (drop (i + 1) xs) ≡ whole
@@ -26,7 +24,7 @@ appended F one xs i d old new whole step l e was =
 
 pub loop_step : {X M N G : Type 0} (P : X → Type 0) (xs : List X) (i : ℕ) (x : X) → i < length xs → x ≡ get_or xs i x → (N ↔ (M ⊎ P x)) → ((M ⊎ OneOf P (drop i xs)) ↔ G) → ((N ⊎ OneOf P (drop (i + 1) xs)) ↔ G)
 loop_step {M = M} {N = N} {G = G} P xs i x h is f g =
-    let s = split_drop xs i x h is in
+    let s = drop_read xs i x h is in
     let before : (M ⊎ (P x ⊎ OneOf P (drop (i + 1) xs))) ↔ G = subst (λ ys. (M ⊎ OneOf P ys) ↔ G) s g in (
       λ o. elim o [ inl n ↦ before.0 (elim (f.0 n) as (λ z. M ⊎ (P x ⊎ OneOf P (drop (i + 1) xs))) [ inl m ↦ inl m | inr p ↦ inr (inl p) ]) | inr r ↦ before.0 (inr (inr r)) ],
       λ y. elim (before.1 y) as (λ z. N ⊎ OneOf P (drop (i + 1) xs)) [ inl m ↦ inl (f.1 (inl m)) | inr o ↦ elim o as (λ z. N ⊎ OneOf P (drop (i + 1) xs)) [ inl p ↦ inl (f.1 (inr p)) | inr r ↦ inr r ] ],

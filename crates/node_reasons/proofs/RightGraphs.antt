@@ -23,10 +23,10 @@ use Rattle.node_reasons.proofs.Reasons.{Leads, by_reason}
 use Rattle.node_reasons.specs.Answers.{targets_of}
 use Rattle.node_reasons.specs.Graphs.{graph_edge, graph_node, graph_of, AreReadable, HasFewCases, HoldsAtNode}
 pub use Rattle.proof_graph.proofs.Joined.{Mapped, mapped_at}
-pub use Rattle.position_sets.proofs.Lists.{at_map as at_mapped, get_within as some_at}
 use Rattle.heap_formula.proofs.Members.{each_from}
 use Rattle.proof_graph.proofs.Places.{place_of, places_set}
 use Rattle.member_facts.proofs.AllMembers.{each_at}
+use Rattle.list_facts.proofs.Places.{get_within as some_at, get_map as at_mapped}
 
 module _ (most : ℕ) (ds : List Definition) (lines : List Command) (nodes : List Node) where
   -- an edge leads to a node, and its pairs join predicate atoms

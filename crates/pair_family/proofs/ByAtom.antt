@@ -17,10 +17,7 @@ use Rattle.pair_family.proofs.Classes.{classes_have, classes_least}
 use Rattle.pair_family.proofs.Scope.{atom_equations_in, atom_differences_in, atom_addresses_in}
 use Rattle.pair_family.proofs.Fold.{filter_same, any_same, both_first, whole_folded, folded_whole, said_same}
 use Rattle.member_facts.proofs.AllMembers.{each_front}
-
-append_nil : {X : Type 0} (xs : List X) → xs ++ [] ≡ xs
-append_nil [] = refl
-append_nil (x ∷ xs) = ap (λ ys. x ∷ ys) (append_nil xs)
+use Rattle.std.proofs.lemmas.List.{append-nil}
 
 pub append_three : {X : Type 0} (xs ys zs : List X) → xs ++ (ys ++ zs) ≡ (xs ++ ys) ++ zs
 append_three [] ys zs = refl
@@ -35,9 +32,9 @@ both_three x y z =
 
 pub both_none : (x : Facts) → both x (list_facts (λ k. record { same = []; differ = []; cells = [] }) []) ≡ x
 both_none x =
-    let e = append_nil x.equal in
-    let d = append_nil x.differ in
-    let c = append_nil x.cells in
+    let e = append-nil x.equal in
+    let d = append-nil x.differ in
+    let c = append-nil x.cells in
     λ i. record { equal = e i; differ = d i; cells = c i }
 
 -- the first part of what is consistent is consistent

@@ -22,6 +22,7 @@ use Rattle.pair_family.proofs.Lists.{In, at_each, in_left, in_right, in_map, map
 use Rattle.pair_family.proofs.Two.{append_two_cross, append_two_right}
 use Rattle.pair_family.proofs.Joining.{Has, Both, has_both, joins_from, union_of}
 use Rattle.pair_family.proofs.Complete.{entry_value}
+use Rattle.heap_formula.proofs.Insertions.{same_address}
 
 -- a stage and a heap of which M holds; its addresses are among some, or past a bound
 pub record Built (M : ℕ → Cells → Type 0) (w : ℕ) (among : List ℕ) : Type 0 where
@@ -35,9 +36,6 @@ pub record Built (M : ℕ → Cells → Type 0) (w : ℕ) (among : List ℕ) : T
 -- the base pair is realised over all values that respect it
 abbrev pub IsRealised : List Definition → ℕ → BasePair → Type 0
 IsRealised ds p b = (vs : List ℕ) (w : ℕ) → Respects b vs → Built (λ n. at_stage ds n p vs) w (map (entry vs) b.cells)
-
-same_address : (q a : ℕ) → eq_by_cmp nat_cmp q a ≡ true → q ≡ a
-same_address q a t = nat_cmp-IsAntisymmetric q a (is_eq-Equal (nat_cmp q a) t)
 
 cond_some : (b : Bool) (vs : List ℕ) → Has (cond b (Some vs) None) → b ≡ true
 cond_some true vs h = refl

@@ -4,7 +4,7 @@ use Rattle.std.specs.Prelude.{is_none, not, ◌==◌}
 use Rattle.std.proofs.lemmas.Bool.{eq-eqb, ne_eqb}
 use Rattle.std.specs.Str.{chars, IsUtf8}
 use Rattle.std.specs.Str.Lossy.{utf8_valid_len, utf8_error_len}
-use Rattle.std.proofs.lemmas.List.{take_all}
+use Rattle.std.proofs.lemmas.List.{take_all, length-take-le}
 use Rattle.std.proofs.lemmas.Str.{utf8_valid_len-IsUtf8, utf8_valid_len_le}
 use Rattle.cyc_lex.specs.declared.place.Place.{Place}
 use Rattle.cyc_lex.specs.Lexing.{HasRoom}
@@ -28,13 +28,8 @@ tail-whole bytes utf8 = sym (ap (λ n. drop n bytes) (utf8_valid_len-IsUtf8 byte
 pub cut-whole : (bytes : List ℕ) → IsUtf8 bytes → is_cut bytes ≡ true
 cut-whole bytes utf8 = ap (λ (w : List ℕ). is_none (utf8_error_len w)) (sym (tail-whole bytes utf8)) ∙ ap is_none error-nil
 
-pub length-taken : (n : ℕ) (xs : List ℕ) → n ≤ length xs → length (take n xs) ≡ n
-length-taken zero xs le = refl
-length-taken (suc n) [] le = absurd (omega arith)
-length-taken (suc n) (x ∷ xs) le = let less : n ≤ length xs = omega arith in omega (arith, length-taken n xs less)
-
 pub size-front : (bytes text : List ℕ) (n : ℕ) → n ≡ utf8_valid_len bytes → text ≡ take n bytes → length text ≡ utf8_valid_len bytes
-size-front bytes text n is same = ap length same ∙ ap (λ k. length (take k bytes)) is ∙ length-taken (utf8_valid_len bytes) bytes (utf8_valid_len_le bytes)
+size-front bytes text n is same = ap length same ∙ ap (λ k. length (take k bytes)) is ∙ length-take-le (utf8_valid_len bytes) bytes (utf8_valid_len_le bytes)
 
 pub not-flip : (a b : Bool) → a ≡ not b → b ≡ not a
 not-flip a true h = rw h refl

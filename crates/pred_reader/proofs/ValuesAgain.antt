@@ -34,12 +34,11 @@ use Rattle.pred_reader.specs.Flaws.{heading, headings, term_flaw, head_flaw, def
 use Rattle.pred_reader.specs.Values.{term_value, definition_value}
 use Rattle.pred_reader.specs.Written.{term_tree, pure_tree, name_in, name_of, spatial_tree, heap_tree, definition_tree}
 use Rattle.pred_reader.proofs.Members.{behind_fit, many_fit, spatials_fit}
+use Rattle.list_facts.proofs.Options.{not_some}
+use Rattle.list_facts.proofs.Parts.{map_back}
+use Rattle.list_facts.proofs.Places.{get_map}
 
 -- ---- lists
-
-pub all_known : {X Y : Type 0} (tree : X → Y) (value : Y → X) → ((x : X) → value (tree x) ≡ x) → (xs : List X) → map value (map tree xs) ≡ xs
-all_known tree value one [] = refl
-all_known tree value one (x ∷ xs) = λ i. one x i ∷ all_known tree value one xs i
 
 pub each_known : {X Y : Type 0} (tree : X → Y) (value : Y → X) (Q : Y → Type 0) → ((x : X) → Q (tree x) → value (tree x) ≡ x) → (xs : List X) → Each Q (map tree xs) → map value (map tree xs) ≡ xs
 each_known tree value Q one [] e = refl
@@ -47,11 +46,6 @@ each_known tree value Q one (x ∷ xs) e =
     let first = one x e.0 in
     let rest = each_known tree value Q one xs e.1 in
     λ i. first i ∷ rest i
-
-pub get_map : {X Y : Type 0} (f : X → Y) (xs : List X) (n : ℕ) (x : X) → slice_get xs n ≡ Some x → slice_get (map f xs) n ≡ Some (f x)
-get_map f [] n x e = absurd cc
-get_map f (y ∷ ys) zero x e = let same : y ≡ x = cc in ap (λ z. Some (f z)) same
-get_map f (y ∷ ys) (suc n) x e = get_map f ys n x e
 
 -- a member of a list without a flaw has none
 pub flaw_at : {X : Type 0} (flaw : ℕ → ℕ → X → Found) (span : X → ℕ) (n k : ℕ) (xs : List X) (p : ℕ) (x : X) → slice_get xs p ≡ Some x → listed_flaw flaw span n k xs ≡ None → (j : ℕ) × (flaw (n + p) j x ≡ None)
@@ -84,16 +78,12 @@ place_first (y ∷ ys) zero x e none = let same : y ≡ x = cc in own_place y ys
 place_first (y ∷ ys) (suc p) x e none =
     later_place y (take p ys) ys x.name p (bytes_eq y.name x.name) (place_first ys p x e) none
 
-pub none_of : {X : Type 0} (o : Option X) → is_some o ≡ false → o ≡ None
-none_of None e = refl
-none_of (Some x) e = absurd cc
-
 no_earlier : (most : ℕ) (hs : List Heading) (n k : ℕ) (d : Definition) → definition_flaw most hs n k d ≡ None → arity_in (take n hs) d.name ≡ None
 no_earlier most hs n k d e =
     let all = neither (head_flaw hs n k d) (heaps_flaw (term_flaw (InCase d.arity)) term_span most hs Cases (k + 6) d.cases) e in
     let head = neither (over_if (nat_le 4096 n) Predicates k) (or_later (ill_if (is_some (arity_in (take n hs) d.name)) Duplicate (k + 1)) (over_if (nat_lt 8 d.arity) Arguments (k + 3))) all.0 in
     let taken = neither (ill_if (is_some (arity_in (take n hs) d.name)) Duplicate (k + 1)) (over_if (nat_lt 8 d.arity) Arguments (k + 3)) head.1 in
-    none_of (arity_in (take n hs) d.name) (not_ill _ Duplicate (k + 1) taken.0)
+    not_some (arity_in (take n hs) d.name) (not_ill _ Duplicate (k + 1) taken.0)
 
 -- the empty text is no name
 no_name : is_free_name reserved [] ≡ true → ⊥
@@ -135,7 +125,7 @@ term_known (terms.Univ n) = refl
 term_known (terms.Exist n) = refl
 
 terms_known : (ts : List Term) → map term_value (map term_tree ts) ≡ ts
-terms_known ts = all_known term_tree term_value term_known ts
+terms_known ts = map_back term_tree term_value term_known ts
 
 pure_known : (x : Pure) → pure_value term_value (pure_tree x) ≡ x
 pure_known (Eq t u) = λ i. Eq (term_known t i) (term_known u i)
@@ -152,7 +142,7 @@ module _ (ds : List DefinitionValue) (ts : List Heading) (placed : (p : ℕ) →
   pub heap_known : (b : Bool) (h : SymbolicHeap) → (heap (terms b)).fits (heap_tree ds h) → heap_value term_value ts (heap_tree ds h) ≡ h
   unfolding shared.heap
   heap_known b h f =
-      let pure = all_known pure_tree (pure_value term_value) pure_known h.pure in
+      let pure = map_back pure_tree (pure_value term_value) pure_known h.pure in
       let spatial = each_known (spatial_tree ds) (spatial_value term_value ts) (spatial (terms b)).fits (spatial_known b) h.spatial (spatials_fit b (map (spatial_tree ds) h.spatial) f.1.1) in
       λ i. record { pure = pure i; spatial = spatial i }
 

@@ -4,7 +4,7 @@ use Rattle.std.proofs.Common.{◌≡◌, ℕ, ◌+◌, ◌<◌, ◌≤◌, Bool,
 use Rattle.std.specs.Prelude.{not, ◌||◌, nat_eq, nat_lt, nat_le}
 use Rattle.std.specs.List.{list_all}
 use Rattle.std.proofs.Math.Logic.{∥∥₁_elim}
-use Rattle.std.proofs.lemmas.Bool.{ltb-false, or_parts, eqb-false}
+use Rattle.std.proofs.lemmas.Bool.{ltb-false, or_parts, eqb-false, and_parts}
 use Rattle.std.proofs.lemmas.List.{length-map}
 use Rattle.heap_formula.specs.declared.terms.Term.{Term}
 use Rattle.heap_formula.specs.declared.atoms.Pure.{Pure}
@@ -22,7 +22,7 @@ use Rattle.goto_lang.proofs.Faultless.{faultless_is_program}
 use Rattle.pred_defs.specs.declared.faults.DefFault.{DefFault}
 use Rattle.pred_defs.specs.Faults.{case_fault, definition_fault, first_fault, or_later as then_fault}
 use Rattle.rule_table.specs.Tests.{is_universal_pure, is_universal_spatial}
-use Rattle.rule_table.proofs.Reflects.{both, universal_pure_is, universal_spatial_is}
+use Rattle.rule_table.proofs.Reflects.{universal_pure_is, universal_spatial_is}
 use Rattle.format_limits.specs.Limits.{IsHeapWithin, IsJudgementWithin, IsCaseWithin, IsDefinitionWithin}
 use Rattle.format_limits.proofs.Heaps.{IsLow}
 use Rattle.cyc_lex.specs.declared.fault.What.TheVariants.{Cases, Disjuncts, Locals, Variable}
@@ -183,17 +183,17 @@ module _ (limit : ℕ) (bounded : limit ≤ 32) (hs : List Heading) where
 universal_pures : (xs : List Pure) → list_all is_universal_pure xs ≡ true → Each (InPure IsUniversal) xs
 universal_pures [] e = tt
 universal_pures (x ∷ xs) e =
-    let b = both (is_universal_pure x) (list_all is_universal_pure xs) e in (universal_pure_is x b.0, universal_pures xs b.1)
+    let b = and_parts (is_universal_pure x) (list_all is_universal_pure xs) e in (universal_pure_is x b.0, universal_pures xs b.1)
 
 universal_spatials : (xs : List Spatial) → list_all is_universal_spatial xs ≡ true → Each (InSpatial IsUniversal) xs
 universal_spatials [] e = tt
 universal_spatials (x ∷ xs) e =
-    let b = both (is_universal_spatial x) (list_all is_universal_spatial xs) e in
+    let b = and_parts (is_universal_spatial x) (list_all is_universal_spatial xs) e in
     (universal_spatial_is x b.0, universal_spatials xs b.1)
 
 universal_heap : (a : SymbolicHeap) → is_universal_heap a ≡ true → IsUniversalHeap a
 universal_heap a e =
-    let b = both (list_all is_universal_pure a.pure) (list_all is_universal_spatial a.spatial) e in
+    let b = and_parts (list_all is_universal_pure a.pure) (list_all is_universal_spatial a.spatial) e in
     (universal_pures a.pure b.0, universal_spatials a.spatial b.1)
 
 line_of : (count i : ℕ) → not (nat_eq i 0 || nat_lt count i) ≡ true → IsLineOf count i

@@ -9,8 +9,10 @@ use Rattle.heap_formula.specs.declared.judgements.Judgement.TheVariants.{Entail,
 use Rattle.heap_formula.specs.Symbolic.{SymbolicHeap}
 use Rattle.rule_table.specs.Tests.{same_term, same_pure, same_spatial}
 use Rattle.rule_table.specs.Nodes.{all_same, same_heap, same_judgement}
-use Rattle.rule_table.proofs.Reflects.{same_term_self, same_spatial_self, bool_same, and_true as both_true}
+use Rattle.rule_table.proofs.Reflects.{same_term_self, same_spatial_self}
 use Rattle.rule_table.proofs.RightNodes.{same_judgement_is}
+use Rattle.std.proofs.lemmas.Bool.{and_from as both_true}
+use Rattle.list_facts.proofs.Tests.{bool_same}
 
 same_pure_self : (x : Pure) → same_pure x x ≡ true
 same_pure_self (Eq t u) = both_true (same_term t t) (same_term u u) (same_term_self t) (same_term_self u)

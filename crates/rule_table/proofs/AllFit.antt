@@ -38,13 +38,14 @@ use Rattle.rule_table.specs.ExecTable.{cell_of, renamed, renamed_term, with_atom
 use Rattle.rule_table.specs.LinkTable.{link_fault, link_premise}
 use Rattle.rule_table.specs.RuleBook.{variables_of, rule_answer}
 use Rattle.rule_table.specs.Fits.{IsPredAt, PairsFit, PremiseFits, OnPremises}
-use Rattle.rule_table.proofs.Fits.{needs_on, finds_on, limited_on, entails_on, single_on, runs_on, get_front, get_back, get_mapped, get_written, pairs_fit_0, same_fit, kept_fit, chosen_fit, children_fit}
+use Rattle.rule_table.proofs.Fits.{needs_on, finds_on, limited_on, entails_on, single_on, runs_on, get_back, get_mapped, get_written, pairs_fit_0, same_fit, kept_fit, chosen_fit, children_fit}
 use Rattle.rule_table.proofs.Commands.{found_is}
 use Rattle.rule_table.proofs.LinkRule.{parts_are, none_of_two}
 use Rattle.member_facts.proofs.AllMembers.{each_append}
+use Rattle.list_facts.proofs.Places.{get_append_left}
 
 pred_front : (xs ys : List Spatial) (i : ℕ) → IsPredAt xs i → IsPredAt (xs ++ ys) i
-pred_front xs ys i p = (p.0, p.1, get_front xs ys i (Pred p.0 p.1) p.2)
+pred_front xs ys i p = (p.0, p.1, get_append_left xs ys i (Pred p.0 p.1) p.2)
 
 pred_back : (xs ys : List Spatial) (i : ℕ) → IsPredAt ys i → IsPredAt (xs ++ ys) (length xs + i)
 pred_back xs ys i p = (p.0, p.1, get_back xs ys i (Pred p.0 p.1) p.2)

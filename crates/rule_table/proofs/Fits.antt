@@ -50,11 +50,6 @@ module _ (P : Judgement → Premise → Type 0) where
 
 -- ---- places
 
-pub get_front : {X : Type 0} (xs ys : List X) (k : ℕ) (x : X) → slice_get xs k ≡ Some x → slice_get (xs ++ ys) k ≡ Some x
-get_front [] ys k x e = cc
-get_front (y ∷ xs) ys zero x e = e
-get_front (y ∷ xs) ys (suc k) x e = get_front xs ys k x e
-
 pub get_back : {X : Type 0} (xs ys : List X) (k : ℕ) (x : X) → slice_get ys k ≡ Some x → slice_get (xs ++ ys) (length xs + k) ≡ Some x
 get_back [] ys k x e = let z : k ≡ 0 + k = omega arith in subst (λ m. slice_get ys m ≡ Some x) z e
 get_back (y ∷ xs) ys k x e =

@@ -135,10 +135,6 @@ fold_more table k x atoms rest numbers' n bs states next out a w e f p g later =
 pub fold_none : (table : Table) (k : ℕ) (atoms : List Spatial) (states : List BasePair) → atoms ≡ [] → AreStates (λ _. in_table table) (frames_of k atoms) states atoms states
 fold_none table k atoms states e = subst (λ z. AreStates (λ _. in_table table) (frames_of k z) states z states) (sym e) (λ d. (λ m. m, λ m. m))
 
-pub no_atoms : {X : Type 0} (xs : List X) → length xs ≡ 0 → xs ≡ []
-no_atoms [] e = refl
-no_atoms (x ∷ xs) e = absurd (omega arith)
-
 -- ---- cases
 
 pub case_none : (table : Table) (k : ℕ) (a : SymbolicHeap) → (¬ AreConsistent (pure_facts a.pure)) → (d : BasePair) → CaseGives (in_table table) k d a → ⊥

@@ -35,9 +35,9 @@ use Rattle.rule_table.specs.RuleUnfold.{unfold_premise}
 use Rattle.rule_table.specs.Table.{with_pures, with_pure, with_right, without_spatial, rewritten, rewrite_side, rewrite_atom, named, unnamed, calls, are_empty, right_term, unfolded_right}
 use Rattle.rule_table.specs.Tests.{same_term, same_spatial, is_universal_pure, is_universal_spatial, follows, is_absurd, address_of, ascend_from, has_number}
 use Rattle.rule_table.proofs.Fits.{needs_on, finds_on, limited_on, entails_on, single_on, runs_on}
-use Rattle.rule_table.proofs.Reflects.{both}
 use Rattle.format_limits.proofs.Gives.{limited_gives}
 use Rattle.format_limits.proofs.Heaps.{length-without, short_spatials}
+use Rattle.std.proofs.lemmas.Bool.{and_parts}
 
 -- the antecedent has at most so many spatial atoms
 abbrev pub IsShort : ℕ → Judgement → Type 0
@@ -49,13 +49,13 @@ StaysShort most j p = IsShort most j → IsShort most p.judgement
 -- ---- rules that add spatial atoms test for it
 
 first_short : (most : ℕ) → (j : Judgement) → every (is_short most) (heaps_of j) ≡ true → IsShort most j
-first_short most (Entail a bs) e = short_spatials most a (both (is_short most a) (every (is_short most) bs) e).0
-first_short most (Runs i a) e = short_spatials most a (both (is_short most a) true e).0
+first_short most (Entail a bs) e = short_spatials most a (and_parts (is_short most a) (every (is_short most) bs) e).0
+first_short most (Runs i a) e = short_spatials most a (and_parts (is_short most a) true e).0
 
 tested_short : (most : ℕ) → (j : Judgement) (ps : List Premise) → each_heap (is_short most) ps ≡ true → Each (StaysShort most j) ps
 tested_short most j [] e = tt
 tested_short most j (p ∷ ps) e =
-    let b = both (every (is_short most) (heaps_of p.judgement)) (each_heap (is_short most) ps) e in ((λ h. first_short most p.judgement b.0), tested_short most j ps b.1)
+    let b = and_parts (every (is_short most) (heaps_of p.judgement)) (each_heap (is_short most) ps) e in ((λ h. first_short most p.judgement b.0), tested_short most j ps b.1)
 
 limited_short : (most : ℕ) → (j : Judgement) (ps : List Premise) → OnPremises (StaysShort most j) (limited most ps)
 limited_short most j ps = limited_gives (OnPremises (StaysShort most j)) (λ f. tt) most ps (λ s n. tested_short most j ps s)

@@ -22,10 +22,10 @@ use Rattle.heap_formula.specs.Positions.{without}
 use Rattle.heap_formula.specs.Substitution.{in_pure, in_spatial, in_heap}
 use Rattle.rule_table.specs.Answer.{needs, finds, limited, one, is_short, has_numbers, heap_numbers}
 use Rattle.rule_table.specs.Table.{calls, right_term, with_right, unfolded_right, unfold_right_answer}
-use Rattle.rule_table.proofs.Reflects.{both, and_true}
 use Rattle.search_moves.specs.Trying.{has_premises}
 use Rattle.search_moves.specs.Rooms.{has_room_for}
 use Rattle.member_facts.proofs.Greatest.{greatest_le}
+use Rattle.std.proofs.lemmas.Bool.{and_from, and_parts}
 
 pub most_append : {X : Type 0} (f : X → ℕ) (n : ℕ) (xs ys : List X) → max_of (map f xs) ≤ n → max_of (map f ys) ≤ n → max_of (map f (xs ++ ys)) ≤ n
 most_append f n [] ys a b = b
@@ -110,11 +110,11 @@ four false q a b = cc
 
 pub case_goes : (most : ℕ) (a b case : SymbolicHeap) (k q : ℕ) (ts : List Term) → slice_get b.spatial k ≡ Some (Pred q ts) → has_room_for most a b case ≡ true → has_premises (limited most (one (with_right a (unfolded_right b k (in_heap (right_term ts (heap_exists b)) case) ∷ [])))) ≡ true
 case_goes most a b case k q ts at room =
-    let r0 = both (is_short most a) (nat_le (length b.pure + length case.pure) 64 && (nat_le (length b.spatial + length case.spatial) (most + 1) && (nat_le (heap_numbers a) 65535 && nat_le (heap_numbers b + heap_numbers case) 65535))) room in
-    let r1 = both (nat_le (length b.pure + length case.pure) 64) (nat_le (length b.spatial + length case.spatial) (most + 1) && (nat_le (heap_numbers a) 65535 && nat_le (heap_numbers b + heap_numbers case) 65535)) r0.1 in
-    let r2 = both (nat_le (length b.spatial + length case.spatial) (most + 1)) (nat_le (heap_numbers a) 65535 && nat_le (heap_numbers b + heap_numbers case) 65535) r1.1 in
-    let r3 = both (nat_le (heap_numbers a) 65535) (nat_le (heap_numbers b + heap_numbers case) 65535) r2.1 in
-    answered _ _ _ _ _ (four (is_short most a) (is_short most h) r0.0 (and_true (nat_le (length h.pure) 64) (nat_le (length h.spatial) most) (le-leb _ _ (pures (leb-true _ _ r1.0))) (le-leb _ _ (spatials (leb-true _ _ r2.0)))))
+    let r0 = and_parts (is_short most a) (nat_le (length b.pure + length case.pure) 64 && (nat_le (length b.spatial + length case.spatial) (most + 1) && (nat_le (heap_numbers a) 65535 && nat_le (heap_numbers b + heap_numbers case) 65535))) room in
+    let r1 = and_parts (nat_le (length b.pure + length case.pure) 64) (nat_le (length b.spatial + length case.spatial) (most + 1) && (nat_le (heap_numbers a) 65535 && nat_le (heap_numbers b + heap_numbers case) 65535)) r0.1 in
+    let r2 = and_parts (nat_le (length b.spatial + length case.spatial) (most + 1)) (nat_le (heap_numbers a) 65535 && nat_le (heap_numbers b + heap_numbers case) 65535) r1.1 in
+    let r3 = and_parts (nat_le (heap_numbers a) 65535) (nat_le (heap_numbers b + heap_numbers case) 65535) r2.1 in
+    answered _ _ _ _ _ (four (is_short most a) (is_short most h) r0.0 (and_from (nat_le (length h.pure) 64) (nat_le (length h.spatial) most) (le-leb _ _ (pures (leb-true _ _ r1.0))) (le-leb _ _ (spatials (leb-true _ _ r2.0)))))
     (four (has_numbers a) (has_numbers h) r3.0 (le-leb _ _ (numbers (leb-true _ _ r3.1))))
   where
     g : Term → Term

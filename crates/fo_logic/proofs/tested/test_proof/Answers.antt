@@ -10,9 +10,10 @@ use Rattle.fo_nodes.specs.Answers.{IsNodeAnswer}
 use Rattle.fo_nodes.specs.Files.{IsSmallSequent, IsReadNode}
 use Rattle.fo_logic.specs.Tested.{rows_of, first_rows}
 use Rattle.fo_logic.specs.Verdicts.{IsRightBefore}
-use Rattle.fo_logic.proofs.TestLoops.{at_index, take_more, one_more}
+use Rattle.fo_logic.proofs.TestLoops.{one_more}
 use Rattle.fo_logic.proofs.tested.test_proof.Goals as goal
 use Rattle.member_facts.proofs.AllMembers.{each_imply, each_at}
+use Rattle.list_facts.proofs.Places.{take_get, at_index}
 
 pub test_node-requires : goal.test_node-requires
 test_node-requires c =
@@ -73,7 +74,7 @@ loop-v-preserved c =
           ∙ ap (λ rs. rs ++ c.in-Right.next.items ∷ []) inv.1
           ∙ ap (λ es. first_rows f v ++ es ∷ []) said.1
           ∙ sym (map-append edges (take v f.nodes) (n ∷ []))
-          ∙ ap (map edges) (sym (take_more f.nodes v n at)),
+          ∙ ap (map edges) (sym (take_get f.nodes v n at)),
       one_more f.nodes (λ u node. node_fault f.theory f.nodes u node ≡ None) v n at inv.2 said.0,
     )
 

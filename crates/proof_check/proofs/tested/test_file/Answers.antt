@@ -13,8 +13,9 @@ use Rattle.proof_check.specs.Laws.{file_cases}
 use Rattle.proof_check.specs.Tested.{rows_of, first_rows, IsSmallBefore}
 use Rattle.proof_check.specs.Verdicts.{IsRightBefore}
 use Rattle.proof_check.proofs.Tables.{has_fields}
-use Rattle.proof_check.proofs.TestLoops.{node_at, take_more, one_more}
+use Rattle.proof_check.proofs.TestLoops.{node_at, one_more}
 use Rattle.proof_check.proofs.tested.test_file.Goals as goal
+use Rattle.list_facts.proofs.Places.{take_get}
 
 pub test_node-requires : goal.test_node-requires
 test_node-requires c = file_cases c.args.file.now
@@ -63,7 +64,7 @@ loop-v-preserved c =
           ∙ ap (λ rs. rs ++ c.in-Right.next.items ∷ []) inv.1
           ∙ ap (λ es. first_rows f v ++ es ∷ []) said.1
           ∙ sym (map-append edges (take v nodes) (node_of n ∷ []))
-          ∙ ap (map edges) (sym (take_more nodes v (node_of n) at)),
+          ∙ ap (map edges) (sym (take_get nodes v (node_of n) at)),
       one_more nodes (λ u node. node_fault f.defs.most f.defs.list f.program nodes u node ≡ None) v (node_of n) at inv.2 said.0,
       one_more nodes (λ u node. length (antecedent node.judgement).spatial ≤ 32) v (node_of n) at inv.3 few,
     )
