@@ -21,7 +21,7 @@ use Rattle.rule_table.specs.LinkTable.{matches_some, spatial_fault, covers_some,
 use Rattle.back_links.specs.Listing.{selections, number_choices, value_choices, values_of, universals, IsMade, maps, substitutions, covers, link_of, candidates, links}
 use Rattle.back_links.proofs.Selecting.{IsSelection, stands_in_range}
 use Rattle.back_links.proofs.Possible.{fits, cond_none}
-use Rattle.member_facts.proofs.SomeMember.{one_front}
+use Rattle.formula_facts.proofs.SomeMember.{one_front}
 use Rattle.std.proofs.lemmas.Bool.{and_parts}
 
 -- ---- members of lists

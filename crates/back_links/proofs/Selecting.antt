@@ -9,7 +9,7 @@ use Rattle.std.specs.List.{filter, flat_map, range_with_len, list_any, list_all}
 use Rattle.heap_formula.specs.Words.{Each, OneOf}
 use Rattle.back_links.specs.Listing.{selections}
 use Rattle.back_links.specs.Branches.{below}
-use Rattle.member_facts.proofs.AllMembers.{each_append, each_mapped}
+use Rattle.formula_facts.proofs.AllMembers.{each_append, each_mapped}
 
 -- ---- the choices
 

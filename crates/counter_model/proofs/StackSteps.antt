@@ -8,7 +8,7 @@ use Rattle.model_check.specs.Constructive.{Member}
 use Rattle.fitting_heaps.proofs.Loops.{pushed}
 use Rattle.fitting_heaps.proofs.LocalLists.{take_next, take_all}
 use Rattle.counter_model.specs.Tightness.{Breaks, IsStack, IsStep}
-use Rattle.member_facts.proofs.AllMembers.{each_last}
+use Rattle.formula_facts.proofs.AllMembers.{each_last}
 
 -- ---- adding entries
 

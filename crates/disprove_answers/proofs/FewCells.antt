@@ -9,7 +9,7 @@ use Rattle.heap_formula.proofs.Unions.{same_cells}
 use Rattle.heap_formula.proofs.StepLaws.{is_eq-Equal}
 use Rattle.fitting_heaps.specs.Bounds.{IsWithin}
 use Rattle.counter_model.specs.Sizes.{rows}
-use Rattle.member_facts.proofs.Addresses.{other_address}
+use Rattle.formula_facts.proofs.Addresses.{other_address}
 
 heap_of : ℕ → List (Option (List ℕ)) → Cells
 heap_of a [] = no_cells

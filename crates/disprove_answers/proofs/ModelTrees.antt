@@ -40,7 +40,7 @@ use Rattle.counter_model.specs.FirstCounter.{HasSize}
 use Rattle.disprove_answers.proofs.FewCells.{few_cells}
 use Rattle.model_file.proofs.Parts.{IsFine}
 use Rattle.model_file.proofs.SortedCells.{cell_found, cells_right}
-use Rattle.member_facts.proofs.AllMembers.{each_imply}
+use Rattle.formula_facts.proofs.AllMembers.{each_imply}
 
 -- ---- version 1 is within the limits of version 2
 

@@ -22,8 +22,8 @@ use Rattle.model_check.proofs.OnlyLocals.{member_each, left_inside, right_inside
 use Rattle.model_check.proofs.CaseLists.{constructive_cases}
 use Rattle.fitting_heaps.specs.Bounds.{AreAtMost, IsWithin, IsAmong}
 use Rattle.fitting_heaps.specs.Findings.{Findings, found_if_asked, FitsCase, IsSettled, UnlessGrown}
-use Rattle.member_facts.proofs.AllMembers.{each_imply}
-use Rattle.member_facts.proofs.Greatest.{each_below}
+use Rattle.formula_facts.proofs.AllMembers.{each_imply}
+use Rattle.formula_facts.proofs.Greatest.{each_below}
 
 -- ---- values of terms are small
 

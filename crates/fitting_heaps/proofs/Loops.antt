@@ -2,7 +2,7 @@
 use Rattle.std.proofs.Common.{◌≡◌, ℕ, zero, suc, ◌+◌, ◌<◌, ◌≤◌, List, [], ◌∷◌, ◌++◌, length, drop, get_or, add-one, drop-cons, Bool, true, false, ◌||◌, sym, ap, ◌∙◌, subst, refl, inl, inr, ◌⊎◌, arith}
 use Rattle.std.specs.Prelude.{IsTrue}
 use Rattle.heap_formula.specs.Words.{Each, OneOf}
-use Rattle.member_facts.proofs.SomeMember.{one_front, one_last}
+use Rattle.formula_facts.proofs.SomeMember.{one_front, one_last}
 use Rattle.list_facts.proofs.Places.{drop_read}
 
 -- what is among the rest, or done, still is when one more is done

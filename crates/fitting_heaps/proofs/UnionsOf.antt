@@ -13,8 +13,8 @@ use Rattle.heap_formula.specs.Words.{Each, OneOf}
 use Rattle.heap_formula.specs.Cells.{Cells, cell_at, no_cells, Joins, IsUnion, Star, IsHeap}
 use Rattle.fitting_heaps.specs.Bounds.{AreAtMost, IsWithin, SameUpTo, IsAmong, Unites, either}
 use Rattle.fitting_heaps.proofs.Loops.{one_at, pushed}
-use Rattle.member_facts.proofs.AllMembers.{each_last}
-use Rattle.member_facts.proofs.Addresses.{other_address}
+use Rattle.formula_facts.proofs.AllMembers.{each_last}
+use Rattle.formula_facts.proofs.Addresses.{other_address}
 
 -- ---- a cell that is put
 

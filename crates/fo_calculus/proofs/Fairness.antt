@@ -28,7 +28,7 @@ use Rattle.fo_calculus.specs.Calculus.{OpenGoal, MadeNode, sequent_of, traced, b
 use Rattle.fo_calculus.specs.Occurring.{MayOccur}
 use Rattle.fo_calculus.proofs.Answers.{rule_premises, link_back, link_alone}
 use Rattle.fo_calculus.proofs.Offers.{rules_lead_forth, offers_within}
-use Rattle.member_facts.proofs.AllMembers.{each_at}
+use Rattle.formula_facts.proofs.AllMembers.{each_at}
 
 -- pairs of predicate atoms lead from positions to positions
 pairs_in : (olds news : List FoAtom) (pairs : List Pair) → PairsFit olds news pairs →

@@ -23,7 +23,7 @@ use Rattle.tableaux.specs.Fair.{AllOccur}
 use Rattle.fo_calculus.specs.Calculus.{OpenGoal, MadeNode, sequent_of, back, links_by_reason, links_to_node, links_at, rules_at}
 use Rattle.fo_calculus.specs.Occurring.{MayOccur}
 use Rattle.cyc_limits.specs.declared.TheConstants.{MOST_LINKS}
-use Rattle.member_facts.proofs.AllMembers.{each_append, each_at, each_mapped}
+use Rattle.formula_facts.proofs.AllMembers.{each_append, each_at, each_mapped}
 use Rattle.fo_moves.proofs.Lists.{each_else}
 
 each_if : {X : Type 0} (P : X → Type 0) (b : Bool) (xs : List X) → Each P xs → Each P (cond b xs [])

@@ -12,7 +12,7 @@ use Rattle.fo_values.specs.Values.{first_terms, term_value, atom_value, atoms_va
 use Rattle.fo_values.specs.Known.{IsKnownAtom, AreKnownAtoms, IsKnownSequent, IsKnownDefinition, IsKnownReason, IsKnownNode, IsKnownFile, IsKnownProblem}
 use Rattle.fo_values.proofs.TreesAgain.{terms-value}
 use Rattle.fo_file.specs.OfTerms.{IsAtomOfTerms, AreAtomsOfTerms, IsSequentOfTerms, IsDefinitionOfTerms, IsReasonOfTerms, IsNodeOfTerms, IsFileOfTerms, IsProblemOfTerms}
-use Rattle.member_facts.proofs.AllMembers.{each_made}
+use Rattle.formula_facts.proofs.AllMembers.{each_made}
 
 first-are-terms : (n : ℕ) (w : Word) → words.AreTerms n w → Each words.IsTerm (first_terms n w)
 first-are-terms zero w are = tt

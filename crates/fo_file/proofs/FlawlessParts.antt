@@ -23,7 +23,7 @@ use Rattle.fo_walk.specs.Flaws.{constructor_heading, predicate_heading, construc
 use Rattle.fo_values.specs.Known.{IsNarrow, IsKnownTerm, IsKnownEntry, AreKnownAtoms, IsKnownSequent, IsKnownDefinition, IsKnownReason, IsKnownTheory}
 use Rattle.fo_file.proofs.Lists.{each-apply}
 use Rattle.fo_file.proofs.Flawless.{HasFewArguments, variable-small, term-known, atom-known, side-known}
-use Rattle.member_facts.proofs.AllMembers.{each_imply, each_made}
+use Rattle.formula_facts.proofs.AllMembers.{each_imply, each_made}
 
 -- ---- constructors
 

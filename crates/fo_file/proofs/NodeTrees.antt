@@ -19,7 +19,7 @@ use Rattle.fo_term_syntax.specs.Trees.{Sign, arguments_of, AreTerms}
 use Rattle.fo_walk.specs.AtomSpans.{terms_in, total_terms}
 use Rattle.fo_walk.specs.Spans.{sequent_terms}
 use Rattle.fo_values.specs.Written.{sign_tree, term_tree, atom_tree, atoms_tree, sequent_tree}
-use Rattle.member_facts.proofs.AllMembers.{each_append}
+use Rattle.formula_facts.proofs.AllMembers.{each_append}
 
 -- ---- the arguments of a predicate as one word
 

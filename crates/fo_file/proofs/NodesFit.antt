@@ -28,7 +28,7 @@ use Rattle.fo_proof_syntax.specs.Trees.{Entry, Node}
 use Rattle.fo_proof_syntax.specs.Grammar.{numbers, bracketed, two_numbers, replace, terms, right_rule, entry, entries, link, parts, reason, premises, node, nodes}
 use Rattle.fo_values.specs.Written.{constructor_name, predicate_name, sign_tree, term_tree, atom_tree, atoms_tree, sequent_tree, entry_tree, reason_tree, node_tree}
 use Rattle.fo_file.proofs.NodeTrees.{joined, joined-terms, joined-signs, are-terms, terms-tree, joined-tree}
-use Rattle.member_facts.proofs.AllMembers.{each_made}
+use Rattle.formula_facts.proofs.AllMembers.{each_made}
 
 -- ---- parts that fit make what fits
 

@@ -32,7 +32,7 @@ use Rattle.fo_values.proofs.TreesAgain.{terms-value}
 use Rattle.fo_walk.specs.AtomSpans.{terms_in, total_terms}
 use Rattle.fo_walk.specs.Spans.{sequent_terms}
 use Rattle.fo_file.proofs.Fitted.{sides-fit, terms-fit, entries-fit}
-use Rattle.member_facts.proofs.AllMembers.{each_take, each_drop}
+use Rattle.formula_facts.proofs.AllMembers.{each_take, each_drop}
 
 -- ---- the terms of a word
 

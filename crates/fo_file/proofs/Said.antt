@@ -35,7 +35,7 @@ use Rattle.fo_file.proofs.ArgumentTerms.{file-of-terms, problem-of-terms}
 use Rattle.fo_file.proofs.Open.{sequent-size, open-sequent, open-reason}
 use Rattle.fo_file.proofs.Outside.{sequent-outside}
 use Rattle.fo_file.proofs.Within.{arity-placed, definition-said, sequent-said}
-use Rattle.member_facts.proofs.AllMembers.{each_imply, each_made, each_both}
+use Rattle.formula_facts.proofs.AllMembers.{each_imply, each_made, each_both}
 
 -- ---- theories
 

@@ -21,7 +21,7 @@ use Rattle.fo_values.proofs.Names.{heading_arity, arity-there}
 use Rattle.fo_values.proofs.TreesAgain.{terms-value}
 use Rattle.fo_file.proofs.Open.{first-each}
 use Rattle.fo_file.proofs.Outside.{IsOutside, InAtom}
-use Rattle.member_facts.proofs.AllMembers.{each_made}
+use Rattle.formula_facts.proofs.AllMembers.{each_made}
 
 -- ---- predicates
 

@@ -33,7 +33,7 @@ use Rattle.fo_file.proofs.NodeTrees.{are-terms}
 use Rattle.fo_file.proofs.NodesFit.{node-fits, nodes-made}
 use Rattle.fo_file.proofs.NodesFlawless.{nodes-right}
 use Rattle.fo_file.proofs.Places.{constructor-arity, predicate-arity}
-use Rattle.member_facts.proofs.AllMembers.{each_imply, each_made}
+use Rattle.formula_facts.proofs.AllMembers.{each_imply, each_made}
 
 -- ---- names
 

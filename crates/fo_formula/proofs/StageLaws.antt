@@ -7,7 +7,7 @@ use Rattle.fo_formula.specs.declared.theory.FoTheory.{FoTheory}
 use Rattle.fo_formula.specs.Words.{Word}
 use Rattle.fo_formula.specs.Values.{value}
 use Rattle.fo_formula.specs.Meaning.{Family, AtomHolds, CaseHolds, cases_of, at_stage, least}
-use Rattle.member_facts.proofs.AllMembers.{each_imply}
+use Rattle.formula_facts.proofs.AllMembers.{each_imply}
 use Rattle.heap_formula.proofs.StageLaws.{OneOf-map}
 
 -- one meaning is within another

@@ -24,7 +24,7 @@ use Rattle.fo_calculus.proofs.Offers.{offers_are}
 use Rattle.fo_found.specs.Files.{numbers_of, proof_nodes}
 use Rattle.fo_found.proofs.Made.{IsBy, AreNodes}
 use Rattle.fo_found.proofs.Rows.{row_of}
-use Rattle.member_facts.proofs.AllMembers.{each_any}
+use Rattle.formula_facts.proofs.AllMembers.{each_any}
 
 targets_short : (nodes : List MadeNode) (v : ℕ) (ps : List (Premise FoSequent)) (es : List Edge) →
     length nodes ≤ 20000 → AllLead nodes v ps es → Each IsNumberWithin (map (λ (e : Edge). e.target) es)

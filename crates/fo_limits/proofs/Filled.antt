@@ -17,7 +17,7 @@ use Rattle.fo_formula.proofs.Replacing.{Keeps, terms-replaced, term_keeps}
 use Rattle.fo_table.specs.Tests.{have_one_constructor}
 use Rattle.fo_table.specs.Table.{Bindings, image, image_sign, equations, argument_equations, variables_from}
 use Rattle.fo_limits.specs.Limits.{IsSignWithin, IsCaseSign, IsTermOf, TakesArguments, IsAtomOf, IsTermWithin, IsAtomWithin}
-use Rattle.member_facts.proofs.AllMembers.{each_append, each_made, each_take, each_drop, each_or}
+use Rattle.formula_facts.proofs.AllMembers.{each_append, each_made, each_take, each_drop, each_or}
 
 -- ---- any words in place of signs
 

@@ -23,7 +23,7 @@ use Rattle.fo_table.specs.LinkTable.{link_fault, linked}
 use Rattle.fo_table.specs.Table.{rule_answer}
 use Rattle.fo_table.proofs.Links.{Names, link_names}
 use Rattle.fo_limits.specs.Limits.{IsSequentWithin, IsTheoryWithin, IsNumberWithin, numbers_of, numbers_of_rule}
-use Rattle.member_facts.proofs.AllMembers.{each_append}
+use Rattle.formula_facts.proofs.AllMembers.{each_append}
 
 -- ---- what holds where the answer is premises
 

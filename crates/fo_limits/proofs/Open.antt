@@ -14,7 +14,7 @@ use Rattle.fo_formula.specs.Words.{Word}
 use Rattle.fo_formula.specs.Shapes.{IsOpenSign, IsOpenTerm, IsOpenAtom, IsOpenSequent}
 use Rattle.fo_table.specs.Soundness.{HasOpenTerms, HasOpenReason}
 use Rattle.fo_limits.specs.Limits.{IsSignWithin, IsTermWithin, IsAtomWithin, HasAtomsWithin, IsRuleWithin, IsPairWithin, IsReasonWithin}
-use Rattle.member_facts.proofs.AllMembers.{each_imply}
+use Rattle.formula_facts.proofs.AllMembers.{each_imply}
 
 module _ (t : FoTheory) where
   sign_open : (s : Sign) → IsSignWithin t s → IsOpenSign t.constructors s

@@ -30,7 +30,7 @@ use Rattle.fo_nodes.specs.Files.{IsSmallSequent}
 use Rattle.fo_limits.specs.Limits.{IsSignWithin, IsCaseSign, IsTermWithin, IsAtomOf, IsAtomWithin, HasAtomsWithin, IsSequentWithin, IsRuleWithin, IsDefinitionWithin, IsTheoryWithin}
 use Rattle.fo_limits.proofs.Lists.{each_set}
 use Rattle.fo_limits.proofs.Filled.{atom_filled, atoms_filled, value_fills, image_fills, variables_within, arguments_within}
-use Rattle.member_facts.proofs.AllMembers.{each_append, each_at, each_made, each_both, each_without}
+use Rattle.formula_facts.proofs.AllMembers.{each_append, each_at, each_made, each_both, each_without}
 
 abbrev pub IsPremiseWithin : FoTheory → FoPremise → Type 0
 IsPremiseWithin t p = IsSequentWithin t p.sequent

@@ -14,7 +14,7 @@ use Rattle.fo_formula.specs.Words.{Word}
 use Rattle.fo_limits.specs.Limits.{IsSignWithin, IsTermWithin, IsAtomWithin, HasAtomsWithin}
 use Rattle.fo_moves.specs.Links.{stands_in, variables}
 use Rattle.fo_moves.proofs.Lists.{each_filter}
-use Rattle.member_facts.proofs.AllMembers.{each_imply, range_below}
+use Rattle.formula_facts.proofs.AllMembers.{each_imply, range_below}
 
 -- the greatest of numbers that are each at most m
 most_of : {X : Type 0} (P : X → Type 0) (f : X → ℕ) (m : ℕ) → ((x : X) → P x → f x ≤ m) → (xs : List X) → Each P xs →

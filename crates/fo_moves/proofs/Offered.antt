@@ -33,7 +33,7 @@ use Rattle.fo_moves.specs.After.{suits, choices, rights_by, rights_at, unfold_at
 use Rattle.fo_moves.proofs.Lists.{each_kept, each_filter, each_first_kept, each_first, each_line, each_offered, each_zipped}
 use Rattle.fo_moves.proofs.Terms.{lists_are}
 use Rattle.fo_moves.proofs.LowVariables.{variables_low}
-use Rattle.member_facts.proofs.AllMembers.{each_imply, each_append, each_mapped, each_take, each_any}
+use Rattle.formula_facts.proofs.AllMembers.{each_imply, each_append, each_mapped, each_take, each_any}
 use Rattle.std.proofs.lemmas.Bool.{and_parts}
 use Rattle.list_facts.proofs.Options.{none_is}
 

@@ -13,7 +13,7 @@ use Rattle.fo_table.specs.Tests.{same_word}
 use Rattle.fo_limits.specs.Limits.{IsTermOf, IsAtomOf}
 use Rattle.fo_moves.specs.Subterms.{terms_of_atom, terms_of, parts_of, once, subterms, lists_of}
 use Rattle.fo_moves.proofs.Lists.{each_joined, each_chosen}
-use Rattle.member_facts.proofs.AllMembers.{each_append, each_take}
+use Rattle.formula_facts.proofs.AllMembers.{each_append, each_take}
 
 module _ (Q : Sign → Type 0) where
   each_part : (n : ℕ) (w : Word) → AreTerms n w → Each Q w → Each (IsTermOf Q) (parts_of w)

@@ -36,7 +36,7 @@ use Rattle.fo_table.specs.Nodes.{unless_fault, link_answer, reason_answer}
 use Rattle.fo_table.proofs.Links.{Names, link_names}
 use Rattle.fo_nodes.specs.Files.{IsSmallDefinition}
 use Rattle.fo_nodes.proofs.Fits.{IsPredAt, PairsFit, pred_front, pred_back, pred_mapped, pairs_fit, pairs_fit_0, same_fit, kept_fit, children_fit}
-use Rattle.member_facts.proofs.AllMembers.{each_append, each_at}
+use Rattle.formula_facts.proofs.AllMembers.{each_append, each_at}
 
 -- the pairs of a premise join left predicate atoms of the sequent and of the premise
 abbrev pub PremiseFits : FoSequent → FoPremise → Type 0

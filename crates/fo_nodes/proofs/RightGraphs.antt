@@ -25,7 +25,7 @@ use Rattle.fo_nodes.proofs.Fits.{IsPredAt, PairsFit}
 use Rattle.fo_nodes.proofs.Fine.{PremiseFits}
 use Rattle.fo_nodes.proofs.Reasons.{Leads, by_node}
 use Rattle.fo_nodes.proofs.RightNodes.{node_holds}
-use Rattle.member_facts.proofs.AllMembers.{each_at}
+use Rattle.formula_facts.proofs.AllMembers.{each_at}
 use Rattle.list_facts.proofs.Places.{get_within as some_at, get_map as at_mapped}
 
 edges_short : (ps : List FoPremise) (us : List ℕ) → length (edges_to ps us) ≤ length ps

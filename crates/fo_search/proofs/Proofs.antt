@@ -28,7 +28,7 @@ use Rattle.fo_found.specs.Found.{AreProof}
 use Rattle.fo_found.proofs.Found.{makes_proof}
 use Rattle.fo_search.specs.Moves.{Moves, calculus_in, occurs_in, allows_in, IsFirstOrder}
 use Rattle.fo_search.specs.Outcomes.{search_for, reasons_of, IsProofFor}
-use Rattle.member_facts.proofs.AllMembers.{each_imply}
+use Rattle.formula_facts.proofs.AllMembers.{each_imply}
 
 -- the search that the moves follow
 pub follows : (problem : FoProblem) (moves : Moves) → IsFirstOrder problem moves → IsItsSearch calculus_in moves (search_for problem)

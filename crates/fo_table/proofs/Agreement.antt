@@ -12,7 +12,7 @@ use Rattle.fo_formula.specs.Values.{entry, sign_value, value}
 use Rattle.fo_formula.specs.Meaning.{Family, AtomHolds}
 use Rattle.fo_formula.specs.Bounds.{sign_bound, word_bound, words_bound, atom_bound, atoms_bound}
 use Rattle.fo_formula.proofs.Replacing.{InAtom, replaced-same}
-use Rattle.member_facts.proofs.AllMembers.{each_imply}
+use Rattle.formula_facts.proofs.AllMembers.{each_imply}
 
 -- ---- bounds of the signs
 

@@ -31,7 +31,7 @@ use Rattle.fo_table.proofs.Reflects.{word_is, atom_is, only_is}
 use Rattle.fo_table.proofs.RuleLemmas.{axiom_lemma, refl_lemma, clash_lemma, weaken_left_lemma, weaken_right_lemma, decompose_lemma, replace_lemma, contract_lemma, cut_lemma}
 use Rattle.fo_table.proofs.Unfolds.{unfold_lemma}
 use Rattle.fo_table.proofs.Rights.{right_lemma}
-use Rattle.member_facts.proofs.AllMembers.{each_at}
+use Rattle.formula_facts.proofs.AllMembers.{each_at}
 
 module _ (t : FoTheory) (s : FoSequent) where
   pub axiom_is_sound : (i j : ℕ) → IsSound t s (axiom_answer s i j)

@@ -27,8 +27,8 @@ use Rattle.fo_table.specs.Soundness.{IsLocallySound, HasOpenValues}
 use Rattle.fo_table.proofs.Lefts.{left_at, pairs_follow}
 use Rattle.fo_table.proofs.Reflects.{atom_is}
 use Rattle.fo_table.proofs.Agreement.{IsBelow, atoms_below, in_atom_map, tabulated, tabulated-at, tabulated_each}
-use Rattle.member_facts.proofs.AllMembers.{each_append}
-use Rattle.member_facts.proofs.SomeMember.{one_at}
+use Rattle.formula_facts.proofs.AllMembers.{each_append}
+use Rattle.formula_facts.proofs.SomeMember.{one_at}
 
 -- ---- what a map without a fault names
 

@@ -20,7 +20,7 @@ use Rattle.fo_table.specs.Table.{right_premise}
 use Rattle.fo_table.specs.Soundness.{PremiseHolds, IsLocallySound}
 use Rattle.fo_table.proofs.Lefts.{pairs_follow, one_set}
 use Rattle.fo_table.proofs.Agreement.{in_any_atom}
-use Rattle.member_facts.proofs.SomeMember.{one_at}
+use Rattle.formula_facts.proofs.SomeMember.{one_at}
 
 -- a case's signs at arguments and terms have the values that they have under the values
 case_valued : (v args terms : List Word) (x : Sign) → IsValued v [] (map (value v []) args) (map (value v []) terms) (sign_value args terms) x

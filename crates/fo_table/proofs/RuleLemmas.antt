@@ -28,7 +28,7 @@ use Rattle.fo_table.specs.Soundness.{IsLocallySound}
 use Rattle.fo_table.proofs.Lefts.{then_stages, then_stages-first, then_stages-others, left_without, left_at, left_append, left_changed, pairs_follow, pairs_follow_if, one_without}
 use Rattle.fo_table.proofs.Agreement.{in_any_atom}
 use Rattle.fo_table.proofs.Readings.{absurd_differ, arguments_hold}
-use Rattle.member_facts.proofs.SomeMember.{one_at, one_unmap}
+use Rattle.formula_facts.proofs.SomeMember.{one_at, one_unmap}
 
 each_of_any : (Q : FoAtom → Type 0) → ((x : FoAtom) → Q x) → (xs : List FoAtom) → Each Q xs
 each_of_any Q f [] = tt

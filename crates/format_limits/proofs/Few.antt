@@ -36,7 +36,7 @@ use Rattle.rule_table.specs.Table.{with_pures, with_pure, with_right, without_sp
 use Rattle.rule_table.specs.Tests.{same_term, same_spatial, is_universal_pure, is_universal_spatial, follows, is_absurd, address_of, ascend_from, has_number}
 use Rattle.format_limits.specs.Limits.{IsDefinitionWithin}
 use Rattle.format_limits.proofs.Gives.{needs_gives, finds_gives, limited_gives, entails_gives, single_gives, runs_gives}
-use Rattle.member_facts.proofs.AllMembers.{each_imply}
+use Rattle.formula_facts.proofs.AllMembers.{each_imply}
 
 abbrev pub HasFewCases : Definition → Type 0
 HasFewCases d = length d.cases ≤ 16

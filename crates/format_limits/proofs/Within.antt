@@ -44,7 +44,7 @@ use Rattle.format_limits.specs.Limits.{IsHeapWithin, IsJudgementWithin, IsCaseWi
 use Rattle.format_limits.proofs.Gives.{needs_gives, finds_gives, entails_gives, single_gives, runs_gives}
 use Rattle.format_limits.proofs.Heaps.{length-without, length-slice_set, IsLow, IsShaped, IsSmall, small, within, within_after, shapes_after, low_pures_after, low_spatials_after}
 use Rattle.format_limits.proofs.Judgements.{heaps_with, first_heap, heaps_map, form_with, form_map, IsNearly, IsReadyHeap, IsReady, ready, all_ready, limited_nearly}
-use Rattle.member_facts.proofs.AllMembers.{each_imply, each_append, each_at, each_set, each_chosen}
+use Rattle.formula_facts.proofs.AllMembers.{each_imply, each_append, each_at, each_set, each_chosen}
 
 -- ---- cases
 

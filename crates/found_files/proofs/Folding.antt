@@ -21,7 +21,7 @@ use Rattle.fold_offers.specs.Folds.{Binding, bound_in, bind_variable, bind, bind
 use Rattle.format_limits.specs.Limits.{IsHeapWithin, IsDefinitionWithin, IsRuleWithin}
 use Rattle.found_files.proofs.Members.{each_append, each_if, each_unless, each_take, each_map, each_get, each_of_any, each_placed}
 use Rattle.found_files.proofs.HeapTerms.{HasNumber}
-use Rattle.member_facts.proofs.Greatest.{below_each}
+use Rattle.formula_facts.proofs.Greatest.{below_each}
 
 -- ---- what a case's variables are bound to
 

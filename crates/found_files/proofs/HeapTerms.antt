@@ -15,8 +15,8 @@ use Rattle.heap_formula.specs.Symbolic.{SymbolicHeap}
 use Rattle.heap_formula.specs.Words.{Each, max_of}
 use Rattle.rule_table.specs.Answer.{number_bound, pure_numbers, spatial_numbers, heap_numbers, heaps_of}
 use Rattle.format_limits.specs.Limits.{IsHeapWithin, IsTermWithin}
-use Rattle.member_facts.proofs.Greatest.{each_below, greatest_le}
-use Rattle.member_facts.proofs.AllMembers.{each_both}
+use Rattle.formula_facts.proofs.Greatest.{each_below, greatest_le}
+use Rattle.formula_facts.proofs.AllMembers.{each_both}
 
 -- a variable up to number 65,534, or nil
 abbrev pub HasNumber : Term → Type 0

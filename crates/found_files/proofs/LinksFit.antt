@@ -14,7 +14,7 @@ use Rattle.search_moves.specs.Offering.{links_offered}
 use Rattle.found_files.specs.Faultless.{IsLinked}
 use Rattle.found_files.proofs.Members.{each_with, each_passes}
 use Rattle.found_files.proofs.LinksWithin.{all_offered, links_target}
-use Rattle.member_facts.proofs.AllMembers.{each_both}
+use Rattle.formula_facts.proofs.AllMembers.{each_both}
 
 nothing : {X : Type 0} (o : Option X) → is_none o ≡ true → o ≡ None
 nothing None e = refl

@@ -20,7 +20,7 @@ use Rattle.search_moves.specs.Offering.{is_companion, links_to, candidates, rule
 use Rattle.format_limits.specs.Limits.{IsJudgementWithin, IsTermWithin, IsPairWithin, IsReasonWithin}
 use Rattle.found_files.proofs.Members.{each_any, each_with, each_if, each_filter, each_take, each_unless_some, each_map, each_flat_map, each_placed, take_get}
 use Rattle.found_files.proofs.HeapTerms.{judgement_below}
-use Rattle.member_facts.proofs.AllMembers.{range_below}
+use Rattle.formula_facts.proofs.AllMembers.{range_below}
 
 -- ---- the universal variables of a judgement
 

@@ -13,8 +13,8 @@ use Rattle.model_check.specs.Questions.{Question}
 use Rattle.model_check.specs.Constructive.{IsConstructive, AreConstructive, Fits}
 use Rattle.model_check.specs.Grounding.{PiecesFit, HasRule, Extends, GroundedCase, IsCaseRule, GroundedCases}
 use Rattle.model_check.proofs.Asking.{extends_all, extends_trans, pieces_kept}
-use Rattle.member_facts.proofs.AllMembers.{each_imply, each_last, each_append}
-use Rattle.member_facts.proofs.SomeMember.{one_front, one_last}
+use Rattle.formula_facts.proofs.AllMembers.{each_imply, each_last, each_append}
+use Rattle.formula_facts.proofs.SomeMember.{one_front, one_last}
 
 module _ (h : Cells) (ns : List ℕ) (head : ℕ) (vs : List ℕ) where
   no_cases : (qs : List Question) (rules : List GroundRule) → GroundedCases h ns qs qs rules rules head vs []

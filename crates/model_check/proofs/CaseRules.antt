@@ -16,7 +16,7 @@ use Rattle.model_check.specs.MaskParts.{Covers}
 use Rattle.model_check.specs.Grounding.{IsListed, PiecesFit, HasRule, AskedPieces, GroundedCase}
 use Rattle.model_check.proofs.Asking.{extends_all}
 use Rattle.model_check.proofs.Rounds.{pieces_agree}
-use Rattle.member_facts.proofs.SomeMember.{one_last}
+use Rattle.formula_facts.proofs.SomeMember.{one_last}
 
 listed_all : (h : Cells) (ns : List ℕ) (s e : Stack) (xs : List Spatial) → Covers ns h → Each (CellFits h s e) xs → Each (IsListed ns s e) xs
 listed_all h ns s e [] c f = tt

@@ -20,7 +20,7 @@ use Rattle.model_check.specs.Grounding.{PiecesFit, Extends, AskedPieces, IsRule,
 use Rattle.model_check.proofs.Asking.{pieces_kept}
 use Rattle.model_check.proofs.QuestionLists.{question_within}
 use Rattle.model_check.proofs.Rounds.{union_map, derived_in, unions_satisfy, satisfied_unions}
-use Rattle.member_facts.proofs.AllMembers.{each_imply}
+use Rattle.formula_facts.proofs.AllMembers.{each_imply}
 
 pub heads_fit : (ds : List Definition) (h : Cells) (ns : List ℕ) (qs : List Question) (rules : List GroundRule) (n : ℕ) → length qs ≡ n → Grounds ds h ns qs rules → HeadsFit n rules
 heads_fit ds h ns qs rules n e g =

@@ -8,7 +8,7 @@ use Rattle.heap_formula.specs.Definitions.{Definition}
 use Rattle.heap_formula.specs.Words.{Each}
 use Rattle.model_check.specs.Constructive.{IsConstructive, AreConstructive}
 use Rattle.model_check.specs.FirstPlaces.{IsFirstBad, IsFirstBadCase}
-use Rattle.member_facts.proofs.AllMembers.{each_last}
+use Rattle.formula_facts.proofs.AllMembers.{each_last}
 
 -- those before a place are constructive, and the one there is not
 pub bad_at : (xs : List SymbolicHeap) (i : ℕ) (x : SymbolicHeap) → i < length xs → x ≡ get_or xs i x → Each IsConstructive (take i xs) → ¬ IsConstructive x → IsFirstBad xs i

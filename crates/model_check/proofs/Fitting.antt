@@ -21,7 +21,7 @@ use Rattle.model_check.specs.ForcedLocals.{local_value, term_value, or_zero, fir
 use Rattle.model_check.proofs.KnownTerms.{known_in, in_heap_map}
 use Rattle.model_check.proofs.OnlyLocals.{only_fit}
 use Rattle.model_check.proofs.Forcing.{term_is}
-use Rattle.member_facts.proofs.AllMembers.{each_append}
+use Rattle.formula_facts.proofs.AllMembers.{each_append}
 
 first_at : (f : ℕ → ℕ) (k n : ℕ) → n < k → slice_index (first_of f k) n ≡ f n
 first_at f zero n l = absurd (omega arith)

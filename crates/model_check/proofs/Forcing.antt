@@ -15,7 +15,7 @@ use Rattle.model_check.specs.Steps.{target}
 use Rattle.model_check.specs.ForcedLocals.{local_value, term_value, field_of, from_value, from_field, from_address, target_of, StepHolds, StepsHold, HasLocal, AreForced, IsValued, IsPassed, AllPassed, Sets, Follows}
 use Rattle.model_check.proofs.OnlyLocals.{member_each}
 use Rattle.model_check.proofs.KnownTerms.{member_at}
-use Rattle.member_facts.proofs.AllMembers.{each_last}
+use Rattle.formula_facts.proofs.AllMembers.{each_last}
 
 module _ (h : Cells) (s e : Stack) where
   local_is : (ls : List Local) (n v : ℕ) → Each (HasLocal e) ls → local_value ls n ≡ Some v → slice_index e n ≡ v

@@ -15,7 +15,7 @@ use Rattle.model_check.specs.declared.known.Step.TheVariants.{Same, Field}
 use Rattle.model_check.specs.Constructive.{Member, Known, nil, universal, right_side, left_side, field, IsConstructive}
 use Rattle.model_check.specs.Steps.{source, target, IsKnownIn, Learned, start, taken, AreLearned, IsTaken, AllTaken, Learns, pure_steps, pures_steps, field_steps, spatial_steps, spatials_steps, steps_of}
 use Rattle.model_check.proofs.OnlyLocals.{member_each, universal_known}
-use Rattle.member_facts.proofs.AllMembers.{each_imply, each_last, each_append}
+use Rattle.formula_facts.proofs.AllMembers.{each_imply, each_last, each_append}
 
 pub learned_in : (steps : List Step) (ks : List Term) (t : Term) → AreLearned steps ks → IsKnownIn ks t → Learned steps t
 learned_in steps ks Nil a k = start Nil tt

@@ -16,7 +16,7 @@ use Rattle.heap_formula.specs.Meaning.{Family, PureHolds, SpatialHolds, Holds}
 use Rattle.heap_formula.specs.Closedness.{InPure, InSpatial, IsUniversal, IsUniversalHeap}
 use Rattle.heap_formula.proofs.Unions.{union_comm}
 use Rattle.model_check.specs.Constructive.{Member, Known, nil, universal, right_side, left_side, field, IsConstructive, CellFits, Fits, IsOnly, Inside}
-use Rattle.member_facts.proofs.AllMembers.{each_imply}
+use Rattle.formula_facts.proofs.AllMembers.{each_imply}
 
 pub member_each : {X : Type 0} (P : X → Type 0) (x : X) (xs : List X) → Member x xs → Each P xs → P x
 member_each P x [] m a = absurd m

@@ -16,7 +16,7 @@ use Rattle.model_check.specs.Grounding.{IsQuestion, PiecesFit, HasRule, IsRule, 
 use Rattle.model_check.proofs.Asking.{extends_trans, pieces_kept}
 use Rattle.model_check.proofs.CaseLists.{has_kept}
 use Rattle.model_check.proofs.Rounds.{one_question}
-use Rattle.member_facts.proofs.AllMembers.{each_imply, each_append}
+use Rattle.formula_facts.proofs.AllMembers.{each_imply, each_append}
 
 -- a number below the length is a question's
 question_of : (qs : List Question) (q : ℕ) → q < length qs → (x : Question) × IsQuestion qs q x.predicate x.values

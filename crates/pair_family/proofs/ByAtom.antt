@@ -16,7 +16,7 @@ use Rattle.pair_family.proofs.Two.{two_in}
 use Rattle.pair_family.proofs.Classes.{classes_have, classes_least}
 use Rattle.pair_family.proofs.Scope.{atom_equations_in, atom_differences_in, atom_addresses_in}
 use Rattle.pair_family.proofs.Fold.{filter_same, any_same, both_first, whole_folded, folded_whole, said_same}
-use Rattle.member_facts.proofs.AllMembers.{each_front}
+use Rattle.formula_facts.proofs.AllMembers.{each_front}
 use Rattle.std.proofs.lemmas.List.{append-nil}
 
 pub append_three : {X : Type 0} (xs ys zs : List X) → xs ++ (ys ++ zs) ≡ (xs ++ ys) ++ zs

@@ -14,7 +14,7 @@ use Rattle.pair_family.proofs.Two.{two_append, append_two_left, append_two_right
 use Rattle.pair_family.proofs.Classes.{classes_have, classes_least}
 use Rattle.pair_family.proofs.Kept.{kept_differ, kept_cells_apart, cell_class, cells_two}
 use Rattle.pair_family.proofs.Assigned.{cell_kept, worth, worth_same, worth_kept, worth_apart, worth_cases}
-use Rattle.member_facts.proofs.AllMembers.{each_append, each_front, each_back}
+use Rattle.formula_facts.proofs.AllMembers.{each_append, each_front, each_back}
 use Rattle.list_facts.proofs.Tests.{bool_same}
 
 -- ---- the differences of two parts together

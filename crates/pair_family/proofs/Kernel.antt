@@ -7,7 +7,7 @@ use Rattle.pair_family.specs.Within.{IsWithin}
 use Rattle.pair_family.specs.Combination.{Two, any, upto, pairs_below, is_between, is_in_class, is_least, AreApart, kept}
 use Rattle.pair_family.proofs.Lists.{at_each, filter_in, upto_in, pairs_in}
 use Rattle.pair_family.proofs.Fold.{filter_same, any_same}
-use Rattle.member_facts.proofs.AllMembers.{each_imply}
+use Rattle.formula_facts.proofs.AllMembers.{each_imply}
 use Rattle.list_facts.proofs.Tests.{bool_same}
 
 module _ (f g : Term → ℕ) (same : (t u : Term) → (f t ≡ f u) ↔ (g t ≡ g u)) where

@@ -10,7 +10,7 @@ use Rattle.pair_family.specs.BasePairs.{BasePair}
 use Rattle.pair_family.specs.Combination.{Choice, next}
 use Rattle.pair_family.specs.Family.{PairFamily, IsChosen, CaseGives, arity_of, family_at, InFamily}
 use Rattle.pair_family.specs.Tables.{in_table, IsMember, IsDistinct, Table, IsTable, HasMoreThan, HasAtMost}
-use Rattle.member_facts.proofs.AllMembers.{each_imply}
+use Rattle.formula_facts.proofs.AllMembers.{each_imply}
 use Rattle.heap_formula.proofs.StageLaws.{OneOf-map}
 
 abbrev pub WithinPairs : PairFamily → PairFamily → Type 0

@@ -14,7 +14,7 @@ use Rattle.pair_family.specs.Frames.{term_at}
 use Rattle.pair_family.specs.Within.{AreWithin, AreBelow, IsWithin}
 use Rattle.pair_family.proofs.Lists.{map_each}
 use Rattle.pair_states.proofs.Labelled.{label_of, labels_are, said_by_is}
-use Rattle.member_facts.proofs.AllMembers.{each_imply, each_append, each_mapped}
+use Rattle.formula_facts.proofs.AllMembers.{each_imply, each_append, each_mapped}
 use Rattle.std.proofs.lemmas.List.{map-append}
 
 map_apply : {X Y : Type 0} (f g : X → Y) (xs : List X) → Each (λ x. f x ≡ g x) xs → map f xs ≡ map g xs

@@ -32,7 +32,7 @@ use Rattle.problem_files.proofs.Lists.{none_later, all_true}
 use Rattle.problem_files.proofs.Names.{HaveFreeNames, HaveOwnNames, HaveFewParameters, heads_of}
 use Rattle.problem_files.proofs.Terms.{IsFlawless, term_flawless, term_readable}
 use Rattle.problem_files.proofs.Heaps.{in_heap_both, heap_fits, heaps_fit, heap_flawless, heaps_flawless}
-use Rattle.member_facts.proofs.AllMembers.{each_imply}
+use Rattle.formula_facts.proofs.AllMembers.{each_imply}
 
 -- ---- heaps outside definitions
 

@@ -16,7 +16,7 @@ use Rattle.heap_reader.specs.Trees.{Heading}
 use Rattle.heap_reader.specs.Flaws.{ill_if, arity_in, use_flaw}
 use Rattle.proof_file.specs.Flaws.{headings}
 use Rattle.proof_file.specs.Written.{name_in, name_of, definition_tree}
-use Rattle.member_facts.proofs.AllMembers.{each_at}
+use Rattle.formula_facts.proofs.AllMembers.{each_at}
 
 -- each definition has a name that is not reserved
 abbrev pub HaveFreeNames : List Definition → Type 0

@@ -13,7 +13,7 @@ use Rattle.problem_files.proofs.Lists.{many_fit, all_true}
 use Rattle.problem_files.proofs.Names.{HaveFreeNames}
 use Rattle.problem_files.proofs.Judgements.{judgement_fits, judgement_at_line, heap_readable}
 use Rattle.problem_files.proofs.Reasons.{reason_fits, premises_fit, reason_readable}
-use Rattle.member_facts.proofs.AllMembers.{each_imply}
+use Rattle.formula_facts.proofs.AllMembers.{each_imply}
 
 module _ (limit : ℕ) (ds : List Definition) (count : ℕ) where
   node_fits : HaveFreeNames ds → count ≤ 4096 → (n : FileNode) → IsNodeWithin limit ds count n → grammar.node.fits (node_tree ds n)

@@ -32,8 +32,8 @@ use Rattle.heap_reader.specs.Values.{pure_value, spatial_value, heap_value}
 use Rattle.heap_reader.proofs.NoFlaw.{neither, each_of as each_flawless}
 use Rattle.name_numbers.specs.Numbering as numbers
 use Rattle.formula_reader.specs.Values.{term_value}
-use Rattle.member_facts.proofs.AllMembers.{each_imply}
-use Rattle.member_facts.proofs.Greatest.{below_each}
+use Rattle.formula_facts.proofs.AllMembers.{each_imply}
+use Rattle.formula_facts.proofs.Greatest.{below_each}
 
 mapped : {X Y : Type 0} (f : X → Y) (P : Y → Type 0) (xs : List X) → Each (λ x. P (f x)) xs → Each P (map f xs)
 mapped f P xs e = Each-map (λ x. P (f x)) P f (λ x p. p) xs e

@@ -65,7 +65,7 @@ use Rattle.problem_files.proofs.ProblemHeaps.{many_parts, behind_parts, heap_kee
 use Rattle.problem_files.proofs.ProblemNames.{own_names}
 use Rattle.problem_files.proofs.ProblemLines.{lines_known}
 use Rattle.problem_files.proofs.Kept.{IsKept, kept_prop}
-use Rattle.member_facts.proofs.AllMembers.{each_at}
+use Rattle.formula_facts.proofs.AllMembers.{each_at}
 
 -- ---- lists
 

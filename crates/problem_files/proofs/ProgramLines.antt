@@ -31,7 +31,7 @@ use Rattle.proof_file.specs.Readable.{is_universal_command, are_universal_comman
 use Rattle.proof_file.specs.Written.{operand_tree, command_tree, lines_behind, lines_tree}
 use Rattle.problem_files.proofs.Lists.{none_later}
 use Rattle.problem_files.proofs.Terms.{term_readable}
-use Rattle.member_facts.proofs.Greatest.{each_below}
+use Rattle.formula_facts.proofs.Greatest.{each_below}
 
 -- ---- what a line keeps
 

@@ -24,7 +24,7 @@ use Rattle.problem_files.proofs.Names.{HaveFreeNames, HaveOwnNames, HaveFewParam
 use Rattle.problem_files.proofs.Terms.{uterm_fits, term_flawless, term_readable}
 use Rattle.problem_files.proofs.Heaps.{any_heap_fits}
 use Rattle.problem_files.proofs.Judgements.{node_heap_flawless}
-use Rattle.member_facts.proofs.AllMembers.{each_imply}
+use Rattle.formula_facts.proofs.AllMembers.{each_imply}
 
 -- ---- the parts of a reason
 

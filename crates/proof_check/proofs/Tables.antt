@@ -28,7 +28,7 @@ use Rattle.proof_check.specs.Tested.{rows_of, first_rows, HasFields, IsTested, E
 use Rattle.proof_check.specs.Verdicts.{file_graph, state_limit, HasRightNodes, IsRightBefore, IsLeastFault, IsVerdict}
 use Rattle.proof_check.specs.declared.verdict.Verdict.TheVariants as verdicts
 use Rattle.proof_check.proofs.TestLoops.{node_at}
-use Rattle.member_facts.proofs.AllMembers.{each_at}
+use Rattle.formula_facts.proofs.AllMembers.{each_at}
 use Rattle.list_facts.proofs.Places.{get_taken, at_index, get_within, get_map}
 
 pub has_fields : (f : ProofFile) → IsProgram f.program → HasFields f.program

@@ -27,7 +27,7 @@ use Rattle.node_reasons.proofs.RightGraphs.{graph_right, graph_local}
 use Rattle.proof_check.specs.Files.{AreReadable, HasFewCases, HoldsAtNode, graph_node, node_of, nodes_of}
 use Rattle.proof_check.specs.Tested.{IsTested, HasFields, is_untested}
 use Rattle.proof_check.specs.Verdicts.{file_graph}
-use Rattle.member_facts.proofs.AllMembers.{each_at}
+use Rattle.formula_facts.proofs.AllMembers.{each_at}
 
 -- each member passes a test that all pass
 each_passes : {X : Type 0} (p : X → Bool) (Q : X → Type 0) → ((x : X) → p x ≡ true → Q x) → (xs : List X) → list_all p xs ≡ true → Each Q xs

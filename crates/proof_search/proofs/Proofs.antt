@@ -40,7 +40,7 @@ use Rattle.derivation_moves.specs.declared.derivation.Derivation.{Derivation}
 use Rattle.derivation_moves.specs.Derivations.{theory_in, nodes_in, goals_in, reasons_in, tableau_in, about, IsInOrder, IsItsSearch}
 use Rattle.proof_search.specs.Outcomes.{search_for, reasons_of, IsProofFor}
 use Rattle.proof_search.proofs.FileNodes.{reasons_made}
-use Rattle.member_facts.proofs.AllMembers.{each_at}
+use Rattle.formula_facts.proofs.AllMembers.{each_at}
 
 -- the limit of each version
 some_atoms : (version : Version) → 0 < most_spatial version

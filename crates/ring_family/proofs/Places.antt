@@ -8,7 +8,7 @@ use Rattle.buchi_core.specs.Forest.{is_filled, next_forest, start}
 use Rattle.ring_family.proofs.Blocks.{EachFrom, each_from, blocks_cases, in_block, at_last}
 use Rattle.ring_family.proofs.Graphs.{edge, graph_block, graph_bud, ring_graph}
 use Rattle.ring_family.proofs.Turning.{Turns}
-use Rattle.member_facts.proofs.AllMembers.{each_at}
+use Rattle.formula_facts.proofs.AllMembers.{each_at}
 
 -- the positions of a node, none if there is no node
 abbrev pub places_in : Option Node → List ℕ

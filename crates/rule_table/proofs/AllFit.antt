@@ -41,7 +41,7 @@ use Rattle.rule_table.specs.Fits.{IsPredAt, PairsFit, PremiseFits, OnPremises}
 use Rattle.rule_table.proofs.Fits.{needs_on, finds_on, limited_on, entails_on, single_on, runs_on, get_back, get_mapped, get_written, pairs_fit_0, same_fit, kept_fit, chosen_fit, children_fit}
 use Rattle.rule_table.proofs.Commands.{found_is}
 use Rattle.rule_table.proofs.LinkRule.{parts_are, none_of_two}
-use Rattle.member_facts.proofs.AllMembers.{each_append}
+use Rattle.formula_facts.proofs.AllMembers.{each_append}
 use Rattle.list_facts.proofs.Places.{get_append_left}
 
 pred_front : (xs ys : List Spatial) (i : ℕ) → IsPredAt xs i → IsPredAt (xs ++ ys) i

@@ -44,7 +44,7 @@ use Rattle.rule_table.specs.Soundness.{IsSound, IsCommand}
 use Rattle.rule_table.proofs.Steps.{finds_sound, limited_sound}
 use Rattle.rule_table.proofs.Reflects.{equated_is}
 use Rattle.rule_table.proofs.CellsIn.{HasCell, cell_there, left_has, is_cell_has}
-use Rattle.member_facts.proofs.AllMembers.{each_append, each_at}
+use Rattle.formula_facts.proofs.AllMembers.{each_append, each_at}
 
 -- ---- the command at a line
 

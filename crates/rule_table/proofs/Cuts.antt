@@ -23,7 +23,7 @@ use Rattle.rule_table.proofs.Agreement.{IsBelow, heap_below, holds_agrees, conti
 use Rattle.rule_table.proofs.Frames.{pairs_follow}
 use Rattle.rule_table.proofs.Conclusions.{IsFresh, antecedent_below, concludes_back, use_premise}
 use Rattle.rule_table.proofs.Appends.{then_stages, then_stages-first, append_holds, pairs_follow_if}
-use Rattle.member_facts.proofs.AllMembers.{each_append, each_chosen}
+use Rattle.formula_facts.proofs.AllMembers.{each_append, each_chosen}
 
 module _ (G : ℕ → Family) (s e : Stack) where
   one_more : (b : Bool) (x : Spatial) (stages : Stages) (f g : ℕ → ℕ) (ins outs : List Spatial) (h : Cells) → Star (AtomHolds (G (stages 0)) s e x) (Star (SpatialHolds (λ k. G (stages (suc (f k)))) s e ins) (SpatialHolds (λ k. G (stages (suc (g k)))) s e outs)) h → Star (SpatialHolds (λ k. G (stages (place_step b f k))) s e (chosen_step b x ins)) (SpatialHolds (λ k. G (stages (place_step (not b) g k))) s e (chosen_step (not b) x outs)) h

@@ -39,7 +39,7 @@ use Rattle.heap_formula.specs.Closedness.{InPure, InSpatial, InHeap, IsUniversal
 use Rattle.rule_table.proofs.Rewrites.{AnyTerm, any_heap, Each-without}
 use Rattle.rule_table.proofs.Fits.{needs_on, finds_on, limited_on, entails_on, single_on, runs_on}
 use Rattle.rule_table.proofs.Commands.{found_is, counted_get as counted_each}
-use Rattle.member_facts.proofs.AllMembers.{each_append, each_at, each_set}
+use Rattle.formula_facts.proofs.AllMembers.{each_append, each_at, each_set}
 
 module _ (Q : Term → Type 0) (f : Term → Term) (g : (t : Term) → Q t → IsUniversal (f t)) where
   terms_after : (ts : List Term) → Each Q ts → Each IsUniversal (map f ts)

@@ -42,8 +42,8 @@ use Rattle.rule_table.specs.Table.{with_pures, with_pure, rewritten_pures, rewri
 use Rattle.rule_table.specs.Soundness.{IsSound, HasVariables}
 use Rattle.rule_table.proofs.Steps.{needs_sound, finds_sound, limited_sound, runs_sound}
 use Rattle.rule_table.proofs.CellsIn.{cell_there, apart, absurd_heap}
-use Rattle.member_facts.proofs.AllMembers.{each_append, each_at, each_set}
-use Rattle.member_facts.proofs.SomeMember.{one_unmap}
+use Rattle.formula_facts.proofs.AllMembers.{each_append, each_at, each_set}
+use Rattle.formula_facts.proofs.SomeMember.{one_unmap}
 
 -- the fresh number is fresh
 pub is_fresh : (lines : List Command) (p n : ℕ) (j : Judgement) → HasVariables lines p j → fresh_number p j ≤ n → IsFresh lines n j

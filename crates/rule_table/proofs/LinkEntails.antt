@@ -27,7 +27,7 @@ use Rattle.rule_table.proofs.Appends.{pairs_follow_if}
 use Rattle.rule_table.proofs.Links.{mapped_hold, Chosen, left_over, length_left, none_left}
 use Rattle.rule_table.proofs.LinkRuns.{image_stack, image_value, tabulated-at, all_chosen, all_places, each_follows, map_length, mapped-at, link_pairs}
 use Rattle.rule_table.proofs.Multisets.{covered_holds}
-use Rattle.member_facts.proofs.SomeMember.{one_at}
+use Rattle.formula_facts.proofs.SomeMember.{one_at}
 
 -- the substitution's value does not depend on the existential stack
 other_value : (ps : Bindings) (s e f : Stack) (n : ℕ) → ((v : ℕ) → IsUniversal (image ps v)) → (t : Term) → IsBelow n t → value s f (apply_term ps t) ≡ value (image_stack ps s e n) f t

@@ -30,7 +30,7 @@ use Rattle.rule_table.specs.Tests.{same_term, follows, has_number}
 use Rattle.rule_table.specs.LinkTable.{first_of, fault_unless, keeps_below, pure_fault, matches_some, spatial_fault, counts_agree, same_atoms, all_follow, covers_some, disjunct_fault, parts_fault, link_fault, link_premise}
 use Rattle.rule_table.specs.Soundness.{HasVariables, AreUniversal}
 use Rattle.rule_table.proofs.Reflects.{same_term_is, follows_is, matches_is}
-use Rattle.member_facts.proofs.AllMembers.{each_at}
+use Rattle.formula_facts.proofs.AllMembers.{each_at}
 
 pub none_of_two : (f g : Option RuleFault) → first_of f g ≡ None → (f ≡ None) × (g ≡ None)
 none_of_two None g e = (refl, e)

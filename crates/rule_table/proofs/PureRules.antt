@@ -20,7 +20,7 @@ use Rattle.heap_formula.specs.Positions.{without, same_pairs}
 use Rattle.rule_table.proofs.Frames.{pairs_follow}
 use Rattle.rule_table.proofs.Rewrites.{Each-without}
 use Rattle.rule_table.proofs.Conclusions.{use_premise}
-use Rattle.member_facts.proofs.AllMembers.{each_append, each_at}
+use Rattle.formula_facts.proofs.AllMembers.{each_append, each_at}
 
 -- the conclusion does not speak of the antecedent
 pub same_conclusion : (ds : List Definition) (lines : List Command) (j : Judgement) (a : SymbolicHeap) (s : Stack) (h : Cells) → Concludes ds lines (with_antecedent j a) s h → Concludes ds lines j s h

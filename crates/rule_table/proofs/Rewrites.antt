@@ -21,8 +21,8 @@ use Rattle.heap_formula.specs.Closedness.{InPure, InSpatial, InHeap, IsUniversal
 use Rattle.heap_formula.specs.Substitution.{apply_term, apply_heap}
 use Rattle.rule_table.proofs.Substitutes.{holds_same, along, back_along}
 use Rattle.rule_table.proofs.Frames.{value_universal, pairs_follow}
-use Rattle.member_facts.proofs.AllMembers.{each_at, each_any}
-use Rattle.member_facts.proofs.SomeMember.{one_unmap}
+use Rattle.formula_facts.proofs.AllMembers.{each_at, each_any}
+use Rattle.formula_facts.proofs.SomeMember.{one_unmap}
 
 abbrev pub AnyTerm : Term → Type 0
 AnyTerm _ = Unit {0}

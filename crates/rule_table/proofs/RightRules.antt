@@ -36,8 +36,8 @@ use Rattle.rule_table.specs.Table.{with_right, without_pure, calls, are_empty, i
 use Rattle.rule_table.specs.Soundness.{IsSound}
 use Rattle.rule_table.proofs.Steps.{needs_sound, finds_sound, limited_sound, entails_sound, single_sound}
 use Rattle.rule_table.proofs.Reflects.{universal_pure_is, universal_spatial_is, same_spatial_is, follows_is}
-use Rattle.member_facts.proofs.SomeMember.{one_at}
-use Rattle.member_facts.proofs.AllMembers.{each_front, each_back}
+use Rattle.formula_facts.proofs.SomeMember.{one_at}
+use Rattle.formula_facts.proofs.AllMembers.{each_front, each_back}
 
 -- a pure atom put back
 pub Each-put : {X : Type 0} (P : X → Type 0) (xs : List X) (k : ℕ) (x : X) → slice_get xs k ≡ Some x → P x → Each P (without k xs) → Each P xs

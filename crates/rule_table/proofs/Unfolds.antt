@@ -26,7 +26,7 @@ use Rattle.rule_table.proofs.Agreement.{IsBelow, heap_below, holds_agrees, value
 use Rattle.rule_table.proofs.Frames.{take_out}
 use Rattle.rule_table.proofs.Rewrites.{AnyTerm, any_heap, Each-without}
 use Rattle.rule_table.proofs.Appends.{then_stages, then_stages-first, then_stages-others, append_holds, pairs_follow_if, children_follow}
-use Rattle.member_facts.proofs.AllMembers.{each_append, each_at, each_or}
+use Rattle.formula_facts.proofs.AllMembers.{each_append, each_at, each_or}
 
 -- a case's term at these arguments has the value that the case's term has under the arguments' values and the locals
 pub case_value : (s e : Stack) (args : List Term) (n : ℕ) (locals : Stack) → Each (IsBelow n) args → (t : Term) → AnyTerm t → value (continued n s locals) e (case_term args n t) ≡ value (values s e args) locals t

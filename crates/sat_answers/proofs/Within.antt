@@ -14,7 +14,7 @@ use Rattle.rule_table.proofs.Agreement.{IsBelow, heap_below}
 use Rattle.format_limits.specs.Limits.{HasFields as HasFewFields, IsCaseWithin, IsDefinitionWithin, IsJudgementWithin}
 use Rattle.problem_files.proofs.ProblemHeaps.{in_heap_each}
 use Rattle.pair_family.specs.Closedness.{AreCases, HasFields, IsCase, IsParameterBelow}
-use Rattle.member_facts.proofs.AllMembers.{each_imply}
+use Rattle.formula_facts.proofs.AllMembers.{each_imply}
 
 has_fields : (x : Spatial) → HasFewFields x → HasFields x
 has_fields (Cell t ts) few = few.0

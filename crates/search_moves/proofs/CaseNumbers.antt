@@ -24,7 +24,7 @@ use Rattle.rule_table.specs.Answer.{needs, finds, limited, one, is_short, has_nu
 use Rattle.rule_table.specs.Table.{calls, right_term, with_right, unfolded_right, unfold_right_answer}
 use Rattle.search_moves.specs.Trying.{has_premises}
 use Rattle.search_moves.specs.Rooms.{has_room_for}
-use Rattle.member_facts.proofs.Greatest.{greatest_le}
+use Rattle.formula_facts.proofs.Greatest.{greatest_le}
 use Rattle.std.proofs.lemmas.Bool.{and_from, and_parts}
 
 pub most_append : {X : Type 0} (f : X → ℕ) (n : ℕ) (xs ys : List X) → max_of (map f xs) ≤ n → max_of (map f ys) ≤ n → max_of (map f (xs ++ ys)) ≤ n

@@ -25,7 +25,7 @@ use Rattle.rule_table.specs.Table.{calls, unfold_answer}
 use Rattle.search_moves.specs.Trying.{has_premises}
 use Rattle.search_moves.specs.Rooms.{judgement_numbers, has_room_from, has_room_left}
 use Rattle.search_moves.proofs.CaseNumbers.{most_append, most_without, length_without, argument_number, pures_in, spatials_in, arguments_within, answered}
-use Rattle.member_facts.proofs.Greatest.{greatest_le}
+use Rattle.formula_facts.proofs.Greatest.{greatest_le}
 use Rattle.std.proofs.lemmas.Bool.{and_from, and_parts}
 
 -- ---- a universal's number is one of the judgement's

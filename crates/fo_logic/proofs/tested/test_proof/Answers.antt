@@ -12,7 +12,7 @@ use Rattle.fo_logic.specs.Tested.{rows_of, first_rows}
 use Rattle.fo_logic.specs.Verdicts.{IsRightBefore}
 use Rattle.fo_logic.proofs.TestLoops.{one_more}
 use Rattle.fo_logic.proofs.tested.test_proof.Goals as goal
-use Rattle.member_facts.proofs.AllMembers.{each_imply, each_at}
+use Rattle.formula_facts.proofs.AllMembers.{each_imply, each_at}
 use Rattle.list_facts.proofs.Places.{take_get, at_index}
 
 pub test_node-requires : goal.test_node-requires
