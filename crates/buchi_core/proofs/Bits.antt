@@ -196,11 +196,11 @@ same_members a b la lb e = same_mask a b la lb (λ q l. sym (has_members a q l) 
 pub no_ones : (m : ℕ) → m < 2 ^ 32 → ((q : ℕ) → q < 32 → is_one m q ≡ false) → m ≡ 0
 no_ones m l h = same_mask m 0 l (omega arith) (λ q k. h q k ∙ sym (one_zero q))
 
-first_of : (xs : List ℕ) → is_filled xs ≡ true → (q : ℕ) × (has xs q ≡ true)
-first_of [] h = absurd (both_ways false refl h)
-first_of (x ∷ xs) h = (x, or_left (nat_eq x x) (has xs x) (eq-eqb x x refl))
+pub filled_has : (xs : List ℕ) → is_filled xs ≡ true → (q : ℕ) × (has xs q ≡ true)
+filled_has [] h = absurd (both_ways false refl h)
+filled_has (x ∷ xs) h = (x, or_left (nat_eq x x) (has xs x) (eq-eqb x x refl))
 
-has_filled : (xs : List ℕ) (q : ℕ) → has xs q ≡ true → is_filled xs ≡ true
+pub has_filled : (xs : List ℕ) (q : ℕ) → has xs q ≡ true → is_filled xs ≡ true
 has_filled [] q h = absurd (both_ways false refl h)
 has_filled (x ∷ xs) q h = refl
 
@@ -209,7 +209,7 @@ pub filled_mask : (m : ℕ) → m < 2 ^ 32 → is_filled (members m) ≡ not (na
 filled_mask m l =
     elim (cases_Bool (is_filled (members m))) [
       | inl y ↦
-          (let x = first_of (members m) y in
+          (let x = filled_has (members m) y in
           let o = member_is m x.0 x.1 in
           let ne : nat_eq m 0 ≡ false = ne_eqb m 0 (λ e. both_ways (is_one m x.0) (ap (λ z. is_one z x.0) e ∙ one_zero x.0) o.1) in
           y ∙ sym (ap not ne))

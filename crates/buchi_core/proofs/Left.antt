@@ -2,7 +2,7 @@
 use Rattle.std.proofs.Common.{◌≡◌, ℕ, zero, suc, ◌-◌, ◌^◌, ◌<◌, ◌≤◌, inl, inr, List, [], ◌∷◌, ◌++◌, Bool, true, false, not, ◌&&◌, ◌||◌, Option, None, Some, length, slice_get, get_or, set, replicate, nat_eq, bit_and, arith, sym, refl, ap, ◌∙◌, length-append}
 use Rattle.std.specs.List.{list_any}
 use Rattle.std.proofs.lemmas.Bool.{cases_eq, cases_lt, cases_order, and_left, and_right, eq-eqb, ne_eqb}
-use Rattle.std.proofs.lemmas.List.{get_or-set_same, get_or-set_other, length-map, length-set}
+use Rattle.std.proofs.lemmas.List.{get_or-set_same, get_or-set_other, length-map, length-set, map_push}
 use Rattle.std.proofs.lemmas.List.Folds.{list_any-append}
 use Rattle.arrayvec.specs.ArrayVec.{ArrayVec}
 use Rattle.buchi_core.specs.Forest.{Entry as AgeEntry, has, same_parent, entry_has, stays, trimmed, scan_from}
@@ -179,11 +179,7 @@ module _ (old given new : Young) (parent : Option ℕ) (mask kept : ℕ) (e : En
   items_are = p.items ∙ ap (λ (v : ArrayVec Entry). v.items ++ (e ∷ [])) p.same
 
   made_is : made new ≡ made old ++ (record { parent = parent; set = members kept } ∷ [])
-  made_is = ap entries_of items_are ∙ (map_push old.entries.items e ∙ ap (λ (x : AgeEntry). made old ++ (x ∷ [])) (λ i. record { parent = p.parent_is i; set = members (p.set_is i) }))
-    where
-      map_push : (xs : List Entry) (x : Entry) → entries_of (xs ++ (x ∷ [])) ≡ entries_of xs ++ (entry_of x ∷ [])
-      map_push [] x = refl
-      map_push (y ∷ xs) x = ap (λ (z : List AgeEntry). entry_of y ∷ z) (map_push xs x)
+  made_is = ap entries_of items_are ∙ (map_push entry_of old.entries.items e ∙ ap (λ (x : AgeEntry). made old ++ (x ∷ [])) (λ i. record { parent = p.parent_is i; set = members (p.set_is i) }))
 
   pub push_made : made new ≡ made old ++ (trimmed (made old) (record { parent = parent; set = members mask }) ∷ [])
   push_made = made_is ∙ ap (λ (z : List ℕ). made old ++ (record { parent = parent; set = z } ∷ [])) (members_filter kept mask (stays (made old) parent) keeps)

@@ -16,7 +16,7 @@ use Rattle.buchi_inclusion.proofs.Descent.{reach_more}
 use Rattle.buchi_core.proofs.Drop.{settled_at, kept_parts, set_at_is, filled_has}
 use Rattle.buchi_core.proofs.Follow.{In}
 use Rattle.buchi_core.proofs.Green.{IsFromGreen}
-use Rattle.buchi_inclusion.proofs.Runs.{over_run, over_append}
+use Rattle.buchi_inclusion.proofs.Runs.{over_run, over_append, each_weaker}
 use Rattle.buchi_core.proofs.Bounds.{peak, peak_above}
 use Rattle.buchi_inclusion.proofs.Returning.{two_turns, green_lives}
 use Rattle.trace_pairs.proofs.Traces.{trace_first}
@@ -27,10 +27,6 @@ pub record LeastGreen (events : List Event) : Type 0 where
   pub k : ℕ
   pub occurs : Occurs (Green k) events
   pub from : Each (IsFromGreen k) events
-
-each_weaker : (P Q : Event → Type 0) → ((event : Event) → P event → Q event) → (events : List Event) → Each P events → Each Q events
-each_weaker P Q f [] e = tt
-each_weaker P Q f (event ∷ events) e = (f event e.0, each_weaker P Q f events e.1)
 
 nothing_is_from : (k : ℕ) (event : Event) → IsNothing event → IsFrom k event
 nothing_is_from k event e = subst (IsFrom k) (sym e) tt

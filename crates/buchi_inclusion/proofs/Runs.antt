@@ -70,3 +70,7 @@ bad_repeated events k b =
       | inl quiet ↦ inl (each_repeated IsNothing events (suc k) quiet)
       | inr death ↦ inr (death.0, occurs_append (Dies death.0) events (repeated k events) death.1, each_repeated (IsFrom death.0) events (suc k) death.2)
     ]
+
+pub each_weaker : (P Q : Event → Type 0) → ((event : Event) → P event → Q event) → (events : List Event) → Each P events → Each Q events
+each_weaker P Q f [] e = tt
+each_weaker P Q f (event ∷ events) e = (f event e.0, each_weaker P Q f events e.1)

@@ -83,20 +83,6 @@ module _ (P Q : Term → Type 0) where
   both_spatials (Cell t ts ∷ xs) a b = (((a.0.0, b.0.0), both_terms ts a.0.1 b.0.1), both_spatials xs a.1 b.1)
   both_spatials (Pred p ts ∷ xs) a b = (both_terms ts a.0 b.0, both_spatials xs a.1 b.1)
 
-bound_pure : (m : ℕ) (x : Pure) → most_in_pure exist_bound x ≤ m → InPure (λ t. exist_bound t ≤ m) x
-bound_pure m (Eq t u) h = (omega arith, omega arith)
-bound_pure m (Neq t u) h = (omega arith, omega arith)
-
-bound_spatial : (m : ℕ) (x : Spatial) → most_in_spatial exist_bound x ≤ m → InSpatial (λ t. exist_bound t ≤ m) x
-bound_spatial m (Cell t ts) h = (omega arith, each_below exist_bound m ts (omega arith))
-bound_spatial m (Pred p ts) h = each_below exist_bound m ts h
-
-bound_heap : (m : ℕ) (b : SymbolicHeap) → heap_exists b ≤ m → InHeap (λ t. exist_bound t ≤ m) b
-bound_heap m b h = (
-  each_imply (λ x. most_in_pure exist_bound x ≤ m) (InPure (λ t. exist_bound t ≤ m)) (bound_pure m) b.pure (each_below (most_in_pure exist_bound) m b.pure (omega arith)),
-  each_imply (λ x. most_in_spatial exist_bound x ≤ m) (InSpatial (λ t. exist_bound t ≤ m)) (bound_spatial m) b.spatial (each_below (most_in_spatial exist_bound) m b.spatial (omega arith)),
-)
-
 -- the first values, each at most n
 lowered : ℕ → ℕ → Stack → Stack
 lowered n zero e = []
@@ -168,7 +154,7 @@ module _ (ds : List Definition) (n : ℕ) (t : Findings) where
   case_fits vs h b z w k c =
       let fits = holds_fits (λ _. Means) vs c.0 b h h (inside_all h) c.1 in
       let small = in_heap (Known b) (λ u. value vs c.0 u ≤ n) (known_small n h vs c.0 b w z fits) b k in
-      let below = bound_heap (heap_exists b) b (omega arith) in
+      let below = heap_bounded (heap_exists b) b (omega arith) in
       let e' = lowered n (heap_exists b) c.0 in
       let f = value_same n (heap_exists b) vs c.0 in
       let A = λ (u : Term). (value vs c.0 u ≤ n) × (exist_bound u ≤ heap_exists b) in
@@ -246,7 +232,7 @@ none_exist a k =
     omega arith
 
 pub all_universal : (a : SymbolicHeap) → heap_exists a ≡ 0 → IsUniversalHeap a
-all_universal a e = in_heap (λ t. exist_bound t ≤ 0) IsUniversal zero_universal a (bound_heap 0 a (omega arith))
+all_universal a e = in_heap (λ t. exist_bound t ≤ 0) IsUniversal zero_universal a (heap_bounded 0 a (omega arith))
 
 pub universal_test : (a : SymbolicHeap) (n : ℕ) (b : Bool) → n ≡ heap_exists a → b ≡ nat_eq n 0 → (IsTrue b → IsUniversalHeap a) × (IsUniversalHeap a → IsTrue b)
 universal_test a n b e t = (

@@ -4,6 +4,7 @@ use Rattle.std.specs.Prelude.{IsTrue}
 use Rattle.heap_formula.specs.Words.{Each, OneOf}
 use Rattle.formula_facts.proofs.SomeMember.{one_front, one_last}
 use Rattle.list_facts.proofs.Places.{drop_read}
+use Rattle.std.proofs.lemmas.List.{drop_all}
 
 -- what is among the rest, or done, still is when one more is done
 pub turn : {X M N : Type 0} (Q : X → Type 0) (xs : List X) (i : ℕ) (x : X) → i < length xs → x ≡ get_or xs i x → ((M ⊎ Q x) → N) → (M ⊎ OneOf Q (drop i xs)) → (N ⊎ OneOf Q (drop (i + 1) xs))
@@ -15,19 +16,10 @@ turn {M = M} {N = N} Q xs i x l e f o =
       | inr q ↦ elim q as (λ z. N ⊎ OneOf Q (drop (i + 1) xs)) [ inl a ↦ inl (f (inr a)) | inr r ↦ inr r ]
     ]
 
-drop_none : {X : Type 0} (i : ℕ) → ◌≡◌ {A = List X} (drop i []) []
-drop_none zero = refl
-drop_none (suc i) = refl
-
-pub drop_all : {X : Type 0} (xs : List X) (i : ℕ) → length xs ≤ i → drop i xs ≡ []
-drop_all [] i h = drop_none i
-drop_all (x ∷ xs) zero h = absurd (omega arith)
-drop_all (x ∷ xs) (suc i) h = drop_all xs i (omega arith)
-
 -- at the end all is done
 pub done : {X M : Type 0} (Q : X → Type 0) (xs : List X) (i : ℕ) → length xs ≤ i → (M ⊎ OneOf Q (drop i xs)) → M
 done {M = M} Q xs i h o =
-    let p : M ⊎ ⊥ = subst (λ ys. M ⊎ OneOf Q ys) (drop_all xs i h) o in
+    let p : M ⊎ ⊥ = subst (λ ys. M ⊎ OneOf Q ys) (drop_all i xs h) o in
     elim p as (λ z. M) [ inl m ↦ m | inr b ↦ absurd b ]
 
 pub one_at : {X : Type 0} (P : X → Type 0) (xs : List X) (i : ℕ) (x : X) → i < length xs → x ≡ get_or xs i x → P x → OneOf P xs

@@ -15,6 +15,7 @@ use Rattle.fo_formula.specs.Shapes.{HasConstant}
 use Rattle.fo_formula.specs.Validity.{HoldsAt}
 use Rattle.fo_table.specs.declared.premises.FoPremise.{FoPremise}
 use Rattle.fo_table.specs.Nodes.{Edge, node_fault, edges_to, edges_of, targets_of, EdgeHolds}
+use Rattle.proof_graph.proofs.FallingPairs.{falls_of}
 use Rattle.trace_pairs.specs.Graph.{Node as GraphNode, Edge as GraphEdge, Pair as GraphPair, IsEdge, Falls, has}
 use Rattle.trace_pairs.specs.System.{AreRight, IsLocalAt, IsRight}
 use Rattle.proof_graph.specs.Traces.{trace_pair}
@@ -101,21 +102,6 @@ module _ (t : FoTheory) (nodes : List FoNode) (small : Each IsSmallDefinition t.
   node_local constant v node at read none σ below =
       node_holds t nodes constant small v node σ read.sequent read.reason none (each_from (EdgeHolds t nodes σ) (edges_of t nodes node) (λ k edge is_edge τ follows target at_target.
       below k (graph_edge edge) (record { node = graph_node t nodes node; is_node = at_mapped (graph_node t nodes) nodes v node at; is_edge = at_mapped graph_edge (edges_of t nodes node) k edge is_edge }) τ (falls_of edge.pairs σ τ follows) target at_target))
-    where
-      kept_of : (b : Bool) (m n : ℕ) → IsBelow b m n → m ≤ n
-      kept_of true m n h = omega arith
-      kept_of false m n h = h
-
-      less_of : (b : Bool) (m n : ℕ) → IsBelow b m n → b ≡ true → m < n
-      less_of true m n h e = h
-      less_of false m n h e = absurd cc
-
-      falls_of : (pairs : List Pair) (σ τ : Stages) → Follows pairs σ τ → Falls (map trace_pair pairs) σ τ
-      falls_of [] σ τ f i p e = absurd cc
-      falls_of (q ∷ qs) σ τ f zero p e =
-          let same : trace_pair q ≡ p = cc in
-          subst (λ (r : GraphPair). (τ r.1 ≤ σ r.0) × (r.2 ≡ true → τ r.1 < σ r.0)) same (kept_of q.progress (τ q.new) (σ q.old) f.0, less_of q.progress (τ q.new) (σ q.old) f.0)
-      falls_of (q ∷ qs) σ τ f (suc i) p e = falls_of qs σ τ f.1 i p e
 
   -- nodes that are not among the faulty ones are in order
   pub graph_right : Each (IsReadNode t.constructors) nodes → (faulty : ℕ → Bool) → ((v : ℕ) (node : FoNode) → slice_get nodes v ≡ Some node → faulty v ≡ false → node_fault t nodes v node ≡ None) → AreRight g faulty

@@ -47,7 +47,7 @@ map_none : (f : ℕ → FoFault) (o : Option ℕ) → option_map f o ≡ None �
 map_none f None e = refl
 map_none f (Some k) e = absurd cc
 
-unless_none : (b : Bool) (k : ℕ) (rest : Option ℕ) → place_unless b k rest ≡ None → (b ≡ true) × (rest ≡ None)
+pub unless_none : (b : Bool) (k : ℕ) (rest : Option ℕ) → place_unless b k rest ≡ None → (b ≡ true) × (rest ≡ None)
 unless_none true k rest e = (refl, e)
 unless_none false k rest e = absurd cc
 

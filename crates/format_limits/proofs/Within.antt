@@ -45,6 +45,7 @@ use Rattle.format_limits.proofs.Gives.{needs_gives, finds_gives, entails_gives, 
 use Rattle.format_limits.proofs.Heaps.{length-without, length-slice_set, IsLow, IsShaped, IsSmall, small, within, within_after, shapes_after, low_pures_after, low_spatials_after}
 use Rattle.format_limits.proofs.Judgements.{heaps_with, first_heap, heaps_map, form_with, form_map, IsNearly, IsReadyHeap, IsReady, ready, all_ready, limited_nearly}
 use Rattle.formula_facts.proofs.AllMembers.{each_imply, each_append, each_at, each_set, each_chosen}
+use Rattle.rule_table.proofs.EmptyPremises.{empty_on}
 
 -- ---- cases
 
@@ -184,12 +185,6 @@ module _ (most : ℕ) (ds : List Definition) (n : ℕ) where
 
   -- ---- the right
 
-  empty_nearly : (xs : List Spatial) (ps : List Pure) (ys : List Spatial) → OnPremises P (are_empty xs ps ys)
-  empty_nearly [] [] [] = tt
-  empty_nearly [] [] (y ∷ ys) = tt
-  empty_nearly [] (p ∷ ps) ys = tt
-  empty_nearly (x ∷ xs) ps ys = tt
-
   right_nearly : (a b : SymbolicHeap) → H a → H b → P (with_right a (b ∷ []))
   right_nearly a b h g = ((h, (g, tt)), (omega arith, omega arith))
 
@@ -308,7 +303,7 @@ rule_nearly most ds lines j rule d g h = by rule
     by (Cut places f) r =
         needs_gives S faulty (ascend_from 0 (length (antecedent j).spatial) places) NoSuchAtom _ (λ _.
         limited_nearly most ds n most (two (cut_left (antecedent j) (has_number places) f) (cut_right j (has_number places) f (max (fresh_number (variables_of lines j) j) (heap_bound f)))) (left_ready most ds n (antecedent j) f (has_number places) (first_heap (IsHeapWithin most ds) j h.heaps) r, (right_ready most ds n j f (has_number places) (max (fresh_number (variables_of lines j) j) (heap_bound f)) h r, tt)))
-    by Done r = single_gives S faulty j _ (λ a b e. empty_nearly most ds n a.spatial b.pure b.spatial)
+    by Done r = single_gives S faulty j _ (λ a b e. empty_on P most ds n a.spatial b.pure b.spatial)
     by (Choose k) r =
         entails_gives S faulty j _ (λ a bs e.
         finds_gives S faulty (slice_get bs k) NoSuchAtom _ (λ b at.

@@ -2,6 +2,7 @@
 use Rattle.std.proofs.Common.{◌≡◌, ℕ, zero, suc, ◌+◌, ◌<◌, Bool, true, false, List, [], ◌∷◌, ◌++◌, map, take, drop, get_or, Some, slice_get, subst, arith}
 use Rattle.std.specs.Prelude.{slice_set}
 use Rattle.std.specs.List.{range_with_len}
+use Rattle.std.specs.Coded.{×_prop, Unit-prop}
 use Rattle.heap_formula.specs.Words.{Each}
 use Rattle.heap_formula.specs.Positions.{without, chosen, chosen_step}
 
@@ -83,3 +84,7 @@ pub range_below : (m n : ℕ) → Each (λ k. k < m + n) (range_with_len m n)
 range_below m zero = tt
 range_below m (suc n) =
     (omega arith, each_imply (λ k. k < (m + 1) + n) (λ k. k < m + suc n) (λ k lt. omega arith) (range_with_len (m + 1) n) (range_below (m + 1) n))
+
+pub each_prop : {X : Type 0} (P : X → Type 0) → ((x : X) → IsProp (P x)) → (xs : List X) → IsProp (Each P xs)
+each_prop P p [] = Unit-prop
+each_prop P p (x ∷ xs) = ×_prop (p x) (each_prop P p xs)

@@ -15,6 +15,7 @@ use Rattle.rule_table.specs.Soundness.{IsCommand}
 use Rattle.rule_table.specs.Fits.{IsPredAt, PairsFit, PremiseFits}
 use Rattle.rule_table.specs.Nodes.{Node, Edge, node_fault, IsReadable, edges_to, edges_of, EdgeHolds}
 use Rattle.rule_table.proofs.RightNodes.{node_holds}
+use Rattle.proof_graph.proofs.FallingPairs.{falls_of}
 use Rattle.trace_pairs.specs.Graph.{Node as GraphNode, Edge as GraphEdge, Pair as GraphPair, IsEdge, Falls, has}
 use Rattle.trace_pairs.specs.System.{AreRight, IsLocalAt, IsRight}
 use Rattle.proof_graph.specs.Traces.{positions_of, trace_pair}
@@ -91,21 +92,6 @@ module _ (most : ℕ) (ds : List Definition) (lines : List Command) (nodes : Lis
   node_local commands v node at readable none σ below =
       node_holds most ds lines nodes v node σ commands readable none (each_from (EdgeHolds ds lines nodes σ) (edges_of most ds lines nodes node) (λ k edge is_edge τ follows target at_target.
       below k (graph_edge edge) (record { node = graph_node most ds lines nodes node; is_node = at_mapped (graph_node most ds lines nodes) nodes v node at; is_edge = at_mapped graph_edge (edges_of most ds lines nodes node) k edge is_edge }) τ (falls_of edge.pairs σ τ follows) target at_target))
-    where
-      kept_of : (b : Bool) (m n : ℕ) → IsBelow b m n → m ≤ n
-      kept_of true m n h = omega arith
-      kept_of false m n h = h
-
-      less_of : (b : Bool) (m n : ℕ) → IsBelow b m n → b ≡ true → m < n
-      less_of true m n h e = h
-      less_of false m n h e = cc
-
-      falls_of : (pairs : List Pair) (σ τ : Stages) → Follows pairs σ τ → Falls (map trace_pair pairs) σ τ
-      falls_of [] σ τ f i p e = cc
-      falls_of (q ∷ qs) σ τ f zero p e =
-          let same : trace_pair q ≡ p = cc in
-          subst (λ (r : GraphPair). (τ r.1 ≤ σ r.0) × (r.2 ≡ true → τ r.1 < σ r.0)) same (kept_of q.progress (τ q.new) (σ q.old) f.0, less_of q.progress (τ q.new) (σ q.old) f.0)
-      falls_of (q ∷ qs) σ τ f (suc i) p e = falls_of qs σ τ f.1 i p e
 
   -- nodes that are not among the faulty ones are in order where they have small heaps and no fault
   pub graph_right : Each HasFewCases ds → (faulty : ℕ → Bool) → ((v : ℕ) (node : Node) → slice_get nodes v ≡ Some node → faulty v ≡ false → length (antecedent node.judgement).spatial ≤ 32) →

@@ -56,20 +56,6 @@ module _ (limit : ℕ) (ds : List Definition) (free : HaveFreeNames ds) where
 
 -- ---- the terms of a case have no flaw
 
-pure_opened : (m : ℕ) (x : Pure) → pure_exists x ≤ m → InPure (λ t. exist_bound t ≤ m) x
-pure_opened m (Eq t u) h = (omega arith, omega arith)
-pure_opened m (Neq t u) h = (omega arith, omega arith)
-
-spatial_opened : (m : ℕ) (x : Spatial) → spatial_exists x ≤ m → InSpatial (λ t. exist_bound t ≤ m) x
-spatial_opened m (Cell t ts) h = (omega arith, each_below exist_bound m ts (omega arith))
-spatial_opened m (Pred q ts) h = each_below exist_bound m ts h
-
-heap_opened : (m : ℕ) (a : SymbolicHeap) → heap_exists a ≤ m → InHeap (λ t. exist_bound t ≤ m) a
-heap_opened m a h = (
-  each_imply (λ x. pure_exists x ≤ m) (InPure (λ t. exist_bound t ≤ m)) (pure_opened m) a.pure (each_below pure_exists m a.pure (omega arith)),
-  each_imply (λ x. spatial_exists x ≤ m) (InSpatial (λ t. exist_bound t ≤ m)) (spatial_opened m) a.spatial (each_below spatial_exists m a.spatial (omega arith)),
-)
-
 term_flawless : (arity : ℕ) (t : Term) → IsBelow arity t → exist_bound t ≤ 16 → IsFlawless (term_flaw (InCase arity)) t
 term_flawless arity Nil below few k = refl
 term_flawless arity (Univ n) below few k = ap (λ (b : Bool). ill_if b Parameter (k + 1)) (lt-leb arity n (omega arith))
@@ -77,7 +63,7 @@ term_flawless arity (Exist n) below few k = ap (λ (b : Bool). over_if b Locals 
 
 case_flawless : (limit : ℕ) (ds : List Definition) (arity : ℕ) (c : SymbolicHeap) → IsCaseWithin limit ds arity c → InHeap (IsFlawless (term_flaw (InCase arity))) c
 case_flawless limit ds arity c w =
-    in_heap_both (IsBelow arity) (λ t. exist_bound t ≤ 16) (IsFlawless (term_flaw (InCase arity))) (term_flawless arity) c (heap_below arity c w.parameters) (heap_opened 16 c w.locals)
+    in_heap_both (IsBelow arity) (λ t. exist_bound t ≤ 16) (IsFlawless (term_flaw (InCase arity))) (term_flawless arity) c (heap_below arity c w.parameters) (heap_bounded 16 c w.locals)
 
 -- ---- no definition before has the name
 

@@ -20,16 +20,13 @@ use Rattle.std.proofs.Common.{Bool, true, false}
 use Rattle.std.specs.Prelude.{slice_get}
 use Rattle.heap_formula.specs.declared.judgements.Pair.{Pair}
 use Rattle.rule_table.specs.Nodes.{Node, node_fault, Edge, edges_of}
+use Rattle.rule_table.proofs.ExampleFaults.{faults_from}
 
 abbrev heap : List Pure → List Spatial → SymbolicHeap
 heap ps xs = record { pure = ps; spatial = xs }
 
 abbrev node : Judgement → Reason → List ℕ → Node
 node j r us = record { judgement = j; reason = r; premises = us }
-
-abbrev faults_from : List Definition → List Command → List Node → ℕ → List Node → List (Option RuleFault)
-faults_from ds lines all v [] = []
-faults_from ds lines all v (n ∷ ns) = node_fault 16 ds lines all v n ∷ faults_from ds lines all (suc v) ns
 
 -- two list segments, one after the other, are one segment
 abbrev segments_defs : List Definition

@@ -30,7 +30,7 @@ use Rattle.std.proofs.lemmas.Bool.{and_from, and_parts}
 
 -- ---- a universal's number is one of the judgement's
 
-term_bound : (t : Term) → univ_bound t ≤ number_bound t
+pub term_bound : (t : Term) → univ_bound t ≤ number_bound t
 term_bound Nil = omega arith
 term_bound (Univ n) = omega arith
 term_bound (Exist n) = omega arith
@@ -43,7 +43,7 @@ spatial_below : (x : Spatial) → most_in_spatial univ_bound x ≤ most_in_spati
 spatial_below (Cell t ts) = let a = term_bound t in let b = greatest_le univ_bound number_bound term_bound ts in omega arith
 spatial_below (Pred p ts) = greatest_le univ_bound number_bound term_bound ts
 
-heap_below : (a : SymbolicHeap) → heap_bound a ≤ heap_numbers a
+pub heap_below : (a : SymbolicHeap) → heap_bound a ≤ heap_numbers a
 heap_below a =
     let p = greatest_le (most_in_pure univ_bound) (most_in_pure number_bound) pure_below a.pure in
     let s = greatest_le (most_in_spatial univ_bound) (most_in_spatial number_bound) spatial_below a.spatial in
