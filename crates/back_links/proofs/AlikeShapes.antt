@@ -16,7 +16,7 @@ use Rattle.heap_formula.specs.Substitution.{Bindings, apply_term, apply_spatial,
 use Rattle.heap_formula.proofs.Equal.{spatial_eq-Decides}
 use Rattle.rule_table.specs.RuleLink.{EachPair, IsMatch, minus, MapsInto, count_of, SameAtoms, DisjunctsCover}
 use Rattle.rule_table.proofs.Links.{length_left}
-use Rattle.rule_table.proofs.Multisets.{stands}
+use Rattle.rule_table.proofs.Multisets.{stands, counted_itself}
 use Rattle.back_links.specs.Shapes.{same_shape, has_as_many, has_shapes, same_shapes, some_has_shapes}
 
 count-cons : {X : Type 0} (p : X → Bool) (x : X) (xs : List X) → count_by p (x ∷ xs) ≡ cond (p x) 1 0 + count_by p xs
@@ -91,9 +91,6 @@ mapped_count pures atoms z free (k ∷ ms) (x ∷ xs) m =
     omega (arith, same)
 
 -- ---- lists with the same atoms
-
-counted_itself : (x : Spatial) (xs : List Spatial) → 0 < count_of x (x ∷ xs)
-counted_itself x xs = let e : spatial_eq.it x x ≡ true = (spatial_eq-Decides x x).1 refl in subst (λ (b : Bool). 0 < (if b then 1 else 0) + count_of x xs) (sym e) (omega arith)
 
 same_count : (p : Spatial → Bool) (xs ys : List Spatial) → SameAtoms xs ys → count_by p xs ≡ count_by p ys
 same_count p [] [] same = refl

@@ -10,9 +10,10 @@ use Rattle.buchi_core.specs.declared.entry.Entry.{Entry}
 use Rattle.buchi_core.specs.declared.young.Young.{Young}
 use Rattle.buchi_core.specs.View.{is_one, members, entry_of, entries_of}
 use Rattle.buchi_core.specs.Young.{AreLeft, left_of, made}
-use Rattle.buchi_core.proofs.Lists.{get_within, get_append_left, get_append_right}
+use Rattle.buchi_core.proofs.Lists.{get_append_right}
 use Rattle.buchi_core.proofs.Bits.{has_members, has_members_not, members_filter, one_and, one_not, one_zero, one_all}
 use Rattle.std.proofs.lemmas.Option.{slice_get_past}
+use Rattle.list_facts.proofs.Places.{get_within, get_append_left}
 
 -- ---- tests
 and_true : (a : Bool) → a ≡ (a && true)

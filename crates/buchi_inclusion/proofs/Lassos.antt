@@ -11,9 +11,9 @@ use Rattle.trace_pairs.specs.declared.lasso.Step.{Step}
 use Rattle.trace_pairs.specs.Walk.{Walk}
 use Rattle.trace_pairs.specs.Lasso.{IsPath, IsLasso, Trace, turns, Progresses}
 use Rattle.buchi_inclusion.specs.Product.{MovesBy, Over}
-use Rattle.buchi_core.proofs.Lists.{get_within, get_one}
+use Rattle.buchi_core.proofs.Lists.{get_one}
 use Rattle.buchi_inclusion.proofs.Descent.{reach_more}
-use Rattle.buchi_core.proofs.Drop.{settled_at, kept_parts, set_at_is, filled_has}
+use Rattle.buchi_core.proofs.Drop.{settled_at, kept_parts, set_at_is}
 use Rattle.buchi_core.proofs.Follow.{In}
 use Rattle.buchi_core.proofs.Green.{IsFromGreen}
 use Rattle.buchi_inclusion.proofs.Runs.{over_run, over_append, each_weaker}
@@ -21,6 +21,8 @@ use Rattle.buchi_core.proofs.Bounds.{peak, peak_above}
 use Rattle.buchi_inclusion.proofs.Returning.{two_turns, green_lives}
 use Rattle.trace_pairs.proofs.Traces.{trace_first}
 use Rattle.buchi_core.proofs.Pigeonhole.{pigeonhole}
+use Rattle.buchi_core.proofs.Bits.{filled_has}
+use Rattle.list_facts.proofs.Places.{get_within}
 
 -- the least event of a list is bad, or green
 pub record LeastGreen (events : List Event) : Type 0 where

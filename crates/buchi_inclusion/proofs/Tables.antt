@@ -7,7 +7,7 @@ use Rattle.trace_pairs.specs.Visits.{IsAllowed, IsVisited, IsLed, AreVisits, All
 use Rattle.trace_pairs.specs.declared.reach.Visit.{Visit}
 use Rattle.buchi_core.specs.declared.event.Event.{Event}
 use Rattle.buchi_core.specs.Forest.{is_earlier, next_forest, event_of, start}
-use Rattle.buchi_core.proofs.Lists.{get_within, get_one}
+use Rattle.buchi_core.proofs.Lists.{get_one}
 use Rattle.buchi_inclusion.specs.declared.product.Transition.{Transition}
 use Rattle.buchi_inclusion.specs.Product.{State, Moves, Run, Each, Reachable, IsStart}
 use Rattle.buchi_inclusion.specs.Answers.{AreAllReached}
@@ -17,7 +17,7 @@ use Rattle.buchi_inclusion.specs.Ranks.{rank_at, IsRising}
 use Rattle.buchi_inclusion.proofs.Runs.{edge_one}
 use Rattle.position_sets.proofs.Lists.{map_length}
 pub use Rattle.position_sets.proofs.Lists.{MapAt, map_at}
-use Rattle.list_facts.proofs.Places.{get_map}
+use Rattle.list_facts.proofs.Places.{get_map, get_within}
 
 module _ (least : Event) (rows : List (Vec Transition Global)) (table : List (Vec (ℕ × Bool) Global)) (class : IsClass least rows table) where
   pub class_length : length table ≡ length rows

@@ -1,6 +1,6 @@
 -- The last reason is taken back.
 use Rattle.std.proofs.Common.{◌≡◌, ℕ, zero, suc, ◌+◌, ◌<◌, ◌≤◌, List, [], ◌∷◌, ◌++◌, map, drop, take, reverse, Option, Some, None, slice_get, length, length-append, arith, refl, sym, ap, subst, ◌∙◌}
-use Rattle.std.proofs.lemmas.List.{map-append, reverse-append, length-reverse, length-map, length-drop}
+use Rattle.std.proofs.lemmas.List.{map-append, reverse-append, length-reverse, length-map, length-drop, same_from_push}
 use Rattle.heap_formula.specs.Words.{Each}
 use Rattle.heap_formula.specs.declared.judgements.Judgement.{Judgement}
 use Rattle.heap_formula.specs.declared.proof_rules.Reason.{Reason}
@@ -57,14 +57,6 @@ was_at c (Some b) r t h = was_next c b r b.goals t refl h
 
 -- ---- lists with a last member
 
-snoc_left : {X : Type 0} (xs ys : List X) (x y : X) → xs ++ x ∷ [] ≡ ys ++ y ∷ [] → xs ≡ ys
-snoc_left xs ys x y h = sym (front-after xs x) ∙ (ap front h ∙ front-after ys y)
-
-snoc_right : {X : Type 0} (xs ys : List X) (x y : X) → xs ++ x ∷ [] ≡ ys ++ y ∷ [] → x ≡ y
-snoc_right xs ys x y h =
-    let l : x ∷ reverse xs ≡ y ∷ reverse ys = sym (reverse-append xs (x ∷ [])) ∙ (ap reverse h ∙ reverse-append ys (y ∷ [])) in
-    cc
-
 take_all : {X : Type 0} (xs : List X) (y : X) (n : ℕ) → n ≡ length xs → take n (xs ++ y ∷ []) ≡ xs
 take_all [] y zero e = refl
 take_all [] y (suc n) e = absurd (omega (arith, e))
@@ -119,10 +111,10 @@ module _ (s s' : Derivation) (m : NodeOfCode) (mid : List GoalOfCode) (count : �
   nodes_then = ap (λ (b : Tableau Judgement Reason). b.nodes) was.made ∙ nodes_were
 
   same_nodes : was.before.nodes ≡ nodes_in s'
-  same_nodes = snoc_left was.before.nodes (nodes_in s') (record { goal = was.g; reason = m.reason }) (node_of m) nodes_then
+  same_nodes = (same_from_push was.before.nodes (nodes_in s') (record { goal = was.g; reason = m.reason }) (node_of m) nodes_then).0
 
   same_goal : was.g ≡ goal_of m.goal
-  same_goal = ap (λ (n : MadeNode). n.goal) (snoc_right was.before.nodes (nodes_in s') (record { goal = was.g; reason = m.reason }) (node_of m) nodes_then)
+  same_goal = ap (λ (n : MadeNode). n.goal) (same_from_push was.before.nodes (nodes_in s') (record { goal = was.g; reason = m.reason }) (node_of m) nodes_then).1
 
   has_premises : premises t (nodes_in s') (goal_of m.goal) m.reason ≡ Some was.ps
   has_premises = (λ i. premises t (sym same_nodes i) (sym same_goal i) m.reason) ∙ was.has

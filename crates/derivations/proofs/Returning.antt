@@ -2,9 +2,8 @@
 use Rattle.std.proofs.Common.{◌≡◌, ℕ, ◌+◌, ◌<◌, ◌≤◌, inl, inr, true, false, eqb-true, List, [], ◌∷◌, ◌++◌, map, reverse, Option, Some, None, slice_get, length, length-append, arith, refl, sym, ap, subst, ◌∙◌}
 use Rattle.std.specs.Prelude.{nat_eq}
 use Rattle.std.proofs.lemmas.Bool.{cases_Bool, eq-eqb}
-use Rattle.std.proofs.lemmas.List.{map-append, reverse-append, length-reverse}
+use Rattle.std.proofs.lemmas.List.{map-append, reverse-append, length-reverse, same_from_push}
 use Rattle.std.proofs.lemmas.List.Sums.{fold-append}
-use Rattle.buchi_core.proofs.Lists.{get_append_left}
 use Rattle.derivation_search.specs.Stack.{front}
 use Rattle.derivation_search.proofs.Members.{front-after}
 use Rattle.tableaux.specs.Tableau.{Premise, Goal, Made, Tableau, Calculus, goals_of, grown, linked, step, at_next, with_premises, replay, begin}
@@ -17,6 +16,7 @@ use Rattle.derivations.specs.Goals.{others_of}
 use Rattle.derivations.specs.declared.derivation.Derivation.{Derivation}
 use Rattle.derivations.specs.Derivations.{goals_in, reasons_in, tableau_in, about, IsInOrder}
 use Rattle.derivations.proofs.Taking.{in_order_about}
+use Rattle.list_facts.proofs.Places.{get_append_left}
 
 -- ---- the tableau before a reason
 
@@ -45,14 +45,6 @@ was_at c None r t h = absurd (let e : None ≡ Some t = h in cc)
 was_at c (Some b) r t h = was_next c b r b.goals t refl h
 
 -- ---- lists with a last member
-
-pub snoc_left : {X : Type 0} (xs ys : List X) (x y : X) → xs ++ x ∷ [] ≡ ys ++ y ∷ [] → xs ≡ ys
-snoc_left xs ys x y h = sym (front-after xs x) ∙ (ap front h ∙ front-after ys y)
-
-pub snoc_right : {X : Type 0} (xs ys : List X) (x y : X) → xs ++ x ∷ [] ≡ ys ++ y ∷ [] → x ≡ y
-snoc_right xs ys x y h =
-    let l : x ∷ reverse xs ≡ y ∷ reverse ys = sym (reverse-append xs (x ∷ [])) ∙ (ap reverse h ∙ reverse-append ys (y ∷ [])) in
-    cc
 
 -- the reasons without the last
 pub reasons_front : {J R : Type 0} (old new : List (Made J R)) (m : Made J R) → old ≡ new ++ m ∷ [] → map (λ (n : Made J R). n.reason) new ≡ front (map (λ (n : Made J R). n.reason) old)
@@ -108,10 +100,10 @@ module _ {L J R : Type 0} (calculus : L → Calculus J R) (Occurs : L → J → 
   nodes_then = ap (λ (b : Tableau J R). b.nodes) was.made ∙ x.made
 
   same_nodes : was.before.nodes ≡ s'.made.items
-  same_nodes = snoc_left was.before.nodes s'.made.items (record { goal = was.g; reason = m.reason }) m nodes_then
+  same_nodes = (same_from_push was.before.nodes s'.made.items (record { goal = was.g; reason = m.reason }) m nodes_then).0
 
   same_goal : was.g ≡ m.goal
-  same_goal = ap (λ (n : Made J R). n.goal) (snoc_right was.before.nodes s'.made.items (record { goal = was.g; reason = m.reason }) m nodes_then)
+  same_goal = ap (λ (n : Made J R). n.goal) (same_from_push was.before.nodes s'.made.items (record { goal = was.g; reason = m.reason }) m nodes_then).1
 
   all_allowed : (k : ℕ) (r : R) → slice_get (reasons_in s') k ≡ Some r → Allows s.logic r
   all_allowed k r at =

@@ -6,8 +6,3 @@ use Rattle.cyc_grammar.specs.Syntax.{Syntax, fits_many}
 pub each-apply : {X : Type 0} (P Q : X → Type 0) (xs : List X) → Each (λ x. P x → Q x) xs → Each P xs → Each Q xs
 each-apply P Q [] f h = tt
 each-apply P Q (x ∷ xs) f h = (f.0 h.0, each-apply P Q xs f.1 h.1)
-
--- the members of a list that fits fit
-pub each-fits : {X : Type 0} (a : Syntax X) (xs : List X) → fits_many a xs → Each a.fits xs
-each-fits a [] f = tt
-each-fits a (x ∷ xs) f = (f.0, each-fits a xs f.1)

@@ -28,19 +28,19 @@ use Rattle.fo_file.specs.OfTerms.{IsAtomOfTerms, IsRuleOfTerms, IsReasonOfTerms,
 use Rattle.fo_file.specs.Questions.{IsFoQuestion}
 use Rattle.fo_file.specs.Reading.{IsWritable, IsWritableProblem}
 use Rattle.fo_file.proofs.Fitted.{definitions-fit, problem-parts}
-use Rattle.fo_file.proofs.Lists.{each-fits}
 use Rattle.fo_file.proofs.NodeTrees.{are-terms}
 use Rattle.fo_file.proofs.NodesFit.{node-fits, nodes-made}
 use Rattle.fo_file.proofs.NodesFlawless.{nodes-right}
 use Rattle.fo_file.proofs.Places.{constructor-arity, predicate-arity}
 use Rattle.formula_facts.proofs.AllMembers.{each_imply, each_made}
+use Rattle.heap_reader.proofs.Members.{many_fit}
 
 -- ---- names
 
 constructors-fit : (cs : List Constructor) → constructors.fits cs → Each con.fits cs
 unfolding constructors
 constructors-fit [] f = tt
-constructors-fit (c ∷ cs) f = (f.1.0, each-fits con cs f.1.1)
+constructors-fit (c ∷ cs) f = (f.1.0, many_fit con cs f.1.1)
 
 con-free : (c : Constructor) → con.fits c → free_name.fits c.name
 unfolding con

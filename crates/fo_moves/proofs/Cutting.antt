@@ -24,6 +24,7 @@ use Rattle.fo_moves.specs.Choosing.{settles_atom, may_stand, may_hold, may_link,
 use Rattle.fo_moves.proofs.Settled.{Extends, atom_stays, substitution_extends, instance_extends}
 use Rattle.std.proofs.lemmas.Bool.{and_from, and_parts}
 use Rattle.list_facts.proofs.Options.{none_is}
+use Rattle.fo_table.proofs.Links.{unless_none}
 
 -- a test that holds wherever another does
 all_too : {X Y : Type 0} (f : X → Y) (test : Y → Bool) (weaker : X → Bool) → ((x : X) → test (f x) ≡ true → weaker x ≡ true) → (xs : List X) → list_all test (map f xs) ≡ true → list_all weaker xs ≡ true
@@ -46,16 +47,12 @@ atom_there (y ∷ ys) (suc m) x h = or_true (same_atom y x) (is_among ys x) (ato
     or_true true b p = refl
     or_true false b p = p
 
-placed_here : (b : Bool) (k : ℕ) (rest : Option ℕ) → place_unless b k rest ≡ None → (b ≡ true) × (rest ≡ None)
-placed_here true k rest h = (refl, h)
-placed_here false k rest h = absurd cc
-
 all_stand : (atoms : List FoAtom) (k : ℕ) (ms : List ℕ) (xs : List FoAtom) → map_place atoms k ms xs ≡ None → list_all (is_among atoms) xs ≡ true
 all_stand atoms k [] [] h = refl
 all_stand atoms k (m ∷ ms) [] h = cc
 all_stand atoms k [] (x ∷ xs) h = cc
 all_stand atoms k (m ∷ ms) (x ∷ xs) h =
-    let p = placed_here (is_atom x (slice_get atoms m)) k (map_place atoms (suc k) ms xs) h in
+    let p = unless_none (is_atom x (slice_get atoms m)) k (map_place atoms (suc k) ms xs) h in
     and_from (is_among atoms x) (list_all (is_among atoms) xs) (atom_there atoms m x p.0) (all_stand atoms (suc k) ms xs p.1)
 
 none_first : (f g : Option ℕ) → first_of (option_map LinkLeft f) (option_map LinkRight g) ≡ None → (f ≡ None) × (g ≡ None)

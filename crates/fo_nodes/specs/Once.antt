@@ -22,10 +22,7 @@ use Rattle.fo_formula.specs.Values.{IsConstructor}
 use Rattle.fo_formula.specs.Shapes.{IsOpenSign, IsOpenTerm, IsOpenAtom, IsOpenSequent}
 use Rattle.fo_table.specs.Soundness.{HasOpenTerms, HasOpenReason}
 use Rattle.fo_nodes.specs.Files.{IsSmallSequent, IsSmallDefinition, IsReadNode, IsFoProof}
-
-each_prop : {X : Type 0} (P : X → Type 0) → ((x : X) → IsProp (P x)) → (xs : List X) → IsProp (Each P xs)
-each_prop P p [] = Unit-prop
-each_prop P p (x ∷ xs) = ×_prop (p x) (each_prop P p xs)
+use Rattle.formula_facts.proofs.AllMembers.{each_prop}
 
 numbers_set : IsSet (Option ℕ)
 numbers_set = hlevel props

@@ -6,15 +6,13 @@ use Rattle.cyc_grammar.proofs.Laws.{Lawful, Faults, Stops, ClassLaw, BeginsNot, 
 use Rattle.cyc_grammar.proofs.Ends.{Inner, after-inner, many-inner}
 use Rattle.cyc_lex.specs.Word.{is_lexeme, are_lexemes}
 use Rattle.fo_problem_syntax.specs.Lists.{words_list, read_list, list_of}
+use Rattle.heap_syntax.proofs.HeapLaws.{one-is}
 
 -- the word is one, and no item goes on at it
 pub record Parted {A : Type 0} (c : Class (Unit {0})) (a : Syntax A) : Type 0 where
   pub word : ClassLaw c
   pub law : Lawful a
   pub apart : (x : A) → a.fits x → a.more x (c.word tt) ≡ false
-
-one-is : (c : Class (Unit {0})) → ClassLaw c → (d : Word) → is_one c d ≡ true → d ≡ c.word tt
-one-is c law d h = let p = some-true (c.value d) h in (law.word d p.0 p.1).0
 
 rest-law : {A : Type 0} (c : Class (Unit {0})) (a : Syntax A) → Parted c a → Lawful (many (is_one c) (after c a))
 rest-law c a p = many-law (is_one c) (after c a) (after-law c a p.word p.law) (record { starts = λ x f. class-begins c a p.word x; apart = λ x d f h. rw (one-is c p.word d h) (p.apart x f) })

@@ -17,6 +17,7 @@ use Rattle.rule_table.specs.Answer.{number_bound, pure_numbers, spatial_numbers,
 use Rattle.format_limits.specs.Limits.{IsHeapWithin, IsTermWithin}
 use Rattle.formula_facts.proofs.Greatest.{each_below, greatest_le}
 use Rattle.formula_facts.proofs.AllMembers.{each_both}
+use Rattle.search_moves.proofs.LeftNumbers.{heap_below as heap_le, term_bound}
 
 -- a variable up to number 65,534, or nil
 abbrev pub HasNumber : Term → Type 0
@@ -60,25 +61,6 @@ spatials_within [] u n = tt
 spatials_within (x ∷ xs) u n = (spatial_within x u.0 n.0, spatials_within xs u.1 n.1)
 
 -- ---- universal numbers are numbers
-
-univ_le : (t : Term) → univ_bound t ≤ number_bound t
-univ_le Nil = omega arith
-univ_le (Univ n) = omega arith
-univ_le (Exist n) = omega arith
-
-pure_le : (x : Pure) → pure_bound x ≤ pure_numbers x
-pure_le (Eq t u) = let a = univ_le t in let b = univ_le u in omega arith
-pure_le (Neq t u) = let a = univ_le t in let b = univ_le u in omega arith
-
-spatial_le : (x : Spatial) → spatial_bound x ≤ spatial_numbers x
-spatial_le (Cell t ts) = let a = univ_le t in let b = greatest_le univ_bound number_bound univ_le ts in omega arith
-spatial_le (Pred p ts) = greatest_le univ_bound number_bound univ_le ts
-
-heap_le : (a : SymbolicHeap) → heap_bound a ≤ heap_numbers a
-heap_le a =
-    let p = greatest_le pure_bound pure_numbers pure_le a.pure in
-    let s = greatest_le spatial_bound spatial_numbers spatial_le a.spatial in
-    omega arith
 
 heaps_le : (most : ℕ) (ds : List Definition) (bs : List SymbolicHeap) → Each (IsHeapWithin most ds) bs → max_of (map heap_bound bs) ≤ 65535
 heaps_le most ds [] a = omega arith

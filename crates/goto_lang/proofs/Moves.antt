@@ -230,15 +230,6 @@ some_step lines w c x pos at ns nf =
 
 -- ---- states of the program
 
-pub bound_at : (lines : List Command) (i : ℕ) (x : Command) → counted_from_one lines i ≡ Some x → command_bound x ≤ program_variables lines
-bound_at lines zero x at = cc
-bound_at lines (suc i) x at = among lines i x at
-  where
-    among : (lines : List Command) (i : ℕ) (x : Command) → slice_get lines i ≡ Some x → command_bound x ≤ max_of (map command_bound lines)
-    among [] i x at = cc
-    among (y ∷ ys) zero x at = let same : y ≡ x = cc in let e = ap command_bound same in omega arith
-    among (y ∷ ys) (suc i) x at = let r = among ys i x at in omega arith
-
 next_stays : (lines : List Command) (c d : State) (s : List ℕ) (h : _) → IsStateOf lines c → c.line < length lines → length s ≡ length c.stack → d ≡ next_line c s h → IsStateOf lines d
 next_stays lines c d s h is le same e =
     let v = is.values in subst (IsStateOf lines) (sym e) (record { from_one = omega arith; to_last = omega arith; values = same ∙ v })

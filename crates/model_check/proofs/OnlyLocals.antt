@@ -17,6 +17,7 @@ use Rattle.heap_formula.specs.Closedness.{InPure, InSpatial, IsUniversal, IsUniv
 use Rattle.heap_formula.proofs.Unions.{union_comm}
 use Rattle.model_check.specs.Constructive.{Member, Known, nil, universal, right_side, left_side, field, IsConstructive, CellFits, Fits, IsOnly, Inside}
 use Rattle.formula_facts.proofs.AllMembers.{each_imply}
+use Rattle.heap_formula.proofs.Insertions.{one_cell_has}
 
 pub member_each : {X : Type 0} (P : X → Type 0) (x : X) (xs : List X) → Member x xs → Each P xs → P x
 member_each P x [] m a = absurd m
@@ -104,14 +105,10 @@ inside_trans f g h p q = record { same = λ a vs e. q.same a vs (p.same a vs e) 
 pub inside_all : (h : Cells) → Inside h h
 inside_all h = record { same = λ a vs e. e }
 
-pub at_one_cell : (a : ℕ) (vs : List ℕ) → cell_at (one_cell a vs) a ≡ Some vs
-at_one_cell a vs =
-    get-insert nat_cmp_total empty a vs a ∙ ap (λ b. cond b (Some vs) (cell_at empty a)) ((eq_by_cmp_equiv nat_cmp_total).refl a)
-
 spatial_fits : (P : ℕ → Family) (s e : Stack) (h : Cells) (xs : List Spatial) (g : Cells) → Inside g h → SpatialHolds P s e xs g → Each (CellFits h s e) xs
 spatial_fits P s e h [] g p x = tt
 spatial_fits P s e h (Cell t ts ∷ xs) g p x = (
-  (inside_trans x.part g h (left_inside x.part x.rest g x.union) p).same (value s e t) (values s e ts) (subst (λ c. cell_at c (value s e t) ≡ Some (values s e ts)) (sym x.first.2) (at_one_cell (value s e t) (values s e ts))),
+  (inside_trans x.part g h (left_inside x.part x.rest g x.union) p).same (value s e t) (values s e ts) (subst (λ c. cell_at c (value s e t) ≡ Some (values s e ts)) (sym x.first.2) (one_cell_has (value s e t) (values s e ts))),
   spatial_fits (λ k. P (suc k)) s e h xs x.rest (inside_trans x.rest g h (right_inside x.part x.rest g x.union) p) x.others,
 )
 spatial_fits P s e h (Pred p ts ∷ xs) g q x = (tt, spatial_fits (λ k. P (suc k)) s e h xs x.rest (inside_trans x.rest g h (right_inside x.part x.rest g x.union) q) x.others)

@@ -20,7 +20,7 @@ use Rattle.piecewise_lex.specs.Feeding.{may_grow, is_held, taken_chars, held_cha
 use Rattle.cyc_lex.specs.Lexing.{comment_len}
 use Rattle.cyc_lex.proofs.Pieces.{comment_len-true, comment_len-false}
 use Rattle.cyc_lex.proofs.Lexed.{Found}
-use Rattle.cyc_lex.proofs.TokenLaws.{double-cases, chosen as any-choice}
+use Rattle.cyc_lex.proofs.TokenLaws.{double-cases, chosen as any-choice, choose}
 
 -- z may stand where these characters do: nothing, or what begins alike
 abbrev pub Agrees : List ℕ → List ℕ → Type 0
@@ -45,10 +45,6 @@ prefix-same p (c ∷ cs) y lt a = by_test (p c) refl (prefix-same p cs y) lt a
         let more = again less near in
         ap (λ n. prefix_len p (take n (c ∷ cs) ++ y)) k ∙ rw (is, more) refl
     by_test false is again lt a = same-head false is refl a
-
-abbrev choose : Bool → Bool → Bool → Bool → Bool → Bool → ℕ → ℕ → ℕ → Piece × ℕ
-choose s h n d two one kc kn kd =
-    cond s (pieces.Gap, 0) (cond h (pieces.Gap, kc) (cond n (pieces.Token Name, kn) (cond d (pieces.Token Number, kd) (cond two (pieces.Token Symbol, 1) (cond one (pieces.Token Symbol, 0) (pieces.Stray, 0))))))
 
 -- each way to choose, with the tests that lead to it
 chosen : (P : Piece × ℕ → Type 0) (s n d two one : Bool) (kc kn kd : ℕ)

@@ -33,10 +33,12 @@ use Rattle.pred_reader.specs.Spans.{term_span, definition_span}
 use Rattle.pred_reader.specs.Flaws.{heading, headings, term_flaw, head_flaw, definition_flaw}
 use Rattle.pred_reader.specs.Values.{term_value, definition_value}
 use Rattle.pred_reader.specs.Written.{term_tree, pure_tree, name_in, name_of, spatial_tree, heap_tree, definition_tree}
-use Rattle.pred_reader.proofs.Members.{behind_fit, many_fit, spatials_fit}
+use Rattle.pred_reader.proofs.Members.{spatials_fit}
 use Rattle.list_facts.proofs.Options.{not_some}
 use Rattle.list_facts.proofs.Parts.{map_back}
 use Rattle.list_facts.proofs.Places.{get_map}
+use Rattle.heap_reader.proofs.Members.{many_fit, behind_fit}
+use Rattle.heap_reader.proofs.FirstPlaces.{flaw_at, place_first}
 
 -- ---- lists
 
@@ -47,36 +49,7 @@ each_known tree value Q one (x ∷ xs) e =
     let rest = each_known tree value Q one xs e.1 in
     λ i. first i ∷ rest i
 
--- a member of a list without a flaw has none
-pub flaw_at : {X : Type 0} (flaw : ℕ → ℕ → X → Found) (span : X → ℕ) (n k : ℕ) (xs : List X) (p : ℕ) (x : X) → slice_get xs p ≡ Some x → listed_flaw flaw span n k xs ≡ None → (j : ℕ) × (flaw (n + p) j x ≡ None)
-flaw_at flaw span n k [] p x e none = absurd cc
-flaw_at flaw span n k (y ∷ ys) zero x e none =
-    let both = neither (flaw n k y) (listed_flaw flaw span (suc n) (k + span y) ys) none in
-    let same : y ≡ x = cc in
-    let here : n ≡ n + 0 = omega arith in
-    (k, subst (λ z. flaw (n + 0) k z ≡ None) same (subst (λ m. flaw m k y ≡ None) here both.0))
-flaw_at flaw span n k (y ∷ ys) (suc p) x e none =
-    let both = neither (flaw n k y) (listed_flaw flaw span (suc n) (k + span y) ys) none in
-    let rest = flaw_at flaw span (suc n) (k + span y) ys p x e both.1 in
-    let here : suc n + p ≡ n + suc p = omega arith in
-    (rest.0, subst (λ m. flaw m rest.0 x ≡ None) here rest.1)
-
 -- ---- names
-
-own_place : (y : Heading) (ys : List Heading) (name : List ℕ) (b : Bool) → y.name ≡ name → bytes_eq y.name name ≡ b → (if b then 0 else suc (place_of ys name)) ≡ 0
-own_place y ys name true same e = refl
-own_place y ys name false same e = let yes = (bytes_eq-Decides y.name name).1 same in absurd cc
-
-later_place : (y : Heading) (front ys : List Heading) (name : List ℕ) (p : ℕ) (b : Bool) → (arity_in front name ≡ None → place_of ys name ≡ p) → (if b then Some y.arity else arity_in front name) ≡ None → (if b then 0 else suc (place_of ys name)) ≡ suc p
-later_place y front ys name p true rest e = absurd cc
-later_place y front ys name p false rest e = ap suc (rest e)
-
--- the first predicate with a name is that which has none before it
-place_first : (ys : List Heading) (p : ℕ) (x : Heading) → slice_get ys p ≡ Some x → arity_in (take p ys) x.name ≡ None → place_of ys x.name ≡ p
-place_first [] p x e none = absurd cc
-place_first (y ∷ ys) zero x e none = let same : y ≡ x = cc in own_place y ys x.name (bytes_eq y.name x.name) (ap (λ (d : Heading). d.name) same) refl
-place_first (y ∷ ys) (suc p) x e none =
-    later_place y (take p ys) ys x.name p (bytes_eq y.name x.name) (place_first ys p x e) none
 
 no_earlier : (most : ℕ) (hs : List Heading) (n k : ℕ) (d : Definition) → definition_flaw most hs n k d ≡ None → arity_in (take n hs) d.name ≡ None
 no_earlier most hs n k d e =

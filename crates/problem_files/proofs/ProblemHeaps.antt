@@ -34,18 +34,12 @@ use Rattle.name_numbers.specs.Numbering as numbers
 use Rattle.formula_reader.specs.Values.{term_value}
 use Rattle.formula_facts.proofs.AllMembers.{each_imply}
 use Rattle.formula_facts.proofs.Greatest.{below_each}
+use Rattle.heap_reader.proofs.Members.{many_fit, behind_fit}
 
 mapped : {X Y : Type 0} (f : X → Y) (P : Y → Type 0) (xs : List X) → Each (λ x. P (f x)) xs → Each P (map f xs)
 mapped f P xs e = Each-map (λ x. P (f x)) P f (λ x p. p) xs e
 
 -- members of a text, and members that stand after a word
-
-pub many_parts : {T : Type 0} (a : Syntax T) (xs : List T) → fits_many a xs → Each a.fits xs
-many_parts a [] f = tt
-many_parts a (x ∷ xs) f = (f.0, many_parts a xs f.1)
-
-pub behind_parts : {T : Type 0} (c : Class (Unit {0})) (a : Syntax T) (xs : List T) → fits_many (after c a) xs → Each a.fits xs
-behind_parts c a xs f = many_parts (after c a) xs f
 
 -- ---- what holds of each term without a flaw holds of the terms of a heap without one
 
@@ -148,7 +142,7 @@ module _ (b : Bool) where
   unfolding shared.spatials shared.spatials1
   atoms_have_fields [] f = tt
   atoms_have_fields (x ∷ xs) f =
-      (atom_has_field x f.1.1.0, each_imply (spatial b).fits HasField atom_has_field xs (behind_parts star (spatial b) xs f.1.1.1))
+      (atom_has_field x f.1.1.0, each_imply (spatial b).fits HasField atom_has_field xs (behind_fit star (spatial b) xs f.1.1.1))
 
   heap_has_fields : (h : named.Heap) → (heap b).fits h → Each HasField h.spatial
   unfolding shared.heap

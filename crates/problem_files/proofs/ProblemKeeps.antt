@@ -61,11 +61,12 @@ use Rattle.formula_reader.specs.Values.{term_value, variable_value, definition_v
 use Rattle.formula_reader.specs.WellFormed.{IsOfText, IsWellFormed, goal_fault, is_universal_heap, has_line}
 use Rattle.formula_reader.proofs.Fitting.{definition_small}
 use Rattle.formula_reader.proofs.Keeping.{small_of, is_closed, is_known, has_universal_antecedent, has_its_line}
-use Rattle.problem_files.proofs.ProblemHeaps.{many_parts, behind_parts, heap_keeps, in_heap_each, heap_bounded, heap_open, heap_within}
+use Rattle.problem_files.proofs.ProblemHeaps.{heap_keeps, in_heap_each, heap_bounded, heap_open, heap_within}
 use Rattle.problem_files.proofs.ProblemNames.{own_names}
 use Rattle.problem_files.proofs.ProblemLines.{lines_known}
 use Rattle.problem_files.proofs.Kept.{IsKept, kept_prop}
 use Rattle.formula_facts.proofs.AllMembers.{each_at}
+use Rattle.heap_reader.proofs.Members.{many_fit, behind_fit}
 
 -- ---- lists
 
@@ -82,7 +83,7 @@ each_right f (x ∷ xs) e = by_fault (f x) refl e (each_right f xs)
 heaps_parts : {T : Type 0} (between behind : Class (Unit {0})) (a : Syntax (AnyHeap T)) (xs : List (AnyHeap T)) → (shared.heaps between behind a).fits xs → (0 < length xs) × Each a.fits xs
 unfolding shared.listed
 heaps_parts between behind a [] f = let none = f.0 in absurd (omega arith)
-heaps_parts between behind a (x ∷ xs) f = (f.0, (f.1.0, behind_parts between a xs f.1.1))
+heaps_parts between behind a (x ∷ xs) f = (f.0, (f.1.0, behind_fit between a xs f.1.1))
 
 -- ---- terms
 
@@ -268,7 +269,7 @@ text_keeps names fits right =
     let a = neither (definitions_flaw limit hs 4 tree.definitions) (or_later (lines_flaw variable_flaw variable_span at tree.lines) (goal_flaw limit hs (length tree.lines) goal_at tree.goal)) right in
     let b = neither (lines_flaw variable_flaw variable_span at tree.lines) (goal_flaw limit hs (length tree.lines) goal_at tree.goal) a.1 in
     let small = small_of tree text right in
-    let each_fits = many_parts definition names.definitions fits.1.1.0 in
+    let each_fits = many_fit definition names.definitions fits.1.1.0 in
     let each_good = each_flawless (definition_flaw limit hs) definition_span (IsGood limit (most_fits names.version) hs) (good limit (most_fits names.version) hs) 0 4 tree.definitions a.0 in
     let few = small.few in
     let m = length-map tree.definitions (definition_value hs) in

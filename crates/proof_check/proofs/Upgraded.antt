@@ -28,6 +28,7 @@ use Rattle.proof_check.specs.Files.{graph_edge, graph_node, graph_of, node_of, n
 use Rattle.proof_check.specs.Verdicts.{file_graph, IsCorrect}
 use Rattle.proof_check.proofs.WiderRules.{is_few, rule_wide}
 use Rattle.std.proofs.lemmas.Bool.{and_from, and_parts}
+use Rattle.rule_table.proofs.LinkRule.{none_of_two, no_fault}
 
 -- ---- judgements that are one have as many spatial atoms
 
@@ -60,14 +61,6 @@ judgement_few most (Runs i a) (Entail b cs) e few = absurd cc
 
 -- ---- faults
 
-no_first : (a b : Option RuleFault) → first_of a b ≡ None → (a ≡ None) × (b ≡ None)
-no_first None b e = (refl, e)
-no_first (Some f) b e = absurd cc
-
-passes : (b : Bool) (f : RuleFault) → fault_unless b f ≡ None → b ≡ true
-passes true f e = refl
-passes false f e = absurd cc
-
 -- an answer without a fault is a list of premises
 record HasPremises (nodes : List Node) (v : ℕ) (us : List ℕ) (answer : Answer) : Type 0 where
   ps : List Premise
@@ -76,22 +69,22 @@ record HasPremises (nodes : List Node) (v : ℕ) (us : List ℕ) (answer : Answe
 
 premises_of : (nodes : List Node) (v : ℕ) (us : List ℕ) (answer : Answer) → answer_fault nodes v us answer ≡ None → HasPremises nodes v us answer
 premises_of nodes v us (Ok ps) e =
-    record { ps = ps; is = refl; fine = (no_first (fault_unless (nat_eq (length ps) (length us)) PremiseCount) (premises_fault nodes v 0 ps us) e).1 }
+    record { ps = ps; is = refl; fine = (none_of_two (fault_unless (nat_eq (length ps) (length us)) PremiseCount) (premises_fault nodes v 0 ps us) e).1 }
 premises_of nodes v us (Err f) e = absurd cc
 
 module _ (most : ℕ) (nodes : List Node) (few : (u : ℕ) (node : Node) → slice_get nodes u ≡ Some node → every (is_few most) (heaps_of node.judgement) ≡ true) where
   premise_few : (i u : ℕ) (p : Premise) (o : Option Node) → slice_get nodes u ≡ o → differs nodes i u p o ≡ None → every (is_few most) (heaps_of p.judgement) ≡ true
   premise_few i u p None at e = absurd cc
   premise_few i u p (Some node) at e =
-      judgement_few most p.judgement node.judgement (passes (same_judgement p.judgement node.judgement) (PremiseDiffers i) e) (few u node at)
+      judgement_few most p.judgement node.judgement (no_fault (same_judgement p.judgement node.judgement) (PremiseDiffers i) e) (few u node at)
 
   -- the premises of a right node have few spatial atoms, as its nodes have
   premises_few : (v i : ℕ) (ps : List Premise) (us : List ℕ) → premises_fault nodes v i ps us ≡ None → each_heap (is_few most) ps ≡ true
   premises_few v i [] us e = refl
   premises_few v i (p ∷ ps) [] e = absurd cc
   premises_few v i (p ∷ ps) (u ∷ us) e =
-      let a = no_first (fault_unless (nat_lt v u) NoSuchNode) (first_of (differs nodes i u p (slice_get nodes u)) (premises_fault nodes v (suc i) ps us)) e in
-      let b = no_first (differs nodes i u p (slice_get nodes u)) (premises_fault nodes v (suc i) ps us) a.1 in
+      let a = none_of_two (fault_unless (nat_lt v u) NoSuchNode) (first_of (differs nodes i u p (slice_get nodes u)) (premises_fault nodes v (suc i) ps us)) e in
+      let b = none_of_two (differs nodes i u p (slice_get nodes u)) (premises_fault nodes v (suc i) ps us) a.1 in
       and_from (every (is_few most) (heaps_of p.judgement)) (each_heap (is_few most) ps) (premise_few i u p (slice_get nodes u) refl b.0) (premises_few v (suc i) ps us b.1)
 
   module _ (more : ℕ) (le : most ≤ more) (ds : List Definition) (lines : List Command) where

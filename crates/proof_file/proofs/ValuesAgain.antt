@@ -20,7 +20,6 @@ use Rattle.proof_file.specs.declared.node.FileNode.{FileNode}
 use Rattle.proof_file.specs.declared.file.ProofFile.{ProofFile}
 use Rattle.heap_reader.specs.Trees.{Heading}
 use Rattle.heap_reader.specs.Values.{place_of, operand_value, command_value}
-pub use Rattle.pred_reader.proofs.ValuesAgain.{flaw_at}
 use Rattle.pred_reader.proofs.ValuesAgain.{each_known, found_place, term_known, heap_known, heaps_known, definition_known, definitions_fit}
 use Rattle.proof_file.specs.Flaws.{headings}
 use Rattle.proof_file.specs.Values.{variable_value, definition_value, program_value, judgement_value, side_value, pair_value, reason_value, node_value}
@@ -33,6 +32,7 @@ use Rattle.proof_file.proofs.ReadableNodes.{nodes_fit}
 use Rattle.list_facts.proofs.Options.{not_some}
 use Rattle.list_facts.proofs.Parts.{map_back}
 use Rattle.list_facts.proofs.Places.{get_map}
+use Rattle.heap_reader.proofs.FirstPlaces.{flaw_at}
 
 -- ---- judgements and nodes
 

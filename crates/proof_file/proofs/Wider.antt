@@ -33,7 +33,8 @@ use Rattle.proof_file.specs.Spans.{term_span, definition_span, judgement_span, n
 use Rattle.proof_file.specs.Flaws.{headings, term_flaw, program_flaw, head_flaw, definition_flaw, judgement_flaw, reason_flaw, node_flaw, first_line, first_node, file_flaw}
 use Rattle.proof_file.specs.Written.{spatial_tree, heap_tree, judgement_tree, node_tree, lines_tree, tree_of}
 use Rattle.proof_file.proofs.Fitting.{node_parts, file_parts}
-use Rattle.proof_file.proofs.ValuesAgain.{get_map, flaw_at}
+use Rattle.list_facts.proofs.Places.{get_map}
+use Rattle.heap_reader.proofs.FirstPlaces.{flaw_at}
 
 -- ---- more spatial atoms may stand in a heap
 

@@ -24,22 +24,9 @@ use Rattle.ring_family.specs.Ring.{emp, is_nil, holds, cell_then, after, definit
 use Rattle.proof_check.specs.Files.{AreRight}
 use Rattle.ring_family.proofs.Answers.{entails, premise, pair, unfolds, rewrites, unfolds_nil, drops_pure, done', unfolds_cell, instantiates, frames}
 use Rattle.ring_family.proofs.Blocks.{EachFrom, each_from, blocks_cases, in_block, at_last}
-use Rattle.proof_check.proofs.SameJudgements.{all_same_self}
+use Rattle.proof_check.proofs.SameJudgements.{all_same_self, same_heap_self, same_judgement_self}
 
 -- ---- judgements that are one
-
-same_pure_self : (x : Pure) → same_pure x x ≡ true
-same_pure_self (Eq t u) = and_from (same_term t t) (same_term u u) (same_term_self t) (same_term_self u)
-same_pure_self (Neq t u) = and_from (same_term t t) (same_term u u) (same_term_self t) (same_term_self u)
-
-same_heap_self : (a : SymbolicHeap) → same_heap a a ≡ true
-same_heap_self a =
-    and_from (all_same same_pure a.pure a.pure) (all_same same_spatial a.spatial a.spatial) (all_same_self same_pure same_pure_self a.pure) (all_same_self same_spatial same_spatial_self a.spatial)
-
-same_judgement_self : (j : Judgement) → same_judgement j j ≡ true
-same_judgement_self (Entail a bs) =
-    and_from (same_heap a a) (all_same same_heap bs bs) (same_heap_self a) (all_same_self same_heap same_heap_self bs)
-same_judgement_self (Runs i a) = and_from (nat_eq i i) (same_heap a a) (eq-eqb i i refl) (same_heap_self a)
 
 -- ---- nodes by rules
 

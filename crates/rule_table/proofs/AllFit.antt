@@ -43,6 +43,7 @@ use Rattle.rule_table.proofs.Commands.{found_is}
 use Rattle.rule_table.proofs.LinkRule.{parts_are, none_of_two}
 use Rattle.formula_facts.proofs.AllMembers.{each_append}
 use Rattle.list_facts.proofs.Places.{get_append_left}
+use Rattle.rule_table.proofs.EmptyPremises.{empty_on}
 
 pred_front : (xs ys : List Spatial) (i : ℕ) → IsPredAt xs i → IsPredAt (xs ++ ys) i
 pred_front xs ys i p = (p.0, p.1, get_append_left xs ys i (Pred p.0 p.1) p.2)
@@ -101,12 +102,6 @@ cut_right_fits : (j : Judgement) (p : ℕ → Bool) (f : SymbolicHeap) (n : ℕ)
 cut_right_fits (Entail a bs) p f n = chosen_fit (others_of p) a.spatial _ (λ i q. pred_front (chosen (others_of p) a.spatial) _ i q)
 cut_right_fits (Runs m a) p f n = chosen_fit (others_of p) a.spatial _ (λ i q. pred_front (chosen (others_of p) a.spatial) _ i q)
 
-empty_fits : (P : Premise → Type 0) (xs : List Spatial) (ps : List Pure) (ys : List Spatial) → OnPremises P (are_empty xs ps ys)
-empty_fits P [] [] [] = tt
-empty_fits P [] [] (y ∷ ys) = tt
-empty_fits P [] (p ∷ ps) ys = tt
-empty_fits P (x ∷ xs) ps ys = tt
-
 unfold_right_fits : (most : ℕ) (ds : List Definition) (a b : SymbolicHeap) (k c : ℕ) (x : Spatial) → OnPremises (PremiseFits (Entail a (b ∷ []))) (calls x (λ q ts. finds (slice_get (cases_of ds q) c) NoSuchCase (λ case. limited most (one (with_right a (unfolded_right b k (in_heap (right_term ts (heap_exists b)) case) ∷ []))))))
 unfold_right_fits most ds a b k c (Cell t ts) = tt
 unfold_right_fits most ds a b k c (Pred q ts) =
@@ -160,7 +155,7 @@ rule_fits most ds lines j (Unfold k) =
 rule_fits most ds lines j (Cut places f) =
     needs_on (PremiseFits j) (ascend_from 0 (length (antecedent j).spatial) places) NoSuchAtom _ (λ _.
     limited_on (PremiseFits j) most (two (cut_left (antecedent j) (has_number places) f) (cut_right j (has_number places) f (max (fresh_number (variables_of lines j) j) (heap_bound f)))) (chosen_fit (has_number places) (antecedent j).spatial (chosen (has_number places) (antecedent j).spatial) (λ i q. q), (cut_right_fits j (has_number places) f (max (fresh_number (variables_of lines j) j) (heap_bound f)), tt)))
-rule_fits most ds lines j Done = single_on PremiseFits j _ (λ a b. empty_fits (PremiseFits (Entail a (b ∷ []))) a.spatial b.pure b.spatial)
+rule_fits most ds lines j Done = single_on PremiseFits j _ (λ a b. empty_on (PremiseFits (Entail a (b ∷ []))) a.spatial b.pure b.spatial)
 rule_fits most ds lines j (Choose k) =
     entails_on PremiseFits j _ (λ a bs. finds_on (PremiseFits (Entail a bs)) (slice_get bs k) NoSuchAtom _ (λ b at. (right_fits a bs (b ∷ []), tt)))
 rule_fits most ds lines j (PureRight k) =

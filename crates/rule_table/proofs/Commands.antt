@@ -45,17 +45,9 @@ use Rattle.rule_table.proofs.Steps.{finds_sound, limited_sound}
 use Rattle.rule_table.proofs.Reflects.{equated_is}
 use Rattle.rule_table.proofs.CellsIn.{HasCell, cell_there, left_has, is_cell_has}
 use Rattle.formula_facts.proofs.AllMembers.{each_append, each_at}
+use Rattle.formula_facts.proofs.Commands.{bound_at}
 
 -- ---- the command at a line
-
-pub bound_of_command : (lines : List Command) (i : ℕ) (c : Command) → counted_from_one lines i ≡ Some c → command_bound c ≤ program_variables lines
-bound_of_command lines zero c at = cc
-bound_of_command lines (suc i) c at = among lines i c at
-  where
-    among : (lines : List Command) (i : ℕ) (c : Command) → slice_get lines i ≡ Some c → command_bound c ≤ program_variables lines
-    among [] i c at = cc
-    among (d ∷ ds) zero c at = let same : d ≡ c = cc in let e = ap command_bound same in omega arith
-    among (d ∷ ds) (suc i) c at = let r = among ds i c at in omega arith
 
 pub command_is : (lines : List Command) (i : ℕ) (c : Command) → Each IsCommand lines → counted_from_one lines i ≡ Some c → IsCommand c
 command_is lines zero c all at = cc
@@ -258,26 +250,26 @@ module _ (ds : List Definition) (lines : List Command) (i : ℕ) (a : SymbolicHe
 
   if_eq_sound : (t u : Term) (j : ℕ) → counted_from_one lines i ≡ Some (IfEq t u j) → IsUniversal t × IsUniversal u → IsLocallySound ds lines (Runs i a) (two (at_line j a (with_atom a (Eq t u))) (at_line (i + 1) a (with_atom a (Neq t u))))
   if_eq_sound t u j at universal stages premises s part o w pos h is =
-      let b = bound_of_command lines i (IfEq t u j) at in
+      let b = bound_at lines i (IfEq t u j) at in
       let c = start_at lines i s h in
       one_way lines w (IfEq t u j) c (jump c (if nat_eq (value_in c t) (value_in c u) then j else i + 1)) at (λ bad. bad) (λ e g. g) (branch ds lines i a stages s part o w pos h is t u j (i + 1) universal.0 universal.1 (omega arith) (omega arith) premises.0 premises.1.0 (nat_eq (value_in c t) (value_in c u)) refl)
 
   if_neq_sound : (t u : Term) (j : ℕ) → counted_from_one lines i ≡ Some (IfNeq t u j) → IsUniversal t × IsUniversal u → IsLocallySound ds lines (Runs i a) (two (at_line j a (with_atom a (Neq t u))) (at_line (i + 1) a (with_atom a (Eq t u))))
   if_neq_sound t u j at universal stages premises s part o w pos h is =
-      let b = bound_of_command lines i (IfNeq t u j) at in
+      let b = bound_at lines i (IfNeq t u j) at in
       let c = start_at lines i s h in
       one_way lines w (IfNeq t u j) c (jump c (if nat_eq (value_in c t) (value_in c u) then i + 1 else j)) at (λ bad. bad) (λ e g. g) (branch ds lines i a stages s part o w pos h is t u (i + 1) j universal.0 universal.1 (omega arith) (omega arith) premises.1.0 premises.0 (nat_eq (value_in c t) (value_in c u)) refl)
 
   assign_sound : (x : ℕ) (t : Term) → counted_from_one lines i ≡ Some (Assign x t) → IsUniversal t → IsLocallySound ds lines (Runs i a) (one (at_line (i + 1) a (with_atom (renamed x n a) (Eq (Univ x) (renamed_term x n t)))))
   assign_sound x t at universal stages premises s part o w pos h is =
-      let b = bound_of_command lines i (Assign x t) at in
+      let b = bound_at lines i (Assign x t) at in
       let c = start_at lines i s h in
       let v = start_value (program_variables lines) s o.0 t universal (omega arith) in
       one_way lines w (Assign x t) c (next_line c (slice_set c.stack x (value s o.0 t)) h) at (λ bad. bad) (λ e g. g ∙ ap (λ m. next_line c (slice_set c.stack x m) h) v) (set_on ds lines i a stages s part o w pos h is x n t (omega arith) p_below a_below (below_of_bound n t (omega arith)) premises.0)
 
   load_sound : (x : ℕ) (t : Term) (k : ℕ) (c : Found) (f : Term) → counted_from_one lines i ≡ Some (Load x t k) → IsUniversal t → cell_of a.pure t a.spatial ≡ Some c → counted_from_one c.fields k ≡ Some f → IsLocallySound ds lines (Runs i a) (one (at_line (i + 1) a (with_atom (renamed x n a) (Eq (Univ x) (renamed_term x n f)))))
   load_sound x t k c f at universal found field stages premises s part o w pos h is =
-      let b = bound_of_command lines i (Load x t k) at in
+      let b = bound_at lines i (Load x t k) at in
       let d = start_at lines i s h in
       let cell = cell_here ds lines i a stages s part o w pos h is t c universal (omega arith) found in
       let reads : field_at h (value_in d t) k ≡ Some (value s o.0 f) = field_here ds lines i a stages s part o w pos h is (cell_at h (value_in d t)) (values s o.0 c.fields) k (value s o.0 f) cell.2 (counted_map (value s o.0) c.fields k f field) in
@@ -303,10 +295,10 @@ module _ (ds : List Definition) (lines : List Command) (i : ℕ) (a : SymbolicHe
       us = slice_set c.fields (k - 1) u
 
       t_below : term_bound t ≤ program_variables lines
-      t_below = let b = bound_of_command lines i (Store t k u) at in omega arith
+      t_below = let b = bound_at lines i (Store t k u) at in omega arith
 
       u_below : term_bound u ≤ program_variables lines
-      u_below = let b = bound_of_command lines i (Store t k u) at in omega arith
+      u_below = let b = bound_at lines i (Store t k u) at in omega arith
 
       cell : (value s o.0 c.address ≡ value_in (start_at lines i s h) t) × HasCell s o.0 c.address c.fields part × (cell_at h (value_in (start_at lines i s h) t) ≡ Some (values s o.0 c.fields))
       cell = cell_here ds lines i a stages s part o w pos h is t c universal.0 t_below found
@@ -329,7 +321,7 @@ module _ (ds : List Definition) (lines : List Command) (i : ℕ) (a : SymbolicHe
 
   free_sound : (t : Term) (c : Found) → counted_from_one lines i ≡ Some (Free t) → IsUniversal t → cell_of a.pure t a.spatial ≡ Some c → IsLocallySound ds lines (Runs i a) (one (record { judgement = Runs (i + 1) (without_spatial c.place a); pairs = kept_pairs c.place a.spatial }))
   free_sound t c at universal found stages premises s part o w pos h is =
-      let b = bound_of_command lines i (Free t) at in
+      let b = bound_at lines i (Free t) at in
       let d = start_at lines i s h in
       let cell = cell_here ds lines i a stages s part o w pos h is t c universal (omega arith) found in
       let out = take_out (at_stage ds) s o.0 a.spatial c.place (Cell c.address c.fields) stages part (found_is a.pure t a.spatial c found).at o.1.1 in
@@ -340,7 +332,7 @@ module _ (ds : List Definition) (lines : List Command) (i : ℕ) (a : SymbolicHe
 
   new_sound : (x k : ℕ) → counted_from_one lines i ≡ Some (New x k) → 0 < k → IsLocallySound ds lines (Runs i a) (one (at_line (i + 1) a (with_cell (renamed x n a) x (variables_from (n + 1) k))))
   new_sound x k at fields =
-      let b = bound_of_command lines i (New x k) at in
+      let b = bound_at lines i (New x k) at in
       exec_new_sound ds lines i a x k n at fields (omega arith) p_below a_below
 
   command_sound : (most : ℕ) (c : Command) → counted_from_one lines i ≡ Some c → IsCommand c → IsSound ds lines (Runs i a) (command_answer most i a n c)

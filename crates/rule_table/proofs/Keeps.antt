@@ -40,6 +40,8 @@ use Rattle.rule_table.proofs.Rewrites.{AnyTerm, any_heap, Each-without}
 use Rattle.rule_table.proofs.Fits.{needs_on, finds_on, limited_on, entails_on, single_on, runs_on}
 use Rattle.rule_table.proofs.Commands.{found_is, counted_get as counted_each}
 use Rattle.formula_facts.proofs.AllMembers.{each_append, each_at, each_set}
+use Rattle.formula_facts.proofs.Terms.{universal_choice}
+use Rattle.rule_table.proofs.EmptyPremises.{empty_on}
 
 module _ (Q : Term → Type 0) (f : Term → Term) (g : (t : Term) → Q t → IsUniversal (f t)) where
   terms_after : (ts : List Term) → Each Q ts → Each IsUniversal (map f ts)
@@ -64,13 +66,9 @@ universal_with : (j : Judgement) (a : SymbolicHeap) → IsUniversalHeap a → Is
 universal_with (Entail b bs) a u = u
 universal_with (Runs i b) a u = u
 
-one_term : (b : Bool) (u t : Term) → IsUniversal u → IsUniversal t → IsUniversal (cond b u t)
-one_term true u t p q = p
-one_term false u t p q = q
-
 replaced_universal : (v : ℕ) (u : Term) → IsUniversal u → (t : Term) → IsUniversal t → IsUniversal (apply_term ((v, u) ∷ []) t)
 replaced_universal v u p Nil q = tt
-replaced_universal v u p (Univ n) q = one_term (nat_eq n v) u (Univ n) p tt
+replaced_universal v u p (Univ n) q = universal_choice (nat_eq n v) u (Univ n) p tt
 replaced_universal v u p (Exist n) q = absurd q
 
 pures_rewritten : (b : Bool) (k v : ℕ) (x : Pure) (u : Term) (xs : List Pure) → IsUniversal u → InPure IsUniversal x → Each (InPure IsUniversal) xs → Each (InPure IsUniversal) (cond b (map (apply_pure ((v, u) ∷ [])) (without k xs)) (slice_set (map (apply_pure ((v, u) ∷ [])) xs) k x))
@@ -143,12 +141,6 @@ cut_universal : (j : Judgement) (p : ℕ → Bool) (f : SymbolicHeap) (n : ℕ) 
 cut_universal j p f n h =
     let body = heap_after AnyTerm (opened_term n) (opened_universal n) f (any_heap f) in
     universal_with j _ (each_append (InPure IsUniversal) (antecedent j).pure (in_heap (opened_term n) f).pure h.0 body.0, each_append (InSpatial IsUniversal) (chosen (others_of p) (antecedent j).spatial) (in_heap (opened_term n) f).spatial (chosen_universal (antecedent j).spatial (others_of p) h.1) body.1)
-
-empty_keeps : (P : Premise → Type 0) (xs : List Spatial) (ps : List Pure) (ys : List Spatial) → OnPremises P (are_empty xs ps ys)
-empty_keeps P [] [] [] = tt
-empty_keeps P [] [] (y ∷ ys) = tt
-empty_keeps P [] (p ∷ ps) ys = tt
-empty_keeps P (x ∷ xs) ps ys = tt
 
 fields_universal : (n k : ℕ) → Each IsUniversal (variables_from n k)
 fields_universal n zero = tt
@@ -229,7 +221,7 @@ rule_keeps most ds lines j (Distinct i k) h c r =
     finds_on IsUniversalPremise (address_of y) NoCell _ (λ u is_u.
     let ut = address_universal x t is_t (each_at (InSpatial IsUniversal) (antecedent j).spatial i x at_i h.1) in
     let uu = address_universal y u is_u (each_at (InSpatial IsUniversal) (antecedent j).spatial k y at_k h.1) in
-    limited_on IsUniversalPremise 32 (one (with_pure j (Neq t (if nat_eq i k then Nil else u)))) (pure_universal j (Neq t (if nat_eq i k then Nil else u)) h (ut, one_term (nat_eq i k) Nil u tt uu), tt)))))
+    limited_on IsUniversalPremise 32 (one (with_pure j (Neq t (if nat_eq i k then Nil else u)))) (pure_universal j (Neq t (if nat_eq i k then Nil else u)) h (ut, universal_choice (nat_eq i k) Nil u tt uu), tt)))))
 rule_keeps most ds lines j (Weaken k) h c r =
     finds_on IsUniversalPremise (slice_get (antecedent j).pure k) NoSuchAtom _ (λ x at. (universal_with j _ (Each-without (InPure IsUniversal) (antecedent j).pure k h.0, h.1), tt))
 rule_keeps most ds lines j (Unfold k) h c r =
@@ -237,7 +229,7 @@ rule_keeps most ds lines j (Unfold k) h c r =
 rule_keeps most ds lines j (Cut places f) h c r =
     needs_on IsUniversalPremise (ascend_from 0 (length (antecedent j).spatial) places) NoSuchAtom _ (λ _.
     limited_on IsUniversalPremise most (two (cut_left (antecedent j) (has_number places) f) (cut_right j (has_number places) f (max (fresh_number (variables_of lines j) j) (heap_bound f)))) ((h.0, chosen_universal (antecedent j).spatial (has_number places) h.1), (cut_universal j (has_number places) f (max (fresh_number (variables_of lines j) j) (heap_bound f)) h, tt)))
-rule_keeps most ds lines j Done h c r = lift j (done_answer j) (single_on P j _ (λ a b. empty_keeps (P (Entail a (b ∷ []))) a.spatial b.pure b.spatial)) h
+rule_keeps most ds lines j Done h c r = lift j (done_answer j) (single_on P j _ (λ a b. empty_on (P (Entail a (b ∷ []))) a.spatial b.pure b.spatial)) h
 rule_keeps most ds lines j (Choose k) h c r =
     lift j (choose_answer j k) (entails_on P j _ (λ a bs. finds_on (P (Entail a bs)) (slice_get bs k) NoSuchAtom _ (λ b at. (λ u. u, tt)))) h
 rule_keeps most ds lines j (PureRight k) h c r =

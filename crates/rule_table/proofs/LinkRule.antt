@@ -31,6 +31,7 @@ use Rattle.rule_table.specs.LinkTable.{first_of, fault_unless, keeps_below, pure
 use Rattle.rule_table.specs.Soundness.{HasVariables, AreUniversal}
 use Rattle.rule_table.proofs.Reflects.{same_term_is, follows_is, matches_is}
 use Rattle.formula_facts.proofs.AllMembers.{each_at}
+use Rattle.formula_facts.proofs.Terms.{universal_choice}
 
 pub none_of_two : (f g : Option RuleFault) → first_of f g ≡ None → (f ≡ None) × (g ≡ None)
 none_of_two None g e = (refl, e)
@@ -148,10 +149,6 @@ all_disjuncts bs k (m ∷ ms) (c ∷ cs) e =
     let t = cond_none (covers_some c (slice_get bs m)) (disjunct_fault bs (suc k) ms cs) (LinkDisjunct k) e in
     let b = some_covered c (slice_get bs m) t.0 in
     (b.0, b.1, b.2, all_disjuncts bs (suc k) ms cs t.1)
-
-universal_choice : (b : Bool) (t u : Term) → IsUniversal t → IsUniversal u → IsUniversal (cond b t u)
-universal_choice true t u p q = p
-universal_choice false t u p q = q
 
 image_universal : (s : Bindings) → AreUniversal s → (v : ℕ) → IsUniversal (image s v)
 image_universal [] u v = tt

@@ -15,10 +15,7 @@ use Rattle.pair_family.specs.Frames.{term_at, has_term, one_more, with_terms, ke
 use Rattle.pair_family.proofs.Lists.{In}
 use Rattle.pair_states.proofs.Combined.{ArePlaces}
 use Rattle.sat_pairs.specs.Numbers.{numbered, with_numbers, kept_numbers, sides_of, with_pure_numbers, place_in, places_in, count_from}
-
-any_map : {X Y : Type 0} (t : Y → Bool) (f : X → Y) (xs : List X) → any t (map f xs) ≡ any (λ x. t (f x)) xs
-any_map t f [] = refl
-any_map t f (x ∷ xs) = ap (λ b. t (f x) || b) (any_map t f xs)
+use Rattle.pair_states.proofs.Labelled.{any_map}
 
 map_snoc : {X Y : Type 0} (f : X → Y) (xs : List X) (x : X) → map f xs ++ (f x ∷ []) ≡ map f (xs ++ (x ∷ []))
 map_snoc f [] x = refl

@@ -16,11 +16,12 @@ use Rattle.pair_family.specs.Combination.{pure_equations, pure_differences, pure
 use Rattle.pair_family.specs.Folding.{Frame, two_at, said_in, with_atom}
 use Rattle.pair_family.specs.Frames.{term_at, with_terms, kept_terms, frames_of}
 use Rattle.pair_family.proofs.Lists.{In, at_each}
-use Rattle.pair_family.proofs.ListFrames.{number_term, terms_there, terms_after}
+use Rattle.pair_family.proofs.ListFrames.{terms_there, terms_after}
 use Rattle.pair_states.specs.Labels.{AreApartLabels, combined_pairs, combined}
 use Rattle.pair_states.proofs.Combined.{ArePlaces, apart_consistent, combined_is}
 use Rattle.sat_pairs.specs.Numbers.{with_numbers, kept_numbers, with_pure_numbers, place_in, count_from, equal_places, differ_places}
 use Rattle.sat_pairs.proofs.Placed.{terms_numbered, kept_are, pure_terms, pure_numbered, placed, placed_at, counted_at, at_left, below_each}
+use Rattle.pair_family.proofs.Classes.{same_number}
 
 abbrev pub no_pair : BasePair
 no_pair = record { same = []; differ = []; cells = [] }
@@ -34,7 +35,7 @@ module _ (all : List Term) where
   at = term_at (Nil ∷ all)
 
   here : (t : Term) → In t (Nil ∷ all) → at (place_in (term_number t) ns) ≡ t
-  here t m = placed_at number_term t (Nil ∷ all) m
+  here t m = placed_at same_number t (Nil ∷ all) m
 
   equal_at : (ps : List Pure) → Each (λ t. In t (Nil ∷ all)) (pure_terms ps) → two_at at (equal_places ns ps) ≡ pure_equations ps
   equal_at [] a = refl

@@ -38,6 +38,7 @@ use Rattle.rule_table.proofs.Fits.{needs_on, finds_on, limited_on, entails_on, s
 use Rattle.format_limits.proofs.Gives.{limited_gives}
 use Rattle.format_limits.proofs.Heaps.{length-without, short_spatials}
 use Rattle.std.proofs.lemmas.Bool.{and_parts}
+use Rattle.rule_table.proofs.EmptyPremises.{empty_on}
 
 -- the antecedent has at most so many spatial atoms
 abbrev pub IsShort : ℕ → Judgement → Type 0
@@ -86,12 +87,6 @@ atom_short most p j k side (Eq t u) = test_short most (same_term t u) p j k (Eq 
 unfold_short : (most : ℕ) → (ds : List Definition) (p : ℕ) (j : Judgement) (k : ℕ) (x : Spatial) → OnPremises (StaysShort most j) (calls x (λ q ts. limited most (map (unfold_premise j k ts (fresh_number p j)) (cases_of ds q))))
 unfold_short most ds p j k (Cell t ts) = tt
 unfold_short most ds p j k (Pred q ts) = limited_short most j (map (unfold_premise j k ts (fresh_number p j)) (cases_of ds q))
-
-empty_short : (P : Premise → Type 0) (xs : List Spatial) (ps : List Pure) (ys : List Spatial) → OnPremises P (are_empty xs ps ys)
-empty_short P [] [] [] = tt
-empty_short P [] [] (y ∷ ys) = tt
-empty_short P [] (p ∷ ps) ys = tt
-empty_short P (x ∷ xs) ps ys = tt
 
 dropped_short : (most : ℕ) → (k : ℕ) (xs : List Spatial) → length xs ≤ most → length (without k xs) ≤ most
 dropped_short most k xs h = let e = length-without xs k in omega (arith, e, h)
@@ -145,7 +140,7 @@ rule_stays_short most ds lines j (Cut places f) =
     needs_on (StaysShort most j) (ascend_from 0 (length (antecedent j).spatial) places) NoSuchAtom _ (λ _.
     limited_short most j (two (cut_left (antecedent j) (has_number places) f) (cut_right j (has_number places) f (max (fresh_number (variables_of lines j) j) (heap_bound f)))))
 rule_stays_short most ds lines j Done =
-    single_on (StaysShort most) j _ (λ a b. empty_short (StaysShort most (Entail a (b ∷ []))) a.spatial b.pure b.spatial)
+    single_on (StaysShort most) j _ (λ a b. empty_on (StaysShort most (Entail a (b ∷ []))) a.spatial b.pure b.spatial)
 rule_stays_short most ds lines j (Choose k) =
     entails_on (StaysShort most) j _ (λ a bs. finds_on (StaysShort most (Entail a bs)) (slice_get bs k) NoSuchAtom _ (λ b at. ((λ h. h), tt)))
 rule_stays_short most ds lines j (PureRight k) =

@@ -18,7 +18,7 @@ use Rattle.trace_decision.specs.Closure.{closure, some_below}
 use Rattle.trace_decision.specs.Decide.{Move, over_edge, over_edges, from_node, moves_of, is_nothing, is_from, always, leads_to, step, walks, is_start, is_reached, is_at, returns_to, leads_back, turns_bad, has_bad_cycle, progresses}
 use Rattle.trace_decision.proofs.Equal.{both, state_tells, state_reflects}
 use Rattle.trace_decision.proofs.Closure.{closure_sound, closure_joins, closure_id, closure_one, below_some, some_is_below}
-use Rattle.trace_pairs.proofs.Turning.{get_within as get_some}
+use Rattle.list_facts.proofs.Places.{get_within as get_some}
 
 -- a cycle that begins with its least event is bad
 bad_from_least : (g : List Node) → LeastFirst g → BadCycle g
