@@ -10,9 +10,10 @@ use Rattle.buchi_core.specs.Forest.{Entry, every, has, grown, same_parent, befor
 use Rattle.buchi_core.proofs.Lists.{any_at, ScanAt, scan_at, every_has}
 use Rattle.buchi_core.proofs.Places.{bad_false, places_pass, places_rank, place_is_rank, rank_all, rank_less}
 use Rattle.buchi_core.proofs.Grown.{get_map, length_moved, length-trim, length-grown}
-use Rattle.buchi_core.proofs.Bounds.{Within, peak, peak_above, peak_below, Stages, stages_at, has_first}
+use Rattle.buchi_core.proofs.Bounds.{Within, peak, peak_above, peak_below, Stages, stages_at}
 use Rattle.buchi_core.proofs.Bits.{filled_has, has_filled}
 use Rattle.list_facts.proofs.Places.{get_within}
+use Rattle.position_sets.proofs.Members.{has_first}
 
 -- an entry with a parent is lost exactly where the parent is full or lost
 pub lost_at : (entries : List Entry) (i p : ℕ) (e : Entry) → slice_get entries i ≡ Some e → e.parent ≡ Some p → p < i → is_lost entries i ≡ (is_full entries p || is_lost entries p)

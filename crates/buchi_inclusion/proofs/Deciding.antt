@@ -16,7 +16,7 @@ use Rattle.buchi_inclusion.specs.Product.{State, Moves, Over, Each, IsFrom, IsNo
 use Rattle.buchi_inclusion.specs.Answers.{LeastFirst}
 use Rattle.buchi_inclusion.specs.Table.{IsStep, IsItem, IsTable}
 use Rattle.buchi_inclusion.specs.Decision.{IsLeast, IsAtLeast, IsWalk, IsNoWay, IsWay, AreWays, IsWayBetween, IsCounter, IsGoodClass, AreNoWays}
-use Rattle.buchi_inclusion.proofs.Runs.{over_path, each_weaker}
+use Rattle.buchi_inclusion.proofs.Runs.{over_path, each_weaker, over_taken}
 use Rattle.buchi_inclusion.proofs.Progressing.{not_bad}
 use Rattle.buchi_inclusion.proofs.Exact.{least_first}
 use Rattle.buchi_inclusion.proofs.Tables.{move_at, all_reached, begin_at}
@@ -95,10 +95,6 @@ tied (Dies i) (Green j) p q = let a = not_leb i j p in let b = not_ltb j i q in 
 tied (Green i) (Dies j) p q = let a = not_leb j i q in let b = not_ltb i j p in absurd (omega arith)
 
 module _ (g : List Node) (states : List State) (rows : List (Vec Transition Global)) (t : IsTable g states rows) (graph : IsGraph g) where
-  over_taken : (s u : State) (steps : List Step) (event : Event) (events : List Event) → Over g s u steps (event ∷ events) → 0 < length steps
-  over_taken s u [] event events o = absurd o
-  over_taken s u (step ∷ steps) event events o = omega arith
-
   pub counter_is : (least : Event) (q k : ℕ) (m : Transition) (s : State) (step : Step) (stem back : List Step) → IsLeast least → IsItem g states q k m → m.event ≡ least → slice_get states q ≡ Some s → step.node ≡ s.node → step.edge ≡ k →
       IsWalk g states least m.target q back → IsWalk g states (Dies 0) 0 q stem → IsCounter g (record { stem = stem; cycle = step ∷ back })
   counter_is least q k m s step stem back l item e is_s node edge b a =
@@ -120,7 +116,7 @@ module _ (g : List Node) (states : List State) (rows : List (Vec Transition Glob
           first = s.node;
           stem = subst (λ v. IsPath g v stem s.node) zero' (subst (λ (x : State). IsPath g a.s.node stem x.node) at path);
           cycle = over_path g s s (step ∷ back) (m.event ∷ b.events) over;
-          taken = over_taken s s (step ∷ back) m.event b.events over;
+          taken = over_taken g s s (step ∷ back) m.event b.events over;
         };
         stuck = λ p. not_bad g graph.fit s (step ∷ back) (m.event ∷ b.events) p.k p.position over (bad_is least m.event b.events l e b.ok) p.trace;
       }

@@ -12,12 +12,13 @@ use Rattle.buchi_inclusion.specs.declared.product.Transition.{Transition}
 use Rattle.buchi_inclusion.specs.Product.{State, Moves, Run, Each, Reachable, IsStart}
 use Rattle.buchi_inclusion.specs.Answers.{AreAllReached}
 use Rattle.buchi_inclusion.specs.Table.{IsStep, IsTable}
-use Rattle.buchi_inclusion.specs.Decision.{IsAtLeast, class_row, class_rows, lists_of, IsClass, IsWay, AreWays, IsNoWay}
+use Rattle.buchi_inclusion.specs.Decision.{IsAtLeast, class_row, class_rows, IsClass, IsWay, AreWays, IsNoWay}
 use Rattle.buchi_inclusion.specs.Ranks.{rank_at, IsRising}
 use Rattle.buchi_inclusion.proofs.Runs.{edge_one}
 use Rattle.position_sets.proofs.Lists.{map_length}
 pub use Rattle.position_sets.proofs.Lists.{MapAt, map_at}
 use Rattle.list_facts.proofs.Places.{get_map, get_within}
+use Rattle.trace_pairs.specs.Turn.{lists_of}
 
 module _ (least : Event) (rows : List (Vec Transition Global)) (table : List (Vec (ℕ × Bool) Global)) (class : IsClass least rows table) where
   pub class_length : length table ≡ length rows

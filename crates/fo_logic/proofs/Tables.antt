@@ -18,10 +18,11 @@ use Rattle.buchi_inclusion.specs.declared.system.Checked.TheVariants as answers
 use Rattle.proof_graph.proofs.Joined.{mapped_at}
 use Rattle.fo_nodes.specs.Files.{predicate_places, graph_edge, graph_node, HoldsAtNode}
 use Rattle.fo_logic.specs.Laws.{graph_length}
-use Rattle.fo_logic.specs.Tested.{rows_of, first_rows, EndsBy, is_untested}
+use Rattle.fo_logic.specs.Tested.{first_rows, EndsBy, is_untested}
 use Rattle.fo_logic.specs.Verdicts.{file_graph, state_limit, HasRightNodes, IsRightBefore, IsLeastFault, IsVerdict}
 use Rattle.fo_logic.specs.declared.verdict.FoVerdict.TheVariants as verdicts
 use Rattle.list_facts.proofs.Places.{get_taken, at_index, get_within, get_map}
+use Rattle.trace_pairs.specs.Turn.{lists_of}
 
 -- ---- the calls
 
@@ -31,7 +32,7 @@ positions_at f v n ps within is e =
     let below : v < length f.nodes = omega (arith, within, graph_length f) in
     (node n, get_map node f.nodes v n (at_index f.nodes v n n below (sym is)), e)
 
-pub edges_at : (f : FoFile) (rows : List (Vec Edge Global)) (v : ℕ) (row : Vec Edge Global) (es : List GraphEdge) → rows_of rows ≡ first_rows f (length rows) → is_untested (length rows) v ≡ false → row ≡ get_or rows v row → es ≡ map graph_edge row.items → HasEdges (file_graph f) v es
+pub edges_at : (f : FoFile) (rows : List (Vec Edge Global)) (v : ℕ) (row : Vec Edge Global) (es : List GraphEdge) → lists_of rows ≡ first_rows f (length rows) → is_untested (length rows) v ≡ false → row ≡ get_or rows v row → es ≡ map graph_edge row.items → HasEdges (file_graph f) v es
 edges_at f rows v row es are tested is e =
     let node = graph_node f.theory f.nodes in
     let edges = edges_of f.theory f.nodes in

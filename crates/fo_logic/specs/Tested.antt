@@ -6,10 +6,6 @@ use Rattle.fo_formula.specs.declared.nodes.FoNode.{FoNode}
 use Rattle.fo_table.specs.declared.faults.FoFault.{FoFault}
 use Rattle.fo_table.specs.Nodes.{Edge, edges_of, node_fault}
 
--- the edges of each node of a list
-abbrev pub rows_of : List (Vec Edge Global) → List (List Edge)
-rows_of rows = map (λ v. v.items) rows
-
 -- the edges of the first n nodes
 abbrev pub first_rows : FoFile → ℕ → List (List Edge)
 first_rows f n = map (edges_of f.theory f.nodes) (take n f.nodes)

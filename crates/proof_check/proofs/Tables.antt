@@ -24,12 +24,13 @@ use Rattle.proof_file.specs.declared.node.FileNode.{FileNode}
 use Rattle.proof_file.specs.declared.file.ProofFile.{ProofFile}
 use Rattle.proof_check.specs.Files.{graph_edge, graph_node, HoldsAtNode, node_of, nodes_of}
 use Rattle.proof_check.specs.Laws.{graph_length}
-use Rattle.proof_check.specs.Tested.{rows_of, first_rows, HasFields, IsTested, EndsBy, is_untested}
+use Rattle.proof_check.specs.Tested.{first_rows, HasFields, IsTested, EndsBy, is_untested}
 use Rattle.proof_check.specs.Verdicts.{file_graph, state_limit, HasRightNodes, IsRightBefore, IsLeastFault, IsVerdict}
 use Rattle.proof_check.specs.declared.verdict.Verdict.TheVariants as verdicts
 use Rattle.proof_check.proofs.TestLoops.{node_at}
 use Rattle.formula_facts.proofs.AllMembers.{each_at}
 use Rattle.list_facts.proofs.Places.{get_taken, at_index, get_within, get_map}
+use Rattle.trace_pairs.specs.Turn.{lists_of}
 
 pub has_fields : (f : ProofFile) → IsProgram f.program → HasFields f.program
 has_fields f program i x k is = each_at IsCommand f.program i (New x k) is (program_commands f.program program)
@@ -42,7 +43,7 @@ positions_at f v n ps within is e =
     let below : v < length f.nodes = omega (arith, within, graph_length f, length-map f.nodes node_of) in
     (node (node_of n), get_map node (nodes_of f.nodes) v (node_of n) (node_at f.nodes v n below is), e)
 
-pub edges_at : (f : ProofFile) (rows : List (Vec Edge Global)) (v : ℕ) (row : Vec Edge Global) (es : List GraphEdge) → rows_of rows ≡ first_rows f (length rows) → is_untested (length rows) v ≡ false → row ≡ get_or rows v row → es ≡ map graph_edge row.items → HasEdges (file_graph f) v es
+pub edges_at : (f : ProofFile) (rows : List (Vec Edge Global)) (v : ℕ) (row : Vec Edge Global) (es : List GraphEdge) → lists_of rows ≡ first_rows f (length rows) → is_untested (length rows) v ≡ false → row ≡ get_or rows v row → es ≡ map graph_edge row.items → HasEdges (file_graph f) v es
 edges_at f rows v row es are tested is e =
     let nodes = nodes_of f.nodes in
     let node = graph_node f.defs.most f.defs.list f.program nodes in

@@ -11,10 +11,6 @@ use Rattle.proof_file.specs.declared.file.ProofFile.{ProofFile}
 use Rattle.proof_check.specs.Files.{nodes_of}
 use Rattle.proof_check.specs.Verdicts.{IsRightBefore}
 
--- the edges of each node of a list
-abbrev pub rows_of : List (Vec Edge Global) → List (List Edge)
-rows_of rows = map (λ v. v.items) rows
-
 -- the edges of the first n nodes
 abbrev pub first_rows : ProofFile → ℕ → List (List Edge)
 first_rows f n = map (edges_of f.defs.most f.defs.list f.program (nodes_of f.nodes)) (take n (nodes_of f.nodes))

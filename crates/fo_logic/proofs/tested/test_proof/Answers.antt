@@ -8,12 +8,13 @@ use Rattle.fo_table.specs.Nodes.{Edge, node_fault, edges_of}
 use Rattle.fo_nodes.specs.declared.node_tests.NodeAnswer.{NodeAnswer}
 use Rattle.fo_nodes.specs.Answers.{IsNodeAnswer}
 use Rattle.fo_nodes.specs.Files.{IsSmallSequent, IsReadNode}
-use Rattle.fo_logic.specs.Tested.{rows_of, first_rows}
+use Rattle.fo_logic.specs.Tested.{first_rows}
 use Rattle.fo_logic.specs.Verdicts.{IsRightBefore}
 use Rattle.fo_logic.proofs.TestLoops.{one_more}
 use Rattle.fo_logic.proofs.tested.test_proof.Goals as goal
 use Rattle.formula_facts.proofs.AllMembers.{each_imply, each_at}
 use Rattle.list_facts.proofs.Places.{take_get, at_index}
+use Rattle.trace_pairs.specs.Turn.{lists_of}
 
 pub test_node-requires : goal.test_node-requires
 test_node-requires c =
@@ -69,7 +70,7 @@ loop-v-preserved c =
     let said = subst (λ (a : NodeAnswer). IsNodeAnswer a (node_fault f.theory f.nodes v n) (edges n)) c.in-Right.is told in
     let pushed = c.in_ok-push-in-Right.ensures.items in (
       omega (arith, ap length pushed, length-append c.loop-v.edges.items (c.in-Right.next ∷ []), inv.0),
-      ap rows_of pushed
+      ap lists_of pushed
           ∙ map-append (λ (r : Vec Edge Global). r.items) c.loop-v.edges.items (c.in-Right.next ∷ [])
           ∙ ap (λ rs. rs ++ c.in-Right.next.items ∷ []) inv.1
           ∙ ap (λ es. first_rows f v ++ es ∷ []) said.1
