@@ -21,6 +21,7 @@ use Rattle.heap_formula.proofs.StepLaws.{is_eq-Equal}
 use Rattle.heap_formula.proofs.StageLaws.{OneOf-map}
 use Rattle.list_facts.proofs.Tests.{bool_same}
 use Rattle.heap_formula.proofs.Insertions.{same_address}
+use Rattle.model_check.proofs.MaskParts.{one_cell_at}
 
 abbrev pub over : {X Y : Type 0} → (X → Y) → Option X → Option Y
 over f None = None
@@ -100,11 +101,8 @@ module _ (swap : ℕ → ℕ) (twice : (x : ℕ) → swap (swap x) ≡ x) (at_ze
   none_renamed : renamed no_cells ≡ no_cells
   none_renamed = same_cells _ _ (λ q. at_renamed no_cells q ∙ ap (over (map swap)) (get-empty nat_cmp (swap q)) ∙ sym (get-empty nat_cmp q))
 
-  one_at : (a : ℕ) (vs : List ℕ) (q : ℕ) → cell_at (one_cell a vs) q ≡ cond (eq_by_cmp nat_cmp q a) (Some vs) None
-  one_at a vs q = get-insert nat_cmp_total empty a vs q ∙ ap (cond (eq_by_cmp nat_cmp q a) (Some vs)) (get-empty nat_cmp q)
-
   one_renamed : (a : ℕ) (vs : List ℕ) → renamed (one_cell a vs) ≡ one_cell (swap a) (map swap vs)
-  one_renamed a vs = same_cells _ _ (λ q. at_renamed (one_cell a vs) q ∙ ap (over (map swap)) (one_at a vs (swap q)) ∙ over_cond (map swap) (eq_by_cmp nat_cmp (swap q) a) (Some vs) None ∙ ap (λ b. cond b (Some (map swap vs)) None) (sym (swapped_eq q a)) ∙ sym (one_at (swap a) (map swap vs) q))
+  one_renamed a vs = same_cells _ _ (λ q. at_renamed (one_cell a vs) q ∙ ap (over (map swap)) (one_cell_at a vs (swap q)) ∙ over_cond (map swap) (eq_by_cmp nat_cmp (swap q) a) (Some vs) None ∙ ap (λ b. cond b (Some (map swap vs)) None) (sym (swapped_eq q a)) ∙ sym (one_cell_at (swap a) (map swap vs) q))
 
   length_renamed : (vs : List ℕ) → length (map swap vs) ≡ length vs
   length_renamed [] = refl

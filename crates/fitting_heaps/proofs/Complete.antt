@@ -24,6 +24,7 @@ use Rattle.fitting_heaps.specs.Bounds.{AreAtMost, IsWithin, IsAmong}
 use Rattle.fitting_heaps.specs.Findings.{Findings, found_if_asked, FitsCase, IsSettled, UnlessGrown}
 use Rattle.formula_facts.proofs.AllMembers.{each_imply}
 use Rattle.formula_facts.proofs.Greatest.{each_below}
+use Rattle.model_check.proofs.KnownTerms.{in_heap_map, in_pure_map, in_spatial_map}
 
 -- ---- values of terms are small
 
@@ -55,18 +56,6 @@ module _ (n : ℕ) (h : Cells) (s e : Stack) (b : SymbolicHeap) (w : IsWithin n 
       member_small n (value s e) u ts i (w.fields (value s e t) (values s e ts) x)
 
 -- ---- other locals with the same values
-
-module _ (P Q : Term → Type 0) (f : (t : Term) → P t → Q t) where
-  in_pure : (x : Pure) → InPure P x → InPure Q x
-  in_pure (Eq t u) k = (f t k.0, f u k.1)
-  in_pure (Neq t u) k = (f t k.0, f u k.1)
-
-  in_spatial : (x : Spatial) → InSpatial P x → InSpatial Q x
-  in_spatial (Cell t ts) k = (f t k.0, each_imply P Q f ts k.1)
-  in_spatial (Pred p ts) k = each_imply P Q f ts k
-
-  in_heap : (b : SymbolicHeap) → InHeap P b → InHeap Q b
-  in_heap b k = (each_imply (InPure P) (InPure Q) in_pure b.pure k.0, each_imply (InSpatial P) (InSpatial Q) in_spatial b.spatial k.1)
 
 module _ (P Q : Term → Type 0) where
   both_terms : (ts : List Term) → Each P ts → Each Q ts → Each (λ t. P t × Q t) ts
@@ -153,14 +142,14 @@ module _ (ds : List Definition) (n : ℕ) (t : Findings) where
   case_fits : (vs : List ℕ) (h : Cells) (b : SymbolicHeap) → AreAtMost n vs → IsWithin n h → IsConstructive b → CaseHolds Means vs h b → FitsCase n (found_if_asked n t) vs h b
   case_fits vs h b z w k c =
       let fits = holds_fits (λ _. Means) vs c.0 b h h (inside_all h) c.1 in
-      let small = in_heap (Known b) (λ u. value vs c.0 u ≤ n) (known_small n h vs c.0 b w z fits) b k in
+      let small = in_heap_map (Known b) (λ u. value vs c.0 u ≤ n) (known_small n h vs c.0 b w z fits) b k in
       let below = heap_bounded (heap_exists b) b (omega arith) in
       let e' = lowered n (heap_exists b) c.0 in
       let f = value_same n (heap_exists b) vs c.0 in
       let A = λ (u : Term). (value vs c.0 u ≤ n) × (exist_bound u ≤ heap_exists b) in
       let B = λ (u : Term). (value vs c.0 u ≤ n) × (value vs c.0 u ≡ value vs e' u) in
-      let pures = each_imply (InPure A) (InPure B) (in_pure A B f) b.pure (both_pures (λ u. value vs c.0 u ≤ n) (λ u. exist_bound u ≤ heap_exists b) b.pure small.0 below.0) in
-      let spatials = each_imply (InSpatial A) (InSpatial B) (in_spatial A B f) b.spatial (both_spatials (λ u. value vs c.0 u ≤ n) (λ u. exist_bound u ≤ heap_exists b) b.spatial small.1 below.1) in
+      let pures = each_imply (InPure A) (InPure B) (in_pure_map A B f) b.pure (both_pures (λ u. value vs c.0 u ≤ n) (λ u. exist_bound u ≤ heap_exists b) b.pure small.0 below.0) in
+      let spatials = each_imply (InSpatial A) (InSpatial B) (in_spatial_map A B f) b.spatial (both_spatials (λ u. value vs c.0 u ≤ n) (λ u. exist_bound u ≤ heap_exists b) b.spatial small.1 below.1) in
       record {
         locals = e';
         long = lowered_long n (heap_exists b) c.0;
@@ -184,7 +173,7 @@ module _ (ds : List Definition) (n : ℕ) (t : Findings) where
   asked_found k settled s h a z w u x =
       let e = x.1.0 in
       let f = λ (v : Term) (i : IsUniversal v). universal_alike v i in
-      spatial_alike n (found_if_asked n t) s e [] (λ j. at_stage ds (x.0 j)) (λ j p vs g m b d. all_found k settled p vs g (x.0 j, m) b d) a.spatial h w (each_imply (InSpatial IsUniversal) (InSpatial (λ v. (value s e v ≤ n) × (value s e v ≡ value s [] v))) (in_spatial IsUniversal (λ v. (value s e v ≤ n) × (value s e v ≡ value s [] v)) f) a.spatial u.1) x.1.1.1
+      spatial_alike n (found_if_asked n t) s e [] (λ j. at_stage ds (x.0 j)) (λ j p vs g m b d. all_found k settled p vs g (x.0 j, m) b d) a.spatial h w (each_imply (InSpatial IsUniversal) (InSpatial (λ v. (value s e v ≤ n) × (value s e v ≡ value s [] v))) (in_spatial_map IsUniversal (λ v. (value s e v ≤ n) × (value s e v ≡ value s [] v)) f) a.spatial u.1) x.1.1.1
     where
       universal_alike : (v : Term) → IsUniversal v → (value s x.1.0 v ≤ n) × (value s x.1.0 v ≡ value s [] v)
       universal_alike Nil i = (omega arith, refl)
@@ -232,7 +221,7 @@ none_exist a k =
     omega arith
 
 pub all_universal : (a : SymbolicHeap) → heap_exists a ≡ 0 → IsUniversalHeap a
-all_universal a e = in_heap (λ t. exist_bound t ≤ 0) IsUniversal zero_universal a (heap_bounded 0 a (omega arith))
+all_universal a e = in_heap_map (λ t. exist_bound t ≤ 0) IsUniversal zero_universal a (heap_bounded 0 a (omega arith))
 
 pub universal_test : (a : SymbolicHeap) (n : ℕ) (b : Bool) → n ≡ heap_exists a → b ≡ nat_eq n 0 → (IsTrue b → IsUniversalHeap a) × (IsUniversalHeap a → IsTrue b)
 universal_test a n b e t = (

@@ -11,10 +11,11 @@ use Rattle.heap_formula.proofs.StepLaws.{is_eq-Equal}
 use Rattle.heap_formula.proofs.StageLaws.{OneOf-map}
 use Rattle.heap_formula.specs.Words.{Each, OneOf}
 use Rattle.heap_formula.specs.Cells.{Cells, cell_at, no_cells, Joins, IsUnion, Star, IsHeap}
-use Rattle.fitting_heaps.specs.Bounds.{AreAtMost, IsWithin, SameUpTo, IsAmong, Unites, either}
+use Rattle.fitting_heaps.specs.Bounds.{AreAtMost, IsWithin, SameUpTo, IsAmong, Unites}
 use Rattle.fitting_heaps.proofs.Loops.{one_at, pushed}
 use Rattle.formula_facts.proofs.AllMembers.{each_last}
 use Rattle.formula_facts.proofs.Addresses.{other_address}
+use Rattle.std.specs.Option.{option_or}
 
 -- ---- a cell that is put
 
@@ -26,23 +27,23 @@ put_elsewhere h g a q vs e n = ap (λ c. cell_at c q) e ∙ get-insert nat_cmp_t
 
 -- ---- unions
 
-joins_either : {X : Type 0} (x y r : Option X) → Joins x y r → either y x ≡ r
+joins_either : {X : Type 0} (x y r : Option X) → Joins x y r → option_or y x ≡ r
 joins_either None None r j = sym j
 joins_either None (Some y) r j = sym j
 joins_either (Some x) None r j = sym j
 joins_either (Some x) (Some y) r j = absurd j
 
-pub unites_same : (n : ℕ) (p r w h : Cells) → ((a : ℕ) → a ≤ n → cell_at w a ≡ either (cell_at r a) (cell_at p a)) → Unites n p r h → SameUpTo n w h
+pub unites_same : (n : ℕ) (p r w h : Cells) → ((a : ℕ) → a ≤ n → cell_at w a ≡ option_or (cell_at r a) (cell_at p a)) → Unites n p r h → SameUpTo n w h
 unites_same n p r w h b u = record { same = at }
   where
     at : (a : ℕ) → a ≤ n → cell_at w a ≡ cell_at h a
     at a l =
         let e : cell_at p a ≡ cell_at u.part a = u.first.same a l in
         let f : cell_at r a ≡ cell_at u.rest a = u.others.same a l in
-        b a l ∙ ap (λ x. either x (cell_at p a)) f ∙ ap (λ x. either (cell_at u.rest a) x) e ∙ joins_either (cell_at u.part a) (cell_at u.rest a) (cell_at h a) (u.union.joins a)
+        b a l ∙ ap (λ x. option_or x (cell_at p a)) f ∙ ap (λ x. option_or (cell_at u.rest a) x) e ∙ joins_either (cell_at u.part a) (cell_at u.rest a) (cell_at h a) (u.union.joins a)
 
 -- the union of two heaps is added if they are apart
-pub union_added : (n : ℕ) (p r w h : Cells) (old new : List Cells) → ((a : ℕ) → a ≤ n → cell_at w a ≡ either (cell_at r a) (cell_at p a)) → new ≡ old ++ w ∷ [] → (IsAmong n old h ⊎ Unites n p r h) → IsAmong n new h
+pub union_added : (n : ℕ) (p r w h : Cells) (old new : List Cells) → ((a : ℕ) → a ≤ n → cell_at w a ≡ option_or (cell_at r a) (cell_at p a)) → new ≡ old ++ w ∷ [] → (IsAmong n old h ⊎ Unites n p r h) → IsAmong n new h
 union_added n p r w h old new b e o =
     pushed (λ g. SameUpTo n g h) old new w e (elim o as (λ z. IsAmong n old h ⊎ SameUpTo n w h) [ inl m ↦ inl m | inr u ↦ inr (unites_same n p r w h b u) ])
 
@@ -68,12 +69,12 @@ star_unites n part rest h u ps rs a b =
 pub parts_unite : (n : ℕ) (ps rs : List Cells) (h : Cells) → Star (IsAmong n ps) (IsAmong n rs) h → OneOf (λ p. OneOf (λ r. Unites n p r h) rs) ps
 parts_unite n ps rs h s = star_unites n s.part s.rest h s.union ps rs s.first s.others
 
-pub put_either : (from h g : Cells) (a : ℕ) (vs us : List ℕ) → cell_at from a ≡ Some vs → us ≡ vs → g ≡ insert h a us → cell_at g a ≡ either (cell_at from a) (cell_at h a)
-put_either from h g a vs us f u e = put_here h g a us e ∙ ap Some u ∙ ap (λ x. either x (cell_at h a)) (sym f)
+pub put_either : (from h g : Cells) (a : ℕ) (vs us : List ℕ) → cell_at from a ≡ Some vs → us ≡ vs → g ≡ insert h a us → cell_at g a ≡ option_or (cell_at from a) (cell_at h a)
+put_either from h g a vs us f u e = put_here h g a us e ∙ ap Some u ∙ ap (λ x. option_or x (cell_at h a)) (sym f)
 
 -- ---- the cells up to an address
 
-either_none : {X : Type 0} (x : Option X) → either x None ≡ x
+either_none : {X : Type 0} (x : Option X) → option_or x None ≡ x
 either_none None = refl
 either_none (Some v) = refl
 
@@ -81,7 +82,7 @@ no_cell_above : (n : ℕ) (h : Cells) (a : ℕ) → IsWithin n h → n < a → (
 no_cell_above n h a w l None e = sym e
 no_cell_above n h a w l (Some vs) e = absurd (let k : a ≤ n = (w.addresses a vs e).1 in omega arith)
 
-pub cut_same : (n : ℕ) (none x w h : Cells) → none ≡ no_cells → ((a : ℕ) → a ≤ n → cell_at w a ≡ either (cell_at x a) (cell_at none a)) → ((a : ℕ) → n < a → cell_at w a ≡ cell_at none a) → IsWithin n h → SameUpTo n x h → w ≡ h
+pub cut_same : (n : ℕ) (none x w h : Cells) → none ≡ no_cells → ((a : ℕ) → a ≤ n → cell_at w a ≡ option_or (cell_at x a) (cell_at none a)) → ((a : ℕ) → n < a → cell_at w a ≡ cell_at none a) → IsWithin n h → SameUpTo n x h → w ≡ h
 cut_same n none x w h z below above k s = same_cells w h at
   where
     nothing : (a : ℕ) → cell_at none a ≡ None
@@ -90,16 +91,16 @@ cut_same n none x w h z below above k s = same_cells w h at
     at : (a : ℕ) → cell_at w a ≡ cell_at h a
     at a = elim (cases_lt n a) as (λ y. cell_at w a ≡ cell_at h a) [
       | inl lt ↦ above a lt ∙ nothing a ∙ no_cell_above n h a k lt (cell_at h a) refl
-      | inr le ↦ let l : a ≤ n = omega arith in below a l ∙ ap (either (cell_at x a)) (nothing a) ∙ either_none (cell_at x a) ∙ s.same a l
+      | inr le ↦ let l : a ≤ n = omega arith in below a l ∙ ap (option_or (cell_at x a)) (nothing a) ∙ either_none (cell_at x a) ∙ s.same a l
     ]
 
-pub cut_added : (n : ℕ) (none x w h : Cells) (old new : List Cells) → none ≡ no_cells → ((a : ℕ) → a ≤ n → cell_at w a ≡ either (cell_at x a) (cell_at none a)) → ((a : ℕ) → n < a → cell_at w a ≡ cell_at none a) → new ≡ old ++ w ∷ [] → IsWithin n h → (Member h old ⊎ SameUpTo n x h) → Member h new
+pub cut_added : (n : ℕ) (none x w h : Cells) (old new : List Cells) → none ≡ no_cells → ((a : ℕ) → a ≤ n → cell_at w a ≡ option_or (cell_at x a) (cell_at none a)) → ((a : ℕ) → n < a → cell_at w a ≡ cell_at none a) → new ≡ old ++ w ∷ [] → IsWithin n h → (Member h old ⊎ SameUpTo n x h) → Member h new
 cut_added n none x w h old new z below above e k o =
     pushed (λ g. g ≡ h) old new w e (elim o as (λ y. Member h old ⊎ (w ≡ h)) [ inl m ↦ inl m | inr s ↦ inr (cut_same n none x w h z below above k s) ])
 
 -- ---- heaps that are kept if their fields are small
 
-pub small_missing : (n : ℕ) (none x w h : Cells) (old : List Cells) (b : Bool) → none ≡ no_cells → ((a : ℕ) → a ≤ n → cell_at w a ≡ either (cell_at x a) (cell_at none a)) → ((a : ℕ) → n < a → cell_at w a ≡ cell_at none a) → b ≡ false → (((a : ℕ) (vs : List ℕ) → a ≤ n → cell_at w a ≡ Some vs → AreAtMost n vs) → IsTrue b) → IsWithin n h → (Member h old ⊎ SameUpTo n x h) → Member h old
+pub small_missing : (n : ℕ) (none x w h : Cells) (old : List Cells) (b : Bool) → none ≡ no_cells → ((a : ℕ) → a ≤ n → cell_at w a ≡ option_or (cell_at x a) (cell_at none a)) → ((a : ℕ) → n < a → cell_at w a ≡ cell_at none a) → b ≡ false → (((a : ℕ) (vs : List ℕ) → a ≤ n → cell_at w a ≡ Some vs → AreAtMost n vs) → IsTrue b) → IsWithin n h → (Member h old ⊎ SameUpTo n x h) → Member h old
 small_missing n none x w h old b z below above e f k o =
     elim o as (λ y. Member h old) [
       | inl m ↦ m

@@ -100,11 +100,11 @@ module _ (a : SymbolicHeap) where
       member_each (λ st. K (source st) → K (target st)) (Field t f.0 v) (steps_of a) (in_right (pures_steps a.pure) (spatials_steps a.spatial) (Field t f.0 v) (spatials_member (Cell t ts) a.spatial (Field t f.0 v) m f.1)) c (known_in K u c t k)
 
 module _ (P Q : Term → Type 0) (f : (t : Term) → P t → Q t) where
-  in_pure_map : (x : Pure) → InPure P x → InPure Q x
+  pub in_pure_map : (x : Pure) → InPure P x → InPure Q x
   in_pure_map (Eq t u) k = (f t k.0, f u k.1)
   in_pure_map (Neq t u) k = (f t k.0, f u k.1)
 
-  in_spatial_map : (x : Spatial) → InSpatial P x → InSpatial Q x
+  pub in_spatial_map : (x : Spatial) → InSpatial P x → InSpatial Q x
   in_spatial_map (Cell t ts) k = (f t k.0, each_imply P Q f ts k.1)
   in_spatial_map (Pred p ts) k = each_imply P Q f ts k
 

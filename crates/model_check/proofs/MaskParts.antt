@@ -172,11 +172,11 @@ part_mask ns g h c w = same_cells _ _ (λ a. at_part_of ns h (mask_of ns g) a �
           rw b (elim (option_cases (cell_at g a)) [ inl e ↦ rw e refl | inr (x, e) ↦ rw e (let s = w.same a x e in s) ])
     ]
 
-one_at : (a : ℕ) (vs : List ℕ) (q : ℕ) → cell_at (one_cell a vs) q ≡ cond (eq_by_cmp nat_cmp q a) (Some vs) None
-one_at a vs q = get-insert nat_cmp_total empty a vs q ∙ ap (cond (eq_by_cmp nat_cmp q a) (Some vs)) (get-empty nat_cmp q)
+pub one_cell_at : (a : ℕ) (vs : List ℕ) (q : ℕ) → cell_at (one_cell a vs) q ≡ cond (eq_by_cmp nat_cmp q a) (Some vs) None
+one_cell_at a vs q = get-insert nat_cmp_total empty a vs q ∙ ap (cond (eq_by_cmp nat_cmp q a) (Some vs)) (get-empty nat_cmp q)
 
 pub one_inside : (h : Cells) (a : ℕ) (vs : List ℕ) → cell_at h a ≡ Some vs → Inside (one_cell a vs) h
-one_inside h a vs e = record { same = λ q us t. found (eq_by_cmp nat_cmp q a) q us refl (sym (one_at a vs q) ∙ t) }
+one_inside h a vs e = record { same = λ q us t. found (eq_by_cmp nat_cmp q a) q us refl (sym (one_cell_at a vs q) ∙ t) }
   where
     found : (b : Bool) (q : ℕ) (us : List ℕ) → eq_by_cmp nat_cmp q a ≡ b → cond b (Some vs) None ≡ Some us → cell_at h q ≡ Some us
     found true q us t f = ap (cell_at h) (same_address q a t) ∙ e ∙ f
@@ -195,7 +195,7 @@ mask_one ns a vs m = same_masks _ _ (λ i. bits i ∙ sym (has_pow (place ns a) 
     standing : (i : ℕ) → stands ns (one_cell a vs) i ≡ nat_eq i (place ns a)
     standing i =
         let q = slice_index ns i in
-        let at_q = one_at a vs q in
+        let at_q = one_cell_at a vs q in
         elim (cases_Bool (eq_by_cmp nat_cmp q a)) [
           | inl yes' ↦
               let s : is_some (cell_at (one_cell a vs) q) ≡ true = ap is_some (at_q ∙ ap (λ b. cond b (Some vs) None) yes') in

@@ -22,7 +22,7 @@ use Rattle.piecewise_lex.specs.Feeding.{is_held, taken_chars, held_chars, ends_i
 use Rattle.piecewise_lex.specs.Runs.{Begins, IsRun, IsKnownRun, IsKnown, IsAllRun}
 use Rattle.piecewise_lex.specs.Taking.{Waits}
 use Rattle.piecewise_lex.proofs.Carrying.{taken-held, held-held, comment-held, tokens-held}
-use Rattle.piecewise_lex.proofs.Utf8Cuts.{valid-append, valid-front, take-behind}
+use Rattle.piecewise_lex.proofs.Utf8Cuts.{drop-behind, valid-append, valid-front, take-behind}
 
 kind_of : Run → Kind
 kind_of runs.Comment = Name
@@ -99,13 +99,6 @@ longer waiting piece tail bytes text known new h behind joined same size cut goe
       cut = ap (λ (w : List ℕ). is_none (utf8_error_len w)) after ∙ cut;
       size = omega (arith, valid, len, size);
     }
-  where
-    drop-behind : (xs ys : List ℕ) (k : ℕ) → drop (length xs + k) (xs ++ ys) ≡ drop k ys
-    drop-behind xs ys k = ap (drop (length xs + k)) refl ∙ by xs
-      where
-        by : (xs : List ℕ) → drop (length xs + k) (xs ++ ys) ≡ drop k ys
-        by [] = ap (λ i. drop i ys) (omega arith)
-        by (x ∷ xs) = let n : length (x ∷ xs) + k ≡ suc (length xs + k) = omega arith in ap (λ i. drop i (x ∷ (xs ++ ys))) n ∙ by xs
 
 -- all the bytes that wait, and the run among them
 pub of-front : (waits tail waiting : List ℕ) (known : Known) → IsUtf8 waits → known.len ≡ length waits → IsRun known.run (chars waits) → waiting ≡ waits ++ tail → IsKnownRun false waiting known

@@ -10,12 +10,7 @@ use Rattle.heap_reader.proofs.NoFlaw.{not_over, at_most}
 use Rattle.heap_reader.proofs.Fitting.{heaps_small}
 use Rattle.reader_tests.proofs.ShortTexts.{three, use_short}
 use Rattle.reader_tests.proofs.heap_reader_tests.two_heaps.Goals as goal
-
-abbrev dollar_flaw : ℕ → ℕ → Found
-dollar_flaw k n = over_if (nat_lt 65534 n) Variable (k + 1)
-
-small_dollars : (k n : ℕ) → dollar_flaw k n ≡ None → IsSmall Univ n
-small_dollars k n e = let h = at_most 65534 n (not_over _ Variable (k + 1) e) in omega arith
+use Rattle.reader_tests.proofs.SmallDollars.{small_dollars, dollar_flaw}
 
 pub walk_heaps-requires : goal.walk_heaps-requires
 walk_heaps-requires c =
