@@ -1,8 +1,7 @@
 // Heaps, cell by cell, up to an address.
 ghost use Rattle.std.specs.Prelude.{◌≡◌, ◌≢◌, ◌≤◌, ◌<◌, ◌↔◌, ℕ, List, IsTrue, IfOk, OnOk, Some};
-ghost use Rattle.std.specs.Option.{is_some};
+ghost use Rattle.std.specs.Option.{is_some, option_or};
 ghost use Rattle.heap_formula.specs.Cells.{Cells as Heaps, cell_at};
-ghost use Rattle.std.specs.Option.{option_or};
 ghost use Rattle.fitting_heaps.specs.Bounds.{AreAtMost, SameUpTo, Unites};
 
 use cyc_memory::OutOfMemory;

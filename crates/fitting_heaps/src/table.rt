@@ -6,7 +6,7 @@ ghost use Rattle.fitting_heaps.specs.Bounds.{IsAmong};
 ghost use Rattle.fitting_heaps.specs.Findings.{heaps_in, IsFound, UnlessGrown};
 
 use crate::combining::{Heaps, has_heap};
-use crate::questions::Question;
+use model_check::Question;
 use cyc_memory::OutOfMemory;
 use goto_lang::Cells;
 use indexmap::IndexSet;
