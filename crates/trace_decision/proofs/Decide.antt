@@ -167,10 +167,6 @@ walk_complete g states closed test (event ∷ events) i s t at run each =
           (closure_one (step g states test) (length states) i n.0 (step_complete g states test i n.0 s u event at n.1 run.1 each.0)) r.walks;
     }
 
-each_weaker _ _ : {P Q : Event → Type 0} → ((event : Event) → P event → Q event) → (events : List Event) → Each P events → Each Q events
-each_weaker _ _ f [] h = tt
-each_weaker _ _ f (event ∷ events) h = (f event h.0, each_weaker _ _ f events h.1)
-
 all_pass : (events : List Event) → Each (Passes always) events
 all_pass [] = tt
 all_pass (event ∷ events) = (refl, all_pass events)
