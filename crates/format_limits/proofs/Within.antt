@@ -303,7 +303,7 @@ rule_nearly most ds lines j rule d g h = by rule
     by (Cut places f) r =
         needs_gives S faulty (ascend_from 0 (length (antecedent j).spatial) places) NoSuchAtom _ (λ _.
         limited_nearly most ds n most (two (cut_left (antecedent j) (has_number places) f) (cut_right j (has_number places) f (max (fresh_number (variables_of lines j) j) (heap_bound f)))) (left_ready most ds n (antecedent j) f (has_number places) (first_heap (IsHeapWithin most ds) j h.heaps) r, (right_ready most ds n j f (has_number places) (max (fresh_number (variables_of lines j) j) (heap_bound f)) h r, tt)))
-    by Done r = single_gives S faulty j _ (λ a b e. empty_on P most ds n a.spatial b.pure b.spatial)
+    by Done r = single_gives S faulty j _ (λ a b e. empty_on (IsNearly most ds n) a.spatial b.pure b.spatial)
     by (Choose k) r =
         entails_gives S faulty j _ (λ a bs e.
         finds_gives S faulty (slice_get bs k) NoSuchAtom _ (λ b at.

@@ -119,7 +119,7 @@ rule_lines most ds lines j (Unfold k) p h =
 rule_lines most ds lines j (Cut places f) p h =
     needs_on (P (length lines)) (ascend_from 0 (length (antecedent j).spatial) places) NoSuchAtom _ (λ _.
     limited_on (P (length lines)) most (two (cut_left (antecedent j) (has_number places) f) (cut_right j (has_number places) f (max (fresh_number (variables_of lines j) j) (heap_bound f)))) (tt, (kept (length lines) j _ h, tt)))
-rule_lines most ds lines j Done p h = single_on (Q (length lines)) j _ (λ a b. empty_on P (length lines) a.spatial b.pure b.spatial)
+rule_lines most ds lines j Done p h = single_on (Q (length lines)) j _ (λ a b. empty_on (P (length lines)) a.spatial b.pure b.spatial)
 rule_lines most ds lines j (Choose k) p h =
     entails_on (Q (length lines)) j _ (λ a bs. finds_on (P (length lines)) (slice_get bs k) NoSuchAtom _ (λ b at. (tt, tt)))
 rule_lines most ds lines j (PureRight k) p h =
