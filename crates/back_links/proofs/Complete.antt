@@ -23,6 +23,7 @@ use Rattle.back_links.proofs.Selecting.{IsSelection, stands_in_range}
 use Rattle.back_links.proofs.Possible.{fits, cond_none}
 use Rattle.formula_facts.proofs.SomeMember.{one_front}
 use Rattle.std.proofs.lemmas.Bool.{and_parts}
+use Rattle.list_facts.proofs.Places.{tested_within}
 
 -- ---- members of lists
 
@@ -65,11 +66,7 @@ places_selected pures atoms all seen k [] s (x ∷ xs) e = cc
 places_selected pures atoms all seen k (m ∷ ms) s (x ∷ xs) e =
     let c = cond_none (not (has_number seen m) && matches_some pures (apply_spatial s x) (slice_get atoms m)) (spatial_fault pures atoms all (seen ++ m ∷ []) (suc k) ms (map (apply_spatial s) xs)) (LinkSpatial k) e in
     let b = and_parts (not (has_number seen m)) (matches_some pures (apply_spatial s x) (slice_get atoms m)) c.0 in
-    (stands_in_range 0 (length atoms) m (omega arith) (within (slice_get atoms m) refl b.1), places_selected pures atoms all (seen ++ m ∷ []) (suc k) ms s xs c.1)
-  where
-    within : (o : Option Spatial) → slice_get atoms m ≡ o → matches_some pures (apply_spatial s x) o ≡ true → m < 0 + length atoms
-    within None q e = cc
-    within (Some y) q e = let l = slice_get_within atoms m y q in omega (arith, l)
+    (stands_in_range 0 (length atoms) m (omega arith) (let l = tested_within (matches_some pures (apply_spatial s x)) atoms m refl b.1 in omega (arith, l)), places_selected pures atoms all (seen ++ m ∷ []) (suc k) ms s xs c.1)
 
 entries_selected : (bs : List SymbolicHeap) (k : ℕ) (ms : List ℕ) (s : Bindings) (cs : List SymbolicHeap) → disjunct_fault bs k ms (map (apply_heap s) cs) ≡ None → IsSelection (number_choices bs cs) ms
 entries_selected bs k [] s [] e = tt
@@ -77,11 +74,7 @@ entries_selected bs k (m ∷ ms) s [] e = cc
 entries_selected bs k [] s (c ∷ cs) e = cc
 entries_selected bs k (m ∷ ms) s (c ∷ cs) e =
     let t = cond_none (covers_some (apply_heap s c) (slice_get bs m)) (disjunct_fault bs (suc k) ms (map (apply_heap s) cs)) (LinkDisjunct k) e in
-    (stands_in_range 0 (length bs) m (omega arith) (within (slice_get bs m) refl t.0), entries_selected bs (suc k) ms s cs t.1)
-  where
-    within : (o : Option SymbolicHeap) → slice_get bs m ≡ o → covers_some (apply_heap s c) o ≡ true → m < 0 + length bs
-    within None q e = cc
-    within (Some b) q e = let l = slice_get_within bs m b q in omega (arith, l)
+    (stands_in_range 0 (length bs) m (omega arith) (let l = tested_within (covers_some (apply_heap s c)) bs m refl t.0 in omega (arith, l)), entries_selected bs (suc k) ms s cs t.1)
 
 pairs_selected : (values : List Term) (sources : List ℕ) (s : Bindings) → IsMade values sources s → IsSelection (value_choices values sources) s
 pairs_selected values [] [] m = tt

@@ -30,6 +30,7 @@ use Rattle.back_links.specs.Prospects.{lookup, known, could_equal, could_equal_a
 use Rattle.back_links.proofs.AlikeShapes.{mapped_shapes, mapped_whole, covered_shapes}
 use Rattle.back_links.proofs.Selecting.{IsSelection, every_true, any_true, any_in_range}
 pub use Rattle.rule_table.proofs.LinkRule.{cond_none, kept_below}
+use Rattle.list_facts.proofs.Places.{tested_within}
 
 -- the pairs say of a variable what the whole substitution says
 abbrev pub Agrees : Bindings → Bindings → Type 0
@@ -242,8 +243,4 @@ covers_ok bs s k ms [] e = refl
 covers_ok bs s k [] (c ∷ cs) e = cc
 covers_ok bs s k (m ∷ ms) (c ∷ cs) e =
     let t = cond_none (covers_some (apply_heap s c) (slice_get bs m)) (disjunct_fault bs (suc k) ms (map (apply_heap s) cs)) (LinkDisjunct k) e in
-    both_true (has_cover bs s c) (have_covers bs s cs) (any_in_range (λ i. covers_some (apply_heap s c) (slice_get bs i)) 0 (length bs) m (omega arith) (within (slice_get bs m) refl t.0) t.0) (covers_ok bs s (suc k) ms cs t.1)
-  where
-    within : (o : Option SymbolicHeap) → slice_get bs m ≡ o → covers_some (apply_heap s c) o ≡ true → m < 0 + length bs
-    within None q e = cc
-    within (Some b) q e = let l = slice_get_within bs m b q in omega (arith, l)
+    both_true (has_cover bs s c) (have_covers bs s cs) (any_in_range (λ i. covers_some (apply_heap s c) (slice_get bs i)) 0 (length bs) m (omega arith) (let l = tested_within (covers_some (apply_heap s c)) bs m refl t.0 in omega (arith, l)) t.0) (covers_ok bs s (suc k) ms cs t.1)

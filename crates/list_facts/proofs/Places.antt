@@ -1,9 +1,10 @@
 -- The member at a place of a list.
-use Rattle.std.proofs.Common.{◌≡◌, ℕ, zero, suc, ◌+◌, ◌<◌, List, [], ◌∷◌, ◌++◌, length, get_or, take, drop, Bool, true, false, cond, Some, None, slice_get, refl, sym, ap, ◌∙◌, add-one, map, arith}
+use Rattle.std.proofs.Common.{◌≡◌, ℕ, zero, suc, ◌+◌, ◌<◌, List, [], ◌∷◌, ◌++◌, length, get_or, take, drop, Bool, true, false, cond, Some, None, slice_get, refl, sym, ap, ◌∙◌, add-one, map, arith, Option}
 use Rattle.std.specs.Prelude.{position, nat_lt}
 use Rattle.std.specs.List.{position_or_len}
 use Rattle.std.proofs.lemmas.List.{drop_more}
-use Rattle.std.proofs.lemmas.Option.{slice_get-get_or}
+use Rattle.std.proofs.lemmas.Option.{slice_get-get_or, slice_get_within}
+use Rattle.std.proofs.lemmas.Bool.{true≢false}
 
 pub at_index : {X : Type 0} (xs : List X) (k : ℕ) (d x : X) → k < length xs → get_or xs k d ≡ x → slice_get xs k ≡ Some x
 at_index xs k d x h e = slice_get-get_or xs k d h ∙ ap Some e
@@ -57,3 +58,11 @@ pub get_map : {X Y : Type 0} (f : X → Y) (xs : List X) (i : ℕ) (x : X) → s
 get_map f [] i x h = absurd cc
 get_map f (y ∷ xs) zero x h = let same : y ≡ x = cc in ap (λ z. Some (f z)) same
 get_map f (y ∷ xs) (suc i) x h = get_map f xs i x h
+
+-- a place whose member passes a test that nothing passes is within the list
+pub tested_within : {X : Type 0} (test : Option X → Bool) (xs : List X) (i : ℕ) → test None ≡ false → test (slice_get xs i) ≡ true → i < length xs
+tested_within {X = X} test xs i fails passes = by (slice_get xs i) refl passes
+  where
+    by : (o : Option X) → slice_get xs i ≡ o → test o ≡ true → i < length xs
+    by None at p = absurd (true≢false (sym p ∙ fails))
+    by (Some x) at p = slice_get_within xs i x at
