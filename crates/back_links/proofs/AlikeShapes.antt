@@ -1,6 +1,6 @@
 -- A link without a fault relates lists of atoms of the same shapes.
-use Rattle.std.proofs.Common.{◌≡◌, ℕ, zero, suc, ◌+◌, ◌<◌, ◌≤◌, Bool, true, false, ◌&&◌, ◌||◌, cond, List, [], ◌∷◌, map, length, Some, refl, sym, ap, ◌∙◌, subst, arith}
-use Rattle.std.specs.Prelude.{slice_get, nat_eq, count_by, if◌then◌else◌}
+use Rattle.std.proofs.Common.{◌≡◌, ℕ, zero, suc, ◌+◌, ◌≤◌, Bool, true, false, ◌&&◌, ◌||◌, cond, List, [], ◌∷◌, map, length, Some, refl, sym, ap, ◌∙◌, arith}
+use Rattle.std.specs.Prelude.{slice_get, nat_eq, count_by}
 use Rattle.std.specs.List.{list_any, list_all}
 use Rattle.std.proofs.lemmas.List.{length-map}
 use Rattle.std.proofs.lemmas.List.Sums.{sum_by-cons}
@@ -9,12 +9,10 @@ use Rattle.std.proofs.lemmas.Bool.Decides.{Decides-eqb}
 use Rattle.heap_formula.specs.declared.atoms.Pure.{Pure}
 use Rattle.heap_formula.specs.declared.atoms.Spatial.{Spatial}
 use Rattle.heap_formula.specs.declared.atoms.Spatial.TheVariants.{Cell, Pred}
-use Rattle.heap_formula.specs.contracts.atoms.SpatialPartialEq.TheImpl.{eq-value as spatial_eq}
 use Rattle.heap_formula.specs.Symbolic.{SymbolicHeap}
 use Rattle.heap_formula.specs.Positions.{chosen, chosen_step, without}
 use Rattle.heap_formula.specs.Substitution.{Bindings, apply_term, apply_spatial, apply_heap}
-use Rattle.heap_formula.proofs.Equal.{spatial_eq-Decides}
-use Rattle.rule_table.specs.RuleLink.{EachPair, IsMatch, minus, MapsInto, count_of, SameAtoms, DisjunctsCover}
+use Rattle.rule_table.specs.RuleLink.{EachPair, IsMatch, minus, MapsInto, SameAtoms, DisjunctsCover}
 use Rattle.rule_table.proofs.Links.{length_left}
 use Rattle.rule_table.proofs.Multisets.{stands, counted_itself}
 use Rattle.back_links.specs.Shapes.{same_shape, has_as_many, has_shapes, same_shapes, some_has_shapes}

@@ -1,5 +1,5 @@
 -- What a step drops, keeps and turns green, and the bounds after it.
-use Rattle.std.proofs.Common.{◌≡◌, ℕ, zero, suc, ◌+◌, ◌<◌, ◌≤◌, ◌⊎◌, inl, inr, List, [], ◌∷◌, arith, Bool, true, false, cond, ◌&&◌, ◌||◌, not, Option, Some, None, slice_get, length, sym, refl, ap, ◌∙◌, subst, eqb-true, ltb, get_or}
+use Rattle.std.proofs.Common.{◌≡◌, ℕ, zero, suc, ◌+◌, ◌<◌, ◌≤◌, ◌⊎◌, inl, inr, List, [], arith, Bool, true, false, cond, ◌&&◌, ◌||◌, not, Option, Some, None, slice_get, length, sym, refl, ap, ◌∙◌, subst, eqb-true, ltb, get_or}
 use Rattle.std.proofs.lemmas.Bool.{cases_Bool, cases_eq, and_parts, not-true, or_parts, ltb-true, cond-true, cond-false, not_from_false, and_from, and_left, and_right, lt-ltb, not_from_true}
 use Rattle.std.proofs.lemmas.Option.{slice_get_within, get_or_from_slice_get}
 use Rattle.buchi_core.specs.Forest.{Pair}
@@ -13,7 +13,6 @@ use Rattle.buchi_core.proofs.Grown.{get_map, length_moved, length-trim, length-g
 use Rattle.buchi_core.proofs.Bounds.{Within, peak, peak_above, peak_below, Stages, stages_at}
 use Rattle.buchi_core.proofs.Bits.{filled_has, has_filled}
 use Rattle.list_facts.proofs.Places.{get_within}
-use Rattle.position_sets.proofs.Members.{has_first}
 
 -- an entry with a parent is lost exactly where the parent is full or lost
 pub lost_at : (entries : List Entry) (i p : ℕ) (e : Entry) → slice_get entries i ≡ Some e → e.parent ≡ Some p → p < i → is_lost entries i ≡ (is_full entries p || is_lost entries p)

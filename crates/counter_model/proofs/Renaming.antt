@@ -3,7 +3,7 @@ use Rattle.std.proofs.Common.{◌≡◌, ℕ, zero, suc, ◌<◌, List, [], ◌�
 use Rattle.std.specs.Prelude.{slice_index}
 use Rattle.std.specs.Ordering.{nat_cmp, eq_by_cmp}
 use Rattle.std.specs.Cmp.{nat_cmp_total, eq_by_cmp_equiv}
-use Rattle.std.specs.FinMap.{empty, entries, find, from_entries, get-from_entries, get-entries, get-insert, get-empty, nat_cmp-IsAntisymmetric}
+use Rattle.std.specs.FinMap.{entries, find, from_entries, get-from_entries, get-entries, get-empty}
 use Rattle.heap_formula.specs.declared.terms.Term.{Term}
 use Rattle.heap_formula.specs.declared.terms.Term.TheVariants.{Nil, Univ, Exist}
 use Rattle.heap_formula.specs.declared.atoms.Pure.{Pure}
@@ -17,7 +17,6 @@ use Rattle.heap_formula.specs.Values.{Stack, value, values}
 use Rattle.heap_formula.specs.Cells.{Cells, cell_at, no_cells, one_cell, Joins, IsUnion}
 use Rattle.heap_formula.specs.Meaning.{Family, PureHolds, IsCell, AtomHolds, SpatialHolds, CaseHolds, cases_of, at_stage, Satisfies, SatisfiesOne}
 use Rattle.heap_formula.proofs.Unions.{same_cells}
-use Rattle.heap_formula.proofs.StepLaws.{is_eq-Equal}
 use Rattle.heap_formula.proofs.StageLaws.{OneOf-map}
 use Rattle.list_facts.proofs.Tests.{bool_same}
 use Rattle.heap_formula.proofs.Insertions.{same_address}

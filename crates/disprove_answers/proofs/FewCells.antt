@@ -1,12 +1,11 @@
 -- A heap with addresses from 1 to n has at most n cells.
 use Rattle.std.proofs.Common.{◌≡◌, ◌≢◌, ℕ, zero, suc, ◌+◌, ◌<◌, ◌≤◌, List, [], ◌∷◌, length, Bool, true, false, cond, Option, Some, None, refl, sym, ap, ◌∙◌, subst, inl, inr, arith}
 use Rattle.std.proofs.lemmas.Bool.{cases_lt}
-use Rattle.std.specs.Ordering.{nat_cmp, eq_by_cmp}
+use Rattle.std.specs.Ordering.{nat_cmp}
 use Rattle.std.specs.Cmp.{nat_cmp_total, eq_by_cmp_equiv}
-use Rattle.std.specs.FinMap.{insert, contains_key, len, len-empty, len-insert, get-insert, get-empty, nat_cmp-IsAntisymmetric}
+use Rattle.std.specs.FinMap.{insert, contains_key, len, len-empty, len-insert, get-insert, get-empty}
 use Rattle.heap_formula.specs.Cells.{Cells, cell_at, no_cells}
 use Rattle.heap_formula.proofs.Unions.{same_cells}
-use Rattle.heap_formula.proofs.StepLaws.{is_eq-Equal}
 use Rattle.fitting_heaps.specs.Bounds.{IsWithin}
 use Rattle.counter_model.specs.Sizes.{rows}
 use Rattle.formula_facts.proofs.Addresses.{other_address}

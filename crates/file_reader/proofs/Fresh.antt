@@ -1,9 +1,8 @@
 -- A reader that was fed nothing stands for what is read of the bytes that it will be fed.
-use Rattle.std.proofs.Common.{◌≡◌, ℕ, ◌+◌, ◌-◌, ◌≤◌, ◌<◌, List, [], ◌++◌, length, take, drop, false, Some, None, Result, Ok, Err, refl, sym, ap, subst, ◌∙◌, arith, inl, inr, ◌⊎◌, append_assoc, take-add}
+use Rattle.std.proofs.Common.{◌≡◌, ℕ, ◌+◌, ◌-◌, ◌≤◌, List, [], length, take, false, Some, None, Result, Ok, Err, refl, sym, ap, subst, ◌∙◌, arith, inl, inr, ◌⊎◌}
 use Rattle.std.specs.Prelude.{map, slice_get}
 use Rattle.std.specs.Str.{chars, IsUtf8, IsValidUpTo}
 use Rattle.std.specs.Str.Lossy.{utf8_valid_len}
-use Rattle.std.proofs.lemmas.Bool.{cases_lt}
 use Rattle.std.proofs.lemmas.List.{length-map}
 use Rattle.cyc_lex.specs.declared.fault.LexFault.{LexFault}
 use Rattle.cyc_lex.specs.declared.fault.LexFault.TheVariants as lexical
@@ -15,11 +14,11 @@ use Rattle.cyc_lex.specs.declared.place.Place.{Place}
 use Rattle.cyc_lex.specs.Answer.{fault_of}
 use Rattle.cyc_lex.specs.Lexing.{start, lex, tokens_of, comment_len}
 use Rattle.cyc_lex.specs.Placed.{Placed}
-use Rattle.cyc_lex.specs.Word.{Word, word_of, EndsOnce}
+use Rattle.cyc_lex.specs.Word.{word_of, EndsOnce}
 use Rattle.cyc_lex.proofs.Lexed.{whole-text}
 use Rattle.cyc_lex.proofs.TokenLaws.{known, unknown}
 use Rattle.cyc_grammar.specs.Syntax.{Syntax, read_whole}
-use Rattle.cyc_grammar.specs.Faults.{BeginsText, IsFirstDead, IsSyntaxFault}
+use Rattle.cyc_grammar.specs.Faults.{IsSyntaxFault}
 use Rattle.cyc_grammar.specs.declared.cursor.Refusal.TheVariants as refusals
 use Rattle.cyc_grammar.proofs.FirstDead.{one_dead}
 use Rattle.cyc_grammar.proofs.Laws.{whole_ok, whole_again}

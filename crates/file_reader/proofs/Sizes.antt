@@ -1,5 +1,5 @@
 -- How many tokens a statement has, and what the end of the text comes to.
-use Rattle.std.proofs.Common.{◌≡◌, ℕ, ◌+◌, Bool, true, List, [], ◌∷◌, length, Option, Some, None, Result, Ok, refl, ap, ◌∙◌, arith, length-append, inl, inr}
+use Rattle.std.proofs.Common.{◌≡◌, ℕ, Bool, true, List, [], ◌∷◌, length, Option, Some, None, Result, Ok, refl, ap, ◌∙◌, arith, length-append, inl, inr}
 use Rattle.std.proofs.lemmas.List.{append-nil}
 use Rattle.cyc_lex.specs.declared.fault.ReadFault.{ReadFault}
 use Rattle.cyc_lex.specs.Placed.{Placed}

@@ -13,7 +13,7 @@ use Rattle.heap_formula.specs.Definitions.{Definition}
 use Rattle.heap_formula.specs.Words.{Each, OneOf, max_of}
 use Rattle.heap_formula.specs.Values.{Stack, value, values}
 use Rattle.heap_formula.specs.Fresh.{exist_bound, most_in_pure, most_in_spatial, heap_exists}
-use Rattle.heap_formula.specs.Closedness.{InPure, InSpatial, InHeap, IsUniversal, IsUniversalHeap}
+use Rattle.heap_formula.specs.Closedness.{InPure, InSpatial, IsUniversal, IsUniversalHeap}
 use Rattle.heap_formula.specs.Cells.{Cells, cell_at}
 use Rattle.heap_formula.specs.Meaning.{Family, PureHolds, IsCell, AtomHolds, SpatialHolds, CaseHolds, cases_of, at_stage, least, Satisfies}
 use Rattle.heap_formula.proofs.StageLaws.{least_in_closed}
@@ -23,7 +23,6 @@ use Rattle.model_check.proofs.CaseLists.{constructive_cases}
 use Rattle.fitting_heaps.specs.Bounds.{AreAtMost, IsWithin, IsAmong}
 use Rattle.fitting_heaps.specs.Findings.{Findings, found_if_asked, FitsCase, IsSettled, UnlessGrown}
 use Rattle.formula_facts.proofs.AllMembers.{each_imply}
-use Rattle.formula_facts.proofs.Greatest.{each_below}
 use Rattle.model_check.proofs.KnownTerms.{in_heap_map, in_pure_map, in_spatial_map}
 
 -- ---- values of terms are small

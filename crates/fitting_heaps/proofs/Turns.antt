@@ -1,6 +1,5 @@
 -- Steps that leave all as it was where they find nothing.
-use Rattle.std.proofs.Common.{◌≡◌, ℕ, ◌+◌, ◌<◌, ◌≤◌, List, [], ◌∷◌, length, drop, get_or, Bool, true, false, ◌||◌, refl, sym, ◌∙◌, subst, inl, inr, ◌⊎◌}
-use Rattle.std.specs.Prelude.{Result, Ok, Err, IfOk}
+use Rattle.std.proofs.Common.{◌≡◌, ℕ, ◌+◌, ◌<◌, ◌≤◌, List, [], ◌∷◌, length, drop, get_or, Bool, ◌||◌, sym, ◌∙◌, subst, inl, inr, ◌⊎◌}
 use Rattle.heap_formula.specs.Words.{OneOf}
 use Rattle.heap_formula.specs.Cells.{Cells}
 use Rattle.fitting_heaps.specs.Bounds.{SameUpTo, IsAmong}

@@ -1,13 +1,12 @@
 -- Disjoint unions, up to an address.
 use Rattle.std.proofs.Common.{◌≡◌, ◌≢◌, ℕ, ◌<◌, ◌≤◌, List, [], ◌∷◌, ◌++◌, length, get_or, Bool, true, false, cond, Option, Some, None, refl, sym, ap, ◌∙◌, subst, inl, inr, ◌⊎◌, arith}
 use Rattle.std.specs.Prelude.{IsTrue}
-use Rattle.std.specs.Ordering.{nat_cmp, eq_by_cmp}
+use Rattle.std.specs.Ordering.{nat_cmp}
 use Rattle.std.specs.Cmp.{nat_cmp_total, eq_by_cmp_equiv}
-use Rattle.std.specs.FinMap.{insert, get-insert, get-empty, nat_cmp-IsAntisymmetric}
+use Rattle.std.specs.FinMap.{insert, get-insert, get-empty}
 use Rattle.std.proofs.lemmas.Bool.{cases_lt}
 use Rattle.heap_formula.proofs.Unions.{same_cells}
 use Rattle.model_check.specs.Constructive.{Member}
-use Rattle.heap_formula.proofs.StepLaws.{is_eq-Equal}
 use Rattle.heap_formula.proofs.StageLaws.{OneOf-map}
 use Rattle.heap_formula.specs.Words.{Each, OneOf}
 use Rattle.heap_formula.specs.Cells.{Cells, cell_at, no_cells, Joins, IsUnion, Star, IsHeap}

@@ -1,5 +1,5 @@
 -- Heaps whose addresses and fields are bounded, and heaps up to an address.
-use Rattle.std.specs.Prelude.{◌≡◌, ℕ, ◌<◌, ◌≤◌, List, Option, Some, None}
+use Rattle.std.specs.Prelude.{◌≡◌, ℕ, ◌<◌, ◌≤◌, List, Some}
 use Rattle.heap_formula.specs.Words.{Each, OneOf}
 use Rattle.heap_formula.specs.Cells.{Cells, cell_at, IsUnion}
 

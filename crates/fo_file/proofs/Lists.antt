@@ -1,7 +1,6 @@
 -- What holds of each member of a list.
-use Rattle.std.proofs.Common.{ℕ, zero, suc, List, [], ◌∷◌, take, drop, map}
+use Rattle.std.proofs.Common.{List, [], ◌∷◌}
 use Rattle.heap_formula.specs.Words.{Each}
-use Rattle.cyc_grammar.specs.Syntax.{Syntax, fits_many}
 
 pub each-apply : {X : Type 0} (P Q : X → Type 0) (xs : List X) → Each (λ x. P x → Q x) xs → Each P xs → Each Q xs
 each-apply P Q [] f h = tt

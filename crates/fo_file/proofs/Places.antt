@@ -11,7 +11,7 @@ use Rattle.cyc_lex.specs.declared.fault.IllFault.TheVariants.{Duplicate}
 use Rattle.cyc_lex.specs.declared.fault.What.TheVariants.{Constructors, Predicates}
 use Rattle.cyc_grammar.specs.Classes.{is_free_name}
 use Rattle.heap_reader.specs.Trees.{Heading}
-use Rattle.heap_reader.specs.Flaws.{Found, ill_if, over_if, or_later, listed_flaw, arity_in}
+use Rattle.heap_reader.specs.Flaws.{ill_if, over_if, or_later, listed_flaw, arity_in}
 use Rattle.heap_reader.specs.Values.{place_of}
 use Rattle.heap_reader.proofs.NoFlaw.{neither, not_ill}
 use Rattle.fo_formula.specs.declared.theory.Constructor.{Constructor as ConstructorValue}

@@ -1,7 +1,6 @@
 -- What holds of each member, or of some member, of a list.
-use Rattle.std.proofs.Common.{◌≡◌, ℕ, zero, suc, List, [], ◌∷◌, ◌++◌, map, Some, slice_get, subst, inl, inr, ◌⊎◌}
-use Rattle.std.proofs.Math.ListN.{get_or}
-use Rattle.heap_formula.specs.Words.{Each, OneOf}
+use Rattle.std.proofs.Common.{List, [], ◌∷◌, ◌++◌, inl, inr, ◌⊎◌}
+use Rattle.heap_formula.specs.Words.{OneOf}
 
 pub one_append : {X : Type 0} (P : X → Type 0) (xs ys : List X) → OneOf P (xs ++ ys) → OneOf P xs ⊎ OneOf P ys
 one_append P [] ys o = inr o

@@ -1,7 +1,6 @@
 -- What holds of each member, in parts of a list.
-use Rattle.std.proofs.Common.{ℕ, zero, suc, List, [], ◌∷◌, map, take, drop}
+use Rattle.std.proofs.Common.{ℕ, zero, suc, List, [], ◌∷◌}
 use Rattle.std.specs.Prelude.{slice_set}
-use Rattle.heap_formula.specs.Positions.{without}
 use Rattle.heap_formula.specs.Words.{Each}
 
 pub each_set : {X : Type 0} (P : X → Type 0) (xs : List X) (i : ℕ) (y : X) → Each P xs → P y → Each P (slice_set xs i y)

@@ -1,6 +1,5 @@
 -- A proof of which the nodes are tested up to the first fault.
-use Rattle.std.specs.Prelude.{◌≡◌, ℕ, Bool, nat_le, List, map, take, length, Option, Some, None, slice_get, Vec}
-use Rattle.std.specs.declared.alloc.Global.{Global}
+use Rattle.std.specs.Prelude.{◌≡◌, ℕ, Bool, nat_le, List, map, take, length, Option, Some, None, slice_get}
 use Rattle.fo_formula.specs.declared.nodes.FoFile.{FoFile}
 use Rattle.fo_formula.specs.declared.nodes.FoNode.{FoNode}
 use Rattle.fo_table.specs.declared.faults.FoFault.{FoFault}

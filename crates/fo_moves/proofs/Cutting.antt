@@ -1,5 +1,5 @@
 -- What is passed over has no right choice in it.
-use Rattle.std.proofs.Common.{◌≡◌, ℕ, zero, suc, ◌+◌, Bool, true, false, ◌&&◌, ◌||◌, not, List, [], ◌∷◌, ◌++◌, map, Option, Some, None, refl, sym, ap, ◌∙◌}
+use Rattle.std.proofs.Common.{◌≡◌, ℕ, zero, suc, ◌+◌, Bool, true, false, ◌||◌, not, List, [], ◌∷◌, ◌++◌, map, Option, Some, None, refl, sym, ap, ◌∙◌}
 use Rattle.std.specs.Prelude.{slice_get, nat_le, is_none}
 use Rattle.std.specs.List.{list_any, list_all, zip}
 use Rattle.std.specs.Option.{option_map}
@@ -7,10 +7,9 @@ use Rattle.fo_formula.specs.declared.atoms.FoAtom.{FoAtom}
 use Rattle.fo_formula.specs.declared.nodes.FoReason.TheVariants.{Link}
 use Rattle.fo_formula.specs.Sizes.{sequent_size, reason_size}
 use Rattle.fo_formula.specs.Words.{Word, in_atom}
-use Rattle.fo_table.specs.declared.faults.FoFault.{FoFault}
 use Rattle.fo_table.specs.declared.faults.FoFault.TheVariants.{LinkLeft, LinkRight}
 use Rattle.fo_table.specs.Tests.{same_atom}
-use Rattle.fo_table.specs.LinkTable.{is_atom, place_unless, map_place, first_of, linked, link_fault}
+use Rattle.fo_table.specs.LinkTable.{is_atom, map_place, first_of, linked, link_fault}
 use Rattle.fo_parts.specs.declared.changes.Change.{Change}
 use Rattle.fo_parts.specs.declared.changes.Change.TheVariants.{Instance, Substitution}
 use Rattle.fo_parts.specs.Putting.{put}

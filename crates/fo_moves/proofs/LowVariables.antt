@@ -1,5 +1,5 @@
 -- The variables of a sequent within the limits have numbers up to 65,534.
-use Rattle.std.proofs.Common.{ℕ, zero, suc, ◌+◌, ◌<◌, ◌≤◌, List, [], ◌∷◌, map, arith}
+use Rattle.std.proofs.Common.{ℕ, ◌+◌, ◌<◌, ◌≤◌, List, [], ◌∷◌, map, arith}
 use Rattle.std.specs.List.{range_with_len}
 use Rattle.heap_formula.specs.Words.{Each, max_of}
 use Rattle.fo_formula.specs.declared.terms.Sign.{Sign}

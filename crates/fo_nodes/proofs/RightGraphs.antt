@@ -1,12 +1,11 @@
 -- The graph of nodes without a fault is in order, and their sequents are local in it.
-use Rattle.std.proofs.Common.{◌≡◌, ℕ, zero, suc, ◌<◌, ◌≤◌, Bool, true, false, List, [], ◌∷◌, map, length, Some, None, sym, ap, ◌∙◌, subst, arith}
+use Rattle.std.proofs.Common.{◌≡◌, ℕ, ◌≤◌, Bool, true, false, List, [], ◌∷◌, map, length, Some, None, sym, ap, ◌∙◌, subst, arith}
 use Rattle.std.specs.Prelude.{slice_get}
 use Rattle.std.proofs.lemmas.List.{length-map}
 use Rattle.std.proofs.lemmas.Option.{slice_get_within}
 use Rattle.heap_formula.specs.declared.judgements.Pair.{Pair}
 use Rattle.heap_formula.specs.Words.{Each}
 use Rattle.heap_formula.specs.Meaning.{Stages}
-use Rattle.heap_formula.specs.Judgements.{Follows, IsBelow}
 use Rattle.heap_formula.proofs.Members.{each_from}
 use Rattle.fo_formula.specs.declared.nodes.FoNode.{FoNode}
 use Rattle.fo_formula.specs.declared.sequents.FoSequent.{FoSequent}

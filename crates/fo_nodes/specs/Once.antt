@@ -3,7 +3,6 @@ use Rattle.std.specs.Prelude.{ℕ, zero, suc, ◌+◌, ◌≤◌, List, [], ◌�
 use Rattle.std.specs.Coded.{×_prop, Unit-prop, le_prop}
 use Rattle.std.proofs.Props.{props}
 use Rattle.cyc_limits.specs.declared.TheConstants.{MOST_CASE_ATOMS}
-use Rattle.heap_formula.specs.Words.{Each}
 use Rattle.fo_formula.specs.declared.terms.Sign.{Sign}
 use Rattle.fo_formula.specs.declared.terms.Sign.TheVariants.{Universal, Local, Constructor}
 use Rattle.fo_formula.specs.declared.atoms.FoAtom.{FoAtom}

@@ -2,7 +2,7 @@
 use Rattle.std.proofs.Common.{◌≡◌, ℕ, suc, ◌<◌, Bool, true, false, ◌&&◌, List, [], ◌∷◌, ◌++◌, length, Ok, Err, refl, sym, ap, ◌∙◌, arith}
 use Rattle.cyc_lex.specs.Word.{Word}
 use Rattle.cyc_grammar.specs.Syntax.{Syntax, Class, is_one, after, many, words_many, more_many, fits_many}
-use Rattle.cyc_grammar.proofs.Laws.{Lawful, Faults, Stops, ClassLaw, BeginsNot, BeginsNot-append, many-law, after-law, class-begins, some-true, differ}
+use Rattle.cyc_grammar.proofs.Laws.{Lawful, Faults, Stops, ClassLaw, BeginsNot, BeginsNot-append, many-law, after-law, class-begins, differ}
 use Rattle.cyc_grammar.proofs.Ends.{Inner, after-inner, many-inner}
 use Rattle.cyc_lex.specs.Word.{is_lexeme, are_lexemes}
 use Rattle.fo_problem_syntax.specs.Lists.{words_list, read_list, list_of}

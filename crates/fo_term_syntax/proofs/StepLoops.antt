@@ -1,10 +1,10 @@
 -- Reading items one after the other, as a loop does, where each tells what may come next.
-use Rattle.std.proofs.Common.{◌≡◌, ℕ, zero, suc, ◌-◌, ◌+◌, ◌≤◌, ◌<◌, true, false, List, [], ◌∷◌, ◌++◌, length, Ok, Err, refl, sym, ap, ◌∙◌, append_assoc, arith}
+use Rattle.std.proofs.Common.{◌≡◌, ℕ, zero, suc, ◌-◌, ◌+◌, ◌≤◌, ◌<◌, true, false, List, [], ◌∷◌, ◌++◌, length, Ok, Err, refl, sym, ap, ◌∙◌, arith}
 use Rattle.std.proofs.lemmas.List.{append-nil}
 use Rattle.cyc_lex.specs.Word.{Word}
 use Rattle.cyc_grammar.specs.declared.cursor.Refusal.{Refusal}
 use Rattle.cyc_grammar.specs.declared.cursor.Refusal.TheVariants.{Dead, OutOfMemory}
-use Rattle.cyc_grammar.specs.Syntax.{Reading, ◌>>=◌}
+use Rattle.cyc_grammar.specs.Syntax.{Reading}
 use Rattle.cyc_grammar.specs.Giving.{Fails, with_front}
 use Rattle.fo_term_syntax.specs.declared.bracket.Awaited.{Awaited}
 use Rattle.fo_term_syntax.specs.declared.bracket.Awaited.TheVariants.{First, Next, Nothing}

@@ -1,7 +1,6 @@
 -- The texts of terms and atoms are of lexemes.
-use Rattle.std.proofs.Common.{◌≡◌, ℕ, Bool, true, false, List, [], ◌∷◌, ◌++◌, refl, inl, inr, ◌⊎◌}
-use Rattle.cyc_lex.specs.Word.{Word, is_lexeme, are_lexemes}
-use Rattle.cyc_lex.proofs.BoolParts.{and-parts}
+use Rattle.std.proofs.Common.{◌≡◌, ℕ, Bool, true, false, List, [], ◌∷◌, refl, inl, inr, ◌⊎◌}
+use Rattle.cyc_lex.specs.Word.{is_lexeme, are_lexemes}
 use Rattle.cyc_grammar.specs.Syntax.{Syntax, Class, one, after, is_one}
 use Rattle.cyc_grammar.specs.Classes.{number}
 use Rattle.cyc_grammar.proofs.ClassLaws.{name-lexeme, number-lexeme}

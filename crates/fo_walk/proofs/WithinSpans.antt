@@ -1,7 +1,7 @@
 -- A flaw stands at a token of its part.
-use Rattle.std.proofs.Common.{ℕ, suc, ◌+◌, ◌<◌, ◌≤◌, List, [], ◌∷◌, length, drop, take, Option, Some, None, arith}
+use Rattle.std.proofs.Common.{ℕ, suc, ◌+◌, ◌<◌, ◌≤◌, List, [], ◌∷◌, length, drop, take, None, arith}
 use Rattle.std.specs.Prelude.{nat_eq, nat_lt, nat_le, not, is_some, ◌&&◌, ◌||◌}
-use Rattle.cyc_lex.specs.declared.fault.IllFault.TheVariants.{Parameter, Arity, Duplicate, Constant}
+use Rattle.cyc_lex.specs.declared.fault.IllFault.TheVariants.{Parameter, Duplicate, Constant}
 use Rattle.cyc_lex.specs.declared.fault.What.TheVariants.{Constructors, Predicates, Arguments, Cases, Nodes, Atoms, Locals, Terms, Variable as VariableLimit}
 use Rattle.heap_formula.specs.Words.{Each}
 use Rattle.heap_reader.specs.Trees.{Heading}

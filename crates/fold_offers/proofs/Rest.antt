@@ -1,6 +1,6 @@
 -- What is left of a list that is gone through.
-use Rattle.std.proofs.Common.{◌≡◌, ℕ, zero, suc, ◌+◌, ◌-◌, ◌<◌, ◌≤◌, List, [], ◌∷◌, ◌++◌, length, drop, take, get_or, drop-cons, arith, refl, sym, ap, ◌∙◌, append_assoc, add-one}
-use Rattle.std.proofs.lemmas.List.{append-nil, take_all, drop_all}
+use Rattle.std.proofs.Common.{◌≡◌, ℕ, zero, suc, ◌+◌, ◌-◌, ◌<◌, ◌≤◌, List, [], ◌∷◌, ◌++◌, length, drop, get_or, drop-cons, arith, refl, sym, ap, ◌∙◌, append_assoc, add-one}
+use Rattle.std.proofs.lemmas.List.{append-nil, drop_all}
 use Rattle.fold_offers.specs.Places.{each_from, each_of}
 
 next_member : {X Y : Type 0} (f : ℕ → X → List Y) (n k : ℕ) (xs : List X) → k < length xs → (x : X) × (each_from f n (drop k xs) ≡ f n x ++ each_from f (suc n) (drop (suc k) xs))

@@ -1,5 +1,5 @@
 -- A heap within the limits: how long its lists are, the numbers of its terms, and the shapes of its spatial atoms.
-use Rattle.std.proofs.Common.{◌≡◌, ℕ, zero, suc, ◌≤◌, Bool, true, false, List, [], ◌∷◌, map, length, Option, Some, None, refl, sym, subst, arith, leb-true, le-leb}
+use Rattle.std.proofs.Common.{◌≡◌, ℕ, zero, suc, ◌≤◌, true, List, [], ◌∷◌, map, length, Option, Some, None, refl, sym, subst, arith, leb-true, le-leb}
 use Rattle.std.proofs.lemmas.List.{length-map}
 use Rattle.std.specs.Prelude.{nat_le, slice_get, slice_set}
 use Rattle.heap_formula.specs.declared.terms.Term.{Term}
@@ -9,10 +9,10 @@ use Rattle.heap_formula.specs.declared.atoms.Spatial.{Spatial}
 use Rattle.heap_formula.specs.declared.atoms.Spatial.TheVariants.{Cell, Pred}
 use Rattle.heap_formula.specs.Closedness.{InPure, InSpatial, InHeap}
 use Rattle.heap_formula.specs.Definitions.{Definition}
-use Rattle.heap_formula.specs.Positions.{without, chosen, chosen_step}
+use Rattle.heap_formula.specs.Positions.{without}
 use Rattle.heap_formula.specs.Substitution.{in_pure, in_spatial, in_heap}
 use Rattle.heap_formula.specs.Symbolic.{SymbolicHeap}
-use Rattle.heap_formula.specs.Words.{Each, max_of}
+use Rattle.heap_formula.specs.Words.{Each}
 use Rattle.pred_defs.specs.Faults.{or_later, first_fault, use_fault, arity_fault}
 use Rattle.pred_defs.specs.declared.faults.DefFault.{DefFault}
 use Rattle.rule_table.specs.Answer.{number_bound, pure_numbers, spatial_numbers, heap_numbers, is_short, has_numbers}

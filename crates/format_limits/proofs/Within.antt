@@ -36,7 +36,7 @@ use Rattle.rule_table.specs.Fits.{OnPremises}
 use Rattle.rule_table.specs.RuleBook.{variables_of, rule_answer}
 use Rattle.rule_table.specs.RuleCut.{cut_left, cut_right}
 use Rattle.rule_table.specs.RuleUnfold.{unfolded, unfold_premise}
-use Rattle.rule_table.specs.Table.{with_pures, with_pure, with_right, without_pure, without_spatial, rewritten, rewrite_side, rewrite_atom, named, unnamed, calls, are_empty, instance_term, right_term, unfolded_right}
+use Rattle.rule_table.specs.Table.{with_pures, with_pure, with_right, without_pure, without_spatial, rewritten, rewrite_side, rewrite_atom, named, unnamed, calls, instance_term, right_term, unfolded_right}
 use Rattle.rule_table.specs.Tests.{same_term, same_spatial, is_universal_pure, is_universal_spatial, follows, is_absurd, address_of, ascend_from, has_number}
 use Rattle.rule_table.proofs.Commands.{found_is}
 use Rattle.rule_table.proofs.Rewrites.{Each-without}

@@ -1,7 +1,6 @@
 -- The terms of a heap within the limits.
 use Rattle.std.proofs.Common.{ℕ, ◌≤◌, List, [], ◌∷◌, map, arith, leb-true}
 use Rattle.heap_formula.specs.declared.terms.Term.{Term}
-use Rattle.heap_formula.specs.declared.terms.Term.TheVariants.{Nil, Univ, Exist}
 use Rattle.heap_formula.specs.declared.atoms.Pure.{Pure}
 use Rattle.heap_formula.specs.declared.atoms.Pure.TheVariants.{Eq, Neq}
 use Rattle.heap_formula.specs.declared.atoms.Spatial.{Spatial}
@@ -10,14 +9,14 @@ use Rattle.heap_formula.specs.declared.judgements.Judgement.{Judgement}
 use Rattle.heap_formula.specs.declared.judgements.Judgement.TheVariants.{Entail, Term as Runs}
 use Rattle.heap_formula.specs.Closedness.{InPure, InSpatial, InHeap, IsUniversal, IsUniversalSpatial}
 use Rattle.heap_formula.specs.Definitions.{Definition}
-use Rattle.heap_formula.specs.Fresh.{univ_bound, pure_bound, spatial_bound, heap_bound, judgement_bound}
+use Rattle.heap_formula.specs.Fresh.{heap_bound, judgement_bound}
 use Rattle.heap_formula.specs.Symbolic.{SymbolicHeap}
 use Rattle.heap_formula.specs.Words.{Each, max_of}
 use Rattle.rule_table.specs.Answer.{number_bound, pure_numbers, spatial_numbers, heap_numbers, heaps_of}
 use Rattle.format_limits.specs.Limits.{IsHeapWithin, IsTermWithin}
-use Rattle.formula_facts.proofs.Greatest.{each_below, greatest_le}
+use Rattle.formula_facts.proofs.Greatest.{each_below}
 use Rattle.formula_facts.proofs.AllMembers.{each_both}
-use Rattle.search_moves.proofs.LeftNumbers.{heap_below as heap_le, term_bound}
+use Rattle.search_moves.proofs.LeftNumbers.{heap_below as heap_le}
 
 -- a variable up to number 65,534, or nil
 abbrev pub HasNumber : Term → Type 0

@@ -1,5 +1,5 @@
 -- The links that a goal is offered have no fault.
-use Rattle.std.proofs.Common.{◌≡◌, ℕ, Bool, true, List, Option, Some, None, refl, sym, subst}
+use Rattle.std.proofs.Common.{◌≡◌, ℕ, Bool, true, List, Some, sym, subst}
 use Rattle.std.specs.Prelude.{slice_get}
 use Rattle.std.specs.Option.{is_none}
 use Rattle.heap_formula.specs.declared.judgements.Judgement.{Judgement}

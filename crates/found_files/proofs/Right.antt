@@ -14,7 +14,7 @@ use Rattle.rule_table.specs.Nodes.{Node as RuleNode, same_judgement, differs, pr
 use Rattle.trace_pairs.specs.Graph.{Edge}
 use Rattle.buchi_inclusion.proofs.Tables.{map_at}
 use Rattle.proof_check.specs.Files.{AreRight, node_of, nodes_of}
-use Rattle.proof_check.proofs.SameJudgements.{decided_judgement, same_judgement_self}
+use Rattle.proof_check.proofs.SameJudgements.{same_judgement_self}
 use Rattle.search_moves.specs.Trying.{Theory}
 use Rattle.tableaux.proofs.Made.{AllLead, lead_count}
 use Rattle.search_calculus.specs.Calculus.{MadeNode, judgement_of, traced}

@@ -1,12 +1,12 @@
 -- One step: what a command makes of a state, that no two answers fit, and that the state stays one of the program.
-use Rattle.std.proofs.Common.{◌≡◌, ◌≢◌, ℕ, zero, suc, ◌+◌, ◌-◌, ◌<◌, ◌≤◌, ◌^◌, Bool, true, false, not, cond, ◌⊎◌, inl, inr, List, [], ◌∷◌, map, length, Option, Some, None, refl, sym, ap, subst, ◌∙◌, arith}
+use Rattle.std.proofs.Common.{◌≡◌, ◌≢◌, ℕ, zero, suc, ◌+◌, ◌-◌, ◌<◌, ◌≤◌, ◌^◌, Bool, true, false, not, cond, ◌⊎◌, inl, inr, List, [], ◌∷◌, length, Option, Some, None, refl, sym, ap, subst, ◌∙◌, arith}
 use Rattle.std.specs.Prelude.{◌↔◌, nat_eq, slice_get, slice_set}
 use Rattle.std.proofs.lemmas.List.{length-set}
 use Rattle.std.specs.FinMap.{insert}
 use Rattle.heap_formula.specs.declared.commands.Command.{Command}
 use Rattle.heap_formula.specs.declared.commands.Command.TheVariants.{Assign, Load, Store, New, Free, IfEq, IfNeq, IfAny, Goto, Stop as StopCommand}
-use Rattle.heap_formula.specs.Words.{Each, max_of}
-use Rattle.heap_formula.specs.Programs.{Config as State, Goes, Faults, command_at, counted_from_one, command_bound, program_variables, field_of, value_in, greatest, next_line, jump}
+use Rattle.heap_formula.specs.Words.{Each}
+use Rattle.heap_formula.specs.Programs.{Config as State, Goes, Faults, command_at, counted_from_one, field_of, value_in, greatest, next_line, jump}
 use Rattle.heap_formula.proofs.StepLaws.{step_exists}
 use Rattle.goto_lang.specs.declared.configs.Config.{Config}
 use Rattle.goto_lang.specs.declared.steps.Stepped.{Stepped}

@@ -1,5 +1,5 @@
 -- Where a token stands.
-use Rattle.std.proofs.Common.{◌≡◌, ℕ, zero, suc, ◌<◌, List, [], ◌∷◌, length, map, get_or, Some, refl, subst, arith}
+use Rattle.std.proofs.Common.{◌≡◌, ℕ, ◌<◌, List, length, map, get_or, Some, refl, subst}
 use Rattle.std.specs.Prelude.{slice_get}
 use Rattle.cyc_lex.specs.declared.token.Token.{Token}
 use Rattle.cyc_lex.specs.Placed.{Placed, placed}

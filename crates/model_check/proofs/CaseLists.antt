@@ -3,7 +3,7 @@ use Rattle.std.proofs.Common.{◌≡◌, ℕ, zero, suc, ◌+◌, ◌<◌, List,
 use Rattle.std.proofs.lemmas.List.{take_more}
 use Rattle.heap_formula.specs.Definitions.{Definition}
 use Rattle.heap_formula.specs.Symbolic.{SymbolicHeap}
-use Rattle.heap_formula.specs.Words.{Each, OneOf}
+use Rattle.heap_formula.specs.Words.{Each}
 use Rattle.heap_formula.specs.Values.{Stack}
 use Rattle.heap_formula.specs.Cells.{Cells}
 use Rattle.heap_formula.specs.Meaning.{cases_of}

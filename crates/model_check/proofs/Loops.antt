@@ -5,8 +5,8 @@ use Rattle.std.proofs.lemmas.List.{at_drop_more, drop_all}
 use Rattle.std.specs.List.{list_any}
 use Rattle.std.specs.Cmp.Lexicographic.{pointwise}
 use Rattle.model_check.specs.Questions.{lists_decide}
-use Rattle.std.proofs.Common.{take, ◌-◌, ◌≡◌, ℕ, zero, suc, ◌+◌, ◌^◌, ◌<◌, ◌≤◌, List, [], ◌∷◌, ◌++◌, append_assoc, length, drop, get_or, add-one, drop-cons, Bool, true, false, Option, Some, None, refl, sym, ap, ◌∙◌, subst, inl, inr, ◌⊎◌, arith}
-use Rattle.std.specs.Prelude.{◌↔◌, nat_eq, not, if◌then◌else◌, IsTrue, slice_get, Result, Ok, Err, IfOk}
+use Rattle.std.proofs.Common.{take, ◌-◌, ◌≡◌, ℕ, zero, suc, ◌+◌, ◌^◌, ◌<◌, ◌≤◌, List, [], ◌∷◌, ◌++◌, append_assoc, length, drop, get_or, Bool, true, false, Option, Some, None, refl, sym, ap, ◌∙◌, subst, inl, inr, ◌⊎◌, arith}
+use Rattle.std.specs.Prelude.{◌↔◌, nat_eq, not, if◌then◌else◌, IsTrue, slice_get, Result, IfOk}
 use Rattle.std.specs.Int.Bits.{bit_and, bit_or}
 use Rattle.heap_formula.specs.Words.{OneOf}
 use Rattle.model_check.specs.declared.ground.Piece.{Piece}

@@ -1,5 +1,5 @@
 -- The graph of nodes without a fault is in order, and their judgements are local in it.
-use Rattle.std.proofs.Common.{◌≡◌, ℕ, zero, suc, ◌<◌, ◌≤◌, Bool, true, false, List, [], ◌∷◌, map, length, Some, None, sym, ap, ◌∙◌, subst, arith}
+use Rattle.std.proofs.Common.{◌≡◌, ℕ, ◌≤◌, Bool, true, false, List, [], ◌∷◌, map, length, Some, None, sym, ap, ◌∙◌, subst, arith}
 use Rattle.std.specs.Prelude.{slice_get}
 use Rattle.std.proofs.lemmas.List.{length-map}
 use Rattle.std.proofs.lemmas.Option.{slice_get_within}
@@ -10,7 +10,7 @@ use Rattle.heap_formula.specs.declared.judgements.Premise.{Premise}
 use Rattle.heap_formula.specs.Definitions.{Definition}
 use Rattle.heap_formula.specs.Words.{Each}
 use Rattle.heap_formula.specs.Meaning.{Stages}
-use Rattle.heap_formula.specs.Judgements.{HoldsAt, Follows, IsBelow, antecedent}
+use Rattle.heap_formula.specs.Judgements.{HoldsAt, antecedent}
 use Rattle.rule_table.specs.Soundness.{IsCommand}
 use Rattle.rule_table.specs.Fits.{IsPredAt, PairsFit, PremiseFits}
 use Rattle.rule_table.specs.Nodes.{Node, Edge, node_fault, IsReadable, edges_to, edges_of, EdgeHolds}

@@ -3,7 +3,7 @@ use Rattle.std.proofs.Common.{◌≡◌, ◌⊎◌, inl, inr, ℕ, zero, suc, �
 use Rattle.std.specs.Prelude.{nat_eq}
 use Rattle.std.proofs.lemmas.Bool.{cases_Bool, eqb-true}
 use Rattle.heap_formula.specs.declared.terms.Term.{Term}
-use Rattle.heap_formula.specs.declared.terms.Term.TheVariants.{Nil, Univ, Exist}
+use Rattle.heap_formula.specs.declared.terms.Term.TheVariants.{Nil, Univ}
 use Rattle.heap_formula.specs.declared.atoms.Spatial.{Spatial}
 use Rattle.pair_family.specs.BasePairs.{parameter}
 use Rattle.pair_family.specs.Classes.{term_number}

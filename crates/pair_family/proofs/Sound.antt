@@ -2,7 +2,7 @@
 use Rattle.std.proofs.Common.{◌≡◌, ◌≢◌, ℕ, suc, ◌+◌, ◌<◌, ◌≤◌, max, ◌⊎◌, inl, inr, List, [], ◌∷◌, ◌++◌, map, Bool, true, false, cond, Some, None, arith, sym, refl, ap, ◌∙◌, subst}
 use Rattle.std.specs.Ordering.{nat_cmp, eq_by_cmp}
 use Rattle.std.specs.Cmp.{nat_cmp_total}
-use Rattle.std.specs.FinMap.{empty, get-insert, get-empty, nat_cmp-IsAntisymmetric}
+use Rattle.std.specs.FinMap.{empty, get-insert, get-empty}
 use Rattle.std.proofs.lemmas.List.{length-map}
 use Rattle.heap_formula.specs.declared.terms.Term.{Term}
 use Rattle.heap_formula.specs.declared.atoms.Spatial.{Spatial}
@@ -13,7 +13,6 @@ use Rattle.heap_formula.specs.Values.{Stack, value, values}
 use Rattle.heap_formula.specs.Cells.{Cells, cell_at, no_cells, one_cell}
 use Rattle.heap_formula.specs.Meaning.{AtomHolds, SpatialHolds, at_stage}
 use Rattle.heap_formula.proofs.StageLaws.{atom_within, spatial_within, stage_le}
-use Rattle.heap_formula.proofs.StepLaws.{is_eq-Equal}
 use Rattle.pair_family.specs.BasePairs.{BasePair, element, entry, Respects}
 use Rattle.pair_family.specs.Combination.{Two, Choice, next, atom_equations, atom_differences, atom_addresses, spatial_equations, spatial_differences, addresses, each_two}
 use Rattle.pair_family.specs.Family.{PairFamily, IsChosenAt, IsChosen}

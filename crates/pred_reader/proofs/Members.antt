@@ -1,7 +1,7 @@
 -- The members of a list that fits fit.
 use Rattle.std.proofs.Common.{Bool, List, [], ◌∷◌}
 use Rattle.heap_formula.specs.Words.{Each}
-use Rattle.cyc_grammar.specs.Syntax.{Syntax, Class, after, fits_many, list1}
+use Rattle.cyc_grammar.specs.Syntax.{Syntax, Class, list1}
 use Rattle.heap_syntax.specs.Grammar as shared
 use Rattle.heap_syntax.specs.Words.{star}
 use Rattle.pred_syntax.specs.Trees.{Spatial}

@@ -1,10 +1,9 @@
 -- Values that have a text are what their tree says.
-use Rattle.std.proofs.Common.{◌≡◌, ℕ, zero, suc, ◌+◌, Bool, true, false, List, [], ◌∷◌, length, take, map, Option, Some, None, refl, ap, subst, ◌∙◌, arith}
-use Rattle.std.specs.Prelude.{not, ◌&&◌, is_some, if◌then◌else◌, slice_get, nat_lt, nat_le}
+use Rattle.std.proofs.Common.{◌≡◌, ℕ, ◌+◌, Bool, true, false, List, [], ◌∷◌, length, take, map, Option, Some, None, refl, ap, subst, ◌∙◌, arith}
+use Rattle.std.specs.Prelude.{not, ◌&&◌, is_some, slice_get, nat_lt, nat_le}
 use Rattle.std.specs.List.{list_any}
 use Rattle.std.specs.Str.{bytes_eq, chars, is_utf8}
 use Rattle.std.proofs.lemmas.Bool.{false≢true}
-use Rattle.std.proofs.lemmas.Slice.Eq.{bytes_eq-Decides}
 use Rattle.heap_formula.specs.declared.terms.Term.{Term}
 use Rattle.heap_formula.specs.declared.terms.Term.TheVariants as terms
 use Rattle.heap_formula.specs.declared.atoms.Pure.{Pure}
@@ -25,7 +24,7 @@ use Rattle.heap_syntax.specs.Grammar as shared
 use Rattle.pred_syntax.specs.Trees.{Heap, Definition}
 use Rattle.pred_syntax.specs.Grammar.{terms, spatial, heap, heaps, cases, definition, definitions}
 use Rattle.heap_reader.specs.Trees.{Heading}
-use Rattle.heap_reader.specs.Flaws.{Found, ill_if, over_if, or_later, listed_flaw, arity_in, heaps_flaw}
+use Rattle.heap_reader.specs.Flaws.{ill_if, over_if, or_later, listed_flaw, arity_in, heaps_flaw}
 use Rattle.heap_reader.specs.Values.{pure_value, place_of, spatial_value, heap_value}
 use Rattle.heap_reader.proofs.NoFlaw.{neither, not_ill}
 use Rattle.pred_reader.specs.declared.scope.Scope.TheVariants.{Case as InCase}

@@ -7,13 +7,9 @@ use Rattle.std.proofs.lemmas.Option.{slice_get_within}
 use Rattle.std.proofs.lemmas.Slice.Eq.{bytes_eq-Decides}
 use Rattle.heap_formula.specs.declared.terms.Term.{Term}
 use Rattle.heap_formula.specs.declared.terms.Term.TheVariants.{Nil, Univ, Exist}
-use Rattle.heap_formula.specs.declared.atoms.Pure.{Pure}
-use Rattle.heap_formula.specs.declared.atoms.Pure.TheVariants.{Eq, Neq}
-use Rattle.heap_formula.specs.declared.atoms.Spatial.{Spatial}
-use Rattle.heap_formula.specs.declared.atoms.Spatial.TheVariants.{Cell, Pred}
-use Rattle.heap_formula.specs.Closedness.{InPure, InSpatial, InHeap}
+use Rattle.heap_formula.specs.Closedness.{InHeap}
 use Rattle.heap_formula.specs.Definitions.{Definition}
-use Rattle.heap_formula.specs.Fresh.{exist_bound, pure_exists, spatial_exists, heap_exists}
+use Rattle.heap_formula.specs.Fresh.{exist_bound}
 use Rattle.heap_formula.specs.Symbolic.{SymbolicHeap}
 use Rattle.heap_formula.specs.Words.{Each}
 use Rattle.rule_table.proofs.Agreement.{IsBelow, heap_below}
@@ -36,7 +32,6 @@ use Rattle.problem_files.proofs.Terms.{IsFlawless}
 use Rattle.problem_files.proofs.Heaps.{in_heap_both, heaps_fit, heaps_flawless}
 use Rattle.heap_formula.proofs.Members.{each_from as each_at}
 use Rattle.formula_facts.proofs.AllMembers.{each_imply, each_at as Each-get}
-use Rattle.formula_facts.proofs.Greatest.{each_below}
 
 -- ---- the trees fit
 

@@ -16,7 +16,6 @@ use Rattle.pred_defs.specs.Faults.{case_fault}
 use Rattle.format_limits.specs.Limits.{HasFields, IsHeapWithin}
 use Rattle.format_limits.proofs.Heaps.{Each-map, IsLow, are_shaped, within}
 use Rattle.cyc_lex.specs.declared.fault.What.TheVariants.{Arguments, Pure as PureAtoms, Spatial as SpatialAtoms}
-use Rattle.cyc_grammar.specs.Syntax.{Syntax, Class, after, fits_many}
 use Rattle.heap_syntax.specs.declared.tree.PureTree.{PureTree}
 use Rattle.heap_syntax.specs.Trees.{Spatial, Cell, Predicate, Heap}
 use Rattle.heap_syntax.specs.Words.{star}
@@ -34,7 +33,7 @@ use Rattle.name_numbers.specs.Numbering as numbers
 use Rattle.formula_reader.specs.Values.{term_value}
 use Rattle.formula_facts.proofs.AllMembers.{each_imply}
 use Rattle.formula_facts.proofs.Greatest.{below_each}
-use Rattle.heap_reader.proofs.Members.{many_fit, behind_fit}
+use Rattle.heap_reader.proofs.Members.{behind_fit}
 
 mapped : {X Y : Type 0} (f : X → Y) (P : Y → Type 0) (xs : List X) → Each (λ x. P (f x)) xs → Each P (map f xs)
 mapped f P xs e = Each-map (λ x. P (f x)) P f (λ x p. p) xs e

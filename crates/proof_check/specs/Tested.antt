@@ -1,6 +1,5 @@
 -- A proof file of which the nodes are tested up to the first fault.
-use Rattle.std.specs.Prelude.{◌≡◌, ◌<◌, ◌≤◌, ℕ, Bool, nat_le, List, map, take, length, Option, Some, None, slice_get, Vec}
-use Rattle.std.specs.declared.alloc.Global.{Global}
+use Rattle.std.specs.Prelude.{◌≡◌, ◌<◌, ◌≤◌, ℕ, Bool, nat_le, List, map, take, length, Option, Some, None, slice_get}
 use Rattle.cyc_limits.specs.declared.TheConstants.{MOST_SPATIAL}
 use Rattle.heap_formula.specs.declared.commands.Command.{Command}
 use Rattle.heap_formula.specs.declared.commands.Command.TheVariants.{New}

@@ -1,5 +1,5 @@
 -- A file without a flaw fits the values' types.
-use Rattle.std.proofs.Common.{◌≡◌, ℕ, suc, ◌+◌, ◌<◌, ◌≤◌, List, [], ◌∷◌, false, length, None, refl, arith, map, ap}
+use Rattle.std.proofs.Common.{◌≡◌, ℕ, suc, ◌+◌, ◌<◌, ◌≤◌, List, [], ◌∷◌, false, length, None, refl, arith, ap}
 use Rattle.std.specs.Prelude.{◌||◌, nat_eq, nat_lt, nat_le}
 use Rattle.heap_formula.specs.Words.{Each}
 use Rattle.cyc_lex.specs.declared.fault.What.TheVariants.{Disjuncts, Nodes, ProgramVariables, Variable}

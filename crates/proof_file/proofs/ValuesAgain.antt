@@ -29,7 +29,6 @@ use Rattle.proof_file.specs.Readable.{is_universal_command, are_universal_comman
 use Rattle.proof_file.proofs.Fitting.{file_parts}
 use Rattle.rule_table.specs.Tests.{is_universal}
 use Rattle.proof_file.proofs.ReadableNodes.{nodes_fit}
-use Rattle.list_facts.proofs.Options.{not_some}
 use Rattle.list_facts.proofs.Parts.{map_back}
 use Rattle.list_facts.proofs.Places.{get_map}
 use Rattle.heap_reader.proofs.FirstPlaces.{flaw_at}

@@ -1,6 +1,5 @@
 -- A text has one fault, and a fault is answered in one way.
-use Rattle.std.proofs.Common.{◌≡◌, ℕ, ◌+◌, ◌-◌, ◌<◌, List, ◌++◌, take, drop, map, Result, Ok, Err, sym, ap, subst, ◌∙◌, inl, inr, arith, append_assoc, take-add}
-use Rattle.std.proofs.lemmas.Bool.{cases_lt}
+use Rattle.std.proofs.Common.{◌≡◌, ℕ, List, map, Result, Ok, Err, sym, ap, subst, ◌∙◌}
 use Rattle.std.specs.Prelude.{slice_get}
 use Rattle.cyc_lex.specs.declared.fault.LexFault.{LexFault}
 use Rattle.cyc_lex.specs.declared.fault.LexFault.TheVariants as lexical
@@ -11,9 +10,9 @@ use Rattle.cyc_lex.specs.declared.place.Bad.{Bad}
 use Rattle.cyc_lex.specs.Answer.{fault_of}
 use Rattle.cyc_lex.specs.Lexing.{tokens_of}
 use Rattle.cyc_lex.specs.Placed.{Placed}
-use Rattle.cyc_lex.specs.Word.{Word, word_of}
+use Rattle.cyc_lex.specs.Word.{word_of}
 use Rattle.cyc_grammar.specs.Syntax.{Syntax}
-use Rattle.cyc_grammar.specs.Faults.{BeginsText, IsFirstDead, IsSyntaxFault, StandsAt}
+use Rattle.cyc_grammar.specs.Faults.{IsSyntaxFault, StandsAt}
 use Rattle.cyc_grammar.proofs.Laws.{Lawful}
 use Rattle.cyc_grammar.proofs.FirstDead.{one_dead}
 use Rattle.heap_reader.specs.declared.flaw.Flaw.{Flaw}

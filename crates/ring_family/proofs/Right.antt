@@ -1,12 +1,9 @@
 -- Each node of the ring is right.
 use Rattle.std.proofs.Common.{◌≡◌, ℕ, zero, suc, ◌+◌, ◌*◌, ◌<◌, ◌≤◌, inl, inr, List, [], ◌∷◌, arith, Bool, true, false, Option, Some, None, length, refl, ap, ◌∙◌, subst}
-use Rattle.std.specs.Prelude.{Ok, nat_eq, slice_get, if◌then◌else◌}
-use Rattle.std.proofs.lemmas.Bool.{cases_eq, eq-eqb, ne_eqb, lt-ltb, and_from}
+use Rattle.std.specs.Prelude.{Ok, slice_get, if◌then◌else◌}
+use Rattle.std.proofs.lemmas.Bool.{cases_eq, eq-eqb, ne_eqb, lt-ltb}
 use Rattle.heap_formula.specs.declared.terms.Term.TheVariants.{Nil, Univ, Exist}
-use Rattle.heap_formula.specs.declared.atoms.Pure.{Pure}
-use Rattle.heap_formula.specs.declared.atoms.Pure.TheVariants.{Eq, Neq}
 use Rattle.heap_formula.specs.declared.judgements.Judgement.{Judgement}
-use Rattle.heap_formula.specs.declared.judgements.Judgement.TheVariants.{Entail, Term as Runs}
 use Rattle.heap_formula.specs.declared.judgements.Premise.{Premise}
 use Rattle.heap_formula.specs.declared.proof_rules.Rule.{Rule}
 use Rattle.heap_formula.specs.declared.proof_rules.Rule.TheVariants.{Rewrite, Unfold, Done, PureRight, Instantiate, Frame, UnfoldRight}
@@ -17,14 +14,12 @@ use Rattle.heap_formula.specs.Symbolic.{SymbolicHeap}
 use Rattle.heap_formula.specs.Meaning.{cases_of}
 use Rattle.rule_table.specs.LinkTable.{first_of, fault_unless}
 use Rattle.rule_table.specs.RuleBook.{rule_answer}
-use Rattle.rule_table.specs.Tests.{same_term, same_pure, same_spatial}
-use Rattle.rule_table.specs.Nodes.{Node, all_same, same_heap, same_judgement, differs, premises_fault, answer_fault, node_fault}
-use Rattle.rule_table.proofs.Reflects.{same_term_self, same_spatial_self}
+use Rattle.rule_table.specs.Nodes.{Node, same_judgement, differs, premises_fault, answer_fault, node_fault}
 use Rattle.ring_family.specs.Ring.{emp, is_nil, holds, cell_then, after, definitions_from, ring_definitions, by_rule, ring_block, ring_bud, ring_nodes}
 use Rattle.proof_check.specs.Files.{AreRight}
 use Rattle.ring_family.proofs.Answers.{entails, premise, pair, unfolds, rewrites, unfolds_nil, drops_pure, done', unfolds_cell, instantiates, frames}
 use Rattle.ring_family.proofs.Blocks.{EachFrom, each_from, blocks_cases, in_block, at_last}
-use Rattle.proof_check.proofs.SameJudgements.{all_same_self, same_heap_self, same_judgement_self}
+use Rattle.proof_check.proofs.SameJudgements.{same_judgement_self}
 
 -- ---- judgements that are one
 

@@ -33,7 +33,7 @@ use Rattle.rule_table.specs.Fits.{OnPremises}
 use Rattle.rule_table.specs.RuleBook.{variables_of, rule_answer}
 use Rattle.rule_table.specs.RuleCut.{cut_left, cut_right}
 use Rattle.rule_table.specs.RuleUnfold.{unfold_premise}
-use Rattle.rule_table.specs.Table.{with_pures, with_pure, with_right, named, unnamed, rewrite_side, rewrite_atom, drop_answer, calls, are_empty, right_term, unfolded_right}
+use Rattle.rule_table.specs.Table.{with_pures, with_pure, with_right, named, unnamed, rewrite_side, rewrite_atom, drop_answer, calls, right_term, unfolded_right}
 use Rattle.rule_table.specs.Tests.{same_term, same_spatial, is_universal_pure, is_universal_spatial, follows, is_absurd, address_of, ascend_from, has_number}
 use Rattle.rule_table.proofs.Fits.{needs_on, finds_on, limited_on, entails_on, single_on}
 use Rattle.symbolic_exec.specs.Lines.{IsAtLine, IsPremiseAtLine}

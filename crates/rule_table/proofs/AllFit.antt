@@ -12,7 +12,6 @@ use Rattle.heap_formula.specs.declared.commands.Command.TheVariants.{Assign, Loa
 use Rattle.heap_formula.specs.declared.judgements.Judgement.{Judgement}
 use Rattle.heap_formula.specs.declared.judgements.Judgement.TheVariants.{Entail, Term as Runs}
 use Rattle.heap_formula.specs.declared.judgements.Pair.{Pair}
-use Rattle.heap_formula.specs.declared.judgements.Premise.{Premise}
 use Rattle.heap_formula.specs.declared.proof_rules.Link.{Link}
 use Rattle.heap_formula.specs.declared.proof_rules.Side.{Side}
 use Rattle.heap_formula.specs.declared.proof_rules.Rule.{Rule}
@@ -33,7 +32,7 @@ use Rattle.rule_table.specs.RuleLink.{MapsInto, IsMatch}
 use Rattle.rule_table.specs.Answer.{finds, limited, one, two}
 use Rattle.rule_table.specs.Tests.{same_term, same_spatial, is_universal_pure, is_universal_spatial, follows, is_absurd, address_of, has_number, ascend_from}
 use Rattle.heap_formula.specs.Fresh.{heap_exists}
-use Rattle.rule_table.specs.Table.{with_pures, with_pure, with_right, without_pure, without_spatial, rewritten, rewrite_side, rewrite_atom, named, unnamed, calls, are_empty, unfolded_right, right_term, instance_term}
+use Rattle.rule_table.specs.Table.{with_pures, with_pure, with_right, without_pure, without_spatial, rewritten, rewrite_side, rewrite_atom, named, unnamed, calls, unfolded_right, right_term, instance_term}
 use Rattle.rule_table.specs.ExecTable.{cell_of, renamed, renamed_term, with_atom, variables_from, with_cell, with_field, at_line, command_answer}
 use Rattle.rule_table.specs.LinkTable.{link_fault, link_premise}
 use Rattle.rule_table.specs.RuleBook.{variables_of, rule_answer}

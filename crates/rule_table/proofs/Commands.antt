@@ -24,7 +24,7 @@ use Rattle.heap_formula.specs.Values.{Stack, value, values}
 use Rattle.heap_formula.specs.Cells.{Cells, cell_at, one_cell, Joins, IsUnion, IsPart}
 use Rattle.heap_formula.specs.Meaning.{Family, PureHolds, IsCell, AtomHolds, SpatialHolds, Holds, Stages, SatisfiesAt, at_stage}
 use Rattle.heap_formula.specs.Fresh.{heap_bound, fresh_number}
-use Rattle.heap_formula.specs.Programs.{Config, Halts, Goes, next_line, jump, value_in, field_at, field_of, counted_from_one, first_values, program_variables, command_bound, term_bound, start_at}
+use Rattle.heap_formula.specs.Programs.{Config, Halts, Goes, next_line, jump, value_in, field_at, field_of, counted_from_one, first_values, program_variables, term_bound, start_at}
 use Rattle.heap_formula.specs.Judgements.{PremiseHolds, IsLocallySound}
 use Rattle.heap_formula.specs.Positions.{without, before, kept_pairs}
 use Rattle.heap_formula.specs.Closedness.{InSpatial, IsUniversal}

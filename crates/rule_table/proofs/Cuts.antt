@@ -6,7 +6,6 @@ use Rattle.heap_formula.specs.declared.atoms.Spatial.{Spatial}
 use Rattle.heap_formula.specs.declared.commands.Command.{Command}
 use Rattle.heap_formula.specs.Symbolic.{SymbolicHeap}
 use Rattle.heap_formula.specs.Definitions.{Definition}
-use Rattle.heap_formula.specs.Words.{Each}
 use Rattle.heap_formula.specs.Values.{Stack, value}
 use Rattle.heap_formula.specs.Cells.{Cells, no_cells, IsUnion, Star}
 use Rattle.heap_formula.specs.Meaning.{Family, PureHolds, AtomHolds, SpatialHolds, Holds, at_stage, Stages, Satisfies}

@@ -1,6 +1,6 @@
 -- The limits of premises as the program makes them.
-use Rattle.std.proofs.Common.{◌≡◌, ℕ, ◌≤◌, Bool, true, false, ◌&&◌, List, refl, sym, subst, leb-true, le-leb}
-use Rattle.std.specs.Prelude.{nat_le, Result, Ok, Vec}
+use Rattle.std.proofs.Common.{◌≡◌, ℕ, Bool, true, false, ◌&&◌, List, refl, sym, subst}
+use Rattle.std.specs.Prelude.{Result, Ok, Vec}
 use Rattle.std.specs.declared.alloc.Global.{Global}
 use Rattle.heap_formula.specs.declared.judgements.Judgement.{Judgement}
 use Rattle.heap_formula.specs.declared.judgements.Judgement.TheVariants.{Entail, Term as Runs}
@@ -12,7 +12,6 @@ use Rattle.heap_formula.specs.Judgements.{with_antecedent}
 use Rattle.rule_table.specs.Answer.{needs, limited, every, is_short, has_numbers, each_heap, heaps_of, disjuncts}
 use Rattle.rule_table.specs.Answered.{IsAnswer}
 use Rattle.std.proofs.lemmas.Bool.{and_parts}
-use Rattle.list_facts.proofs.Tests.{bool_same}
 
 pub and_assoc : (p q r : Bool) → (p && q) && r ≡ p && (q && r)
 and_assoc true q r = refl

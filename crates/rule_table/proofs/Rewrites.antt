@@ -12,7 +12,7 @@ use Rattle.heap_formula.specs.declared.commands.Command.{Command}
 use Rattle.heap_formula.specs.declared.judgements.Judgement.TheVariants.{Entail}
 use Rattle.heap_formula.specs.Symbolic.{SymbolicHeap}
 use Rattle.heap_formula.specs.Definitions.{Definition}
-use Rattle.heap_formula.specs.Words.{Each, OneOf}
+use Rattle.heap_formula.specs.Words.{Each}
 use Rattle.heap_formula.specs.Values.{Stack, value}
 use Rattle.heap_formula.specs.Meaning.{PureHolds, Holds, at_stage, Satisfies}
 use Rattle.heap_formula.specs.Judgements.{IsLocallySound}

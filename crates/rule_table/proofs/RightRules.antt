@@ -15,7 +15,7 @@ use Rattle.heap_formula.specs.declared.judgements.Judgement.TheVariants.{Entail}
 use Rattle.heap_formula.specs.declared.proof_rules.RuleFault.TheVariants.{NoSuchAtom, AtomsDiffer, HasExistential, NotFollowing, NoSuchCase}
 use Rattle.heap_formula.specs.Symbolic.{SymbolicHeap}
 use Rattle.heap_formula.specs.Definitions.{Definition}
-use Rattle.heap_formula.specs.Words.{Each, OneOf}
+use Rattle.heap_formula.specs.Words.{Each}
 use Rattle.heap_formula.specs.Values.{Stack, value, values}
 use Rattle.heap_formula.specs.Cells.{Cells, Star}
 use Rattle.heap_formula.specs.Meaning.{Family, PureHolds, SpatialHolds, Holds, CaseHolds, Stages, SatisfiesAt, Satisfies, SatisfiesOne, at_stage, cases_of, least}

@@ -1,5 +1,5 @@
 -- Kept terms by number, and the places of terms among them.
-use Rattle.std.proofs.Common.{◌≡◌, ℕ, zero, suc, ◌+◌, ◌<◌, inl, inr, List, [], ◌∷◌, ◌++◌, map, length, Bool, true, false, ◌||◌, if◌then◌else◌, arith, sym, refl, ap, ◌∙◌}
+use Rattle.std.proofs.Common.{◌≡◌, ℕ, zero, suc, ◌+◌, ◌<◌, inl, inr, List, [], ◌∷◌, ◌++◌, map, length, Bool, true, false, if◌then◌else◌, arith, sym, refl, ap, ◌∙◌}
 use Rattle.std.specs.Prelude.{nat_eq, slice_index, slice_index_or}
 use Rattle.std.proofs.lemmas.Bool.{cases_Bool, eqb-true, eq-eqb, both_ways}
 use Rattle.heap_formula.specs.declared.terms.Term.{Term}
@@ -9,7 +9,6 @@ use Rattle.heap_formula.specs.declared.atoms.Spatial.{Spatial}
 use Rattle.heap_formula.specs.Words.{Each}
 use Rattle.pair_family.specs.BasePairs.{element}
 use Rattle.pair_family.specs.Classes.{term_number}
-use Rattle.pair_family.specs.Combination.{any}
 use Rattle.pair_family.specs.Folding.{spoken}
 use Rattle.pair_family.specs.Frames.{term_at, has_term, one_more, with_terms, kept_terms}
 use Rattle.pair_family.proofs.Lists.{In}

@@ -1,5 +1,5 @@
 -- One more atom, and all atoms: the code's states are those of the definition.
-use Rattle.std.proofs.Common.{◌≡◌, ◌↔◌, inl, inr, ℕ, suc, ◌<◌, List, [], ◌∷◌, ◌++◌, map, length, Bool, true, false, arith, sym, refl, ap, ◌∙◌, subst}
+use Rattle.std.proofs.Common.{◌≡◌, ◌↔◌, inl, inr, ℕ, suc, ◌<◌, List, [], ◌∷◌, ◌++◌, map, length, Bool, true, false, arith, sym, ap, ◌∙◌, subst}
 use Rattle.std.proofs.lemmas.List.{length-map}
 use Rattle.heap_formula.specs.declared.terms.Term.{Term}
 use Rattle.heap_formula.specs.declared.terms.Term.TheVariants.{Nil}

@@ -1,5 +1,5 @@
 -- Entailments whose antecedents differ in length have no links.
-use Rattle.std.proofs.Common.{◌≡◌, ℕ, zero, suc, Bool, true, false, List, [], ◌∷◌, map, length, take, Option, None, Some, if◌then◌else◌, arith, refl, ap, leb-true, ◌∙◌}
+use Rattle.std.proofs.Common.{◌≡◌, ℕ, zero, suc, Bool, true, false, List, [], ◌∷◌, map, length, take, None, if◌then◌else◌, arith, refl, ap, leb-true, ◌∙◌}
 use Rattle.std.specs.Prelude.{nat_eq, nat_le}
 use Rattle.std.specs.List.{filter}
 use Rattle.std.specs.Option.{is_none}
@@ -12,7 +12,6 @@ use Rattle.heap_formula.specs.declared.commands.Command.{Command}
 use Rattle.heap_formula.specs.declared.judgements.Judgement.{Judgement}
 use Rattle.heap_formula.specs.declared.judgements.Judgement.TheVariants.{Entail, Term as Runs}
 use Rattle.heap_formula.specs.declared.proof_rules.Link.{Link}
-use Rattle.heap_formula.specs.declared.proof_rules.RuleFault.{RuleFault}
 use Rattle.rule_table.specs.LinkTable.{parts_fault, link_fault}
 use Rattle.rule_table.specs.RuleBook.{variables_of}
 use Rattle.rule_table.proofs.LinkRule.{parts_are}

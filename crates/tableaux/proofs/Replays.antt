@@ -1,5 +1,5 @@
 -- What any reasons that may be given make is in order.
-use Rattle.std.proofs.Common.{◌≡◌, ℕ, suc, ◌⊎◌, inl, inr, List, [], ◌∷◌, Option, Some, None, slice_get, fold, sym, refl, ap, subst, ◌∙◌}
+use Rattle.std.proofs.Common.{◌≡◌, ℕ, suc, inl, inr, List, [], ◌∷◌, Option, Some, None, slice_get, fold, sym, refl, ap, subst, ◌∙◌}
 use Rattle.trace_pairs.specs.Graph.{Node, IsGraph}
 use Rattle.tableaux.specs.Tableau.{Premise, Goal, Made, Tableau, Calculus, with_premises, at_next, step, begin}
 use Rattle.tableaux.specs.Search.{EachReplayed}

@@ -1,12 +1,8 @@
-use Rattle.std.proofs.Common.{◌≡◌, ℕ, ◌+◌, [], ◌∷◌, None, ap, arith}
-use Rattle.std.specs.Prelude.{nat_lt}
+use Rattle.std.proofs.Common.{[], ◌∷◌, ap, arith}
 use Rattle.heap_formula.specs.declared.terms.Term.TheVariants.{Univ}
-use Rattle.cyc_lex.specs.declared.fault.What.TheVariants.{Variable, Disjuncts}
+use Rattle.cyc_lex.specs.declared.fault.What.TheVariants.{Disjuncts}
 use Rattle.heap_reader.specs.Trees.{heap_of}
 use Rattle.heap_reader.specs.Spans.{heap_span}
-use Rattle.heap_reader.specs.Flaws.{Found, over_if}
-use Rattle.heap_reader.specs.Small.{IsSmall}
-use Rattle.heap_reader.proofs.NoFlaw.{not_over, at_most}
 use Rattle.heap_reader.proofs.Fitting.{heaps_small}
 use Rattle.reader_tests.proofs.ShortTexts.{three, use_short}
 use Rattle.reader_tests.proofs.heap_reader_tests.two_heaps.Goals as goal
