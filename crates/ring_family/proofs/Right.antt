@@ -21,8 +21,6 @@ use Rattle.ring_family.proofs.Answers.{entails, premise, pair, unfolds, rewrites
 use Rattle.ring_family.proofs.Blocks.{EachFrom, each_from, blocks_cases, in_block, at_last}
 use Rattle.proof_check.proofs.SameJudgements.{same_judgement_self}
 
--- ---- judgements that are one
-
 -- ---- nodes by rules
 
 module _ (most : ℕ) (ds : List Definition) (nodes : List Node) where
