@@ -24,6 +24,7 @@ use Rattle.fitting_heaps.specs.Bounds.{AreAtMost, IsWithin, IsAmong}
 use Rattle.fitting_heaps.specs.Findings.{Findings, found_if_asked, FitsCase, IsSettled, UnlessGrown}
 use Rattle.formula_facts.proofs.AllMembers.{each_imply}
 use Rattle.model_check.proofs.KnownTerms.{in_heap_map, in_pure_map, in_spatial_map}
+use Rattle.formula_facts.proofs.Existentials.{heap_bounded}
 
 -- ---- values of terms are small
 

@@ -32,6 +32,7 @@ use Rattle.problem_files.proofs.Terms.{IsFlawless}
 use Rattle.problem_files.proofs.Heaps.{in_heap_both, heaps_fit, heaps_flawless}
 use Rattle.heap_formula.proofs.Members.{each_from as each_at}
 use Rattle.formula_facts.proofs.AllMembers.{each_imply, each_at as Each-get}
+use Rattle.formula_facts.proofs.Existentials.{heap_bounded}
 
 -- ---- the trees fit
 
