@@ -1,23 +1,20 @@
 -- A link without a fault relates lists of atoms of the same shapes.
-use Rattle.std.proofs.Common.{◌≡◌, ℕ, zero, suc, ◌+◌, ◌<◌, ◌≤◌, Bool, true, false, ◌&&◌, ◌||◌, cond, List, [], ◌∷◌, map, length, Some, refl, sym, ap, ◌∙◌, subst, arith}
-use Rattle.std.specs.Prelude.{slice_get, nat_eq, count_by, if◌then◌else◌}
+use Rattle.std.proofs.Common.{◌≡◌, ℕ, zero, suc, ◌+◌, ◌≤◌, Bool, true, false, ◌&&◌, ◌||◌, cond, List, [], ◌∷◌, map, length, Some, refl, sym, ap, ◌∙◌, arith}
+use Rattle.std.specs.Prelude.{slice_get, nat_eq, count_by}
 use Rattle.std.specs.List.{list_any, list_all}
 use Rattle.std.proofs.lemmas.List.{length-map}
 use Rattle.std.proofs.lemmas.List.Sums.{sum_by-cons}
-use Rattle.std.proofs.lemmas.Bool.{le-leb}
+use Rattle.std.proofs.lemmas.Bool.{le-leb, and_from as both_true}
 use Rattle.std.proofs.lemmas.Bool.Decides.{Decides-eqb}
 use Rattle.heap_formula.specs.declared.atoms.Pure.{Pure}
 use Rattle.heap_formula.specs.declared.atoms.Spatial.{Spatial}
 use Rattle.heap_formula.specs.declared.atoms.Spatial.TheVariants.{Cell, Pred}
-use Rattle.heap_formula.specs.contracts.atoms.SpatialPartialEq.TheImpl.{eq-value as spatial_eq}
 use Rattle.heap_formula.specs.Symbolic.{SymbolicHeap}
 use Rattle.heap_formula.specs.Positions.{chosen, chosen_step, without}
 use Rattle.heap_formula.specs.Substitution.{Bindings, apply_term, apply_spatial, apply_heap}
-use Rattle.heap_formula.proofs.Equal.{spatial_eq-Decides}
-use Rattle.rule_table.specs.RuleLink.{EachPair, IsMatch, minus, MapsInto, count_of, SameAtoms, DisjunctsCover}
+use Rattle.rule_table.specs.RuleLink.{EachPair, IsMatch, minus, MapsInto, SameAtoms, DisjunctsCover}
 use Rattle.rule_table.proofs.Links.{length_left}
-use Rattle.rule_table.proofs.Multisets.{stands}
-use Rattle.rule_table.proofs.Reflects.{and_true as both_true}
+use Rattle.rule_table.proofs.Multisets.{stands, counted_itself}
 use Rattle.back_links.specs.Shapes.{same_shape, has_as_many, has_shapes, same_shapes, some_has_shapes}
 
 count-cons : {X : Type 0} (p : X → Bool) (x : X) (xs : List X) → count_by p (x ∷ xs) ≡ cond (p x) 1 0 + count_by p xs
@@ -92,9 +89,6 @@ mapped_count pures atoms z free (k ∷ ms) (x ∷ xs) m =
     omega (arith, same)
 
 -- ---- lists with the same atoms
-
-counted_itself : (x : Spatial) (xs : List Spatial) → 0 < count_of x (x ∷ xs)
-counted_itself x xs = let e : spatial_eq.it x x ≡ true = (spatial_eq-Decides x x).1 refl in subst (λ (b : Bool). 0 < (if b then 1 else 0) + count_of x xs) (sym e) (omega arith)
 
 same_count : (p : Spatial → Bool) (xs ys : List Spatial) → SameAtoms xs ys → count_by p xs ≡ count_by p ys
 same_count p [] [] same = refl

@@ -1,9 +1,8 @@
 -- Each link without a fault, and with a substitution of the form that is wanted, is among the links.
-use Rattle.std.proofs.Common.{◌≡◌, ℕ, suc, ◌+◌, ◌<◌, Bool, true, false, not, ◌&&◌, cond, List, [], ◌∷◌, ◌++◌, map, length, Option, Some, None, refl, sym, ap, ◌∙◌, subst, inl, inr, arith}
+use Rattle.std.proofs.Common.{◌≡◌, ℕ, suc, ◌+◌, Bool, true, false, not, ◌&&◌, cond, List, [], ◌∷◌, ◌++◌, map, length, Option, None, refl, sym, ap, ◌∙◌, subst, inl, inr, arith}
 use Rattle.std.specs.Prelude.{slice_get}
 use Rattle.std.specs.List.{filter, flat_map}
 use Rattle.std.specs.Option.{is_none}
-use Rattle.std.proofs.lemmas.Option.{slice_get_within}
 use Rattle.heap_formula.specs.declared.terms.Term.{Term}
 use Rattle.heap_formula.specs.declared.atoms.Pure.{Pure}
 use Rattle.heap_formula.specs.declared.atoms.Spatial.{Spatial}
@@ -18,17 +17,14 @@ use Rattle.heap_formula.specs.Substitution.{Bindings, apply_spatial, apply_heap}
 use Rattle.rule_table.specs.Answer.{disjuncts}
 use Rattle.rule_table.specs.Tests.{has_number}
 use Rattle.rule_table.specs.LinkTable.{matches_some, spatial_fault, covers_some, disjunct_fault, link_fault}
-use Rattle.rule_table.proofs.Reflects.{both}
 use Rattle.back_links.specs.Listing.{selections, number_choices, value_choices, values_of, universals, IsMade, maps, substitutions, covers, link_of, candidates, links}
 use Rattle.back_links.proofs.Selecting.{IsSelection, stands_in_range}
 use Rattle.back_links.proofs.Possible.{fits, cond_none}
+use Rattle.formula_facts.proofs.SomeMember.{one_front}
+use Rattle.std.proofs.lemmas.Bool.{and_parts}
+use Rattle.list_facts.proofs.Places.{tested_within}
 
 -- ---- members of lists
-
-one_before : {X : Type 0} (P : X → Type 0) (xs ys : List X) → OneOf P xs → OneOf P (xs ++ ys)
-one_before P [] ys o = absurd o
-one_before P (x ∷ xs) ys (inl p) = inl p
-one_before P (x ∷ xs) ys (inr o) = inr (one_before P xs ys o)
 
 one_after : {X : Type 0} (P : X → Type 0) (xs ys : List X) → OneOf P ys → OneOf P (xs ++ ys)
 one_after P [] ys o = o
@@ -36,7 +32,7 @@ one_after P (x ∷ xs) ys o = inr (one_after P xs ys o)
 
 one_flat_map : {X Y : Type 0} (P : Y → Type 0) (f : X → List Y) (x : X) (xs : List X) → OneOf (λ y. y ≡ x) xs → OneOf P (f x) → OneOf P (flat_map f xs)
 one_flat_map P f x [] o q = absurd o
-one_flat_map {X} P f x (y ∷ ys) (inl e) q = one_before P (f y) (flat_map f ys) (subst (λ (z : X). OneOf P (f z)) (sym e) q)
+one_flat_map {X} P f x (y ∷ ys) (inl e) q = one_front P (f y) (flat_map f ys) (subst (λ (z : X). OneOf P (f z)) (sym e) q)
 one_flat_map P f x (y ∷ ys) (inr o) q = one_after P (f y) (flat_map f ys) (one_flat_map P f x ys o q)
 
 one_map : {X Y : Type 0} (f : X → Y) (x : X) (xs : List X) → OneOf (λ y. y ≡ x) xs → OneOf (λ y. y ≡ f x) (map f xs)
@@ -68,12 +64,8 @@ places_selected pures atoms all seen k (m ∷ ms) s [] e = cc
 places_selected pures atoms all seen k [] s (x ∷ xs) e = cc
 places_selected pures atoms all seen k (m ∷ ms) s (x ∷ xs) e =
     let c = cond_none (not (has_number seen m) && matches_some pures (apply_spatial s x) (slice_get atoms m)) (spatial_fault pures atoms all (seen ++ m ∷ []) (suc k) ms (map (apply_spatial s) xs)) (LinkSpatial k) e in
-    let b = both (not (has_number seen m)) (matches_some pures (apply_spatial s x) (slice_get atoms m)) c.0 in
-    (stands_in_range 0 (length atoms) m (omega arith) (within (slice_get atoms m) refl b.1), places_selected pures atoms all (seen ++ m ∷ []) (suc k) ms s xs c.1)
-  where
-    within : (o : Option Spatial) → slice_get atoms m ≡ o → matches_some pures (apply_spatial s x) o ≡ true → m < 0 + length atoms
-    within None q e = cc
-    within (Some y) q e = let l = slice_get_within atoms m y q in omega (arith, l)
+    let b = and_parts (not (has_number seen m)) (matches_some pures (apply_spatial s x) (slice_get atoms m)) c.0 in
+    (stands_in_range 0 (length atoms) m (omega arith) (let l = tested_within (matches_some pures (apply_spatial s x)) atoms m refl b.1 in omega (arith, l)), places_selected pures atoms all (seen ++ m ∷ []) (suc k) ms s xs c.1)
 
 entries_selected : (bs : List SymbolicHeap) (k : ℕ) (ms : List ℕ) (s : Bindings) (cs : List SymbolicHeap) → disjunct_fault bs k ms (map (apply_heap s) cs) ≡ None → IsSelection (number_choices bs cs) ms
 entries_selected bs k [] s [] e = tt
@@ -81,11 +73,7 @@ entries_selected bs k (m ∷ ms) s [] e = cc
 entries_selected bs k [] s (c ∷ cs) e = cc
 entries_selected bs k (m ∷ ms) s (c ∷ cs) e =
     let t = cond_none (covers_some (apply_heap s c) (slice_get bs m)) (disjunct_fault bs (suc k) ms (map (apply_heap s) cs)) (LinkDisjunct k) e in
-    (stands_in_range 0 (length bs) m (omega arith) (within (slice_get bs m) refl t.0), entries_selected bs (suc k) ms s cs t.1)
-  where
-    within : (o : Option SymbolicHeap) → slice_get bs m ≡ o → covers_some (apply_heap s c) o ≡ true → m < 0 + length bs
-    within None q e = cc
-    within (Some b) q e = let l = slice_get_within bs m b q in omega (arith, l)
+    (stands_in_range 0 (length bs) m (omega arith) (let l = tested_within (covers_some (apply_heap s c)) bs m refl t.0 in omega (arith, l)), entries_selected bs (suc k) ms s cs t.1)
 
 pairs_selected : (values : List Term) (sources : List ℕ) (s : Bindings) → IsMade values sources s → IsSelection (value_choices values sources) s
 pairs_selected values [] [] m = tt

@@ -3,9 +3,8 @@ use Rattle.std.proofs.Common.{◌≡◌, ℕ, suc, ◌+◌, ◌<◌, Bool, true,
 use Rattle.std.specs.Prelude.{slice_get, nat_eq, nat_le}
 use Rattle.std.specs.List.{list_all}
 use Rattle.std.proofs.lemmas.List.{append-nil}
-use Rattle.std.proofs.lemmas.Bool.{leb-true, leb-false}
+use Rattle.std.proofs.lemmas.Bool.{leb-true, leb-false, and_from as both_true, and_parts}
 use Rattle.std.proofs.lemmas.Bool.Decides.{Decides-eqb}
-use Rattle.std.proofs.lemmas.Option.{slice_get_within}
 use Rattle.heap_formula.specs.declared.terms.Term.{Term}
 use Rattle.heap_formula.specs.declared.terms.Term.TheVariants.{Nil, Univ, Exist}
 use Rattle.heap_formula.specs.declared.atoms.Pure.{Pure}
@@ -24,13 +23,13 @@ use Rattle.rule_table.specs.Answer.{disjuncts}
 use Rattle.rule_table.specs.Tests.{same_term, equated, follows, has_number}
 use Rattle.rule_table.specs.LinkTable.{first_of, fault_unless, keeps_below, pure_fault, all_equated, matches, matches_some, spatial_fault, covers_some, disjunct_fault, parts_fault, link_fault}
 use Rattle.rule_table.proofs.LinkRule.{none_of_two, no_fault, parts_are}
-use Rattle.rule_table.proofs.Reflects.{both, and_true as both_true}
 use Rattle.back_links.specs.Listing.{value_choices, stands_in_pure, stands_in_spatial}
 use Rattle.back_links.specs.Shapes.{has_shapes, same_shapes, some_has_shapes}
 use Rattle.back_links.specs.Prospects.{lookup, known, could_equal, could_equal_all, could_match, could_match_some, could_match_those, both_known, known_pure, could_follow, could_follow_those, could_keep, kept_variables, could_send, has_value, have_values, could_stand, could_take, are_alike, has_cover, have_covers}
 use Rattle.back_links.proofs.AlikeShapes.{mapped_shapes, mapped_whole, covered_shapes}
 use Rattle.back_links.proofs.Selecting.{IsSelection, every_true, any_true, any_in_range}
 pub use Rattle.rule_table.proofs.LinkRule.{cond_none, kept_below}
+use Rattle.list_facts.proofs.Places.{tested_within}
 
 -- the pairs say of a variable what the whole substitution says
 abbrev pub Agrees : Bindings → Bindings → Type 0
@@ -55,15 +54,15 @@ module _ (s whole : Bindings) (agrees : Agrees s whole) (pures : List Pure) wher
   all_equal_ok [] (u ∷ us) e = e
   all_equal_ok (t ∷ ts) [] e = e
   all_equal_ok (t ∷ ts) (u ∷ us) e =
-      let b = both (equated pures (apply_term whole t) u) (all_equated pures (map (apply_term whole) ts) us) e in
+      let b = and_parts (equated pures (apply_term whole t) u) (all_equated pures (map (apply_term whole) ts) us) e in
       both_true (could_equal pures (known s t) u) (could_equal_all pures s ts us) (equal_ok (known s t) t u (known_is t) b.0) (all_equal_ok ts us b.1)
 
   match_ok : (x y : Spatial) → matches pures (apply_spatial whole x) y ≡ true → could_match pures s x y ≡ true
   match_ok (Cell t ts) (Cell u us) e =
-      let b = both (equated pures (apply_term whole t) u) (all_equated pures (map (apply_term whole) ts) us) e in
+      let b = and_parts (equated pures (apply_term whole t) u) (all_equated pures (map (apply_term whole) ts) us) e in
       both_true (could_equal pures (known s t) u) (could_equal_all pures s ts us) (equal_ok (known s t) t u (known_is t) b.0) (all_equal_ok ts us b.1)
   match_ok (Pred p ts) (Pred q us) e =
-      let b = both (nat_eq p q) (all_equated pures (map (apply_term whole) ts) us) e in
+      let b = and_parts (nat_eq p q) (all_equated pures (map (apply_term whole) ts) us) e in
       both_true (nat_eq p q) (could_equal_all pures s ts us) b.0 (all_equal_ok ts us b.1)
   match_ok (Cell t ts) (Pred q us) e = e
   match_ok (Pred p ts) (Cell u us) e = e
@@ -77,7 +76,7 @@ module _ (s whole : Bindings) (agrees : Agrees s whole) (pures : List Pure) wher
   match_those_ok n atoms all seen k (m ∷ ms) rest [] e = refl
   match_those_ok n atoms all seen k (m ∷ ms) rest (x ∷ xs) e =
       let c = cond_none (not (has_number seen m) && matches_some pures (apply_spatial whole x) (slice_get atoms m)) (spatial_fault pures atoms all (seen ++ m ∷ []) (suc k) (ms ++ rest) (map (apply_spatial whole) xs)) (LinkSpatial k) e in
-      let b = both (not (has_number seen m)) (matches_some pures (apply_spatial whole x) (slice_get atoms m)) c.0 in
+      let b = and_parts (not (has_number seen m)) (matches_some pures (apply_spatial whole x) (slice_get atoms m)) c.0 in
       both_true (not (stands_in_spatial n x) || could_match_some pures s x (slice_get atoms m)) (could_match_those n pures atoms s ms xs) (or_right (not (stands_in_spatial n x)) (match_some_ok x (slice_get atoms m) b.1)) (match_those_ok n atoms all (seen ++ m ∷ []) (suc k) ms rest xs c.1)
 
   both_ok : (f : Term → Term → Pure) (o q : Option Term) (t u : Term) → ((v : Term) → o ≡ Some v → apply_term whole t ≡ v) → ((v : Term) → q ≡ Some v → apply_term whole u ≡ v) → follows pures (f (apply_term whole t) (apply_term whole u)) ≡ true → could_follow pures (both_known f o q) ≡ true
@@ -199,7 +198,7 @@ not_twice pures atoms all seen k [] m rest [] e = cc
 not_twice pures atoms all seen k (n ∷ ms) m rest [] e = cc
 not_twice pures atoms all seen k [] m rest (x ∷ xs) e =
     let c = cond_none (not (has_number seen m) && matches_some pures x (slice_get atoms m)) (spatial_fault pures atoms all (seen ++ m ∷ []) (suc k) rest xs) (LinkSpatial k) e in
-    let b = both (not (has_number seen m)) (matches_some pures x (slice_get atoms m)) c.0 in
+    let b = and_parts (not (has_number seen m)) (matches_some pures x (slice_get atoms m)) c.0 in
     ap (λ (ns : List ℕ). has_number ns m) (append-nil seen) ∙ unset (has_number seen m) b.0
   where
     unset : (b : Bool) → not b ≡ true → b ≡ false
@@ -215,7 +214,7 @@ stand_ok whole pures atoms all seen k [] m rest [] e = refl
 stand_ok whole pures atoms all seen k (n ∷ ms) m rest [] e = refl
 stand_ok whole pures atoms all seen k [] m rest (x ∷ xs) e =
     let c = cond_none (not (has_number seen m) && matches_some pures (apply_spatial whole x) (slice_get atoms m)) (spatial_fault pures atoms all (seen ++ m ∷ []) (suc k) rest (map (apply_spatial whole) xs)) (LinkSpatial k) e in
-    let b = both (not (has_number seen m)) (matches_some pures (apply_spatial whole x) (slice_get atoms m)) c.0 in
+    let b = and_parts (not (has_number seen m)) (matches_some pures (apply_spatial whole x) (slice_get atoms m)) c.0 in
     match_some_ok [] whole (none_agree whole) pures x (slice_get atoms m) b.1
 stand_ok whole pures atoms all seen k (n ∷ ms) m rest (x ∷ xs) e =
     let c = cond_none (not (has_number seen n) && matches_some pures (apply_spatial whole x) (slice_get atoms n)) (spatial_fault pures atoms all (seen ++ n ∷ []) (suc k) (ms ++ m ∷ rest) (map (apply_spatial whole) xs)) (LinkSpatial k) e in
@@ -243,8 +242,4 @@ covers_ok bs s k ms [] e = refl
 covers_ok bs s k [] (c ∷ cs) e = cc
 covers_ok bs s k (m ∷ ms) (c ∷ cs) e =
     let t = cond_none (covers_some (apply_heap s c) (slice_get bs m)) (disjunct_fault bs (suc k) ms (map (apply_heap s) cs)) (LinkDisjunct k) e in
-    both_true (has_cover bs s c) (have_covers bs s cs) (any_in_range (λ i. covers_some (apply_heap s c) (slice_get bs i)) 0 (length bs) m (omega arith) (within (slice_get bs m) refl t.0) t.0) (covers_ok bs s (suc k) ms cs t.1)
-  where
-    within : (o : Option SymbolicHeap) → slice_get bs m ≡ o → covers_some (apply_heap s c) o ≡ true → m < 0 + length bs
-    within None q e = cc
-    within (Some b) q e = let l = slice_get_within bs m b q in omega (arith, l)
+    both_true (has_cover bs s c) (have_covers bs s cs) (any_in_range (λ i. covers_some (apply_heap s c) (slice_get bs i)) 0 (length bs) m (omega arith) (let l = tested_within (covers_some (apply_heap s c)) bs m refl t.0 in omega (arith, l)) t.0) (covers_ok bs s (suc k) ms cs t.1)

@@ -1,14 +1,15 @@
 -- Choices in order, and the first of their links.
-use Rattle.std.proofs.Common.{◌≡◌, ℕ, zero, suc, ◌+◌, ◌-◌, ◌<◌, ◌≤◌, Bool, true, false, ◌&&◌, ◌||◌, cond, List, [], ◌∷◌, ◌++◌, map, length, get_or, take, drop, refl, sym, ap, ◌∙◌, subst, arith, append_assoc, add-one, drop-cons, inl, inr}
+use Rattle.std.proofs.Common.{◌≡◌, ℕ, zero, suc, ◌+◌, ◌-◌, ◌<◌, ◌≤◌, Bool, true, false, ◌||◌, cond, List, [], ◌∷◌, ◌++◌, map, length, get_or, take, drop, refl, sym, ap, ◌∙◌, subst, arith, append_assoc, add-one, drop-cons, inl, inr}
 use Rattle.std.proofs.lemmas.List.{append-nil, take_all, drop_all, length-append, length-drop, take-append-le}
 use Rattle.std.proofs.lemmas.List.Concat.{flat_map-append}
 use Rattle.std.proofs.lemmas.List.Folds.{flat_map-map}
 use Rattle.std.proofs.lemmas.List.Elements.{filter-append}
-use Rattle.std.proofs.lemmas.Bool.{cases_lt}
+use Rattle.std.proofs.lemmas.Bool.{cases_lt, and_from, or_left, or_right}
 use Rattle.std.specs.List.{filter, flat_map, range_with_len, list_any, list_all}
 use Rattle.heap_formula.specs.Words.{Each, OneOf}
 use Rattle.back_links.specs.Listing.{selections}
 use Rattle.back_links.specs.Branches.{below}
+use Rattle.formula_facts.proofs.AllMembers.{each_append, each_mapped}
 
 -- ---- the choices
 
@@ -36,14 +37,6 @@ IsSelection [] (x ∷ xs) = ⊥
 IsSelection (choices ∷ rest) [] = ⊥
 IsSelection (choices ∷ rest) (x ∷ xs) = OneOf (λ y. y ≡ x) choices × IsSelection rest xs
 
-each_append : {X : Type 0} (P : X → Type 0) (xs ys : List X) → Each P xs → Each P ys → Each P (xs ++ ys)
-each_append P [] ys a b = b
-each_append P (x ∷ xs) ys a b = (a.0, each_append P xs ys a.1 b)
-
-each_map : {X Y : Type 0} (P : Y → Type 0) (f : X → Y) (xs : List X) → Each (λ x. P (f x)) xs → Each P (map f xs)
-each_map P f [] a = tt
-each_map P f (x ∷ xs) a = (a.0, each_map P f xs a.1)
-
 each_flat_map : {X Y : Type 0} (P : Y → Type 0) (f : X → List Y) (xs : List X) → ((x : X) → OneOf (λ y. y ≡ x) xs → Each P (f x)) → Each P (flat_map f xs)
 each_flat_map P f [] h = tt
 each_flat_map P f (x ∷ xs) h = each_append P (f x) (flat_map f xs) (h x (inl refl)) (each_flat_map P f xs (λ y o. h y (inr o)))
@@ -51,30 +44,18 @@ each_flat_map P f (x ∷ xs) h = each_append P (f x) (flat_map f xs) (h x (inl r
 pub each_selection : {X : Type 0} (P : List X → Type 0) (ds : List (List X)) → ((xs : List X) → IsSelection ds xs → P xs) → Each P (selections ds)
 each_selection P [] h = (h [] tt, tt)
 each_selection {X} P (choices ∷ rest) h =
-    each_flat_map P (λ (x : X). map (λ (xs : List X). x ∷ xs) (selections rest)) choices (λ x o. each_map P (λ (xs : List X). x ∷ xs) (selections rest) (each_selection (λ (xs : List X). P (x ∷ xs)) rest (λ xs s. h (x ∷ xs) (o, s))))
+    each_flat_map P (λ (x : X). map (λ (xs : List X). x ∷ xs) (selections rest)) choices (λ x o. each_mapped P (λ (xs : List X). x ∷ xs) (selections rest) (each_selection (λ (xs : List X). P (x ∷ xs)) rest (λ xs s. h (x ∷ xs) (o, s))))
 
 -- ---- tests
 
 pub every_true : {X : Type 0} (test : X → Bool) (xs : List X) → ((x : X) → OneOf (λ y. y ≡ x) xs → test x ≡ true) → list_all test xs ≡ true
 every_true test [] h = refl
-every_true test (x ∷ xs) h = both_hold (test x) (list_all test xs) (h x (inl refl)) (every_true test xs (λ y o. h y (inr o)))
-  where
-    both_hold : (a b : Bool) → a ≡ true → b ≡ true → a && b ≡ true
-    both_hold true b p q = q
-    both_hold false b p q = p
+every_true test (x ∷ xs) h = and_from (test x) (list_all test xs) (h x (inl refl)) (every_true test xs (λ y o. h y (inr o)))
 
 pub any_true : {X : Type 0} (test : X → Bool) (x : X) (xs : List X) → OneOf (λ y. y ≡ x) xs → test x ≡ true → list_any test xs ≡ true
 any_true test x [] o t = absurd o
-any_true test x (y ∷ ys) (inl e) t = left (test y) (list_any test ys) (ap test e ∙ t)
-  where
-    left : (a b : Bool) → a ≡ true → a || b ≡ true
-    left true b p = refl
-    left false b p = cc
-any_true test x (y ∷ ys) (inr o) t = right (test y) (list_any test ys) (any_true test x ys o t)
-  where
-    right : (a b : Bool) → b ≡ true → a || b ≡ true
-    right true b p = refl
-    right false b p = p
+any_true test x (y ∷ ys) (inl e) t = or_left (test y) (list_any test ys) (ap test e ∙ t)
+any_true test x (y ∷ ys) (inr o) t = or_right (test y) (list_any test ys) (any_true test x ys o t)
 
 pub stands_in_range : (a n m : ℕ) → a ≤ m → m < a + n → OneOf (λ k. k ≡ m) (range_with_len a n)
 stands_in_range a zero m low high = absurd (omega arith)
@@ -204,10 +185,6 @@ none_taken {X} n xs e = ap (take n) e ∙ none n
     none : (n : ℕ) → take {A = X} n [] ≡ []
     none zero = refl
     none (suc n) = refl
-
-pub emptied : {X : Type 0} (xs : List X) → length xs ≡ 0 → xs ≡ []
-emptied [] e = refl
-emptied (x ∷ xs) e = absurd (omega arith)
 
 pub tail_is : {X : Type 0} (xs : List X) → take (length xs - 1) (drop 1 xs) ≡ drop 1 xs
 tail_is xs = take_all (length xs - 1) (drop 1 xs) (let l = length-drop 1 xs in omega (arith, l))

@@ -1,15 +1,16 @@
 -- Masks as sets of positions: what they have, and which list they stand for.
-use Rattle.std.proofs.Common.{◌≡◌, ℕ, zero, suc, ◌+◌, ◌-◌, ◌*◌, ◌%◌, ◌^◌, ◌<◌, ◌≤◌, ◌⊎◌, inl, inr, List, [], ◌∷◌, Bool, true, false, not, ◌&&◌, ◌||◌, cond, min, max, filter, length, drop, get_or, add-one, drop-cons, nat_eq, bit_and, bit_or, arith, sym, refl, ap, ◌∙◌, subst, eqb-true}
+use Rattle.std.proofs.Common.{◌≡◌, ℕ, zero, suc, ◌+◌, ◌-◌, ◌*◌, ◌%◌, ◌^◌, ◌<◌, ◌≤◌, ◌⊎◌, inl, inr, List, [], ◌∷◌, Bool, true, false, not, ◌&&◌, ◌||◌, cond, filter, length, drop, get_or, nat_eq, bit_and, bit_or, arith, sym, refl, ap, ◌∙◌, subst, eqb-true}
 use Rattle.std.specs.Prelude.{slice_index}
 use Rattle.std.specs.Int.{bit_at}
 use Rattle.std.specs.List.Sorted.{IsStrictlyIncreasing}
 use Rattle.std.proofs.lemmas.Bool.{cases_Bool, cases_eq, cases_lt, both_ways, or_left, or_right, eq-eqb, ne_eqb, false_from_ne_true}
-use Rattle.std.proofs.lemmas.List.{drop_all}
+use Rattle.std.proofs.lemmas.List.{drop_all, drop_more}
 use Rattle.std.proofs.lemmas.Nat.{one_shl}
 use Rattle.std.proofs.lemmas.Nat.Bits.{bit_at-lt, bit_at_and, bit_at_or, bit_at_not, bit_at_ones, bit_at-zero, bit_at-pow_same, bit_at-pow_other, same_from_bits_below}
 use Rattle.std.specs.Int.{w32}
 use Rattle.buchi_core.specs.Forest.{IsPositionSet, has, places, is_filled}
 use Rattle.buchi_core.specs.View.{is_one, members}
+use Rattle.list_facts.proofs.Bits.{bit_and_min, bit_or_max}
 
 -- ---- places
 places_agree : (f g : ℕ → Bool) (i n : ℕ) → ((q : ℕ) → i ≤ q → q < i + n → f q ≡ g q) → places f i n ≡ places g i n
@@ -142,32 +143,16 @@ bit_cases zero l = inl refl
 bit_cases (suc zero) l = inr refl
 bit_cases (suc (suc x)) l = absurd (omega arith)
 
-small_and : (x y : ℕ) → x < 2 → y < 2 → nat_eq (min x y) 1 ≡ (nat_eq x 1 && nat_eq y 1)
-small_and zero zero a b = refl
-small_and zero (suc zero) a b = refl
-small_and (suc zero) zero a b = refl
-small_and (suc zero) (suc zero) a b = refl
-small_and (suc (suc x)) y a b = absurd (omega arith)
-small_and x (suc (suc y)) a b = absurd (omega arith)
-
-small_or : (x y : ℕ) → x < 2 → y < 2 → nat_eq (max x y) 1 ≡ (nat_eq x 1 || nat_eq y 1)
-small_or zero zero a b = refl
-small_or zero (suc zero) a b = refl
-small_or (suc zero) zero a b = refl
-small_or (suc zero) (suc zero) a b = refl
-small_or (suc (suc x)) y a b = absurd (omega arith)
-small_or x (suc (suc y)) a b = absurd (omega arith)
-
 small_not : (x : ℕ) → x < 2 → nat_eq (1 - x) 1 ≡ not (nat_eq x 1)
 small_not zero a = refl
 small_not (suc zero) a = refl
 small_not (suc (suc x)) a = absurd (omega arith)
 
 pub one_and : (a b q : ℕ) → is_one (bit_and a b) q ≡ (is_one a q && is_one b q)
-one_and a b q = ap (λ x. nat_eq x 1) (bit_at_and a b q) ∙ small_and (bit_at a q) (bit_at b q) (bit_at-lt a q) (bit_at-lt b q)
+one_and a b q = ap (λ x. nat_eq x 1) (bit_at_and a b q) ∙ bit_and_min (bit_at a q) (bit_at b q) (bit_at-lt a q) (bit_at-lt b q)
 
 pub one_or : (a b q : ℕ) → is_one (bit_or a b) q ≡ (is_one a q || is_one b q)
-one_or a b q = ap (λ x. nat_eq x 1) (bit_at_or a b q) ∙ small_or (bit_at a q) (bit_at b q) (bit_at-lt a q) (bit_at-lt b q)
+one_or a b q = ap (λ x. nat_eq x 1) (bit_at_or a b q) ∙ bit_or_max (bit_at a q) (bit_at b q) (bit_at-lt a q) (bit_at-lt b q)
 
 pub one_not : (m q : ℕ) → m < 2 ^ 32 → q < 32 → is_one (4294967295 - m) q ≡ not (is_one m q)
 one_not m q f l = ap (λ x. nat_eq x 1) (bit_at_not w32 m q f l) ∙ small_not (bit_at m q) (bit_at-lt m q)
@@ -211,11 +196,11 @@ same_members a b la lb e = same_mask a b la lb (λ q l. sym (has_members a q l) 
 pub no_ones : (m : ℕ) → m < 2 ^ 32 → ((q : ℕ) → q < 32 → is_one m q ≡ false) → m ≡ 0
 no_ones m l h = same_mask m 0 l (omega arith) (λ q k. h q k ∙ sym (one_zero q))
 
-first_of : (xs : List ℕ) → is_filled xs ≡ true → (q : ℕ) × (has xs q ≡ true)
-first_of [] h = absurd (both_ways false refl h)
-first_of (x ∷ xs) h = (x, or_left (nat_eq x x) (has xs x) (eq-eqb x x refl))
+pub filled_has : (xs : List ℕ) → is_filled xs ≡ true → (q : ℕ) × (has xs q ≡ true)
+filled_has [] h = absurd (both_ways false refl h)
+filled_has (x ∷ xs) h = (x, or_left (nat_eq x x) (has xs x) (eq-eqb x x refl))
 
-has_filled : (xs : List ℕ) (q : ℕ) → has xs q ≡ true → is_filled xs ≡ true
+pub has_filled : (xs : List ℕ) (q : ℕ) → has xs q ≡ true → is_filled xs ≡ true
 has_filled [] q h = absurd (both_ways false refl h)
 has_filled (x ∷ xs) q h = refl
 
@@ -224,7 +209,7 @@ pub filled_mask : (m : ℕ) → m < 2 ^ 32 → is_filled (members m) ≡ not (na
 filled_mask m l =
     elim (cases_Bool (is_filled (members m))) [
       | inl y ↦
-          (let x = first_of (members m) y in
+          (let x = filled_has (members m) y in
           let o = member_is m x.0 x.1 in
           let ne : nat_eq m 0 ≡ false = ne_eqb m 0 (λ e. both_ways (is_one m x.0) (ap (λ z. is_one z x.0) e ∙ one_zero x.0) o.1) in
           y ∙ sym (ap not ne))
@@ -242,14 +227,11 @@ pub or_none : (a : Bool) → (a || false) ≡ a
 or_none true = refl
 or_none false = refl
 
-drop_step : {X : Type 0} (xs : List X) (i : ℕ) (d : X) → i < length xs → drop i xs ≡ get_or xs i d ∷ drop (i + 1) xs
-drop_step xs i d h = rw (add-one, drop-cons xs i d)
-
 pub position_more : (ps : List ℕ) (mask bit i q d : ℕ) → i < length ps → is_one bit q ≡ nat_eq (get_or ps i d) q → (is_one mask q || has (drop i ps) q) ≡ has ps q → (is_one (bit_or mask bit) q || has (drop (i + 1) ps) q) ≡ has ps q
 position_more ps mask bit i q d l b h =
     or_more (is_one mask q) (nat_eq (get_or ps i d) q) (is_one (bit_or mask bit) q) (has (drop (i + 1) ps) q) (has ps q)
     (one_or mask bit q ∙ ap (λ z. is_one mask q || z) b)
-    (subst (λ (z : List ℕ). (is_one mask q || has z q) ≡ has ps q) (drop_step ps i d l) h)
+    (subst (λ (z : List ℕ). (is_one mask q || has z q) ≡ has ps q) (drop_more ps i d l) h)
 
 pub position_end : (ps : List ℕ) (mask i q : ℕ) → length ps ≤ i → (is_one mask q || has (drop i ps) q) ≡ has ps q → is_one mask q ≡ has ps q
 position_end ps mask i q l h =

@@ -1,5 +1,5 @@
 -- What a step drops, keeps and turns green, and the bounds after it.
-use Rattle.std.proofs.Common.{◌≡◌, ℕ, zero, suc, ◌+◌, ◌<◌, ◌≤◌, ◌⊎◌, inl, inr, List, [], ◌∷◌, arith, Bool, true, false, cond, ◌&&◌, ◌||◌, not, Option, Some, None, slice_get, length, sym, refl, ap, ◌∙◌, subst, eqb-true, ltb, get_or}
+use Rattle.std.proofs.Common.{◌≡◌, ℕ, zero, suc, ◌+◌, ◌<◌, ◌≤◌, ◌⊎◌, inl, inr, List, [], arith, Bool, true, false, cond, ◌&&◌, ◌||◌, not, Option, Some, None, slice_get, length, sym, refl, ap, ◌∙◌, subst, eqb-true, ltb, get_or}
 use Rattle.std.proofs.lemmas.Bool.{cases_Bool, cases_eq, and_parts, not-true, or_parts, ltb-true, cond-true, cond-false, not_from_false, and_from, and_left, and_right, lt-ltb, not_from_true}
 use Rattle.std.proofs.lemmas.Option.{slice_get_within, get_or_from_slice_get}
 use Rattle.buchi_core.specs.Forest.{Pair}
@@ -7,10 +7,12 @@ use Rattle.buchi_core.proofs.Bounds.{Falls}
 use Rattle.buchi_core.specs.declared.event.Event.{Event}
 use Rattle.buchi_core.specs.declared.event.Event.TheVariants.{Dies, Green, Nothing}
 use Rattle.buchi_core.specs.Forest.{Entry, every, has, grown, same_parent, before_drop, is_filled, set_at, set_of, is_full, is_lost, losses, lost_below, is_set, is_kept, is_green, child_has, places, rank, settled, settle, renumbered, parent_of, event_from, next_forest, event_of}
-use Rattle.buchi_core.proofs.Lists.{get_within, any_at, ScanAt, scan_at, every_has}
+use Rattle.buchi_core.proofs.Lists.{any_at, ScanAt, scan_at, every_has}
 use Rattle.buchi_core.proofs.Places.{bad_false, places_pass, places_rank, place_is_rank, rank_all, rank_less}
 use Rattle.buchi_core.proofs.Grown.{get_map, length_moved, length-trim, length-grown}
-use Rattle.buchi_core.proofs.Bounds.{Within, peak, peak_above, peak_below, Stages, stages_at, has_first}
+use Rattle.buchi_core.proofs.Bounds.{Within, peak, peak_above, peak_below, Stages, stages_at}
+use Rattle.buchi_core.proofs.Bits.{filled_has, has_filled}
+use Rattle.list_facts.proofs.Places.{get_within}
 
 -- an entry with a parent is lost exactly where the parent is full or lost
 pub lost_at : (entries : List Entry) (i p : ℕ) (e : Entry) → slice_get entries i ≡ Some e → e.parent ≡ Some p → p < i → is_lost entries i ≡ (is_full entries p || is_lost entries p)
@@ -42,14 +44,6 @@ green_parts entries i h = let r = and_parts (is_full entries i) (not (is_lost en
 
 pub full_parts : (entries : List Entry) (i : ℕ) → is_full entries i ≡ true → (is_filled (set_at entries i) ≡ true) × (every (child_has entries i) (set_at entries i) ≡ true)
 full_parts entries i h = and_parts (is_filled (set_at entries i)) (every (child_has entries i) (set_at entries i)) h
-
-pub filled_has : (s : List ℕ) → is_filled s ≡ true → (q : ℕ) × (has s q ≡ true)
-filled_has [] h = absurd (bad_false h)
-filled_has (q ∷ s) h = (q, has_first q s)
-
-pub has_filled : (s : List ℕ) (q : ℕ) → has s q ≡ true → is_filled s ≡ true
-has_filled [] q h = absurd (bad_false h)
-has_filled (x ∷ s) q h = refl
 
 pub same_parent_is : (o : Option ℕ) (p : ℕ) → same_parent o (Some p) ≡ true → o ≡ Some p
 same_parent_is None p h = absurd (bad_false h)

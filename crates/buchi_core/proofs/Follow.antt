@@ -6,10 +6,12 @@ use Rattle.buchi_core.specs.Forest.{Pair}
 use Rattle.buchi_core.specs.declared.event.Event.{Event}
 use Rattle.buchi_core.specs.declared.event.Event.TheVariants.{Dies, Green, Nothing}
 use Rattle.buchi_core.specs.Forest.{Entry, has, leads, successors, progressing, moved, children, top, grown, trim, before_drop, is_filled, is_full, is_lost, losses, lost_below, is_set, is_kept, is_green, places, rank, settled, settle, renumbered, parent_of, next_forest, event_of}
-use Rattle.buchi_core.proofs.Lists.{get_within, get_one, get_append_left, get_append_right, at_any, filter_has, ScanAt, scan_at}
+use Rattle.buchi_core.proofs.Lists.{get_one, get_append_right, at_any, filter_has, ScanAt, scan_at}
 use Rattle.buchi_core.proofs.Places.{places_rank, rank_all, rank_less}
 use Rattle.buchi_core.proofs.Grown.{trim_at, InParent, length-trim, length_moved, length-children, get_children}
-use Rattle.buchi_core.proofs.Drop.{lost_at, kept_parts, kept_from, has_filled, set_at_is, settled_at, renumbered_is, event_facts, IsBefore}
+use Rattle.buchi_core.proofs.Drop.{lost_at, kept_parts, kept_from, set_at_is, settled_at, renumbered_is, event_facts, IsBefore}
+use Rattle.buchi_core.proofs.Bits.{has_filled}
+use Rattle.list_facts.proofs.Places.{get_within, get_append_left}
 
 abbrev pub In : List Entry → Option ℕ → ℕ → Type 0
 In forest None q = Unit {0}

@@ -6,11 +6,12 @@ use Rattle.buchi_core.specs.Forest.{Pair}
 use Rattle.buchi_core.specs.declared.event.Event.{Event}
 use Rattle.buchi_core.specs.declared.event.Event.TheVariants.{Dies, Green, Nothing}
 use Rattle.buchi_core.specs.Forest.{Entry, has, leads, successors, progressing, grown, before_drop, set_at, is_full, is_kept, child_has, rank, next_forest, event_of}
-use Rattle.buchi_core.proofs.Lists.{get_within, any_at, has_filter, every_has}
+use Rattle.buchi_core.proofs.Lists.{any_at, has_filter, every_has}
 use Rattle.buchi_core.proofs.Places.{rank_all}
 use Rattle.buchi_core.proofs.Grown.{grown_cases, trim_at, get_filter, length-trim, length-grown}
 use Rattle.buchi_core.proofs.Drop.{kept_parts, green_parts, full_parts, set_at_is, settled_at, renumbered_is, EventFacts, event_facts, IsBefore, child_at, not_lost}
 use Rattle.buchi_core.proofs.Follow.{In, ChildIn, rank_one, parent_kept_too, settle_get}
+use Rattle.list_facts.proofs.Places.{get_within}
 
 -- no earlier than the green event at k
 abbrev pub IsFromGreen : ℕ → Event → Type 0

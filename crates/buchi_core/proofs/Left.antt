@@ -2,7 +2,7 @@
 use Rattle.std.proofs.Common.{◌≡◌, ℕ, zero, suc, ◌-◌, ◌^◌, ◌<◌, ◌≤◌, inl, inr, List, [], ◌∷◌, ◌++◌, Bool, true, false, not, ◌&&◌, ◌||◌, Option, None, Some, length, slice_get, get_or, set, replicate, nat_eq, bit_and, arith, sym, refl, ap, ◌∙◌, length-append}
 use Rattle.std.specs.List.{list_any}
 use Rattle.std.proofs.lemmas.Bool.{cases_eq, cases_lt, cases_order, and_left, and_right, eq-eqb, ne_eqb}
-use Rattle.std.proofs.lemmas.List.{get_or-set_same, get_or-set_other, length-map, length-set}
+use Rattle.std.proofs.lemmas.List.{get_or-set_same, get_or-set_other, length-map, length-set, map_push}
 use Rattle.std.proofs.lemmas.List.Folds.{list_any-append}
 use Rattle.arrayvec.specs.ArrayVec.{ArrayVec}
 use Rattle.buchi_core.specs.Forest.{Entry as AgeEntry, has, same_parent, entry_has, stays, trimmed, scan_from}
@@ -10,8 +10,10 @@ use Rattle.buchi_core.specs.declared.entry.Entry.{Entry}
 use Rattle.buchi_core.specs.declared.young.Young.{Young}
 use Rattle.buchi_core.specs.View.{is_one, members, entry_of, entries_of}
 use Rattle.buchi_core.specs.Young.{AreLeft, left_of, made}
-use Rattle.buchi_core.proofs.Lists.{get_within, get_append_left, get_append_right}
+use Rattle.buchi_core.proofs.Lists.{get_append_right}
 use Rattle.buchi_core.proofs.Bits.{has_members, has_members_not, members_filter, one_and, one_not, one_zero, one_all}
+use Rattle.std.proofs.lemmas.Option.{slice_get_past}
+use Rattle.list_facts.proofs.Places.{get_within, get_append_left}
 
 -- ---- tests
 and_true : (a : Bool) → a ≡ (a && true)
@@ -29,12 +31,6 @@ neither false s = refl
 inside_neither : (h a s : Bool) → ((h && not a) && not s) ≡ (h && not (a || s))
 inside_neither true a s = neither a s
 inside_neither false a s = refl
-
--- ---- places past the end
-get_past : {X : Type 0} (xs : List X) (i : ℕ) → length xs ≤ i → slice_get xs i ≡ None
-get_past [] i l = refl
-get_past (x ∷ xs) zero l = absurd (omega arith)
-get_past (x ∷ xs) (suc i) l = get_past xs i (omega arith)
 
 or_past : (xs : List ℕ) (i : ℕ) → length xs ≤ i → get_or xs i 0 ≡ 0
 or_past [] i l = refl
@@ -101,7 +97,7 @@ give_far old r k w (Some p) q l =
 -- ---- one entry more
 module _ (made_so_far : List AgeEntry) (parent : Option ℕ) (given kept : ℕ) (keeps : (q : ℕ) → q < 32 → is_one kept q ≡ (is_one given q && stays made_so_far parent q)) where
   stays_past : (p q : ℕ) → length made_so_far ≤ p → stays made_so_far (Some p) q ≡ false
-  stays_past p q l = ap (λ (o : Option AgeEntry). entry_has o q && not (list_any (λ e. same_parent e.parent (Some p) && has e.set q) made_so_far)) (get_past made_so_far p l)
+  stays_past p q l = ap (λ (o : Option AgeEntry). entry_has o q && not (list_any (λ e. same_parent e.parent (Some p) && has e.set q) made_so_far)) (slice_get_past made_so_far p l)
 
   no_self : (o : Option ℕ) → parent ≡ o → (p q : ℕ) → length made_so_far ≤ p → q < 32 → (same_parent o (Some p) && is_one kept q) ≡ false
   no_self None e p q l k = refl
@@ -158,7 +154,7 @@ module _ (made_so_far : List AgeEntry) (parent : Option ℕ) (given kept : ℕ) 
   pub past_more : (p q : ℕ) → length made_so_far < p → (stays made_so_far (Some p) q && not (same_parent parent (Some p) && is_one kept q)) ≡ stays (made_so_far ++ (record { parent = parent; set = members kept } ∷ [])) (Some p) q
   past_more p q k =
       let gone : slice_get (made_so_far ++ (record { parent = parent; set = members kept } ∷ [])) p ≡ None =
-      get_past (made_so_far ++ (record { parent = parent; set = members kept } ∷ [])) p (omega (arith, k, length-append made_so_far (record { parent = parent; set = members kept } ∷ []))) in
+      slice_get_past (made_so_far ++ (record { parent = parent; set = members kept } ∷ [])) p (omega (arith, k, length-append made_so_far (record { parent = parent; set = members kept } ∷ []))) in
       and_left (stays made_so_far (Some p) q) (not (same_parent parent (Some p) && is_one kept q)) (stays_past p q (omega (arith, k))) ∙
       sym (ap (λ (o : Option AgeEntry). entry_has o q && not (list_any (λ (e : AgeEntry). same_parent e.parent (Some p) && has e.set q) (made_so_far ++ (record { parent = parent; set = members kept } ∷ [])))) gone)
 
@@ -184,11 +180,7 @@ module _ (old given new : Young) (parent : Option ℕ) (mask kept : ℕ) (e : En
   items_are = p.items ∙ ap (λ (v : ArrayVec Entry). v.items ++ (e ∷ [])) p.same
 
   made_is : made new ≡ made old ++ (record { parent = parent; set = members kept } ∷ [])
-  made_is = ap entries_of items_are ∙ (map_push old.entries.items e ∙ ap (λ (x : AgeEntry). made old ++ (x ∷ [])) (λ i. record { parent = p.parent_is i; set = members (p.set_is i) }))
-    where
-      map_push : (xs : List Entry) (x : Entry) → entries_of (xs ++ (x ∷ [])) ≡ entries_of xs ++ (entry_of x ∷ [])
-      map_push [] x = refl
-      map_push (y ∷ xs) x = ap (λ (z : List AgeEntry). entry_of y ∷ z) (map_push xs x)
+  made_is = ap entries_of items_are ∙ (map_push entry_of old.entries.items e ∙ ap (λ (x : AgeEntry). made old ++ (x ∷ [])) (λ i. record { parent = p.parent_is i; set = members (p.set_is i) }))
 
   pub push_made : made new ≡ made old ++ (trimmed (made old) (record { parent = parent; set = members mask }) ∷ [])
   push_made = made_is ∙ ap (λ (z : List ℕ). made old ++ (record { parent = parent; set = z } ∷ [])) (members_filter kept mask (stays (made old) parent) keeps)

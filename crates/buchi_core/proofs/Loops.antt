@@ -1,7 +1,7 @@
 -- One turn of the loops over places.
 use Rattle.std.proofs.Common.{◌≡◌, ℕ, suc, ◌+◌, ◌-◌, ◌<◌, List, [], ◌∷◌, ◌++◌, map, Bool, true, false, Some, slice_get, length, arith, sym, refl, ap, ◌∙◌, append_assoc, length-append, option_map, get_or}
 use Rattle.std.proofs.lemmas.Bool.{cond-true, cond-false}
-use Rattle.std.proofs.lemmas.List.{length-map}
+use Rattle.std.proofs.lemmas.List.{length-map, map_push}
 use Rattle.std.proofs.lemmas.Option.{slice_get-map, slice_get_read}
 use Rattle.buchi_core.specs.Forest.{Entry as AgeEntry, is_kept, is_green, event_from, places, settled, renumbered, set_of, parent_of}
 use Rattle.buchi_core.specs.declared.entry.Entry.{Entry}
@@ -32,10 +32,6 @@ settled_item entries i e h =
     let g : slice_get (entries_of entries) i ≡ Some (entry_of e) = slice_get-map entry_of entries i ∙ ap (option_map entry_of) h in
     ap (λ o. record { parent = renumbered (is_kept (entries_of entries)) (parent_of o); set = set_of o }) g
 
-map_push : (xs : List Entry) (e : Entry) → entries_of (xs ++ (e ∷ [])) ≡ entries_of xs ++ (entry_of e ∷ [])
-map_push [] e = refl
-map_push (x ∷ xs) e = ap (λ (z : List AgeEntry). entry_of x ∷ z) (map_push xs e)
-
 -- a turn of the drop's loop at an entry that stays, and at one that doesn't
 pub turn_kept : (entries old next : List Entry) (e item : Entry) (i j : ℕ) (whole : List AgeEntry) → j < length entries → i ≡ j → item ≡ get_or entries j item → next ≡ old ++ (e ∷ []) →
     e.parent ≡ renumbered (is_kept (entries_of entries)) item.parent → e.set ≡ item.set → is_kept (entries_of entries) i ≡ true →
@@ -45,7 +41,7 @@ turn_kept entries old next e item i j whole l same at push parent set kept so_fa
     let l' : i < length entries = omega arith in
     let g : slice_get entries i ≡ Some item = slice_get_read entries (length entries) i item refl l' (at ∙ ap (λ x. get_or entries x item) (sym same)) in
     let s : settled (entries_of entries) i ≡ entry_of e = settled_item entries i item g ∙ (λ d. record { parent = sym parent d; set = members (sym set d) }) in
-    let items : entries_of next ≡ entries_of old ++ (settled (entries_of entries) i ∷ []) = ap entries_of push ∙ (map_push old e ∙ ap (λ (x : AgeEntry). entries_of old ++ (x ∷ [])) (sym s)) in
+    let items : entries_of next ≡ entries_of old ++ (settled (entries_of entries) i ∷ []) = ap entries_of push ∙ (map_push entry_of old e ∙ ap (λ (x : AgeEntry). entries_of old ++ (x ∷ [])) (sym s)) in
     ap (λ (z : List AgeEntry). z ++ map (settled (entries_of entries)) (places (is_kept (entries_of entries)) (i + 1) (length entries - (i + 1)))) items ∙
     (place_more (settled (entries_of entries)) (is_kept (entries_of entries)) (entries_of old) i (length entries) l' kept ∙ so_far)
 

@@ -3,10 +3,10 @@ use Rattle.std.proofs.Common.{◌≡◌, ℕ, ◌<◌, inl, inr, List, [], ◌�
 use Rattle.trace_pairs.specs.Graph.{Node}
 use Rattle.trace_pairs.specs.Lasso.{AllProgress}
 use Rattle.trace_pairs.specs.Graph.{IsGraph}
-use Rattle.trace_pairs.proofs.Grow.{get_left, get_end, get_push_cases}
+use Rattle.trace_pairs.proofs.Grow.{get_end, get_push_cases}
 use Rattle.trace_pairs.specs.declared.lasso.Step.{Step}
 use Rattle.buchi_core.specs.declared.event.Event.{Event}
-use Rattle.buchi_core.proofs.Lists.{get_within, get_one}
+use Rattle.buchi_core.proofs.Lists.{get_one}
 use Rattle.buchi_inclusion.specs.declared.product.Transition.{Transition}
 use Rattle.buchi_inclusion.specs.declared.decision.BadMove.{BadMove}
 use Rattle.buchi_inclusion.specs.Product.{State, Moves, Run, BadCycle}
@@ -16,6 +16,7 @@ use Rattle.buchi_inclusion.specs.BadMoves.{IsBadMove}
 use Rattle.buchi_inclusion.proofs.Runs.{over_run, each_append}
 use Rattle.buchi_inclusion.proofs.Exact.{exact, run_append}
 use Rattle.buchi_inclusion.proofs.Deciding.{bad_is}
+use Rattle.list_facts.proofs.Places.{get_within, get_append_left}
 
 -- there is no way where there is one
 pub way_or_none : (g : List Node) (states : List State) (least : Event) (from to : ℕ) → HasWay g states least from to → IsNoWay g states least from to → ⊥
@@ -56,7 +57,7 @@ led_first g states least from places more within none are =
 -- the last place, and those before it
 pub led_parts : (g : List Node) (states : List State) (least : Event) (from place : ℕ) (places less : List ℕ) → AreLed g states least from places → places ≡ less ++ (place ∷ []) → AreLed g states least from less × HasWay g states least from place
 led_parts g states least from place places less led are = (
-  (λ i x at. led i x (subst (λ xs. slice_get xs i ≡ Some x) (sym are) (get_left less (place ∷ []) i x at))),
+  (λ i x at. led i x (subst (λ xs. slice_get xs i ≡ Some x) (sym are) (get_append_left less (place ∷ []) i x at))),
   led (length less) place (subst (λ xs. slice_get xs (length less) ≡ Some place) (sym are) (get_end less place)),
 )
 

@@ -10,16 +10,17 @@ use Rattle.buchi_core.specs.declared.event.Event.{Event}
 use Rattle.buchi_core.specs.declared.event.Event.TheVariants.{Dies, Green, Nothing}
 use Rattle.buchi_core.specs.Forest.{is_earlier, before_drop}
 use Rattle.buchi_core.proofs.Drop.{event_facts}
-use Rattle.buchi_core.proofs.Lists.{get_within, get_one}
+use Rattle.buchi_core.proofs.Lists.{get_one}
 use Rattle.buchi_inclusion.specs.declared.product.Transition.{Transition}
 use Rattle.buchi_inclusion.specs.Product.{State, Moves, Over, Each, IsFrom, IsNothing, IsBad, BadCycle}
 use Rattle.buchi_inclusion.specs.Answers.{LeastFirst}
 use Rattle.buchi_inclusion.specs.Table.{IsStep, IsItem, IsTable}
 use Rattle.buchi_inclusion.specs.Decision.{IsLeast, IsAtLeast, IsWalk, IsNoWay, IsWay, AreWays, IsWayBetween, IsCounter, IsGoodClass, AreNoWays}
-use Rattle.buchi_inclusion.proofs.Runs.{over_path}
+use Rattle.buchi_inclusion.proofs.Runs.{over_path, each_weaker, over_taken}
 use Rattle.buchi_inclusion.proofs.Progressing.{not_bad}
 use Rattle.buchi_inclusion.proofs.Exact.{least_first}
 use Rattle.buchi_inclusion.proofs.Tables.{move_at, all_reached, begin_at}
+use Rattle.list_facts.proofs.Places.{get_within}
 
 pub between_none : (g : List Node) (states : List State) (least : Event) (start : ℕ) (visits : List Visit) (at : ℕ) (v : Visit) → AreWays g states least start visits → slice_get visits at ≡ Some v → IsWayBetween g states least visits at at []
 between_none g states least start visits at v w h =
@@ -75,15 +76,11 @@ nothing_at_least (Dies i) h = absurd (let x : Dies i ≡ Nothing = h in cc)
 nothing_at_least (Green i) h = absurd (let x : Green i ≡ Nothing = h in cc)
 nothing_at_least Nothing h = refl
 
-each_map : (P Q : Event → Type 0) → ((e : Event) → P e → Q e) → (events : List Event) → Each P events → Each Q events
-each_map P Q f [] h = tt
-each_map P Q f (e ∷ events) h = (f e h.0, each_map P Q f events h.1)
-
 -- a cycle that begins with its least event is bad
 pub bad_is : (least event : Event) (events : List Event) → IsLeast least → event ≡ least → Each (IsAtLeast least) events → IsBad (event ∷ events)
-bad_is (Dies k) event events l e h = inr (k, inl e, (subst (IsFrom k) (sym e) (le_refl k), each_map (IsAtLeast (Dies k)) (IsFrom k) (at_least_from k) events h))
+bad_is (Dies k) event events l e h = inr (k, inl e, (subst (IsFrom k) (sym e) (le_refl k), each_weaker (IsAtLeast (Dies k)) (IsFrom k) (at_least_from k) events h))
 bad_is (Green k) event events l e h = absurd l
-bad_is Nothing event events l e h = inl (e, each_map (IsAtLeast Nothing) IsNothing at_least_nothing events h)
+bad_is Nothing event events l e h = inl (e, each_weaker (IsAtLeast Nothing) IsNothing at_least_nothing events h)
 
 -- two events of which neither is earlier are one
 pub tied : (a b : Event) → is_earlier a b ≡ false → is_earlier b a ≡ false → a ≡ b
@@ -98,10 +95,6 @@ tied (Dies i) (Green j) p q = let a = not_leb i j p in let b = not_ltb j i q in 
 tied (Green i) (Dies j) p q = let a = not_leb j i q in let b = not_ltb i j p in absurd (omega arith)
 
 module _ (g : List Node) (states : List State) (rows : List (Vec Transition Global)) (t : IsTable g states rows) (graph : IsGraph g) where
-  over_taken : (s u : State) (steps : List Step) (event : Event) (events : List Event) → Over g s u steps (event ∷ events) → 0 < length steps
-  over_taken s u [] event events o = absurd o
-  over_taken s u (step ∷ steps) event events o = omega arith
-
   pub counter_is : (least : Event) (q k : ℕ) (m : Transition) (s : State) (step : Step) (stem back : List Step) → IsLeast least → IsItem g states q k m → m.event ≡ least → slice_get states q ≡ Some s → step.node ≡ s.node → step.edge ≡ k →
       IsWalk g states least m.target q back → IsWalk g states (Dies 0) 0 q stem → IsCounter g (record { stem = stem; cycle = step ∷ back })
   counter_is least q k m s step stem back l item e is_s node edge b a =
@@ -123,7 +116,7 @@ module _ (g : List Node) (states : List State) (rows : List (Vec Transition Glob
           first = s.node;
           stem = subst (λ v. IsPath g v stem s.node) zero' (subst (λ (x : State). IsPath g a.s.node stem x.node) at path);
           cycle = over_path g s s (step ∷ back) (m.event ∷ b.events) over;
-          taken = over_taken s s (step ∷ back) m.event b.events over;
+          taken = over_taken g s s (step ∷ back) m.event b.events over;
         };
         stuck = λ p. not_bad g graph.fit s (step ∷ back) (m.event ∷ b.events) p.k p.position over (bad_is least m.event b.events l e b.ok) p.trace;
       }
@@ -142,11 +135,11 @@ module _ (g : List Node) (states : List State) (rows : List (Vec Transition Glob
   all_good quiet deaths bad =
       let l = least_first g bad in
       elim l.least [
-        | inl q ↦ no_first Nothing quiet l q.0 (each_map IsNothing (IsAtLeast Nothing) nothing_at_least l.events q.1)
+        | inl q ↦ no_first Nothing quiet l q.0 (each_weaker IsNothing (IsAtLeast Nothing) nothing_at_least l.events q.1)
         | inr d ↦ (
             let q = (all_reached g states rows t).all' l.s l.reachable in
             let below : d.0 < length l.s.forest = death_below l.s l.t d.0 (subst (Moves g l.s l.t) d.1 l.move) in
-            no_first (Dies d.0) (deaths d.0 (omega (arith, below, (t.found q.0 l.s q.1).short))) l d.1 (each_map (IsFrom d.0) (IsAtLeast (Dies d.0)) (from_at_least d.0) l.events d.2))
+            no_first (Dies d.0) (deaths d.0 (omega (arith, below, (t.found q.0 l.s q.1).short))) l d.1 (each_weaker (IsFrom d.0) (IsAtLeast (Dies d.0)) (from_at_least d.0) l.events d.2))
       ]
 
   all_from_zero : (events : List Event) → Each (IsAtLeast (Dies 0)) events

@@ -8,11 +8,12 @@ use Rattle.buchi_core.specs.declared.event.Event.TheVariants.{Dies, Green, Nothi
 use Rattle.buchi_core.specs.Forest.{Entry, next_forest, event_of, start, top, has}
 use Rattle.buchi_inclusion.specs.Product.{State, Moves, Run, IsFrom, IsNothing, Each, BadCycle, IsClosed, Reachable}
 use Rattle.buchi_inclusion.proofs.Measures.{LowerBy, by_measures}
-use Rattle.buchi_core.proofs.Lists.{get_within, get_one}
+use Rattle.buchi_core.proofs.Lists.{get_one}
 use Rattle.buchi_core.proofs.Places.{bad_false}
 use Rattle.buchi_core.proofs.Bounds.{Within, peak, peak_above}
 use Rattle.buchi_core.proofs.Drop.{Stepped, stepped}
 use Rattle.buchi_core.proofs.Counting.{unseen, seen_too, unseen_less}
+use Rattle.list_facts.proofs.Places.{get_within}
 
 -- a path that began with an event, all its events being of a class
 pub record Since (g : List Node) (Ok : Event → Type 0) (first : Event) (s t : State) : Type 0 where

@@ -9,13 +9,14 @@ use Rattle.buchi_inclusion.specs.Product.{State, Moves, Run, Each, Occurs, IsFro
 use Rattle.trace_pairs.specs.Graph.{IsGraph}
 use Rattle.trace_pairs.specs.Lasso.{AllProgress}
 use Rattle.buchi_inclusion.specs.Answers.{AreReached, AreAllReached, HasAtMost, HasMoreThan, LeastFirst}
-use Rattle.buchi_core.proofs.Lists.{get_within, get_one}
+use Rattle.buchi_core.proofs.Lists.{get_one}
 use Rattle.buchi_inclusion.proofs.Descent.{descends}
 use Rattle.buchi_inclusion.proofs.Runs.{each_append}
 use Rattle.buchi_inclusion.proofs.Progressing.{good_from_lassos}
 use Rattle.buchi_inclusion.proofs.Lassos.{progresses}
 use Rattle.buchi_inclusion.proofs.Universe.{closed_universe, states_from}
 use Rattle.buchi_core.proofs.Entries.{injective_le}
+use Rattle.list_facts.proofs.Places.{get_within}
 
 pub exact : (g : List Node) → IsGraph g → AllProgress g ↔ (BadCycle g → ⊥)
 exact g i = (good_from_lassos g i.fit, (λ good. progresses g (states_from 0 g) (closed_universe g i.root i.is_root) i.targets good))

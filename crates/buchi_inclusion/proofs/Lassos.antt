@@ -11,26 +11,24 @@ use Rattle.trace_pairs.specs.declared.lasso.Step.{Step}
 use Rattle.trace_pairs.specs.Walk.{Walk}
 use Rattle.trace_pairs.specs.Lasso.{IsPath, IsLasso, Trace, turns, Progresses}
 use Rattle.buchi_inclusion.specs.Product.{MovesBy, Over}
-use Rattle.buchi_core.proofs.Lists.{get_within, get_one}
+use Rattle.buchi_core.proofs.Lists.{get_one}
 use Rattle.buchi_inclusion.proofs.Descent.{reach_more}
-use Rattle.buchi_core.proofs.Drop.{settled_at, kept_parts, set_at_is, filled_has}
+use Rattle.buchi_core.proofs.Drop.{settled_at, kept_parts, set_at_is}
 use Rattle.buchi_core.proofs.Follow.{In}
 use Rattle.buchi_core.proofs.Green.{IsFromGreen}
-use Rattle.buchi_inclusion.proofs.Runs.{over_run, over_append}
+use Rattle.buchi_inclusion.proofs.Runs.{over_run, over_append, each_weaker}
 use Rattle.buchi_core.proofs.Bounds.{peak, peak_above}
 use Rattle.buchi_inclusion.proofs.Returning.{two_turns, green_lives}
 use Rattle.trace_pairs.proofs.Traces.{trace_first}
 use Rattle.buchi_core.proofs.Pigeonhole.{pigeonhole}
+use Rattle.buchi_core.proofs.Bits.{filled_has}
+use Rattle.list_facts.proofs.Places.{get_within}
 
 -- the least event of a list is bad, or green
 pub record LeastGreen (events : List Event) : Type 0 where
   pub k : ℕ
   pub occurs : Occurs (Green k) events
   pub from : Each (IsFromGreen k) events
-
-each_weaker : (P Q : Event → Type 0) → ((event : Event) → P event → Q event) → (events : List Event) → Each P events → Each Q events
-each_weaker P Q f [] e = tt
-each_weaker P Q f (event ∷ events) e = (f event e.0, each_weaker P Q f events e.1)
 
 nothing_is_from : (k : ℕ) (event : Event) → IsNothing event → IsFrom k event
 nothing_is_from k event e = subst (IsFrom k) (sym e) tt

@@ -12,7 +12,7 @@ use Rattle.trace_pairs.specs.Walk.{Walk}
 use Rattle.trace_pairs.specs.Lasso.{IsPath, IsLasso, Joins, Trace, turns, Progresses}
 use Rattle.buchi_inclusion.specs.Product.{MovesBy, Over}
 use Rattle.trace_pairs.specs.Graph.{PairsFit}
-use Rattle.buchi_inclusion.proofs.Runs.{edge_one, run_steps, over_path, over_turns, repeated, bad_repeated}
+use Rattle.buchi_inclusion.proofs.Runs.{edge_one, run_steps, over_path, over_turns, repeated, bad_repeated, over_taken}
 use Rattle.buchi_core.proofs.Follow.{In, ChildIn, IsAbove, AboveOf, OlderThan, NoDeath, Followed, step_follow, step_enter, step_cover, next_apart, next_older}
 
 -- a step of the product with a pair, after which entry o has the position
@@ -261,10 +261,6 @@ module _ (g : List Node) (fit : PairsFit g) where
       (held_from s s (turns (suc k) steps) (repeated (suc k) events) q q true (over_turns g s steps events (suc k) o) t)
       (each_none (repeated (suc k) events)) tt (omega arith)
 
-  over_taken : (s t : State) (steps : List Step) (event : Event) (events : List Event) → Over g s t steps (event ∷ events) → 0 < length steps
-  over_taken s t [] event events o = absurd o
-  over_taken s t (step ∷ steps) event events o = omega arith
-
   -- the cycle's lasso
   pub lasso_of : (bad : BadCycle g) → (l : Walk) × IsLasso g l × Over g bad.state bad.state l.cycle (bad.first ∷ bad.rest)
   lasso_of bad =
@@ -276,7 +272,7 @@ module _ (g : List Node) (fit : PairsFit g) where
           first = bad.state.node;
           stem = subst (λ v. IsPath g v stem.0 bad.state.node) r.starts.node_is (over_path g r.from bad.state stem.0 r.events stem.1);
           cycle = over_path g bad.state bad.state cycle.0 (bad.first ∷ bad.rest) cycle.1;
-          taken = over_taken bad.state bad.state cycle.0 bad.first bad.rest cycle.1;
+          taken = over_taken g bad.state bad.state cycle.0 bad.first bad.rest cycle.1;
         },
         cycle.1,
       )

@@ -1,5 +1,5 @@
 -- Runs of the product over the steps of the graph.
-use Rattle.std.proofs.Common.{◌≡◌, ℕ, zero, suc, inl, inr, List, [], ◌∷◌, ◌++◌, Some, slice_get, sym, refl, ap, subst}
+use Rattle.std.proofs.Common.{◌≡◌, ℕ, zero, suc, inl, inr, List, [], ◌∷◌, ◌++◌, Some, slice_get, sym, refl, ap, subst, length, ◌<◌, arith}
 use Rattle.trace_pairs.specs.Graph.{Node, Edge, IsEdge}
 use Rattle.buchi_core.specs.declared.event.Event.{Event}
 use Rattle.buchi_core.specs.declared.event.Event.TheVariants.{Dies}
@@ -70,3 +70,12 @@ bad_repeated events k b =
       | inl quiet ↦ inl (each_repeated IsNothing events (suc k) quiet)
       | inr death ↦ inr (death.0, occurs_append (Dies death.0) events (repeated k events) death.1, each_repeated (IsFrom death.0) events (suc k) death.2)
     ]
+
+pub each_weaker : (P Q : Event → Type 0) → ((event : Event) → P event → Q event) → (events : List Event) → Each P events → Each Q events
+each_weaker P Q f [] e = tt
+each_weaker P Q f (event ∷ events) e = (f event e.0, each_weaker P Q f events e.1)
+
+-- a walk over an event takes a step
+pub over_taken : (g : List Node) (s t : State) (steps : List Step) (event : Event) (events : List Event) → Over g s t steps (event ∷ events) → 0 < length steps
+over_taken g s t [] event events o = absurd o
+over_taken g s t (step ∷ steps) event events o = omega arith

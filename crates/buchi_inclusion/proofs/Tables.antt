@@ -7,16 +7,18 @@ use Rattle.trace_pairs.specs.Visits.{IsAllowed, IsVisited, IsLed, AreVisits, All
 use Rattle.trace_pairs.specs.declared.reach.Visit.{Visit}
 use Rattle.buchi_core.specs.declared.event.Event.{Event}
 use Rattle.buchi_core.specs.Forest.{is_earlier, next_forest, event_of, start}
-use Rattle.buchi_core.proofs.Lists.{get_within, get_one}
+use Rattle.buchi_core.proofs.Lists.{get_one}
 use Rattle.buchi_inclusion.specs.declared.product.Transition.{Transition}
 use Rattle.buchi_inclusion.specs.Product.{State, Moves, Run, Each, Reachable, IsStart}
 use Rattle.buchi_inclusion.specs.Answers.{AreAllReached}
 use Rattle.buchi_inclusion.specs.Table.{IsStep, IsTable}
-use Rattle.buchi_inclusion.specs.Decision.{IsAtLeast, class_row, class_rows, lists_of, IsClass, IsWay, AreWays, IsNoWay}
+use Rattle.buchi_inclusion.specs.Decision.{IsAtLeast, class_row, class_rows, IsClass, IsWay, AreWays, IsNoWay}
 use Rattle.buchi_inclusion.specs.Ranks.{rank_at, IsRising}
 use Rattle.buchi_inclusion.proofs.Runs.{edge_one}
 use Rattle.position_sets.proofs.Lists.{map_length}
-pub use Rattle.position_sets.proofs.Lists.{MapAt, map_at, at_map}
+pub use Rattle.position_sets.proofs.Lists.{MapAt, map_at}
+use Rattle.list_facts.proofs.Places.{get_map, get_within}
+use Rattle.trace_pairs.specs.Turn.{lists_of}
 
 module _ (least : Event) (rows : List (Vec Transition Global)) (table : List (Vec (ℕ × Bool) Global)) (class : IsClass least rows table) where
   pub class_length : length table ≡ length rows
@@ -29,7 +31,7 @@ module _ (least : Event) (rows : List (Vec Transition Global)) (table : List (Ve
 
   pub row_of : (i : ℕ) (r : Vec (ℕ × Bool) Global) → slice_get table i ≡ Some r → RowOf i r
   row_of i r h =
-      let a : slice_get (class_rows least rows) i ≡ Some r.items = subst (λ xs. slice_get xs i ≡ Some r.items) class (at_map (λ (v : Vec (ℕ × Bool) Global). v.items) table i r h) in
+      let a : slice_get (class_rows least rows) i ≡ Some r.items = subst (λ xs. slice_get xs i ≡ Some r.items) class (get_map (λ (v : Vec (ℕ × Bool) Global). v.items) table i r h) in
       let m = map_at (λ (v : Vec Transition Global). class_row least v.items) rows i r.items a in
       record { row = m.x; is_row = m.is_x; same = m.value }
 
@@ -66,9 +68,9 @@ module _ (least : Event) (rows : List (Vec Transition Global)) (table : List (Ve
 
   pub item_allowed : (i k : ℕ) (row : Vec Transition Global) (m : Transition) → slice_get rows i ≡ Some row → slice_get row.items k ≡ Some m → IsAtLeast least m.event → IsAllowed table i k m.target
   item_allowed i k row m h e ok =
-      let a : slice_get (lists_of table) i ≡ Some (class_row least row.items) = subst (λ xs. slice_get xs i ≡ Some (class_row least row.items)) (sym class) (at_map (λ (v : Vec Transition Global). class_row least v.items) rows i row h) in
+      let a : slice_get (lists_of table) i ≡ Some (class_row least row.items) = subst (λ xs. slice_get xs i ≡ Some (class_row least row.items)) (sym class) (get_map (λ (v : Vec Transition Global). class_row least v.items) rows i row h) in
       let r = map_at (λ (v : Vec (ℕ × Bool) Global). v.items) table i (class_row least row.items) a in
-      let b : slice_get (class_row least row.items) k ≡ Some (m.target, not (is_earlier m.event least)) = at_map (λ (m : Transition). (m.target, not (is_earlier m.event least))) row.items k m e in
+      let b : slice_get (class_row least row.items) k ≡ Some (m.target, not (is_earlier m.event least)) = get_map (λ (m : Transition). (m.target, not (is_earlier m.event least))) row.items k m e in
       record {
         row = r.x;
         is_row = r.is_x;

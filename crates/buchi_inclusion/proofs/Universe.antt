@@ -6,11 +6,13 @@ use Rattle.trace_pairs.specs.Graph.{Node, Pair}
 use Rattle.buchi_core.specs.declared.event.Event.{Event}
 use Rattle.buchi_core.specs.Forest.{Entry, grown, before_drop, is_filled, next_forest, start, top, has, leads, progressing}
 use Rattle.buchi_inclusion.specs.Product.{State, Moves, IsClosed}
-use Rattle.buchi_core.proofs.Lists.{get_append_left, get_append_right}
+use Rattle.buchi_core.proofs.Lists.{get_append_right}
 use Rattle.buchi_core.proofs.Grown.{trim_at, grown_cases}
-use Rattle.buchi_core.proofs.Drop.{settled_at, kept_parts, filled_has, set_at_is}
+use Rattle.buchi_core.proofs.Drop.{settled_at, kept_parts, set_at_is}
 use Rattle.buchi_core.proofs.Follow.{next_older}
 use Rattle.buchi_core.proofs.Entries.{next_short}
+use Rattle.buchi_core.proofs.Bits.{filled_has}
+use Rattle.list_facts.proofs.Places.{get_append_left}
 
 pub record Listed {X : Type 0} (xs : List X) (x : X) : Type 0 where
   pub place : ℕ

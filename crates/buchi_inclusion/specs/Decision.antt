@@ -14,6 +14,7 @@ use Rattle.buchi_inclusion.specs.declared.product.Transition.{Transition}
 use Rattle.buchi_inclusion.specs.declared.decision.Class.{Class}
 use Rattle.buchi_inclusion.specs.Ranks.{IsRising}
 use Rattle.buchi_inclusion.specs.Table.{states_of, IsStep, IsItem, IsTable}
+use Rattle.trace_pairs.specs.Turn.{lists_of}
 
 -- a bad cycle's least event can be it
 abbrev pub IsLeast : Event → Type 0
@@ -28,10 +29,6 @@ IsAtLeast least event = is_earlier event least ≡ false
 -- the targets, and whether the event is allowed
 abbrev pub class_row : Event → List Transition → List (ℕ × Bool)
 class_row least row = map (λ (m : Transition). (m.target, not (is_earlier m.event least))) row
-
--- the rows as lists
-abbrev pub lists_of : {X : Type 0} → List (Vec X Global) → List (List X)
-lists_of rows = map (λ v. v.items) rows
 
 -- the table of the moves, with whether their events are allowed
 abbrev pub class_rows : Event → List (Vec Transition Global) → List (List (ℕ × Bool))

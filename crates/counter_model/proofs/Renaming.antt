@@ -3,7 +3,7 @@ use Rattle.std.proofs.Common.{◌≡◌, ℕ, zero, suc, ◌<◌, List, [], ◌�
 use Rattle.std.specs.Prelude.{slice_index}
 use Rattle.std.specs.Ordering.{nat_cmp, eq_by_cmp}
 use Rattle.std.specs.Cmp.{nat_cmp_total, eq_by_cmp_equiv}
-use Rattle.std.specs.FinMap.{empty, entries, find, from_entries, get-from_entries, get-entries, get-insert, get-empty, nat_cmp-IsAntisymmetric}
+use Rattle.std.specs.FinMap.{entries, find, from_entries, get-from_entries, get-entries, get-empty}
 use Rattle.heap_formula.specs.declared.terms.Term.{Term}
 use Rattle.heap_formula.specs.declared.terms.Term.TheVariants.{Nil, Univ, Exist}
 use Rattle.heap_formula.specs.declared.atoms.Pure.{Pure}
@@ -17,8 +17,10 @@ use Rattle.heap_formula.specs.Values.{Stack, value, values}
 use Rattle.heap_formula.specs.Cells.{Cells, cell_at, no_cells, one_cell, Joins, IsUnion}
 use Rattle.heap_formula.specs.Meaning.{Family, PureHolds, IsCell, AtomHolds, SpatialHolds, CaseHolds, cases_of, at_stage, Satisfies, SatisfiesOne}
 use Rattle.heap_formula.proofs.Unions.{same_cells}
-use Rattle.heap_formula.proofs.StepLaws.{is_eq-Equal}
 use Rattle.heap_formula.proofs.StageLaws.{OneOf-map}
+use Rattle.list_facts.proofs.Tests.{bool_same}
+use Rattle.heap_formula.proofs.Insertions.{same_address}
+use Rattle.model_check.proofs.MaskParts.{one_cell_at}
 
 abbrev pub over : {X Y : Type 0} → (X → Y) → Option X → Option Y
 over f None = None
@@ -28,16 +30,8 @@ over_cond : {X Y : Type 0} (f : X → Y) (b : Bool) (x y : Option X) → over f 
 over_cond f true x y = refl
 over_cond f false x y = refl
 
-same_address : (q a : ℕ) → eq_by_cmp nat_cmp q a ≡ true → q ≡ a
-same_address q a t = nat_cmp-IsAntisymmetric q a (is_eq-Equal (nat_cmp q a) t)
-
 address_same : (q a : ℕ) → q ≡ a → eq_by_cmp nat_cmp q a ≡ true
 address_same q a e = subst (λ x. eq_by_cmp nat_cmp q x ≡ true) e ((eq_by_cmp_equiv nat_cmp_total).refl q)
-
-both_ways : (b c : Bool) → (b ≡ true → c ≡ true) → (c ≡ true → b ≡ true) → b ≡ c
-both_ways true c f g = sym (f refl)
-both_ways false true f g = g refl
-both_ways false false f g = refl
 
 -- swap undoes itself and leaves 0 where it is
 module _ (swap : ℕ → ℕ) (twice : (x : ℕ) → swap (swap x) ≡ x) (at_zero : swap 0 ≡ 0) where
@@ -45,7 +39,7 @@ module _ (swap : ℕ → ℕ) (twice : (x : ℕ) → swap (swap x) ≡ x) (at_ze
   renamed h = from_entries (map (λ e. (swap e.0, map swap e.1)) (entries h))
 
   swapped_eq : (q k : ℕ) → eq_by_cmp nat_cmp q (swap k) ≡ eq_by_cmp nat_cmp (swap q) k
-  swapped_eq q k = both_ways _ _ (λ t. address_same (swap q) k (ap swap (same_address q (swap k) t) ∙ twice k)) (λ t. address_same q (swap k) (sym (twice q) ∙ ap swap (same_address (swap q) k t)))
+  swapped_eq q k = bool_same _ _ (λ t. address_same (swap q) k (ap swap (same_address q (swap k) t) ∙ twice k)) (λ t. address_same q (swap k) (sym (twice q) ∙ ap swap (same_address (swap q) k t)))
 
   find_renamed : (es : List (ℕ × List ℕ)) (q : ℕ) → find nat_cmp q (map (λ e. (swap e.0, map swap e.1)) es) ≡ over (map swap) (find nat_cmp (swap q) es)
   find_renamed [] q = refl
@@ -106,11 +100,8 @@ module _ (swap : ℕ → ℕ) (twice : (x : ℕ) → swap (swap x) ≡ x) (at_ze
   none_renamed : renamed no_cells ≡ no_cells
   none_renamed = same_cells _ _ (λ q. at_renamed no_cells q ∙ ap (over (map swap)) (get-empty nat_cmp (swap q)) ∙ sym (get-empty nat_cmp q))
 
-  one_at : (a : ℕ) (vs : List ℕ) (q : ℕ) → cell_at (one_cell a vs) q ≡ cond (eq_by_cmp nat_cmp q a) (Some vs) None
-  one_at a vs q = get-insert nat_cmp_total empty a vs q ∙ ap (cond (eq_by_cmp nat_cmp q a) (Some vs)) (get-empty nat_cmp q)
-
   one_renamed : (a : ℕ) (vs : List ℕ) → renamed (one_cell a vs) ≡ one_cell (swap a) (map swap vs)
-  one_renamed a vs = same_cells _ _ (λ q. at_renamed (one_cell a vs) q ∙ ap (over (map swap)) (one_at a vs (swap q)) ∙ over_cond (map swap) (eq_by_cmp nat_cmp (swap q) a) (Some vs) None ∙ ap (λ b. cond b (Some (map swap vs)) None) (sym (swapped_eq q a)) ∙ sym (one_at (swap a) (map swap vs) q))
+  one_renamed a vs = same_cells _ _ (λ q. at_renamed (one_cell a vs) q ∙ ap (over (map swap)) (one_cell_at a vs (swap q)) ∙ over_cond (map swap) (eq_by_cmp nat_cmp (swap q) a) (Some vs) None ∙ ap (λ b. cond b (Some (map swap vs)) None) (sym (swapped_eq q a)) ∙ sym (one_cell_at (swap a) (map swap vs) q))
 
   length_renamed : (vs : List ℕ) → length (map swap vs) ≡ length vs
   length_renamed [] = refl

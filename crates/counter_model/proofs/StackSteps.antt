@@ -7,8 +7,8 @@ use Rattle.heap_formula.proofs.StageLaws.{OneOf-map}
 use Rattle.model_check.specs.Constructive.{Member}
 use Rattle.fitting_heaps.proofs.Loops.{pushed}
 use Rattle.fitting_heaps.proofs.LocalLists.{take_next, take_all}
-use Rattle.fitting_heaps.proofs.UnionsOf.{each_last}
 use Rattle.counter_model.specs.Tightness.{Breaks, IsStack, IsStep}
+use Rattle.formula_facts.proofs.AllMembers.{each_last}
 
 -- ---- adding entries
 

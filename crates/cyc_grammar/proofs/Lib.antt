@@ -7,3 +7,4 @@ pub mod Drops
 pub mod Names
 pub mod WrittenTexts
 pub mod TextLaws
+pub mod FirstDead

@@ -1,7 +1,7 @@
 -- Laws of texts that are cut token by token.
 use Rattle.std.proofs.Common.{Bool, ◌≡◌, ℕ, zero, suc, ◌+◌, ◌^◌, ◌<◌, true, List, [], ◌∷◌, ◌++◌, length, take, drop, Ok, refl, sym, ap, subst, ◌∙◌, arith, inl, inr, length-append}
 use Rattle.std.specs.Prelude.{map, nat_lt, slice_get, ◌⊎◌}
-use Rattle.std.proofs.lemmas.List.{length-map}
+use Rattle.std.proofs.lemmas.List.{length-map, nil_from_length}
 use Rattle.std.specs.Str.{chars, encode_utf8_all, IsUtf8}
 use Rattle.cyc_lex.specs.declared.token.Kind.{Kind}
 use Rattle.cyc_lex.specs.declared.token.Kind.TheVariants.{Name, Number, Symbol, End}
@@ -14,7 +14,7 @@ use Rattle.cyc_lex.specs.declared.place.Bad.TheVariants as bads
 use Rattle.cyc_lex.specs.Placed.{Placed, placed}
 use Rattle.cyc_lex.specs.Lexing.{comment_len, pass, pass_all, piece_at, piece_of, piece_chars, piece_rest, HasRoom, token_at, with_token, taken, len_fault, lex}
 use Rattle.cyc_lex.specs.Cutting.{with_piece, cut_tokens, cut_text, IsCut}
-use Rattle.cyc_lex.proofs.Lexed.{Found, IsNext, IsLexed, some-chars, nil-chars, nil-bytes, after-gap, after-token, at-end, with_tokens-ok}
+use Rattle.cyc_lex.proofs.Lexed.{Found, IsNext, IsLexed, some-chars, nil-chars, after-gap, after-token, at-end, with_tokens-ok}
 use Rattle.cyc_lex.proofs.TokenLaws.{found, with_token-found, cond-found}
 
 pub cut-skip : (p : Place) (k : ℕ) (cs : List ℕ) → cut_tokens p k cs ≡ cut_tokens (pass_all p (take k cs)) 0 (drop k cs)
@@ -86,7 +86,7 @@ pub cutting-end : (p0 : Place) (text : List ℕ) (p : Place) (rest : List ℕ) (
 unfolding cut_tokens
 cutting-end p0 text p rest c h none same place left = record {
   others = [];
-  tokens = sym h.tokens ∙ ap (cut_tokens p 0) (nil-chars rest none) ∙ ap (λ (t : Placed). t ∷ []) (ap (token_at End p) (sym (nil-bytes rest none)) ∙ sym same);
+  tokens = sym h.tokens ∙ ap (cut_tokens p 0) (nil-chars rest none) ∙ ap (λ (t : Placed). t ∷ []) (ap (token_at End p) (sym (nil_from_length rest none)) ∙ sym same);
   behind = inr refl;
   room = subst (λ (x : Place). HasRoom x (length c.rest.now)) (sym place) (subst (λ (x : List ℕ). HasRoom p (length x)) (sym left) h.room);
   utf8 = subst IsUtf8 (sym left) h.utf8;

@@ -6,7 +6,6 @@ use Rattle.heap_formula.specs.Definitions.{Definition}
 use Rattle.heap_formula.specs.Judgements.{JudgementHolds}
 use Rattle.pred_defs.specs.Book.{DefinitionBook}
 use Rattle.derivation_search.specs.System.{Outcome, IsFound, IsNotFound, HasTooManyDerivations, HasTooManyStates, search_of}
-use Rattle.buchi_inclusion.proofs.Tables.{at_map}
 use Rattle.formula_reader.specs.declared.problem.Problem.{Problem}
 use Rattle.formula_reader.specs.Reading.{AreSame}
 use Rattle.proof_file.specs.declared.file.ProofFile.{ProofFile}
@@ -29,6 +28,7 @@ use Rattle.cyc_runs.specs.declared.endings.Status.{Status}
 use Rattle.cyc_runs.specs.declared.endings.Status.TheVariants as status
 use Rattle.cyc_runs.specs.Runs.{input_limit}
 use Rattle.cyc_top.specs.Answers.{IsAnswer, IsSearch, derivation_limit, file_text, nodes_text, proved_status, proved_text}
+use Rattle.list_facts.proofs.Places.{get_map}
 
 -- how a search with this outcome ends
 abbrev outcome_status : Outcome Reason → Status
@@ -116,7 +116,7 @@ one_search depth p q a b same first second =
 -- the goal of a problem that has a proof holds
 pub goal_holds : (p : Problem) (f : ProofFile) → IsProofFor p f → JudgementHolds p.defs.list p.program p.goal
 goal_holds p f h =
-    let root : JudgementHolds f.defs.list f.program h.root.judgement = h.holds (node_of h.root) (at_map node_of f.nodes 0 h.root h.is_root) in
+    let root : JudgementHolds f.defs.list f.program h.root.judgement = h.holds (node_of h.root) (get_map node_of f.nodes 0 h.root h.is_root) in
     subst (λ (book : DefinitionBook). JudgementHolds book.list p.program p.goal) h.definitions
     (subst (λ lines. JudgementHolds f.defs.list lines p.goal) h.program
     (subst (λ j. JudgementHolds f.defs.list f.program j) h.goal root))

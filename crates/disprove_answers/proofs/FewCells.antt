@@ -1,26 +1,19 @@
 -- A heap with addresses from 1 to n has at most n cells.
 use Rattle.std.proofs.Common.{◌≡◌, ◌≢◌, ℕ, zero, suc, ◌+◌, ◌<◌, ◌≤◌, List, [], ◌∷◌, length, Bool, true, false, cond, Option, Some, None, refl, sym, ap, ◌∙◌, subst, inl, inr, arith}
 use Rattle.std.proofs.lemmas.Bool.{cases_lt}
-use Rattle.std.specs.Ordering.{nat_cmp, eq_by_cmp}
+use Rattle.std.specs.Ordering.{nat_cmp}
 use Rattle.std.specs.Cmp.{nat_cmp_total, eq_by_cmp_equiv}
-use Rattle.std.specs.FinMap.{insert, contains_key, len, len-empty, len-insert, get-insert, get-empty, nat_cmp-IsAntisymmetric}
+use Rattle.std.specs.FinMap.{insert, contains_key, len, len-empty, len-insert, get-insert, get-empty}
 use Rattle.heap_formula.specs.Cells.{Cells, cell_at, no_cells}
 use Rattle.heap_formula.proofs.Unions.{same_cells}
-use Rattle.heap_formula.proofs.StepLaws.{is_eq-Equal}
 use Rattle.fitting_heaps.specs.Bounds.{IsWithin}
 use Rattle.counter_model.specs.Sizes.{rows}
+use Rattle.formula_facts.proofs.Addresses.{other_address}
 
 heap_of : ℕ → List (Option (List ℕ)) → Cells
 heap_of a [] = no_cells
 heap_of a (None ∷ rs) = heap_of (suc a) rs
 heap_of a (Some vs ∷ rs) = insert (heap_of (suc a) rs) a vs
-
-differ : (q a : ℕ) → q ≢ a → eq_by_cmp nat_cmp q a ≡ false
-differ q a n = by_test (eq_by_cmp nat_cmp q a) refl
-  where
-    by_test : (b : Bool) → eq_by_cmp nat_cmp q a ≡ b → eq_by_cmp nat_cmp q a ≡ false
-    by_test true e = absurd (n (nat_cmp-IsAntisymmetric q a (is_eq-Equal (nat_cmp q a) e)))
-    by_test false e = e
 
 below_none : (a : ℕ) (rs : List (Option (List ℕ))) (q : ℕ) → q < a → cell_at (heap_of a rs) q ≡ None
 unfolding heap_of
@@ -28,7 +21,7 @@ below_none a [] q l = get-empty nat_cmp q
 below_none a (None ∷ rs) q l = below_none (suc a) rs q (omega arith)
 below_none a (Some vs ∷ rs) q l =
     let n : q ≢ a = omega arith in
-    get-insert nat_cmp_total (heap_of (suc a) rs) a vs q ∙ ap (λ b. cond b (Some vs) (cell_at (heap_of (suc a) rs) q)) (differ q a n) ∙ below_none (suc a) rs q (omega arith)
+    get-insert nat_cmp_total (heap_of (suc a) rs) a vs q ∙ ap (λ b. cond b (Some vs) (cell_at (heap_of (suc a) rs) q)) (other_address q a n) ∙ below_none (suc a) rs q (omega arith)
 
 at_first : (a : ℕ) (r : Option (List ℕ)) (rs : List (Option (List ℕ))) → cell_at (heap_of a (r ∷ rs)) a ≡ r
 unfolding heap_of
@@ -40,7 +33,7 @@ unfolding heap_of
 at_later a None rs q l = refl
 at_later a (Some vs) rs q l =
     let n : q ≢ a = omega arith in
-    get-insert nat_cmp_total (heap_of (suc a) rs) a vs q ∙ ap (λ b. cond b (Some vs) (cell_at (heap_of (suc a) rs) q)) (differ q a n)
+    get-insert nat_cmp_total (heap_of (suc a) rs) a vs q ∙ ap (λ b. cond b (Some vs) (cell_at (heap_of (suc a) rs) q)) (other_address q a n)
 
 at_rows : (h : Cells) (a k q : ℕ) → a ≤ q → q < a + k → cell_at (heap_of a (rows h a k)) q ≡ cell_at h q
 at_rows h a zero q l u = absurd (omega arith)

@@ -14,7 +14,7 @@ use Rattle.heap_formula.specs.Words.{Each, OneOf}
 use Rattle.heap_formula.specs.Values.{Stack}
 use Rattle.heap_formula.specs.Cells.{Cells, cell_at}
 use Rattle.format_limits.specs.Limits.{HasFields, IsHeapWithin, IsJudgementWithin, IsCaseWithin, IsDefinitionWithin}
-use Rattle.format_limits.proofs.Heaps.{each_of, small}
+use Rattle.format_limits.proofs.Heaps.{small}
 use Rattle.cyc_lex.specs.declared.fault.What.TheVariants.{Stack as StackValues}
 use Rattle.cyc_grammar.specs.Syntax.{Class, one}
 use Rattle.cyc_grammar.specs.Classes.{number}
@@ -40,6 +40,7 @@ use Rattle.counter_model.specs.FirstCounter.{HasSize}
 use Rattle.disprove_answers.proofs.FewCells.{few_cells}
 use Rattle.model_file.proofs.Parts.{IsFine}
 use Rattle.model_file.proofs.SortedCells.{cell_found, cells_right}
+use Rattle.formula_facts.proofs.AllMembers.{each_imply}
 
 -- ---- version 1 is within the limits of version 2
 
@@ -54,7 +55,7 @@ case_raised : (most : ℕ) (ds : List Definition) (arity : ℕ) → most ≤ 32 
 case_raised most ds arity l c w = record { heap = heap_raised most ds c l w.heap; parameters = w.parameters; locals = w.locals }
 
 definition_raised : (most : ℕ) (ds : List Definition) → most ≤ 32 → (d : Definition) → IsDefinitionWithin most ds d → IsDefinitionWithin 32 ds d
-definition_raised most ds l d w = record { arity = w.arity; some_case = w.some_case; few = w.few; cases = each_of (IsCaseWithin most ds d.arity) (IsCaseWithin 32 ds d.arity) (case_raised most ds d.arity l) d.cases w.cases }
+definition_raised most ds l d w = record { arity = w.arity; some_case = w.some_case; few = w.few; cases = each_imply (IsCaseWithin most ds d.arity) (IsCaseWithin 32 ds d.arity) (case_raised most ds d.arity l) d.cases w.cases }
 
 -- ---- cells have at most eight fields
 
@@ -103,12 +104,12 @@ short n l = omega arith
 
 cell_fit : (e : ℕ × List ℕ) → IsPlain e → cell.fits (cell_tree e)
 unfolding cell
-cell_fit e p = (tt, (short e.0 p.address, numbers_fit closing e.1 p.some (each_of (λ v. v ≤ 4) (λ v. v < 10 ^ 9) short e.1 p.fields)))
+cell_fit e p = (tt, (short e.0 p.address, numbers_fit closing e.1 p.some (each_imply (λ v. v ≤ 4) (λ v. v < 10 ^ 9) short e.1 p.fields)))
 
 cells_fit : (es : List (ℕ × List ℕ)) → Each IsPlain es → cells.fits (map cell_tree es)
 unfolding cells cells1
 cells_fit [] a = (tt, tt)
-cells_fit (e ∷ es) a = (tt, listed_fits cell cell_tree some_cell comma semicolon (e ∷ es) (omega arith) (each_of IsPlain (λ x. cell.fits (cell_tree x)) cell_fit (e ∷ es) a))
+cells_fit (e ∷ es) a = (tt, listed_fits cell cell_tree some_cell comma semicolon (e ∷ es) (omega arith) (each_imply IsPlain (λ x. cell.fits (cell_tree x)) cell_fit (e ∷ es) a))
 
 fine : (e : ℕ × List ℕ) → IsPlain e → IsFine (cell_tree e)
 fine e p = record { positive = ne_eqb e.0 0 (λ z. let q : 0 < e.0 = p.positive in omega (arith, z)); few = p.few }
@@ -135,11 +136,11 @@ module _ (n most count : ℕ) (ds : List Definition) (a : SymbolicHeap) (bs : Li
         address = omega arith;
         some = c.positive;
         few = width_few most count ds a bs (length vs) w j c.count;
-        fields = each_of (λ v. v ≤ n) (λ v. v ≤ 4) (λ v m. omega arith) vs c.fields;
+        fields = each_imply (λ v. v ≤ n) (λ v. v ≤ 4) (λ v m. omega arith) vs c.fields;
       })
 
   raised : Each (IsDefinitionWithin 32 ds) ds
-  raised = each_of (IsDefinitionWithin most ds) (IsDefinitionWithin 32 ds) (definition_raised most ds low) ds w
+  raised = each_imply (IsDefinitionWithin most ds) (IsDefinitionWithin 32 ds) (definition_raised most ds low) ds w
 
   few_entries : length (entries h) ≤ 16
   few_entries =
@@ -150,7 +151,7 @@ module _ (n most count : ℕ) (ds : List Definition) (a : SymbolicHeap) (bs : Li
   pub tree_fits : HaveFreeNames ds → model.fits (tree_of ds s h a)
   unfolding model body state question definitions
   tree_fits free =
-      (tt, (definitions_fit 32 ds free raised, ((values_fit s (each_of (λ v. v ≤ n) (λ v. v < 10 ^ 9) (λ v m. short v (omega arith)) s z.entries), cells_fit (entries h) plain), any_heap_fits 32 ds free a (heap_raised most ds a low j.heaps.0))))
+      (tt, (definitions_fit 32 ds free raised, ((values_fit s (each_imply (λ v. v ≤ n) (λ v. v < 10 ^ 9) (λ v m. short v (omega arith)) s z.entries), cells_fit (entries h) plain), any_heap_fits 32 ds free a (heap_raised most ds a low j.heaps.0))))
 
   pub tree_flawless : HaveOwnNames ds → length ds ≤ 4096 → model_flaw (tree_of ds s h a) ≡ None
   tree_flawless own count_few =
@@ -158,7 +159,7 @@ module _ (n most count : ℕ) (ds : List Definition) (a : SymbolicHeap) (bs : Li
       let long : length s ≡ judgement_bound (Entail a bs) = z.stack in
       let first : definitions_flaw m ≡ None = definitions_flawless 32 ds count_few own raised in
       let second : stack_flaw (first_value m) s ≡ None = ap (λ (b : Bool). over_if b StackValues (first_value m + 131070)) (lt-leb 65536 (length s) (omega arith)) in
-      let third : cells_flaw (first_cell m) (cells_tree h) ≡ None = cells_right h (first_cell m) (each_of IsPlain (λ e. IsFine (cell_tree e)) fine (entries h) plain) few_entries in
+      let third : cells_flaw (first_cell m) (cells_tree h) ≡ None = cells_right h (first_cell m) (each_imply IsPlain (λ e. IsFine (cell_tree e)) fine (entries h) plain) few_entries in
       let fourth : ask_flaw m ≡ None = node_heap_flawless 32 ds own (few_parameters 32 ds ds raised) a (heap_raised most ds a low j.heaps.0) (first_atom m) in
       none_later (definitions_flaw m) _ first (none_later (stack_flaw (first_value m) s) _ second (none_later (cells_flaw (first_cell m) (cells_tree h)) (ask_flaw m) third fourth))
 

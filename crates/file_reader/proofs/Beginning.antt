@@ -1,7 +1,7 @@
 -- From kept tokens to values: the first node is read.
 use Rattle.std.proofs.Common.{◌≡◌, ℕ, zero, suc, ◌+◌, ◌-◌, ◌≤◌, List, [], ◌∷◌, ◌++◌, length, take, drop, false, Some, None, Result, Ok, Err, refl, sym, ap, subst, ◌∙◌, arith, append_assoc}
 use Rattle.std.specs.Prelude.{map, slice_get}
-use Rattle.std.proofs.lemmas.List.{append-nil, drop_at, length-map}
+use Rattle.std.proofs.lemmas.List.{append-nil, drop_at, length-map, map-append}
 use Rattle.cyc_lex.specs.Placed.{Placed}
 use Rattle.cyc_lex.specs.Word.{Word, word_of}
 use Rattle.cyc_grammar.specs.Syntax.{Reading, ◌>>=◌, all_taken, read_whole}
@@ -25,7 +25,7 @@ use Rattle.file_reader.specs.Stages.{Head, Nodes, nodes_fault, said_with, nodes_
 use Rattle.file_reader.specs.Steps.{Takes, Leads, tree_of, Spell, begun_of}
 use Rattle.file_reader.proofs.After.{After, node_after}
 use Rattle.file_reader.proofs.Tokens.{slice-front, slice-drop, slice-take, syntax-later}
-use Rattle.file_reader.proofs.StepLaws.{map-append, whole-within, nodes-lawful}
+use Rattle.file_reader.proofs.StepLaws.{whole-within, nodes-lawful}
 
 -- ---- a file's words, statement by statement
 

@@ -3,7 +3,7 @@ use Rattle.std.proofs.Common.{◌≡◌, ℕ, ◌+◌, ◌≤◌, Bool, true, fa
 use Rattle.std.specs.Prelude.{◌==◌, Option, Some, None, IfSome, is_none}
 use Rattle.std.specs.Str.{chars, IsUtf8}
 use Rattle.std.specs.Str.Lossy.{utf8_valid_len, utf8_error_len}
-use Rattle.std.proofs.lemmas.List.{append-nil}
+use Rattle.std.proofs.lemmas.List.{append-nil, map-append}
 use Rattle.cyc_lex.specs.declared.fault.ReadFault.{ReadFault}
 use Rattle.cyc_lex.specs.declared.fault.ReadFault.TheVariants as faults
 use Rattle.cyc_lex.specs.declared.place.Bad.{Bad}
@@ -38,7 +38,6 @@ use Rattle.file_reader.specs.Stages.{Head, Dead, ahead, behind, outcome}
 use Rattle.file_reader.proofs.PieceLaws.{statement-bad}
 use Rattle.file_reader.proofs.Fresh.{tokens-end, tokens-few, from-start}
 use Rattle.file_reader.proofs.HeldLaws.{dead-all}
-use Rattle.file_reader.proofs.StepLaws.{map-append}
 
 pub tells-fault : (x : ReadFault) → Tells (Bears x) (Err x)
 tells-fault faults.OutOfMemory = tt

@@ -1,9 +1,8 @@
 -- A reader that was fed nothing stands for what is read of the bytes that it will be fed.
-use Rattle.std.proofs.Common.{◌≡◌, ℕ, ◌+◌, ◌-◌, ◌≤◌, ◌<◌, List, [], ◌++◌, length, take, drop, false, Some, None, Result, Ok, Err, refl, sym, ap, subst, ◌∙◌, arith, inl, inr, ◌⊎◌, append_assoc, take-add}
+use Rattle.std.proofs.Common.{◌≡◌, ℕ, ◌+◌, ◌-◌, ◌≤◌, List, [], length, take, false, Some, None, Result, Ok, Err, refl, sym, ap, subst, ◌∙◌, arith, inl, inr, ◌⊎◌}
 use Rattle.std.specs.Prelude.{map, slice_get}
 use Rattle.std.specs.Str.{chars, IsUtf8, IsValidUpTo}
 use Rattle.std.specs.Str.Lossy.{utf8_valid_len}
-use Rattle.std.proofs.lemmas.Bool.{cases_lt}
 use Rattle.std.proofs.lemmas.List.{length-map}
 use Rattle.cyc_lex.specs.declared.fault.LexFault.{LexFault}
 use Rattle.cyc_lex.specs.declared.fault.LexFault.TheVariants as lexical
@@ -15,12 +14,13 @@ use Rattle.cyc_lex.specs.declared.place.Place.{Place}
 use Rattle.cyc_lex.specs.Answer.{fault_of}
 use Rattle.cyc_lex.specs.Lexing.{start, lex, tokens_of, comment_len}
 use Rattle.cyc_lex.specs.Placed.{Placed}
-use Rattle.cyc_lex.specs.Word.{Word, word_of, EndsOnce}
+use Rattle.cyc_lex.specs.Word.{word_of, EndsOnce}
 use Rattle.cyc_lex.proofs.Lexed.{whole-text}
 use Rattle.cyc_lex.proofs.TokenLaws.{known, unknown}
 use Rattle.cyc_grammar.specs.Syntax.{Syntax, read_whole}
-use Rattle.cyc_grammar.specs.Faults.{BeginsText, IsFirstDead, IsSyntaxFault}
+use Rattle.cyc_grammar.specs.Faults.{IsSyntaxFault}
 use Rattle.cyc_grammar.specs.declared.cursor.Refusal.TheVariants as refusals
+use Rattle.cyc_grammar.proofs.FirstDead.{one_dead}
 use Rattle.cyc_grammar.proofs.Laws.{whole_ok, whole_again}
 use Rattle.cyc_grammar.proofs.WholeTexts.{err-within, err-exact}
 use Rattle.piecewise_lex.specs.Feeding.{tokens_from, valid_chars}
@@ -71,30 +71,6 @@ tokens-few bytes ts e = by (valid-cases bytes)
 pub from-start : (bytes : List ℕ) → tokens_from start false bytes ≡ tokens_of bytes
 unfolding tokens_from comment_len valid_chars
 from-start bytes = refl
-
--- ---- the first dead word is one
-
-module _ {T : Type 0} (s : Syntax T) (ws : List Word) where
-  fewer : (j m : ℕ) → BeginsText s (take (j + m) ws) → BeginsText s (take j ws)
-  fewer j m begins = (
-    begins.0,
-    take m (drop j ws) ++ begins.1,
-    begins.2,
-    begins.3 ∙ ap (λ front. front ++ begins.1) (take-add j m ws) ∙ append_assoc (take j ws) (take m (drop j ws)) begins.1,
-  )
-
-  not-before : (j k : ℕ) → j < k → IsFirstDead s ws j → IsFirstDead s ws k → ⊥
-  not-before j k l first second =
-      let sum : k ≡ j + 1 + (k - (j + 1)) = omega (arith, l) in
-      first.dead (fewer (j + 1) (k - (j + 1)) (subst (λ n. BeginsText s (take n ws)) sum second.alive))
-
-  one-dead : (j k : ℕ) → IsFirstDead s ws j → IsFirstDead s ws k → j ≡ k
-  one-dead j k first second = by (cases_lt j k) (cases_lt k j)
-    where
-      by : (j < k) ⊎ (k ≤ j) → (k < j) ⊎ (j ≤ k) → j ≡ k
-      by (inl l) other = absurd (not-before j k l first second)
-      by (inr l) (inl m) = absurd (not-before k j m second first)
-      by (inr l) (inr m) = omega (arith, l, m)
 
 -- ---- faults, as they are told
 
@@ -163,7 +139,7 @@ syntax-comes bytes ts k t is f there (Err left) e =
     let j = length ts - left in
     let u = slice-there ts j (omega (arith, within.0, within.1)) in
     let other = err-exact {X = File} file file-law (λ x. x) ts (Err (refusals.Dead left)) (refusals.Dead left) (faults.Syntax j u.0.line u.0.column) refl e within (omega (arith, within.1), (u.0, u.1, refl, refl)) in
-    syntax-is ts left k t (one-dead file (map word_of ts) k j f.first other.first) there
+    syntax-is ts left k t (one_dead file (map word_of ts) k j f.first other.first) there
 
 read-comes : (bytes : List ℕ) (answer : Result ProofFile ReadFault) → IsRead bytes answer → Agrees (behind (Head []) (tokens_of bytes)) answer
 read-comes bytes (Ok v) (ts, is, (tree, spelled, clean, says)) =

@@ -1,9 +1,9 @@
 -- What a reader holds keeps what the text comes to.
 use Rattle.std.proofs.Common.{◌≡◌, ℕ, zero, suc, ◌+◌, ◌-◌, ◌^◌, ◌<◌, ◌≤◌, Bool, true, false, List, [], ◌++◌, length, Some, None, Result, Ok, Err, refl, sym, ap, subst, ◌∙◌, arith, length-append, append_assoc}
-use Rattle.std.specs.Prelude.{map, drop, IfOk}
+use Rattle.std.specs.Prelude.{map, drop}
 use Rattle.std.specs.Global.{Vec}
 use Rattle.std.specs.Str.{chars}
-use Rattle.std.proofs.lemmas.List.{length-map, length-drop, drop-drop, drop_at, drop-append-le}
+use Rattle.std.proofs.lemmas.List.{length-map, length-drop, drop-drop, drop_at, drop-append-le, map-append}
 use Rattle.cyc_lex.specs.declared.fault.LexFault.{LexFault}
 use Rattle.cyc_lex.specs.declared.fault.ReadFault.{ReadFault}
 use Rattle.cyc_lex.specs.declared.fault.ReadFault.TheVariants as faults
@@ -41,12 +41,8 @@ use Rattle.file_reader.specs.Stages.{Stage, Head, Dead, Unlexed, Parts, behind, 
 use Rattle.file_reader.specs.Steps.{Takes, Leads}
 use Rattle.file_reader.proofs.Beginning.{lead-none}
 use Rattle.file_reader.proofs.PieceLaws.{piece-waits, tokens-taken, bad-place, statement-comes, statement-bad, bytes-bad}
-use Rattle.file_reader.proofs.StepLaws.{map-append, head-step, head-fault-step, dead-step}
+use Rattle.file_reader.proofs.StepLaws.{head-step, head-fault-step, dead-step}
 use Rattle.file_reader.proofs.Tokens.{syntax-later}
-
-pub ok-all : {X E : Type 0} (r : Result X E) (P Q : X → Type 0) → ((x : X) → P x → Q x) → IfOk r P → IfOk r Q
-ok-all (Ok x) P Q f h = f x h
-ok-all (Err e) P Q f h = tt
 
 -- ---- bytes that were fed
 

@@ -1,7 +1,7 @@
 -- Statement by statement through a text.
 use Rattle.std.proofs.Common.{◌≡◌, ℕ, zero, suc, ◌+◌, ◌-◌, ◌<◌, ◌≤◌, Bool, true, false, List, [], ◌∷◌, ◌++◌, length, take, Some, None, Result, Ok, Err, refl, sym, ap, subst, ◌∙◌, arith, length-append, append_assoc}
 use Rattle.std.specs.Prelude.{map, slice_get, IfOk}
-use Rattle.std.proofs.lemmas.List.{length-map, length-take-le}
+use Rattle.std.proofs.lemmas.List.{length-map, length-take-le, map-append}
 use Rattle.std.proofs.lemmas.Str.{encodes-chars}
 use Rattle.cyc_lex.specs.Placed.{Placed}
 use Rattle.cyc_lex.specs.Word.{Word, word_of, is_lexeme, are_lexemes}
@@ -32,7 +32,7 @@ use Rattle.file_reader.specs.Outcomes.{at_token, syntax_fault}
 use Rattle.file_reader.specs.Steps.{Leads}
 use Rattle.file_reader.specs.Scans.{reached_of, lead, nothing_behind, next_read, LeadsOn, DiesOn, IsDead, IsStep, IsRefused, TellsDead, HasDead, Finds, IsScan}
 use Rattle.file_reader.proofs.Beginning.{lead-more, lead-fault}
-use Rattle.file_reader.proofs.StepLaws.{map-append, fault-within}
+use Rattle.file_reader.proofs.StepLaws.{fault-within}
 use Rattle.file_reader.proofs.Tokens.{slice-take, syntax-later}
 
 -- ---- one statement
@@ -91,10 +91,6 @@ on-dead (At p) vs left e some = by ((statement_of p).read vs) refl e
     by (Err n) same h =
         let is : (statement_of p).read vs ≡ Err left = same ∙ ap (λ m. Err m) (ap dead_at h) in
         record { dies = dies left some is; some = some; within = fault-within (statement_of p) (statement-law p) vs left is }
-
-pub nil-words : (ws : List Word) → length ws ≡ 0 → ws ≡ []
-nil-words [] h = refl
-nil-words (w ∷ ws) h = absurd (omega (arith, h))
 
 -- what a refusal comes to
 pub refused-step : {E : Type 0} (r : Reached) (vs : List Word) (e : Refusal) (result : Result Step E) → Fails e (next_read r vs) → IfOk result (IsRefused e) → IfOk result (IsStep r vs)

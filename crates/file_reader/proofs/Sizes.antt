@@ -1,5 +1,5 @@
 -- How many tokens a statement has, and what the end of the text comes to.
-use Rattle.std.proofs.Common.{◌≡◌, ℕ, ◌+◌, Bool, true, List, [], ◌∷◌, length, Option, Some, None, Result, Ok, refl, ap, ◌∙◌, arith, length-append, inl, inr}
+use Rattle.std.proofs.Common.{◌≡◌, ℕ, Bool, true, List, [], ◌∷◌, length, Option, Some, None, Result, Ok, refl, ap, ◌∙◌, arith, length-append, inl, inr}
 use Rattle.std.proofs.lemmas.List.{append-nil}
 use Rattle.cyc_lex.specs.declared.fault.ReadFault.{ReadFault}
 use Rattle.cyc_lex.specs.Placed.{Placed}
@@ -16,19 +16,15 @@ use Rattle.proof_syntax.specs.Grammar.{variable}
 use Rattle.proof_statements.specs.Left.{Part, First, Preds, Lines, Nodes as Among, Statement, statement_of, first_statement, last_statement, line_or_node}
 use Rattle.proof_statements.proofs.LeftLaws.{statement-law}
 use Rattle.proof_file.specs.Spans.{variable_span}
-use Rattle.proof_file.proofs.SpanLaws.{node_words}
+use Rattle.proof_file.proofs.SpanLaws.{node_words, variable_words}
 use Rattle.file_reader.specs.Outcomes.{or_else, settled}
 use Rattle.file_reader.specs.Stages.{Begun, Nodes, said_with, nodes_left, nodes_outcome, ahead}
 use Rattle.file_reader.specs.Steps.{span_of}
 
-variable-words : (n : ℕ) → variable.fits n → length (variable.words n) + 1 ≡ variable_span n
-unfolding variable
-variable-words n f = refl
-
 line-words : (v : Version) (l : Line) → (commands.line v variable).fits l → length ((commands.line v variable).words l) ≡ line_span variable_span l
 unfolding commands.lines
 line-words v l f =
-    let one = lines_words variable variable_span variable-words v (l ∷ []) (f, tt) in
+    let one = lines_words variable variable_span variable_words v (l ∷ []) (f, tt) in
     omega (arith, one, length-append ((commands.line v variable).words l) [])
 
 pub statement-words : (p : Part) (t : Statement p) → (statement_of p).fits t → length ((statement_of p).words t) ≡ span_of p t

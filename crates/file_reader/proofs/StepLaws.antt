@@ -1,7 +1,7 @@
 -- What the tokens of a statement do to a stage, whatever comes after them.
 use Rattle.std.proofs.Common.{◌≡◌, ℕ, suc, ◌+◌, ◌≤◌, Bool, true, false, List, [], ◌∷◌, ◌++◌, length, take, drop, Option, Some, None, Result, Ok, Err, refl, sym, ap, ◌∙◌, arith, length-append, append_assoc, inl, inr}
 use Rattle.std.specs.Prelude.{map}
-use Rattle.std.proofs.lemmas.List.{append-nil, take_at, drop_at, length-map}
+use Rattle.std.proofs.lemmas.List.{append-nil, take_at, drop_at, length-map, map-append}
 use Rattle.cyc_lex.specs.Placed.{Placed}
 use Rattle.cyc_lex.specs.Word.{Word, word_of}
 use Rattle.cyc_lex.specs.declared.fault.ReadFault.{ReadFault}
@@ -24,10 +24,6 @@ use Rattle.file_reader.specs.Outcomes.{Faulty, or_else, told_flaw, settled, synt
 use Rattle.file_reader.specs.Stages.{Begun, Head, Nodes, Dead, nodes_fault, said_with, nodes_left, nodes_outcome}
 use Rattle.file_reader.specs.Steps.{Takes, with_node, with_end}
 use Rattle.file_reader.proofs.Tokens.{syntax-later, syntax-first}
-
-pub map-append : {A B : Type 0} (f : A → B) (xs ys : List A) → map f (xs ++ ys) ≡ map f xs ++ map f ys
-map-append f [] ys = refl
-map-append f (x ∷ xs) ys = ap (λ zs. f x ∷ zs) (map-append f xs ys)
 
 pub or-else-again : (a b c : Option ReadFault) → or_else a (or_else b c) ≡ or_else (or_else a b) c
 or-else-again (Some x) b c = refl

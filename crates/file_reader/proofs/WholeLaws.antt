@@ -2,7 +2,7 @@
 use Rattle.std.proofs.Common.{◌≡◌, ℕ, ◌+◌, ◌≤◌, ◌<◌, Bool, true, false, List, [], ◌∷◌, ◌++◌, length, map, Some, None, Result, Ok, Err, refl, sym, ap, subst, ◌∙◌, arith, length-append, append_assoc, inl, inr, ◌⊎◌}
 use Rattle.std.specs.Prelude.{slice_get}
 use Rattle.std.specs.Str.{chars, IsUtf8}
-use Rattle.std.proofs.lemmas.List.{append-nil, length-map, map_push}
+use Rattle.std.proofs.lemmas.List.{append-nil, length-map, map_push, map-append}
 use Rattle.std.proofs.lemmas.Str.{encodes-chars}
 use Rattle.cyc_lex.specs.Lexing.{start, lex, comment_len, tokens_of, with_tokens}
 use Rattle.cyc_lex.specs.Placed.{Placed}
@@ -64,7 +64,6 @@ use Rattle.file_reader.proofs.EndLaws.{later-tokens, text-tokens}
 use Rattle.file_reader.proofs.Fresh.{tokens-end, tokens-few, from-start}
 use Rattle.file_reader.proofs.ScanLaws.{span-size}
 use Rattle.file_reader.proofs.Sizes.{statement-span}
-use Rattle.file_reader.proofs.StepLaws.{map-append}
 
 -- ---- one statement
 

@@ -11,7 +11,7 @@ use Rattle.heap_formula.proofs.Unions.{star_map, star_assoc_back, empty_union, u
 use Rattle.model_check.specs.Grounding.{IsQuestion}
 use Rattle.fitting_heaps.specs.Bounds.{IsAmong}
 use Rattle.fitting_heaps.specs.Findings.{Findings, heaps_in, found_if_asked, UnlessGrown}
-use Rattle.fitting_heaps.proofs.Loops.{drop_all}
+use Rattle.std.proofs.lemmas.List.{drop_all}
 use Rattle.fitting_heaps.proofs.Turns.{both_steps}
 
 -- a cell beside the parts
@@ -63,7 +63,7 @@ module _ (n : ℕ) (s e : Stack) (xs : List Spatial) where
       no g (y ∷ ys) e m = omega arith
 
   pub left_end : (t0 t1 : Findings) (asked : Bool) (heaps : List Cells) (i : ℕ) → length xs ≤ i → UnlessGrown asked t0 t1 (Left t0 heaps i) → UnlessGrown asked t0 t1 ((h : Cells) → SpatialHolds (λ _. found_if_asked n t0) s e xs h → IsAmong n heaps h)
-  left_end t0 t1 asked heaps i l f = λ k. let r = f k in (r.0, λ h o. whole h (subst (λ ys. Star (IsAmong n heaps) (SpatialHolds (λ _. found_if_asked n t0) s e ys) h) (drop_all xs i l) (r.1 h o)))
+  left_end t0 t1 asked heaps i l f = λ k. let r = f k in (r.0, λ h o. whole h (subst (λ ys. Star (IsAmong n heaps) (SpatialHolds (λ _. found_if_asked n t0) s e ys) h) (drop_all i xs l) (r.1 h o)))
     where
       whole : (h : Cells) → Star (IsAmong n heaps) (λ g. g ≡ no_cells) h → IsAmong n heaps h
       whole h o =

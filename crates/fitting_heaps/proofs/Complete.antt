@@ -13,7 +13,7 @@ use Rattle.heap_formula.specs.Definitions.{Definition}
 use Rattle.heap_formula.specs.Words.{Each, OneOf, max_of}
 use Rattle.heap_formula.specs.Values.{Stack, value, values}
 use Rattle.heap_formula.specs.Fresh.{exist_bound, most_in_pure, most_in_spatial, heap_exists}
-use Rattle.heap_formula.specs.Closedness.{InPure, InSpatial, InHeap, IsUniversal, IsUniversalHeap}
+use Rattle.heap_formula.specs.Closedness.{InPure, InSpatial, IsUniversal, IsUniversalHeap}
 use Rattle.heap_formula.specs.Cells.{Cells, cell_at}
 use Rattle.heap_formula.specs.Meaning.{Family, PureHolds, IsCell, AtomHolds, SpatialHolds, CaseHolds, cases_of, at_stage, least, Satisfies}
 use Rattle.heap_formula.proofs.StageLaws.{least_in_closed}
@@ -22,6 +22,9 @@ use Rattle.model_check.proofs.OnlyLocals.{member_each, left_inside, right_inside
 use Rattle.model_check.proofs.CaseLists.{constructive_cases}
 use Rattle.fitting_heaps.specs.Bounds.{AreAtMost, IsWithin, IsAmong}
 use Rattle.fitting_heaps.specs.Findings.{Findings, found_if_asked, FitsCase, IsSettled, UnlessGrown}
+use Rattle.formula_facts.proofs.AllMembers.{each_imply}
+use Rattle.model_check.proofs.KnownTerms.{in_heap_map, in_pure_map, in_spatial_map}
+use Rattle.formula_facts.proofs.Existentials.{heap_bounded}
 
 -- ---- values of terms are small
 
@@ -54,22 +57,6 @@ module _ (n : ℕ) (h : Cells) (s e : Stack) (b : SymbolicHeap) (w : IsWithin n 
 
 -- ---- other locals with the same values
 
-each_map : {X : Type 0} (P Q : X → Type 0) → ((x : X) → P x → Q x) → (xs : List X) → Each P xs → Each Q xs
-each_map P Q f [] k = tt
-each_map P Q f (x ∷ xs) k = (f x k.0, each_map P Q f xs k.1)
-
-module _ (P Q : Term → Type 0) (f : (t : Term) → P t → Q t) where
-  in_pure : (x : Pure) → InPure P x → InPure Q x
-  in_pure (Eq t u) k = (f t k.0, f u k.1)
-  in_pure (Neq t u) k = (f t k.0, f u k.1)
-
-  in_spatial : (x : Spatial) → InSpatial P x → InSpatial Q x
-  in_spatial (Cell t ts) k = (f t k.0, each_map P Q f ts k.1)
-  in_spatial (Pred p ts) k = each_map P Q f ts k
-
-  in_heap : (b : SymbolicHeap) → InHeap P b → InHeap Q b
-  in_heap b k = (each_map (InPure P) (InPure Q) in_pure b.pure k.0, each_map (InSpatial P) (InSpatial Q) in_spatial b.spatial k.1)
-
 module _ (P Q : Term → Type 0) where
   both_terms : (ts : List Term) → Each P ts → Each Q ts → Each (λ t. P t × Q t) ts
   both_terms [] a b = tt
@@ -84,25 +71,6 @@ module _ (P Q : Term → Type 0) where
   both_spatials [] a b = tt
   both_spatials (Cell t ts ∷ xs) a b = (((a.0.0, b.0.0), both_terms ts a.0.1 b.0.1), both_spatials xs a.1 b.1)
   both_spatials (Pred p ts ∷ xs) a b = (both_terms ts a.0 b.0, both_spatials xs a.1 b.1)
-
--- each existential of the formula is below the bound
-max_each : {X : Type 0} (f : X → ℕ) (m : ℕ) (xs : List X) → max_of (map f xs) ≤ m → Each (λ x. f x ≤ m) xs
-max_each f m [] h = tt
-max_each f m (x ∷ xs) h = (omega arith, max_each f m xs (omega arith))
-
-bound_pure : (m : ℕ) (x : Pure) → most_in_pure exist_bound x ≤ m → InPure (λ t. exist_bound t ≤ m) x
-bound_pure m (Eq t u) h = (omega arith, omega arith)
-bound_pure m (Neq t u) h = (omega arith, omega arith)
-
-bound_spatial : (m : ℕ) (x : Spatial) → most_in_spatial exist_bound x ≤ m → InSpatial (λ t. exist_bound t ≤ m) x
-bound_spatial m (Cell t ts) h = (omega arith, max_each exist_bound m ts (omega arith))
-bound_spatial m (Pred p ts) h = max_each exist_bound m ts h
-
-bound_heap : (m : ℕ) (b : SymbolicHeap) → heap_exists b ≤ m → InHeap (λ t. exist_bound t ≤ m) b
-bound_heap m b h = (
-  each_map (λ x. most_in_pure exist_bound x ≤ m) (InPure (λ t. exist_bound t ≤ m)) (bound_pure m) b.pure (max_each (most_in_pure exist_bound) m b.pure (omega arith)),
-  each_map (λ x. most_in_spatial exist_bound x ≤ m) (InSpatial (λ t. exist_bound t ≤ m)) (bound_spatial m) b.spatial (max_each (most_in_spatial exist_bound) m b.spatial (omega arith)),
-)
 
 -- the first values, each at most n
 lowered : ℕ → ℕ → Stack → Stack
@@ -174,14 +142,14 @@ module _ (ds : List Definition) (n : ℕ) (t : Findings) where
   case_fits : (vs : List ℕ) (h : Cells) (b : SymbolicHeap) → AreAtMost n vs → IsWithin n h → IsConstructive b → CaseHolds Means vs h b → FitsCase n (found_if_asked n t) vs h b
   case_fits vs h b z w k c =
       let fits = holds_fits (λ _. Means) vs c.0 b h h (inside_all h) c.1 in
-      let small = in_heap (Known b) (λ u. value vs c.0 u ≤ n) (known_small n h vs c.0 b w z fits) b k in
-      let below = bound_heap (heap_exists b) b (omega arith) in
+      let small = in_heap_map (Known b) (λ u. value vs c.0 u ≤ n) (known_small n h vs c.0 b w z fits) b k in
+      let below = heap_bounded (heap_exists b) b (omega arith) in
       let e' = lowered n (heap_exists b) c.0 in
       let f = value_same n (heap_exists b) vs c.0 in
       let A = λ (u : Term). (value vs c.0 u ≤ n) × (exist_bound u ≤ heap_exists b) in
       let B = λ (u : Term). (value vs c.0 u ≤ n) × (value vs c.0 u ≡ value vs e' u) in
-      let pures = each_map (InPure A) (InPure B) (in_pure A B f) b.pure (both_pures (λ u. value vs c.0 u ≤ n) (λ u. exist_bound u ≤ heap_exists b) b.pure small.0 below.0) in
-      let spatials = each_map (InSpatial A) (InSpatial B) (in_spatial A B f) b.spatial (both_spatials (λ u. value vs c.0 u ≤ n) (λ u. exist_bound u ≤ heap_exists b) b.spatial small.1 below.1) in
+      let pures = each_imply (InPure A) (InPure B) (in_pure_map A B f) b.pure (both_pures (λ u. value vs c.0 u ≤ n) (λ u. exist_bound u ≤ heap_exists b) b.pure small.0 below.0) in
+      let spatials = each_imply (InSpatial A) (InSpatial B) (in_spatial_map A B f) b.spatial (both_spatials (λ u. value vs c.0 u ≤ n) (λ u. exist_bound u ≤ heap_exists b) b.spatial small.1 below.1) in
       record {
         locals = e';
         long = lowered_long n (heap_exists b) c.0;
@@ -205,7 +173,7 @@ module _ (ds : List Definition) (n : ℕ) (t : Findings) where
   asked_found k settled s h a z w u x =
       let e = x.1.0 in
       let f = λ (v : Term) (i : IsUniversal v). universal_alike v i in
-      spatial_alike n (found_if_asked n t) s e [] (λ j. at_stage ds (x.0 j)) (λ j p vs g m b d. all_found k settled p vs g (x.0 j, m) b d) a.spatial h w (each_map (InSpatial IsUniversal) (InSpatial (λ v. (value s e v ≤ n) × (value s e v ≡ value s [] v))) (in_spatial IsUniversal (λ v. (value s e v ≤ n) × (value s e v ≡ value s [] v)) f) a.spatial u.1) x.1.1.1
+      spatial_alike n (found_if_asked n t) s e [] (λ j. at_stage ds (x.0 j)) (λ j p vs g m b d. all_found k settled p vs g (x.0 j, m) b d) a.spatial h w (each_imply (InSpatial IsUniversal) (InSpatial (λ v. (value s e v ≤ n) × (value s e v ≡ value s [] v))) (in_spatial_map IsUniversal (λ v. (value s e v ≤ n) × (value s e v ≡ value s [] v)) f) a.spatial u.1) x.1.1.1
     where
       universal_alike : (v : Term) → IsUniversal v → (value s x.1.0 v ≤ n) × (value s x.1.0 v ≡ value s [] v)
       universal_alike Nil i = (omega arith, refl)
@@ -253,7 +221,7 @@ none_exist a k =
     omega arith
 
 pub all_universal : (a : SymbolicHeap) → heap_exists a ≡ 0 → IsUniversalHeap a
-all_universal a e = in_heap (λ t. exist_bound t ≤ 0) IsUniversal zero_universal a (bound_heap 0 a (omega arith))
+all_universal a e = in_heap_map (λ t. exist_bound t ≤ 0) IsUniversal zero_universal a (heap_bounded 0 a (omega arith))
 
 pub universal_test : (a : SymbolicHeap) (n : ℕ) (b : Bool) → n ≡ heap_exists a → b ≡ nat_eq n 0 → (IsTrue b → IsUniversalHeap a) × (IsUniversalHeap a → IsTrue b)
 universal_test a n b e t = (

@@ -1,34 +1,25 @@
 -- Steps of loops over lists.
-use Rattle.std.proofs.Common.{◌≡◌, ℕ, zero, suc, ◌+◌, ◌<◌, ◌≤◌, List, [], ◌∷◌, ◌++◌, length, drop, get_or, add-one, drop-cons, Bool, true, false, ◌||◌, sym, ap, ◌∙◌, subst, refl, inl, inr, ◌⊎◌, arith}
+use Rattle.std.proofs.Common.{◌≡◌, ℕ, zero, suc, ◌+◌, ◌<◌, ◌≤◌, List, [], ◌∷◌, ◌++◌, length, drop, get_or, drop-cons, Bool, true, false, ◌||◌, sym, ◌∙◌, subst, inl, inr, ◌⊎◌, arith}
 use Rattle.std.specs.Prelude.{IsTrue}
 use Rattle.heap_formula.specs.Words.{Each, OneOf}
-
-split_drop : {X : Type 0} (xs : List X) (i : ℕ) (x : X) → i < length xs → x ≡ get_or xs i x → drop i xs ≡ x ∷ drop (i + 1) xs
-split_drop xs i x h e = rw (add-one, drop-cons xs i x) (ap (λ y. y ∷ drop (suc i) xs) (sym e))
+use Rattle.formula_facts.proofs.SomeMember.{one_front, one_last}
+use Rattle.list_facts.proofs.Places.{drop_read}
+use Rattle.std.proofs.lemmas.List.{drop_all}
 
 -- what is among the rest, or done, still is when one more is done
 pub turn : {X M N : Type 0} (Q : X → Type 0) (xs : List X) (i : ℕ) (x : X) → i < length xs → x ≡ get_or xs i x → ((M ⊎ Q x) → N) → (M ⊎ OneOf Q (drop i xs)) → (N ⊎ OneOf Q (drop (i + 1) xs))
 turn {M = M} {N = N} Q xs i x l e f o =
-    let s = split_drop xs i x l e in
+    let s = drop_read xs i x l e in
     let p : M ⊎ (Q x ⊎ OneOf Q (drop (i + 1) xs)) = subst (λ ys. M ⊎ OneOf Q ys) s o in
     elim p as (λ z. N ⊎ OneOf Q (drop (i + 1) xs)) [
       | inl m ↦ inl (f (inl m))
       | inr q ↦ elim q as (λ z. N ⊎ OneOf Q (drop (i + 1) xs)) [ inl a ↦ inl (f (inr a)) | inr r ↦ inr r ]
     ]
 
-drop_none : {X : Type 0} (i : ℕ) → ◌≡◌ {A = List X} (drop i []) []
-drop_none zero = refl
-drop_none (suc i) = refl
-
-pub drop_all : {X : Type 0} (xs : List X) (i : ℕ) → length xs ≤ i → drop i xs ≡ []
-drop_all [] i h = drop_none i
-drop_all (x ∷ xs) zero h = absurd (omega arith)
-drop_all (x ∷ xs) (suc i) h = drop_all xs i (omega arith)
-
 -- at the end all is done
 pub done : {X M : Type 0} (Q : X → Type 0) (xs : List X) (i : ℕ) → length xs ≤ i → (M ⊎ OneOf Q (drop i xs)) → M
 done {M = M} Q xs i h o =
-    let p : M ⊎ ⊥ = subst (λ ys. M ⊎ OneOf Q ys) (drop_all xs i h) o in
+    let p : M ⊎ ⊥ = subst (λ ys. M ⊎ OneOf Q ys) (drop_all i xs h) o in
     elim p as (λ z. M) [ inl m ↦ m | inr b ↦ absurd b ]
 
 pub one_at : {X : Type 0} (P : X → Type 0) (xs : List X) (i : ℕ) (x : X) → i < length xs → x ≡ get_or xs i x → P x → OneOf P xs
@@ -36,18 +27,9 @@ one_at P [] i x h e p = absurd (omega arith)
 one_at P (y ∷ ys) zero x h e p = inl (subst P e p)
 one_at P (y ∷ ys) (suc i) x h e p = inr (one_at P ys i x (omega arith) e p)
 
-pub one_left : {X : Type 0} (P : X → Type 0) (xs ys : List X) → OneOf P xs → OneOf P (xs ++ ys)
-one_left P [] ys o = absurd o
-one_left P (x ∷ xs) ys (inl p) = inl p
-one_left P (x ∷ xs) ys (inr o) = inr (one_left P xs ys o)
-
-pub one_last : {X : Type 0} (P : X → Type 0) (xs : List X) (x : X) → P x → OneOf P (xs ++ x ∷ [])
-one_last P [] x p = inl p
-one_last P (y ∷ ys) x p = inr (one_last P ys x p)
-
 -- a list with one more member at its end
 pub pushed : {X : Type 0} (P : X → Type 0) (old new : List X) (x : X) → new ≡ old ++ x ∷ [] → (OneOf P old ⊎ P x) → OneOf P new
-pushed P old new x e o = subst (OneOf P) (sym e) (elim o as (λ z. OneOf P (old ++ x ∷ [])) [ inl a ↦ one_left P old (x ∷ []) a | inr p ↦ one_last P old x p ])
+pushed P old new x e o = subst (OneOf P) (sym e) (elim o as (λ z. OneOf P (old ++ x ∷ [])) [ inl a ↦ one_front P old (x ∷ []) a | inr p ↦ one_last P old x p ])
 
 -- a test that fails for a member of the rest
 pub one_fails : {X : Type 0} (P : X → Type 0) (xs : List X) (i : ℕ) (d : X) (b : Bool) → i < length xs → b ≡ false → (P (get_or xs i d) → IsTrue b) → Each P (drop i xs) → ⊥

@@ -1,5 +1,5 @@
 -- Cases and questions that give nothing new.
-use Rattle.std.proofs.Common.{◌≡◌, ℕ, zero, suc, ◌+◌, ◌<◌, ◌≤◌, List, [], ◌∷◌, length, Bool, ◌||◌, Some, None, refl, sym, ap, ◌∙◌, subst, inl, inr, arith}
+use Rattle.std.proofs.Common.{◌≡◌, ℕ, ◌+◌, ◌<◌, ◌≤◌, List, length, Bool, ◌||◌, Some, None, sym, ap, ◌∙◌, subst, inl, inr, arith}
 use Rattle.std.specs.Prelude.{slice_get}
 use Rattle.std.proofs.lemmas.Bool.{cases_lt}
 use Rattle.heap_formula.specs.declared.atoms.Pure.{Pure}
@@ -17,6 +17,7 @@ use Rattle.model_check.specs.Grounding.{IsQuestion}
 use Rattle.fitting_heaps.specs.LocalValues.{IsChoice}
 use Rattle.fitting_heaps.specs.Findings.{Findings, IsFound, found_if_asked, FitsCase, TakesCases, IsSettled, UnlessGrown}
 use Rattle.fitting_heaps.proofs.Turns.{both_steps}
+use Rattle.std.proofs.lemmas.Option.{same_Some, slice_get_past}
 
 -- all choices of locals are done
 pub case_taken : (n : ℕ) (t0 t1 : Findings) (grown : Bool) (q count : ℕ) (vs : List ℕ) (b : SymbolicHeap) (pure : List Pure) (all view : List Stack) → count ≡ heap_exists b → pure ≡ b.pure → ((e : Stack) → IsChoice n count vs pure e → Member e all) → view ≡ all → UnlessGrown grown t0 t1 ((h : Cells) → OneOf (λ e. SpatialHolds (λ _. found_if_asked n t0) vs e b.spatial h) view → IsFound n t0 q h) → UnlessGrown grown t0 t1 ((h : Cells) → FitsCase n (found_if_asked n t0) vs h b → IsFound n t0 q h)
@@ -28,16 +29,13 @@ case_taken n t0 t1 grown q count vs b pure all view ce pe f ve g = λ z.
           r.1 h (subst (OneOf (λ e. SpatialHolds (λ _. found_if_asked n t0) vs e b.spatial h)) (sym ve) (OneOf-map (λ e. e ≡ k.locals) (λ e. SpatialHolds (λ _. found_if_asked n t0) vs e b.spatial h) (λ e same. subst (λ y. SpatialHolds (λ _. found_if_asked n t0) vs y b.spatial h) (sym same) k.holds.1) all m)),
     )
 
-some_same : {X : Type 0} (x y : X) → Some x ≡ Some y → x ≡ y
-some_same x y e = cc
-
 -- a question whose cases are done is settled
 pub question_settled : (ds : List Definition) (n : ℕ) (t0 t1 : Findings) (grown : Bool) (q p : ℕ) (question : Question) (vs : List ℕ) (bs : List SymbolicHeap) → slice_get t0.questions q ≡ Some question → p ≡ question.predicate → vs ≡ question.values → bs ≡ cases_of ds p → UnlessGrown grown t0 t1 (TakesCases n t0 q vs bs) → UnlessGrown grown t0 t1 (IsSettled ds n t0 q)
 question_settled ds n t0 t1 grown q p question vs bs i pe ve be f = λ z.
     let r = f z in (
       r.0,
       λ p' vs' k.
-          let e : question ≡ record { predicate = p'; values = vs' } = some_same question (record { predicate = p'; values = vs' }) (sym i ∙ k) in
+          let e : question ≡ record { predicate = p'; values = vs' } = same_Some question (record { predicate = p'; values = vs' }) (sym i ∙ k) in
           let a : p ≡ p' = pe ∙ ap (λ (y : Question). y.predicate) e in
           let b : vs ≡ vs' = ve ∙ ap (λ (y : Question). y.values) e in
           subst (λ y. TakesCases n t0 q y (cases_of ds p')) b (subst (TakesCases n t0 q vs) (be ∙ ap (cases_of ds) a) r.1),
@@ -52,12 +50,6 @@ settled_turn ds n t0 t1 t2 grown more both k b =
       | inr ge ↦ let same : k ≡ q = omega arith in subst (λ y. IsSettled ds n t y) same g
     ])
 
-past_end : {X : Type 0} (xs : List X) (i : ℕ) → length xs ≤ i → slice_get xs i ≡ None
-past_end [] zero h = refl
-past_end [] (suc i) h = refl
-past_end (x ∷ xs) zero h = absurd (omega arith)
-past_end (x ∷ xs) (suc i) h = past_end xs i (omega arith)
-
 -- all questions are settled
 pub settled_all : (ds : List Definition) (n : ℕ) (t0 t1 : Findings) (grown : Bool) (k : ℕ) → length t0.questions ≤ k → UnlessGrown grown t0 t1 ((q : ℕ) → q < k → IsSettled ds n t0 q) → UnlessGrown grown t0 t1 ((q : ℕ) → IsSettled ds n t0 q)
 settled_all ds n t0 t1 grown k l f = λ z.
@@ -66,7 +58,7 @@ settled_all ds n t0 t1 grown k l f = λ z.
       λ q.
           elim (cases_lt q k) as (λ y. IsSettled ds n t0 q) [
             | inl lt ↦ r.1 q lt
-            | inr ge ↦ λ p vs i. absurd (no p vs q i (past_end t0.questions q (let j : k ≤ q = ge in omega arith)))
+            | inr ge ↦ λ p vs i. absurd (no p vs q i (slice_get_past t0.questions q (let j : k ≤ q = ge in omega arith)))
           ],
     )
   where

@@ -1,21 +1,17 @@
 -- Steps that leave all as it was where they find nothing.
-use Rattle.std.proofs.Common.{◌≡◌, ℕ, ◌+◌, ◌<◌, ◌≤◌, List, [], ◌∷◌, length, drop, get_or, Bool, true, false, ◌||◌, refl, sym, ◌∙◌, subst, inl, inr, ◌⊎◌}
-use Rattle.std.specs.Prelude.{Result, Ok, Err, IfOk}
+use Rattle.std.proofs.Common.{◌≡◌, ℕ, ◌+◌, ◌<◌, ◌≤◌, List, [], ◌∷◌, length, drop, get_or, Bool, ◌||◌, sym, ◌∙◌, subst, inl, inr, ◌⊎◌}
 use Rattle.heap_formula.specs.Words.{OneOf}
 use Rattle.heap_formula.specs.Cells.{Cells}
 use Rattle.fitting_heaps.specs.Bounds.{SameUpTo, IsAmong}
 use Rattle.fitting_heaps.specs.Findings.{Findings, IsFound, UnlessGrown}
 use Rattle.fitting_heaps.proofs.Loops.{turn, done}
-
-pub neither : (a b : Bool) → (a || b) ≡ false → (a ≡ false) × (b ≡ false)
-neither true b e = absurd (let z : true ≡ false = e in cc)
-neither false b e = (refl, e)
+use Rattle.std.proofs.lemmas.Bool.{or_parts}
 
 module _ (t0 t1 t2 : Findings) (grown more both : Bool) (either : both ≡ (grown || more)) where
   -- two steps, one after the other
   pub both_steps : (P : Findings → Type 0) (Q : Findings → Type 0) (R : Findings → Type 0) → ((t : Findings) → P t → Q t → R t) → UnlessGrown grown t0 t1 (P t0) → UnlessGrown more t1 t2 (Q t1) → UnlessGrown both t0 t2 (R t0)
   both_steps P Q R f a b = λ e.
-      let n = neither grown more (sym either ∙ e) in
+      let n = or_parts grown more (sym either ∙ e) in
       let x = a n.0 in
       let y = b n.1 in
       (y.0 ∙ x.0, f t0 x.1 (subst Q x.0 y.1))
@@ -32,7 +28,3 @@ grown_end t0 t1 grown M Q xs i l a = λ e. let x = a e in (x.0, λ h o. done (λ
 -- a heap that is like one alone
 pub alone : (t0 t1 : Findings) (grown : Bool) (n q : ℕ) (x : Cells) → UnlessGrown grown t0 t1 ((h : Cells) → IsAmong n (x ∷ []) h → IsFound n t0 q h) → UnlessGrown grown t0 t1 ((h : Cells) → SameUpTo n x h → IsFound n t0 q h)
 alone t0 t1 grown n q x f = λ e. let r = f e in (r.0, λ h s. r.1 h (inl s))
-
-pub if_ok : {X Y : Type 0} (r : Result X Y) (P Q : X → Type 0) → ((x : X) → P x → Q x) → IfOk r P → IfOk r Q
-if_ok (Ok x) P Q f p = f x p
-if_ok (Err y) P Q f p = tt

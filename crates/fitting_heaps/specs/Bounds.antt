@@ -1,5 +1,5 @@
 -- Heaps whose addresses and fields are bounded, and heaps up to an address.
-use Rattle.std.specs.Prelude.{◌≡◌, ℕ, ◌<◌, ◌≤◌, List, Option, Some, None}
+use Rattle.std.specs.Prelude.{◌≡◌, ℕ, ◌<◌, ◌≤◌, List, Some}
 use Rattle.heap_formula.specs.Words.{Each, OneOf}
 use Rattle.heap_formula.specs.Cells.{Cells, cell_at, IsUnion}
 
@@ -27,8 +27,3 @@ pub record Unites (n : ℕ) (x y h : Cells) : Type 0 where
   pub first : SameUpTo n x part
   pub others : SameUpTo n y rest
   pub union : IsUnion part rest h
-
--- the first that is there
-abbrev pub either : {X : Type 0} → Option X → Option X → Option X
-either None y = y
-either (Some x) y = Some x

@@ -6,7 +6,6 @@ mod asking;
 mod choices;
 mod combining;
 mod fitting;
-mod questions;
 mod refreshing;
 mod small_heaps;
 mod table;

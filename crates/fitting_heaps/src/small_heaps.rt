@@ -1,8 +1,8 @@
 // Heaps, cell by cell, up to an address.
 ghost use Rattle.std.specs.Prelude.{◌≡◌, ◌≢◌, ◌≤◌, ◌<◌, ◌↔◌, ℕ, List, IsTrue, IfOk, OnOk, Some};
-ghost use Rattle.std.specs.Option.{is_some};
+ghost use Rattle.std.specs.Option.{is_some, option_or};
 ghost use Rattle.heap_formula.specs.Cells.{Cells as Heaps, cell_at};
-ghost use Rattle.fitting_heaps.specs.Bounds.{AreAtMost, SameUpTo, Unites, either};
+ghost use Rattle.fitting_heaps.specs.Bounds.{AreAtMost, SameUpTo, Unites};
 
 use cyc_memory::OutOfMemory;
 use goto_lang::Cells;
@@ -28,7 +28,7 @@ pub fn are_apart(greatest: u32, part: &Cells, rest: &Cells) -> bool
 
 /// Copies the cell at an address, if there is one.
 fn copy_cell(alloc: Global, from: &Cells, to: &mut Cells, address: u64) -> Result<(), OutOfMemory>
-    ensures at { OnOk result (cell_at to.new address ≡ either (cell_at from.now address) (cell_at to.old address)) }
+    ensures at { OnOk result (cell_at to.new address ≡ option_or (cell_at from.now address) (cell_at to.old address)) }
     ensures others { OnOk result ((a : ℕ) → a ≢ address → cell_at to.new a ≡ cell_at to.old a) }
 {
     match from.get(address) {
@@ -49,7 +49,7 @@ pub fn with_cells(
     rest: &Cells,
 ) -> Result<Cells, OutOfMemory>
     ensures below { IfOk result (λ h. (a : ℕ) → a ≤ greatest
-        → cell_at h a ≡ either (cell_at rest.now a) (cell_at part.now a)) }
+        → cell_at h a ≡ option_or (cell_at rest.now a) (cell_at part.now a)) }
     ensures above { IfOk result (λ h. (a : ℕ) → greatest < a → cell_at h a ≡ cell_at part.now a) }
 {
     let mut whole = part.clone()?;

@@ -6,10 +6,10 @@ ghost use Rattle.fitting_heaps.specs.Bounds.{IsAmong};
 ghost use Rattle.fitting_heaps.specs.Findings.{heaps_in, IsFound, UnlessGrown};
 
 use crate::combining::{Heaps, has_heap};
-use crate::questions::Question;
 use cyc_memory::OutOfMemory;
 use goto_lang::Cells;
 use indexmap::IndexSet;
+use model_check::Question;
 use std::alloc::Global;
 use std::marker::Model;
 

@@ -10,7 +10,6 @@ use Rattle.fo_formula.specs.declared.nodes.FoReason.TheVariants.{Rule, Link}
 use Rattle.fo_formula.specs.declared.nodes.FoRule.{FoRule}
 use Rattle.fo_formula.specs.declared.sequents.FoSequent.{FoSequent}
 use Rattle.fo_formula.specs.declared.theory.FoTheory.{FoTheory}
-use Rattle.fo_formula.proofs.Lists.{each_at}
 use Rattle.fo_table.specs.LinkTable.{link_premise}
 use Rattle.fo_table.specs.Nodes.{unless_fault}
 use Rattle.fo_nodes.specs.Files.{predicate_places}
@@ -29,6 +28,7 @@ use Rattle.fo_calculus.specs.Calculus.{OpenGoal, MadeNode, sequent_of, traced, b
 use Rattle.fo_calculus.specs.Occurring.{MayOccur}
 use Rattle.fo_calculus.proofs.Answers.{rule_premises, link_back, link_alone}
 use Rattle.fo_calculus.proofs.Offers.{rules_lead_forth, offers_within}
+use Rattle.formula_facts.proofs.AllMembers.{each_at}
 
 -- pairs of predicate atoms lead from positions to positions
 pairs_in : (olds news : List FoAtom) (pairs : List Pair) → PairsFit olds news pairs →

@@ -10,12 +10,10 @@ use Rattle.fo_formula.specs.declared.nodes.FoRule.{FoRule}
 use Rattle.fo_formula.specs.declared.nodes.FoRule.TheVariants.{Axiom, Refl, Clash, Decompose, Replace, WeakenLeft, WeakenRight, Contract, Unfold, Cut, Right}
 use Rattle.fo_formula.specs.declared.sequents.FoSequent.{FoSequent}
 use Rattle.fo_formula.specs.declared.theory.FoTheory.{FoTheory}
-use Rattle.fo_formula.proofs.Lists.{each_append, each_at}
 use Rattle.fo_limits.specs.Limits.{IsReasonWithin}
 use Rattle.fo_moves.specs.Before.{rules_before}
 use Rattle.fo_moves.specs.Links.{links_to}
 use Rattle.fo_moves.specs.After.{rules_after}
-use Rattle.fo_moves.proofs.Lists.{each_mapped}
 use Rattle.fo_moves.proofs.Offered.{before_within, links_within, after_within}
 use Rattle.proof_graph.proofs.Joined.{mapped_at}
 use Rattle.derivation_search.specs.Firsts.{IsIn}
@@ -25,10 +23,8 @@ use Rattle.tableaux.specs.Fair.{AllOccur}
 use Rattle.fo_calculus.specs.Calculus.{OpenGoal, MadeNode, sequent_of, back, links_by_reason, links_to_node, links_at, rules_at}
 use Rattle.fo_calculus.specs.Occurring.{MayOccur}
 use Rattle.cyc_limits.specs.declared.TheConstants.{MOST_LINKS}
-
-each_else : {X : Type 0} (P : X → Type 0) (xs ys : List X) → Each P xs → Each P ys → Each P (or_else xs ys)
-each_else P [] ys a b = b
-each_else P (x ∷ xs) ys a b = a
+use Rattle.formula_facts.proofs.AllMembers.{each_append, each_at, each_mapped}
+use Rattle.fo_moves.proofs.Lists.{each_else}
 
 each_if : {X : Type 0} (P : X → Type 0) (b : Bool) (xs : List X) → Each P xs → Each P (cond b xs [])
 each_if P true xs h = h

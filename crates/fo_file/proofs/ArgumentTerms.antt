@@ -12,7 +12,7 @@ use Rattle.fo_values.specs.Values.{first_terms, term_value, atom_value, atoms_va
 use Rattle.fo_values.specs.Known.{IsKnownAtom, AreKnownAtoms, IsKnownSequent, IsKnownDefinition, IsKnownReason, IsKnownNode, IsKnownFile, IsKnownProblem}
 use Rattle.fo_values.proofs.TreesAgain.{terms-value}
 use Rattle.fo_file.specs.OfTerms.{IsAtomOfTerms, AreAtomsOfTerms, IsSequentOfTerms, IsDefinitionOfTerms, IsReasonOfTerms, IsNodeOfTerms, IsFileOfTerms, IsProblemOfTerms}
-use Rattle.fo_file.proofs.Lists.{each-map}
+use Rattle.formula_facts.proofs.AllMembers.{each_made}
 
 first-are-terms : (n : ℕ) (w : Word) → words.AreTerms n w → Each words.IsTerm (first_terms n w)
 first-are-terms zero w are = tt
@@ -28,17 +28,17 @@ module _ (cs ps : List Heading) where
   atom-of-terms (Predicate (Apply name n ∷ ss)) k = first-are-terms n (term_value cs ss) (terms-value cs n ss k.1.0)
 
   atoms-of-terms : (xs : List Atom) → AreKnownAtoms cs ps xs → AreAtomsOfTerms (atoms_value cs ps xs)
-  atoms-of-terms xs k = each-map (atom_value cs ps) (IsKnownAtom cs ps) IsAtomOfTerms atom-of-terms xs k
+  atoms-of-terms xs k = each_made (atom_value cs ps) (IsKnownAtom cs ps) IsAtomOfTerms atom-of-terms xs k
 
   sequent-of-terms : (s : Sequent) → IsKnownSequent cs ps s → IsSequentOfTerms (sequent_value cs ps s)
   sequent-of-terms s k = (atoms-of-terms s.left k.0, atoms-of-terms s.right k.1)
 
   definition-of-terms : (d : Definition) → IsKnownDefinition cs ps d → IsDefinitionOfTerms (definition_value cs ps d)
-  definition-of-terms d k = each-map (atoms_value cs ps) (AreKnownAtoms cs ps) AreAtomsOfTerms atoms-of-terms d.cases k.1
+  definition-of-terms d k = each_made (atoms_value cs ps) (AreKnownAtoms cs ps) AreAtomsOfTerms atoms-of-terms d.cases k.1
 
   definitions-of-terms : (ds : List Definition) → Each (IsKnownDefinition cs ps) ds → Each IsDefinitionOfTerms (map (definition_value cs ps) ds)
   definitions-of-terms ds k =
-      each-map (definition_value cs ps) (IsKnownDefinition cs ps) IsDefinitionOfTerms definition-of-terms ds k
+      each_made (definition_value cs ps) (IsKnownDefinition cs ps) IsDefinitionOfTerms definition-of-terms ds k
 
   reason-of-terms : (r : Reason) → IsKnownReason cs ps r → IsReasonOfTerms (reason_value cs ps r)
   reason-of-terms (Axiom i j) k = tt
@@ -58,7 +58,7 @@ module _ (cs ps : List Heading) where
   node-of-terms n k = (sequent-of-terms n.sequent k.0, reason-of-terms n.reason k.1)
 
   pub file-of-terms : (f : File) → IsKnownFile cs ps f → IsFileOfTerms (file_value cs ps f)
-  file-of-terms f k = (definitions-of-terms f.definitions k.0.1, each-map (node_value cs ps) (IsKnownNode cs ps) IsNodeOfTerms node-of-terms f.nodes k.1)
+  file-of-terms f k = (definitions-of-terms f.definitions k.0.1, each_made (node_value cs ps) (IsKnownNode cs ps) IsNodeOfTerms node-of-terms f.nodes k.1)
 
   pub problem-of-terms : (p : Problem) → IsKnownProblem cs ps p → IsProblemOfTerms (problem_value cs ps p)
   problem-of-terms p k = (definitions-of-terms p.definitions k.0.1, sequent-of-terms p.goal k.1)

@@ -9,27 +9,27 @@ use Rattle.fo_problem_syntax.specs.Trees.{Definition, Problem}
 use Rattle.fo_problem_syntax.specs.Grammar.{atoms, atoms_or, constructors, definition, definitions, sequent, goal, problem_body, problem}
 use Rattle.fo_proof_syntax.specs.Trees.{Entry, Node, File}
 use Rattle.fo_proof_syntax.specs.Grammar.{terms, entry, entries, node, nodes, body, file}
-use Rattle.fo_file.proofs.Lists.{each-fits}
+use Rattle.heap_reader.proofs.Members.{many_fit}
 
 pub sides-fit : (none : Class (Unit {0})) (b : Bool) (xs : List Atom) → (atoms_or none b).fits xs → Each (atom b).fits xs
 unfolding atoms_or atoms
 sides-fit none b [] f = tt
-sides-fit none b (a ∷ more) f = each-fits (after comma (atom b)) (a ∷ more) f.1.1
+sides-fit none b (a ∷ more) f = many_fit (after comma (atom b)) (a ∷ more) f.1.1
 
 pub terms-fit : (ts : List (List Sign)) → terms.fits ts → Each (term false).fits ts
 unfolding terms
 terms-fit [] f = tt
-terms-fit (t ∷ ts) f = each-fits (after comma (term false)) (t ∷ ts) f.1.1
+terms-fit (t ∷ ts) f = many_fit (after comma (term false)) (t ∷ ts) f.1.1
 
 pub entries-fit : (es : List Entry) → entries.fits es → Each entry.fits es
 unfolding entries
 entries-fit [] f = tt
-entries-fit (e ∷ es) f = each-fits (after comma entry) (e ∷ es) f.1.1
+entries-fit (e ∷ es) f = many_fit (after comma entry) (e ∷ es) f.1.1
 
 pub nodes-fit : (ns : List Node) → nodes.fits ns → Each node.fits ns
 unfolding nodes
 nodes-fit [] f = tt
-nodes-fit (n ∷ ns) f = (f.1.0, each-fits node ns f.1.1)
+nodes-fit (n ∷ ns) f = (f.1.0, many_fit node ns f.1.1)
 
 pub some-node : (ns : List Node) → nodes.fits ns → 0 < length ns
 unfolding nodes
@@ -38,7 +38,7 @@ some-node (n ∷ ns) f = omega arith
 
 pub definitions-fit : (ds : List Definition) → definitions.fits ds → Each definition.fits ds
 unfolding definitions
-definitions-fit ds f = each-fits definition ds f
+definitions-fit ds f = many_fit definition ds f
 
 -- ---- texts
 

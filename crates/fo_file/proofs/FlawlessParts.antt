@@ -21,8 +21,9 @@ use Rattle.fo_walk.specs.Parts.{IsDefinition, IsSequent, IsEntry, IsReason, IsNo
 use Rattle.fo_walk.specs.Spans.{constructor_span, definition_span, sequent_span, sequent_terms, term_span, entry_span, node_span}
 use Rattle.fo_walk.specs.Flaws.{constructor_heading, predicate_heading, constructor_heads, predicate_heads, arguments_flaw, constant_flaw, constructor_flaw, definition_head_flaw, case_flaw, cases_flaw, definition_flaw, sequent_flaw, terms_flaw, entry_flaw, entries_flaw, reason_flaw, node_flaw, nodes_flaw, constructors_flaw, definitions_flaw, theory_flaw}
 use Rattle.fo_values.specs.Known.{IsNarrow, IsKnownTerm, IsKnownEntry, AreKnownAtoms, IsKnownSequent, IsKnownDefinition, IsKnownReason, IsKnownTheory}
-use Rattle.fo_file.proofs.Lists.{each-apply, each-imply, each-map}
+use Rattle.fo_file.proofs.Lists.{each-apply}
 use Rattle.fo_file.proofs.Flawless.{HasFewArguments, variable-small, term-known, atom-known, side-known}
+use Rattle.formula_facts.proofs.AllMembers.{each_imply, each_made}
 
 -- ---- constructors
 
@@ -45,10 +46,10 @@ constructors-few cs e = (
 )
 
 pub few-heads : (cs : List Constructor) → Each HasFew cs → Each HasFewArguments (constructor_heads cs)
-few-heads cs few = each-map constructor_heading HasFew HasFewArguments (λ c h. h) cs few
+few-heads cs few = each_made constructor_heading HasFew HasFewArguments (λ c h. h) cs few
 
 narrow : (cs : List Constructor) → Each HasFew cs → Each IsNarrow cs
-narrow cs few = each-imply HasFew IsNarrow (λ c h. omega arith) cs few
+narrow cs few = each_imply HasFew IsNarrow (λ c h. omega arith) cs few
 
 -- the first constructor is a constant
 pub first-constant : (c : Constructor) (cs : List Constructor) → constructors_flaw (c ∷ cs) ≡ None → c.arguments ≡ 0
@@ -92,9 +93,9 @@ module _ (cs : List Heading) (few : Each HasFewArguments cs) (ps : List Heading)
             let r = cases-known d.arity 0 (k + 6) small d.cases is (omega arith) a.1 in
             let count = r.0 in
             record {
-              known = (omega arith, each-imply IsCaseWithin (AreKnownAtoms cs ps) (λ xs h. h.0) d.cases r.1);
+              known = (omega arith, each_imply IsCaseWithin (AreKnownAtoms cs ps) (λ xs h. h.0) d.cases r.1);
               cases = omega arith;
-              atoms = each-imply IsCaseWithin (λ (xs : List Atom). length xs ≤ 16) (λ xs h. h.1) d.cases r.1;
+              atoms = each_imply IsCaseWithin (λ (xs : List Atom). length xs ≤ 16) (λ xs h. h.1) d.cases r.1;
             },
       )
 
@@ -195,5 +196,5 @@ theory-known cs ds are e =
       constructors = omega arith;
       predicates = omega arith;
       definitions = rest.0;
-      known = (narrow cs first.0, each-imply (IsDefinitionWithin (constructor_heads cs) (few-heads cs first.0) (predicate_heads ds)) (IsKnownDefinition (constructor_heads cs) (predicate_heads ds)) (λ d h. h.known) ds rest.0);
+      known = (narrow cs first.0, each_imply (IsDefinitionWithin (constructor_heads cs) (few-heads cs first.0) (predicate_heads ds)) (IsKnownDefinition (constructor_heads cs) (predicate_heads ds)) (λ d h. h.known) ds rest.0);
     }

@@ -13,13 +13,13 @@ use Rattle.fo_formula.specs.declared.theory.FoTheory.{FoTheory}
 use Rattle.fo_formula.specs.Sizes.{words_size, atom_size, atoms_size, sequent_size}
 use Rattle.fo_formula.specs.Words as words
 use Rattle.fo_formula.specs.Words.{Word, arity}
-use Rattle.fo_formula.proofs.Lists.{each_append}
 use Rattle.fo_formula.proofs.Replacing.{term_keeps}
 use Rattle.fo_limits.specs.Limits.{IsTermOf}
 use Rattle.fo_term_syntax.specs.Trees.{Sign, arguments_of, AreTerms}
 use Rattle.fo_walk.specs.AtomSpans.{terms_in, total_terms}
 use Rattle.fo_walk.specs.Spans.{sequent_terms}
 use Rattle.fo_values.specs.Written.{sign_tree, term_tree, atom_tree, atoms_tree, sequent_tree}
+use Rattle.formula_facts.proofs.AllMembers.{each_append}
 
 -- ---- the arguments of a predicate as one word
 

@@ -27,8 +27,8 @@ use Rattle.fo_problem_syntax.specs.Grammar.{atoms, atoms_or, sequent}
 use Rattle.fo_proof_syntax.specs.Trees.{Entry, Node}
 use Rattle.fo_proof_syntax.specs.Grammar.{numbers, bracketed, two_numbers, replace, terms, right_rule, entry, entries, link, parts, reason, premises, node, nodes}
 use Rattle.fo_values.specs.Written.{constructor_name, predicate_name, sign_tree, term_tree, atom_tree, atoms_tree, sequent_tree, entry_tree, reason_tree, node_tree}
-use Rattle.fo_file.proofs.Lists.{each-map}
 use Rattle.fo_file.proofs.NodeTrees.{joined, joined-terms, joined-signs, are-terms, terms-tree, joined-tree}
+use Rattle.formula_facts.proofs.AllMembers.{each_made}
 
 -- ---- parts that fit make what fits
 
@@ -124,7 +124,7 @@ module _ (t : FoTheory) (constructors : (c k : ℕ) → IsConstructor t.construc
         subst (λ (ss : List Sign). (atom false).fits (Predicate (Apply name (length ts) ∷ ss))) (sym (joined-tree t ts)) (use-fits false (Apply name (length ts) ∷ term_tree t (joined ts)) fit)
 
     side-fits : (xs : List FoAtom) → Each (IsAtomWithin t) xs → Each (atom false).fits (atoms_tree t xs)
-    side-fits xs h = each-map (atom_tree t) (IsAtomWithin t) (atom false).fits atom-fits xs h
+    side-fits xs h = each_made (atom_tree t) (IsAtomWithin t) (atom false).fits atom-fits xs h
 
     -- ---- sequents, reasons and nodes
 
@@ -146,10 +146,10 @@ module _ (t : FoTheory) (constructors : (c k : ℕ) → IsConstructor t.construc
     reason-fits (reasons.Rule (rules.Unfold i)) h n = (tt, (tt, n.0))
     reason-fits (reasons.Rule (rules.Cut x)) h n = (tt, (tt, atom-fits x h))
     reason-fits (reasons.Rule (rules.Right j c ts)) h n =
-        let all = each-map (term_tree t) (IsTermWithin t) (term false).fits term-fit ts h in
+        let all = each_made (term_tree t) (IsTermWithin t) (term false).fits term-fit ts h in
         (tt, (tt, (n.0, (n.1.0, terms-made (map (term_tree t) ts) all))))
     reason-fits (reasons.Link l) h n =
-        let all = each-map (entry_tree t) (IsPairWithin t) entry.fits entry-fits l.substitution h in
+        let all = each_made (entry_tree t) (IsPairWithin t) entry.fits entry-fits l.substitution h in
         let left = bracketed-fit l.left_map (each-front l.left_map l.right_map n.1) in
         let right = bracketed-fit l.right_map (each-behind l.left_map l.right_map n.1) in
         (tt, (tt, (tt, (n.0, (entries-made (map (entry_tree t) l.substitution) all, (left, right))))))

@@ -32,7 +32,7 @@ use Rattle.fo_values.proofs.TreesAgain.{terms-value}
 use Rattle.fo_walk.specs.AtomSpans.{terms_in, total_terms}
 use Rattle.fo_walk.specs.Spans.{sequent_terms}
 use Rattle.fo_file.proofs.Fitted.{sides-fit, terms-fit, entries-fit}
-use Rattle.fo_file.proofs.Lists.{each-take, each-drop}
+use Rattle.formula_facts.proofs.AllMembers.{each_take, each_drop}
 
 -- ---- the terms of a word
 
@@ -40,7 +40,7 @@ pub first-each : (P : SignValue → Type 0) (n : ℕ) (w : Word) → words.AreTe
 first-each P zero w are h = tt
 first-each P (suc n) w are h =
     let both = first_split n w are in
-    ((both.0, each-take P (end_of 1 w) w h), first-each P n (after_first w) both.1 (each-drop P (end_of 1 w) w h))
+    ((both.0, each_take P (end_of 1 w) w h), first-each P n (after_first w) both.1 (each_drop P (end_of 1 w) w h))
 
 first-size : (n : ℕ) (w : Word) → words.AreTerms n w → words_size (first_terms n w) ≡ length w
 first-size zero [] are = refl

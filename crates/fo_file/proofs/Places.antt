@@ -11,7 +11,7 @@ use Rattle.cyc_lex.specs.declared.fault.IllFault.TheVariants.{Duplicate}
 use Rattle.cyc_lex.specs.declared.fault.What.TheVariants.{Constructors, Predicates}
 use Rattle.cyc_grammar.specs.Classes.{is_free_name}
 use Rattle.heap_reader.specs.Trees.{Heading}
-use Rattle.heap_reader.specs.Flaws.{Found, ill_if, over_if, or_later, listed_flaw, arity_in}
+use Rattle.heap_reader.specs.Flaws.{ill_if, over_if, or_later, listed_flaw, arity_in}
 use Rattle.heap_reader.specs.Values.{place_of}
 use Rattle.heap_reader.proofs.NoFlaw.{neither, not_ill}
 use Rattle.fo_formula.specs.declared.theory.Constructor.{Constructor as ConstructorValue}
@@ -23,11 +23,9 @@ use Rattle.fo_problem_syntax.specs.Trees.{Constructor, Definition}
 use Rattle.fo_walk.specs.Spans.{constructor_span, definition_span}
 use Rattle.fo_walk.specs.Flaws.{constructor_heading, predicate_heading, constructor_heads, predicate_heads, arguments_flaw, constant_flaw, constructor_flaw, definition_head_flaw, cases_flaw, definition_flaw, constructors_flaw}
 use Rattle.fo_values.specs.Written.{constructor_tree, definition_tree, constructor_name_in, predicate_name_in}
-
-get-map : {X Y : Type 0} (f : X → Y) (xs : List X) (n : ℕ) (x : X) → slice_get xs n ≡ Some x → slice_get (map f xs) n ≡ Some (f x)
-get-map f [] n x e = absurd cc
-get-map f (y ∷ ys) zero x e = let same : y ≡ x = cc in ap (λ z. Some (f z)) same
-get-map f (y ∷ ys) (suc n) x e = get-map f ys n x e
+use Rattle.list_facts.proofs.Options.{not_some}
+use Rattle.list_facts.proofs.Places.{get_map}
+use Rattle.heap_reader.proofs.FirstPlaces.{flaw_at, place_first}
 
 pub get-unmap : {X Y : Type 0} (f : X → Y) (xs : List X) (n : ℕ) (y : Y) → slice_get (map f xs) n ≡ Some y
     → (x : X) × (slice_get xs n ≡ Some x) × (f x ≡ y)
@@ -35,35 +33,7 @@ get-unmap f [] n y e = absurd cc
 get-unmap f (x ∷ xs) zero y e = let same : f x ≡ y = cc in (x, refl, same)
 get-unmap f (x ∷ xs) (suc n) y e = get-unmap f xs n y e
 
--- a member of a list without a flaw has none
-flaw-at : {X : Type 0} (flaw : ℕ → ℕ → X → Found) (span : X → ℕ) (n k : ℕ) (xs : List X) (p : ℕ) (x : X) → slice_get xs p ≡ Some x → listed_flaw flaw span n k xs ≡ None → (j : ℕ) × (flaw (n + p) j x ≡ None)
-flaw-at flaw span n k [] p x e none = absurd cc
-flaw-at flaw span n k (y ∷ ys) zero x e none =
-    let both = neither (flaw n k y) (listed_flaw flaw span (suc n) (k + span y) ys) none in
-    let same : y ≡ x = cc in
-    let here : n ≡ n + 0 = omega arith in
-    (k, subst (λ z. flaw (n + 0) k z ≡ None) same (subst (λ m. flaw m k y ≡ None) here both.0))
-flaw-at flaw span n k (y ∷ ys) (suc p) x e none =
-    let both = neither (flaw n k y) (listed_flaw flaw span (suc n) (k + span y) ys) none in
-    let rest = flaw-at flaw span (suc n) (k + span y) ys p x e both.1 in
-    let here : suc n + p ≡ n + suc p = omega arith in
-    (rest.0, subst (λ m. flaw m rest.0 x ≡ None) here rest.1)
-
 -- ---- the first with a name
-
-own-place : (y : Heading) (ys : List Heading) (name : List ℕ) (b : Bool) → y.name ≡ name → bytes_eq y.name name ≡ b → (if b then 0 else suc (place_of ys name)) ≡ 0
-own-place y ys name true same e = refl
-own-place y ys name false same e = let yes = (bytes_eq-Decides y.name name).1 same in absurd cc
-
-later-place : (y : Heading) (front ys : List Heading) (name : List ℕ) (p : ℕ) (b : Bool) → (arity_in front name ≡ None → place_of ys name ≡ p) → (if b then Some y.arity else arity_in front name) ≡ None → (if b then 0 else suc (place_of ys name)) ≡ suc p
-later-place y front ys name p true rest e = absurd cc
-later-place y front ys name p false rest e = ap suc (rest e)
-
-place-first : (ys : List Heading) (p : ℕ) (x : Heading) → slice_get ys p ≡ Some x → arity_in (take p ys) x.name ≡ None → place_of ys x.name ≡ p
-place-first [] p x e none = absurd cc
-place-first (y ∷ ys) zero x e none =
-    let same : y ≡ x = cc in own-place y ys x.name (bytes_eq y.name x.name) (ap (λ (d : Heading). d.name) same) refl
-place-first (y ∷ ys) (suc p) x e none = later-place y (take p ys) ys x.name p (bytes_eq y.name x.name) (place-first ys p x e) none
 
 own-arity : (y : Heading) (ys : List Heading) (name : List ℕ) (b : Bool) → y.name ≡ name → bytes_eq y.name name ≡ b
     → (if b then Some y.arity else arity_in ys name) ≡ Some y.arity
@@ -90,10 +60,6 @@ record IsFirst (hs : List Heading) (p : ℕ) (x : Heading) : Type 0 where
   there : slice_get hs p ≡ Some x
   alone : arity_in (take p hs) x.name ≡ None
 
-none-of : {X : Type 0} (o : Option X) → is_some o ≡ false → o ≡ None
-none-of None e = refl
-none-of (Some x) e = absurd cc
-
 neither-true : (a b : Bool) → a || b ≡ false → b ≡ false
 neither-true true b e = absurd cc
 neither-true false b e = e
@@ -119,7 +85,7 @@ constructor-alone hs n k c e =
     let rest = or_later (constant_flaw n (k + 2) c.arguments) (arguments_flaw (k + 2) c.arguments) in
     let a = neither (over_if (nat_le 64 n) Constructors k) (or_later duplicate rest) e in
     let b = neither duplicate rest a.1 in
-    none-of (arity_in (take n hs) c.name) (not_ill _ Duplicate (k + 1) b.0)
+    not_some (arity_in (take n hs) c.name) (not_ill _ Duplicate (k + 1) b.0)
 
 -- a constructor's heading stands at its place, and none with its name before it
 constructor-first : (cs : List ConstructorValue) → constructors_flaw (map constructor_tree cs) ≡ None → (p : ℕ) (c : ConstructorValue) → slice_get cs p ≡ Some c
@@ -127,9 +93,9 @@ constructor-first : (cs : List ConstructorValue) → constructors_flaw (map cons
 constructor-first cs none p c is =
     let hs = constructor_heads (map constructor_tree cs) in
     let tree = constructor_tree c in
-    let there = get-map constructor_tree cs p c is in
-    let known = get-map constructor_heading (map constructor_tree cs) p tree there in
-    let at = flaw-at (constructor_flaw hs) constructor_span 0 4 (map constructor_tree cs) p tree there none in
+    let there = get_map constructor_tree cs p c is in
+    let known = get_map constructor_heading (map constructor_tree cs) p tree there in
+    let at = flaw_at (constructor_flaw hs) constructor_span 0 4 (map constructor_tree cs) p tree there none in
     let here : 0 + p ≡ p = omega arith in record {
       there = known;
       alone = constructor-alone hs p at.0 tree (subst (λ n. constructor_flaw hs n at.0 tree ≡ None) here at.1);
@@ -141,7 +107,7 @@ constructor-placed cs none p free =
     let hs = constructor_heads (map constructor_tree cs) in
     let c = constructor-there (slice_get cs p) free in
     let first = constructor-first cs none p c.0 c.1 in
-    ap (λ o. place_of hs (constructor_name_in o)) c.1 ∙ place-first hs p (constructor_heading (constructor_tree c.0)) first.there first.alone
+    ap (λ o. place_of hs (constructor_name_in o)) c.1 ∙ place_first hs p (constructor_heading (constructor_tree c.0)) first.there first.alone
 
 -- the name of a constructor is known with its number of arguments
 pub constructor-arity : (cs : List ConstructorValue) → constructors_flaw (map constructor_tree cs) ≡ None → (p k : ℕ) → IsConstructor cs p k
@@ -164,16 +130,16 @@ predicate-alone hs ps n k d e =
     let a = neither (definition_head_flaw hs ps n k d) (cases_flaw hs ps d.arity (k + 6) d.cases) e in
     let b = neither (over_if (nat_le 4096 n) Predicates k) (or_later (ill_if taken Duplicate (k + 1)) (arguments_flaw (k + 3) d.arity)) a.0 in
     let c = neither (ill_if taken Duplicate (k + 1)) (arguments_flaw (k + 3) d.arity) b.1 in
-    none-of (arity_in (take n ps) d.name) (neither-true (is_some (arity_in hs d.name)) (is_some (arity_in (take n ps) d.name)) (not_ill _ Duplicate (k + 1) c.0))
+    not_some (arity_in (take n ps) d.name) (neither-true (is_some (arity_in hs d.name)) (is_some (arity_in (take n ps) d.name)) (not_ill _ Duplicate (k + 1) c.0))
 
 predicate-first : (hs : List Heading) (k : ℕ) (t : FoTheory) (ds : List FoDefinition) → listed_flaw (definition_flaw hs (predicate_heads (map (definition_tree t) ds))) definition_span 0 k (map (definition_tree t) ds) ≡ None
     → (p : ℕ) (d : FoDefinition) → slice_get ds p ≡ Some d → IsFirst (predicate_heads (map (definition_tree t) ds)) p (predicate_heading (definition_tree t d))
 predicate-first hs k t ds none p d is =
     let ps = predicate_heads (map (definition_tree t) ds) in
     let tree = definition_tree t d in
-    let there = get-map (definition_tree t) ds p d is in
-    let known = get-map predicate_heading (map (definition_tree t) ds) p tree there in
-    let at = flaw-at (definition_flaw hs ps) definition_span 0 k (map (definition_tree t) ds) p tree there none in
+    let there = get_map (definition_tree t) ds p d is in
+    let known = get_map predicate_heading (map (definition_tree t) ds) p tree there in
+    let at = flaw_at (definition_flaw hs ps) definition_span 0 k (map (definition_tree t) ds) p tree there none in
     let here : 0 + p ≡ p = omega arith in record {
       there = known;
       alone = predicate-alone hs ps p at.0 tree (subst (λ n. definition_flaw hs ps n at.0 tree ≡ None) here at.1);
@@ -185,7 +151,7 @@ predicate-placed hs k t ds none p free =
     let ps = predicate_heads (map (definition_tree t) ds) in
     let d = predicate-there (slice_get ds p) free in
     let first = predicate-first hs k t ds none p d.0 d.1 in
-    ap (λ o. place_of ps (predicate_name_in o)) d.1 ∙ place-first ps p (predicate_heading (definition_tree t d.0)) first.there first.alone
+    ap (λ o. place_of ps (predicate_name_in o)) d.1 ∙ place_first ps p (predicate_heading (definition_tree t d.0)) first.there first.alone
 
 -- the name of a predicate is known with its number of arguments
 pub predicate-arity : (hs : List Heading) (k : ℕ) (t : FoTheory) (ds : List FoDefinition) → listed_flaw (definition_flaw hs (predicate_heads (map (definition_tree t) ds))) definition_span 0 k (map (definition_tree t) ds) ≡ None

@@ -29,13 +29,13 @@ use Rattle.fo_values.proofs.TreesAgain.{AreNamed, file-again, problem-again}
 use Rattle.fo_file.specs.Reading.{said_file, said_problem, IsWritable, IsWritableProblem}
 use Rattle.fo_file.specs.Questions.{IsFoQuestion}
 use Rattle.fo_file.proofs.Fitted.{nodes-fit, some-node, file-parts, problem-parts}
-use Rattle.fo_file.proofs.Lists.{each-map, each-both, each-imply}
 use Rattle.fo_file.proofs.Flawless.{HasFewArguments}
 use Rattle.fo_file.proofs.FlawlessParts.{first-constant, few-heads, sequent-known, nodes-known, theory-known, IsTheoryWithin, IsDefinitionWithin, IsSequentWithin, IsNodeWithin}
 use Rattle.fo_file.proofs.ArgumentTerms.{file-of-terms, problem-of-terms}
 use Rattle.fo_file.proofs.Open.{sequent-size, open-sequent, open-reason}
 use Rattle.fo_file.proofs.Outside.{sequent-outside}
 use Rattle.fo_file.proofs.Within.{arity-placed, definition-said, sequent-said}
+use Rattle.formula_facts.proofs.AllMembers.{each_imply, each_made, each_both}
 
 -- ---- theories
 
@@ -72,12 +72,12 @@ small-definitions : (cs : List Constructor) (ds : List Definition) → IsTheoryW
 small-definitions cs ds within =
     let hs = constructor_heads cs in
     let ps = predicate_heads ds in
-    each-map (definition_value hs ps) (IsDefinitionWithin hs (few-heads cs within.few) ps) IsSmallDefinition (λ d h.
+    each_made (definition_value hs ps) (IsDefinitionWithin hs (few-heads cs within.few) ps) IsSmallDefinition (λ d h.
     let count = h.cases in
     let size = length-map d.cases (atoms_value hs ps) in
     record {
       cases = omega arith;
-      atoms = each-map (atoms_value hs ps) (λ (xs : List Atom). length xs ≤ 16) (λ (c : List FoAtom). length c ≤ 16) (λ xs l. let same = length-map xs (atom_value hs ps) in omega arith) d.cases h.atoms;
+      atoms = each_made (atoms_value hs ps) (λ (xs : List Atom). length xs ≤ 16) (λ (c : List FoAtom). length c ≤ 16) (λ xs l. let same = length-map xs (atom_value hs ps) in omega arith) d.cases h.atoms;
     }) ds within.definitions
 
 -- ---- sequents and nodes
@@ -132,7 +132,7 @@ file-known f fits e =
     let ps = predicate_heads f.definitions in
     let constructors = within.theory.constructors in
     let predicates = within.theory.predicates in
-    let nodes = each-imply (IsNodeWithin cs (few-heads f.constructors within.theory.few) ps) (IsKnownNode cs ps) (λ n h. (h.sequent.known, h.reason)) f.nodes within.nodes in
+    let nodes = each_imply (IsNodeWithin cs (few-heads f.constructors within.theory.few) ps) (IsKnownNode cs ps) (λ n h. (h.sequent.known, h.reason)) f.nodes within.nodes in
     record { constructors = omega arith; predicates = omega arith; known = (within.theory.known, nodes) }
 
 -- it says what its reader sees to
@@ -152,7 +152,7 @@ said-proof f fits e =
       few = omega arith;
       constant = constant f.constructors parts.constructors (neither (constructors_flaw f.constructors) (definitions_flaw f.constructors f.definitions) theory.0).0;
       definitions = small-definitions f.constructors f.definitions within.theory;
-      nodes = each-map (node_value hs ps) (λ n. node.fits n × IsNodeWithin hs few ps n) (IsReadNode (map constructor_value f.constructors)) (λ n h. read-node f.constructors ps few n h.0 h.1) f.nodes (each-both node.fits (IsNodeWithin hs few ps) f.nodes (nodes-fit f.nodes parts.nodes) within.nodes);
+      nodes = each_made (node_value hs ps) (λ n. node.fits n × IsNodeWithin hs few ps n) (IsReadNode (map constructor_value f.constructors)) (λ n h. read-node f.constructors ps few n h.0 h.1) f.nodes (each_both node.fits (IsNodeWithin hs few ps) f.nodes (nodes-fit f.nodes parts.nodes) within.nodes);
     }
 
 -- and is written as that tree
@@ -209,7 +209,7 @@ definitions-within cs ds within =
     let hs = constructor_heads cs in
     let ps = predicate_heads ds in
     let t = theory_value hs ps cs ds in
-    each-map (definition_value hs ps) (IsDefinitionWithin hs (few-heads cs within.few) ps) (limits.IsDefinitionWithin t) (λ d h. definition-said hs ps t (arity-placed hs ds) (placed cs) d h.known) ds within.definitions
+    each_made (definition_value hs ps) (IsDefinitionWithin hs (few-heads cs within.few) ps) (limits.IsDefinitionWithin t) (λ d h. definition-said hs ps t (arity-placed hs ds) (placed cs) d h.known) ds within.definitions
 
 -- and so is its goal
 goal-within : (p : Problem) → problem.fits p → problem_flaw p ≡ None

@@ -39,9 +39,9 @@ use Rattle.fo_values.specs.Values.{first_terms, side_value, constructor_value, s
 use Rattle.fo_values.specs.Written.{side_tree, constructor_tree, constructor_name, predicate_name, sign_tree, term_tree, atom_tree, atoms_tree, sequent_tree, definition_tree, entry_tree, reason_tree, node_tree, file_tree}
 use Rattle.fo_file.specs.OfTerms.{IsAtomOfTerms, AreAtomsOfTerms, IsSequentOfTerms, IsDefinitionOfTerms, IsReasonOfTerms, IsNodeOfTerms, IsFileOfTerms}
 use Rattle.fo_file.specs.Reading.{said_file}
-use Rattle.fo_file.proofs.Lists.{each-fits}
 use Rattle.fo_file.proofs.Fitted.{sides-fit, terms-fit, entries-fit, nodes-fit, definitions-fit, file-parts}
 use Rattle.fo_file.proofs.Places.{constructor-placed, predicate-placed}
+use Rattle.heap_reader.proofs.Members.{many_fit}
 
 -- ---- terms that are joined come apart as they were
 
@@ -147,7 +147,7 @@ module _ (cs : List Heading) (t : FoTheory) (placed : (p : ℕ) → free_name.fi
     definition-known : (d : FoDefinition) → definition.fits (definition_tree t d) → IsDefinitionOfTerms d → definition_value cs ps (definition_tree t d) ≡ d
     unfolding definition cases
     definition-known d f h =
-        let same = each-known (atoms_tree t) (atoms_value cs ps) (left true).fits AreAtomsOfTerms case-known d.cases (each-fits (after bar (left true)) (map (atoms_tree t) d.cases) f.1.1.1.1) h in
+        let same = each-known (atoms_tree t) (atoms_value cs ps) (left true).fits AreAtomsOfTerms case-known d.cases (many_fit (after bar (left true)) (map (atoms_tree t) d.cases) f.1.1.1.1) h in
         λ i. record { name = d.name; arity = d.arity; cases = same i }
 
     -- ---- reasons and nodes

@@ -19,9 +19,9 @@ use Rattle.fo_values.specs.Known.{IsKnownSign, IsKnownTerm, IsKnownAtom, AreKnow
 use Rattle.fo_values.proofs.Adjacent.{first-count}
 use Rattle.fo_values.proofs.Names.{heading_arity, arity-there}
 use Rattle.fo_values.proofs.TreesAgain.{terms-value}
-use Rattle.fo_file.proofs.Lists.{each-map}
 use Rattle.fo_file.proofs.Open.{first-each}
 use Rattle.fo_file.proofs.Outside.{IsOutside, InAtom}
+use Rattle.formula_facts.proofs.AllMembers.{each_made}
 
 -- ---- predicates
 
@@ -94,7 +94,7 @@ module _ (cs ps : List Heading) (t : FoTheory) (takes : (name : List ℕ) (n : �
 
     pub definition-said : (d : Definition) → IsKnownDefinition cs ps d → IsDefinitionWithin t (definition_value cs ps d)
     definition-said d k =
-        each-map (atoms_value cs ps) (AreKnownAtoms cs ps) (λ (xs : List FoAtom). Each (IsAtomOf t (IsCaseSign t)) xs) case-said d.cases k.1
+        each_made (atoms_value cs ps) (AreKnownAtoms cs ps) (λ (xs : List FoAtom). Each (IsAtomOf t (IsCaseSign t)) xs) case-said d.cases k.1
 
     pub sequent-said : (s : Sequent) → IsKnownSequent cs ps s → Each (InAtom IsOutside) s.left
         → Each (InAtom IsOutside) s.right → HasAtomsWithin t (sequent_value cs ps s)

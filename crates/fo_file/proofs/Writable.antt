@@ -28,18 +28,19 @@ use Rattle.fo_file.specs.OfTerms.{IsAtomOfTerms, IsRuleOfTerms, IsReasonOfTerms,
 use Rattle.fo_file.specs.Questions.{IsFoQuestion}
 use Rattle.fo_file.specs.Reading.{IsWritable, IsWritableProblem}
 use Rattle.fo_file.proofs.Fitted.{definitions-fit, problem-parts}
-use Rattle.fo_file.proofs.Lists.{each-fits, each-imply, each-map}
 use Rattle.fo_file.proofs.NodeTrees.{are-terms}
 use Rattle.fo_file.proofs.NodesFit.{node-fits, nodes-made}
 use Rattle.fo_file.proofs.NodesFlawless.{nodes-right}
 use Rattle.fo_file.proofs.Places.{constructor-arity, predicate-arity}
+use Rattle.formula_facts.proofs.AllMembers.{each_imply, each_made}
+use Rattle.heap_reader.proofs.Members.{many_fit}
 
 -- ---- names
 
 constructors-fit : (cs : List Constructor) → constructors.fits cs → Each con.fits cs
 unfolding constructors
 constructors-fit [] f = tt
-constructors-fit (c ∷ cs) f = (f.1.0, each-fits con cs f.1.1)
+constructors-fit (c ∷ cs) f = (f.1.0, many_fit con cs f.1.1)
 
 con-free : (c : Constructor) → con.fits c → free_name.fits c.name
 unfolding con
@@ -89,8 +90,8 @@ module _ (t : FoTheory) where
   node-terms : (n : FoNode) → IsNodeWithin t n → IsNodeOfTerms n
   node-terms n h = (
     (
-      each-imply (IsAtomWithin t) IsAtomOfTerms atom-terms n.sequent.left h.sequent.1.0,
-      each-imply (IsAtomWithin t) IsAtomOfTerms atom-terms n.sequent.right h.sequent.1.1,
+      each_imply (IsAtomWithin t) IsAtomOfTerms atom-terms n.sequent.left h.sequent.1.0,
+      each_imply (IsAtomWithin t) IsAtomOfTerms atom-terms n.sequent.right h.sequent.1.1,
     ),
     reason-terms n.reason h.reason,
   )
@@ -110,7 +111,7 @@ module _ (p : FoProblem) (writable : IsWritableProblem p) (ns : List FoNode) (wi
       let parts = problem-parts tree writable.fits in
       let names = constructor-free t.constructors (constructors-fit tree.constructors parts.constructors) in
       let predicates = predicate-free t t.definitions (definitions-fit tree.definitions parts.definitions) in
-      let all = each-map (node_tree t) (IsNodeWithin t) node.fits (node-fits t names predicates) ns within in
+      let all = each_made (node_tree t) (IsNodeWithin t) node.fits (node-fits t names predicates) ns within in
       nodes-made (map (node_tree t) ns) (map-some ns some) all
     where
       map-some : (xs : List FoNode) → 0 < length xs → 0 < length (map (node_tree p.theory) xs)
@@ -141,7 +142,7 @@ nodes-writable p ns question writable some few within =
     let parts = problem-parts tree writable.fits in
     let f = file_tree (record { theory = p.theory; nodes = ns }) in
     let start = behind_theory tree.constructors tree.definitions in record {
-      terms = (writable.terms.0, each-imply (IsNodeWithin p.theory) IsNodeOfTerms (node-terms p.theory) ns within);
+      terms = (writable.terms.0, each_imply (IsNodeWithin p.theory) IsNodeOfTerms (node-terms p.theory) ns within);
       fits = file-made f parts.constructors parts.definitions (nodes-fit p writable ns within some);
       flawless = none_later (theory_flaw tree.constructors tree.definitions) (nodes_flaw (constructor_heads tree.constructors) (predicate_heads tree.definitions) start f.nodes) (theory-right p writable ns within) (nodes-flawless p writable ns within start few);
     }

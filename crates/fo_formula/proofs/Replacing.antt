@@ -10,7 +10,7 @@ use Rattle.fo_formula.specs.Words.{Word, arity, AreTerms, IsTerm, replaced, in_a
 use Rattle.fo_formula.specs.Values.{IsConstructor, IsClosedSign, IsClosedTerm, IsValuation, entry, sign_value, value}
 use Rattle.fo_formula.specs.Meaning.{Family, AtomHolds}
 use Rattle.fo_formula.specs.Shapes.{IsOpenSign, IsOpenTerm}
-use Rattle.fo_formula.proofs.Lists.{each_append, each_or}
+use Rattle.formula_facts.proofs.AllMembers.{each_append, each_or}
 
 pub replaced-append : (f : Sign → Word) (a b : Word) → replaced f (a ++ b) ≡ replaced f a ++ replaced f b
 replaced-append f [] b = refl

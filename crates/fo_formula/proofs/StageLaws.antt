@@ -7,7 +7,8 @@ use Rattle.fo_formula.specs.declared.theory.FoTheory.{FoTheory}
 use Rattle.fo_formula.specs.Words.{Word}
 use Rattle.fo_formula.specs.Values.{value}
 use Rattle.fo_formula.specs.Meaning.{Family, AtomHolds, CaseHolds, cases_of, at_stage, least}
-use Rattle.fo_formula.proofs.Lists.{each_map, one_map}
+use Rattle.formula_facts.proofs.AllMembers.{each_imply}
+use Rattle.heap_formula.proofs.StageLaws.{OneOf-map}
 
 -- one meaning is within another
 abbrev pub Within : Family → Family → Type 0
@@ -18,7 +19,7 @@ atom_within P Q w v e (Equation l r) a = a
 atom_within P Q w v e (Predicate p ts) a = w p (map (value v e) ts) a
 
 pub atoms_within : (P Q : Family) → Within P Q → (v e : List Word) (xs : List FoAtom) → Each (AtomHolds P v e) xs → Each (AtomHolds Q v e) xs
-atoms_within P Q w v e xs a = each_map (AtomHolds P v e) (AtomHolds Q v e) (atom_within P Q w v e) xs a
+atoms_within P Q w v e xs a = each_imply (AtomHolds P v e) (AtomHolds Q v e) (atom_within P Q w v e) xs a
 
 pub case_within : (t : FoTheory) (P Q : Family) → Within P Q → (vs : List Word) (case : List FoAtom) → CaseHolds t P vs case → CaseHolds t Q vs case
 case_within t P Q w vs case c = (c.0, c.1, atoms_within P Q w vs c.0 case c.2)
@@ -28,7 +29,7 @@ module _ (t : FoTheory) where
   pub stage_next : (n : ℕ) → Within (at_stage t n) (at_stage t (suc n))
   stage_next zero p vs a = absurd a
   stage_next (suc n) p vs a =
-      one_map (CaseHolds t (at_stage t n) vs) (CaseHolds t (at_stage t (suc n)) vs) (case_within t (at_stage t n) (at_stage t (suc n)) (stage_next n) vs) (cases_of t.definitions p) a
+      OneOf-map (CaseHolds t (at_stage t n) vs) (CaseHolds t (at_stage t (suc n)) vs) (case_within t (at_stage t n) (at_stage t (suc n)) (stage_next n) vs) (cases_of t.definitions p) a
 
   pub stage_add : (m d : ℕ) → Within (at_stage t m) (at_stage t (m + d))
   stage_add m zero p vs a = let e : m ≡ m + 0 = omega arith in subst (λ n. at_stage t n p vs) e a
@@ -68,4 +69,4 @@ module _ (t : FoTheory) where
       opened : (n : ℕ) → at_stage t n p vs → OneOf (CaseHolds t (least t) vs) (cases_of t.definitions p)
       opened zero b = absurd b
       opened (suc n) b =
-          one_map (CaseHolds t (at_stage t n) vs) (CaseHolds t (least t) vs) (case_within t (at_stage t n) (least t) (λ q us x. (n, x)) vs) (cases_of t.definitions p) b
+          OneOf-map (CaseHolds t (at_stage t n) vs) (CaseHolds t (least t) vs) (case_within t (at_stage t n) (least t) (λ q us x. (n, x)) vs) (cases_of t.definitions p) b

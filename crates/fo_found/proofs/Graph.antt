@@ -12,8 +12,7 @@ use Rattle.fo_table.specs.LinkTable.{link_premise}
 use Rattle.fo_table.specs.Nodes.{unless_fault, link_answer, reason_answer, edges_to, targets_of, answer_edges}
 use Rattle.fo_nodes.specs.Files.{graph_edge, graph_node, graph_of}
 use Rattle.trace_pairs.specs.Graph.{Node, Edge}
-use Rattle.buchi_core.proofs.Lists.{get_one, get_within}
-use Rattle.buchi_inclusion.proofs.Tables.{at_map}
+use Rattle.buchi_core.proofs.Lists.{get_one}
 use Rattle.proof_graph.specs.Traces.{trace_pairs_of}
 use Rattle.tableaux.specs.Tableau.{Tableau}
 use Rattle.tableaux.proofs.Joined.{same_lists}
@@ -22,6 +21,7 @@ use Rattle.fo_calculus.specs.Calculus.{MadeNode, sequent_of, traced}
 use Rattle.fo_found.specs.Files.{numbers_of, node_of, proof_nodes}
 use Rattle.fo_found.proofs.Made.{IsBy, IsNode, AreNodes}
 use Rattle.fo_found.proofs.Rows.{length-nodes, node_at}
+use Rattle.list_facts.proofs.Places.{get_within, get_map}
 
 -- the edges to the premises' nodes are those of the trace graph
 edges_same : (nodes : List MadeNode) (v : ℕ) (ps : List FoPremise) (es : List Edge) →
@@ -58,5 +58,5 @@ module _ (t : FoTheory) (b : Tableau FoSequent FoReason) (all' : AreNodes t b) w
           let less = slice_get_within b.graph v y at' in
           let m = get_within b.nodes v (omega (arith, less, all'.size)) in
           let made = all'.each v m.0 m.1 in
-          let here = at_map (graph_node t rows) rows v (node_of made.traces m.0) (node_at t b all' v m.0 made m.1) in
+          let here = get_map (graph_node t rows) rows v (node_of made.traces m.0) (node_at t b all' v m.0 made m.1) in
           get_one (graph_of t rows) v x (graph_node t rows (node_of made.traces m.0)) at here ∙ (node_same v m.0 made ∙ get_one b.graph v made.traces y made.is_traces at')

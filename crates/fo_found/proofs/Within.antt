@@ -11,7 +11,6 @@ use Rattle.fo_formula.specs.declared.theory.FoTheory.{FoTheory}
 use Rattle.fo_formula.specs.Sizes.{sequent_size, reason_size}
 use Rattle.fo_limits.specs.Limits.{IsReasonWithin, IsNodeWithin, IsNumberWithin, numbers_of as numbers_in}
 use Rattle.fo_limits.proofs.Numbers.{rule_numbers, link_numbers}
-use Rattle.fo_moves.proofs.Lists.{each_any}
 use Rattle.fo_moves.proofs.Offered.{links_small, before_small, after_small}
 use Rattle.trace_pairs.specs.Graph.{Edge}
 use Rattle.derivation_search.specs.Firsts.{IsIn}
@@ -25,6 +24,7 @@ use Rattle.fo_calculus.proofs.Offers.{offers_are}
 use Rattle.fo_found.specs.Files.{numbers_of, proof_nodes}
 use Rattle.fo_found.proofs.Made.{IsBy, AreNodes}
 use Rattle.fo_found.proofs.Rows.{row_of}
+use Rattle.formula_facts.proofs.AllMembers.{each_any}
 
 targets_short : (nodes : List MadeNode) (v : ℕ) (ps : List (Premise FoSequent)) (es : List Edge) →
     length nodes ≤ 20000 → AllLead nodes v ps es → Each IsNumberWithin (map (λ (e : Edge). e.target) es)

@@ -12,13 +12,12 @@ use Rattle.fo_formula.specs.declared.theory.FoTheory.{FoTheory}
 use Rattle.fo_formula.specs.Words.{Word, arity, AreTerms, after_first, end_of, replaced, in_atom, first_constant}
 use Rattle.fo_formula.specs.Values.{sign_value}
 use Rattle.fo_formula.specs.Shapes.{HasConstant}
-use Rattle.fo_formula.proofs.Lists.{each_append, each_or}
 use Rattle.fo_formula.proofs.Reading.{first_split}
 use Rattle.fo_formula.proofs.Replacing.{Keeps, terms-replaced, term_keeps}
 use Rattle.fo_table.specs.Tests.{have_one_constructor}
 use Rattle.fo_table.specs.Table.{Bindings, image, image_sign, equations, argument_equations, variables_from}
 use Rattle.fo_limits.specs.Limits.{IsSignWithin, IsCaseSign, IsTermOf, TakesArguments, IsAtomOf, IsTermWithin, IsAtomWithin}
-use Rattle.fo_limits.proofs.Lists.{each_mapped, each_take, each_drop}
+use Rattle.formula_facts.proofs.AllMembers.{each_append, each_made, each_take, each_drop, each_or}
 
 -- ---- any words in place of signs
 
@@ -42,11 +41,11 @@ module _ (P Q : Sign → Type 0) (f : Sign → Word) (fills : (s : Sign) → P s
   atom_filled t (Equation l r) h = (term_filled l h.0, term_filled r h.1)
   atom_filled t (Predicate p ts) h = (
     subst (TakesArguments t p) (sym (length-map ts (replaced f))) h.0,
-    each_mapped (replaced f) (IsTermOf P) (IsTermOf Q) term_filled ts h.1,
+    each_made (replaced f) (IsTermOf P) (IsTermOf Q) term_filled ts h.1,
   )
 
   pub atoms_filled : (t : FoTheory) (xs : List FoAtom) → Each (IsAtomOf t P) xs → Each (IsAtomOf t Q) (map (in_atom f) xs)
-  atoms_filled t xs h = each_mapped (in_atom f) (IsAtomOf t P) (IsAtomOf t Q) (atom_filled t) xs h
+  atoms_filled t xs h = each_made (in_atom f) (IsAtomOf t P) (IsAtomOf t Q) (atom_filled t) xs h
 
 -- ---- the terms of a case's arguments and locals, and of a substitution
 

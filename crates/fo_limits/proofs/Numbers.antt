@@ -14,7 +14,6 @@ use Rattle.fo_formula.specs.declared.theory.FoDefinition.{FoDefinition}
 use Rattle.fo_formula.specs.declared.theory.FoTheory.{FoTheory}
 use Rattle.fo_formula.specs.Meaning.{cases_of}
 use Rattle.fo_formula.specs.Words.{Word}
-use Rattle.fo_formula.proofs.Lists.{each_append}
 use Rattle.fo_nodes.specs.Files.{IsSmallSequent, IsSmallDefinition}
 use Rattle.fo_table.specs.declared.faults.FoFault.{FoFault}
 use Rattle.fo_table.specs.declared.faults.FoFault.TheVariants.{NoSuchAtom, NoSuchCase}
@@ -24,6 +23,7 @@ use Rattle.fo_table.specs.LinkTable.{link_fault, linked}
 use Rattle.fo_table.specs.Table.{rule_answer}
 use Rattle.fo_table.proofs.Links.{Names, link_names}
 use Rattle.fo_limits.specs.Limits.{IsSequentWithin, IsTheoryWithin, IsNumberWithin, numbers_of, numbers_of_rule}
+use Rattle.formula_facts.proofs.AllMembers.{each_append}
 
 -- ---- what holds where the answer is premises
 

@@ -12,9 +12,9 @@ use Rattle.fo_formula.specs.declared.sequents.FoSequent.{FoSequent}
 use Rattle.fo_formula.specs.declared.theory.FoTheory.{FoTheory}
 use Rattle.fo_formula.specs.Words.{Word}
 use Rattle.fo_formula.specs.Shapes.{IsOpenSign, IsOpenTerm, IsOpenAtom, IsOpenSequent}
-use Rattle.fo_formula.proofs.Lists.{each_map}
 use Rattle.fo_table.specs.Soundness.{HasOpenTerms, HasOpenReason}
 use Rattle.fo_limits.specs.Limits.{IsSignWithin, IsTermWithin, IsAtomWithin, HasAtomsWithin, IsRuleWithin, IsPairWithin, IsReasonWithin}
+use Rattle.formula_facts.proofs.AllMembers.{each_imply}
 
 module _ (t : FoTheory) where
   sign_open : (s : Sign) → IsSignWithin t s → IsOpenSign t.constructors s
@@ -23,15 +23,15 @@ module _ (t : FoTheory) where
   sign_open (Constructor c k) h = h
 
   term_open : (w : Word) → IsTermWithin t w → IsOpenTerm t.constructors w
-  term_open w h = (h.0, each_map (IsSignWithin t) (IsOpenSign t.constructors) sign_open w h.1)
+  term_open w h = (h.0, each_imply (IsSignWithin t) (IsOpenSign t.constructors) sign_open w h.1)
 
   atom_open : (x : FoAtom) → IsAtomWithin t x → IsOpenAtom t.constructors x
   atom_open (Equation l r) h = (term_open l h.0, term_open r h.1)
-  atom_open (Predicate p ts) h = each_map (IsTermWithin t) (IsOpenTerm t.constructors) term_open ts h.1
+  atom_open (Predicate p ts) h = each_imply (IsTermWithin t) (IsOpenTerm t.constructors) term_open ts h.1
 
   pub sequent_open : (s : FoSequent) → HasAtomsWithin t s → IsOpenSequent t.constructors s
   sequent_open s h =
-      (each_map (IsAtomWithin t) (IsOpenAtom t.constructors) atom_open s.left h.0, each_map (IsAtomWithin t) (IsOpenAtom t.constructors) atom_open s.right h.1)
+      (each_imply (IsAtomWithin t) (IsOpenAtom t.constructors) atom_open s.left h.0, each_imply (IsAtomWithin t) (IsOpenAtom t.constructors) atom_open s.right h.1)
 
   rule_open : (rule : FoRule) → IsRuleWithin t rule → HasOpenTerms t.constructors rule
   rule_open (Axiom i j) h = tt
@@ -44,9 +44,9 @@ module _ (t : FoTheory) where
   rule_open (Contract i) h = tt
   rule_open (Unfold i) h = tt
   rule_open (Cut x) h = tt
-  rule_open (Right j c terms) h = each_map (IsTermWithin t) (IsOpenTerm t.constructors) term_open terms h
+  rule_open (Right j c terms) h = each_imply (IsTermWithin t) (IsOpenTerm t.constructors) term_open terms h
 
   pub reason_open : (r : FoReason) → IsReasonWithin t r → HasOpenReason t.constructors r
   reason_open (Rule rule) h = rule_open rule h
   reason_open (Link link) h =
-      each_map (IsPairWithin t) (λ (pair : ℕ × Word). IsOpenTerm t.constructors pair.1) (λ pair h. term_open pair.1 h.1) link.substitution h
+      each_imply (IsPairWithin t) (λ (pair : ℕ × Word). IsOpenTerm t.constructors pair.1) (λ pair h. term_open pair.1 h.1) link.substitution h

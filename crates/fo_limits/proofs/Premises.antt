@@ -20,7 +20,6 @@ use Rattle.fo_formula.specs.Meaning.{cases_of}
 use Rattle.fo_formula.specs.Sizes.{sequent_size, words_size, atom_size}
 use Rattle.fo_formula.specs.Values.{sign_value}
 use Rattle.fo_formula.specs.Words.{Word, in_atom}
-use Rattle.fo_formula.proofs.Lists.{each_at, each_append}
 use Rattle.fo_table.specs.declared.faults.FoFault.{FoFault}
 use Rattle.fo_table.specs.declared.faults.FoFault.TheVariants.{NoSuchAtom, AtomsDiffer, NotAbsurd, NotVariable, NoSuchCase, NoFreshVariable, TermCount, TooManyAtoms, TooManyTerms}
 use Rattle.fo_table.specs.declared.premises.FoPremise.{FoPremise}
@@ -29,8 +28,9 @@ use Rattle.fo_table.specs.Tests.{same_word, same_atom, only_variable, is_absurd,
 use Rattle.fo_table.specs.Table.{image_sign, argument_equations, weakened_left, weakened_right, decomposed, with_term, named, unnamed, contracted, fresh_locals, unfold_premise, is_numbered, right_premise, cut_right, cut_left, rule_answer}
 use Rattle.fo_nodes.specs.Files.{IsSmallSequent}
 use Rattle.fo_limits.specs.Limits.{IsSignWithin, IsCaseSign, IsTermWithin, IsAtomOf, IsAtomWithin, HasAtomsWithin, IsSequentWithin, IsRuleWithin, IsDefinitionWithin, IsTheoryWithin}
-use Rattle.fo_limits.proofs.Lists.{each_mapped, each_both, each_without, each_set}
+use Rattle.fo_limits.proofs.Lists.{each_set}
 use Rattle.fo_limits.proofs.Filled.{atom_filled, atoms_filled, value_fills, image_fills, variables_within, arguments_within}
+use Rattle.formula_facts.proofs.AllMembers.{each_append, each_at, each_made, each_both, each_without}
 
 abbrev pub IsPremiseWithin : FoTheory → FoPremise → Type 0
 IsPremiseWithin t p = IsSequentWithin t p.sequent
@@ -149,7 +149,7 @@ module _ (t : FoTheory) (theory : IsTheoryWithin t) (s : FoSequent) (ok : IsSequ
 
   rights_within : (j : ℕ) (args terms : List Word) (case : List FoAtom) → Each (IsTermWithin t) args → Each (IsTermWithin t) terms → Each (IsAtomOf t (IsCaseSign t)) case → Each (HasPremiseAtoms t) (map (right_premise s j args terms) case)
   rights_within j args terms case args_within terms_within case_within =
-      each_mapped (right_premise s j args terms) (IsAtomOf t (IsCaseSign t)) (HasPremiseAtoms t) (λ x h. (
+      each_made (right_premise s j args terms) (IsAtomOf t (IsCaseSign t)) (HasPremiseAtoms t) (λ x h. (
         lefts,
         each_set IsIn s.right j (in_atom (sign_value args terms) x) rights (atom_filled (IsCaseSign t) (IsSignWithin t) (sign_value args terms) (value_fills t theory.constant args terms args_within terms_within) t x h),
       )) case case_within

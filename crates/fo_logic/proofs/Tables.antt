@@ -1,5 +1,5 @@
 -- What a tested proof answers as a proof system.
-use Rattle.std.proofs.Common.{◌≡◌, ℕ, zero, suc, ◌<◌, Bool, true, false, List, [], ◌∷◌, get_or, map, take, length, Option, Some, refl, sym, ap, ◌∙◌, subst, arith, Vec}
+use Rattle.std.proofs.Common.{◌≡◌, ℕ, ◌<◌, Bool, true, false, List, get_or, map, take, length, Option, Some, refl, sym, ap, ◌∙◌, subst, arith, Vec}
 use Rattle.std.specs.Prelude.{slice_get, nat_lt}
 use Rattle.std.specs.declared.alloc.Global.{Global}
 use Rattle.std.proofs.lemmas.Bool.{leb-true, leb-false, ltb-true, ltb-false}
@@ -15,14 +15,14 @@ use Rattle.trace_pairs.specs.Walk.{Walk}
 use Rattle.buchi_inclusion.specs.Checked.{IsChecked}
 use Rattle.buchi_inclusion.specs.declared.system.Checked.{Checked}
 use Rattle.buchi_inclusion.specs.declared.system.Checked.TheVariants as answers
-use Rattle.position_sets.proofs.Lists.{at_map, get_within}
 use Rattle.proof_graph.proofs.Joined.{mapped_at}
 use Rattle.fo_nodes.specs.Files.{predicate_places, graph_edge, graph_node, HoldsAtNode}
 use Rattle.fo_logic.specs.Laws.{graph_length}
-use Rattle.fo_logic.specs.Tested.{rows_of, first_rows, EndsBy, is_untested}
+use Rattle.fo_logic.specs.Tested.{first_rows, EndsBy, is_untested}
 use Rattle.fo_logic.specs.Verdicts.{file_graph, state_limit, HasRightNodes, IsRightBefore, IsLeastFault, IsVerdict}
 use Rattle.fo_logic.specs.declared.verdict.FoVerdict.TheVariants as verdicts
-use Rattle.fo_logic.proofs.TestLoops.{at_index}
+use Rattle.list_facts.proofs.Places.{get_taken, at_index, get_within, get_map}
+use Rattle.trace_pairs.specs.Turn.{lists_of}
 
 -- ---- the calls
 
@@ -30,22 +30,15 @@ pub positions_at : (f : FoFile) (v : ℕ) (n : FoNode) (ps : List ℕ) → v < l
 positions_at f v n ps within is e =
     let node = graph_node f.theory f.nodes in
     let below : v < length f.nodes = omega (arith, within, graph_length f) in
-    (node n, at_map node f.nodes v n (at_index f.nodes v n n below (sym is)), e)
+    (node n, get_map node f.nodes v n (at_index f.nodes v n n below (sym is)), e)
 
-take_at : {X : Type 0} (xs : List X) (n k : ℕ) (x : X) → slice_get (take n xs) k ≡ Some x → slice_get xs k ≡ Some x
-take_at [] zero k x e = e
-take_at [] (suc n) k x e = e
-take_at (y ∷ xs) zero k x e = cc
-take_at (y ∷ xs) (suc n) zero x e = e
-take_at (y ∷ xs) (suc n) (suc k) x e = take_at xs n k x e
-
-pub edges_at : (f : FoFile) (rows : List (Vec Edge Global)) (v : ℕ) (row : Vec Edge Global) (es : List GraphEdge) → rows_of rows ≡ first_rows f (length rows) → is_untested (length rows) v ≡ false → row ≡ get_or rows v row → es ≡ map graph_edge row.items → HasEdges (file_graph f) v es
+pub edges_at : (f : FoFile) (rows : List (Vec Edge Global)) (v : ℕ) (row : Vec Edge Global) (es : List GraphEdge) → lists_of rows ≡ first_rows f (length rows) → is_untested (length rows) v ≡ false → row ≡ get_or rows v row → es ≡ map graph_edge row.items → HasEdges (file_graph f) v es
 edges_at f rows v row es are tested is e =
     let node = graph_node f.theory f.nodes in
     let edges = edges_of f.theory f.nodes in
-    let there = at_map (λ (r : Vec Edge Global). r.items) rows v row (at_index rows v row row (leb-false (length rows) v tested) (sym is)) in
+    let there = get_map (λ (r : Vec Edge Global). r.items) rows v row (at_index rows v row row (leb-false (length rows) v tested) (sym is)) in
     let m = mapped_at edges (take (length rows) f.nodes) v row.items (subst (λ rs. slice_get rs v ≡ Some row.items) are there) in
-    (node m.from, at_map node f.nodes v m.from (take_at f.nodes (length rows) v m.from m.at), e ∙ ap (map graph_edge) (sym m.is))
+    (node m.from, get_map node f.nodes v m.from (get_taken f.nodes (length rows) v m.from m.at), e ∙ ap (map graph_edge) (sym m.is))
 
 -- ---- the answer
 

@@ -1,20 +1,7 @@
 -- One turn of the loop over a proof's nodes.
-use Rattle.std.proofs.Common.{◌≡◌, ℕ, zero, suc, ◌+◌, ◌<◌, Bool, true, false, List, [], ◌∷◌, ◌++◌, length, get_or, take, Some, refl, ap, subst, arith, add-one}
+use Rattle.std.proofs.Common.{◌≡◌, ℕ, ◌+◌, ◌<◌, Bool, true, false, List, Some, refl, subst, arith}
 use Rattle.std.specs.Prelude.{slice_get, nat_lt}
 use Rattle.std.proofs.lemmas.Bool.{ltb-true, ltb-false}
-
-pub at_index : {X : Type 0} (xs : List X) (k : ℕ) (d x : X) → k < length xs → get_or xs k d ≡ x → slice_get xs k ≡ Some x
-at_index [] k d x h e = absurd (omega arith)
-at_index (y ∷ xs) zero d x h e = ap Some e
-at_index (y ∷ xs) (suc k) d x h e = at_index xs k d x (omega arith) e
-
-take_more_suc : {X : Type 0} (xs : List X) (v : ℕ) (x : X) → slice_get xs v ≡ Some x → take (suc v) xs ≡ take v xs ++ x ∷ []
-take_more_suc [] v x e = absurd cc
-take_more_suc (y ∷ xs) zero x e = let same : y ≡ x = cc in ap (λ z. z ∷ []) same
-take_more_suc (y ∷ xs) (suc v) x e = ap (λ zs. y ∷ zs) (take_more_suc xs v x e)
-
-pub take_more : {X : Type 0} (xs : List X) (v : ℕ) (x : X) → slice_get xs v ≡ Some x → take (v + 1) xs ≡ take v xs ++ x ∷ []
-take_more xs v x e = rw add-one (take_more_suc xs v x e)
 
 -- what holds of the members before v and of member v holds of those before v + 1
 pub one_more : {X : Type 0} (ns : List X) (P : ℕ → X → Type 0) (v : ℕ) (n : X) → slice_get ns v ≡ Some n → ((u : ℕ) (node : X) → u < v → slice_get ns u ≡ Some node → P u node) → P v n → (u : ℕ) (node : X) → u < v + 1 → slice_get ns u ≡ Some node → P u node

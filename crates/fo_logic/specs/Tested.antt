@@ -1,14 +1,9 @@
 -- A proof of which the nodes are tested up to the first fault.
-use Rattle.std.specs.Prelude.{◌≡◌, ℕ, Bool, nat_le, List, map, take, length, Option, Some, None, slice_get, Vec}
-use Rattle.std.specs.declared.alloc.Global.{Global}
+use Rattle.std.specs.Prelude.{◌≡◌, ℕ, Bool, nat_le, List, map, take, length, Option, Some, None, slice_get}
 use Rattle.fo_formula.specs.declared.nodes.FoFile.{FoFile}
 use Rattle.fo_formula.specs.declared.nodes.FoNode.{FoNode}
 use Rattle.fo_table.specs.declared.faults.FoFault.{FoFault}
 use Rattle.fo_table.specs.Nodes.{Edge, edges_of, node_fault}
-
--- the edges of each node of a list
-abbrev pub rows_of : List (Vec Edge Global) → List (List Edge)
-rows_of rows = map (λ v. v.items) rows
 
 -- the edges of the first n nodes
 abbrev pub first_rows : FoFile → ℕ → List (List Edge)

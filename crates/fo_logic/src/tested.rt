@@ -4,7 +4,8 @@ ghost use Rattle.trace_pairs.specs.System.{IsLeastFaulty};
 ghost use Rattle.fo_formula.specs.declared.atoms.FoAtom.{FoAtom as AtomValue};
 ghost use Rattle.fo_nodes.specs.Files.{IsFoProof, graph_edge, predicate_places};
 ghost use Rattle.fo_nodes.specs.Once.{proof_once};
-ghost use Rattle.fo_logic.specs.Tested.{rows_of, first_rows, EndsBy, is_untested};
+ghost use Rattle.trace_pairs.specs.Turn.{lists_of};
+ghost use Rattle.fo_logic.specs.Tested.{first_rows, EndsBy, is_untested};
 ghost use Rattle.fo_logic.specs.Verdicts.{file_graph, IsRightBefore, IsLeastFault};
 
 use cyc_limits::MOST_LEFT;
@@ -24,7 +25,7 @@ pub struct TestedProof<'a> {
     fault: Option<FoFault>,
     ghost proof: { IsFoProof file.now } by { proof_once file.now },
     ghost right: { IsRightBefore file.now (length edges.items) },
-    ghost rows: { rows_of edges.items ≡ first_rows file.now (length edges.items) },
+    ghost rows: { lists_of edges.items ≡ first_rows file.now (length edges.items) },
     ghost ends: { EndsBy file.now (length edges.items) fault },
 }
 

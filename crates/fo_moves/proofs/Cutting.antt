@@ -1,5 +1,5 @@
 -- What is passed over has no right choice in it.
-use Rattle.std.proofs.Common.{◌≡◌, ℕ, zero, suc, ◌+◌, Bool, true, false, ◌&&◌, ◌||◌, not, List, [], ◌∷◌, ◌++◌, map, Option, Some, None, refl, sym, ap, ◌∙◌}
+use Rattle.std.proofs.Common.{◌≡◌, ℕ, zero, suc, ◌+◌, Bool, true, false, ◌||◌, not, List, [], ◌∷◌, ◌++◌, map, Option, Some, None, refl, sym, ap, ◌∙◌}
 use Rattle.std.specs.Prelude.{slice_get, nat_le, is_none}
 use Rattle.std.specs.List.{list_any, list_all, zip}
 use Rattle.std.specs.Option.{option_map}
@@ -7,10 +7,9 @@ use Rattle.fo_formula.specs.declared.atoms.FoAtom.{FoAtom}
 use Rattle.fo_formula.specs.declared.nodes.FoReason.TheVariants.{Link}
 use Rattle.fo_formula.specs.Sizes.{sequent_size, reason_size}
 use Rattle.fo_formula.specs.Words.{Word, in_atom}
-use Rattle.fo_table.specs.declared.faults.FoFault.{FoFault}
 use Rattle.fo_table.specs.declared.faults.FoFault.TheVariants.{LinkLeft, LinkRight}
 use Rattle.fo_table.specs.Tests.{same_atom}
-use Rattle.fo_table.specs.LinkTable.{is_atom, place_unless, map_place, first_of, linked, link_fault}
+use Rattle.fo_table.specs.LinkTable.{is_atom, map_place, first_of, linked, link_fault}
 use Rattle.fo_parts.specs.declared.changes.Change.{Change}
 use Rattle.fo_parts.specs.declared.changes.Change.TheVariants.{Instance, Substitution}
 use Rattle.fo_parts.specs.Putting.{put}
@@ -21,18 +20,17 @@ use Rattle.fo_moves.specs.declared.wanted.Wanted.TheVariants.{Values, Locals}
 use Rattle.fo_moves.specs.Links.{link_by}
 use Rattle.fo_moves.specs.After.{holds_by}
 use Rattle.fo_moves.specs.Choosing.{settles_atom, may_stand, may_hold, may_link, may_suit, may_do, does}
-use Rattle.fo_moves.proofs.Settled.{Extends, true_and, atom_stays, substitution_extends, instance_extends}
-
-both_true : (a b : Bool) → a ≡ true → b ≡ true → a && b ≡ true
-both_true true b p q = q
-both_true false b p q = cc
+use Rattle.fo_moves.proofs.Settled.{Extends, atom_stays, substitution_extends, instance_extends}
+use Rattle.std.proofs.lemmas.Bool.{and_from, and_parts}
+use Rattle.list_facts.proofs.Options.{none_is}
+use Rattle.fo_table.proofs.Links.{unless_none}
 
 -- a test that holds wherever another does
 all_too : {X Y : Type 0} (f : X → Y) (test : Y → Bool) (weaker : X → Bool) → ((x : X) → test (f x) ≡ true → weaker x ≡ true) → (xs : List X) → list_all test (map f xs) ≡ true → list_all weaker xs ≡ true
 all_too f test weaker h [] t = refl
 all_too f test weaker h (x ∷ xs) t =
-    let p = true_and (test (f x)) (list_all test (map f xs)) t in
-    both_true (weaker x) (list_all weaker xs) (h x p.0) (all_too f test weaker h xs p.1)
+    let p = and_parts (test (f x)) (list_all test (map f xs)) t in
+    and_from (weaker x) (list_all weaker xs) (h x p.0) (all_too f test weaker h xs p.1)
 
 -- ---- a link without a fault finds each atom
 
@@ -48,26 +46,18 @@ atom_there (y ∷ ys) (suc m) x h = or_true (same_atom y x) (is_among ys x) (ato
     or_true true b p = refl
     or_true false b p = p
 
-placed_here : (b : Bool) (k : ℕ) (rest : Option ℕ) → place_unless b k rest ≡ None → (b ≡ true) × (rest ≡ None)
-placed_here true k rest h = (refl, h)
-placed_here false k rest h = absurd cc
-
 all_stand : (atoms : List FoAtom) (k : ℕ) (ms : List ℕ) (xs : List FoAtom) → map_place atoms k ms xs ≡ None → list_all (is_among atoms) xs ≡ true
 all_stand atoms k [] [] h = refl
 all_stand atoms k (m ∷ ms) [] h = cc
 all_stand atoms k [] (x ∷ xs) h = cc
 all_stand atoms k (m ∷ ms) (x ∷ xs) h =
-    let p = placed_here (is_atom x (slice_get atoms m)) k (map_place atoms (suc k) ms xs) h in
-    both_true (is_among atoms x) (list_all (is_among atoms) xs) (atom_there atoms m x p.0) (all_stand atoms (suc k) ms xs p.1)
+    let p = unless_none (is_atom x (slice_get atoms m)) k (map_place atoms (suc k) ms xs) h in
+    and_from (is_among atoms x) (list_all (is_among atoms) xs) (atom_there atoms m x p.0) (all_stand atoms (suc k) ms xs p.1)
 
 none_first : (f g : Option ℕ) → first_of (option_map LinkLeft f) (option_map LinkRight g) ≡ None → (f ≡ None) × (g ≡ None)
 none_first None None h = (refl, refl)
 none_first None (Some k) h = absurd cc
 none_first (Some k) g h = absurd cc
-
-none_is : (o : Option FoFault) → is_none o ≡ true → o ≡ None
-none_is None h = refl
-none_is (Some f) h = cc
 
 -- ---- an atom that is settled
 
@@ -93,10 +83,10 @@ link_may goal made more h =
     let d = Substitution (zip sources (made ++ more)) in
     let c = Substitution (zip sources made) in
     let link = link_by bud companion goal.number (zip sources (made ++ more)) in
-    let fit = true_and (is_none (link_fault bud companion link)) (nat_le (sequent_size bud + reason_size (Link link)) 4096) h in
+    let fit = and_parts (is_none (link_fault bud companion link)) (nat_le (sequent_size bud + reason_size (Link link)) 4096) h in
     let places = none_first (map_place bud.left 0 link.left_map (linked link companion.left)) (map_place bud.right 0 link.right_map (linked link companion.right)) (none_is (link_fault bud companion link) fit.0) in
     let same = substitution_extends sources made more in
-    both_true _ _
+    and_from _ _
     (all_too (in_atom (put d)) (is_among bud.left) (may_stand c bud.left) (stand_stays c d same bud.left) companion.left (all_stand bud.left 0 link.left_map (linked link companion.left) places.0))
     (all_too (in_atom (put d)) (is_among bud.right) (may_stand c bud.right) (stand_stays c d same bud.right) companion.right (all_stand bud.right 0 link.right_map (linked link companion.right) places.1))
 

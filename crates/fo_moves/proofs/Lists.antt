@@ -1,12 +1,12 @@
 -- What holds of each member of lists that are made of others.
-use Rattle.std.proofs.Common.{◌≡◌, ℕ, zero, suc, Bool, true, false, cond, List, [], ◌∷◌, map, take, refl, subst, inl, inr}
+use Rattle.std.proofs.Common.{◌≡◌, ℕ, zero, suc, Bool, true, false, cond, List, [], ◌∷◌, refl, subst, inl, inr}
 use Rattle.std.specs.Prelude.{replicate}
 use Rattle.std.specs.List.{filter, flat_map, zip}
 use Rattle.heap_formula.specs.Words.{Each, OneOf}
-use Rattle.fo_formula.proofs.Lists.{each_append}
 use Rattle.back_links.specs.Listing.{selections}
 use Rattle.back_links.proofs.Selecting.{IsSelection, each_selection}
 use Rattle.fold_offers.specs.Places.{each_from, each_place, first_line, first_that, or_else}
+use Rattle.formula_facts.proofs.AllMembers.{each_append}
 
 pub each_kept : {X : Type 0} (p : X → Bool) (xs : List X) → Each (λ x. p x ≡ true) (filter p xs)
 each_kept p [] = tt
@@ -40,7 +40,7 @@ each_first P p (x ∷ xs) h = branch (p x) (each_first P p xs h.1)
     branch true rest = (h.0, tt)
     branch false rest = rest
 
-each_else : {X : Type 0} (P : X → Type 0) (xs ys : List X) → Each P xs → Each P ys → Each P (or_else xs ys)
+pub each_else : {X : Type 0} (P : X → Type 0) (xs ys : List X) → Each P xs → Each P ys → Each P (or_else xs ys)
 each_else P [] ys a b = b
 each_else P (x ∷ xs) ys a b = a
 
@@ -54,19 +54,6 @@ each_given P f h k (x ∷ xs) = each_append P (f k x) (each_from f (suc k) xs) (
 
 pub each_offered : {X Y : Type 0} (P : Y → Type 0) (f : ℕ → X → List Y) → ((k : ℕ) (x : X) → Each P (f k x)) → (xs : List X) → Each P (each_place f xs)
 each_offered P f h xs = each_given P f h 0 xs
-
-pub each_taken : {X : Type 0} (P : X → Type 0) (n : ℕ) (xs : List X) → Each P xs → Each P (take n xs)
-each_taken P zero xs h = tt
-each_taken P (suc n) [] h = tt
-each_taken P (suc n) (x ∷ xs) h = (h.0, each_taken P n xs h.1)
-
-pub each_mapped : {X Y : Type 0} (P : Y → Type 0) (f : X → Y) (xs : List X) → Each (λ x. P (f x)) xs → Each P (map f xs)
-each_mapped P f [] h = tt
-each_mapped P f (x ∷ xs) h = (h.0, each_mapped P f xs h.1)
-
-pub each_any : {X : Type 0} (P : X → Type 0) → ((x : X) → P x) → (xs : List X) → Each P xs
-each_any P h [] = tt
-each_any P h (x ∷ xs) = (h x, each_any P h xs)
 
 pub each_joined : {X Y : Type 0} (P : Y → Type 0) (Q : X → Type 0) (f : X → List Y) → ((x : X) → Q x → Each P (f x)) → (xs : List X) → Each Q xs → Each P (flat_map f xs)
 each_joined P Q f h [] a = tt

@@ -1,5 +1,5 @@
 -- The variables of a sequent within the limits have numbers up to 65,534.
-use Rattle.std.proofs.Common.{ℕ, zero, suc, ◌+◌, ◌<◌, ◌≤◌, List, [], ◌∷◌, map, arith}
+use Rattle.std.proofs.Common.{ℕ, ◌+◌, ◌<◌, ◌≤◌, List, [], ◌∷◌, map, arith}
 use Rattle.std.specs.List.{range_with_len}
 use Rattle.heap_formula.specs.Words.{Each, max_of}
 use Rattle.fo_formula.specs.declared.terms.Sign.{Sign}
@@ -11,15 +11,10 @@ use Rattle.fo_formula.specs.declared.sequents.FoSequent.{FoSequent}
 use Rattle.fo_formula.specs.declared.theory.FoTheory.{FoTheory}
 use Rattle.fo_formula.specs.Bounds.{sign_bound, word_bound, atom_bound, sequent_bound}
 use Rattle.fo_formula.specs.Words.{Word}
-use Rattle.fo_formula.proofs.Lists.{each_map}
 use Rattle.fo_limits.specs.Limits.{IsSignWithin, IsTermWithin, IsAtomWithin, HasAtomsWithin}
 use Rattle.fo_moves.specs.Links.{stands_in, variables}
 use Rattle.fo_moves.proofs.Lists.{each_filter}
-
-range_below : (m n : ℕ) → Each (λ k. k < m + n) (range_with_len m n)
-range_below m zero = tt
-range_below m (suc n) =
-    (omega arith, each_map (λ k. k < (m + 1) + n) (λ k. k < m + suc n) (λ k lt. omega arith) (range_with_len (m + 1) n) (range_below (m + 1) n))
+use Rattle.formula_facts.proofs.AllMembers.{each_imply, range_below}
 
 -- the greatest of numbers that are each at most m
 most_of : {X : Type 0} (P : X → Type 0) (f : X → ℕ) (m : ℕ) → ((x : X) → P x → f x ≤ m) → (xs : List X) → Each P xs →
@@ -49,4 +44,4 @@ module _ (t : FoTheory) where
   variables_low s h =
       let low = bound_low s h in
       each_filter (λ n. n ≤ 65534) (λ n. stands_in n s) (range_with_len 0 (sequent_bound s))
-      (each_map (λ n. n < 0 + sequent_bound s) (λ n. n ≤ 65534) (λ n lt. omega (arith, low, lt)) (range_with_len 0 (sequent_bound s)) (range_below 0 (sequent_bound s)))
+      (each_imply (λ n. n < 0 + sequent_bound s) (λ n. n ≤ 65534) (λ n lt. omega (arith, low, lt)) (range_with_len 0 (sequent_bound s)) (range_below 0 (sequent_bound s)))

@@ -17,7 +17,6 @@ use Rattle.fo_formula.specs.Bounds.{atoms_bound}
 use Rattle.fo_formula.specs.Meaning.{cases_of}
 use Rattle.fo_formula.specs.Sizes.{sequent_size, reason_size, words_size, atom_size}
 use Rattle.fo_formula.specs.Words.{Word}
-use Rattle.fo_formula.proofs.Lists.{each_map, each_append}
 use Rattle.fold_offers.specs.Places.{each_place, first_that}
 use Rattle.fo_table.specs.declared.faults.FoFault.{FoFault}
 use Rattle.fo_table.specs.declared.faults.FoFault.TheVariants.{NoSuchAtom, NoSuchCase, TermCount}
@@ -31,10 +30,12 @@ use Rattle.fo_moves.specs.Subterms.{subterms, lists_of}
 use Rattle.fo_moves.specs.Before.{axiom_at, axioms_with, axioms, refl_at, clash_at, decompose_at, replace_at, lines_before, rules_before}
 use Rattle.fo_moves.specs.Links.{variables, link_by, is_fit, substitutions, links_to}
 use Rattle.fo_moves.specs.After.{suits, choices, rights_by, rights_at, unfold_at, rules_after}
-use Rattle.fo_moves.proofs.Settled.{true_and}
-use Rattle.fo_moves.proofs.Lists.{each_kept, each_filter, each_first_kept, each_first, each_line, each_offered, each_taken, each_mapped, each_any, each_zipped}
+use Rattle.fo_moves.proofs.Lists.{each_kept, each_filter, each_first_kept, each_first, each_line, each_offered, each_zipped}
 use Rattle.fo_moves.proofs.Terms.{lists_are}
 use Rattle.fo_moves.proofs.LowVariables.{variables_low}
+use Rattle.formula_facts.proofs.AllMembers.{each_imply, each_append, each_mapped, each_take, each_any}
+use Rattle.std.proofs.lemmas.Bool.{and_parts}
+use Rattle.list_facts.proofs.Options.{none_is}
 
 le_true : (m n : ℕ) → nat_le m n ≡ true → m ≤ n
 le_true m n h = grind (arith, nat_tests, h)
@@ -55,29 +56,25 @@ module _ (most number : ℕ) (bud companion : FoSequent) where
   all_links = map (link_by bud companion number) (substitutions bud companion)
 
   fit_links : Each (λ (link : FoLink). is_fit bud companion link ≡ true) (links_to most bud companion number)
-  fit_links = each_taken (λ (link : FoLink). is_fit bud companion link ≡ true) most (filter (is_fit bud companion) all_links) (each_kept (is_fit bud companion) all_links)
+  fit_links = each_take (λ (link : FoLink). is_fit bud companion link ≡ true) most (filter (is_fit bud companion) all_links) (each_kept (is_fit bud companion) all_links)
 
   made_links : (P : FoLink → Type 0) → Each (λ (s : Bindings). P (link_by bud companion number s)) (substitutions bud companion) → Each P (links_to most bud companion number)
   made_links P h =
-      each_taken P most (filter (is_fit bud companion) all_links) (each_filter P (is_fit bud companion) all_links (each_mapped P (link_by bud companion number) (substitutions bud companion) h))
+      each_take P most (filter (is_fit bud companion) all_links) (each_filter P (is_fit bud companion) all_links (each_mapped P (link_by bud companion number) (substitutions bud companion) h))
 
   pub links_lead : Each (λ (link : FoLink). link.to ≡ number) (links_to most bud companion number)
   links_lead = made_links (λ (link : FoLink). link.to ≡ number) (each_any (λ (s : Bindings). number ≡ number) (λ s. refl) (substitutions bud companion))
 
-  none_is : (o : Option FoFault) → is_none o ≡ true → o ≡ None
-  none_is None h = refl
-  none_is (Some f) h = cc
-
   fit_parts : (link : FoLink) → is_fit bud companion link ≡ true → (is_none (link_fault bud companion link) ≡ true) × (nat_le (sequent_size bud + reason_size (Link link)) 4096 ≡ true)
-  fit_parts link h = true_and (is_none (link_fault bud companion link)) (nat_le (sequent_size bud + reason_size (Link link)) 4096) h
+  fit_parts link h = and_parts (is_none (link_fault bud companion link)) (nat_le (sequent_size bud + reason_size (Link link)) 4096) h
 
   pub links_right : Each (λ (link : FoLink). link_fault bud companion link ≡ None) (links_to most bud companion number)
   links_right =
-      each_map (λ (link : FoLink). is_fit bud companion link ≡ true) (λ (link : FoLink). link_fault bud companion link ≡ None) (λ link h. none_is (link_fault bud companion link) (fit_parts link h).0) (links_to most bud companion number) fit_links
+      each_imply (λ (link : FoLink). is_fit bud companion link ≡ true) (λ (link : FoLink). link_fault bud companion link ≡ None) (λ link h. none_is (link_fault bud companion link) (fit_parts link h).0) (links_to most bud companion number) fit_links
 
   pub links_small : Each (λ (link : FoLink). sequent_size bud + reason_size (Link link) ≤ 4096) (links_to most bud companion number)
   links_small =
-      each_map (λ (link : FoLink). is_fit bud companion link ≡ true) (λ (link : FoLink). sequent_size bud + reason_size (Link link) ≤ 4096) (λ link h. le_true (sequent_size bud + reason_size (Link link)) 4096 (fit_parts link h).1) (links_to most bud companion number) fit_links
+      each_imply (λ (link : FoLink). is_fit bud companion link ≡ true) (λ (link : FoLink). sequent_size bud + reason_size (Link link) ≤ 4096) (λ link h. le_true (sequent_size bud + reason_size (Link link)) 4096 (fit_parts link h).1) (links_to most bud companion number) fit_links
 
 pub links_within : (t : FoTheory) (most number : ℕ) (bud companion : FoSequent) → HasAtomsWithin t bud →
     HasAtomsWithin t companion → Each (λ (link : FoLink). IsReasonWithin t (Link link)) (links_to most bud companion number)
@@ -86,7 +83,7 @@ links_within t most number bud companion b c =
     let lists = lists_of (length names) (subterms bud) in
     made_links most number bud companion (λ (link : FoLink). IsReasonWithin t (Link link))
     (each_mapped (Each (IsPairWithin t)) (zip names) lists
-    (each_map (Each (IsTermWithin t)) (λ (ts : List Word). Each (IsPairWithin t) (zip names ts)) (λ ts within. each_zipped (λ n. n ≤ 65534) (IsTermWithin t) names ts (variables_low t companion c) within) lists
+    (each_imply (Each (IsTermWithin t)) (λ (ts : List Word). Each (IsPairWithin t) (zip names ts)) (λ ts within. each_zipped (λ n. n ≤ 65534) (IsTermWithin t) names ts (variables_low t companion c) within) lists
     (lists_are (IsSignWithin t) t bud b.0 b.1 (length names))))
 
 -- ---- the terms of a rule without a fault
@@ -99,7 +96,7 @@ small_if_ok : (s : FoSequent) (n : ℕ) (ps : List FoPremise) → is_ok (limited
 small_if_ok s n ps h =
     let short = ok_needs (list_all (λ (p : FoPremise). is_short p.sequent) ps) _ _ h in
     let small = ok_needs (nat_le (sequent_size s + n) 4096 && list_all (λ (p : FoPremise). is_small p.sequent) ps) _ _ short.1 in
-    let size = (true_and (nat_le (sequent_size s + n) 4096) (list_all (λ (p : FoPremise). is_small p.sequent) ps) small.0).0 in
+    let size = (and_parts (nat_le (sequent_size s + n) 4096) (list_all (λ (p : FoPremise). is_small p.sequent) ps) small.0).0 in
     grind (arith, nat_tests, size)
 
 module _ (t : FoTheory) (s : FoSequent) (j c : ℕ) (terms : List Word) where
@@ -130,10 +127,10 @@ rule_small t s h (Cut x) g = small_if_ok s (atom_size x) (cut_right s x ∷ cut_
 rule_small t s h (Right j c terms) g = right_atom t s j c terms (slice_get s.right j) g
 
 pub before_small : (t : FoTheory) (s : FoSequent) → sequent_size s ≤ 4096 → Each (λ (rule : FoRule). sequent_size s + reason_size (Rule rule) ≤ 4096) (rules_before t s)
-before_small t s h = each_map (λ (rule : FoRule). goes t s rule ≡ true) (λ (rule : FoRule). sequent_size s + reason_size (Rule rule) ≤ 4096) (rule_small t s h) (rules_before t s) (before_goes t s)
+before_small t s h = each_imply (λ (rule : FoRule). goes t s rule ≡ true) (λ (rule : FoRule). sequent_size s + reason_size (Rule rule) ≤ 4096) (rule_small t s h) (rules_before t s) (before_goes t s)
 
 pub after_small : (t : FoTheory) (s : FoSequent) → sequent_size s ≤ 4096 → Each (λ (rule : FoRule). sequent_size s + reason_size (Rule rule) ≤ 4096) (rules_after t s)
-after_small t s h = each_map (λ (rule : FoRule). goes t s rule ≡ true) (λ (rule : FoRule). sequent_size s + reason_size (Rule rule) ≤ 4096) (rule_small t s h) (rules_after t s) (after_goes t s)
+after_small t s h = each_imply (λ (rule : FoRule). goes t s rule ≡ true) (λ (rule : FoRule). sequent_size s + reason_size (Rule rule) ≤ 4096) (rule_small t s h) (rules_after t s) (after_goes t s)
 
 -- ---- rules within the limits
 

@@ -16,10 +16,7 @@ use Rattle.fo_parts.specs.declared.changes.Change.{Change}
 use Rattle.fo_parts.specs.declared.changes.Change.TheVariants.{Instance, Substitution}
 use Rattle.fo_parts.specs.Putting.{put}
 use Rattle.fo_moves.specs.Choosing.{has_pair, settles, settles_word, settles_atom}
-
-pub true_and : (a b : Bool) → a && b ≡ true → (a ≡ true) × (b ≡ true)
-true_and true b h = (refl, h)
-true_and false b h = absurd cc
+use Rattle.std.proofs.lemmas.Bool.{and_parts}
 
 -- the second change puts what the first puts, wherever the first is settled
 abbrev pub Extends : Change → Change → Type 0
@@ -28,7 +25,7 @@ Extends c d = (s : Sign) → settles c s ≡ true → put d s ≡ put c s
 module _ (c d : Change) (same : Extends c d) where
   each_settled : (w : Word) → settles_word c w ≡ true → Each (λ s. put d s ≡ put c s) w
   each_settled [] h = tt
-  each_settled (s ∷ w) h = let p = true_and (settles c s) (settles_word c w) h in (same s p.0, each_settled w p.1)
+  each_settled (s ∷ w) h = let p = and_parts (settles c s) (settles_word c w) h in (same s p.0, each_settled w p.1)
 
   word_stays : (w : Word) → settles_word c w ≡ true → replaced (put d) w ≡ replaced (put c) w
   word_stays w h = replaced-same (put d) (put c) w (each_settled w h)
@@ -36,13 +33,13 @@ module _ (c d : Change) (same : Extends c d) where
   words_stay : (ws : List Word) → list_all (settles_word c) ws ≡ true → map (replaced (put d)) ws ≡ map (replaced (put c)) ws
   words_stay [] h = refl
   words_stay (w ∷ ws) h =
-      let p = true_and (settles_word c w) (list_all (settles_word c) ws) h in
+      let p = and_parts (settles_word c w) (list_all (settles_word c) ws) h in
       λ i. word_stays w p.0 i ∷ words_stay ws p.1 i
 
   pub atom_stays : (x : FoAtom) → settles_atom c x ≡ true → in_atom (put d) x ≡ in_atom (put c) x
   atom_stays (Equation l r) h =
-      let p = true_and (settles_word c l) (settles_word c r && true) h in
-      let q = true_and (settles_word c r) true p.1 in
+      let p = and_parts (settles_word c l) (settles_word c r && true) h in
+      let q = and_parts (settles_word c r) true p.1 in
       λ i. Equation (word_stays l p.0 i) (word_stays r q.0 i)
   atom_stays (Predicate p ts) h = ap (λ (us : List Word). Predicate p us) (words_stay ts h)
 

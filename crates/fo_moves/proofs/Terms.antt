@@ -8,12 +8,12 @@ use Rattle.fo_formula.specs.declared.atoms.FoAtom.TheVariants.{Equation, Predica
 use Rattle.fo_formula.specs.declared.sequents.FoSequent.{FoSequent}
 use Rattle.fo_formula.specs.declared.theory.FoTheory.{FoTheory}
 use Rattle.fo_formula.specs.Words.{Word, arity, AreTerms, end_of}
-use Rattle.fo_formula.proofs.Lists.{each_append}
 use Rattle.fo_formula.proofs.Reading.{first_split}
 use Rattle.fo_table.specs.Tests.{same_word}
 use Rattle.fo_limits.specs.Limits.{IsTermOf, IsAtomOf}
 use Rattle.fo_moves.specs.Subterms.{terms_of_atom, terms_of, parts_of, once, subterms, lists_of}
-use Rattle.fo_moves.proofs.Lists.{each_taken, each_joined, each_chosen}
+use Rattle.fo_moves.proofs.Lists.{each_joined, each_chosen}
+use Rattle.formula_facts.proofs.AllMembers.{each_append, each_take}
 
 module _ (Q : Sign → Type 0) where
   each_part : (n : ℕ) (w : Word) → AreTerms n w → Each Q w → Each (IsTermOf Q) (parts_of w)
@@ -21,7 +21,7 @@ module _ (Q : Sign → Type 0) where
   each_part zero (s ∷ w) a h = absurd a
   each_part (suc n) (s ∷ w) a h =
       let first = first_split n (s ∷ w) a in
-      ((first.0, each_taken Q (end_of 1 (s ∷ w)) (s ∷ w) h), each_part (arity s + n) w a h.1)
+      ((first.0, each_take Q (end_of 1 (s ∷ w)) (s ∷ w) h), each_part (arity s + n) w a h.1)
 
   parts_are : (w : Word) → IsTermOf Q w → Each (IsTermOf Q) (parts_of w)
   parts_are w h = each_part 1 w h.0 h.1

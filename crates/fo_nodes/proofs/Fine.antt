@@ -24,7 +24,6 @@ use Rattle.fo_formula.specs.Meaning.{cases_of}
 use Rattle.fo_formula.specs.Sizes.{sequent_size, words_size, atom_size}
 use Rattle.fo_formula.specs.Values.{sign_value}
 use Rattle.fo_formula.specs.Words.{Word, in_atom}
-use Rattle.fo_formula.proofs.Lists.{each_at, each_append}
 use Rattle.fo_table.specs.declared.faults.FoFault.{FoFault}
 use Rattle.fo_table.specs.declared.faults.FoFault.TheVariants.{NoSuchAtom, AtomsDiffer, NotAbsurd, NotVariable, NoSuchCase, NoFreshVariable, TermCount, TooManyAtoms, TooManyTerms}
 use Rattle.fo_table.specs.declared.premises.FoPremise.{FoPremise}
@@ -37,6 +36,7 @@ use Rattle.fo_table.specs.Nodes.{unless_fault, link_answer, reason_answer}
 use Rattle.fo_table.proofs.Links.{Names, link_names}
 use Rattle.fo_nodes.specs.Files.{IsSmallDefinition}
 use Rattle.fo_nodes.proofs.Fits.{IsPredAt, PairsFit, pred_front, pred_back, pred_mapped, pairs_fit, pairs_fit_0, same_fit, kept_fit, children_fit}
+use Rattle.formula_facts.proofs.AllMembers.{each_append, each_at}
 
 -- the pairs of a premise join left predicate atoms of the sequent and of the premise
 abbrev pub PremiseFits : FoSequent → FoPremise → Type 0

@@ -9,6 +9,7 @@ use Rattle.fo_formula.specs.declared.atoms.FoAtom.{FoAtom}
 use Rattle.fo_formula.specs.declared.atoms.FoAtom.TheVariants.{Equation, Predicate}
 use Rattle.fo_formula.specs.Words.{Word, replaced, in_atom}
 use Rattle.fo_table.specs.Traces.{pairs_from, same_pairs, kept_pairs, child_pairs}
+use Rattle.formula_facts.proofs.Positions.{get_without}
 
 -- a predicate atom stands at the place
 abbrev pub IsPredAt : List FoAtom → ℕ → Type 0
@@ -36,12 +37,6 @@ pred_mapped f [] k p = let e = p.2 in absurd cc
 pred_mapped f (x ∷ xs) zero p =
     let e : x ≡ Predicate p.0 p.1 = (let q = p.2 in cc) in (p.0, map (replaced f) p.1, ap (λ y. Some (in_atom f y)) e)
 pred_mapped f (x ∷ xs) (suc k) p = pred_mapped f xs k p
-
-pub get_without : {X : Type 0} (k : ℕ) (xs : List X) (i : ℕ) (x : X) → slice_get (without k xs) i ≡ Some x → slice_get xs (before k i) ≡ Some x
-get_without k [] i x e = absurd cc
-get_without zero (y ∷ xs) i x e = e
-get_without (suc k) (y ∷ xs) zero x e = e
-get_without (suc k) (y ∷ xs) (suc i) x e = get_without k xs i x e
 
 -- ---- pairs
 

@@ -8,6 +8,7 @@ use Rattle.fo_formula.specs.declared.atoms.FoAtom.TheVariants.{Equation, Predica
 use Rattle.fo_formula.specs.Words.{Word}
 use Rattle.trace_pairs.specs.Graph.{IsPositionSet, has}
 use Rattle.fo_nodes.specs.Files.{predicate_places}
+use Rattle.position_sets.proofs.Members.{rises_from}
 
 -- each place is at least the first, and below the end
 places_within : (k : ℕ) (xs : List FoAtom) (q : ℕ) → has (predicate_places k xs) q ≡ true → (k ≤ q) × (q < k + length xs)
@@ -23,14 +24,7 @@ places_within k (Predicate p ts ∷ xs) q h =
 places_rise : (k : ℕ) (xs : List FoAtom) → IsStrictlyIncreasing (predicate_places k xs)
 places_rise k [] i l = absurd (omega (arith, l))
 places_rise k (Equation u v ∷ xs) i l = places_rise (suc k) xs i l
-places_rise k (Predicate p ts ∷ xs) zero l = first (predicate_places (suc k) xs) (λ q h. (places_within (suc k) xs q h).0) l
-  where
-    first : (qs : List ℕ) → ((q : ℕ) → has qs q ≡ true → suc k ≤ q) → 0 + 1 < length (k ∷ qs) → slice_index (k ∷ qs) 0 < slice_index (k ∷ qs) (0 + 1)
-    first [] above l = absurd (omega (arith, l))
-    first (q ∷ qs) above l = let a = above q (or_first q qs) in omega (arith, a)
-      where
-        or_first : (q : ℕ) (qs : List ℕ) → has (q ∷ qs) q ≡ true
-        or_first q qs = or_left (nat_eq q q) (has qs q) (eq-eqb q q refl)
+places_rise k (Predicate p ts ∷ xs) zero l = rises_from k (predicate_places (suc k) xs) (λ q h. (places_within (suc k) xs q h).0) l
 places_rise k (Predicate p ts ∷ xs) (suc i) l =
     let next : suc (i + 1) ≡ suc i + 1 = omega arith in
     subst (λ m. slice_index (k ∷ predicate_places (suc k) xs) (suc i) < slice_index (k ∷ predicate_places (suc k) xs) m) next (places_rise (suc k) xs i (omega (arith, l)))

@@ -1,5 +1,5 @@
 -- One turn of the loop over a node's premises.
-use Rattle.std.proofs.Common.{◌≡◌, ℕ, zero, suc, ◌+◌, ◌<◌, List, [], ◌∷◌, ◌++◌, append_assoc, length-append, arith, length, get_or, drop, Option, Some, None, refl, sym, ap, ◌∙◌, add-one, drop-cons}
+use Rattle.std.proofs.Common.{◌≡◌, ℕ, suc, ◌+◌, ◌<◌, List, [], ◌∷◌, ◌++◌, append_assoc, length-append, arith, length, get_or, drop, Option, Some, None, refl, sym, ap, ◌∙◌, add-one, drop-cons}
 use Rattle.std.specs.Prelude.{slice_get, nat_lt}
 use Rattle.fo_table.specs.declared.premises.FoPremise.{FoPremise}
 use Rattle.fo_table.specs.declared.faults.FoFault.{FoFault}
@@ -7,6 +7,7 @@ use Rattle.fo_formula.specs.declared.nodes.FoNode.{FoNode}
 use Rattle.fo_table.specs.declared.faults.FoFault.TheVariants.{NoSuchNode}
 use Rattle.fo_table.specs.LinkTable.{first_of, fault_unless}
 use Rattle.fo_table.specs.Nodes.{Edge, differs, premises_fault, edges_to}
+use Rattle.list_facts.proofs.Places.{drop_get}
 
 skip : (a b rest : Option FoFault) → first_of a b ≡ None → first_of a (first_of b rest) ≡ rest
 skip None None rest e = refl
@@ -24,11 +25,6 @@ premise_step nodes v ps us i p in_ps in_us is none =
     ∙ skip (fault_unless (nat_lt v u) NoSuchNode) (differs i p (slice_get nodes u)) (premises_fault nodes v (suc i) (drop (suc i) ps) (drop (suc i) us)) none in
     rw add-one (sym h)
 
-drop_at : (xs : List ℕ) (k x : ℕ) → slice_get xs k ≡ Some x → drop k xs ≡ x ∷ drop (suc k) xs
-drop_at [] k x e = cc
-drop_at (y ∷ xs) zero x e = let same : y ≡ x = cc in ap (λ z. z ∷ xs) same
-drop_at (y ∷ xs) (suc k) x e = drop_at xs k x e
-
 pub edge_step : (edges pushed all : List Edge) (rest next : List FoPremise) (us : List ℕ) (p : FoPremise) (u : ℕ) → rest ≡ p ∷ next → pushed ≡ edges ++ (record { target = u; pairs = p.pairs } ∷ []) → slice_get us (length edges) ≡ Some u →
     (length edges + length rest ≡ length us) × (edges ++ edges_to rest (drop (length edges) us) ≡ all) → (length pushed + length next ≡ length us) × (pushed ++ edges_to next (drop (length pushed) us) ≡ all)
 edge_step edges pushed all rest next us p u is push at so_far =
@@ -36,7 +32,7 @@ edge_step edges pushed all rest next us p u is push at so_far =
       omega (arith, size, ap length is, so_far.0),
       (λ i. push i ++ edges_to next (drop (size i) us))
           ∙ append_assoc edges (record { target = u; pairs = p.pairs } ∷ []) (edges_to next (drop (suc (length edges)) us))
-          ∙ ap (λ (xs : List ℕ). edges ++ edges_to (p ∷ next) xs) (sym (drop_at us (length edges) u at))
+          ∙ ap (λ (xs : List ℕ). edges ++ edges_to (p ∷ next) xs) (sym (drop_get us (length edges) u at))
           ∙ ap (λ (ps : List FoPremise). edges ++ edges_to ps (drop (length edges) us)) (sym is)
           ∙ so_far.1,
     )

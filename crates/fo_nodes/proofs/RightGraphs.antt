@@ -1,32 +1,32 @@
 -- The graph of nodes without a fault is in order, and their sequents are local in it.
-use Rattle.std.proofs.Common.{◌≡◌, ℕ, zero, suc, ◌<◌, ◌≤◌, Bool, true, false, List, [], ◌∷◌, map, length, Some, None, sym, ap, ◌∙◌, subst, arith}
+use Rattle.std.proofs.Common.{◌≡◌, ℕ, ◌≤◌, Bool, true, false, List, [], ◌∷◌, map, length, Some, None, sym, ap, ◌∙◌, subst, arith}
 use Rattle.std.specs.Prelude.{slice_get}
 use Rattle.std.proofs.lemmas.List.{length-map}
 use Rattle.std.proofs.lemmas.Option.{slice_get_within}
 use Rattle.heap_formula.specs.declared.judgements.Pair.{Pair}
 use Rattle.heap_formula.specs.Words.{Each}
 use Rattle.heap_formula.specs.Meaning.{Stages}
-use Rattle.heap_formula.specs.Judgements.{Follows, IsBelow}
 use Rattle.heap_formula.proofs.Members.{each_from}
 use Rattle.fo_formula.specs.declared.nodes.FoNode.{FoNode}
 use Rattle.fo_formula.specs.declared.sequents.FoSequent.{FoSequent}
 use Rattle.fo_formula.specs.declared.theory.FoTheory.{FoTheory}
 use Rattle.fo_formula.specs.Shapes.{HasConstant}
 use Rattle.fo_formula.specs.Validity.{HoldsAt}
-use Rattle.fo_formula.proofs.Lists.{each_at}
 use Rattle.fo_table.specs.declared.premises.FoPremise.{FoPremise}
 use Rattle.fo_table.specs.Nodes.{Edge, node_fault, edges_to, edges_of, targets_of, EdgeHolds}
+use Rattle.proof_graph.proofs.FallingPairs.{falls_of}
 use Rattle.trace_pairs.specs.Graph.{Node as GraphNode, Edge as GraphEdge, Pair as GraphPair, IsEdge, Falls, has}
 use Rattle.trace_pairs.specs.System.{AreRight, IsLocalAt, IsRight}
 use Rattle.proof_graph.specs.Traces.{trace_pair}
 pub use Rattle.proof_graph.proofs.Joined.{Mapped, mapped_at}
-pub use Rattle.position_sets.proofs.Lists.{at_map as at_mapped, get_within as some_at}
 use Rattle.fo_nodes.specs.Files.{predicate_places, graph_edge, graph_node, graph_of, HoldsAtNode, IsSmallSequent, IsSmallDefinition, IsReadNode}
 use Rattle.fo_nodes.proofs.Places.{place_of, places_set}
 use Rattle.fo_nodes.proofs.Fits.{IsPredAt, PairsFit}
 use Rattle.fo_nodes.proofs.Fine.{PremiseFits}
 use Rattle.fo_nodes.proofs.Reasons.{Leads, by_node}
 use Rattle.fo_nodes.proofs.RightNodes.{node_holds}
+use Rattle.formula_facts.proofs.AllMembers.{each_at}
+use Rattle.list_facts.proofs.Places.{get_within as some_at, get_map as at_mapped}
 
 edges_short : (ps : List FoPremise) (us : List ℕ) → length (edges_to ps us) ≤ length ps
 edges_short [] us = omega arith
@@ -101,21 +101,6 @@ module _ (t : FoTheory) (nodes : List FoNode) (small : Each IsSmallDefinition t.
   node_local constant v node at read none σ below =
       node_holds t nodes constant small v node σ read.sequent read.reason none (each_from (EdgeHolds t nodes σ) (edges_of t nodes node) (λ k edge is_edge τ follows target at_target.
       below k (graph_edge edge) (record { node = graph_node t nodes node; is_node = at_mapped (graph_node t nodes) nodes v node at; is_edge = at_mapped graph_edge (edges_of t nodes node) k edge is_edge }) τ (falls_of edge.pairs σ τ follows) target at_target))
-    where
-      kept_of : (b : Bool) (m n : ℕ) → IsBelow b m n → m ≤ n
-      kept_of true m n h = omega arith
-      kept_of false m n h = h
-
-      less_of : (b : Bool) (m n : ℕ) → IsBelow b m n → b ≡ true → m < n
-      less_of true m n h e = h
-      less_of false m n h e = absurd cc
-
-      falls_of : (pairs : List Pair) (σ τ : Stages) → Follows pairs σ τ → Falls (map trace_pair pairs) σ τ
-      falls_of [] σ τ f i p e = absurd cc
-      falls_of (q ∷ qs) σ τ f zero p e =
-          let same : trace_pair q ≡ p = cc in
-          subst (λ (r : GraphPair). (τ r.1 ≤ σ r.0) × (r.2 ≡ true → τ r.1 < σ r.0)) same (kept_of q.progress (τ q.new) (σ q.old) f.0, less_of q.progress (τ q.new) (σ q.old) f.0)
-      falls_of (q ∷ qs) σ τ f (suc i) p e = falls_of qs σ τ f.1 i p e
 
   -- nodes that are not among the faulty ones are in order
   pub graph_right : Each (IsReadNode t.constructors) nodes → (faulty : ℕ → Bool) → ((v : ℕ) (node : FoNode) → slice_get nodes v ≡ Some node → faulty v ≡ false → node_fault t nodes v node ≡ None) → AreRight g faulty

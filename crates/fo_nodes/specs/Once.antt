@@ -3,7 +3,6 @@ use Rattle.std.specs.Prelude.{ℕ, zero, suc, ◌+◌, ◌≤◌, List, [], ◌�
 use Rattle.std.specs.Coded.{×_prop, Unit-prop, le_prop}
 use Rattle.std.proofs.Props.{props}
 use Rattle.cyc_limits.specs.declared.TheConstants.{MOST_CASE_ATOMS}
-use Rattle.heap_formula.specs.Words.{Each}
 use Rattle.fo_formula.specs.declared.terms.Sign.{Sign}
 use Rattle.fo_formula.specs.declared.terms.Sign.TheVariants.{Universal, Local, Constructor}
 use Rattle.fo_formula.specs.declared.atoms.FoAtom.{FoAtom}
@@ -22,10 +21,7 @@ use Rattle.fo_formula.specs.Values.{IsConstructor}
 use Rattle.fo_formula.specs.Shapes.{IsOpenSign, IsOpenTerm, IsOpenAtom, IsOpenSequent}
 use Rattle.fo_table.specs.Soundness.{HasOpenTerms, HasOpenReason}
 use Rattle.fo_nodes.specs.Files.{IsSmallSequent, IsSmallDefinition, IsReadNode, IsFoProof}
-
-each_prop : {X : Type 0} (P : X → Type 0) → ((x : X) → IsProp (P x)) → (xs : List X) → IsProp (Each P xs)
-each_prop P p [] = Unit-prop
-each_prop P p (x ∷ xs) = ×_prop (p x) (each_prop P p xs)
+use Rattle.formula_facts.proofs.AllMembers.{each_prop}
 
 numbers_set : IsSet (Option ℕ)
 numbers_set = hlevel props

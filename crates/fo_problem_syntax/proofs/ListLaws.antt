@@ -2,19 +2,17 @@
 use Rattle.std.proofs.Common.{◌≡◌, ℕ, suc, ◌<◌, Bool, true, false, ◌&&◌, List, [], ◌∷◌, ◌++◌, length, Ok, Err, refl, sym, ap, ◌∙◌, arith}
 use Rattle.cyc_lex.specs.Word.{Word}
 use Rattle.cyc_grammar.specs.Syntax.{Syntax, Class, is_one, after, many, words_many, more_many, fits_many}
-use Rattle.cyc_grammar.proofs.Laws.{Lawful, Faults, Stops, ClassLaw, BeginsNot, BeginsNot-append, many-law, after-law, class-begins, some-true, differ}
+use Rattle.cyc_grammar.proofs.Laws.{Lawful, Faults, Stops, ClassLaw, BeginsNot, BeginsNot-append, many-law, after-law, class-begins, differ}
 use Rattle.cyc_grammar.proofs.Ends.{Inner, after-inner, many-inner}
 use Rattle.cyc_lex.specs.Word.{is_lexeme, are_lexemes}
 use Rattle.fo_problem_syntax.specs.Lists.{words_list, read_list, list_of}
+use Rattle.heap_syntax.proofs.HeapLaws.{one-is}
 
 -- the word is one, and no item goes on at it
 pub record Parted {A : Type 0} (c : Class (Unit {0})) (a : Syntax A) : Type 0 where
   pub word : ClassLaw c
   pub law : Lawful a
   pub apart : (x : A) → a.fits x → a.more x (c.word tt) ≡ false
-
-one-is : (c : Class (Unit {0})) → ClassLaw c → (d : Word) → is_one c d ≡ true → d ≡ c.word tt
-one-is c law d h = let p = some-true (c.value d) h in (law.word d p.0 p.1).0
 
 rest-law : {A : Type 0} (c : Class (Unit {0})) (a : Syntax A) → Parted c a → Lawful (many (is_one c) (after c a))
 rest-law c a p = many-law (is_one c) (after c a) (after-law c a p.word p.law) (record { starts = λ x f. class-begins c a p.word x; apart = λ x d f h. rw (one-is c p.word d h) (p.apart x f) })

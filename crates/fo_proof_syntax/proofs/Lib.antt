@@ -1,4 +1,3 @@
-pub mod OtherTexts
 pub mod ReasonParts
 pub mod ProofLaws
 pub mod ProofEnds

@@ -23,7 +23,8 @@ use Rattle.fo_parts.specs.Putting.{put}
 use Rattle.fo_rules.specs.Making.{right_by, unfold_by}
 use Rattle.fo_parts.specs.declared.changes.Change.TheVariants.{Instance}
 use Rattle.fo_rules.proofs.Bounding.{all_short, all_small, short_is}
-use Rattle.fo_rules.proofs.Measuring.{le_same, size-append, size-set, atoms_length, fresh_length}
+use Rattle.fo_rules.proofs.Measuring.{size-append, size-set, atoms_length, fresh_length}
+use Rattle.list_facts.proofs.Tests.{le_same}
 
 -- ---- the cases of a predicate
 

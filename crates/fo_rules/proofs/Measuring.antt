@@ -1,7 +1,6 @@
 -- Sizes of atoms that are joined, put in a place, or changed.
 use Rattle.std.proofs.Common.{◌≡◌, ℕ, zero, suc, ◌+◌, ◌<◌, ◌≤◌, List, [], ◌∷◌, ◌++◌, map, length, Some, slice_get, refl, sym, ap, ◌∙◌, arith, length-append}
-use Rattle.std.specs.Prelude.{nat_le, slice_set, sum}
-use Rattle.std.proofs.lemmas.Bool.{leb-true, le-leb}
+use Rattle.std.specs.Prelude.{slice_set, sum}
 use Rattle.std.proofs.lemmas.List.Sums.{sum-map, sum_by-cons}
 use Rattle.std.proofs.Math.ListN.{get_or}
 use Rattle.heap_formula.specs.Positions.{without}
@@ -13,11 +12,6 @@ use Rattle.fo_formula.specs.Words.{Word, replaced, in_atom, first_constant}
 use Rattle.fo_formula.specs.Values.{sign_value}
 use Rattle.fo_formula.specs.Sizes.{words_size, atom_size, atoms_size}
 use Rattle.fo_table.specs.Table.{variables_from}
-use Rattle.fo_table.proofs.Reflects.{bool_same}
-
-pub le_same : (a b c d : ℕ) → (a ≤ b → c ≤ d) → (c ≤ d → a ≤ b) → nat_le a b ≡ nat_le c d
-le_same a b c d f g =
-    bool_same (nat_le a b) (nat_le c d) (λ e. le-leb c d (f (leb-true a b e))) (λ e. le-leb a b (g (leb-true c d e)))
 
 pub size-cons : {X : Type 0} (f : X → ℕ) (x : X) (xs : List X) → sum (map f (x ∷ xs)) ≡ f x + sum (map f xs)
 size-cons f x xs = sum-map f (x ∷ xs) ∙ sum_by-cons f x xs ∙ ap (λ n. f x + n) (sym (sum-map f xs))

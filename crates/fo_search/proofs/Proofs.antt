@@ -1,13 +1,12 @@
 -- What is found is a proof of the problem's goal.
 use Rattle.std.proofs.Common.{◌≡◌, ℕ, List, [], ◌∷◌, map, Some, length, refl, sym, ap, subst, ◌∙◌, arith}
-use Rattle.std.proofs.lemmas.Option.{slice_get_within}
+use Rattle.std.proofs.lemmas.Option.{slice_get_within, same_Some}
 use Rattle.heap_formula.specs.Words.{Each}
 use Rattle.fo_formula.specs.declared.nodes.FoFile.{FoFile}
 use Rattle.fo_formula.specs.declared.nodes.FoNode.{FoNode}
 use Rattle.fo_formula.specs.declared.nodes.FoReason.{FoReason}
 use Rattle.fo_formula.specs.declared.sequents.FoSequent.{FoSequent}
 use Rattle.fo_formula.specs.declared.theory.FoTheory.{FoTheory}
-use Rattle.fo_formula.proofs.Lists.{each_map}
 use Rattle.fo_nodes.specs.Files.{IsReadNode, IsFoProof}
 use Rattle.fo_limits.specs.Limits.{IsNodeWithin, IsReasonWithin}
 use Rattle.fo_limits.proofs.Open.{sequent_open, reason_open}
@@ -29,6 +28,7 @@ use Rattle.fo_found.specs.Found.{AreProof}
 use Rattle.fo_found.proofs.Found.{makes_proof}
 use Rattle.fo_search.specs.Moves.{Moves, calculus_in, occurs_in, allows_in, IsFirstOrder}
 use Rattle.fo_search.specs.Outcomes.{search_for, reasons_of, IsProofFor}
+use Rattle.formula_facts.proofs.AllMembers.{each_imply}
 
 -- the search that the moves follow
 pub follows : (problem : FoProblem) (moves : Moves) → IsFirstOrder problem moves → IsItsSearch calculus_in moves (search_for problem)
@@ -43,9 +43,6 @@ still problem old new is order same = record {
   root = ap (λ a. a.1.1) same ∙ is.root;
 }
 
-some_is : {X : Type 0} (x y : X) → Some x ≡ Some y → x ≡ y
-some_is x y e = cc
-
 -- the moves, with what they found
 pub record HasFound (problem : FoProblem) (moves : Moves) : Type 0 where
   pub made : replay (calculus_of problem.theory) problem.goal (reasons_in moves) ≡ Some (tableau_in moves)
@@ -56,9 +53,9 @@ pub has_found : (problem : FoProblem) (moves : Moves) (most depth : ℕ) → May
 has_found problem moves most depth may is found =
     let made : replay (calculus_of problem.theory) problem.goal (reasons_in moves) ≡ Some (tableau_in moves) = sym (λ i. replay (calculus_of (is.theory i)) (is.root i) (reasons_in moves)) ∙ is.order.replayed in
     let makes = makes_proof problem.theory problem.goal most depth (reasons_in moves) may (sym found) in
-    let both : makes.tableau ≡ tableau_in moves = some_is makes.tableau (tableau_in moves) (sym makes.made ∙ made) in
+    let both : makes.tableau ≡ tableau_in moves = same_Some makes.tableau (tableau_in moves) (sym makes.made ∙ made) in
     let sized = all_sized (calculus_of problem.theory) (MayOccur problem.theory) (IsReasonWithin problem.theory) (first_order_fair problem.theory) node_limit state_limit most depth problem.goal (reasons_in moves) may (sym found) in
-    let same : sized.0 ≡ tableau_in moves = some_is sized.0 (tableau_in moves) (sym sized.1 ∙ made) in
+    let same : sized.0 ≡ tableau_in moves = same_Some sized.0 (tableau_in moves) (sym sized.1 ∙ made) in
     record {
       made = made;
       size = sym (subst (λ (b : Tableau FoSequent FoReason). length b.graph ≡ length b.nodes) same sized.2);
@@ -99,7 +96,7 @@ module _ (problem : FoProblem) (moves : Moves) (f : FoFile) (may : MayOccur prob
         few = the_proof.few;
         constant = may'.0.constant;
         definitions = may'.0.small;
-        nodes = each_map (IsNodeWithin f.theory) (IsReadNode f.theory.constructors) (read_node f.theory) f.nodes the_proof.within;
+        nodes = each_imply (IsNodeWithin f.theory) (IsReadNode f.theory.constructors) (read_node f.theory) f.nodes the_proof.within;
       }
 
   pub is_proof : IsProofFor problem f

@@ -1,5 +1,5 @@
 -- What may occur in a search is small.
-use Rattle.std.proofs.Common.{◌≡◌, ℕ, zero, suc, ◌<◌, ◌≤◌, List, [], ◌∷◌, Some, None, slice_get, length, get_or, refl, sym, ap, ◌∙◌, arith}
+use Rattle.std.proofs.Common.{◌≡◌, ℕ, zero, suc, ◌<◌, ◌≤◌, List, [], ◌∷◌, Some, slice_get, length, get_or, refl, sym, ap, ◌∙◌, arith}
 use Rattle.fo_formula.specs.declared.theory.FoTheory.{FoTheory}
 use Rattle.fo_formula.specs.Meaning.{cases_of}
 use Rattle.fo_nodes.specs.Files.{IsSmallSequent}
@@ -12,11 +12,6 @@ pub here_at : {X : Type 0} (xs : List X) (v : ℕ) (d : X) → v < length xs →
 here_at [] v d h = absurd (omega (arith, h))
 here_at (x ∷ xs) zero d h = refl
 here_at (x ∷ xs) (suc v) d h = here_at xs v d (omega (arith, h))
-
-pub none_at : {X : Type 0} (xs : List X) (v : ℕ) → length xs ≤ v → slice_get xs v ≡ None
-none_at [] v h = refl
-none_at (x ∷ xs) zero h = absurd (omega (arith, h))
-none_at (x ∷ xs) (suc v) h = none_at xs v (omega (arith, h))
 
 module _ (t : FoTheory) (nodes : List MadeNode) (g : OpenGoal) (occur : AllOccur (MayOccur t) nodes g) where
   pub small_goal : IsSmallSequent g.premise.judgement

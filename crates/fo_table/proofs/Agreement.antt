@@ -11,8 +11,8 @@ use Rattle.fo_formula.specs.Words.{Word}
 use Rattle.fo_formula.specs.Values.{entry, sign_value, value}
 use Rattle.fo_formula.specs.Meaning.{Family, AtomHolds}
 use Rattle.fo_formula.specs.Bounds.{sign_bound, word_bound, words_bound, atom_bound, atoms_bound}
-use Rattle.fo_formula.proofs.Lists.{each_map}
 use Rattle.fo_formula.proofs.Replacing.{InAtom, replaced-same}
+use Rattle.formula_facts.proofs.AllMembers.{each_imply}
 
 -- ---- bounds of the signs
 
@@ -38,8 +38,8 @@ module _ (kind : Kind) (n : ℕ) where
 
 -- a fact of each sign of an atom follows from another
 pub in_atom_map : (P Q : Sign → Type 0) → ((s : Sign) → P s → Q s) → (x : FoAtom) → InAtom P x → InAtom Q x
-in_atom_map P Q f (Equation l r) h = (each_map P Q f l h.0, each_map P Q f r h.1)
-in_atom_map P Q f (Predicate p ts) h = each_map (Each P) (Each Q) (each_map P Q f) ts h
+in_atom_map P Q f (Equation l r) h = (each_imply P Q f l h.0, each_imply P Q f r h.1)
+in_atom_map P Q f (Predicate p ts) h = each_imply (Each P) (Each Q) (each_imply P Q f) ts h
 
 all_signs : (Q : Sign → Type 0) → ((s : Sign) → Q s) → (w : Word) → Each Q w
 all_signs Q f [] = tt
@@ -66,7 +66,7 @@ sign_agrees n v w e g (Constructor c k) h = refl
 
 pub value_agrees : (n : ℕ) (v w e : List Word) → Agrees n v w → (u : Word) → Each (IsBelow Variables n) u → value w e u ≡ value v e u
 value_agrees n v w e g u h =
-    replaced-same (sign_value w e) (sign_value v e) u (each_map (IsBelow Variables n) (λ s. sign_value w e s ≡ sign_value v e s) (sign_agrees n v w e g) u h)
+    replaced-same (sign_value w e) (sign_value v e) u (each_imply (IsBelow Variables n) (λ s. sign_value w e s ≡ sign_value v e s) (sign_agrees n v w e g) u h)
 
 values_agree : (n : ℕ) (v w e : List Word) → Agrees n v w → (us : List Word) → Each (Each (IsBelow Variables n)) us → map (value w e) us ≡ map (value v e) us
 values_agree n v w e g [] h = refl

@@ -21,7 +21,6 @@ use Rattle.fo_formula.specs.Bounds.{atoms_bound, sequent_bound}
 use Rattle.fo_formula.specs.Sizes.{words_size, atom_size}
 use Rattle.fo_formula.specs.Shapes.{IsOpenAtom, IsOpenTerm, IsOpenSequent, HasConstant}
 use Rattle.fo_formula.specs.Validity.{LeftHolds}
-use Rattle.fo_formula.proofs.Lists.{each_at}
 use Rattle.fo_table.specs.declared.faults.FoFault.TheVariants.{NoSuchAtom, AtomsDiffer, NotAbsurd, NotVariable, NoSuchCase, NoFreshVariable, TermCount}
 use Rattle.fo_table.specs.Tests.{same_word, same_atom, only_variable, is_absurd, have_one_constructor}
 use Rattle.fo_table.specs.Table.{weakened_left, weakened_right, decomposed, with_term, named, unnamed, contracted, unfold_premise, is_numbered, right_premise, cut_right, cut_left, axiom_answer, refl_answer, clash_answer, decompose_answer, replace_answer, weaken_left_answer, weaken_right_answer, contract_answer, unfold_answer, cut_answer, right_answer, rule_answer}
@@ -32,6 +31,7 @@ use Rattle.fo_table.proofs.Reflects.{word_is, atom_is, only_is}
 use Rattle.fo_table.proofs.RuleLemmas.{axiom_lemma, refl_lemma, clash_lemma, weaken_left_lemma, weaken_right_lemma, decompose_lemma, replace_lemma, contract_lemma, cut_lemma}
 use Rattle.fo_table.proofs.Unfolds.{unfold_lemma}
 use Rattle.fo_table.proofs.Rights.{right_lemma}
+use Rattle.formula_facts.proofs.AllMembers.{each_at}
 
 module _ (t : FoTheory) (s : FoSequent) where
   pub axiom_is_sound : (i j : ℕ) → IsSound t s (axiom_answer s i j)

@@ -18,7 +18,6 @@ use Rattle.fo_formula.specs.Meaning.{Family, AtomHolds, at_stage, least}
 use Rattle.fo_formula.specs.Validity.{LeftHolds}
 use Rattle.fo_formula.specs.Bounds.{sequent_bound}
 use Rattle.fo_formula.specs.Shapes.{IsOpenTerm, HasConstant}
-use Rattle.fo_formula.proofs.Lists.{one_at, each_append}
 use Rattle.fo_formula.proofs.Replacing.{InAtom, IsValued, atom-replaced, value_closed}
 use Rattle.fo_table.specs.declared.faults.FoFault.{FoFault}
 use Rattle.fo_table.specs.declared.faults.FoFault.TheVariants.{LinkLeft, LinkRight}
@@ -28,6 +27,8 @@ use Rattle.fo_table.specs.Soundness.{IsLocallySound, HasOpenValues}
 use Rattle.fo_table.proofs.Lefts.{left_at, pairs_follow}
 use Rattle.fo_table.proofs.Reflects.{atom_is}
 use Rattle.fo_table.proofs.Agreement.{IsBelow, atoms_below, in_atom_map, tabulated, tabulated-at, tabulated_each}
+use Rattle.formula_facts.proofs.AllMembers.{each_append}
+use Rattle.formula_facts.proofs.SomeMember.{one_at}
 
 -- ---- what a map without a fault names
 
@@ -46,7 +47,7 @@ map_none : (f : ℕ → FoFault) (o : Option ℕ) → option_map f o ≡ None �
 map_none f None e = refl
 map_none f (Some k) e = absurd cc
 
-unless_none : (b : Bool) (k : ℕ) (rest : Option ℕ) → place_unless b k rest ≡ None → (b ≡ true) × (rest ≡ None)
+pub unless_none : (b : Bool) (k : ℕ) (rest : Option ℕ) → place_unless b k rest ≡ None → (b ≡ true) × (rest ≡ None)
 unless_none true k rest e = (refl, e)
 unless_none false k rest e = absurd cc
 

@@ -1,5 +1,5 @@
 -- What the tests mean.
-use Rattle.std.proofs.Common.{◌≡◌, ◌↔◌, ℕ, Bool, true, false, List, [], ◌∷◌, Some, refl, sym, ap, subst}
+use Rattle.std.proofs.Common.{◌≡◌, ◌↔◌, ℕ, Bool, true, List, [], ◌∷◌, Some, refl, ap, subst}
 use Rattle.std.specs.Prelude.{nat_eq}
 use Rattle.std.proofs.lemmas.Bool.{and_parts, and_from, eqb-true, eq-eqb}
 use Rattle.fo_formula.specs.declared.terms.Sign.{Sign}
@@ -9,6 +9,7 @@ use Rattle.fo_formula.specs.declared.atoms.FoAtom.TheVariants.{Equation, Predica
 use Rattle.fo_formula.specs.declared.sequents.FoSequent.{FoSequent}
 use Rattle.fo_formula.specs.Words.{Word}
 use Rattle.fo_table.specs.Tests.{all_same, same_sign, same_word, same_atom, same_sequent, only_variable}
+use Rattle.list_facts.proofs.Tests.{bool_same}
 
 pub all_same_is : {X : Type 0} (same : X → X → Bool) → ((x y : X) → same x y ≡ true → x ≡ y) → (xs ys : List X) → all_same same xs ys ≡ true → xs ≡ ys
 all_same_is same one [] [] e = refl
@@ -74,12 +75,6 @@ sequent_is s u e =
 pub sequent_self : (s : FoSequent) → same_sequent s s ≡ true
 sequent_self s =
     and_from (all_same same_atom s.left s.left) (all_same same_atom s.right s.right) (all_same_self same_atom atom_self s.left) (all_same_self same_atom atom_self s.right)
-
-pub bool_same : (p q : Bool) → (p ≡ true → q ≡ true) → (q ≡ true → p ≡ true) → p ≡ q
-bool_same true true f g = refl
-bool_same true false f g = sym (f refl)
-bool_same false true f g = g refl
-bool_same false false f g = refl
 
 pub only_is : (w : Word) (n : ℕ) → only_variable w ≡ Some n → w ≡ Universal n ∷ []
 only_is [] n e = absurd cc

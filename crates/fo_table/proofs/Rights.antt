@@ -14,13 +14,13 @@ use Rattle.fo_formula.specs.Values.{IsValuation, sign_value, value}
 use Rattle.fo_formula.specs.Meaning.{AtomHolds, CaseHolds, cases_of, at_stage, least}
 use Rattle.fo_formula.specs.Validity.{LeftHolds}
 use Rattle.fo_formula.specs.Shapes.{HasConstant, IsOpenTerm}
-use Rattle.fo_formula.proofs.Lists.{one_at}
 use Rattle.fo_formula.proofs.Replacing.{IsValued, atom-replaced, values_closed}
 use Rattle.fo_formula.proofs.StageLaws.{least-IsClosed}
 use Rattle.fo_table.specs.Table.{right_premise}
 use Rattle.fo_table.specs.Soundness.{PremiseHolds, IsLocallySound}
 use Rattle.fo_table.proofs.Lefts.{pairs_follow, one_set}
 use Rattle.fo_table.proofs.Agreement.{in_any_atom}
+use Rattle.formula_facts.proofs.SomeMember.{one_at}
 
 -- a case's signs at arguments and terms have the values that they have under the values
 case_valued : (v args terms : List Word) (x : Sign) → IsValued v [] (map (value v []) args) (map (value v []) terms) (sign_value args terms) x

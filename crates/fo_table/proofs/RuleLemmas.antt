@@ -18,7 +18,7 @@ use Rattle.fo_formula.specs.Values.{entry, value}
 use Rattle.fo_formula.specs.Meaning.{AtomHolds, at_stage, least}
 use Rattle.fo_formula.specs.Validity.{LeftHolds}
 use Rattle.fo_formula.specs.Shapes.{HasConstant}
-use Rattle.fo_formula.proofs.Lists.{one_at, one_append, one_unmap}
+use Rattle.fo_formula.proofs.Lists.{one_append}
 use Rattle.fo_formula.proofs.Replacing.{InAtom, IsValued, atom-replaced}
 use Rattle.fo_formula.proofs.StageLaws.{atom_within}
 use Rattle.fo_table.specs.Traces.{pairs_from, same_pairs, kept_pairs}
@@ -28,6 +28,7 @@ use Rattle.fo_table.specs.Soundness.{IsLocallySound}
 use Rattle.fo_table.proofs.Lefts.{then_stages, then_stages-first, then_stages-others, left_without, left_at, left_append, left_changed, pairs_follow, pairs_follow_if, one_without}
 use Rattle.fo_table.proofs.Agreement.{in_any_atom}
 use Rattle.fo_table.proofs.Readings.{absurd_differ, arguments_hold}
+use Rattle.formula_facts.proofs.SomeMember.{one_at, one_unmap}
 
 each_of_any : (Q : FoAtom → Type 0) → ((x : FoAtom) → Q x) → (xs : List FoAtom) → Each Q xs
 each_of_any Q f [] = tt

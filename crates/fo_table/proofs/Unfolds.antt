@@ -18,7 +18,6 @@ use Rattle.fo_formula.specs.Meaning.{Family, AtomHolds, CaseHolds, cases_of, at_
 use Rattle.fo_formula.specs.Validity.{LeftHolds}
 use Rattle.fo_formula.specs.Bounds.{atoms_bound, sequent_bound}
 use Rattle.fo_formula.specs.Shapes.{HasConstant}
-use Rattle.fo_formula.proofs.Lists.{each_append, each_at, each_or}
 use Rattle.fo_formula.proofs.Replacing.{InAtom, IsValued, atom-replaced, entry_closed}
 use Rattle.fo_table.specs.Traces.{kept_pairs, child_pairs}
 use Rattle.fo_table.specs.Table.{variables_from, case_body, fresh_locals, unfold_premise}
@@ -26,6 +25,7 @@ use Rattle.fo_table.specs.Soundness.{PremiseHolds, IsLocallySound}
 use Rattle.fo_table.proofs.Lefts.{then_stages, then_stages-first, then_stages-others, left_without, left_at, left_append, left_each, pairs_follow_if, children_follow}
 use Rattle.fo_table.proofs.RuleLemmas.{pairs_append}
 use Rattle.fo_table.proofs.Agreement.{IsBelow, atoms_below, in_atom_map, Agrees, value_agrees, atom_agrees, tabulated, tabulated-at, tabulated-after, tabulated_each}
+use Rattle.formula_facts.proofs.AllMembers.{each_append, each_at, each_or, each_without}
 
 -- a list of variables at a place
 variables-at : (n k j : ℕ) → j < k → get_or (variables_from n k) j first_constant ≡ Universal (n + j) ∷ []
@@ -34,11 +34,6 @@ variables-at n (suc k) zero h = let z : n ≡ n + 0 = omega arith in ap (λ m. U
 variables-at n (suc k) (suc j) h =
     let z : suc n + j ≡ n + suc j = omega arith in
     variables-at (suc n) k j (omega arith) ∙ ap (λ m. Universal m ∷ []) z
-
-each_without : {X : Type 0} (P : X → Type 0) (i : ℕ) (xs : List X) → Each P xs → Each P (without i xs)
-each_without P i [] h = tt
-each_without P zero (x ∷ xs) h = h.1
-each_without P (suc i) (x ∷ xs) h = (h.0, each_without P i xs h.1)
 
 -- atoms under a valuation that agrees
 left_agrees : (n : ℕ) (v w : List Word) → Agrees n v w → (P : ℕ → Family) (xs : List FoAtom) → Each (InAtom (IsBelow Variables n)) xs → LeftHolds P v xs → LeftHolds P w xs

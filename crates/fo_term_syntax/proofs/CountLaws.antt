@@ -75,10 +75,6 @@ pub next-here : (waits rest : List ℕ) (n : ℕ) (whole : List ℕ) → 0 < n �
 next-here waits rest zero whole some is e = absurd (omega arith)
 next-here waits rest (suc n) whole some is e = let same : suc n - 1 ≡ n = omega arith in ap (λ k. k ∷ rest) same ∙ ap behind_next (sym is) ∙ e
 
-pub none-left : (waits : List ℕ) → length waits ≡ 0 → waits ≡ []
-none-left [] e = refl
-none-left (n ∷ waits) e = absurd (omega (arith, e))
-
 -- a sign was put after the marks before it
 pub opened-next : (front closed both : List Mark) (waits : List ℕ) (s : Sign) (ss whole : List Sign) (all : List Mark) → whole ≡ s ∷ ss → closed ≡ front ++ closings waits → both ≡ closed ++ mark_of s ∷ [] → front ++ brackets waits whole ≡ all → both ++ brackets (opened s (behind_next waits)) ss ≡ all
 opened-next front closed both waits s ss whole all is one two so_far =

@@ -2,7 +2,7 @@
 use Rattle.std.proofs.Common.{◌≡◌, ℕ, zero, suc, ◌≤◌, true, false, List, [], ◌∷◌, ◌++◌, length, Ok, Err, refl, sym, ap, subst, ◌∙◌, append_assoc, arith, inl, inr, ◌⊎◌, length-append}
 use Rattle.cyc_lex.specs.Word.{Word}
 use Rattle.cyc_grammar.specs.Syntax.{Reading, ◌>>=◌, Syntax, Class, begins, is_one, after}
-use Rattle.cyc_grammar.proofs.Laws.{Lawful, Faults, Stops, Stops-never, ClassLaw, bind_ok, bind_err, differ, ok_is, chosen, after-law, class-begins, Begins-append, begins-cut}
+use Rattle.cyc_grammar.proofs.Laws.{Lawful, Faults, Stops, Stops-never, ClassLaw, bind_ok, bind_err, differ, ok_is, chosen, after-law, class-begins, Begins-append, begins-cut, at-suc}
 use Rattle.fo_term_syntax.specs.Steps.{Steps, read_steps, words_steps, fits_steps, steps, words_option, read_option, more_option, fits_option, option}
 
 -- each item is lawful, nothing goes on it, and it has a word; from each state on some items come to an end
@@ -62,10 +62,6 @@ record StepFaults {S A : Type 0} (p : Steps S A) (s : S) (ts : List Word) (left 
   tail : List Word
   begins : words_steps p s value ≡ front ++ tail
   stays : (n : ℕ) (d : Word) (r x : List Word) → rest ≡ d ∷ r → length (front ++ d ∷ x) ≤ n → read_steps p n s (front ++ d ∷ x) ≡ Err (suc (length x))
-
-at-suc : (n : ℕ) (ws : List Word) → 1 ≤ length ws → length ws ≤ n → (m : ℕ) × (n ≡ suc m)
-at-suc zero ws h k = absurd (omega arith)
-at-suc (suc n) ws h k = (n, refl)
 
 -- where words run out, the rest is to come
 at-end : {S A : Type 0} (p : Steps S A) → StepsLaw p → (s : S) (ts : List Word) → length ts ≤ 0 → StepFaults p s ts (length ts)

@@ -1,10 +1,10 @@
 -- Reading items one after the other, as a loop does, where each tells what may come next.
-use Rattle.std.proofs.Common.{◌≡◌, ℕ, zero, suc, ◌-◌, ◌+◌, ◌≤◌, ◌<◌, true, false, List, [], ◌∷◌, ◌++◌, length, Ok, Err, refl, sym, ap, ◌∙◌, append_assoc, arith}
+use Rattle.std.proofs.Common.{◌≡◌, ℕ, zero, suc, ◌-◌, ◌+◌, ◌≤◌, ◌<◌, true, false, List, [], ◌∷◌, ◌++◌, length, Ok, Err, refl, sym, ap, ◌∙◌, arith}
 use Rattle.std.proofs.lemmas.List.{append-nil}
 use Rattle.cyc_lex.specs.Word.{Word}
 use Rattle.cyc_grammar.specs.declared.cursor.Refusal.{Refusal}
 use Rattle.cyc_grammar.specs.declared.cursor.Refusal.TheVariants.{Dead, OutOfMemory}
-use Rattle.cyc_grammar.specs.Syntax.{Reading, ◌>>=◌}
+use Rattle.cyc_grammar.specs.Syntax.{Reading}
 use Rattle.cyc_grammar.specs.Giving.{Fails, with_front}
 use Rattle.fo_term_syntax.specs.declared.bracket.Awaited.{Awaited}
 use Rattle.fo_term_syntax.specs.declared.bracket.Awaited.TheVariants.{First, Next, Nothing}
@@ -12,10 +12,7 @@ use Rattle.fo_term_syntax.specs.Steps.{Steps, read_steps}
 use Rattle.fo_term_syntax.specs.Depth.{depth}
 use Rattle.fo_term_syntax.specs.Brackets.{Mark, Leaf, Opening, Closing}
 use Rattle.fo_term_syntax.specs.Grammar.{is_awaited, behind_mark, closed_in}
-
-regroup : {A : Type 0} (front : List A) (x : A) (read : Reading (List A)) → with_front front (read >>= λ y. Ok (x ∷ y.0, y.1)) ≡ with_front (front ++ x ∷ []) read
-regroup front x (Ok y) = ap (λ v. Ok (v, y.1)) (sym (append_assoc front (x ∷ []) y.0))
-regroup front x (Err k) = refl
+use Rattle.cyc_grammar.proofs.Loop.{regroup}
 
 pub goes_on : {S A : Type 0} (p : Steps S A) (front : List A) (n i : ℕ) (s : S) (ts : List Word) (x : A) (rest : List Word) (total : Reading (List A)) → i < n → p.wants s ≡ true → (p.item s).read ts ≡ Ok (x, rest)
     → with_front front (read_steps p (n - i) s ts) ≡ total → with_front (front ++ x ∷ []) (read_steps p (n - (i + 1)) (p.next s x) rest) ≡ total

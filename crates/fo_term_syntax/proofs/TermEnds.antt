@@ -1,11 +1,10 @@
 -- The texts of terms and atoms are of lexemes.
-use Rattle.std.proofs.Common.{◌≡◌, ℕ, Bool, true, false, List, [], ◌∷◌, ◌++◌, refl, inl, inr, ◌⊎◌}
-use Rattle.cyc_lex.specs.Word.{Word, is_lexeme, are_lexemes}
-use Rattle.cyc_lex.proofs.BoolParts.{and-parts}
+use Rattle.std.proofs.Common.{◌≡◌, ℕ, Bool, true, false, List, [], ◌∷◌, refl, inl, inr, ◌⊎◌}
+use Rattle.cyc_lex.specs.Word.{is_lexeme, are_lexemes}
 use Rattle.cyc_grammar.specs.Syntax.{Syntax, Class, one, after, is_one}
 use Rattle.cyc_grammar.specs.Classes.{number}
 use Rattle.cyc_grammar.proofs.ClassLaws.{name-lexeme, number-lexeme}
-use Rattle.cyc_grammar.proofs.Ends.{Inner, one-inner, seq-inner, after-inner, before-inner, alt-inner, shaped-inner}
+use Rattle.cyc_grammar.proofs.Ends.{Inner, one-inner, seq-inner, after-inner, before-inner, alt-inner, shaped-inner, lexemes-append}
 use Rattle.heap_syntax.specs.Grammar.{Any}
 use Rattle.heap_syntax.specs.Words.{equal, comma, opening, closing}
 use Rattle.heap_syntax.proofs.WordTexts.{syms}
@@ -17,16 +16,12 @@ use Rattle.fo_term_syntax.specs.Trees.{Sign}
 use Rattle.fo_term_syntax.specs.Brackets.{Mark}
 use Rattle.fo_term_syntax.specs.Grammar.{to_leaf, from_leaf, IsLeaf, to_variable, from_variable, IsVariable, leaf, to_head, from_head, IsHead, named, head, to_mark, from_mark, first_mark, next_mark, mark, within, marks, to_application, from_application, IsApplication, application, to_term, from_term, IsTerm, term, Sides, to_atom, from_atom, IsAtom, atom}
 
-both-lexemes : (xs ys : List Word) → are_lexemes xs ≡ true → are_lexemes ys ≡ true → are_lexemes (xs ++ ys) ≡ true
-both-lexemes [] ys h k = k
-both-lexemes (x ∷ xs) ys h k = let p = and-parts (is_lexeme x) (are_lexemes xs) h in rw (p.0, both-lexemes xs ys p.1 k) refl
-
 steps-inner : {S A : Type 0} (p : Steps S A) → ((s : S) → Inner (p.item s)) → (s : S) → Inner (steps p s)
 steps-inner {S = S} {A = A} p each s = record { inner = all s }
   where
     all : (s : S) (xs : List A) → fits_steps p s xs → are_lexemes (words_steps p s xs) ≡ true
     all s [] f = refl
-    all s (x ∷ xs) f = both-lexemes ((p.item s).words x) (words_steps p (p.next s x) xs) ((each s).inner x f.1.0) (all (p.next s x) xs f.1.1)
+    all s (x ∷ xs) f = lexemes-append ((p.item s).words x) (words_steps p (p.next s x) xs) ((each s).inner x f.1.0) (all (p.next s x) xs f.1.1)
 
 option-inner : {A : Type 0} (c : Class (Unit {0})) (a : Syntax A) → is_lexeme (c.word tt) ≡ true → Inner a → Inner (option c a)
 option-inner {A = A} c a h ia = record { inner = both }

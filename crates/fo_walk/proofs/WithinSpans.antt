@@ -1,13 +1,13 @@
 -- A flaw stands at a token of its part.
-use Rattle.std.proofs.Common.{ℕ, suc, ◌+◌, ◌<◌, ◌≤◌, List, [], ◌∷◌, length, drop, take, Option, Some, None, arith}
+use Rattle.std.proofs.Common.{ℕ, suc, ◌+◌, ◌<◌, ◌≤◌, List, [], ◌∷◌, length, drop, take, None, arith}
 use Rattle.std.specs.Prelude.{nat_eq, nat_lt, nat_le, not, is_some, ◌&&◌, ◌||◌}
-use Rattle.cyc_lex.specs.declared.fault.IllFault.TheVariants.{Parameter, Arity, Duplicate, Constant}
+use Rattle.cyc_lex.specs.declared.fault.IllFault.TheVariants.{Parameter, Duplicate, Constant}
 use Rattle.cyc_lex.specs.declared.fault.What.TheVariants.{Constructors, Predicates, Arguments, Cases, Nodes, Atoms, Locals, Terms, Variable as VariableLimit}
 use Rattle.heap_formula.specs.Words.{Each}
 use Rattle.heap_reader.specs.Trees.{Heading}
 use Rattle.heap_reader.specs.Spans.{total, total_or}
 use Rattle.heap_reader.specs.Flaws.{Found, ill_if, over_if, or_later, listed_flaw, arity_in, use_flaw}
-use Rattle.heap_reader.proofs.WithinSpans.{Before, first_before, over_before, ill_before, later, listed_before}
+use Rattle.heap_reader.proofs.WithinSpans.{Before, first_before, over_before, ill_before, later, listed_before, use_before}
 use Rattle.fo_term_syntax.specs.Trees.{Sign, Variable, Local, Apply, Atom, Equation, Predicate}
 use Rattle.fo_term_syntax.specs.Grammar.{IsTerm, IsApplication}
 use Rattle.fo_term_syntax.specs.Places.{places_of, tokens_in}
@@ -23,10 +23,6 @@ use Rattle.fo_walk.proofs.Counts.{term_fewer}
 use Rattle.fo_walk.specs.Parts.{IsDefinition, IsSequent, IsEntry, IsReason, IsNode}
 use Rattle.fo_walk.specs.Spans.{constructor_span, definition_span, sequent_span, sequent_terms, term_span, entry_span, reason_span, node_span, behind_theory, file_end, problem_end}
 use Rattle.fo_walk.specs.Flaws.{constructor_heads, predicate_heads, arguments_flaw, constant_flaw, constructor_flaw, definition_head_flaw, case_flaw, cases_flaw, definition_flaw, sequent_flaw, terms_flaw, entry_flaw, entries_flaw, reason_flaw, node_flaw, nodes_flaw, constructors_flaw, definitions_flaw, theory_flaw, file_flaw, problem_flaw}
-
-use_before : (o : Option ℕ) (n k m : ℕ) → k < m → Before (use_flaw o n k) m
-use_before None n k m h = h
-use_before (Some arity) n k m h = ill_before (not (nat_eq n arity)) Arity k m h
 
 listed : {X : Type 0} (P : X → Type 0) (flaw : ℕ → ℕ → X → Found) (span : X → ℕ) → ((n k : ℕ) (x : X) → P x → Before (flaw n k x) (k + span x)) → (n k : ℕ) (xs : List X) → Each P xs → Before (listed_flaw flaw span n k xs) (k + total span xs)
 listed P flaw span one n k [] h = tt

@@ -1,6 +1,6 @@
 -- What is left of a list that is gone through.
-use Rattle.std.proofs.Common.{◌≡◌, ℕ, zero, suc, ◌+◌, ◌-◌, ◌<◌, ◌≤◌, List, [], ◌∷◌, ◌++◌, length, drop, take, get_or, drop-cons, arith, refl, sym, ap, ◌∙◌, append_assoc, add-one}
-use Rattle.std.proofs.lemmas.List.{append-nil, take_all, drop_all}
+use Rattle.std.proofs.Common.{◌≡◌, ℕ, zero, suc, ◌+◌, ◌-◌, ◌<◌, ◌≤◌, List, [], ◌∷◌, ◌++◌, length, drop, get_or, drop-cons, arith, refl, sym, ap, ◌∙◌, append_assoc, add-one}
+use Rattle.std.proofs.lemmas.List.{append-nil, drop_all}
 use Rattle.fold_offers.specs.Places.{each_from, each_of}
 
 next_member : {X Y : Type 0} (f : ℕ → X → List Y) (n k : ℕ) (xs : List X) → k < length xs → (x : X) × (each_from f n (drop k xs) ≡ f n x ++ each_from f (suc n) (drop (suc k) xs))
@@ -28,14 +28,6 @@ step_on f k xs x items items' all l at given so_far =
 pub all_given : {X Y : Type 0} (f : ℕ → X → List Y) (k : ℕ) (xs : List X) (items all : List Y) → length xs ≤ k → items ++ each_from f k (drop k xs) ≡ all → items ≡ all
 all_given f k xs items all l so_far =
     let h : items ++ [] ≡ all = rw (drop_all k xs l) at so_far in sym (append-nil items) ∙ h
-
--- a list that is not empty
-pub first_and_rest : {X : Type 0} (xs : List X) (x : X) → 1 ≤ length xs → x ≡ get_or xs 0 x → xs ≡ x ∷ take (length xs - 1) (drop 1 xs)
-first_and_rest [] x l at = absurd (omega arith)
-first_and_rest (y ∷ ys) x l at =
-    let e : x ≡ y = at in
-    let n : suc (length ys) - 1 ≡ length ys = omega arith in
-    rw (n, take_all (length ys) ys (omega arith), e) refl
 
 -- the same of what each member gives, whatever its place
 pub step_of : {X Y : Type 0} (f : X → List Y) (k : ℕ) (xs : List X) (x : X) (items items' all : List Y) → k < length xs → x ≡ get_or xs k x → items' ≡ items ++ f x → items ++ each_of f (drop k xs) ≡ all → items' ++ each_of f (drop (k + 1) xs) ≡ all

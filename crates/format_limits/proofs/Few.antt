@@ -35,8 +35,8 @@ use Rattle.rule_table.specs.RuleUnfold.{unfold_premise}
 use Rattle.rule_table.specs.Table.{with_pures, with_pure, with_right, without_spatial, rewrite_side, rewrite_atom, named, unnamed, calls, are_empty, right_term, unfolded_right}
 use Rattle.rule_table.specs.Tests.{same_term, same_spatial, is_universal_pure, is_universal_spatial, follows, is_absurd, address_of, ascend_from, has_number}
 use Rattle.format_limits.specs.Limits.{IsDefinitionWithin}
-use Rattle.format_limits.proofs.Heaps.{each_of}
 use Rattle.format_limits.proofs.Gives.{needs_gives, finds_gives, limited_gives, entails_gives, single_gives, runs_gives}
+use Rattle.formula_facts.proofs.AllMembers.{each_imply}
 
 abbrev pub HasFewCases : Definition → Type 0
 HasFewCases d = length d.cases ≤ 16
@@ -54,7 +54,7 @@ few_cases (d ∷ ds) e zero = e.0
 few_cases (d ∷ ds) e (suc q) = few_cases ds e.1 q
 
 pub are_few : (most : ℕ) (ds es : List Definition) → Each (IsDefinitionWithin most ds) es → Each HasFewCases es
-are_few most ds = each_of (IsDefinitionWithin most ds) HasFewCases (λ d within. within.few)
+are_few most ds = each_imply (IsDefinitionWithin most ds) HasFewCases (λ d within. within.few)
 
 limited_few : (most : ℕ) (ps : List Premise) → length ps ≤ 16 → HasFew (limited most ps)
 limited_few most ps few = limited_gives HasFew no_premise most ps (λ s n. few)

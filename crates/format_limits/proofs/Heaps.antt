@@ -1,5 +1,5 @@
 -- A heap within the limits: how long its lists are, the numbers of its terms, and the shapes of its spatial atoms.
-use Rattle.std.proofs.Common.{◌≡◌, ℕ, zero, suc, ◌≤◌, Bool, true, false, List, [], ◌∷◌, map, length, Option, Some, None, refl, sym, subst, arith, leb-true, le-leb}
+use Rattle.std.proofs.Common.{◌≡◌, ℕ, zero, suc, ◌≤◌, true, List, [], ◌∷◌, map, length, Option, Some, None, refl, sym, subst, arith, leb-true, le-leb}
 use Rattle.std.proofs.lemmas.List.{length-map}
 use Rattle.std.specs.Prelude.{nat_le, slice_get, slice_set}
 use Rattle.heap_formula.specs.declared.terms.Term.{Term}
@@ -9,34 +9,23 @@ use Rattle.heap_formula.specs.declared.atoms.Spatial.{Spatial}
 use Rattle.heap_formula.specs.declared.atoms.Spatial.TheVariants.{Cell, Pred}
 use Rattle.heap_formula.specs.Closedness.{InPure, InSpatial, InHeap}
 use Rattle.heap_formula.specs.Definitions.{Definition}
-use Rattle.heap_formula.specs.Positions.{without, chosen, chosen_step}
+use Rattle.heap_formula.specs.Positions.{without}
 use Rattle.heap_formula.specs.Substitution.{in_pure, in_spatial, in_heap}
 use Rattle.heap_formula.specs.Symbolic.{SymbolicHeap}
-use Rattle.heap_formula.specs.Words.{Each, max_of}
+use Rattle.heap_formula.specs.Words.{Each}
 use Rattle.pred_defs.specs.Faults.{or_later, first_fault, use_fault, arity_fault}
 use Rattle.pred_defs.specs.declared.faults.DefFault.{DefFault}
 use Rattle.rule_table.specs.Answer.{number_bound, pure_numbers, spatial_numbers, heap_numbers, is_short, has_numbers}
-use Rattle.rule_table.proofs.Reflects.{both, and_true as both_true}
 use Rattle.format_limits.specs.Limits.{HasFields, IsHeapWithin}
+use Rattle.formula_facts.proofs.AllMembers.{each_imply}
+use Rattle.formula_facts.proofs.Greatest.{each_below, below_each}
+use Rattle.std.proofs.lemmas.Bool.{and_from as both_true, and_parts}
 
 -- ---- lists
 
 pub Each-map : {X Y : Type 0} (P : X → Type 0) (Q : Y → Type 0) (f : X → Y) → ((x : X) → P x → Q (f x)) → (xs : List X) → Each P xs → Each Q (map f xs)
 Each-map P Q f g [] e = tt
 Each-map P Q f g (x ∷ xs) e = (g x e.0, Each-map P Q f g xs e.1)
-
-pub Each-set : {X : Type 0} (P : X → Type 0) (xs : List X) (k : ℕ) (x : X) → P x → Each P xs → Each P (slice_set xs k x)
-Each-set P [] k x p e = tt
-Each-set P (y ∷ xs) zero x p e = (p, e.1)
-Each-set P (y ∷ xs) (suc k) x p e = (e.0, Each-set P xs k x p e.1)
-
-pub Each-chosen : {X : Type 0} (P : X → Type 0) (xs : List X) (p : ℕ → Bool) → Each P xs → Each P (chosen p xs)
-Each-chosen P [] p e = tt
-Each-chosen P (x ∷ xs) p e = step P (p 0) x (chosen (λ k. p (suc k)) xs) e.0 (Each-chosen P xs (λ k. p (suc k)) e.1)
-  where
-    step : {X : Type 0} (P : X → Type 0) (b : Bool) (x : X) (ys : List X) → P x → Each P ys → Each P (chosen_step b x ys)
-    step P true x ys a e = (a, e)
-    step P false x ys a e = e
 
 pub length-without : {X : Type 0} (xs : List X) (k : ℕ) → length (without k xs) ≤ length xs
 length-without [] k = omega arith
@@ -47,19 +36,6 @@ pub length-slice_set : {X : Type 0} (xs : List X) (k : ℕ) (x : X) → length (
 length-slice_set [] k x = refl
 length-slice_set (y ∷ xs) zero x = omega arith
 length-slice_set (y ∷ xs) (suc k) x = let r = length-slice_set xs k x in omega arith
-
--- the greatest of a list's numbers
-pub max_each : {X : Type 0} (n : X → ℕ) (m : ℕ) (xs : List X) → max_of (map n xs) ≤ m → Each (λ x. n x ≤ m) xs
-max_each n m [] h = tt
-max_each n m (x ∷ xs) h = (omega arith, max_each n m xs (omega arith))
-
-pub each_max : {X : Type 0} (n : X → ℕ) (m : ℕ) (xs : List X) → Each (λ x. n x ≤ m) xs → max_of (map n xs) ≤ m
-each_max n m [] e = omega arith
-each_max n m (x ∷ xs) e = let here = e.0 in let r = each_max n m xs e.1 in omega arith
-
-pub each_of : {X : Type 0} (P Q : X → Type 0) → ((x : X) → P x → Q x) → (xs : List X) → Each P xs → Each Q xs
-each_of P Q g [] e = tt
-each_of P Q g (x ∷ xs) e = (g x e.0, each_of P Q g xs e.1)
 
 -- ---- numbers
 
@@ -76,24 +52,24 @@ pure_low (Eq t u) q = let a = q.0 in let b = q.1 in omega arith
 pure_low (Neq t u) q = let a = q.0 in let b = q.1 in omega arith
 
 low_spatial : (x : Spatial) → spatial_numbers x ≤ 65535 → InSpatial IsLow x
-low_spatial (Cell t ts) h = (omega arith, max_each number_bound 65535 ts (omega arith))
-low_spatial (Pred p ts) h = max_each number_bound 65535 ts h
+low_spatial (Cell t ts) h = (omega arith, each_below number_bound 65535 ts (omega arith))
+low_spatial (Pred p ts) h = each_below number_bound 65535 ts h
 
 spatial_low : (x : Spatial) → InSpatial IsLow x → spatial_numbers x ≤ 65535
-spatial_low (Cell t ts) q = let a = q.0 in let b = each_max number_bound 65535 ts q.1 in omega arith
-spatial_low (Pred p ts) q = each_max number_bound 65535 ts q
+spatial_low (Cell t ts) q = let a = q.0 in let b = below_each number_bound 65535 ts q.1 in omega arith
+spatial_low (Pred p ts) q = below_each number_bound 65535 ts q
 
 low_heap : (a : SymbolicHeap) → has_numbers a ≡ true → InHeap IsLow a
 low_heap a e =
     let h : heap_numbers a ≤ 65535 = leb-true (heap_numbers a) 65535 e in (
-      each_of (λ x. pure_numbers x ≤ 65535) (InPure IsLow) low_pure a.pure (max_each pure_numbers 65535 a.pure (omega arith)),
-      each_of (λ x. spatial_numbers x ≤ 65535) (InSpatial IsLow) low_spatial a.spatial (max_each spatial_numbers 65535 a.spatial (omega arith)),
+      each_imply (λ x. pure_numbers x ≤ 65535) (InPure IsLow) low_pure a.pure (each_below pure_numbers 65535 a.pure (omega arith)),
+      each_imply (λ x. spatial_numbers x ≤ 65535) (InSpatial IsLow) low_spatial a.spatial (each_below spatial_numbers 65535 a.spatial (omega arith)),
     )
 
 heap_low : (a : SymbolicHeap) → InHeap IsLow a → has_numbers a ≡ true
 heap_low a q =
-    let p = each_max pure_numbers 65535 a.pure (each_of (InPure IsLow) (λ x. pure_numbers x ≤ 65535) pure_low a.pure q.0) in
-    let s = each_max spatial_numbers 65535 a.spatial (each_of (InSpatial IsLow) (λ x. spatial_numbers x ≤ 65535) spatial_low a.spatial q.1) in
+    let p = below_each pure_numbers 65535 a.pure (each_imply (InPure IsLow) (λ x. pure_numbers x ≤ 65535) pure_low a.pure q.0) in
+    let s = below_each spatial_numbers 65535 a.spatial (each_imply (InSpatial IsLow) (λ x. spatial_numbers x ≤ 65535) spatial_low a.spatial q.1) in
     le-leb (heap_numbers a) 65535 (omega arith)
 
 -- ---- shapes
@@ -141,11 +117,11 @@ pub record IsSmall (most : ℕ) (ds : List Definition) (a : SymbolicHeap) : Type
 
 pub short_pures : (most : ℕ) (a : SymbolicHeap) → is_short most a ≡ true → length a.pure ≤ 64
 short_pures most a e =
-    leb-true (length a.pure) 64 (both (nat_le (length a.pure) 64) (nat_le (length a.spatial) most) e).0
+    leb-true (length a.pure) 64 (and_parts (nat_le (length a.pure) 64) (nat_le (length a.spatial) most) e).0
 
 pub short_spatials : (most : ℕ) (a : SymbolicHeap) → is_short most a ≡ true → length a.spatial ≤ most
 short_spatials most a e =
-    leb-true (length a.spatial) most (both (nat_le (length a.pure) 64) (nat_le (length a.spatial) most) e).1
+    leb-true (length a.spatial) most (and_parts (nat_le (length a.pure) 64) (nat_le (length a.spatial) most) e).1
 
 pub small : (most : ℕ) (ds : List Definition) (a : SymbolicHeap) → IsHeapWithin most ds a → IsSmall most ds a
 small most ds a h =
@@ -162,7 +138,7 @@ within most ds a h =
       short = both_true (nat_le (length a.pure) 64) (nat_le (length a.spatial) most) (le-leb (length a.pure) 64 h.pures) (le-leb (length a.spatial) most h.spatials);
       numbers = heap_low a h.low;
       known = are_known ds a.spatial h.shaped;
-      fields = each_of (IsShaped ds) HasFields (λ x s. s.1) a.spatial h.shaped;
+      fields = each_imply (IsShaped ds) HasFields (λ x s. s.1) a.spatial h.shaped;
     }
 
 -- what a test of its numbers and its length leaves to be shown

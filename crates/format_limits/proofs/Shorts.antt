@@ -28,12 +28,12 @@ use Rattle.rule_table.specs.RuleLink.{MapsInto, DisjunctsCover}
 use Rattle.rule_table.specs.Table.{with_right, calls, right_term, unfolded_right}
 use Rattle.rule_table.specs.Tests.{ascend_from}
 use Rattle.rule_table.proofs.LinkRule.{none_of_two, parts_are}
-use Rattle.rule_table.proofs.Reflects.{both}
 use Rattle.format_limits.specs.Limits.{IsHeapWithin, IsJudgementWithin, IsDefinitionWithin, IsShortNumber, HasShortRule, HasShortLink}
 use Rattle.format_limits.proofs.Gives.{needs_gives, finds_gives, entails_gives, single_gives, runs_gives}
 use Rattle.format_limits.proofs.Heaps.{IsSmall, small}
 use Rattle.format_limits.proofs.Judgements.{first_heap}
 use Rattle.format_limits.proofs.Few.{few_cases, are_few}
+use Rattle.std.proofs.lemmas.Bool.{and_parts}
 
 -- a place in a short list
 short_at : {X : Type 0} (xs : List X) (k : ℕ) (x : X) → slice_get xs k ≡ Some x → length xs ≤ 64 → IsShortNumber k
@@ -42,8 +42,8 @@ short_at xs k x at few = let w = slice_get_within xs k x at in omega arith
 places_short : (k n : ℕ) (places : List ℕ) → ascend_from k n places ≡ true → n ≤ 64 → Each IsShortNumber places
 places_short k n [] e few = tt
 places_short k n (i ∷ is) e few =
-    let f = both (nat_le k i && nat_lt i n) (ascend_from (suc i) n is) e in
-    let below : i < n = ltb-true i n (both (nat_le k i) (nat_lt i n) f.0).1 in
+    let f = and_parts (nat_le k i && nat_lt i n) (ascend_from (suc i) n is) e in
+    let below : i < n = ltb-true i n (and_parts (nat_le k i) (nat_lt i n) f.0).1 in
     (omega arith, places_short (suc i) n is f.1 few)
 
 -- ---- rules

@@ -36,22 +36,23 @@ use Rattle.rule_table.specs.Fits.{OnPremises}
 use Rattle.rule_table.specs.RuleBook.{variables_of, rule_answer}
 use Rattle.rule_table.specs.RuleCut.{cut_left, cut_right}
 use Rattle.rule_table.specs.RuleUnfold.{unfolded, unfold_premise}
-use Rattle.rule_table.specs.Table.{with_pures, with_pure, with_right, without_pure, without_spatial, rewritten, rewrite_side, rewrite_atom, named, unnamed, calls, are_empty, instance_term, right_term, unfolded_right}
+use Rattle.rule_table.specs.Table.{with_pures, with_pure, with_right, without_pure, without_spatial, rewritten, rewrite_side, rewrite_atom, named, unnamed, calls, instance_term, right_term, unfolded_right}
 use Rattle.rule_table.specs.Tests.{same_term, same_spatial, is_universal_pure, is_universal_spatial, follows, is_absurd, address_of, ascend_from, has_number}
-use Rattle.rule_table.proofs.Appends.{Each-append}
 use Rattle.rule_table.proofs.Commands.{found_is}
-use Rattle.rule_table.proofs.Rewrites.{Each-get, Each-without}
+use Rattle.rule_table.proofs.Rewrites.{Each-without}
 use Rattle.format_limits.specs.Limits.{IsHeapWithin, IsJudgementWithin, IsCaseWithin, IsDefinitionWithin, IsRuleWithin}
 use Rattle.format_limits.proofs.Gives.{needs_gives, finds_gives, entails_gives, single_gives, runs_gives}
-use Rattle.format_limits.proofs.Heaps.{Each-set, Each-chosen, each_of, length-without, length-slice_set, IsLow, IsShaped, IsSmall, small, within, within_after, shapes_after, low_pures_after, low_spatials_after}
+use Rattle.format_limits.proofs.Heaps.{length-without, length-slice_set, IsLow, IsShaped, IsSmall, small, within, within_after, shapes_after, low_pures_after, low_spatials_after}
 use Rattle.format_limits.proofs.Judgements.{heaps_with, first_heap, heaps_map, form_with, form_map, IsNearly, IsReadyHeap, IsReady, ready, all_ready, limited_nearly}
+use Rattle.formula_facts.proofs.AllMembers.{each_imply, each_append, each_at, each_set, each_chosen}
+use Rattle.rule_table.proofs.EmptyPremises.{empty_on}
 
 -- ---- cases
 
 case_shapes : (most : ℕ) (ds es : List Definition) → Each (IsDefinitionWithin most ds) es → (q : ℕ) → Each (λ (c : SymbolicHeap). Each (IsShaped ds) c.spatial) (cases_of es q)
 case_shapes most ds [] e q = tt
 case_shapes most ds (d ∷ es) e zero =
-    each_of (IsCaseWithin most ds d.arity) (λ (c : SymbolicHeap). Each (IsShaped ds) c.spatial) (λ c w. (small most ds c w.heap).shaped) d.cases e.0.cases
+    each_imply (IsCaseWithin most ds d.arity) (λ (c : SymbolicHeap). Each (IsShaped ds) c.spatial) (λ c w. (small most ds c w.heap).shaped) d.cases e.0.cases
 case_shapes most ds (d ∷ es) e (suc q) = case_shapes most ds es e.1 q
 
 -- ---- terms
@@ -74,7 +75,7 @@ low_instance v t p (Exist m) q = low_choice (nat_eq m v) t (Exist m) p q
 
 pures_low : (b : Bool) (k v : ℕ) (x : Pure) (u : Term) (xs : List Pure) → IsLow u → InPure IsLow x → Each (InPure IsLow) xs → Each (InPure IsLow) (cond b (map (apply_pure ((v, u) ∷ [])) (without k xs)) (slice_set (map (apply_pure ((v, u) ∷ [])) xs) k x))
 pures_low true k v x u xs p q r = low_pures_after (apply_term ((v, u) ∷ [])) (low_replaced v u p) (without k xs) (Each-without (InPure IsLow) xs k r)
-pures_low false k v x u xs p q r = Each-set (InPure IsLow) (map (apply_pure ((v, u) ∷ [])) xs) k x q (low_pures_after (apply_term ((v, u) ∷ [])) (low_replaced v u p) xs r)
+pures_low false k v x u xs p q r = each_set (InPure IsLow) (map (apply_pure ((v, u) ∷ [])) xs) k x q (low_pures_after (apply_term ((v, u) ∷ [])) (low_replaced v u p) xs r)
 
 pures_few : (b : Bool) (k v : ℕ) (x : Pure) (u : Term) (xs : List Pure) → length xs ≤ 64 → length (cond b (map (apply_pure ((v, u) ∷ [])) (without k xs)) (slice_set (map (apply_pure ((v, u) ∷ [])) xs) k x)) ≤ 64
 pures_few true k v x u xs h =
@@ -156,7 +157,7 @@ module _ (most : ℕ) (ds : List Definition) (n : ℕ) where
   unfold_ready j k ts m case h c =
       let s = small most ds (antecedent j) (first_heap H j h.heaps) in
       let a = unfolded (antecedent j) k (case_body ts m case) in
-      let shaped = Each-append Shaped (without k (antecedent j).spatial) (case_body ts m case).spatial (Each-without Shaped (antecedent j).spatial k s.shaped) (shapes_after ds (case_term ts m) case.spatial c) in
+      let shaped = each_append Shaped (without k (antecedent j).spatial) (case_body ts m case).spatial (Each-without Shaped (antecedent j).spatial k s.shaped) (shapes_after ds (case_term ts m) case.spatial c) in
       (heaps_with (IsReadyHeap most ds n most) j a ((λ few. few), shaped) (all_ready most ds n most (heaps_of j) h.heaps), form_with n j a h.form)
 
   unfolds_ready : (j : Judgement) (k : ℕ) (ts : List Term) (m : ℕ) (cases : List SymbolicHeap) → IsJudgementWithin most ds n j → Each (λ (c : SymbolicHeap). Each Shaped c.spatial) cases → Each (IsReady most ds n most) (map (unfold_premise j k ts m) cases)
@@ -173,22 +174,16 @@ module _ (most : ℕ) (ds : List Definition) (n : ℕ) where
   left_ready : (a f : SymbolicHeap) (p : ℕ → Bool) → H a → H f → IsReady most ds n most (cut_left a p f)
   left_ready a f p h g =
       let s = small most ds a h in
-      ((((λ few. few), Each-chosen Shaped a.spatial p s.shaped), (ready most ds n most f g, tt)), (omega arith, omega arith))
+      ((((λ few. few), each_chosen Shaped a.spatial p s.shaped), (ready most ds n most f g, tt)), (omega arith, omega arith))
 
   right_ready : (j : Judgement) (f : SymbolicHeap) (p : ℕ → Bool) (m : ℕ) → IsJudgementWithin most ds n j → H f → IsReady most ds n most (cut_right j p f m)
   right_ready j f p m h g =
       let s = small most ds (antecedent j) (first_heap H j h.heaps) in
       let body = in_heap (opened_term m) f in
-      let shaped = Each-append Shaped (chosen (others_of p) (antecedent j).spatial) body.spatial (Each-chosen Shaped (antecedent j).spatial (others_of p) s.shaped) (shapes_after ds (opened_term m) f.spatial (small most ds f g).shaped) in
+      let shaped = each_append Shaped (chosen (others_of p) (antecedent j).spatial) body.spatial (each_chosen Shaped (antecedent j).spatial (others_of p) s.shaped) (shapes_after ds (opened_term m) f.spatial (small most ds f g).shaped) in
       (heaps_with (IsReadyHeap most ds n most) j _ ((λ few. few), shaped) (all_ready most ds n most (heaps_of j) h.heaps), form_with n j _ h.form)
 
   -- ---- the right
-
-  empty_nearly : (xs : List Spatial) (ps : List Pure) (ys : List Spatial) → OnPremises P (are_empty xs ps ys)
-  empty_nearly [] [] [] = tt
-  empty_nearly [] [] (y ∷ ys) = tt
-  empty_nearly [] (p ∷ ps) ys = tt
-  empty_nearly (x ∷ xs) ps ys = tt
 
   right_nearly : (a b : SymbolicHeap) → H a → H b → P (with_right a (b ∷ []))
   right_nearly a b h g = ((h, (g, tt)), (omega arith, omega arith))
@@ -210,14 +205,14 @@ module _ (most : ℕ) (ds : List Definition) (n : ℕ) where
   unfolded_ready : (a b : SymbolicHeap) (k : ℕ) (f : Term → Term) (case : SymbolicHeap) → H a → H b → Each Shaped case.spatial → IsReady most ds n most (with_right a (unfolded_right b k (in_heap f case) ∷ []))
   unfolded_ready a b k f case h g c =
       let s = small most ds b g in
-      let shaped = Each-append Shaped (without k b.spatial) (in_heap f case).spatial (Each-without Shaped b.spatial k s.shaped) (shapes_after ds f case.spatial c) in
+      let shaped = each_append Shaped (without k b.spatial) (in_heap f case).spatial (Each-without Shaped b.spatial k s.shaped) (shapes_after ds f case.spatial c) in
       ((ready most ds n most a h, (((λ few. few), shaped), tt)), (omega arith, omega arith))
 
   unfold_right_nearly : (a b : SymbolicHeap) (k c : ℕ) (x : Spatial) → Each (IsDefinitionWithin most ds) ds → H a → H b → OnPremises P (calls x (λ q ts. finds (slice_get (cases_of ds q) c) NoSuchCase (λ case. limited most (one (with_right a (unfolded_right b k (in_heap (right_term ts (heap_exists b)) case) ∷ []))))))
   unfold_right_nearly a b k c (Cell t ts) d h g = tt
   unfold_right_nearly a b k c (Pred q ts) d h g =
       finds_gives (OnPremises P) bad (slice_get (cases_of ds q) c) NoSuchCase _ (λ case at.
-      let shaped = Each-get (λ (c : SymbolicHeap). Each Shaped c.spatial) (cases_of ds q) c case at (case_shapes most ds ds d q) in
+      let shaped = each_at (λ (c : SymbolicHeap). Each Shaped c.spatial) (cases_of ds q) c case at (case_shapes most ds ds d q) in
       limited_nearly most ds n most (one (with_right a (unfolded_right b k (in_heap (right_term ts (heap_exists b)) case) ∷ []))) (unfolded_ready a b k (right_term ts (heap_exists b)) case h g shaped, tt))
 
   -- ---- Exec
@@ -236,7 +231,7 @@ module _ (most : ℕ) (ds : List Definition) (n : ℕ) where
     next l = (omega arith, omega arith)
 
     cell_shaped : (t : Term) (c : Found) → cell_of a.pure t a.spatial ≡ Some c → Shaped (Cell c.address c.fields)
-    cell_shaped t c found = Each-get Shaped a.spatial c.place (Cell c.address c.fields) (found_is a.pure t a.spatial c found).at shaped
+    cell_shaped t c found = each_at Shaped a.spatial c.place (Cell c.address c.fields) (found_is a.pure t a.spatial c found).at shaped
 
     field_shaped : (c : Found) (k : ℕ) (u : Term) → Shaped (Cell c.address c.fields) → Shaped (Cell c.address (slice_set c.fields k u))
     field_shaped c k u s =
@@ -266,9 +261,9 @@ module _ (most : ℕ) (ds : List Definition) (n : ℕ) where
     command_nearly (Store t k u) l =
         finds_gives (OnPremises P) bad (cell_of a.pure t a.spatial) NoCell _ (λ c found.
         finds_gives (OnPremises P) bad (counted_from_one c.fields k) NoCell _ (λ f field.
-        limited_nearly most ds n most (one (at_line (i + 1) a (with_field a c k u))) (state_ready (i + 1) (with_field a c k u) (next l.0) (Each-set Shaped a.spatial c.place (Cell c.address (slice_set c.fields (k - 1) u)) (field_shaped c (k - 1) u (cell_shaped t c found)) shaped), tt)))
+        limited_nearly most ds n most (one (at_line (i + 1) a (with_field a c k u))) (state_ready (i + 1) (with_field a c k u) (next l.0) (each_set Shaped a.spatial c.place (Cell c.address (slice_set c.fields (k - 1) u)) (field_shaped c (k - 1) u (cell_shaped t c found)) shaped), tt)))
     command_nearly (New x k) l =
-        limited_nearly most ds n most (one (at_line (i + 1) a (with_cell (renamed x m a) x (variables_from (m + 1) k)))) (state_ready (i + 1) (with_cell (renamed x m a) x (variables_from (m + 1) k)) (next l.0) (Each-append Shaped (renamed x m a).spatial (Cell (Univ x) (variables_from (m + 1) k) ∷ []) (renamed_shaped x) (new_shaped x k l.1.0 l.1.1, tt)), tt)
+        limited_nearly most ds n most (one (at_line (i + 1) a (with_cell (renamed x m a) x (variables_from (m + 1) k)))) (state_ready (i + 1) (with_cell (renamed x m a) x (variables_from (m + 1) k)) (next l.0) (each_append Shaped (renamed x m a).spatial (Cell (Univ x) (variables_from (m + 1) k) ∷ []) (renamed_shaped x) (new_shaped x k l.1.0 l.1.1, tt)), tt)
     command_nearly (Free t) l =
         finds_gives (OnPremises P) bad (cell_of a.pure t a.spatial) NoCell _ (λ c found.
         limited_nearly most ds n most (one (record { judgement = Runs (i + 1) (without_spatial c.place a); pairs = kept_pairs c.place a.spatial })) (((((λ few. few), Each-without Shaped a.spatial c.place shaped), tt), next l), tt))
@@ -294,7 +289,7 @@ rule_nearly most ds lines j rule d g h = by rule
     by : (rule : Rule) → IsRuleWithin most ds rule → S (rule_answer most ds lines j rule)
     by Absurd r = needs_gives S faulty (is_absurd (antecedent j)) NotAbsurd (Ok []) (λ _. tt)
     by (Rewrite k side) r =
-        finds_gives S faulty (slice_get (antecedent j).pure k) NoSuchAtom _ (λ x at. rewrite_nearly most ds n (variables_of lines j) j k side x h (Each-get (InPure IsLow) (antecedent j).pure k x at s.low.0))
+        finds_gives S faulty (slice_get (antecedent j).pure k) NoSuchAtom _ (λ x at. rewrite_nearly most ds n (variables_of lines j) j k side x h (each_at (InPure IsLow) (antecedent j).pure k x at s.low.0))
     by (Split t u) r =
         limited_nearly most ds n 32 (two (with_pure j (Eq t u)) (with_pure j (Neq t u))) (pures_ready most ds n 32 j _ h, (pures_ready most ds n 32 j _ h, tt))
     by (Distinct i k) r =
@@ -308,11 +303,11 @@ rule_nearly most ds lines j rule d g h = by rule
     by (Cut places f) r =
         needs_gives S faulty (ascend_from 0 (length (antecedent j).spatial) places) NoSuchAtom _ (λ _.
         limited_nearly most ds n most (two (cut_left (antecedent j) (has_number places) f) (cut_right j (has_number places) f (max (fresh_number (variables_of lines j) j) (heap_bound f)))) (left_ready most ds n (antecedent j) f (has_number places) (first_heap (IsHeapWithin most ds) j h.heaps) r, (right_ready most ds n j f (has_number places) (max (fresh_number (variables_of lines j) j) (heap_bound f)) h r, tt)))
-    by Done r = single_gives S faulty j _ (λ a b e. empty_nearly most ds n a.spatial b.pure b.spatial)
+    by Done r = single_gives S faulty j _ (λ a b e. empty_on (IsNearly most ds n) a.spatial b.pure b.spatial)
     by (Choose k) r =
         entails_gives S faulty j _ (λ a bs e.
         finds_gives S faulty (slice_get bs k) NoSuchAtom _ (λ b at.
-        let w = same (Entail a bs) e in (right_nearly most ds n a b w.heaps.0 (Each-get (IsHeapWithin most ds) bs k b at w.heaps.1), tt)))
+        let w = same (Entail a bs) e in (right_nearly most ds n a b w.heaps.0 (each_at (IsHeapWithin most ds) bs k b at w.heaps.1), tt)))
     by (PureRight k) r =
         single_gives S faulty j _ (λ a b e.
         finds_gives S faulty (slice_get b.pure k) NoSuchAtom _ (λ x at.

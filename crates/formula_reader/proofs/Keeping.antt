@@ -39,14 +39,12 @@ use Rattle.formula_reader.specs.Small.{IsSmallProblem}
 use Rattle.formula_reader.specs.WellFormed.{IsOfText, goal_heaps, goal_fault, is_universal_heap, is_short_heap, has_line}
 use Rattle.formula_reader.proofs.Fitting.{problem_small}
 use Rattle.formula_reader.proofs.SpanLaws.{text_some}
+use Rattle.std.proofs.lemmas.Option.{same_Some}
 
 pub small_of : (p : Problem) → IsOfText p → problem_flaw p ≡ None → IsSmallProblem p
 small_of p text right = problem_small p (text_some p text) right
 
 -- ---- predicates are known
-
-some_is : {X : Type 0} (x y : X) → Some x ≡ Some y → x ≡ y
-some_is x y e = cc
 
 none_is_some : {X : Type 0} (x : X) → None ≡ Some x → ⊥
 none_is_some x e = cc
@@ -60,7 +58,7 @@ found hs (d ∷ ds) name arity e = by (bytes_eq d.name name) e (found hs ds name
     Found-at k = (v : DefinitionValue) × (slice_get (map (definition_value hs) (d ∷ ds)) k ≡ Some v) × (v.arity ≡ arity)
 
     by : (b : Bool) → (if b then Some (length d.parameters) else arity_in (headings ds) name) ≡ Some arity → (arity_in (headings ds) name ≡ Some arity → (v : DefinitionValue) × (slice_get (map (definition_value hs) ds) (place_of (headings ds) name) ≡ Some v) × (v.arity ≡ arity)) → Found-at (if b then 0 else suc (place_of (headings ds) name))
-    by true h rest = (definition_value hs d, refl, some_is (length d.parameters) arity h)
+    by true h rest = (definition_value hs d, refl, same_Some (length d.parameters) arity h)
     by false h rest = rest h
 
 same_number : (n m : ℕ) → not (nat_eq n m) ≡ false → nat_eq n m ≡ true

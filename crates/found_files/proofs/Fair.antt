@@ -20,7 +20,7 @@ use Rattle.format_limits.proofs.Premises.{premises_within}
 use Rattle.found_files.proofs.Members.{each_get}
 use Rattle.found_files.proofs.RulesWithin.{rules_within}
 use Rattle.found_files.proofs.LinksWithin.{links_within}
-use Rattle.buchi_core.proofs.Lists.{get_one, get_within}
+use Rattle.buchi_core.proofs.Lists.{get_one}
 use Rattle.proof_graph.specs.declared.nodes.GraphNode.{GraphNode}
 use Rattle.proof_graph.specs.Nodes.{open_node}
 use Rattle.derivation_search.specs.Firsts.{IsIn}
@@ -36,6 +36,7 @@ use Rattle.search_calculus.proofs.ProofGraphs.{shown, length-shown, goal_graph_i
 use Rattle.search_calculus.proofs.ShortHeaps.{IsShort}
 use Rattle.search_calculus.proofs.Fairness.{beside_none, small_is_fair}
 use Rattle.found_files.specs.Found.{IsWithinLimits}
+use Rattle.list_facts.proofs.Places.{get_within}
 
 abbrev pub Occurs : Theory → Judgement → Type 0
 Occurs t j = IsJudgementWithin t.most t.definitions (length t.lines) j

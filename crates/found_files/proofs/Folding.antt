@@ -20,7 +20,8 @@ use Rattle.rule_table.specs.Tests.{same_term, has_number}
 use Rattle.fold_offers.specs.Folds.{Binding, bound_in, bind_variable, bind, bind_terms, bind_lists, bind_atom, placed, parameters, can_fold, value_of, bound_term, folded, ascending, case_follows, fold_by, folds_of_case, folds_of, folds}
 use Rattle.format_limits.specs.Limits.{IsHeapWithin, IsDefinitionWithin, IsRuleWithin}
 use Rattle.found_files.proofs.Members.{each_append, each_if, each_unless, each_take, each_map, each_get, each_of_any, each_placed}
-use Rattle.found_files.proofs.HeapTerms.{HasNumber, below_each}
+use Rattle.found_files.proofs.HeapTerms.{HasNumber}
+use Rattle.formula_facts.proofs.Greatest.{below_each}
 
 -- ---- what a case's variables are bound to
 

@@ -8,8 +8,7 @@ use Rattle.heap_formula.specs.declared.proof_rules.Reason.{Reason}
 use Rattle.heap_formula.specs.declared.proof_rules.Reason.TheVariants.{Step, Back}
 use Rattle.rule_table.specs.Nodes.{Node as RuleNode, edges_to, answer_edges, link_edges, reason_edges}
 use Rattle.trace_pairs.specs.Graph.{Node, Edge}
-use Rattle.buchi_core.proofs.Lists.{get_one, get_within}
-use Rattle.buchi_inclusion.proofs.Tables.{at_map}
+use Rattle.buchi_core.proofs.Lists.{get_one}
 use Rattle.proof_check.specs.Files.{graph_edge, graph_node, graph_of, node_of, nodes_of}
 use Rattle.proof_graph.specs.Traces.{trace_pairs_of}
 use Rattle.search_moves.specs.Trying.{Theory}
@@ -21,6 +20,7 @@ use Rattle.search_calculus.proofs.TraceGraphs.{length-traces_of}
 use Rattle.found_files.specs.Files.{numbers_of, file_node, nodes_made}
 use Rattle.found_files.proofs.Made.{IsBy, IsMade, AllMade}
 use Rattle.found_files.proofs.Rows.{length-nodes_made, node_at}
+use Rattle.list_facts.proofs.Places.{get_within, get_map}
 
 -- the edges to the premises' nodes are those of the trace graph
 edges_same : (nodes : List MadeNode) (v : ℕ) (ps : List Premise) (es : List Edge) → AllLead nodes v (map traced ps) es →
@@ -63,6 +63,6 @@ module _ (t : Theory) (nodes : List MadeNode) (all' : AllMade t nodes) where
           let less = slice_get_within (traces_of t nodes) v y at' in
           let m = get_within nodes v (omega (arith, less, length-traces_of t nodes)) in
           let made = all' v m.0 m.1 in
-          let here = at_map (graph_node t.most t.definitions t.lines rows) rows v (node_of (file_node made.traces m.0)) (node_at t nodes all' v m.0 made m.1) in
+          let here = get_map (graph_node t.most t.definitions t.lines rows) rows v (node_of (file_node made.traces m.0)) (node_at t nodes all' v m.0 made m.1) in
           get_one (graph_of t.most t.definitions t.lines rows) v x (graph_node t.most t.definitions t.lines rows (node_of (file_node made.traces m.0))) at here
           ∙ (node_same v m.0 made ∙ get_one (traces_of t nodes) v made.traces y made.is_traces at')

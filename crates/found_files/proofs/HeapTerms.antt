@@ -1,7 +1,6 @@
 -- The terms of a heap within the limits.
 use Rattle.std.proofs.Common.{ℕ, ◌≤◌, List, [], ◌∷◌, map, arith, leb-true}
 use Rattle.heap_formula.specs.declared.terms.Term.{Term}
-use Rattle.heap_formula.specs.declared.terms.Term.TheVariants.{Nil, Univ, Exist}
 use Rattle.heap_formula.specs.declared.atoms.Pure.{Pure}
 use Rattle.heap_formula.specs.declared.atoms.Pure.TheVariants.{Eq, Neq}
 use Rattle.heap_formula.specs.declared.atoms.Spatial.{Spatial}
@@ -10,24 +9,18 @@ use Rattle.heap_formula.specs.declared.judgements.Judgement.{Judgement}
 use Rattle.heap_formula.specs.declared.judgements.Judgement.TheVariants.{Entail, Term as Runs}
 use Rattle.heap_formula.specs.Closedness.{InPure, InSpatial, InHeap, IsUniversal, IsUniversalSpatial}
 use Rattle.heap_formula.specs.Definitions.{Definition}
-use Rattle.heap_formula.specs.Fresh.{univ_bound, pure_bound, spatial_bound, heap_bound, judgement_bound}
+use Rattle.heap_formula.specs.Fresh.{heap_bound, judgement_bound}
 use Rattle.heap_formula.specs.Symbolic.{SymbolicHeap}
 use Rattle.heap_formula.specs.Words.{Each, max_of}
 use Rattle.rule_table.specs.Answer.{number_bound, pure_numbers, spatial_numbers, heap_numbers, heaps_of}
 use Rattle.format_limits.specs.Limits.{IsHeapWithin, IsTermWithin}
-use Rattle.found_files.proofs.Members.{each_both}
+use Rattle.formula_facts.proofs.Greatest.{each_below}
+use Rattle.formula_facts.proofs.AllMembers.{each_both}
+use Rattle.search_moves.proofs.LeftNumbers.{heap_below as heap_le}
 
 -- a variable up to number 65,534, or nil
 abbrev pub HasNumber : Term → Type 0
 HasNumber t = number_bound t ≤ 65535
-
-each_below : {X : Type 0} (f : X → ℕ) (n : ℕ) (xs : List X) → max_of (map f xs) ≤ n → Each (λ x. f x ≤ n) xs
-each_below f n [] h = tt
-each_below f n (x ∷ xs) h = (omega arith, each_below f n xs (omega arith))
-
-pub below_each : {X : Type 0} (f : X → ℕ) (n : ℕ) (xs : List X) → Each (λ x. f x ≤ n) xs → max_of (map f xs) ≤ n
-below_each f n [] a = omega arith
-below_each f n (x ∷ xs) a = let h = a.0 in let r = below_each f n xs a.1 in omega arith
 
 pure_has : (x : Pure) → pure_numbers x ≤ 65535 → InPure HasNumber x
 pure_has (Eq t u) h = (omega arith, omega arith)
@@ -67,29 +60,6 @@ spatials_within [] u n = tt
 spatials_within (x ∷ xs) u n = (spatial_within x u.0 n.0, spatials_within xs u.1 n.1)
 
 -- ---- universal numbers are numbers
-
-univ_le : (t : Term) → univ_bound t ≤ number_bound t
-univ_le Nil = omega arith
-univ_le (Univ n) = omega arith
-univ_le (Exist n) = omega arith
-
-max_le : {X : Type 0} (f g : X → ℕ) → ((x : X) → f x ≤ g x) → (xs : List X) → max_of (map f xs) ≤ max_of (map g xs)
-max_le f g h [] = omega arith
-max_le f g h (x ∷ xs) = let a = h x in let b = max_le f g h xs in omega arith
-
-pure_le : (x : Pure) → pure_bound x ≤ pure_numbers x
-pure_le (Eq t u) = let a = univ_le t in let b = univ_le u in omega arith
-pure_le (Neq t u) = let a = univ_le t in let b = univ_le u in omega arith
-
-spatial_le : (x : Spatial) → spatial_bound x ≤ spatial_numbers x
-spatial_le (Cell t ts) = let a = univ_le t in let b = max_le univ_bound number_bound univ_le ts in omega arith
-spatial_le (Pred p ts) = max_le univ_bound number_bound univ_le ts
-
-heap_le : (a : SymbolicHeap) → heap_bound a ≤ heap_numbers a
-heap_le a =
-    let p = max_le pure_bound pure_numbers pure_le a.pure in
-    let s = max_le spatial_bound spatial_numbers spatial_le a.spatial in
-    omega arith
 
 heaps_le : (most : ℕ) (ds : List Definition) (bs : List SymbolicHeap) → Each (IsHeapWithin most ds) bs → max_of (map heap_bound bs) ≤ 65535
 heaps_le most ds [] a = omega arith

@@ -13,11 +13,12 @@ use Rattle.heap_formula.specs.Definitions.{Definition}
 use Rattle.heap_formula.specs.Words.{Each}
 use Rattle.rule_table.specs.Tests.{same_term}
 use Rattle.search_moves.specs.declared.instances.Instance.{Instance}
-use Rattle.search_moves.specs.Entailments.{equation_instance, equation_instances, instance_at, or_later, first_instance, field_instance, fields_with, field_instances, agree, argument_instance, same_instance, once, arguments_with, argument_instances, instance_rule}
+use Rattle.search_moves.specs.Entailments.{equation_instance, equation_instances, instance_at, first_instance, field_instance, fields_with, field_instances, agree, argument_instance, same_instance, once, arguments_with, argument_instances, instance_rule}
 use Rattle.fold_offers.specs.Places.{each_of, if_some}
 use Rattle.format_limits.specs.Limits.{IsTermWithin, IsRuleWithin}
 use Rattle.found_files.proofs.Members.{each_append, each_map, each_each_of, each_if_some}
 use Rattle.found_files.proofs.HeapTerms.{HasNumber, HasTerms}
+use Rattle.std.specs.Option.{option_or}
 
 abbrev pub IsInstanceWithin : Instance → Type 0
 IsInstanceWithin i = (i.variable ≤ 65534) × IsTermWithin i.term
@@ -50,7 +51,7 @@ at_within t Nil p q = tt
 at_within t (Univ n) p q = tt
 at_within t (Exist v) p q = (omega arith, p)
 
-or_within : (a b : Option Instance) → IfSome a IsInstanceWithin → IfSome b IsInstanceWithin → IfSome (or_later a b) IsInstanceWithin
+or_within : (a b : Option Instance) → IfSome a IsInstanceWithin → IfSome b IsInstanceWithin → IfSome (option_or a b) IsInstanceWithin
 or_within None b p q = q
 or_within (Some x) b p q = p
 

@@ -1,5 +1,5 @@
 -- The links that a goal is offered have no fault.
-use Rattle.std.proofs.Common.{◌≡◌, ℕ, Bool, true, List, Option, Some, None, refl, sym, subst}
+use Rattle.std.proofs.Common.{◌≡◌, ℕ, Bool, true, List, Some, sym, subst}
 use Rattle.std.specs.Prelude.{slice_get}
 use Rattle.std.specs.Option.{is_none}
 use Rattle.heap_formula.specs.declared.judgements.Judgement.{Judgement}
@@ -12,12 +12,10 @@ use Rattle.proof_graph.specs.declared.nodes.GraphNode.{GraphNode}
 use Rattle.search_moves.specs.Trying.{Theory}
 use Rattle.search_moves.specs.Offering.{links_offered}
 use Rattle.found_files.specs.Faultless.{IsLinked}
-use Rattle.found_files.proofs.Members.{each_both, each_with, each_passes}
+use Rattle.found_files.proofs.Members.{each_with, each_passes}
 use Rattle.found_files.proofs.LinksWithin.{all_offered, links_target}
-
-nothing : {X : Type 0} (o : Option X) → is_none o ≡ true → o ≡ None
-nothing None e = refl
-nothing (Some x) e = absurd cc
+use Rattle.formula_facts.proofs.AllMembers.{each_both}
+use Rattle.list_facts.proofs.Options.{none_is}
 
 pub links_fit : (t : Theory) (nodes : List GraphNode) (goal : ℕ) (j : Judgement) → Each (IsLinked t nodes j) (links_offered t nodes goal j)
 links_fit t nodes goal j =
@@ -27,4 +25,4 @@ links_fit t nodes goal j =
     let found = links j node.judgement k p in
     each_with (λ (link : Link). (link.target ≡ k) × (passes link ≡ true)) (IsLinked t nodes j) found
     (each_both (λ (link : Link). link.target ≡ k) (λ (link : Link). passes link ≡ true) found (links_target j node.judgement k p) (each_passes passes (candidates j node.judgement k)))
-    (λ link h. (node, subst (λ v. slice_get nodes v ≡ Some node) (sym h.0) e, nothing (link_fault j node.judgement link p) h.1)))
+    (λ link h. (node, subst (λ v. slice_get nodes v ≡ Some node) (sym h.0) e, none_is (link_fault j node.judgement link p) h.1)))

@@ -1,5 +1,5 @@
 -- The links that a goal within the limits is offered are within them, and lead to nodes before the goal.
-use Rattle.std.proofs.Common.{◌≡◌, ℕ, zero, suc, ◌+◌, ◌<◌, ◌≤◌, List, [], ◌∷◌, map, length, take, Some, refl, sym, subst, arith}
+use Rattle.std.proofs.Common.{◌≡◌, ℕ, ◌+◌, ◌<◌, ◌≤◌, List, [], ◌∷◌, map, length, take, Some, refl, sym, subst, arith}
 use Rattle.std.specs.Prelude.{slice_get}
 use Rattle.std.specs.List.{flat_map, range_with_len}
 use Rattle.std.specs.Option.{is_none}
@@ -20,13 +20,9 @@ use Rattle.search_moves.specs.Offering.{is_companion, links_to, candidates, rule
 use Rattle.format_limits.specs.Limits.{IsJudgementWithin, IsTermWithin, IsPairWithin, IsReasonWithin}
 use Rattle.found_files.proofs.Members.{each_any, each_with, each_if, each_filter, each_take, each_unless_some, each_map, each_flat_map, each_placed, take_get}
 use Rattle.found_files.proofs.HeapTerms.{judgement_below}
+use Rattle.formula_facts.proofs.AllMembers.{range_below}
 
 -- ---- the universal variables of a judgement
-
-range_below : (m n : ℕ) → Each (λ k. k < m + n) (range_with_len m n)
-range_below m zero = tt
-range_below m (suc n) =
-    (omega arith, each_with (λ k. k < (m + 1) + n) (λ k. k < m + suc n) (range_with_len (m + 1) n) (range_below (m + 1) n) (λ k lt. omega arith))
 
 universals_below : (j : Judgement) → judgement_bound j ≤ 65535 → Each (λ n. n ≤ 65534) (universals j)
 universals_below j le =

@@ -6,10 +6,6 @@ use Rattle.heap_formula.specs.Words.{Each}
 use Rattle.fold_offers.specs.Places.{each_from, each_place, each_of, if_some, or_else, first_line, first_from, first_place, first_that}
 use Rattle.search_moves.specs.Offering.{unless_some}
 
-pub each_both : {X : Type 0} (P Q : X → Type 0) (xs : List X) → Each P xs → Each Q xs → Each (λ x. P x × Q x) xs
-each_both P Q [] a b = tt
-each_both P Q (x ∷ xs) a b = ((a.0, b.0), each_both P Q xs a.1 b.1)
-
 pub each_any : {X : Type 0} (P : X → Type 0) (xs : List X) → ((x : X) → P x) → Each P xs
 each_any P [] h = tt
 each_any P (x ∷ xs) h = (h x, each_any P xs h)

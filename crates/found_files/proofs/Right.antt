@@ -14,16 +14,13 @@ use Rattle.rule_table.specs.Nodes.{Node as RuleNode, same_judgement, differs, pr
 use Rattle.trace_pairs.specs.Graph.{Edge}
 use Rattle.buchi_inclusion.proofs.Tables.{map_at}
 use Rattle.proof_check.specs.Files.{AreRight, node_of, nodes_of}
-use Rattle.proof_check.proofs.SameJudgements.{decided_judgement}
+use Rattle.proof_check.proofs.SameJudgements.{same_judgement_self}
 use Rattle.search_moves.specs.Trying.{Theory}
 use Rattle.tableaux.proofs.Made.{AllLead, lead_count}
 use Rattle.search_calculus.specs.Calculus.{MadeNode, judgement_of, traced}
 use Rattle.found_files.specs.Files.{numbers_of, file_node, nodes_made}
 use Rattle.found_files.proofs.Made.{IsBy, AllMade}
 use Rattle.found_files.proofs.Rows.{file_node_at, node_at}
-
-same_self : (j : Judgement) → same_judgement j j ≡ true
-same_self j = sym (decided_judgement true j j (λ e. refl, λ e. refl))
 
 module _ (t : Theory) (nodes : List MadeNode) (all' : AllMade t nodes) where
   abbrev rows : List RuleNode
@@ -33,7 +30,7 @@ module _ (t : Theory) (nodes : List MadeNode) (all' : AllMade t nodes) where
       slice_get rows u ≡ Some node → p.judgement ≡ node.judgement → premises_fault rows v (suc i) ps us ≡ None →
       premises_fault rows v i (p ∷ ps) (u ∷ us) ≡ None
   premise_right v i u p ps us node later at is rest =
-      let same : same_judgement p.judgement node.judgement ≡ true = subst (λ (x : Judgement). same_judgement p.judgement x ≡ true) is (same_self p.judgement) in
+      let same : same_judgement p.judgement node.judgement ≡ true = subst (λ (x : Judgement). same_judgement p.judgement x ≡ true) is (same_judgement_self p.judgement) in
       ap (λ b. first_of (fault_unless b NoSuchNode) (first_of (differs rows i u p (slice_get rows u)) (premises_fault rows v (suc i) ps us))) (lt-ltb v u later)
       ∙ (ap (λ o. first_of (differs rows i u p o) (premises_fault rows v (suc i) ps us)) at
       ∙ (ap (λ b. first_of (fault_unless b (PremiseDiffers i)) (premises_fault rows v (suc i) ps us)) same ∙ rest))

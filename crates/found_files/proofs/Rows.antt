@@ -2,7 +2,6 @@
 use Rattle.std.proofs.Common.{◌≡◌, ℕ, List, [], ◌∷◌, Some, slice_get, length, refl, ap, subst, ◌∙◌}
 use Rattle.trace_pairs.specs.Graph.{Node}
 use Rattle.buchi_core.proofs.Lists.{get_one}
-use Rattle.buchi_inclusion.proofs.Tables.{at_map}
 use Rattle.proof_file.specs.declared.node.FileNode.{FileNode}
 use Rattle.proof_check.specs.Files.{node_of, nodes_of}
 use Rattle.search_moves.specs.Trying.{Theory}
@@ -12,6 +11,7 @@ use Rattle.search_calculus.specs.Graphs.{traces_of}
 use Rattle.search_calculus.proofs.TraceGraphs.{length-traces_of}
 use Rattle.found_files.specs.Files.{file_node, file_nodes, nodes_made}
 use Rattle.found_files.proofs.Made.{IsMade, AllMade}
+use Rattle.list_facts.proofs.Places.{get_map}
 
 nodes_joined : (ns : List Node) (ms : List MadeNode) → file_nodes ns ms ≡ joined file_node ns ms
 nodes_joined [] ms = refl
@@ -44,4 +44,4 @@ module _ (t : Theory) (nodes : List MadeNode) (all' : AllMade t nodes) where
 
   pub node_at : (v : ℕ) (m : MadeNode) (made : IsMade t nodes v m) → slice_get nodes v ≡ Some m →
       slice_get (nodes_of (nodes_made t nodes)) v ≡ Some (node_of (file_node made.traces m))
-  node_at v m made at = at_map node_of (nodes_made t nodes) v (file_node made.traces m) (made_at v m made at)
+  node_at v m made at = get_map node_of (nodes_made t nodes) v (file_node made.traces m) (made_at v m made at)

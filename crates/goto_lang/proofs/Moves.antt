@@ -1,12 +1,12 @@
 -- One step: what a command makes of a state, that no two answers fit, and that the state stays one of the program.
-use Rattle.std.proofs.Common.{◌≡◌, ◌≢◌, ℕ, zero, suc, ◌+◌, ◌-◌, ◌<◌, ◌≤◌, ◌^◌, Bool, true, false, not, cond, ◌⊎◌, inl, inr, List, [], ◌∷◌, map, length, Option, Some, None, refl, sym, ap, subst, ◌∙◌, arith}
+use Rattle.std.proofs.Common.{◌≡◌, ◌≢◌, ℕ, zero, suc, ◌+◌, ◌-◌, ◌<◌, ◌≤◌, ◌^◌, Bool, true, false, not, cond, ◌⊎◌, inl, inr, List, [], ◌∷◌, length, Option, Some, None, refl, sym, ap, subst, ◌∙◌, arith}
 use Rattle.std.specs.Prelude.{◌↔◌, nat_eq, slice_get, slice_set}
 use Rattle.std.proofs.lemmas.List.{length-set}
 use Rattle.std.specs.FinMap.{insert}
 use Rattle.heap_formula.specs.declared.commands.Command.{Command}
 use Rattle.heap_formula.specs.declared.commands.Command.TheVariants.{Assign, Load, Store, New, Free, IfEq, IfNeq, IfAny, Goto, Stop as StopCommand}
-use Rattle.heap_formula.specs.Words.{Each, max_of}
-use Rattle.heap_formula.specs.Programs.{Config as State, Goes, Faults, command_at, counted_from_one, command_bound, program_variables, field_of, value_in, greatest, next_line, jump}
+use Rattle.heap_formula.specs.Words.{Each}
+use Rattle.heap_formula.specs.Programs.{Config as State, Goes, Faults, command_at, counted_from_one, field_of, value_in, greatest, next_line, jump}
 use Rattle.heap_formula.proofs.StepLaws.{step_exists}
 use Rattle.goto_lang.specs.declared.configs.Config.{Config}
 use Rattle.goto_lang.specs.declared.steps.Stepped.{Stepped}
@@ -229,15 +229,6 @@ some_step lines w c x pos at ns nf =
     picked StopCommand at d g = absurd g
 
 -- ---- states of the program
-
-pub bound_at : (lines : List Command) (i : ℕ) (x : Command) → counted_from_one lines i ≡ Some x → command_bound x ≤ program_variables lines
-bound_at lines zero x at = cc
-bound_at lines (suc i) x at = among lines i x at
-  where
-    among : (lines : List Command) (i : ℕ) (x : Command) → slice_get lines i ≡ Some x → command_bound x ≤ max_of (map command_bound lines)
-    among [] i x at = cc
-    among (y ∷ ys) zero x at = let same : y ≡ x = cc in let e = ap command_bound same in omega arith
-    among (y ∷ ys) (suc i) x at = let r = among ys i x at in omega arith
 
 next_stays : (lines : List Command) (c d : State) (s : List ℕ) (h : _) → IsStateOf lines c → c.line < length lines → length s ≡ length c.stack → d ≡ next_line c s h → IsStateOf lines d
 next_stays lines c d s h is le same e =

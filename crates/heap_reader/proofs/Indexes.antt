@@ -153,10 +153,6 @@ one_more heads i d l = ap (map heading_of) (take_more heads i d l) ∙ map_push 
 size_before : (heads : List Head) (i : ℕ) → i < length heads → length (map heading_of (take i heads)) ≡ i
 size_before heads i l = length-map (take i heads) heading_of ∙ length-take-le i heads (omega (arith, l))
 
-pub is_none : {X : Type 0} (r : Option X) → is_some r ≡ false → r ≡ None
-is_none None e = refl
-is_none (Some x) e = absurd (true≢false e)
-
 -- the name is new, and is noted with its place
 pub index_notes : (heads : List Head) (i : ℕ) (d : Head) (es new : List (Bor (List ℕ) × ℕ)) → i < length heads → IsIndex (map heading_of (take i heads)) es → new ≡ es ++ ((get_or heads i d).name, i) ∷ [] → IsIndex (map heading_of (take (i + 1) heads)) new
 index_notes heads i d es new l index is =

@@ -8,3 +8,5 @@ pub mod Readings
 pub mod Wider
 mod Indexes
 mod Loops
+pub mod Members
+pub mod FirstPlaces

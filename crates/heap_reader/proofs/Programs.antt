@@ -27,6 +27,7 @@ use Rattle.heap_reader.specs.LineFlaws.{field_flaw, jump_flaw, goes_on, operand_
 use Rattle.heap_reader.specs.Small.{IsSmallTerm, IsSmallCommand, IsSmallLine}
 use Rattle.heap_reader.specs.Values.{operand_value, change_value, command_value, line_value}
 use Rattle.heap_reader.proofs.NoFlaw.{neither, not_over, not_ill, below}
+use Rattle.list_facts.proofs.Options.{neither_some}
 
 -- ---- options
 
@@ -49,10 +50,6 @@ passes false x y e h = h
 both_none : {X : Type 0} (a b : Option X) → a ≡ None → b ≡ None → option_or a b ≡ None
 both_none None b p q = q
 both_none (Some x) b p q = absurd cc
-
-none_of : {X : Type 0} (a b : Option X) → option_or a b ≡ None → (a ≡ None) × (b ≡ None)
-none_of None b e = (refl, e)
-none_of (Some x) b e = absurd cc
 
 or_right : (a b : Bool) → (a || b) ≡ false → b ≡ false
 or_right true b e = absurd cc
@@ -100,27 +97,27 @@ field_small k e = let h = ltb-false 8 k (or_right (nat_eq k 0) (nat_lt 8 k) (if_
 
 command_small : (n i : ℕ) (c : Command) → IsUniversalCommand c → command_fault n i c ≡ None → IsSmallCommand c
 command_small n i (commands.Assign x t) u e =
-    let a = none_of (variable_fault x) (term_fault t) e in
+    let a = neither_some (variable_fault x) (term_fault t) e in
     (variable_small x a.0, term_small t u a.1)
 command_small n i (commands.Load x t k) u e =
-    let a = none_of (variable_fault x) (option_or (term_fault t) (field_fault k)) e in
-    let b = none_of (term_fault t) (field_fault k) a.1 in
+    let a = neither_some (variable_fault x) (option_or (term_fault t) (field_fault k)) e in
+    let b = neither_some (term_fault t) (field_fault k) a.1 in
     (variable_small x a.0, term_small t u b.0, field_small k b.1)
 command_small n i (commands.Store t k v) u e =
-    let a = none_of (term_fault t) (option_or (field_fault k) (term_fault v)) e in
-    let b = none_of (field_fault k) (term_fault v) a.1 in
+    let a = neither_some (term_fault t) (option_or (field_fault k) (term_fault v)) e in
+    let b = neither_some (field_fault k) (term_fault v) a.1 in
     (term_small t u.0 a.0, field_small k b.0, term_small v u.1 b.1)
 command_small n i (commands.New x k) u e =
-    let a = none_of (variable_fault x) (field_fault k) e in
+    let a = neither_some (variable_fault x) (field_fault k) e in
     (variable_small x a.0, field_small k a.1)
 command_small n i (commands.Free t) u e = term_small t u e
 command_small n i (commands.IfEq t v j) u e =
-    let a = none_of (term_fault t) (option_or (term_fault v) (jump_fault n i j)) e in
-    let b = none_of (term_fault v) (jump_fault n i j) a.1 in
+    let a = neither_some (term_fault t) (option_or (term_fault v) (jump_fault n i j)) e in
+    let b = neither_some (term_fault v) (jump_fault n i j) a.1 in
     (term_small t u.0 a.0, term_small v u.1 b.0)
 command_small n i (commands.IfNeq t v j) u e =
-    let a = none_of (term_fault t) (option_or (term_fault v) (jump_fault n i j)) e in
-    let b = none_of (term_fault v) (jump_fault n i j) a.1 in
+    let a = neither_some (term_fault t) (option_or (term_fault v) (jump_fault n i j)) e in
+    let b = neither_some (term_fault v) (jump_fault n i j) a.1 in
     (term_small t u.0 a.0, term_small v u.1 b.0)
 command_small n i (commands.IfAny j) u e = tt
 command_small n i (commands.Goto j) u e = tt
@@ -133,7 +130,7 @@ line_small n i l u e =
 pub lines_small : (n i : ℕ) (ls : List (ℕ × Command)) → Each IsUniversalCommand (commands_of ls) → lines_fault n i ls ≡ None → Each IsSmallLine ls
 lines_small n i [] u e = tt
 lines_small n i (l ∷ ls) u e =
-    let a = none_of (line_fault n i l) (lines_fault n (i + 1) ls) e in
+    let a = neither_some (line_fault n i l) (lines_fault n (i + 1) ls) e in
     (line_small n i l u.0 a.0, lines_small n (i + 1) ls u.1 a.1)
 
 -- ---- lines without a flaw are a program

@@ -1,13 +1,9 @@
 -- Where a token stands.
-use Rattle.std.proofs.Common.{◌≡◌, ℕ, zero, suc, ◌<◌, List, [], ◌∷◌, length, map, get_or, Some, refl, subst, arith}
+use Rattle.std.proofs.Common.{◌≡◌, ℕ, ◌<◌, List, length, map, get_or, Some, refl, subst}
 use Rattle.std.specs.Prelude.{slice_get}
 use Rattle.cyc_lex.specs.declared.token.Token.{Token}
 use Rattle.cyc_lex.specs.Placed.{Placed, placed}
-
-found : (ts : List Token) (k : ℕ) (d : Token) → k < length ts → slice_get (map placed ts) k ≡ Some (placed (get_or ts k d))
-found [] k d h = absurd (omega arith)
-found (t ∷ ts) zero d h = refl
-found (t ∷ ts) (suc k) d h = found ts k d (omega arith)
+use Rattle.cyc_grammar.proofs.Drops.{token_at as found}
 
 pub token_at : (ts : List Token) (ps : List Placed) (k : ℕ) (d : Token) → map placed ts ≡ ps → k < length ts → (t : Placed) × (slice_get ps k ≡ Some t) × (t.line ≡ (get_or ts k d).line) × (t.column ≡ (get_or ts k d).column)
 token_at ts ps k d e h =

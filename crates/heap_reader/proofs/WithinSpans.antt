@@ -57,7 +57,7 @@ flaw_within (Some g) m f h e = let same : g ≡ f = cc in subst (λ (x : Flaw). 
 
 -- ---- heaps
 
-use_before : (o : Option ℕ) (n k m : ℕ) → k < m → Before (use_flaw o n k) m
+pub use_before : (o : Option ℕ) (n k m : ℕ) → k < m → Before (use_flaw o n k) m
 use_before None n k m h = h
 use_before (Some arity) n k m h = ill_before (not (nat_eq n arity)) Arity k m h
 

@@ -1,7 +1,7 @@
 -- Reading a part of a text.
 use Rattle.std.proofs.Common.{◌≡◌, ℕ, zero, suc, ◌+◌, ◌-◌, ◌<◌, ◌≤◌, true, List, [], ◌∷◌, ◌++◌, length, take, drop, Ok, Err, refl, sym, ap, subst, ◌∙◌, arith, length-append, append_assoc}
 use Rattle.std.specs.Prelude.{map}
-use Rattle.std.proofs.lemmas.List.{take_at, append-nil, length-drop, length-map, take_all, drop-drop, drop_at}
+use Rattle.std.proofs.lemmas.List.{take_at, append-nil, length-drop, length-map, take_all, drop-drop, drop_at, nil_from_length}
 use Rattle.cyc_lex.specs.declared.fault.ReadFault.{ReadFault}
 use Rattle.cyc_lex.specs.declared.fault.ReadFault.TheVariants as faults
 use Rattle.cyc_lex.specs.declared.token.Token.{Token}
@@ -51,10 +51,6 @@ first_dead {T = T} s law ws left e some = by_rest f.rest refl
               cc;
         }
 
-no_words : (ws : List Word) → length ws ≡ 0 → ws ≡ []
-no_words [] e = refl
-no_words (w ∷ ws) e = absurd (omega (arith, e))
-
 -- ---- where the words end once, a fault of lexemes stands at one of them
 
 end_inside : (xs tail : List Word) → are_lexemes ((xs ++ end_word ∷ []) ++ tail) ≡ true → ⊥
@@ -75,7 +71,7 @@ some_left {T = T} s law inner W n left ends lt e = (by_left left refl, omega (ar
     by_left : (k : ℕ) → left ≡ k → 0 < k
     by_left (suc k) is = omega arith
     by_left zero is =
-        let none : f.rest ≡ [] = no_words f.rest (f.size ∙ is) in
+        let none : f.rest ≡ [] = nil_from_length f.rest (f.size ∙ is) in
         let tail : (xs : List Word) × (drop n W ≡ xs ++ end_word ∷ []) =
         let lt' : n < length (ends.0 ++ end_word ∷ []) = omega (arith, lt, ap length ends.2) in
         let got = behind_ends ends.0 n lt' in

@@ -3,7 +3,7 @@ use Rattle.std.proofs.Common.{◌≡◌, ℕ, zero, suc, ◌+◌, ◌<◌, List,
 use Rattle.std.proofs.lemmas.List.{take_more}
 use Rattle.heap_formula.specs.Definitions.{Definition}
 use Rattle.heap_formula.specs.Symbolic.{SymbolicHeap}
-use Rattle.heap_formula.specs.Words.{Each, OneOf}
+use Rattle.heap_formula.specs.Words.{Each}
 use Rattle.heap_formula.specs.Values.{Stack}
 use Rattle.heap_formula.specs.Cells.{Cells}
 use Rattle.heap_formula.specs.Meaning.{cases_of}
@@ -12,17 +12,9 @@ use Rattle.model_check.specs.declared.ground.GroundRule.{GroundRule}
 use Rattle.model_check.specs.Questions.{Question}
 use Rattle.model_check.specs.Constructive.{IsConstructive, AreConstructive, Fits}
 use Rattle.model_check.specs.Grounding.{PiecesFit, HasRule, Extends, GroundedCase, IsCaseRule, GroundedCases}
-use Rattle.model_check.proofs.KnownTerms.{each_map, each_append, each_both}
 use Rattle.model_check.proofs.Asking.{extends_all, extends_trans, pieces_kept}
-
-pub one_left : {X : Type 0} (P : X → Type 0) (xs ys : List X) → OneOf P xs → OneOf P (xs ++ ys)
-one_left P [] ys o = absurd o
-one_left P (x ∷ xs) ys (inl p) = inl p
-one_left P (x ∷ xs) ys (inr o) = inr (one_left P xs ys o)
-
-one_last : {X : Type 0} (P : X → Type 0) (xs : List X) (x : X) → P x → OneOf P (xs ++ x ∷ [])
-one_last P [] x p = inl p
-one_last P (y ∷ ys) x p = inr (one_last P ys x p)
+use Rattle.formula_facts.proofs.AllMembers.{each_imply, each_last, each_append}
+use Rattle.formula_facts.proofs.SomeMember.{one_front, one_last}
 
 module _ (h : Cells) (ns : List ℕ) (head : ℕ) (vs : List ℕ) where
   no_cases : (qs : List Question) (rules : List GroundRule) → GroundedCases h ns qs qs rules rules head vs []
@@ -35,20 +27,20 @@ module _ (h : Cells) (ns : List ℕ) (head : ℕ) (vs : List ℕ) where
   -- a case rule of some cases is one of more cases, with more questions
   rule_kept : (qs qs' : List Question) (bs : List SymbolicHeap) (b : SymbolicHeap) → Extends qs qs' → (r : GroundRule) → IsCaseRule h ns qs head vs bs r → IsCaseRule h ns qs' head vs (bs ++ b ∷ []) r
   rule_kept qs qs' bs b x r k =
-      (k.0, one_left (λ b. (e : Stack) × Fits h vs e b × PiecesFit ns qs' vs e b.spatial r.pieces) bs (b ∷ []) (OneOf-map (λ b. (e : Stack) × Fits h vs e b × PiecesFit ns qs vs e b.spatial r.pieces) (λ b. (e : Stack) × Fits h vs e b × PiecesFit ns qs' vs e b.spatial r.pieces) (λ b o. (o.0, o.1, pieces_kept ns qs qs' x vs o.0 b.spatial r.pieces o.2)) bs k.1))
+      (k.0, one_front (λ b. (e : Stack) × Fits h vs e b × PiecesFit ns qs' vs e b.spatial r.pieces) bs (b ∷ []) (OneOf-map (λ b. (e : Stack) × Fits h vs e b × PiecesFit ns qs vs e b.spatial r.pieces) (λ b. (e : Stack) × Fits h vs e b × PiecesFit ns qs' vs e b.spatial r.pieces) (λ b o. (o.0, o.1, pieces_kept ns qs qs' x vs o.0 b.spatial r.pieces o.2)) bs k.1))
 
   -- a rule that is there stays there
   pub has_kept : (qs qs' : List Question) (rules more : List GroundRule) → Extends qs qs' → (b : SymbolicHeap) → ((e : Stack) → Fits h vs e b → HasRule ns qs rules head vs e b.spatial) → (e : Stack) → Fits h vs e b → HasRule ns qs' (rules ++ more) head vs e b.spatial
   has_kept qs qs' rules more x b k e f =
-      one_left (λ r. (r.head ≡ head) × PiecesFit ns qs' vs e b.spatial r.pieces) rules more (OneOf-map (λ r. (r.head ≡ head) × PiecesFit ns qs vs e b.spatial r.pieces) (λ r. (r.head ≡ head) × PiecesFit ns qs' vs e b.spatial r.pieces) (λ r o. (o.0, pieces_kept ns qs qs' x vs e b.spatial r.pieces o.1)) rules (k e f))
+      one_front (λ r. (r.head ≡ head) × PiecesFit ns qs' vs e b.spatial r.pieces) rules more (OneOf-map (λ r. (r.head ≡ head) × PiecesFit ns qs vs e b.spatial r.pieces) (λ r. (r.head ≡ head) × PiecesFit ns qs' vs e b.spatial r.pieces) (λ r o. (o.0, pieces_kept ns qs qs' x vs e b.spatial r.pieces o.1)) rules (k e f))
 
   one_more : (q0 q1 q2 : List Question) (r0 r1 r2 more : List GroundRule) (bs : List SymbolicHeap) (b : SymbolicHeap) → GroundedCases h ns q0 q1 r0 r1 head vs bs → Extends q1 q2 → r2 ≡ r1 ++ more → Each (IsCaseRule h ns q2 head vs (bs ++ b ∷ [])) more → ((e : Stack) → Fits h vs e b → HasRule ns q2 r2 head vs e b.spatial) → GroundedCases h ns q0 q2 r0 r2 head vs (bs ++ b ∷ [])
   one_more q0 q1 q2 r0 r1 r2 more bs b g x w are k = record {
     extends = extends_trans q0 q1 q2 g.extends x;
     added = g.added ++ more;
     more = w ∙ ap (λ rs. rs ++ more) g.more ∙ append_assoc r0 g.added more;
-    are = each_both (IsCaseRule h ns q2 head vs (bs ++ b ∷ [])) g.added more (each_map (IsCaseRule h ns q1 head vs bs) (IsCaseRule h ns q2 head vs (bs ++ b ∷ [])) (rule_kept q1 q2 bs b x) g.added g.are) are;
-    has = each_append (λ b. (e : Stack) → Fits h vs e b → HasRule ns q2 r2 head vs e b.spatial) bs b (each_map (λ b. (e : Stack) → Fits h vs e b → HasRule ns q1 r1 head vs e b.spatial) (λ b. (e : Stack) → Fits h vs e b → HasRule ns q2 r2 head vs e b.spatial) (λ b k. subst (λ rs. (e : Stack) → Fits h vs e b → HasRule ns q2 rs head vs e b.spatial) (sym w) (has_kept q1 q2 r1 more x b k)) bs g.has) k;
+    are = each_append (IsCaseRule h ns q2 head vs (bs ++ b ∷ [])) g.added more (each_imply (IsCaseRule h ns q1 head vs bs) (IsCaseRule h ns q2 head vs (bs ++ b ∷ [])) (rule_kept q1 q2 bs b x) g.added g.are) are;
+    has = each_last (λ b. (e : Stack) → Fits h vs e b → HasRule ns q2 r2 head vs e b.spatial) bs b (each_imply (λ b. (e : Stack) → Fits h vs e b → HasRule ns q1 r1 head vs e b.spatial) (λ b. (e : Stack) → Fits h vs e b → HasRule ns q2 r2 head vs e b.spatial) (λ b k. subst (λ rs. (e : Stack) → Fits h vs e b → HasRule ns q2 rs head vs e b.spatial) (sym w) (has_kept q1 q2 r1 more x b k)) bs g.has) k;
   }
 
   -- one more case

@@ -3,7 +3,7 @@ use Rattle.std.proofs.Common.{◌≡◌, ℕ, List, [], ◌∷◌, ◌++◌, ref
 use Rattle.heap_formula.specs.declared.atoms.Spatial.{Spatial}
 use Rattle.heap_formula.specs.declared.atoms.Spatial.TheVariants.{Cell, Pred}
 use Rattle.heap_formula.specs.Symbolic.{SymbolicHeap}
-use Rattle.heap_formula.specs.Words.{Each, OneOf}
+use Rattle.heap_formula.specs.Words.{Each}
 use Rattle.heap_formula.specs.Values.{Stack, value, values}
 use Rattle.heap_formula.specs.Cells.{Cells}
 use Rattle.model_check.specs.declared.ground.Piece.{Piece}
@@ -16,6 +16,7 @@ use Rattle.model_check.specs.MaskParts.{Covers}
 use Rattle.model_check.specs.Grounding.{IsListed, PiecesFit, HasRule, AskedPieces, GroundedCase}
 use Rattle.model_check.proofs.Asking.{extends_all}
 use Rattle.model_check.proofs.Rounds.{pieces_agree}
+use Rattle.formula_facts.proofs.SomeMember.{one_last}
 
 listed_all : (h : Cells) (ns : List ℕ) (s e : Stack) (xs : List Spatial) → Covers ns h → Each (CellFits h s e) xs → Each (IsListed ns s e) xs
 listed_all h ns s e [] c f = tt
@@ -32,10 +33,6 @@ listed_only h ns s e b xs c k w = subst (λ (ys : List Spatial). Each (IsListed 
 pub no_case : (h : Cells) (ns : List ℕ) (qs : List Question) (rules : List GroundRule) (head : ℕ) (vs : List ℕ) (b : SymbolicHeap) → ((e : Stack) → Fits h vs e b → ⊥) → GroundedCase h ns qs qs rules rules head vs b
 no_case h ns qs rules head vs b n = record { extends = extends_all qs; more = inl refl; has = λ e f. absurd (n e f) }
 
-last_one : {X : Type 0} (P : X → Type 0) (xs : List X) (x : X) → P x → OneOf P (xs ++ x ∷ [])
-last_one P [] x p = inl p
-last_one P (y ∷ ys) x p = inr (last_one P ys x p)
-
 pub one_case : (h : Cells) (ns : List ℕ) (qs qs' : List Question) (rules rules' : List GroundRule) (head : ℕ) (vs : List ℕ) (b : SymbolicHeap) (ls view : List Local) (xs : List Spatial) (ys : List Piece) → IsOnly h vs (stack_of ls) b → view ≡ ls → xs ≡ b.spatial → AskedPieces ns qs qs' vs (stack_of view) xs ys → rules' ≡ rules ++ (record { head = head; pieces = ys }) ∷ [] → GroundedCase h ns qs qs' rules rules' head vs b
 one_case h ns qs qs' rules rules' head vs b ls view xs ys k v w a z =
     let r : GroundRule = record { head = head; pieces = ys } in
@@ -44,5 +41,5 @@ one_case h ns qs qs' rules rules' head vs b ls view xs ys k v w a z =
     record {
       extends = a.extends;
       more = inr (r, z, refl, (stack_of ls, k.fits, p));
-      has = λ e f. subst (HasRule ns qs' rules' head vs e) refl (subst (λ rs. HasRule ns qs' rs head vs e b.spatial) (sym z) (last_one (λ x. (x.head ≡ head) × PiecesFit ns qs' vs e b.spatial x.pieces) rules r (refl, pieces_agree ns qs' vs (stack_of ls) e b.spatial ys (k.only e f).1 p)));
+      has = λ e f. subst (HasRule ns qs' rules' head vs e) refl (subst (λ rs. HasRule ns qs' rs head vs e b.spatial) (sym z) (one_last (λ x. (x.head ≡ head) × PiecesFit ns qs' vs e b.spatial x.pieces) rules r (refl, pieces_agree ns qs' vs (stack_of ls) e b.spatial ys (k.only e f).1 p)));
     }

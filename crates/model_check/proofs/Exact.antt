@@ -17,14 +17,14 @@ use Rattle.model_check.specs.Ground.{Table, Unions, derived, IsSolved}
 use Rattle.model_check.specs.WideMasks.{HoldsMask}
 use Rattle.model_check.specs.Tables.{Row, HasMask, HeadsFit}
 use Rattle.model_check.specs.Grounding.{PiecesFit, Extends, AskedPieces, IsRule, Grounds}
-use Rattle.model_check.proofs.KnownTerms.{each_map}
 use Rattle.model_check.proofs.Asking.{pieces_kept}
 use Rattle.model_check.proofs.QuestionLists.{question_within}
 use Rattle.model_check.proofs.Rounds.{union_map, derived_in, unions_satisfy, satisfied_unions}
+use Rattle.formula_facts.proofs.AllMembers.{each_imply}
 
 pub heads_fit : (ds : List Definition) (h : Cells) (ns : List ℕ) (qs : List Question) (rules : List GroundRule) (n : ℕ) → length qs ≡ n → Grounds ds h ns qs rules → HeadsFit n rules
 heads_fit ds h ns qs rules n e g =
-    subst (λ m. HeadsFit m rules) e (each_map (IsRule ds h ns qs) (λ r. r.head < length qs) (λ r k. question_within qs r.head k.predicate k.values k.question) rules g.sound)
+    subst (λ m. HeadsFit m rules) e (each_imply (IsRule ds h ns qs) (λ r. r.head < length qs) (λ r k. question_within qs r.head k.predicate k.values k.question) rules g.sound)
 
 -- a solved table tells whether the stack and the heap satisfy the formula
 pub exact : (ds : List Definition) (h : Cells) (ns : List ℕ) (qs : List Question) (rules : List GroundRule) (T : Table) (s e : Stack) (a : SymbolicHeap) (ys : List Piece) → Grounds ds h ns qs rules → IsSolved rules T → IsOnly h s e a → PiecesFit ns qs s e a.spatial ys → Unions T ys (mask_of ns h) ↔ Satisfies ds s h a

@@ -18,9 +18,10 @@ use Rattle.model_check.specs.declared.locals.Local.{Local}
 use Rattle.model_check.specs.Constructive.{Known, IsConstructive, CellFits, Fits, IsOnly}
 use Rattle.model_check.specs.Steps.{pures_steps, field_steps, spatials_steps, steps_of}
 use Rattle.model_check.specs.ForcedLocals.{local_value, term_value, or_zero, first_of, stack_of, field_of, StepHolds, StepsHold, AreForced, IsValued, AllPassed, IsEvaluated}
-use Rattle.model_check.proofs.KnownTerms.{known_in, each_both, in_heap_map}
+use Rattle.model_check.proofs.KnownTerms.{known_in, in_heap_map}
 use Rattle.model_check.proofs.OnlyLocals.{only_fit}
 use Rattle.model_check.proofs.Forcing.{term_is}
+use Rattle.formula_facts.proofs.AllMembers.{each_append}
 
 first_at : (f : ℕ → ℕ) (k n : ℕ) → n < k → slice_index (first_of f k) n ≡ f n
 first_at f zero n l = absurd (omega arith)
@@ -78,11 +79,11 @@ pures_hold h s e (Neq t u ∷ xs) p = pures_hold h s e xs p.1
 
 spatials_hold : (h : Cells) (s e : Stack) (xs : List Spatial) → Each (CellFits h s e) xs → Each (StepHolds h s e) (spatials_steps xs)
 spatials_hold h s e [] p = tt
-spatials_hold h s e (Cell t ts ∷ xs) p = each_both (StepHolds h s e) (field_steps t 0 ts) (spatials_steps xs) (field_holds h s e t ts ts [] p.0 refl 0 refl) (spatials_hold h s e xs p.1)
+spatials_hold h s e (Cell t ts ∷ xs) p = each_append (StepHolds h s e) (field_steps t 0 ts) (spatials_steps xs) (field_holds h s e t ts ts [] p.0 refl 0 refl) (spatials_hold h s e xs p.1)
 spatials_hold h s e (Pred q ts ∷ xs) p = spatials_hold h s e xs p.1
 
 pub fits_steps : (h : Cells) (s e : Stack) (a : SymbolicHeap) → Fits h s e a → StepsHold h s e (steps_of a)
-fits_steps h s e a f = each_both (StepHolds h s e) (pures_steps a.pure) (spatials_steps a.spatial) (pures_hold h s e a.pure f.pure) (spatials_hold h s e a.spatial f.cells)
+fits_steps h s e a f = each_append (StepHolds h s e) (pures_steps a.pure) (spatials_steps a.spatial) (pures_hold h s e a.pure f.pure) (spatials_hold h s e a.spatial f.cells)
 
 -- ---- values that agree with values that fit, fit
 

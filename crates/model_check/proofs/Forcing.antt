@@ -14,7 +14,8 @@ use Rattle.model_check.specs.declared.locals.Forced.TheVariants.{Unknown, Value,
 use Rattle.model_check.specs.Steps.{target}
 use Rattle.model_check.specs.ForcedLocals.{local_value, term_value, field_of, from_value, from_field, from_address, target_of, StepHolds, StepsHold, HasLocal, AreForced, IsValued, IsPassed, AllPassed, Sets, Follows}
 use Rattle.model_check.proofs.OnlyLocals.{member_each}
-use Rattle.model_check.proofs.KnownTerms.{member_at, each_append}
+use Rattle.model_check.proofs.KnownTerms.{member_at}
+use Rattle.formula_facts.proofs.AllMembers.{each_last}
 
 module _ (h : Cells) (s e : Stack) where
   local_is : (ls : List Local) (n v : ℕ) → Each (HasLocal e) ls → local_value ls n ≡ Some v → slice_index e n ≡ v
@@ -78,7 +79,7 @@ module _ (h : Cells) (s : Stack) where
   sets_forced e old new t v f (inl k) a = subst (Each (HasLocal e)) (sym k.0) a
   sets_forced e old new t v f (inr k) a =
       let w : slice_index e k.0 ≡ v = sym (ap (value s e) k.1) ∙ f in
-      subst (Each (HasLocal e)) (sym k.2) (each_append (HasLocal e) old (record { number = k.0; value = v }) a w)
+      subst (Each (HasLocal e)) (sym k.2) (each_last (HasLocal e) old (record { number = k.0; value = v }) a w)
 
   sets_more : (old new : List Local) (st : Step) (v : ℕ) → Sets s old new (target st) v → ((new ≡ old) × IsPassed s new st) ⊎ (length new ≡ length old + 1)
   sets_more old new st v (inl k) = inl (k.0, λ w. subst (λ ls. IsValued s ls (target st)) (sym k.0) k.1)

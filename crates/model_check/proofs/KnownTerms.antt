@@ -15,20 +15,17 @@ use Rattle.model_check.specs.declared.known.Step.TheVariants.{Same, Field}
 use Rattle.model_check.specs.Constructive.{Member, Known, nil, universal, right_side, left_side, field, IsConstructive}
 use Rattle.model_check.specs.Steps.{source, target, IsKnownIn, Learned, start, taken, AreLearned, IsTaken, AllTaken, Learns, pure_steps, pures_steps, field_steps, spatial_steps, spatials_steps, steps_of}
 use Rattle.model_check.proofs.OnlyLocals.{member_each, universal_known}
+use Rattle.formula_facts.proofs.AllMembers.{each_imply, each_last, each_append}
 
 pub learned_in : (steps : List Step) (ks : List Term) (t : Term) → AreLearned steps ks → IsKnownIn ks t → Learned steps t
 learned_in steps ks Nil a k = start Nil tt
 learned_in steps ks (Univ n) a k = start (Univ n) tt
 learned_in steps ks (Exist n) a k = member_each (Learned steps) (Exist n) ks k a
 
-pub each_append : {X : Type 0} (P : X → Type 0) (xs : List X) (y : X) → Each P xs → P y → Each P (xs ++ y ∷ [])
-each_append P [] y a p = (p, tt)
-each_append P (x ∷ xs) y a p = (a.0, each_append P xs y a.1 p)
-
 pub still_learned : (steps : List Step) (old new : List Term) (step : Step) → Member step steps → AreLearned steps old → Learns old new (source step) (target step) → AreLearned steps new
 still_learned steps old new step m a (inl k) = subst (AreLearned steps) (sym k.0) a
 still_learned steps old new step m a (inr k) =
-    subst (AreLearned steps) (sym k.0) (each_append (Learned steps) old (target step) a (taken step m (learned_in steps old (source step) a k.1)))
+    subst (AreLearned steps) (sym k.0) (each_last (Learned steps) old (target step) a (taken step m (learned_in steps old (source step) a k.1)))
 
 pub member_at : {X : Type 0} (xs : List X) (i : ℕ) (d : X) → i < length xs → Member (get_or xs i d) xs
 member_at [] i d h = absurd (omega arith)
@@ -102,25 +99,17 @@ module _ (a : SymbolicHeap) where
       let f = field_member t v 0 ts n in
       member_each (λ st. K (source st) → K (target st)) (Field t f.0 v) (steps_of a) (in_right (pures_steps a.pure) (spatials_steps a.spatial) (Field t f.0 v) (spatials_member (Cell t ts) a.spatial (Field t f.0 v) m f.1)) c (known_in K u c t k)
 
-pub each_both : {X : Type 0} (P : X → Type 0) (xs ys : List X) → Each P xs → Each P ys → Each P (xs ++ ys)
-each_both P [] ys a b = b
-each_both P (x ∷ xs) ys a b = (a.0, each_both P xs ys a.1 b)
-
-pub each_map : {X : Type 0} (P Q : X → Type 0) → ((x : X) → P x → Q x) → (xs : List X) → Each P xs → Each Q xs
-each_map P Q f [] k = tt
-each_map P Q f (x ∷ xs) k = (f x k.0, each_map P Q f xs k.1)
-
 module _ (P Q : Term → Type 0) (f : (t : Term) → P t → Q t) where
-  in_pure_map : (x : Pure) → InPure P x → InPure Q x
+  pub in_pure_map : (x : Pure) → InPure P x → InPure Q x
   in_pure_map (Eq t u) k = (f t k.0, f u k.1)
   in_pure_map (Neq t u) k = (f t k.0, f u k.1)
 
-  in_spatial_map : (x : Spatial) → InSpatial P x → InSpatial Q x
-  in_spatial_map (Cell t ts) k = (f t k.0, each_map P Q f ts k.1)
-  in_spatial_map (Pred p ts) k = each_map P Q f ts k
+  pub in_spatial_map : (x : Spatial) → InSpatial P x → InSpatial Q x
+  in_spatial_map (Cell t ts) k = (f t k.0, each_imply P Q f ts k.1)
+  in_spatial_map (Pred p ts) k = each_imply P Q f ts k
 
   pub in_heap_map : (a : SymbolicHeap) → InHeap P a → InHeap Q a
-  in_heap_map a k = (each_map (InPure P) (InPure Q) in_pure_map a.pure k.0, each_map (InSpatial P) (InSpatial Q) in_spatial_map a.spatial k.1)
+  in_heap_map a k = (each_imply (InPure P) (InPure Q) in_pure_map a.pure k.0, each_imply (InSpatial P) (InSpatial Q) in_spatial_map a.spatial k.1)
 
 module _ (a : SymbolicHeap) where
   abbrev IsGood : Step → Type 0
@@ -132,7 +121,7 @@ module _ (a : SymbolicHeap) where
 
   good_pures : (xs : List Pure) → ((x : Pure) → Member x xs → Member x a.pure) → Each IsGood (pures_steps xs)
   good_pures [] w = tt
-  good_pures (x ∷ xs) w = each_both IsGood (pure_steps x) (pures_steps xs) (good_pure x (w x (inl refl))) (good_pures xs (λ y m. w y (inr m)))
+  good_pures (x ∷ xs) w = each_append IsGood (pure_steps x) (pures_steps xs) (good_pure x (w x (inl refl))) (good_pures xs (λ y m. w y (inr m)))
 
   good_fields : (t : Term) (ts : List Term) → Member (Cell t ts) a.spatial → (k : ℕ) (us : List Term) → ((u : Term) → Member u us → Member u ts) → Each IsGood (field_steps t k us)
   good_fields t ts m k [] w = tt
@@ -144,10 +133,10 @@ module _ (a : SymbolicHeap) where
 
   good_spatials : (xs : List Spatial) → ((x : Spatial) → Member x xs → Member x a.spatial) → Each IsGood (spatials_steps xs)
   good_spatials [] w = tt
-  good_spatials (x ∷ xs) w = each_both IsGood (spatial_steps x) (spatials_steps xs) (good_spatial x (w x (inl refl))) (good_spatials xs (λ y m. w y (inr m)))
+  good_spatials (x ∷ xs) w = each_append IsGood (spatial_steps x) (spatials_steps xs) (good_spatial x (w x (inl refl))) (good_spatials xs (λ y m. w y (inr m)))
 
   good_steps : Each IsGood (steps_of a)
-  good_steps = each_both IsGood (pures_steps a.pure) (spatials_steps a.spatial) (good_pures a.pure (λ x m. m)) (good_spatials a.spatial (λ x m. m))
+  good_steps = each_append IsGood (pures_steps a.pure) (spatials_steps a.spatial) (good_pures a.pure (λ x m. m)) (good_spatials a.spatial (λ x m. m))
 
   pub learned_known : (t : Term) → Learned (steps_of a) t → Known a t
   learned_known _ (start t u) = universal_known a t u

@@ -1,12 +1,12 @@
 -- Steps of loops over masks.
 use Rattle.std.specs.Prelude.{◌==◌}
 use Rattle.std.proofs.lemmas.Bool.{eqb-true, or_cases, both_ways}
-use Rattle.std.proofs.lemmas.List.{at_drop_more}
+use Rattle.std.proofs.lemmas.List.{at_drop_more, drop_all}
 use Rattle.std.specs.List.{list_any}
 use Rattle.std.specs.Cmp.Lexicographic.{pointwise}
 use Rattle.model_check.specs.Questions.{lists_decide}
-use Rattle.std.proofs.Common.{take, ◌-◌, ◌≡◌, ℕ, zero, suc, ◌+◌, ◌^◌, ◌<◌, ◌≤◌, List, [], ◌∷◌, ◌++◌, append_assoc, length, drop, get_or, add-one, drop-cons, Bool, true, false, Option, Some, None, refl, sym, ap, ◌∙◌, subst, inl, inr, ◌⊎◌, arith}
-use Rattle.std.specs.Prelude.{◌↔◌, nat_eq, not, if◌then◌else◌, IsTrue, slice_get, Result, Ok, Err, IfOk}
+use Rattle.std.proofs.Common.{take, ◌-◌, ◌≡◌, ℕ, zero, suc, ◌+◌, ◌^◌, ◌<◌, ◌≤◌, List, [], ◌∷◌, ◌++◌, append_assoc, length, drop, get_or, Bool, true, false, Option, Some, None, refl, sym, ap, ◌∙◌, subst, inl, inr, ◌⊎◌, arith}
+use Rattle.std.specs.Prelude.{◌↔◌, nat_eq, not, if◌then◌else◌, IsTrue, slice_get, Result, IfOk}
 use Rattle.std.specs.Int.Bits.{bit_and, bit_or}
 use Rattle.heap_formula.specs.Words.{OneOf}
 use Rattle.model_check.specs.declared.ground.Piece.{Piece}
@@ -14,9 +14,8 @@ use Rattle.model_check.specs.declared.ground.Piece.TheVariants.{Here, Of}
 use Rattle.model_check.specs.WideMasks.{number, HoldsMask}
 use Rattle.model_check.specs.Ground.{Apart, Splits, Unions, PieceIs}
 use Rattle.model_check.specs.Tables.{Row, Added, JoinsOne, JoinsSome, HasIn, HasMask, JoinsIn, JoinsPiece}
-
-split_drop : {X : Type 0} (xs : List X) (i : ℕ) (x : X) → i < length xs → x ≡ get_or xs i x → drop i xs ≡ x ∷ drop (i + 1) xs
-split_drop xs i x h e = rw (add-one, drop-cons xs i x) (ap (λ y. y ∷ drop (suc i) xs) (sym e))
+use Rattle.list_facts.proofs.Places.{drop_read}
+use Rattle.std.proofs.lemmas.Result.{IfOk-weaker}
 
 -- what each member adds to a list
 pub appended : {X Y : Type 0} (F : List X → List Y) (one : X → List Y) (xs : List X) (i : ℕ) (d : X) (old new whole : List Y) → ((x : X) (ys : List X) → F (x ∷ ys) ≡ one x ++ F ys) → i < length xs → new ≡ old ++ one (get_or xs i d) → old ++ F (drop i xs) ≡ whole → new ++ F (drop (i + 1) xs) ≡ whole
@@ -26,24 +25,15 @@ appended F one xs i d old new whole step l e was =
 
 pub loop_step : {X M N G : Type 0} (P : X → Type 0) (xs : List X) (i : ℕ) (x : X) → i < length xs → x ≡ get_or xs i x → (N ↔ (M ⊎ P x)) → ((M ⊎ OneOf P (drop i xs)) ↔ G) → ((N ⊎ OneOf P (drop (i + 1) xs)) ↔ G)
 loop_step {M = M} {N = N} {G = G} P xs i x h is f g =
-    let s = split_drop xs i x h is in
+    let s = drop_read xs i x h is in
     let before : (M ⊎ (P x ⊎ OneOf P (drop (i + 1) xs))) ↔ G = subst (λ ys. (M ⊎ OneOf P ys) ↔ G) s g in (
       λ o. elim o [ inl n ↦ before.0 (elim (f.0 n) as (λ z. M ⊎ (P x ⊎ OneOf P (drop (i + 1) xs))) [ inl m ↦ inl m | inr p ↦ inr (inl p) ]) | inr r ↦ before.0 (inr (inr r)) ],
       λ y. elim (before.1 y) as (λ z. N ⊎ OneOf P (drop (i + 1) xs)) [ inl m ↦ inl (f.1 (inl m)) | inr o ↦ elim o as (λ z. N ⊎ OneOf P (drop (i + 1) xs)) [ inl p ↦ inl (f.1 (inr p)) | inr r ↦ inr r ] ],
     )
 
-drop_none : {X : Type 0} (i : ℕ) → ◌≡◌ {A = List X} (drop i []) []
-drop_none zero = refl
-drop_none (suc i) = refl
-
-drop_all : {X : Type 0} (xs : List X) (i : ℕ) → length xs ≤ i → drop i xs ≡ []
-drop_all [] i h = drop_none i
-drop_all (x ∷ xs) zero h = absurd (omega arith)
-drop_all (x ∷ xs) (suc i) h = drop_all xs i (omega arith)
-
 pub loop_end : {X M G : Type 0} (P : X → Type 0) (xs : List X) (i : ℕ) → length xs ≤ i → ((M ⊎ OneOf P (drop i xs)) ↔ G) → (M ↔ G)
 loop_end {M = M} {G = G} P xs i h g =
-    let e : (M ⊎ ⊥) ↔ G = subst (λ ys. (M ⊎ OneOf P ys) ↔ G) (drop_all xs i h) g in
+    let e : (M ⊎ ⊥) ↔ G = subst (λ ys. (M ⊎ OneOf P ys) ↔ G) (drop_all i xs h) g in
     (λ m. e.0 (inl m), λ x. elim (e.1 x) as (λ z. M) [ inl m ↦ m | inr b ↦ absurd b ])
 
 row_end : (m : ℕ) (ws : List ℕ) (row : Row) → HoldsMask m (row ++ ws ∷ []) ↔ (HoldsMask m row ⊎ (m ≡ number ws))
@@ -142,16 +132,12 @@ pub unions_cons : (table : List Row) (xs : List Piece) (d : Piece) → 0 < lengt
 unions_cons table [] d h others b m = absurd (omega arith)
 unions_cons table (x ∷ xs) d h others b m = joins_piece table x (Unions (HasMask table) xs) others m b
 
-pub if_ok_map : {X E : Type 0} (P Q : X → Type 0) → ((x : X) → P x → Q x) → (r : Result X E) → IfOk r P → IfOk r Q
-if_ok_map P Q f (Ok x) p = f x p
-if_ok_map P Q f (Err e) p = tt
-
 iff_trans : {A B C : Type 0} → (A ↔ B) → (B ↔ C) → (A ↔ C)
 iff_trans f g = (λ a. g.0 (f.0 a), λ c. f.1 (g.1 c))
 
 pub unions_returns : {E : Type 0} (table : List Row) (xs : List Piece) (d : Piece) → 0 < length xs → (others : Row) → ((r : ℕ) → HoldsMask r others ↔ Unions (HasMask table) (drop 1 xs) r) → (result : Result Row E) → IfOk result (λ out. (m : ℕ) → HoldsMask m out ↔ JoinsPiece table (get_or xs 0 d) others m) → IfOk result (λ out. (m : ℕ) → HoldsMask m out ↔ Unions (HasMask table) xs m)
 unions_returns table xs d h others b result p =
-    if_ok_map (λ out. (m : ℕ) → HoldsMask m out ↔ JoinsPiece table (get_or xs 0 d) others m) (λ out. (m : ℕ) → HoldsMask m out ↔ Unions (HasMask table) xs m) (λ out q m. iff_trans (q m) (unions_cons table xs d h others b m)) result p
+    IfOk-weaker result (λ out. (m : ℕ) → HoldsMask m out ↔ JoinsPiece table (get_or xs 0 d) others m) (λ out. (m : ℕ) → HoldsMask m out ↔ Unions (HasMask table) xs m) (λ out q m. iff_trans (q m) (unions_cons table xs d h others b m)) p
 
 take_empty : (n : ℕ) → ◌≡◌ {A = List Piece} (take n []) []
 take_empty zero = refl

@@ -1,5 +1,5 @@
 -- Parts of a heap and masks.
-use Rattle.std.proofs.Common.{◌≡◌, ◌≢◌, ℕ, zero, suc, ◌+◌, ◌-◌, ◌*◌, ◌^◌, ◌<◌, ◌≤◌, min, max, List, [], ◌∷◌, length, Bool, true, false, cond, Option, Some, None, refl, sym, ap, ◌∙◌, subst, inl, inr, ◌⊎◌, arith}
+use Rattle.std.proofs.Common.{◌≡◌, ◌≢◌, ℕ, zero, suc, ◌+◌, ◌-◌, ◌*◌, ◌^◌, ◌<◌, ◌≤◌, List, [], ◌∷◌, length, Bool, true, false, cond, Option, Some, None, refl, sym, ap, ◌∙◌, subst, inl, inr, arith}
 use Rattle.std.specs.Prelude.{nat_eq, ◌&&◌, ◌||◌, slice_index}
 use Rattle.std.proofs.lemmas.Bool.{eqb-true, eqb-false, eq-eqb, cases_Bool, cases_lt, ne_eqb}
 use Rattle.std.proofs.Math.Nat.{pow-suc}
@@ -12,12 +12,14 @@ use Rattle.std.specs.Cmp.{nat_cmp_total}
 use Rattle.std.specs.FinMap.{empty, get-retain_keys, get-insert, get-empty, nat_cmp-IsAntisymmetric}
 use Rattle.heap_formula.specs.Cells.{Cells, cell_at, no_cells, one_cell, Joins, IsUnion}
 use Rattle.heap_formula.proofs.Unions.{same_cells}
-use Rattle.heap_formula.proofs.StepLaws.{is_eq-Equal}
 use Rattle.std.proofs.Math.Bool.{and-false}
 use Rattle.std.specs.Cmp.{eq_by_cmp_equiv}
 use Rattle.model_check.specs.Constructive.{Member, Inside}
 use Rattle.model_check.specs.MaskParts.{place, has_bit, part_of, from_bits, stands, mask_of, Covers}
 use Rattle.model_check.specs.Ground.{Apart}
+use Rattle.list_facts.proofs.Bits.{bit_and_min, bit_or_max}
+use Rattle.list_facts.proofs.Options.{option_cases}
+use Rattle.heap_formula.proofs.Insertions.{same_address}
 
 -- ---- bits as tests
 
@@ -29,30 +31,14 @@ bit_same (suc zero) (suc zero) h k e = refl
 bit_same (suc (suc x)) y h k e = absurd (omega arith)
 bit_same x (suc (suc y)) h k e = absurd (omega arith)
 
-bit_min : (x y : ℕ) → x < 2 → y < 2 → nat_eq (min x y) 1 ≡ (nat_eq x 1 && nat_eq y 1)
-bit_min zero zero h k = refl
-bit_min zero (suc zero) h k = refl
-bit_min (suc zero) zero h k = refl
-bit_min (suc zero) (suc zero) h k = refl
-bit_min (suc (suc x)) y h k = absurd (omega arith)
-bit_min x (suc (suc y)) h k = absurd (omega arith)
-
-bit_max : (x y : ℕ) → x < 2 → y < 2 → nat_eq (max x y) 1 ≡ (nat_eq x 1 || nat_eq y 1)
-bit_max zero zero h k = refl
-bit_max zero (suc zero) h k = refl
-bit_max (suc zero) zero h k = refl
-bit_max (suc zero) (suc zero) h k = refl
-bit_max (suc (suc x)) y h k = absurd (omega arith)
-bit_max x (suc (suc y)) h k = absurd (omega arith)
-
 pub same_masks : (a b : ℕ) → ((i : ℕ) → has_bit a i ≡ has_bit b i) → a ≡ b
 same_masks a b h = same_from_bits a b (λ i. bit_same (bit_at a i) (bit_at b i) (bit_at-lt a i) (bit_at-lt b i) (h i))
 
 pub has_and : (a b i : ℕ) → has_bit (bit_and a b) i ≡ (has_bit a i && has_bit b i)
-has_and a b i = ap (λ x. nat_eq x 1) (bit_at_and a b i) ∙ bit_min (bit_at a i) (bit_at b i) (bit_at-lt a i) (bit_at-lt b i)
+has_and a b i = ap (λ x. nat_eq x 1) (bit_at_and a b i) ∙ bit_and_min (bit_at a i) (bit_at b i) (bit_at-lt a i) (bit_at-lt b i)
 
 pub has_or : (a b i : ℕ) → has_bit (bit_or a b) i ≡ (has_bit a i || has_bit b i)
-has_or a b i = ap (λ x. nat_eq x 1) (bit_at_or a b i) ∙ bit_max (bit_at a i) (bit_at b i) (bit_at-lt a i) (bit_at-lt b i)
+has_or a b i = ap (λ x. nat_eq x 1) (bit_at_or a b i) ∙ bit_or_max (bit_at a i) (bit_at b i) (bit_at-lt a i) (bit_at-lt b i)
 
 pub has_zero : (i : ℕ) → has_bit 0 i ≡ false
 has_zero i = ap (λ x. nat_eq x 1) (bit_at-zero i)
@@ -171,10 +157,6 @@ both_none : {X : Type 0} (b : Bool) → ◌≡◌ {A = Option X} (cond b None No
 both_none true = refl
 both_none false = refl
 
-option_cases : {X : Type 0} (x : Option X) → (x ≡ None) ⊎ ((v : X) × (x ≡ Some v))
-option_cases None = inl refl
-option_cases (Some v) = inr (v, refl)
-
 pub part_mask : (ns : List ℕ) (g h : Cells) → Covers ns h → Inside g h → part_of ns h (mask_of ns g) ≡ g
 part_mask ns g h c w = same_cells _ _ (λ a. at_part_of ns h (mask_of ns g) a ∙ at_mask a)
   where
@@ -189,14 +171,11 @@ part_mask ns g h c w = same_cells _ _ (λ a. at_part_of ns h (mask_of ns g) a �
           rw b (elim (option_cases (cell_at g a)) [ inl e ↦ rw e refl | inr (x, e) ↦ rw e (let s = w.same a x e in s) ])
     ]
 
-one_at : (a : ℕ) (vs : List ℕ) (q : ℕ) → cell_at (one_cell a vs) q ≡ cond (eq_by_cmp nat_cmp q a) (Some vs) None
-one_at a vs q = get-insert nat_cmp_total empty a vs q ∙ ap (cond (eq_by_cmp nat_cmp q a) (Some vs)) (get-empty nat_cmp q)
-
-same_address : (q a : ℕ) → eq_by_cmp nat_cmp q a ≡ true → q ≡ a
-same_address q a t = nat_cmp-IsAntisymmetric q a (is_eq-Equal (nat_cmp q a) t)
+pub one_cell_at : (a : ℕ) (vs : List ℕ) (q : ℕ) → cell_at (one_cell a vs) q ≡ cond (eq_by_cmp nat_cmp q a) (Some vs) None
+one_cell_at a vs q = get-insert nat_cmp_total empty a vs q ∙ ap (cond (eq_by_cmp nat_cmp q a) (Some vs)) (get-empty nat_cmp q)
 
 pub one_inside : (h : Cells) (a : ℕ) (vs : List ℕ) → cell_at h a ≡ Some vs → Inside (one_cell a vs) h
-one_inside h a vs e = record { same = λ q us t. found (eq_by_cmp nat_cmp q a) q us refl (sym (one_at a vs q) ∙ t) }
+one_inside h a vs e = record { same = λ q us t. found (eq_by_cmp nat_cmp q a) q us refl (sym (one_cell_at a vs q) ∙ t) }
   where
     found : (b : Bool) (q : ℕ) (us : List ℕ) → eq_by_cmp nat_cmp q a ≡ b → cond b (Some vs) None ≡ Some us → cell_at h q ≡ Some us
     found true q us t f = ap (cell_at h) (same_address q a t) ∙ e ∙ f
@@ -215,7 +194,7 @@ mask_one ns a vs m = same_masks _ _ (λ i. bits i ∙ sym (has_pow (place ns a) 
     standing : (i : ℕ) → stands ns (one_cell a vs) i ≡ nat_eq i (place ns a)
     standing i =
         let q = slice_index ns i in
-        let at_q = one_at a vs q in
+        let at_q = one_cell_at a vs q in
         elim (cases_Bool (eq_by_cmp nat_cmp q a)) [
           | inl yes' ↦
               let s : is_some (cell_at (one_cell a vs) q) ≡ true = ap is_some (at_q ∙ ap (λ b. cond b (Some vs) None) yes') in

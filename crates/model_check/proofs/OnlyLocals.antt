@@ -1,5 +1,5 @@
 -- In a given heap the known terms of a formula have at most one value.
-use Rattle.std.proofs.Common.{◌≡◌, ℕ, suc, List, [], ◌∷◌, cond, Option, Some, None, refl, sym, ap, ◌∙◌, subst, inl, inr, map}
+use Rattle.std.proofs.Common.{◌≡◌, ℕ, suc, List, [], ◌∷◌, Option, Some, None, refl, sym, ◌∙◌, subst, inl, inr, map}
 use Rattle.heap_formula.specs.declared.terms.Term.{Term}
 use Rattle.heap_formula.specs.declared.terms.Term.TheVariants.{Nil, Univ, Exist}
 use Rattle.heap_formula.specs.declared.atoms.Pure.{Pure}
@@ -7,15 +7,15 @@ use Rattle.heap_formula.specs.declared.atoms.Pure.TheVariants.{Eq, Neq}
 use Rattle.heap_formula.specs.declared.atoms.Spatial.{Spatial}
 use Rattle.heap_formula.specs.declared.atoms.Spatial.TheVariants.{Cell, Pred}
 use Rattle.heap_formula.specs.Symbolic.{SymbolicHeap}
-use Rattle.std.specs.Cmp.{nat_cmp_total, eq_by_cmp_equiv}
-use Rattle.std.specs.FinMap.{empty, get-insert}
 use Rattle.heap_formula.specs.Words.{Each}
 use Rattle.heap_formula.specs.Values.{Stack, value, values}
-use Rattle.heap_formula.specs.Cells.{Cells, cell_at, one_cell, Joins, IsUnion}
+use Rattle.heap_formula.specs.Cells.{Cells, cell_at, Joins, IsUnion}
 use Rattle.heap_formula.specs.Meaning.{Family, PureHolds, SpatialHolds, Holds}
 use Rattle.heap_formula.specs.Closedness.{InPure, InSpatial, IsUniversal, IsUniversalHeap}
 use Rattle.heap_formula.proofs.Unions.{union_comm}
 use Rattle.model_check.specs.Constructive.{Member, Known, nil, universal, right_side, left_side, field, IsConstructive, CellFits, Fits, IsOnly, Inside}
+use Rattle.formula_facts.proofs.AllMembers.{each_imply}
+use Rattle.heap_formula.proofs.Insertions.{one_cell_has}
 
 pub member_each : {X : Type 0} (P : X → Type 0) (x : X) (xs : List X) → Member x xs → Each P xs → P x
 member_each P x [] m a = absurd m
@@ -58,17 +58,13 @@ module _ (h : Cells) (s e e' : Stack) (a : SymbolicHeap) (p : Fits h s e a) (q :
   agree_spatial (Cell t ts) k = (sym (agree t k.0), agree_terms ts k.1)
   agree_spatial (Pred p ts) k = agree_terms ts k
 
-each_each : {X : Type 0} (P Q : X → Type 0) → ((x : X) → P x → Q x) → (xs : List X) → Each P xs → Each Q xs
-each_each P Q f [] k = tt
-each_each P Q f (x ∷ xs) k = (f x k.0, each_each P Q f xs k.1)
-
 -- values that fit a constructive formula are the only ones
 pub only_fit : (h : Cells) (s e : Stack) (a : SymbolicHeap) → IsConstructive a → Fits h s e a → IsOnly h s e a
 only_fit h s e a k p = record {
   fits = p;
   only = λ o q. (
-    each_each (InPure (Known a)) (InPure (λ t. value s o t ≡ value s e t)) (agree_pure h s e o a p q) a.pure k.0,
-    each_each (InSpatial (Known a)) (InSpatial (λ t. value s o t ≡ value s e t)) (agree_spatial h s e o a p q) a.spatial k.1,
+    each_imply (InPure (Known a)) (InPure (λ t. value s o t ≡ value s e t)) (agree_pure h s e o a p q) a.pure k.0,
+    each_imply (InSpatial (Known a)) (InSpatial (λ t. value s o t ≡ value s e t)) (agree_spatial h s e o a p q) a.spatial k.1,
   );
 }
 
@@ -83,11 +79,11 @@ universal_pure a (Eq t u) k = (universal_known a t k.0, universal_known a u k.1)
 universal_pure a (Neq t u) k = (universal_known a t k.0, universal_known a u k.1)
 
 universal_spatial : (a : SymbolicHeap) (x : Spatial) → InSpatial IsUniversal x → InSpatial (Known a) x
-universal_spatial a (Cell t ts) k = (universal_known a t k.0, each_each IsUniversal (Known a) (universal_known a) ts k.1)
-universal_spatial a (Pred p ts) k = each_each IsUniversal (Known a) (universal_known a) ts k
+universal_spatial a (Cell t ts) k = (universal_known a t k.0, each_imply IsUniversal (Known a) (universal_known a) ts k.1)
+universal_spatial a (Pred p ts) k = each_imply IsUniversal (Known a) (universal_known a) ts k
 
 pub universal_constructive : (a : SymbolicHeap) → IsUniversalHeap a → IsConstructive a
-universal_constructive a u = (each_each (InPure IsUniversal) (InPure (Known a)) (universal_pure a) a.pure u.0, each_each (InSpatial IsUniversal) (InSpatial (Known a)) (universal_spatial a) a.spatial u.1)
+universal_constructive a u = (each_imply (InPure IsUniversal) (InPure (Known a)) (universal_pure a) a.pure u.0, each_imply (InSpatial IsUniversal) (InSpatial (Known a)) (universal_spatial a) a.spatial u.1)
 
 -- ---- what holds of a part of the heap fits the heap
 
@@ -107,14 +103,10 @@ inside_trans f g h p q = record { same = λ a vs e. q.same a vs (p.same a vs e) 
 pub inside_all : (h : Cells) → Inside h h
 inside_all h = record { same = λ a vs e. e }
 
-pub at_one_cell : (a : ℕ) (vs : List ℕ) → cell_at (one_cell a vs) a ≡ Some vs
-at_one_cell a vs =
-    get-insert nat_cmp_total empty a vs a ∙ ap (λ b. cond b (Some vs) (cell_at empty a)) ((eq_by_cmp_equiv nat_cmp_total).refl a)
-
 spatial_fits : (P : ℕ → Family) (s e : Stack) (h : Cells) (xs : List Spatial) (g : Cells) → Inside g h → SpatialHolds P s e xs g → Each (CellFits h s e) xs
 spatial_fits P s e h [] g p x = tt
 spatial_fits P s e h (Cell t ts ∷ xs) g p x = (
-  (inside_trans x.part g h (left_inside x.part x.rest g x.union) p).same (value s e t) (values s e ts) (subst (λ c. cell_at c (value s e t) ≡ Some (values s e ts)) (sym x.first.2) (at_one_cell (value s e t) (values s e ts))),
+  (inside_trans x.part g h (left_inside x.part x.rest g x.union) p).same (value s e t) (values s e ts) (subst (λ c. cell_at c (value s e t) ≡ Some (values s e ts)) (sym x.first.2) (one_cell_has (value s e t) (values s e ts))),
   spatial_fits (λ k. P (suc k)) s e h xs x.rest (inside_trans x.rest g h (right_inside x.part x.rest g x.union) p) x.others,
 )
 spatial_fits P s e h (Pred p ts ∷ xs) g q x = (tt, spatial_fits (λ k. P (suc k)) s e h xs x.rest (inside_trans x.rest g h (right_inside x.part x.rest g x.union) q) x.others)

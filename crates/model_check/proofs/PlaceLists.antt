@@ -12,6 +12,7 @@ use Rattle.heap_formula.proofs.Insertions.{same_address}
 use Rattle.model_check.specs.Constructive.{Member}
 use Rattle.model_check.specs.MaskParts.{place, from_bits, stands, Covers}
 use Rattle.model_check.proofs.MaskParts.{turned_eq, more_bits, same_bits}
+use Rattle.list_facts.proofs.Places.{position_at}
 
 place_position : (ns : List ℕ) (a : ℕ) → position_or_len (nat_eq a) ns ≡ place ns a
 place_position [] a = refl
@@ -23,15 +24,8 @@ place_position (x ∷ ns) a = ap (λ r. cond (not (nat_eq a x)) (1 + r) 0) (plac
     by true false e = absurd (both_ways false refl (sym e))
     by false true e = absurd (both_ways false refl e)
 
-position_some : {X : Type 0} (p : X → Bool) (xs : List X) (i : ℕ) → position p xs ≡ Some i → position_or_len p xs ≡ i
-position_some p xs i h = by (nat_lt (position_or_len p xs) (length xs)) h
-  where
-    by : (b : Bool) → cond b (Some (position_or_len p xs)) None ≡ Some i → position_or_len p xs ≡ i
-    by true e = let z : Some (position_or_len p xs) ≡ Some i = e in cc
-    by false e = absurd (let z : None ≡ Some i = e in cc)
-
 pub place_found : (ns : List ℕ) (a i : ℕ) → Some i ≡ position (nat_eq a) ns → i ≡ place ns a
-place_found ns a i h = sym (position_some (nat_eq a) ns i (sym h)) ∙ place_position ns a
+place_found ns a i h = sym (position_at (nat_eq a) ns i (sym h)) ∙ place_position ns a
 
 position_none : {X : Type 0} (p : X → Bool) (xs : List X) → position p xs ≡ None → length xs ≤ position_or_len p xs
 position_none p xs h = by (nat_lt (position_or_len p xs) (length xs)) refl h

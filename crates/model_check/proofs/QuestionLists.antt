@@ -13,10 +13,10 @@ use Rattle.model_check.specs.Questions.{Question}
 use Rattle.model_check.specs.Constructive.{Fits}
 use Rattle.model_check.specs.MaskParts.{Covers}
 use Rattle.model_check.specs.Grounding.{IsQuestion, PiecesFit, HasRule, IsRule, IsAnswered, Extends, IsCaseRule, GroundedCases, IsGrounded, Grounds}
-use Rattle.model_check.proofs.KnownTerms.{each_map, each_both}
 use Rattle.model_check.proofs.Asking.{extends_trans, pieces_kept}
 use Rattle.model_check.proofs.CaseLists.{has_kept}
 use Rattle.model_check.proofs.Rounds.{one_question}
+use Rattle.formula_facts.proofs.AllMembers.{each_imply, each_append}
 
 -- a number below the length is a question's
 question_of : (qs : List Question) (q : ℕ) → q < length qs → (x : Question) × IsQuestion qs q x.predicate x.values
@@ -46,7 +46,7 @@ module _ (ds : List Definition) (h : Cells) (ns : List ℕ) where
 
   answered_kept : (qs qs' : List Question) (rules rules' added : List GroundRule) (q p : ℕ) (vs : List ℕ) → Extends qs qs' → rules' ≡ rules ++ added → IsAnswered ds h ns qs rules q p vs → IsAnswered ds h ns qs' rules' q p vs
   answered_kept qs qs' rules rules' added q p vs x w a = record {
-    has = each_map (λ b. (e : Stack) → Fits h vs e b → HasRule ns qs rules q vs e b.spatial) (λ b. (e : Stack) → Fits h vs e b → HasRule ns qs' rules' q vs e b.spatial) (λ b k. subst (λ rs. (e : Stack) → Fits h vs e b → HasRule ns qs' rs q vs e b.spatial) (sym w) (has_kept h ns q vs qs qs' rules added x b k)) (cases_of ds p) a.has;
+    has = each_imply (λ b. (e : Stack) → Fits h vs e b → HasRule ns qs rules q vs e b.spatial) (λ b. (e : Stack) → Fits h vs e b → HasRule ns qs' rules' q vs e b.spatial) (λ b k. subst (λ rs. (e : Stack) → Fits h vs e b → HasRule ns qs' rs q vs e b.spatial) (sym w) (has_kept h ns q vs qs qs' rules added x b k)) (cases_of ds p) a.has;
   }
 
   answered_same : (qs : List Question) (rules : List GroundRule) (q p u : ℕ) (vs us : List ℕ) → p ≡ u → vs ≡ us → IsAnswered ds h ns qs rules q p vs → IsAnswered ds h ns qs rules q u us
@@ -54,7 +54,7 @@ module _ (ds : List Definition) (h : Cells) (ns : List ℕ) where
 
   pub next_question : (qs qs' : List Question) (rules rules' : List GroundRule) (head p : ℕ) (vs : List ℕ) → IsGrounded ds h ns qs rules head → IsQuestion qs head p vs → GroundedCases h ns qs qs' rules rules' head vs (cases_of ds p) → IsGrounded ds h ns qs' rules' (head + 1)
   next_question qs qs' rules rules' head p vs g i k = record {
-    sound = subst (Each (IsRule ds h ns qs')) (sym k.more) (each_both (IsRule ds h ns qs') rules k.added (each_map (IsRule ds h ns qs) (IsRule ds h ns qs') (rule_kept qs qs' k.extends) rules g.sound) (each_map (IsCaseRule h ns qs' head vs (cases_of ds p)) (IsRule ds h ns qs') (new_rule qs' head p vs (k.extends.kept head p vs i)) k.added k.are));
+    sound = subst (Each (IsRule ds h ns qs')) (sym k.more) (each_append (IsRule ds h ns qs') rules k.added (each_imply (IsRule ds h ns qs) (IsRule ds h ns qs') (rule_kept qs qs' k.extends) rules g.sound) (each_imply (IsCaseRule h ns qs' head vs (cases_of ds p)) (IsRule ds h ns qs') (new_rule qs' head p vs (k.extends.kept head p vs i)) k.added k.are));
     complete = all;
   }
     where

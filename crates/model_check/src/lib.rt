@@ -14,4 +14,5 @@ mod solving;
 mod unions;
 
 pub use places::{Place, constructive, constructive_all};
+pub use questions::Question;
 pub use satisfaction::satisfied;

@@ -67,18 +67,21 @@ impl Hash for Question {
 }
 
 impl Question {
+    /// The question whether the predicate with this number holds of these values.
     pub fn new(predicate: u16, values: Vec<u64>) -> Question
         ensures { result ≡ record { predicate = predicate; values = values.items } }
     {
         Question { predicate, values }
     }
 
+    /// The number of its predicate.
     pub fn predicate(&self) -> u16
         ensures { result ≡ self.now.predicate }
     {
         self.predicate
     }
 
+    /// The values that it asks of.
     pub fn values(&self) -> &[u64]
         ensures { result.now ≡ self.now.values }
     {

@@ -10,7 +10,7 @@ use Rattle.std.specs.Cmp.{nat_cmp_total, ranks}
 use Rattle.std.specs.FinMap.{entries, entries_sorted, from_entries, empty, entries-insert, len-entries, len-empty, len, len-insert, contains_key, get-entries, nat_cmp-IsAntisymmetric}
 use Rattle.std.specs.FinMap.Entries.{put, find, by_order, below_all, is_sorted}
 use Rattle.std.proofs.lemmas.Bool.{ne_eqb, lt-leb, le-leb}
-use Rattle.std.proofs.lemmas.List.{length-map}
+use Rattle.std.proofs.lemmas.List.{length-map, nil_from_length}
 use Rattle.heap_formula.specs.Words.{Each}
 use Rattle.heap_formula.specs.Cells.{Cells as Heap, cell_at}
 use Rattle.cyc_lex.specs.declared.fault.IllFault.TheVariants.{Address}
@@ -38,12 +38,8 @@ each_put : (Q : Entry → Type 0) (k : ℕ) (v : List ℕ) (es : List Entry) →
 each_put Q k v [] new all = (new, tt)
 each_put Q k v (e ∷ es) new all = placed Q k v e es (nat_cmp k e.0) refl new all.0 all.1 (each_put Q k v es new all.1)
 
-no_members : {X : Type 0} (xs : List X) → length xs ≡ 0 → xs ≡ []
-no_members [] e = refl
-no_members (x ∷ xs) e = absurd (omega arith)
-
 no_entries : entries (empty {X = List ℕ} {R = nat_cmp}) ≡ []
-no_entries = no_members _ (sym (len-entries empty) ∙ len-empty nat_cmp (List ℕ))
+no_entries = nil_from_length _ (sym (len-entries empty) ∙ len-empty nat_cmp (List ℕ))
 
 pub each_entry : (Q : Entry → Type 0) (es : List Entry) → Each Q es → Each Q (entries (from_entries {R = nat_cmp} es))
 each_entry Q [] all = subst (Each Q) (sym no_entries) tt

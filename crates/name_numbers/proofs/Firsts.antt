@@ -13,6 +13,7 @@ use Rattle.indexmap.specs.IndexSet.{insert_key}
 use Rattle.name_numbers.specs.declared.names.NameUse.{NameUse}
 use Rattle.name_numbers.specs.Names.{Name, same, has, firsts, place_of}
 use Rattle.name_numbers.specs.Views.{name_of}
+use Rattle.list_facts.proofs.Places.{position_at}
 
 same-equal : (a b : Name) → same a b ≡ true → a ≡ b
 same-equal a b h =
@@ -100,14 +101,6 @@ pub place_of_use : (n : NameUse) (ks : List NameUse) → position_or_len (use_eq
 place_of_use n [] = refl
 place_of_use n (k ∷ ks) = ap (λ r. cond (not (use_eq n k)) (1 + r) 0) (place_of_use n ks)
 
--- the place that a look-up finds, or the length where it finds none
-position-some : {X : Type 0} (p : X → Bool) (xs : List X) (i : ℕ) → position p xs ≡ Some i → position_or_len p xs ≡ i
-position-some p xs i h = by (nat_lt (position_or_len p xs) (length xs)) h
-  where
-    by : (b : Bool) → cond b (Some (position_or_len p xs)) None ≡ Some i → position_or_len p xs ≡ i
-    by true e = cc
-    by false e = cc
-
 position-none : {X : Type 0} (p : X → Bool) (xs : List X) → position p xs ≡ None → position_or_len p xs ≡ length xs
 position-none p xs h = by (nat_lt (position_or_len p xs) (length xs)) refl h
   where
@@ -119,7 +112,7 @@ position-none p xs h = by (nat_lt (position_or_len p xs) (length xs)) refl h
         omega arith
 
 pub place_found : (n : NameUse) (ks : List NameUse) (i : ℕ) → position (use_eq n) ks ≡ Some i → i ≡ place_of (map name_of ks) (name_of n)
-place_found n ks i h = sym (position-some (use_eq n) ks i h) ∙ place_of_use n ks
+place_found n ks i h = sym (position_at (use_eq n) ks i h) ∙ place_of_use n ks
 
 pub place_missing : (n : NameUse) (ks : List NameUse) → position (use_eq n) ks ≡ None → length ks ≡ place_of (map name_of ks) (name_of n)
 place_missing n ks h = sym (position-none (use_eq n) ks h) ∙ place_of_use n ks

@@ -1,5 +1,5 @@
 -- The graph of nodes without a fault is in order, and their judgements are local in it.
-use Rattle.std.proofs.Common.{◌≡◌, ℕ, zero, suc, ◌<◌, ◌≤◌, Bool, true, false, List, [], ◌∷◌, map, length, Some, None, sym, ap, ◌∙◌, subst, arith}
+use Rattle.std.proofs.Common.{◌≡◌, ℕ, ◌≤◌, Bool, true, false, List, [], ◌∷◌, map, length, Some, None, sym, ap, ◌∙◌, subst, arith}
 use Rattle.std.specs.Prelude.{slice_get}
 use Rattle.std.proofs.lemmas.List.{length-map}
 use Rattle.std.proofs.lemmas.Option.{slice_get_within}
@@ -10,11 +10,12 @@ use Rattle.heap_formula.specs.declared.judgements.Premise.{Premise}
 use Rattle.heap_formula.specs.Definitions.{Definition}
 use Rattle.heap_formula.specs.Words.{Each}
 use Rattle.heap_formula.specs.Meaning.{Stages}
-use Rattle.heap_formula.specs.Judgements.{HoldsAt, Follows, IsBelow, antecedent}
+use Rattle.heap_formula.specs.Judgements.{HoldsAt, antecedent}
 use Rattle.rule_table.specs.Soundness.{IsCommand}
 use Rattle.rule_table.specs.Fits.{IsPredAt, PairsFit, PremiseFits}
 use Rattle.rule_table.specs.Nodes.{Node, Edge, node_fault, IsReadable, edges_to, edges_of, EdgeHolds}
 use Rattle.rule_table.proofs.RightNodes.{node_holds}
+use Rattle.proof_graph.proofs.FallingPairs.{falls_of}
 use Rattle.trace_pairs.specs.Graph.{Node as GraphNode, Edge as GraphEdge, Pair as GraphPair, IsEdge, Falls, has}
 use Rattle.trace_pairs.specs.System.{AreRight, IsLocalAt, IsRight}
 use Rattle.proof_graph.specs.Traces.{positions_of, trace_pair}
@@ -23,14 +24,10 @@ use Rattle.node_reasons.proofs.Reasons.{Leads, by_reason}
 use Rattle.node_reasons.specs.Answers.{targets_of}
 use Rattle.node_reasons.specs.Graphs.{graph_edge, graph_node, graph_of, AreReadable, HasFewCases, HoldsAtNode}
 pub use Rattle.proof_graph.proofs.Joined.{Mapped, mapped_at}
-pub use Rattle.position_sets.proofs.Lists.{at_map as at_mapped, get_within as some_at}
 use Rattle.heap_formula.proofs.Members.{each_from}
 use Rattle.proof_graph.proofs.Places.{place_of, places_set}
-
-pub each_at : {X : Type 0} (P : X → Type 0) (xs : List X) (k : ℕ) (x : X) → slice_get xs k ≡ Some x → Each P xs → P x
-each_at P [] k x e a = cc
-each_at P (y ∷ xs) zero x e a = let same : y ≡ x = cc in subst P same a.0
-each_at P (y ∷ xs) (suc k) x e a = each_at P xs k x e a.1
+use Rattle.formula_facts.proofs.AllMembers.{each_at}
+use Rattle.list_facts.proofs.Places.{get_within as some_at, get_map as at_mapped}
 
 module _ (most : ℕ) (ds : List Definition) (lines : List Command) (nodes : List Node) where
   -- an edge leads to a node, and its pairs join predicate atoms
@@ -95,21 +92,6 @@ module _ (most : ℕ) (ds : List Definition) (lines : List Command) (nodes : Lis
   node_local commands v node at readable none σ below =
       node_holds most ds lines nodes v node σ commands readable none (each_from (EdgeHolds ds lines nodes σ) (edges_of most ds lines nodes node) (λ k edge is_edge τ follows target at_target.
       below k (graph_edge edge) (record { node = graph_node most ds lines nodes node; is_node = at_mapped (graph_node most ds lines nodes) nodes v node at; is_edge = at_mapped graph_edge (edges_of most ds lines nodes node) k edge is_edge }) τ (falls_of edge.pairs σ τ follows) target at_target))
-    where
-      kept_of : (b : Bool) (m n : ℕ) → IsBelow b m n → m ≤ n
-      kept_of true m n h = omega arith
-      kept_of false m n h = h
-
-      less_of : (b : Bool) (m n : ℕ) → IsBelow b m n → b ≡ true → m < n
-      less_of true m n h e = h
-      less_of false m n h e = cc
-
-      falls_of : (pairs : List Pair) (σ τ : Stages) → Follows pairs σ τ → Falls (map trace_pair pairs) σ τ
-      falls_of [] σ τ f i p e = cc
-      falls_of (q ∷ qs) σ τ f zero p e =
-          let same : trace_pair q ≡ p = cc in
-          subst (λ (r : GraphPair). (τ r.1 ≤ σ r.0) × (r.2 ≡ true → τ r.1 < σ r.0)) same (kept_of q.progress (τ q.new) (σ q.old) f.0, less_of q.progress (τ q.new) (σ q.old) f.0)
-      falls_of (q ∷ qs) σ τ f (suc i) p e = falls_of qs σ τ f.1 i p e
 
   -- nodes that are not among the faulty ones are in order where they have small heaps and no fault
   pub graph_right : Each HasFewCases ds → (faulty : ℕ → Bool) → ((v : ℕ) (node : Node) → slice_get nodes v ≡ Some node → faulty v ≡ false → length (antecedent node.judgement).spatial ≤ 32) →

@@ -11,15 +11,13 @@ use Rattle.pair_family.specs.Classes.{class_of}
 use Rattle.pair_family.specs.Combination.{Two, Choice, next, each_two, against_nil, cell_differences, any, upto, pairs_below, is_between, is_in_class, is_least, Facts, all_differ, both, AreConsistent, said, pure_facts, atom_facts, list_facts, combination}
 use Rattle.pair_family.specs.States.{Families, IsChosenBy, GivesBy}
 use Rattle.pair_family.specs.Folding.{spoken, Frame, Frames, next_frames, last_frame, IsKept, AreFrames, said_in, with_atom, FoldsTo}
-use Rattle.pair_family.proofs.Lists.{In, upto_in, pairs_in, at_each, each_at, each_left, in_append, map_in}
+use Rattle.pair_family.proofs.Lists.{In, upto_in, pairs_in, at_each, each_at, in_append, map_in}
 use Rattle.pair_family.proofs.Two.{two_in}
 use Rattle.pair_family.proofs.Classes.{classes_have, classes_least}
 use Rattle.pair_family.proofs.Scope.{atom_equations_in, atom_differences_in, atom_addresses_in}
 use Rattle.pair_family.proofs.Fold.{filter_same, any_same, both_first, whole_folded, folded_whole, said_same}
-
-append_nil : {X : Type 0} (xs : List X) → xs ++ [] ≡ xs
-append_nil [] = refl
-append_nil (x ∷ xs) = ap (λ ys. x ∷ ys) (append_nil xs)
+use Rattle.formula_facts.proofs.AllMembers.{each_front}
+use Rattle.std.proofs.lemmas.List.{append-nil}
 
 pub append_three : {X : Type 0} (xs ys zs : List X) → xs ++ (ys ++ zs) ≡ (xs ++ ys) ++ zs
 append_three [] ys zs = refl
@@ -34,9 +32,9 @@ both_three x y z =
 
 pub both_none : (x : Facts) → both x (list_facts (λ k. record { same = []; differ = []; cells = [] }) []) ≡ x
 both_none x =
-    let e = append_nil x.equal in
-    let d = append_nil x.differ in
-    let c = append_nil x.cells in
+    let e = append-nil x.equal in
+    let d = append-nil x.differ in
+    let c = append-nil x.cells in
     λ i. record { equal = e i; differ = d i; cells = c i }
 
 -- the first part of what is consistent is consistent
@@ -44,7 +42,7 @@ pub first_consistent : (x y : Facts) → AreConsistent (both x y) → AreConsist
 first_consistent x y c =
     let f2 = class_of (x.equal ++ y.equal) in
     at_each (λ q. class_of x.equal q.0 ≢ class_of x.equal q.1) (all_differ x) (λ q i e.
-    each_at (λ q. f2 q.0 ≢ f2 q.1) (all_differ (both x y)) q c (both_first x y q i) (classes_least f2 x.equal (each_left (λ q. f2 q.0 ≡ f2 q.1) x.equal y.equal (classes_have (x.equal ++ y.equal))) q.0 q.1 e))
+    each_at (λ q. f2 q.0 ≢ f2 q.1) (all_differ (both x y)) q c (both_first x y q i) (classes_least f2 x.equal (each_front (λ q. f2 q.0 ≡ f2 q.1) x.equal y.equal (classes_have (x.equal ++ y.equal))) q.0 q.1 e))
 
 -- an atom's facts speak of its terms and nil
 module _ (Q : Term → Type 0) (nil : Q Nil) (b : BasePair) (x : Spatial) (inside : Each Q (spoken x)) where

@@ -9,11 +9,13 @@ use Rattle.pair_family.specs.BasePairs.{BasePair}
 use Rattle.pair_family.specs.Classes.{class_of}
 use Rattle.pair_family.specs.Combination.{Two, any, upto, pairs_below, each_two, against_nil, cell_differences, is_between, is_in_class, is_least, Facts, all_differ, both, AreConsistent, said}
 use Rattle.pair_family.specs.Folding.{two_at, stated, IsOneOf}
-use Rattle.pair_family.proofs.Lists.{In, at_each, each_at, each_left, each_right, each_append, in_left, in_right, in_append, in_map, map_in, in_filter, filter_in, any_in, in_any, upto_in, in_pairs, pairs_in}
+use Rattle.pair_family.proofs.Lists.{In, at_each, each_at, in_left, in_right, in_append, in_map, map_in, in_filter, filter_in, any_in, in_any, upto_in, in_pairs, pairs_in}
 use Rattle.pair_family.proofs.Two.{two_append, append_two_left, append_two_right, append_two_cross, map_two}
 use Rattle.pair_family.proofs.Classes.{classes_have, classes_least}
 use Rattle.pair_family.proofs.Kept.{kept_differ, kept_cells_apart, cell_class, cells_two}
 use Rattle.pair_family.proofs.Assigned.{cell_kept, worth, worth_same, worth_kept, worth_apart, worth_cases}
+use Rattle.formula_facts.proofs.AllMembers.{each_append, each_front, each_back}
+use Rattle.list_facts.proofs.Tests.{bool_same}
 
 -- ---- the differences of two parts together
 
@@ -98,12 +100,6 @@ upper_is g (suc k) i l =
 
 -- ---- tests that agree
 
-pub bool_iff : (a b : Bool) → (a ≡ true → b ≡ true) → (b ≡ true → a ≡ true) → a ≡ b
-bool_iff true true f g = refl
-bool_iff true false f g = sym (f refl)
-bool_iff false true f g = g refl
-bool_iff false false f g = refl
-
 pub filter_same : {X : Type 0} (p q : X → Bool) (xs : List X) → ((x : X) → In x xs → p x ≡ q x) → filter p xs ≡ filter q xs
 filter_same p q [] e = refl
 filter_same p q (x ∷ xs) e =
@@ -168,7 +164,7 @@ module _ (x y : Facts) (n : ℕ) (at : ℕ → Term) (consistent : AreConsistent
   f3 = class_of folded.equal
 
   one_two : (t u : Term) → f1 t ≡ f1 u → f2 t ≡ f2 u
-  one_two t u e = classes_least f2 x.equal (each_left (λ q. f2 q.0 ≡ f2 q.1) x.equal y.equal (classes_have whole.equal)) t u e
+  one_two t u e = classes_least f2 x.equal (each_front (λ q. f2 q.0 ≡ f2 q.1) x.equal y.equal (classes_have whole.equal)) t u e
 
   at_two : (i : ℕ) → f2 (at i) ≡ f2 (at i)
   at_two i = refl
@@ -180,7 +176,7 @@ module _ (x y : Facts) (n : ℕ) (at : ℕ → Term) (consistent : AreConsistent
         | inl i ↦
             (let r = map_in (λ q. (at q.0, at q.1)) q one.same i in
             subst (λ z. f2 z.0 ≡ f2 z.1) r.2 (one_two (at r.0.0) (at r.0.1) (eqb-true _ _ (filter_in (λ q. nat_eq (f1 (at q.0)) (f1 (at q.1))) r.0 (pairs_below (suc n)) r.1).1)))
-        | inr i ↦ each_at (λ q. f2 q.0 ≡ f2 q.1) y.equal q (each_right (λ q. f2 q.0 ≡ f2 q.1) x.equal y.equal (classes_have whole.equal)) i
+        | inr i ↦ each_at (λ q. f2 q.0 ≡ f2 q.1) y.equal q (each_back (λ q. f2 q.0 ≡ f2 q.1) x.equal y.equal (classes_have whole.equal)) i
       ])) t u e
 
   abbrev val : ℕ → ℕ
@@ -352,10 +348,10 @@ module _ (x y : Facts) (n : ℕ) (at : ℕ → Term) (consistent : AreConsistent
 
   module _ (k : ℕ) (to : ℕ → Term) (live : (i : ℕ) → i ≤ k → IsOneOf n at (to i)) where
     classes_agree : (i j : ℕ) → i ≤ k → j ≤ k → nat_eq (f2 (to i)) (f2 (to j)) ≡ nat_eq (f3 (to i)) (f3 (to j))
-    classes_agree i j a b = bool_iff _ _ (λ e. eq-eqb _ _ (two_three (to i) (to j) (live i a) (live j b) (eqb-true _ _ e))) (λ e. eq-eqb _ _ (three_two (to i) (to j) (eqb-true _ _ e)))
+    classes_agree i j a b = bool_same _ _ (λ e. eq-eqb _ _ (two_three (to i) (to j) (live i a) (live j b) (eqb-true _ _ e))) (λ e. eq-eqb _ _ (three_two (to i) (to j) (eqb-true _ _ e)))
 
     differ_agree : (i j : ℕ) → i ≤ k → j ≤ k → any (is_between f2 to i j) (all_differ whole) ≡ any (is_between f3 to i j) (all_differ folded)
-    differ_agree i j a b = bool_iff _ _
+    differ_agree i j a b = bool_same _ _
         (λ h. let q = any_in (is_between f2 to i j) (all_differ whole) h in
         elim (between_links f2 to i j q.0 q.2) [
           | inl l ↦ (let r = forward q.0 q.1 (to i) (to j) (live i a) (live j b) l.0 l.1 in in_any (is_between f3 to i j) (all_differ folded) r.0 r.1 (links_between f3 to i j r.0 r.2))
@@ -371,7 +367,7 @@ module _ (x y : Facts) (n : ℕ) (at : ℕ → Term) (consistent : AreConsistent
     least_agrees i a = ap not (any_same (λ j. is_in_class f2 to i (to j)) (λ j. is_in_class f3 to i (to j)) (upto i) (λ j m. let l = upto_in i j m in classes_agree j i (omega arith) a))
 
     cells_agree : (i : ℕ) → i ≤ k → any (is_in_class f2 to i) whole.cells ≡ any (is_in_class f3 to i) folded.cells
-    cells_agree i a = bool_iff _ _
+    cells_agree i a = bool_same _ _
         (λ h. let t = any_in (is_in_class f2 to i) whole.cells h in
         let e = eqb-true _ _ t.2 in
         elim (in_append t.0 x.cells y.cells t.1) [

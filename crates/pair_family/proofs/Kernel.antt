@@ -5,15 +5,17 @@ use Rattle.std.proofs.lemmas.Bool.{eqb-true, eq-eqb}
 use Rattle.heap_formula.specs.declared.terms.Term.{Term}
 use Rattle.pair_family.specs.Within.{IsWithin}
 use Rattle.pair_family.specs.Combination.{Two, any, upto, pairs_below, is_between, is_in_class, is_least, AreApart, kept}
-use Rattle.pair_family.proofs.Lists.{at_each, each_go, filter_in, upto_in, pairs_in}
-use Rattle.pair_family.proofs.Fold.{bool_iff, filter_same, any_same}
+use Rattle.pair_family.proofs.Lists.{at_each, filter_in, upto_in, pairs_in}
+use Rattle.pair_family.proofs.Fold.{filter_same, any_same}
+use Rattle.formula_facts.proofs.AllMembers.{each_imply}
+use Rattle.list_facts.proofs.Tests.{bool_same}
 
 module _ (f g : Term → ℕ) (same : (t u : Term) → (f t ≡ f u) ↔ (g t ≡ g u)) where
   test_same : (t u : Term) → nat_eq (f t) (f u) ≡ nat_eq (g t) (g u)
-  test_same t u = bool_iff _ _ (λ e. eq-eqb _ _ ((same t u).0 (eqb-true _ _ e))) (λ e. eq-eqb _ _ ((same t u).1 (eqb-true _ _ e)))
+  test_same t u = bool_same _ _ (λ e. eq-eqb _ _ ((same t u).0 (eqb-true _ _ e))) (λ e. eq-eqb _ _ ((same t u).1 (eqb-true _ _ e)))
 
   pub apart_kernel : (ds : List Two) → AreApart f ds → AreApart g ds
-  apart_kernel ds a = each_go (λ q. f q.0 ≢ f q.1) (λ q. g q.0 ≢ g q.1) (λ q n e. n ((same q.0 q.1).1 e)) ds a
+  apart_kernel ds a = each_imply (λ q. f q.0 ≢ f q.1) (λ q. g q.0 ≢ g q.1) (λ q n e. n ((same q.0 q.1).1 e)) ds a
 
   pub kept_kernel : (k : ℕ) (at : ℕ → Term) (ds : List Two) (cs : List Term) → kept k at f ds cs ≡ kept k at g ds cs
   kept_kernel k at ds cs =

@@ -3,7 +3,7 @@ use Rattle.std.proofs.Common.{◌≡◌, ◌⊎◌, inl, inr, ℕ, zero, suc, �
 use Rattle.std.specs.Prelude.{nat_eq}
 use Rattle.std.proofs.lemmas.Bool.{cases_Bool, eqb-true}
 use Rattle.heap_formula.specs.declared.terms.Term.{Term}
-use Rattle.heap_formula.specs.declared.terms.Term.TheVariants.{Nil, Univ, Exist}
+use Rattle.heap_formula.specs.declared.terms.Term.TheVariants.{Nil, Univ}
 use Rattle.heap_formula.specs.declared.atoms.Spatial.{Spatial}
 use Rattle.pair_family.specs.BasePairs.{parameter}
 use Rattle.pair_family.specs.Classes.{term_number}
@@ -11,18 +11,7 @@ use Rattle.pair_family.specs.Folding.{last_frame, IsKept, AreFrames, spoken}
 use Rattle.pair_family.specs.Frames.{term_at, frame_of, has_term, one_more, with_terms, parameters_from, kept_terms, frames_of}
 use Rattle.pair_family.proofs.Lists.{In, at_each, any_in, in_left, in_right}
 use Rattle.pair_family.proofs.ByAtom.{IsOfParameters}
-
--- different terms have different numbers
-pub number_term : (t u : Term) → term_number t ≡ term_number u → t ≡ u
-number_term Nil Nil e = refl
-number_term Nil (Univ m) e = absurd (omega arith)
-number_term Nil (Exist m) e = absurd (omega arith)
-number_term (Univ n) Nil e = absurd (omega arith)
-number_term (Univ n) (Univ m) e = let h : n ≡ m = omega arith in ap Univ h
-number_term (Univ n) (Exist m) e = absurd (omega arith)
-number_term (Exist n) Nil e = absurd (omega arith)
-number_term (Exist n) (Univ m) e = absurd (omega arith)
-number_term (Exist n) (Exist m) e = let h : n ≡ m = omega arith in ap Exist h
+use Rattle.pair_family.proofs.Classes.{same_number}
 
 pub in_index : (t : Term) (terms : List Term) → In t terms → (i : ℕ) × (i < length terms) × (t ≡ term_at terms i)
 in_index t [] m = absurd m
@@ -42,7 +31,7 @@ index_in (t ∷ terms) (suc i) = elim (index_in terms i) [ inl m ↦ inl (inr m)
 pub has_in : (terms : List Term) (t : Term) → has_term terms t ≡ true → In t terms
 has_in terms t h =
     let r = any_in (λ u. nat_eq (term_number u) (term_number t)) terms h in
-    subst (λ u. In u terms) (number_term r.0 t (eqb-true (term_number r.0) (term_number t) r.2)) r.1
+    subst (λ u. In u terms) (same_number r.0 t (eqb-true (term_number r.0) (term_number t) r.2)) r.1
 
 one_kept : (terms : List Term) (t u : Term) → In u (Nil ∷ terms) → In u (Nil ∷ one_more terms t)
 one_kept terms t u m =

@@ -30,34 +30,9 @@ in_append x [] ys i = inr i
 in_append x (y ∷ xs) ys (inl s) = inl (inl s)
 in_append x (y ∷ xs) ys (inr i) = elim (in_append x xs ys i) [ inl a ↦ inl (inr a) | inr b ↦ inr b ]
 
-pub each_left : {X : Type 0} (P : X → Type 0) (xs ys : List X) → Each P (xs ++ ys) → Each P xs
-each_left P [] ys e = tt
-each_left P (x ∷ xs) ys e = (e.0, each_left P xs ys e.1)
-
-pub each_right : {X : Type 0} (P : X → Type 0) (xs ys : List X) → Each P (xs ++ ys) → Each P ys
-each_right P [] ys e = e
-each_right P (x ∷ xs) ys e = each_right P xs ys e.1
-
-pub each_append : {X : Type 0} (P : X → Type 0) (xs ys : List X) → Each P xs → Each P ys → Each P (xs ++ ys)
-each_append P [] ys a b = b
-each_append P (x ∷ xs) ys a b = (a.0, each_append P xs ys a.1 b)
-
-pub each_map : {X Y : Type 0} (P : Y → Type 0) (f : X → Y) (xs : List X) → Each (λ x. P (f x)) xs → Each P (map f xs)
-each_map P f [] e = tt
-each_map P f (x ∷ xs) e = (e.0, each_map P f xs e.1)
-
 pub map_each : {X Y : Type 0} (P : Y → Type 0) (f : X → Y) (xs : List X) → Each P (map f xs) → Each (λ x. P (f x)) xs
 map_each P f [] e = tt
 map_each P f (x ∷ xs) e = (e.0, map_each P f xs e.1)
-
-pub each_go : {X : Type 0} (P Q : X → Type 0) → ((x : X) → P x → Q x) → (xs : List X) → Each P xs → Each Q xs
-each_go P Q f [] e = tt
-each_go P Q f (x ∷ xs) e = (f x e.0, each_go P Q f xs e.1)
-
-pub one_go : {X : Type 0} (P Q : X → Type 0) → ((x : X) → P x → Q x) → (xs : List X) → OneOf P xs → OneOf Q xs
-one_go P Q f [] e = e
-one_go P Q f (x ∷ xs) (inl a) = inl (f x a)
-one_go P Q f (x ∷ xs) (inr o) = inr (one_go P Q f xs o)
 
 pub in_map : {X Y : Type 0} (f : X → Y) (x : X) (xs : List X) → In x xs → In (f x) (map f xs)
 in_map f x [] i = absurd i

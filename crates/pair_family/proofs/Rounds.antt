@@ -10,7 +10,8 @@ use Rattle.pair_family.specs.BasePairs.{BasePair}
 use Rattle.pair_family.specs.Combination.{Choice, next}
 use Rattle.pair_family.specs.Family.{PairFamily, IsChosen, CaseGives, arity_of, family_at, InFamily}
 use Rattle.pair_family.specs.Tables.{in_table, IsMember, IsDistinct, Table, IsTable, HasMoreThan, HasAtMost}
-use Rattle.pair_family.proofs.Lists.{one_go, each_go}
+use Rattle.formula_facts.proofs.AllMembers.{each_imply}
+use Rattle.heap_formula.proofs.StageLaws.{OneOf-map}
 
 abbrev pub WithinPairs : PairFamily → PairFamily → Type 0
 WithinPairs F G = (p : ℕ) (b : BasePair) → F p b → G p b
@@ -26,7 +27,7 @@ gives_within F G w k b a c = record { chosen = c.chosen; from_family = chosen_wi
 family_next : (ds : List Definition) (n : ℕ) → WithinPairs (family_at ds n) (family_at ds (suc n))
 family_next ds zero p b o = absurd o
 family_next ds (suc n) p b o =
-    one_go (CaseGives (family_at ds n) (arity_of ds p) b) (CaseGives (family_at ds (suc n)) (arity_of ds p) b) (gives_within (family_at ds n) (family_at ds (suc n)) (family_next ds n) (arity_of ds p) b) (cases_of ds p) o
+    OneOf-map (CaseGives (family_at ds n) (arity_of ds p) b) (CaseGives (family_at ds (suc n)) (arity_of ds p) b) (gives_within (family_at ds n) (family_at ds (suc n)) (family_next ds n) (arity_of ds p) b) (cases_of ds p) o
 
 family_add : (ds : List Definition) (m d : ℕ) → WithinPairs (family_at ds m) (family_at ds (m + d))
 family_add ds m zero p b o = let e : m ≡ m + 0 = omega arith in subst (λ n. family_at ds n p b) e o
@@ -64,7 +65,7 @@ IsClosedFamily ds F = (p : ℕ) (b : BasePair) → OneOf (CaseGives F (arity_of 
 pub family_least : (ds : List Definition) (F : PairFamily) → IsClosedFamily ds F → (n : ℕ) → WithinPairs (family_at ds n) F
 family_least ds F closed zero p b o = absurd o
 family_least ds F closed (suc n) p b o =
-    closed p b (one_go (CaseGives (family_at ds n) (arity_of ds p) b) (CaseGives F (arity_of ds p) b) (gives_within (family_at ds n) F (family_least ds F closed n) (arity_of ds p) b) (cases_of ds p) o)
+    closed p b (OneOf-map (CaseGives (family_at ds n) (arity_of ds p) b) (CaseGives F (arity_of ds p) b) (gives_within (family_at ds n) F (family_least ds F closed n) (arity_of ds p) b) (cases_of ds p) o)
 
 -- a table of members to which no round adds is the family
 pub closed_table : (ds : List Definition) (table : Table) → WithinPairs (in_table table) (InFamily ds) → IsClosedFamily ds (in_table table) → IsTable ds table
@@ -105,7 +106,7 @@ distinct_le (x ∷ xs) ys d a =
 -- a list with all members of the family bounds their number
 pub at_most : (ds : List Definition) (all : List (ℕ × BasePair)) (most : ℕ) → ((p : ℕ) (b : BasePair) → InFamily ds p b → IsMember (p, b) all) → length all ≤ most → HasAtMost ds most
 at_most ds all most every l list are =
-    let r = distinct_le list all are.distinct (each_go (λ m. InFamily ds m.0 m.1) (λ z. IsMember z all) (λ z i. every z.0 z.1 i) list are.members) in omega arith
+    let r = distinct_le list all are.distinct (each_imply (λ m. InFamily ds m.0 m.1) (λ z. IsMember z all) (λ z i. every z.0 z.1 i) list are.members) in omega arith
 
 pub not_both : (ds : List Definition) (most : ℕ) → HasAtMost ds most → HasMoreThan ds most → ⊥
 not_both ds most a m = let l = a m.list m.are in let k = m.more in omega arith

@@ -2,7 +2,7 @@
 use Rattle.std.proofs.Common.{◌≡◌, ◌≢◌, ℕ, suc, ◌+◌, ◌<◌, ◌≤◌, max, ◌⊎◌, inl, inr, List, [], ◌∷◌, ◌++◌, map, Bool, true, false, cond, Some, None, arith, sym, refl, ap, ◌∙◌, subst}
 use Rattle.std.specs.Ordering.{nat_cmp, eq_by_cmp}
 use Rattle.std.specs.Cmp.{nat_cmp_total}
-use Rattle.std.specs.FinMap.{empty, get-insert, get-empty, nat_cmp-IsAntisymmetric}
+use Rattle.std.specs.FinMap.{empty, get-insert, get-empty}
 use Rattle.std.proofs.lemmas.List.{length-map}
 use Rattle.heap_formula.specs.declared.terms.Term.{Term}
 use Rattle.heap_formula.specs.declared.atoms.Spatial.{Spatial}
@@ -13,7 +13,6 @@ use Rattle.heap_formula.specs.Values.{Stack, value, values}
 use Rattle.heap_formula.specs.Cells.{Cells, cell_at, no_cells, one_cell}
 use Rattle.heap_formula.specs.Meaning.{AtomHolds, SpatialHolds, at_stage}
 use Rattle.heap_formula.proofs.StageLaws.{atom_within, spatial_within, stage_le}
-use Rattle.heap_formula.proofs.StepLaws.{is_eq-Equal}
 use Rattle.pair_family.specs.BasePairs.{BasePair, element, entry, Respects}
 use Rattle.pair_family.specs.Combination.{Two, Choice, next, atom_equations, atom_differences, atom_addresses, spatial_equations, spatial_differences, addresses, each_two}
 use Rattle.pair_family.specs.Family.{PairFamily, IsChosenAt, IsChosen}
@@ -22,6 +21,7 @@ use Rattle.pair_family.proofs.Lists.{In, at_each, in_left, in_right, in_map, map
 use Rattle.pair_family.proofs.Two.{append_two_cross, append_two_right}
 use Rattle.pair_family.proofs.Joining.{Has, Both, has_both, joins_from, union_of}
 use Rattle.pair_family.proofs.Complete.{entry_value}
+use Rattle.heap_formula.proofs.Insertions.{same_address}
 
 -- a stage and a heap of which M holds; its addresses are among some, or past a bound
 pub record Built (M : ℕ → Cells → Type 0) (w : ℕ) (among : List ℕ) : Type 0 where
@@ -35,9 +35,6 @@ pub record Built (M : ℕ → Cells → Type 0) (w : ℕ) (among : List ℕ) : T
 -- the base pair is realised over all values that respect it
 abbrev pub IsRealised : List Definition → ℕ → BasePair → Type 0
 IsRealised ds p b = (vs : List ℕ) (w : ℕ) → Respects b vs → Built (λ n. at_stage ds n p vs) w (map (entry vs) b.cells)
-
-same_address : (q a : ℕ) → eq_by_cmp nat_cmp q a ≡ true → q ≡ a
-same_address q a t = nat_cmp-IsAntisymmetric q a (is_eq-Equal (nat_cmp q a) t)
 
 cond_some : (b : Bool) (vs : List ℕ) → Has (cond b (Some vs) None) → b ≡ true
 cond_some true vs h = refl

@@ -11,12 +11,12 @@ use Rattle.pair_family.specs.States.{Families, next_families, IsChosenBy, GivesB
 use Rattle.pair_family.proofs.ByAtom.{IsOfParameters, fold_case, case_fold}
 use Rattle.pair_family.proofs.Complete.{cons_choice}
 
-one_out : {X : Type 0} (P : X → Type 0) (xs : List X) → OneOf P xs → (x : X) × IsMember x xs × P x
+pub one_out : {X : Type 0} (P : X → Type 0) (xs : List X) → OneOf P xs → (x : X) × IsMember x xs × P x
 one_out P [] o = absurd o
 one_out P (x ∷ xs) (inl p) = (x, inl refl, p)
 one_out P (x ∷ xs) (inr o) = let r = one_out P xs o in (r.0, inr r.1, r.2)
 
-one_in : {X : Type 0} (P : X → Type 0) (xs : List X) (x : X) → IsMember x xs → P x → OneOf P xs
+pub one_in : {X : Type 0} (P : X → Type 0) (xs : List X) (x : X) → IsMember x xs → P x → OneOf P xs
 one_in P [] x m p = absurd m
 one_in P (y ∷ xs) x (inl s) p = inl (subst P (sym s) p)
 one_in P (y ∷ xs) x (inr m) p = inr (one_in P xs x m p)

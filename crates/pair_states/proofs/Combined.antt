@@ -12,24 +12,18 @@ use Rattle.pair_family.specs.Folding.{two_at, Frame, with_atom}
 use Rattle.pair_states.specs.Labels.{said_by, labels_at, label_pairs, cell_pairs, all_pairs, AreApartLabels, pairs_at, numbers_at, combined_labels, combined_pairs, combined}
 use Rattle.pair_family.specs.Frames.{term_at}
 use Rattle.pair_family.specs.Within.{AreWithin, AreBelow, IsWithin}
-use Rattle.pair_family.proofs.Lists.{each_append, each_map, map_each}
+use Rattle.pair_family.proofs.Lists.{map_each}
 use Rattle.pair_states.proofs.Labelled.{label_of, labels_are, said_by_is}
+use Rattle.formula_facts.proofs.AllMembers.{each_imply, each_append, each_mapped}
+use Rattle.std.proofs.lemmas.List.{map-append}
 
 map_apply : {X Y : Type 0} (f g : X → Y) (xs : List X) → Each (λ x. f x ≡ g x) xs → map f xs ≡ map g xs
 map_apply f g [] e = refl
 map_apply f g (x ∷ xs) e = let here = e.0 in let rest = map_apply f g xs e.1 in λ i. here i ∷ rest i
 
-map_both : {X Y : Type 0} (f : X → Y) (xs ys : List X) → map f (xs ++ ys) ≡ map f xs ++ map f ys
-map_both f [] ys = refl
-map_both f (x ∷ xs) ys = ap (λ z. f x ∷ z) (map_both f xs ys)
-
 map_twice : {X Y Z : Type 0} (g : Y → Z) (f : X → Y) (xs : List X) → map g (map f xs) ≡ map (λ x. g (f x)) xs
 map_twice g f [] = refl
 map_twice g f (x ∷ xs) = ap (λ z. g (f x) ∷ z) (map_twice g f xs)
-
-each_go : {X : Type 0} (P Q : X → Type 0) → ((x : X) → P x → Q x) → (xs : List X) → Each P xs → Each Q xs
-each_go P Q f [] e = tt
-each_go P Q f (x ∷ xs) e = (f x e.0, each_go P Q f xs e.1)
 
 two_map : {X Y : Type 0} (f : X → Y) (xs : List X) → each_two (map f xs) ≡ map (λ q. (f q.0, f q.1)) (each_two xs)
 two_map f [] = refl
@@ -37,7 +31,7 @@ two_map f (x ∷ xs) =
     let here = map_twice (λ u. (f x, u)) f xs in
     let there = map_twice (λ q. (f q.0, f q.1)) (λ u. (x, u)) xs in
     let rest = two_map f xs in
-    (λ i. here i ++ rest i) ∙ ap (λ z. z ++ map (λ q. (f q.0, f q.1)) (each_two xs)) (sym there) ∙ sym (map_both (λ q. (f q.0, f q.1)) (map (λ u. (x, u)) xs) (each_two xs))
+    (λ i. here i ++ rest i) ∙ ap (λ z. z ++ map (λ q. (f q.0, f q.1)) (each_two xs)) (sym there) ∙ sym (map-append (λ q. (f q.0, f q.1)) (map (λ u. (x, u)) xs) (each_two xs))
 
 -- places of an atom's nil and arguments among the kept terms; past the arguments stands nil
 pub record ArePlaces (kept : List Term) (ts : List Term) (places : List ℕ) : Type 0 where
@@ -69,7 +63,7 @@ module _ (rest : List Term) (p : ℕ) (ts : List Term) (places : List ℕ) (b c 
   pairs_there (q ∷ qs) = let x = at_places.is q.0 in let y = at_places.is q.1 in let rest = pairs_there qs in λ i. (x i, y i) ∷ rest i
 
   pairs_are : (own qs : List (ℕ × ℕ)) → two_at at (own ++ pairs_at places qs) ≡ two_at at own ++ at_arguments ts qs
-  pairs_are own qs = map_both (λ q. (at q.0, at q.1)) own (pairs_at places qs) ∙ ap (λ z. two_at at own ++ z) (pairs_there qs)
+  pairs_are own qs = map-append (λ q. (at q.0, at q.1)) own (pairs_at places qs) ∙ ap (λ z. two_at at own ++ z) (pairs_there qs)
 
   numbers_within : (is : List ℕ) → AreBelow (length kept) (numbers_at places is)
   numbers_within [] = tt
@@ -80,7 +74,7 @@ module _ (rest : List Term) (p : ℕ) (ts : List Term) (places : List ℕ) (b c 
   numbers_there (i ∷ is) = let x = at_places.is i in let rest = numbers_there is in λ z. x z ∷ rest z
 
   cells_are : (own is : List ℕ) → map at (own ++ numbers_at places is) ≡ map at own ++ map (element ts) is
-  cells_are own is = map_both at own (numbers_at places is) ∙ ap (λ z. map at own ++ z) (numbers_there is)
+  cells_are own is = map-append at own (numbers_at places is) ∙ ap (λ z. map at own ++ z) (numbers_there is)
 
   labels_hold : combined_labels (map term_number kept) b places c ≡ map f kept
   labels_hold =
@@ -88,18 +82,18 @@ module _ (rest : List Term) (p : ℕ) (ts : List Term) (places : List ℕ) (b c 
 
   label_pairs_are : (qs : List (ℕ × ℕ)) → AreWithin (length kept) qs → label_pairs (map f kept) qs ≡ map (λ q. (f q.0, f q.1)) (two_at at qs)
   label_pairs_are qs w =
-      map_apply (λ q. (slice_index (map f kept) q.0, slice_index (map f kept) q.1)) (λ q. (f (at q.0), f (at q.1))) qs (each_go (λ q. (q.0 < length kept) × (q.1 < length kept)) (λ q. ◌≡◌ {A = ℕ × ℕ} (slice_index (map f kept) q.0, slice_index (map f kept) q.1) (f (at q.0), f (at q.1))) (λ q l. let x = label_of f kept q.0 l.0 in let y = label_of f kept q.1 l.1 in λ i. (x i, y i)) qs w) ∙ sym (map_twice (λ q. (f q.0, f q.1)) (λ q. (at q.0, at q.1)) qs)
+      map_apply (λ q. (slice_index (map f kept) q.0, slice_index (map f kept) q.1)) (λ q. (f (at q.0), f (at q.1))) qs (each_imply (λ q. (q.0 < length kept) × (q.1 < length kept)) (λ q. ◌≡◌ {A = ℕ × ℕ} (slice_index (map f kept) q.0, slice_index (map f kept) q.1) (f (at q.0), f (at q.1))) (λ q l. let x = label_of f kept q.0 l.0 in let y = label_of f kept q.1 l.1 in λ i. (x i, y i)) qs w) ∙ sym (map_twice (λ q. (f q.0, f q.1)) (λ q. (at q.0, at q.1)) qs)
 
   labels_at_are : (is : List ℕ) → AreBelow (length kept) is → labels_at (map f kept) is ≡ map f (map at is)
   labels_at_are is w =
-      map_apply (slice_index (map f kept)) (λ i. f (at i)) is (each_go (λ i. i < length kept) (λ i. slice_index (map f kept) i ≡ f (at i)) (λ i l. label_of f kept i l) is w) ∙ sym (map_twice f at is)
+      map_apply (slice_index (map f kept)) (λ i. f (at i)) is (each_imply (λ i. i < length kept) (λ i. slice_index (map f kept) i ≡ f (at i)) (λ i l. label_of f kept i l) is w) ∙ sym (map_twice f at is)
 
   cell_pairs_are : (cs : List Term) → cell_pairs (f Nil) (map f cs) ≡ map (λ q. (f q.0, f q.1)) (cell_differences cs)
   cell_pairs_are cs =
       let a = map_twice (λ c. (c, f Nil)) f cs in
       let b' = map_twice (λ q. (f q.0, f q.1)) (λ t. (t, Nil)) cs in
       let t = two_map f cs in
-      (λ i. a i ++ t i) ∙ ap (λ z. z ++ map (λ q. (f q.0, f q.1)) (each_two cs)) (sym b') ∙ sym (map_both (λ q. (f q.0, f q.1)) (against_nil cs) (each_two cs))
+      (λ i. a i ++ t i) ∙ ap (λ z. z ++ map (λ q. (f q.0, f q.1)) (each_two cs)) (sym b') ∙ sym (map-append (λ q. (f q.0, f q.1)) (against_nil cs) (each_two cs))
 
   numbers : List ℕ
   numbers = b.cells ++ numbers_at places c.cells
@@ -115,11 +109,11 @@ module _ (rest : List Term) (p : ℕ) (ts : List Term) (places : List ℕ) (b c 
       let ds = b.differ ++ pairs_at places c.differ in
       let d = label_pairs_are ds (each_append (λ q. (q.0 < length kept) × (q.1 < length kept)) b.differ (pairs_at places c.differ) b_within.differ (pairs_within c.differ)) ∙ ap (map (λ q. (f q.0, f q.1))) (pairs_are b.differ c.differ) in
       let s = ap (cell_pairs (f Nil)) addresses_are ∙ cell_pairs_are facts.cells in
-      ap (λ ls. all_pairs ls ds (b.cells ++ numbers_at places c.cells)) labels_hold ∙ (λ i. d i ++ s i) ∙ sym (map_both (λ q. (f q.0, f q.1)) facts.differ (cell_differences facts.cells))
+      ap (λ ls. all_pairs ls ds (b.cells ++ numbers_at places c.cells)) labels_hold ∙ (λ i. d i ++ s i) ∙ sym (map-append (λ q. (f q.0, f q.1)) facts.differ (cell_differences facts.cells))
 
   pub apart_consistent : AreApartLabels (combined_pairs (map term_number kept) b places c) ↔ AreConsistent facts
   apart_consistent =
-      (λ a. map_each (λ q. q.0 ≢ q.1) (λ q. (f q.0, f q.1)) (all_differ facts) (subst AreApartLabels combined_pairs_are a), λ a. subst AreApartLabels (sym combined_pairs_are) (each_map (λ q. q.0 ≢ q.1) (λ q. (f q.0, f q.1)) (all_differ facts) a))
+      (λ a. map_each (λ q. q.0 ≢ q.1) (λ q. (f q.0, f q.1)) (all_differ facts) (subst AreApartLabels combined_pairs_are a), λ a. subst AreApartLabels (sym combined_pairs_are) (each_mapped (λ q. q.0 ≢ q.1) (λ q. (f q.0, f q.1)) (all_differ facts) a))
 
   -- and what it tells of some numbers is what the facts say of the terms there
   pub combined_is : (k : ℕ) (is : List ℕ) → AreBelow (length kept) is → length (map at is) ≡ suc k → combined (map term_number kept) b places c is ≡ said k (term_at (map at is)) facts

@@ -32,7 +32,7 @@ labels_are f terms (q ∷ qs) within =
     map_again (relabelled (slice_index (map f terms) q.1) (slice_index (map f terms) q.0)) f g (λ t i. relabelled (old i) (new i) (f t)) terms in
     ap (λ ls. joined_labels ls qs) step ∙ labels_are g terms qs within.1
 
-any_map : {X Y : Type 0} (t : Y → Bool) (f : X → Y) (xs : List X) → any t (map f xs) ≡ any (λ x. t (f x)) xs
+pub any_map : {X Y : Type 0} (t : Y → Bool) (f : X → Y) (xs : List X) → any t (map f xs) ≡ any (λ x. t (f x)) xs
 any_map t f [] = refl
 any_map t f (x ∷ xs) = ap (λ b. t (f x) || b) (any_map t f xs)
 

@@ -5,6 +5,7 @@ use Rattle.std.proofs.lemmas.Bool.{cases_Bool, eqb-true}
 use Rattle.pair_family.specs.Combination.{any, upto, pairs_below}
 use Rattle.pair_states.specs.Labels.{relabelled, row, has_same, neighbours, has_difference, is_between_labels}
 use Rattle.pair_family.proofs.ByAtom.{append_three}
+use Rattle.std.proofs.lemmas.List.{map-append}
 
 filter_append : {X : Type 0} (t : X → Bool) (xs ys : List X) → filter t (xs ++ ys) ≡ filter t xs ++ filter t ys
 filter_append t [] ys = refl
@@ -15,14 +16,10 @@ filter_append t (x ∷ xs) ys =
 filter_one : {X : Type 0} (t : X → Bool) (x : X) → filter t (x ∷ []) ≡ (if t x then x ∷ [] else [])
 filter_one t x = refl
 
-map_append : {X Y : Type 0} (f : X → Y) (xs ys : List X) → map f (xs ++ ys) ≡ map f xs ++ map f ys
-map_append f [] ys = refl
-map_append f (x ∷ xs) ys = ap (λ z. f x ∷ z) (map_append f xs ys)
-
 row_next : (t : ℕ × ℕ → Bool) (j i : ℕ) → filter t (row j (i + 1)) ≡ filter t (row j i) ++ (if t (i, j) then (i, j) ∷ [] else [])
 row_next t j i =
     let e : i + 1 ≡ suc i = omega arith in
-    ap (λ n. filter t (row j n)) e ∙ ap (filter t) (map_append (λ k. (k, j)) (upto i) (i ∷ [])) ∙ filter_append t (row j i) ((i, j) ∷ [])
+    ap (λ n. filter t (row j n)) e ∙ ap (filter t) (map-append (λ k. (k, j)) (upto i) (i ∷ [])) ∙ filter_append t (row j i) ((i, j) ∷ [])
 
 pub same_row : (labels : List ℕ) (j i : ℕ) (old now next : List (ℕ × ℕ)) → now ≡ old ++ filter (has_same labels) (row j i) → next ≡ now ++ (if nat_eq (slice_index labels i) (slice_index labels j) then (i, j) ∷ [] else []) → next ≡ old ++ filter (has_same labels) (row j (i + 1))
 same_row labels j i old now next a b =

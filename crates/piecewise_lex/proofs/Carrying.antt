@@ -1,6 +1,6 @@
 -- What is taken of characters stays as it is, whatever comes after those that wait.
 use Rattle.std.proofs.Common.{◌≡◌, ℕ, zero, suc, ◌+◌, ◌≤◌, ◌<◌, Bool, true, false, cond, ◌&&◌, ◌||◌, List, [], ◌∷◌, ◌++◌, length, take, drop, Ok, Err, refl, sym, ap, subst, ◌∙◌, arith, inl, inr, ◌⊎◌, eqb-true, append_assoc}
-use Rattle.std.proofs.lemmas.List.{take_at}
+use Rattle.std.proofs.lemmas.List.{take_at, length-take-le}
 use Rattle.std.specs.Prelude.{nat_le, not, ◌==◌, slice_index}
 use Rattle.std.specs.Str.{encode_utf8_all}
 use Rattle.std.specs.Char.{is_ascii_digit}
@@ -20,7 +20,7 @@ use Rattle.piecewise_lex.specs.Feeding.{may_grow, is_held, taken_chars, held_cha
 use Rattle.cyc_lex.specs.Lexing.{comment_len}
 use Rattle.cyc_lex.proofs.Pieces.{comment_len-true, comment_len-false}
 use Rattle.cyc_lex.proofs.Lexed.{Found}
-use Rattle.cyc_lex.proofs.TokenLaws.{double-cases, chosen as any-choice}
+use Rattle.cyc_lex.proofs.TokenLaws.{double-cases, chosen as any-choice, choose}
 
 -- z may stand where these characters do: nothing, or what begins alike
 abbrev pub Agrees : List ℕ → List ℕ → Type 0
@@ -45,10 +45,6 @@ prefix-same p (c ∷ cs) y lt a = by_test (p c) refl (prefix-same p cs y) lt a
         let more = again less near in
         ap (λ n. prefix_len p (take n (c ∷ cs) ++ y)) k ∙ rw (is, more) refl
     by_test false is again lt a = same-head false is refl a
-
-abbrev choose : Bool → Bool → Bool → Bool → Bool → Bool → ℕ → ℕ → ℕ → Piece × ℕ
-choose s h n d two one kc kn kd =
-    cond s (pieces.Gap, 0) (cond h (pieces.Gap, kc) (cond n (pieces.Token Name, kn) (cond d (pieces.Token Number, kd) (cond two (pieces.Token Symbol, 1) (cond one (pieces.Token Symbol, 0) (pieces.Stray, 0))))))
 
 -- each way to choose, with the tests that lead to it
 chosen : (P : Piece × ℕ → Type 0) (s n d two one : Bool) (kc kn kd : ℕ)
@@ -297,11 +293,6 @@ piece-le c cs = any-choice (λ m. m.1 ≤ length cs) (is_space c) (c == 35) (sta
         differ false e f = cc
     by_list (d ∷ ds) h = omega arith
 
-take-len : (n : ℕ) (cs : List ℕ) → n ≤ length cs → length (take n cs) ≡ n
-take-len zero cs h = refl
-take-len (suc n) [] h = absurd (omega (arith, h))
-take-len (suc n) (c ∷ cs) h = let less : n ≤ length cs = omega (arith, h) in omega (arith, take-len n cs less)
-
 -- a comment goes up to the line feed
 comment-piece : (c : ℕ) → (c == 35) ≡ true → (cs : List ℕ) → piece_at c cs ≡ (pieces.Gap, comment cs)
 comment-piece c h cs = rw (eqb-true c 35 h) refl
@@ -319,7 +310,7 @@ carry-plain whole p b j c cs z free plain agrees none again =
     let parts : x ≡ take n cs ++ y = ap (λ (t : List ℕ). t ++ z) (taken-skip n cs) ∙ append_assoc (take n cs) (taken_chars 0 (drop n cs)) z in
     let near : Agrees (drop n cs) y = agrees-rest (drop n cs) z (subst (λ (t : List ℕ). Agrees t z) (held-skip n cs) agrees) in
     let same : piece_at c x ≡ piece_at c cs = ap (piece_at c) parts ∙ piece-same c cs y free plain near in
-    let front : take n x ≡ take n cs = ap (take n) parts ∙ take_at (take n cs) y n (take-len n cs (piece-le c cs)) in
+    let front : take n x ≡ take n cs = ap (take n) parts ∙ take_at (take n cs) y n (length-take-le n cs (piece-le c cs)) in
     let rest = again false n (piece-le c cs, refl) in
     let bytes = encode_utf8_all (c ∷ take n cs) in
     let last = lex whole (pass_all (pass p c) (taken_chars n cs)) (comment_len (ends_in_comment false n cs) z) z in

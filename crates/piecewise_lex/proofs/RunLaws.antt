@@ -1,10 +1,10 @@
 -- A run waits, whatever comes, until a character does not go on it.
-use Rattle.std.proofs.Common.{◌≡◌, ℕ, suc, ◌+◌, ◌≤◌, Bool, true, false, ◌&&◌, List, [], ◌∷◌, ◌++◌, length, take, drop, Option, Some, None, refl, sym, ap, subst, ◌∙◌, arith, append_assoc, length-append}
+use Rattle.std.proofs.Common.{◌≡◌, ℕ, ◌+◌, ◌≤◌, Bool, true, false, ◌&&◌, List, [], ◌∷◌, ◌++◌, length, take, drop, Option, Some, None, refl, sym, ap, subst, ◌∙◌, arith, append_assoc, length-append}
 use Rattle.std.specs.Prelude.{nat_le, is_none, is_some}
 use Rattle.std.specs.List.{list_all, prefix_len}
 use Rattle.std.specs.Str.{chars, IsUtf8}
 use Rattle.std.specs.Str.Lossy.{utf8_valid_len, utf8_error_len}
-use Rattle.std.proofs.lemmas.List.{take_at, take-append-drop}
+use Rattle.std.proofs.lemmas.List.{take_at, take-append-drop, length-take-le}
 use Rattle.std.proofs.lemmas.Str.{chars-append, IsUtf8-append, utf8_valid_len_le}
 use Rattle.std.proofs.lemmas.Bool.Decides.{nat_tests}
 use Rattle.cyc_lex.specs.declared.token.Kind.{Kind}
@@ -22,8 +22,7 @@ use Rattle.piecewise_lex.specs.Feeding.{is_held, taken_chars, held_chars, ends_i
 use Rattle.piecewise_lex.specs.Runs.{Begins, IsRun, IsKnownRun, IsKnown, IsAllRun}
 use Rattle.piecewise_lex.specs.Taking.{Waits}
 use Rattle.piecewise_lex.proofs.Carrying.{taken-held, held-held, comment-held, tokens-held}
-use Rattle.piecewise_lex.proofs.ValidLaws.{length-taken}
-use Rattle.piecewise_lex.proofs.Utf8Cuts.{valid-append, valid-front, take-behind}
+use Rattle.piecewise_lex.proofs.Utf8Cuts.{drop-behind, valid-append, valid-front, take-behind}
 
 kind_of : Run → Kind
 kind_of runs.Comment = Name
@@ -82,7 +81,7 @@ longer waiting piece tail bytes text known new h behind joined same size cut goe
     let front = take n waiting in
     let m = utf8_valid_len bytes in
     let whole : waiting ++ piece ≡ front ++ bytes = ap (λ (w : List ℕ). w ++ piece) (sym (take-append-drop n waiting)) ∙ append_assoc front (drop n waiting) piece ∙ ap (λ (w : List ℕ). front ++ w) (ap (λ (w : List ℕ). w ++ piece) (sym behind) ∙ sym joined) in
-    let n-is : length front ≡ n = length-taken n waiting h.within in
+    let n-is : length front ≡ n = length-take-le n waiting h.within in
     let valid : utf8_valid_len (waiting ++ piece) ≡ n + m = ap utf8_valid_len whole ∙ valid-append front bytes h.utf8 ∙ ap (λ k. k + m) n-is in
     let new-len : new.len ≡ length front + m = omega (arith, len, size, n-is) in
     let taken : take new.len (waiting ++ piece) ≡ front ++ take m bytes = ap (take new.len) whole ∙ ap (λ k. take k (front ++ bytes)) new-len ∙ take-behind front bytes m in
@@ -100,13 +99,6 @@ longer waiting piece tail bytes text known new h behind joined same size cut goe
       cut = ap (λ (w : List ℕ). is_none (utf8_error_len w)) after ∙ cut;
       size = omega (arith, valid, len, size);
     }
-  where
-    drop-behind : (xs ys : List ℕ) (k : ℕ) → drop (length xs + k) (xs ++ ys) ≡ drop k ys
-    drop-behind xs ys k = ap (drop (length xs + k)) refl ∙ by xs
-      where
-        by : (xs : List ℕ) → drop (length xs + k) (xs ++ ys) ≡ drop k ys
-        by [] = ap (λ i. drop i ys) (omega arith)
-        by (x ∷ xs) = let n : length (x ∷ xs) + k ≡ suc (length xs + k) = omega arith in ap (λ i. drop i (x ∷ (xs ++ ys))) n ∙ by xs
 
 -- all the bytes that wait, and the run among them
 pub of-front : (waits tail waiting : List ℕ) (known : Known) → IsUtf8 waits → known.len ≡ length waits → IsRun known.run (chars waits) → waiting ≡ waits ++ tail → IsKnownRun false waiting known

@@ -4,7 +4,7 @@ use Rattle.std.specs.Prelude.{nat_le, ◌==◌, slice_index}
 use Rattle.std.specs.Str.{chars, encode_utf8_all, all_scalars, IsUtf8}
 use Rattle.std.proofs.lemmas.Bool.{ne_eqb}
 use Rattle.std.proofs.lemmas.Bool.Decides.{nat_tests}
-use Rattle.std.proofs.lemmas.List.{take-append-drop, append-nil}
+use Rattle.std.proofs.lemmas.List.{take-append-drop, append-nil, nil_from_length}
 use Rattle.std.proofs.lemmas.Str.{chars-encodes, encodes-chars, scalars-chars, length-encode, len_utf8_bounds, chars-nil}
 use lib.Utf8.{scalar}
 use Rattle.std.specs.Char.{encode_utf8}
@@ -30,7 +30,7 @@ use Rattle.cyc_lex.proofs.Pieces.{comment_len-false}
 use Rattle.cyc_lex.proofs.Pieces.{pass_all-append, scalars-parts}
 use Rattle.cyc_lex.specs.Cutting.{cut_tokens}
 use Rattle.cyc_lex.proofs.CutLaws.{cut-skip, cut-next}
-use Rattle.cyc_lex.proofs.Lexed.{Found, IsNext, with_tokens-err, with_tokens-append, with_tokens-ok, some-chars, taken-token, taken-long, nil-bytes}
+use Rattle.cyc_lex.proofs.Lexed.{Found, IsNext, with_tokens-err, with_tokens-append, with_tokens-ok, some-chars, taken-token, taken-long}
 use Rattle.piecewise_lex.proofs.Carrying.{taken-held, taken-free, held-held, held-free, comment-held, comment-free, tokens-held, tokens-free, taken-skip, held-skip, comment-skip, tokens-skip}
 
 -- ---- the loop
@@ -285,7 +285,7 @@ no-comment false = refl
 pub all-empty : (p0 : Place) (b0 : Bool) (text : List ℕ) (p : Place) (b : Bool) (rest : List ℕ) → IsOn p0 b0 (chars text) p b rest → length rest ≡ 0 → IsAllTaken p0 b0 text p b rest
 unfolding tokens_taken taken_chars held_chars ends_in_comment
 all-empty p0 b0 text p b rest h none =
-    let nothing : chars rest ≡ [] = ap chars (nil-bytes rest none) ∙ chars-nil in
+    let nothing : chars rest ≡ [] = ap chars (nil_from_length rest none) ∙ chars-nil in
     let goes = ap (ends_in_comment b 0) nothing in
     done p0 b0 text p b b rest h (ap (comment_len b) nothing ∙ no-comment b) (ap (tokens_taken p 0) nothing) (ap (taken_chars 0) nothing) (ap (held_chars 0) nothing ∙ sym nothing) goes goes
 

@@ -1,10 +1,10 @@
 -- Texts at the front of bytes.
-use Rattle.std.proofs.Common.{◌≡◌, ℕ, zero, suc, ◌+◌, ◌≤◌, Bool, true, false, eqb-true, false-eqb, length-drop, List, [], ◌∷◌, length, take, drop, refl, sym, ap, ◌∙◌, arith}
+use Rattle.std.proofs.Common.{◌≡◌, ℕ, ◌+◌, Bool, true, false, eqb-true, false-eqb, length-drop, List, [], length, take, drop, refl, sym, ap, ◌∙◌, arith}
 use Rattle.std.specs.Prelude.{is_none, not, ◌==◌}
 use Rattle.std.proofs.lemmas.Bool.{eq-eqb, ne_eqb}
 use Rattle.std.specs.Str.{chars, IsUtf8}
 use Rattle.std.specs.Str.Lossy.{utf8_valid_len, utf8_error_len}
-use Rattle.std.proofs.lemmas.List.{take_all}
+use Rattle.std.proofs.lemmas.List.{take_all, length-take-le, drop_all}
 use Rattle.std.proofs.lemmas.Str.{utf8_valid_len-IsUtf8, utf8_valid_len_le}
 use Rattle.cyc_lex.specs.declared.place.Place.{Place}
 use Rattle.cyc_lex.specs.Lexing.{HasRoom}
@@ -18,23 +18,14 @@ chars-front bytes text n is same = ap chars same ∙ ap (λ k. chars (take k byt
 pub chars-whole : (bytes text : List ℕ) → text ≡ bytes → IsUtf8 bytes → chars text ≡ valid_chars bytes
 chars-whole bytes text same utf8 = chars-front bytes text (length bytes) (sym (utf8_valid_len-IsUtf8 bytes utf8)) (same ∙ sym (take_all (length bytes) bytes (omega arith)))
 
-drop-len : (xs : List ℕ) → drop (length xs) xs ≡ []
-drop-len [] = refl
-drop-len (x ∷ xs) = drop-len xs
-
 pub tail-whole : (bytes : List ℕ) → IsUtf8 bytes → [] ≡ after_valid bytes
-tail-whole bytes utf8 = sym (ap (λ n. drop n bytes) (utf8_valid_len-IsUtf8 bytes utf8) ∙ drop-len bytes)
+tail-whole bytes utf8 = sym (ap (λ n. drop n bytes) (utf8_valid_len-IsUtf8 bytes utf8) ∙ drop_all (length bytes) bytes (omega arith))
 
 pub cut-whole : (bytes : List ℕ) → IsUtf8 bytes → is_cut bytes ≡ true
 cut-whole bytes utf8 = ap (λ (w : List ℕ). is_none (utf8_error_len w)) (sym (tail-whole bytes utf8)) ∙ ap is_none error-nil
 
-pub length-taken : (n : ℕ) (xs : List ℕ) → n ≤ length xs → length (take n xs) ≡ n
-length-taken zero xs le = refl
-length-taken (suc n) [] le = absurd (omega arith)
-length-taken (suc n) (x ∷ xs) le = let less : n ≤ length xs = omega arith in omega (arith, length-taken n xs less)
-
 pub size-front : (bytes text : List ℕ) (n : ℕ) → n ≡ utf8_valid_len bytes → text ≡ take n bytes → length text ≡ utf8_valid_len bytes
-size-front bytes text n is same = ap length same ∙ ap (λ k. length (take k bytes)) is ∙ length-taken (utf8_valid_len bytes) bytes (utf8_valid_len_le bytes)
+size-front bytes text n is same = ap length same ∙ ap (λ k. length (take k bytes)) is ∙ length-take-le (utf8_valid_len bytes) bytes (utf8_valid_len_le bytes)
 
 pub not-flip : (a b : Bool) → a ≡ not b → b ≡ not a
 not-flip a true h = rw h refl

@@ -1,15 +1,12 @@
 -- The members of a list that fits fit.
 use Rattle.std.proofs.Common.{Bool, List, [], ◌∷◌}
 use Rattle.heap_formula.specs.Words.{Each}
-use Rattle.cyc_grammar.specs.Syntax.{Syntax, Class, after, fits_many, list1}
+use Rattle.cyc_grammar.specs.Syntax.{Syntax, Class, list1}
 use Rattle.heap_syntax.specs.Grammar as shared
 use Rattle.heap_syntax.specs.Words.{star}
 use Rattle.pred_syntax.specs.Trees.{Spatial}
 use Rattle.pred_syntax.specs.Grammar.{terms, spatial, spatials, some_spatial}
-
-pub behind_fit : {A : Type 0} (c : Class (Unit {0})) (a : Syntax A) (xs : List A) → fits_many (after c a) xs → Each a.fits xs
-behind_fit c a [] f = tt
-behind_fit c a (x ∷ xs) f = (f.0, behind_fit c a xs f.1)
+use Rattle.heap_reader.proofs.Members.{behind_fit}
 
 pub list_fit : {A : Type 0} (d : A) (c : Class (Unit {0})) (a : Syntax A) (xs : List A) → (list1 d c a).fits xs → Each a.fits xs
 list_fit d c a [] f = tt
@@ -19,10 +16,6 @@ pub listed_fit : {A : Type 0} (d : A) (c behind : Class (Unit {0})) (a : Syntax 
 unfolding shared.listed
 listed_fit d c behind a [] f = tt
 listed_fit d c behind a (x ∷ xs) f = (f.1.0, behind_fit c a xs f.1.1)
-
-pub many_fit : {A : Type 0} (a : Syntax A) (xs : List A) → fits_many a xs → Each a.fits xs
-many_fit a [] f = tt
-many_fit a (x ∷ xs) f = (f.0, many_fit a xs f.1)
 
 pub spatials_fit : (b : Bool) (xs : List Spatial) → (spatials (terms b)).fits xs → Each (spatial (terms b)).fits xs
 unfolding shared.spatials shared.spatials1

@@ -21,12 +21,9 @@ use Rattle.pred_reader.specs.Spans.{term_span}
 use Rattle.pred_reader.specs.Flaws.{heading, headings, term_flaw, head_flaw, definition_flaw}
 use Rattle.pred_reader.specs.Values.{term_value, definition_value}
 use Rattle.pred_reader.specs.Written.{term_tree, pure_tree, name_of, spatial_tree, heap_tree, definition_tree}
+use Rattle.list_facts.proofs.Parts.{map_back}
 
 -- ---- lists
-
-pub all_again : {X Y : Type 0} (value : X → Y) (tree : Y → X) → ((x : X) → tree (value x) ≡ x) → (xs : List X) → map tree (map value xs) ≡ xs
-all_again value tree one [] = refl
-all_again value tree one (x ∷ xs) = λ i. one x i ∷ all_again value tree one xs i
 
 pub listed_again : {X Y : Type 0} (flaw : ℕ → ℕ → X → Found) (span : X → ℕ) (value : X → Y) (tree : Y → X) → ((n k : ℕ) (x : X) → flaw n k x ≡ None → tree (value x) ≡ x) → (n k : ℕ) (xs : List X) → listed_flaw flaw span n k xs ≡ None → map tree (map value xs) ≡ xs
 listed_again flaw span value tree one n k [] e = refl
@@ -44,7 +41,7 @@ term_again (Univ n) = refl
 term_again (Exist n) = refl
 
 terms_again : (ts : List TermTree) → map term_tree (map term_value ts) ≡ ts
-terms_again ts = all_again term_value term_tree term_again ts
+terms_again ts = map_back term_value term_tree term_again ts
 
 signed_again : (t u : TermTree) (b : Bool) → pure_tree (if b then Eq (term_value t) (term_value u) else Neq (term_value t) (term_value u)) ≡ record { left = t; is_equation = b; right = u }
 signed_again t u true = λ i. record { left = term_again t i; is_equation = true; right = term_again u i }
@@ -78,7 +75,7 @@ module _ (most : ℕ) (hs : List Heading) (vs : List DefinitionValue) (named : (
   pub heap_again : (scope : Scope) (k : ℕ) (h : Heap) → heap_flaw (term_flaw scope) term_span most hs k h ≡ None → heap_tree vs (heap_value term_value hs h) ≡ h
   heap_again scope k h e =
       let both = neither (listed_flaw (pure_flaw (term_flaw scope) term_span) (pure_span term_span) 0 k h.pure) (listed_flaw (spatial_flaw (term_flaw scope) term_span most hs) (spatial_span term_span) 0 (k + pures_span term_span h.pure) h.spatial) e in
-      let pure = all_again (pure_value term_value) pure_tree pure_again h.pure in
+      let pure = map_back (pure_value term_value) pure_tree pure_again h.pure in
       let spatial = listed_again (spatial_flaw (term_flaw scope) term_span most hs) (spatial_span term_span) (spatial_value term_value hs) (spatial_tree vs) (spatial_again scope) 0 (k + pures_span term_span h.pure) h.spatial both.1 in
       λ i. record { pure = pure i; spatial = spatial i }
 

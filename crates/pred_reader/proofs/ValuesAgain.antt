@@ -1,10 +1,9 @@
 -- Values that have a text are what their tree says.
-use Rattle.std.proofs.Common.{◌≡◌, ℕ, zero, suc, ◌+◌, Bool, true, false, List, [], ◌∷◌, length, take, map, Option, Some, None, refl, ap, subst, ◌∙◌, arith}
-use Rattle.std.specs.Prelude.{not, ◌&&◌, is_some, if◌then◌else◌, slice_get, nat_lt, nat_le}
+use Rattle.std.proofs.Common.{◌≡◌, ℕ, ◌+◌, Bool, true, false, List, [], ◌∷◌, length, take, map, Option, Some, None, refl, ap, subst, ◌∙◌, arith}
+use Rattle.std.specs.Prelude.{not, ◌&&◌, is_some, slice_get, nat_lt, nat_le}
 use Rattle.std.specs.List.{list_any}
 use Rattle.std.specs.Str.{bytes_eq, chars, is_utf8}
 use Rattle.std.proofs.lemmas.Bool.{false≢true}
-use Rattle.std.proofs.lemmas.Slice.Eq.{bytes_eq-Decides}
 use Rattle.heap_formula.specs.declared.terms.Term.{Term}
 use Rattle.heap_formula.specs.declared.terms.Term.TheVariants as terms
 use Rattle.heap_formula.specs.declared.atoms.Pure.{Pure}
@@ -25,7 +24,7 @@ use Rattle.heap_syntax.specs.Grammar as shared
 use Rattle.pred_syntax.specs.Trees.{Heap, Definition}
 use Rattle.pred_syntax.specs.Grammar.{terms, spatial, heap, heaps, cases, definition, definitions}
 use Rattle.heap_reader.specs.Trees.{Heading}
-use Rattle.heap_reader.specs.Flaws.{Found, ill_if, over_if, or_later, listed_flaw, arity_in, heaps_flaw}
+use Rattle.heap_reader.specs.Flaws.{ill_if, over_if, or_later, listed_flaw, arity_in, heaps_flaw}
 use Rattle.heap_reader.specs.Values.{pure_value, place_of, spatial_value, heap_value}
 use Rattle.heap_reader.proofs.NoFlaw.{neither, not_ill}
 use Rattle.pred_reader.specs.declared.scope.Scope.TheVariants.{Case as InCase}
@@ -33,13 +32,14 @@ use Rattle.pred_reader.specs.Spans.{term_span, definition_span}
 use Rattle.pred_reader.specs.Flaws.{heading, headings, term_flaw, head_flaw, definition_flaw}
 use Rattle.pred_reader.specs.Values.{term_value, definition_value}
 use Rattle.pred_reader.specs.Written.{term_tree, pure_tree, name_in, name_of, spatial_tree, heap_tree, definition_tree}
-use Rattle.pred_reader.proofs.Members.{behind_fit, many_fit, spatials_fit}
+use Rattle.pred_reader.proofs.Members.{spatials_fit}
+use Rattle.list_facts.proofs.Options.{not_some}
+use Rattle.list_facts.proofs.Parts.{map_back}
+use Rattle.list_facts.proofs.Places.{get_map}
+use Rattle.heap_reader.proofs.Members.{many_fit, behind_fit}
+use Rattle.heap_reader.proofs.FirstPlaces.{flaw_at, place_first}
 
 -- ---- lists
-
-pub all_known : {X Y : Type 0} (tree : X → Y) (value : Y → X) → ((x : X) → value (tree x) ≡ x) → (xs : List X) → map value (map tree xs) ≡ xs
-all_known tree value one [] = refl
-all_known tree value one (x ∷ xs) = λ i. one x i ∷ all_known tree value one xs i
 
 pub each_known : {X Y : Type 0} (tree : X → Y) (value : Y → X) (Q : Y → Type 0) → ((x : X) → Q (tree x) → value (tree x) ≡ x) → (xs : List X) → Each Q (map tree xs) → map value (map tree xs) ≡ xs
 each_known tree value Q one [] e = refl
@@ -48,52 +48,14 @@ each_known tree value Q one (x ∷ xs) e =
     let rest = each_known tree value Q one xs e.1 in
     λ i. first i ∷ rest i
 
-pub get_map : {X Y : Type 0} (f : X → Y) (xs : List X) (n : ℕ) (x : X) → slice_get xs n ≡ Some x → slice_get (map f xs) n ≡ Some (f x)
-get_map f [] n x e = absurd cc
-get_map f (y ∷ ys) zero x e = let same : y ≡ x = cc in ap (λ z. Some (f z)) same
-get_map f (y ∷ ys) (suc n) x e = get_map f ys n x e
-
--- a member of a list without a flaw has none
-pub flaw_at : {X : Type 0} (flaw : ℕ → ℕ → X → Found) (span : X → ℕ) (n k : ℕ) (xs : List X) (p : ℕ) (x : X) → slice_get xs p ≡ Some x → listed_flaw flaw span n k xs ≡ None → (j : ℕ) × (flaw (n + p) j x ≡ None)
-flaw_at flaw span n k [] p x e none = absurd cc
-flaw_at flaw span n k (y ∷ ys) zero x e none =
-    let both = neither (flaw n k y) (listed_flaw flaw span (suc n) (k + span y) ys) none in
-    let same : y ≡ x = cc in
-    let here : n ≡ n + 0 = omega arith in
-    (k, subst (λ z. flaw (n + 0) k z ≡ None) same (subst (λ m. flaw m k y ≡ None) here both.0))
-flaw_at flaw span n k (y ∷ ys) (suc p) x e none =
-    let both = neither (flaw n k y) (listed_flaw flaw span (suc n) (k + span y) ys) none in
-    let rest = flaw_at flaw span (suc n) (k + span y) ys p x e both.1 in
-    let here : suc n + p ≡ n + suc p = omega arith in
-    (rest.0, subst (λ m. flaw m rest.0 x ≡ None) here rest.1)
-
 -- ---- names
-
-own_place : (y : Heading) (ys : List Heading) (name : List ℕ) (b : Bool) → y.name ≡ name → bytes_eq y.name name ≡ b → (if b then 0 else suc (place_of ys name)) ≡ 0
-own_place y ys name true same e = refl
-own_place y ys name false same e = let yes = (bytes_eq-Decides y.name name).1 same in absurd cc
-
-later_place : (y : Heading) (front ys : List Heading) (name : List ℕ) (p : ℕ) (b : Bool) → (arity_in front name ≡ None → place_of ys name ≡ p) → (if b then Some y.arity else arity_in front name) ≡ None → (if b then 0 else suc (place_of ys name)) ≡ suc p
-later_place y front ys name p true rest e = absurd cc
-later_place y front ys name p false rest e = ap suc (rest e)
-
--- the first predicate with a name is that which has none before it
-place_first : (ys : List Heading) (p : ℕ) (x : Heading) → slice_get ys p ≡ Some x → arity_in (take p ys) x.name ≡ None → place_of ys x.name ≡ p
-place_first [] p x e none = absurd cc
-place_first (y ∷ ys) zero x e none = let same : y ≡ x = cc in own_place y ys x.name (bytes_eq y.name x.name) (ap (λ (d : Heading). d.name) same) refl
-place_first (y ∷ ys) (suc p) x e none =
-    later_place y (take p ys) ys x.name p (bytes_eq y.name x.name) (place_first ys p x e) none
-
-pub none_of : {X : Type 0} (o : Option X) → is_some o ≡ false → o ≡ None
-none_of None e = refl
-none_of (Some x) e = absurd cc
 
 no_earlier : (most : ℕ) (hs : List Heading) (n k : ℕ) (d : Definition) → definition_flaw most hs n k d ≡ None → arity_in (take n hs) d.name ≡ None
 no_earlier most hs n k d e =
     let all = neither (head_flaw hs n k d) (heaps_flaw (term_flaw (InCase d.arity)) term_span most hs Cases (k + 6) d.cases) e in
     let head = neither (over_if (nat_le 4096 n) Predicates k) (or_later (ill_if (is_some (arity_in (take n hs) d.name)) Duplicate (k + 1)) (over_if (nat_lt 8 d.arity) Arguments (k + 3))) all.0 in
     let taken = neither (ill_if (is_some (arity_in (take n hs) d.name)) Duplicate (k + 1)) (over_if (nat_lt 8 d.arity) Arguments (k + 3)) head.1 in
-    none_of (arity_in (take n hs) d.name) (not_ill _ Duplicate (k + 1) taken.0)
+    not_some (arity_in (take n hs) d.name) (not_ill _ Duplicate (k + 1) taken.0)
 
 -- the empty text is no name
 no_name : is_free_name reserved [] ≡ true → ⊥
@@ -135,7 +97,7 @@ term_known (terms.Univ n) = refl
 term_known (terms.Exist n) = refl
 
 terms_known : (ts : List Term) → map term_value (map term_tree ts) ≡ ts
-terms_known ts = all_known term_tree term_value term_known ts
+terms_known ts = map_back term_tree term_value term_known ts
 
 pure_known : (x : Pure) → pure_value term_value (pure_tree x) ≡ x
 pure_known (Eq t u) = λ i. Eq (term_known t i) (term_known u i)
@@ -152,7 +114,7 @@ module _ (ds : List DefinitionValue) (ts : List Heading) (placed : (p : ℕ) →
   pub heap_known : (b : Bool) (h : SymbolicHeap) → (heap (terms b)).fits (heap_tree ds h) → heap_value term_value ts (heap_tree ds h) ≡ h
   unfolding shared.heap
   heap_known b h f =
-      let pure = all_known pure_tree (pure_value term_value) pure_known h.pure in
+      let pure = map_back pure_tree (pure_value term_value) pure_known h.pure in
       let spatial = each_known (spatial_tree ds) (spatial_value term_value ts) (spatial (terms b)).fits (spatial_known b) h.spatial (spatials_fit b (map (spatial_tree ds) h.spatial) f.1.1) in
       λ i. record { pure = pure i; spatial = spatial i }
 

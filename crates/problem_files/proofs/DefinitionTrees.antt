@@ -7,19 +7,13 @@ use Rattle.std.proofs.lemmas.Option.{slice_get_within}
 use Rattle.std.proofs.lemmas.Slice.Eq.{bytes_eq-Decides}
 use Rattle.heap_formula.specs.declared.terms.Term.{Term}
 use Rattle.heap_formula.specs.declared.terms.Term.TheVariants.{Nil, Univ, Exist}
-use Rattle.heap_formula.specs.declared.atoms.Pure.{Pure}
-use Rattle.heap_formula.specs.declared.atoms.Pure.TheVariants.{Eq, Neq}
-use Rattle.heap_formula.specs.declared.atoms.Spatial.{Spatial}
-use Rattle.heap_formula.specs.declared.atoms.Spatial.TheVariants.{Cell, Pred}
-use Rattle.heap_formula.specs.Closedness.{InPure, InSpatial, InHeap}
+use Rattle.heap_formula.specs.Closedness.{InHeap}
 use Rattle.heap_formula.specs.Definitions.{Definition}
-use Rattle.heap_formula.specs.Fresh.{exist_bound, pure_exists, spatial_exists, heap_exists}
+use Rattle.heap_formula.specs.Fresh.{exist_bound}
 use Rattle.heap_formula.specs.Symbolic.{SymbolicHeap}
 use Rattle.heap_formula.specs.Words.{Each}
 use Rattle.rule_table.proofs.Agreement.{IsBelow, heap_below}
-use Rattle.rule_table.proofs.Rewrites.{Each-get}
 use Rattle.format_limits.specs.Limits.{IsHeapWithin, IsCaseWithin, IsDefinitionWithin}
-use Rattle.format_limits.proofs.Heaps.{max_each, each_of}
 use Rattle.cyc_lex.specs.declared.fault.IllFault.TheVariants.{Duplicate, Parameter}
 use Rattle.cyc_lex.specs.declared.fault.What.TheVariants.{Predicates, Arguments, Cases, Locals}
 use Rattle.cyc_grammar.specs.Syntax.{fits_many}
@@ -37,11 +31,13 @@ use Rattle.problem_files.proofs.Names.{HaveFreeNames, HaveOwnNames, few_paramete
 use Rattle.problem_files.proofs.Terms.{IsFlawless}
 use Rattle.problem_files.proofs.Heaps.{in_heap_both, heaps_fit, heaps_flawless}
 use Rattle.heap_formula.proofs.Members.{each_from as each_at}
+use Rattle.formula_facts.proofs.AllMembers.{each_imply, each_at as Each-get}
+use Rattle.formula_facts.proofs.Existentials.{heap_bounded}
 
 -- ---- the trees fit
 
 case_heaps : (limit : ℕ) (ds : List Definition) (arity : ℕ) (cs : List SymbolicHeap) → Each (IsCaseWithin limit ds arity) cs → Each (IsHeapWithin limit ds) cs
-case_heaps limit ds arity cs w = each_of (IsCaseWithin limit ds arity) (IsHeapWithin limit ds) (λ c x. x.heap) cs w
+case_heaps limit ds arity cs w = each_imply (IsCaseWithin limit ds arity) (IsHeapWithin limit ds) (λ c x. x.heap) cs w
 
 module _ (limit : ℕ) (ds : List Definition) (free : HaveFreeNames ds) where
   definition_fits : (d : Definition) → is_free_name reserved d.name ≡ true → IsDefinitionWithin limit ds d → grammar.definition.fits (definition_tree ds d)
@@ -56,20 +52,6 @@ module _ (limit : ℕ) (ds : List Definition) (free : HaveFreeNames ds) where
 
 -- ---- the terms of a case have no flaw
 
-pure_opened : (m : ℕ) (x : Pure) → pure_exists x ≤ m → InPure (λ t. exist_bound t ≤ m) x
-pure_opened m (Eq t u) h = (omega arith, omega arith)
-pure_opened m (Neq t u) h = (omega arith, omega arith)
-
-spatial_opened : (m : ℕ) (x : Spatial) → spatial_exists x ≤ m → InSpatial (λ t. exist_bound t ≤ m) x
-spatial_opened m (Cell t ts) h = (omega arith, max_each exist_bound m ts (omega arith))
-spatial_opened m (Pred q ts) h = max_each exist_bound m ts h
-
-heap_opened : (m : ℕ) (a : SymbolicHeap) → heap_exists a ≤ m → InHeap (λ t. exist_bound t ≤ m) a
-heap_opened m a h = (
-  each_of (λ x. pure_exists x ≤ m) (InPure (λ t. exist_bound t ≤ m)) (pure_opened m) a.pure (max_each pure_exists m a.pure (omega arith)),
-  each_of (λ x. spatial_exists x ≤ m) (InSpatial (λ t. exist_bound t ≤ m)) (spatial_opened m) a.spatial (max_each spatial_exists m a.spatial (omega arith)),
-)
-
 term_flawless : (arity : ℕ) (t : Term) → IsBelow arity t → exist_bound t ≤ 16 → IsFlawless (term_flaw (InCase arity)) t
 term_flawless arity Nil below few k = refl
 term_flawless arity (Univ n) below few k = ap (λ (b : Bool). ill_if b Parameter (k + 1)) (lt-leb arity n (omega arith))
@@ -77,7 +59,7 @@ term_flawless arity (Exist n) below few k = ap (λ (b : Bool). over_if b Locals 
 
 case_flawless : (limit : ℕ) (ds : List Definition) (arity : ℕ) (c : SymbolicHeap) → IsCaseWithin limit ds arity c → InHeap (IsFlawless (term_flaw (InCase arity))) c
 case_flawless limit ds arity c w =
-    in_heap_both (IsBelow arity) (λ t. exist_bound t ≤ 16) (IsFlawless (term_flaw (InCase arity))) (term_flawless arity) c (heap_below arity c w.parameters) (heap_opened 16 c w.locals)
+    in_heap_both (IsBelow arity) (λ t. exist_bound t ≤ 16) (IsFlawless (term_flaw (InCase arity))) (term_flawless arity) c (heap_below arity c w.parameters) (heap_bounded 16 c w.locals)
 
 -- ---- no definition before has the name
 
@@ -119,7 +101,7 @@ module _ (limit : ℕ) (ds : List Definition) (few : length ds ≤ 4096) (own : 
   definition_flawless : (n k : ℕ) (d : Definition) → slice_get ds n ≡ Some d → IsDefinitionWithin limit ds d → definition_flaw limit (heads_of ds ds) n k (definition_tree ds d) ≡ None
   definition_flawless n k d at x =
       let scope = InCase d.arity in
-      let cases = heaps_flawless (term_flaw scope) term_span limit ds own (few_parameters limit ds ds w) Cases d.cases x.few (case_heaps limit ds d.arity d.cases x.cases) (each_of (IsCaseWithin limit ds d.arity) (InHeap (IsFlawless (term_flaw scope))) (case_flawless limit ds d.arity) d.cases x.cases) (k + 6) in
+      let cases = heaps_flawless (term_flaw scope) term_span limit ds own (few_parameters limit ds ds w) Cases d.cases x.few (case_heaps limit ds d.arity d.cases x.cases) (each_imply (IsCaseWithin limit ds d.arity) (InHeap (IsFlawless (term_flaw scope))) (case_flawless limit ds d.arity) d.cases x.cases) (k + 6) in
       none_later (head_flaw (heads_of ds ds) n k (definition_tree ds d)) (heaps_flaw (term_flaw scope) term_span limit (heads_of ds ds) Cases (k + 6) (map (heap_tree ds) d.cases)) (head_flawless n k d at x.arity) cases
 
   pub definitions_flawless : listed_flaw (definition_flaw limit (heads_of ds ds)) definition_span 0 4 (map (definition_tree ds) ds) ≡ None
@@ -131,4 +113,4 @@ module _ (limit : ℕ) (ds : List Definition) (few : length ds ≤ 4096) (own : 
 -- ---- their cases are few
 
 pub few_cases : (limit : ℕ) (ds xs : List Definition) → Each (IsDefinitionWithin limit ds) xs → all_have_few_cases xs ≡ true
-few_cases limit ds xs w = all_true has_few_cases xs (each_of (IsDefinitionWithin limit ds) (λ d. has_few_cases d ≡ true) (λ d x. le-leb (length d.cases) 16 x.few) xs w)
+few_cases limit ds xs w = all_true has_few_cases xs (each_imply (IsDefinitionWithin limit ds) (λ d. has_few_cases d ≡ true) (λ d x. le-leb (length d.cases) 16 x.few) xs w)

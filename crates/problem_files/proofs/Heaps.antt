@@ -14,7 +14,7 @@ use Rattle.heap_formula.specs.Symbolic.{SymbolicHeap}
 use Rattle.heap_formula.specs.Words.{Each}
 use Rattle.rule_table.proofs.Rewrites.{any_heap}
 use Rattle.format_limits.specs.Limits.{IsHeapWithin}
-use Rattle.format_limits.proofs.Heaps.{each_of, IsLow, IsShaped, small}
+use Rattle.format_limits.proofs.Heaps.{IsLow, IsShaped, small}
 use Rattle.cyc_lex.specs.declared.fault.What.{What}
 use Rattle.cyc_lex.specs.declared.fault.What.TheVariants.{Arguments, Pure as PureAtoms, Spatial as SpatialAtoms}
 use Rattle.cyc_grammar.specs.Syntax.{Class}
@@ -28,6 +28,7 @@ use Rattle.proof_file.specs.Written.{term_tree, pure_tree, name_of, spatial_tree
 use Rattle.problem_files.proofs.Lists.{each_of_both, list_fits, listed_fits, none_later, none_listed}
 use Rattle.problem_files.proofs.Names.{HaveFreeNames, HaveOwnNames, HaveFewParameters, heads_of, used_name_free, used_with_few, no_use_flaw}
 use Rattle.problem_files.proofs.Terms.{MayStand, TermFits, term_fits, IsFlawless}
+use Rattle.formula_facts.proofs.AllMembers.{each_imply}
 
 -- ---- two facts of each term give a third
 
@@ -61,7 +62,7 @@ module _ (limit : ℕ) (ds : List Definition) (free : HaveFreeNames ds) where
     unfolding shared.pures shared.pures1
     pures_fit [] f = (tt, tt)
     pures_fit (x ∷ xs) f =
-        (tt, listed_fits (grammar.pure (grammar.terms universal)) pure_tree grammar.some_pure grammar.comma grammar.colon (x ∷ xs) (omega arith) (each_of (InPure (TermFits universal)) (λ y. (grammar.pure (grammar.terms universal)).fits (pure_tree y)) pure_fits (x ∷ xs) f))
+        (tt, listed_fits (grammar.pure (grammar.terms universal)) pure_tree grammar.some_pure grammar.comma grammar.colon (x ∷ xs) (omega arith) (each_imply (InPure (TermFits universal)) (λ y. (grammar.pure (grammar.terms universal)).fits (pure_tree y)) pure_fits (x ∷ xs) f))
 
     fields_fit : (ts : List Term) → 0 < length ts → Each (TermFits universal) ts → (grammar.fields (grammar.terms universal)).fits (map term_tree ts)
     unfolding shared.fields
@@ -97,7 +98,7 @@ module _ (limit : ℕ) (ds : List Definition) (free : HaveFreeNames ds) where
   -- disjuncts and cases
   pub heaps_fit : (between behind : Class (Unit {0})) (heaps : List SymbolicHeap) → 0 < length heaps → Each (IsHeapWithin limit ds) heaps → (grammar.heaps between behind).fits (map (heap_tree ds) heaps)
   heaps_fit between behind heaps some w =
-      listed_fits (grammar.heap (grammar.terms false)) (heap_tree ds) grammar.some_heap between behind heaps some (each_of (IsHeapWithin limit ds) (HeapFits ds false) any_heap_fits heaps w)
+      listed_fits (grammar.heap (grammar.terms false)) (heap_tree ds) grammar.some_heap between behind heaps some (each_imply (IsHeapWithin limit ds) (HeapFits ds false) any_heap_fits heaps w)
 
 -- ---- heaps without a flaw
 

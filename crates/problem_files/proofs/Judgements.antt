@@ -17,7 +17,7 @@ use Rattle.heap_formula.specs.Words.{Each}
 use Rattle.rule_table.specs.Tests.{is_universal, are_universal, is_universal_pure, is_universal_spatial}
 use Rattle.goto_lang.specs.Lines.{IsLineOf}
 use Rattle.format_limits.specs.Limits.{IsHeapWithin, IsJudgementWithin}
-use Rattle.format_limits.proofs.Heaps.{each_of, IsLow, small}
+use Rattle.format_limits.proofs.Heaps.{IsLow, small}
 use Rattle.cyc_lex.specs.declared.fault.IllFault.TheVariants.{NoLine}
 use Rattle.cyc_lex.specs.declared.fault.What.TheVariants.{Disjuncts}
 use Rattle.proof_syntax.specs.Grammar as grammar
@@ -32,6 +32,7 @@ use Rattle.problem_files.proofs.Lists.{none_later, all_true}
 use Rattle.problem_files.proofs.Names.{HaveFreeNames, HaveOwnNames, HaveFewParameters, heads_of}
 use Rattle.problem_files.proofs.Terms.{IsFlawless, term_flawless, term_readable}
 use Rattle.problem_files.proofs.Heaps.{in_heap_both, heap_fits, heaps_fit, heap_flawless, heaps_flawless}
+use Rattle.formula_facts.proofs.AllMembers.{each_imply}
 
 -- ---- heaps outside definitions
 
@@ -62,7 +63,7 @@ module _ (limit : ℕ) (ds : List Definition) (count : ℕ) where
 
   pub judgement_flawless : HaveOwnNames ds → HaveFewParameters ds → (j : Judgement) → IsJudgementWithin limit ds count j → (k : ℕ) → judgement_flaw limit (heads_of ds ds) count k (judgement_tree ds j) ≡ None
   judgement_flawless own few (Entail a bs) w k =
-      none_later _ _ (node_heap_flawless limit ds own few a w.heaps.0 k) (heaps_flawless (term_flaw InNode) term_span limit ds own few Disjuncts bs w.form.1 w.heaps.1 (each_of (IsHeapWithin limit ds) (InHeap (IsFlawless (term_flaw InNode))) (low_flawless limit ds) bs w.heaps.1) (k + heap_span term_span (heap_tree ds a)))
+      none_later _ _ (node_heap_flawless limit ds own few a w.heaps.0 k) (heaps_flawless (term_flaw InNode) term_span limit ds own few Disjuncts bs w.form.1 w.heaps.1 (each_imply (IsHeapWithin limit ds) (InHeap (IsFlawless (term_flaw InNode))) (low_flawless limit ds) bs w.heaps.1) (k + heap_span term_span (heap_tree ds a)))
   judgement_flawless own few (Runs i a) w k =
       none_later _ _ (line_there i (k + 1) w.form) (node_heap_flawless limit ds own few a w.heaps.0 (k + 3))
 
@@ -87,4 +88,4 @@ spatial_readable (Pred k ts) q = terms_readable ts q
 
 pub heap_readable : (a : SymbolicHeap) → IsUniversalHeap a → is_universal_heap a ≡ true
 heap_readable a u =
-    and_from (list_all is_universal_pure a.pure) (list_all is_universal_spatial a.spatial) (all_true is_universal_pure a.pure (each_of (InPure IsUniversal) (λ x. is_universal_pure x ≡ true) pure_readable a.pure u.0)) (all_true is_universal_spatial a.spatial (each_of (InSpatial IsUniversal) (λ x. is_universal_spatial x ≡ true) spatial_readable a.spatial u.1))
+    and_from (list_all is_universal_pure a.pure) (list_all is_universal_spatial a.spatial) (all_true is_universal_pure a.pure (each_imply (InPure IsUniversal) (λ x. is_universal_pure x ≡ true) pure_readable a.pure u.0)) (all_true is_universal_spatial a.spatial (each_imply (InSpatial IsUniversal) (λ x. is_universal_spatial x ≡ true) spatial_readable a.spatial u.1))

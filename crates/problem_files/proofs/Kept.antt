@@ -1,5 +1,5 @@
 -- What is kept of a problem's text; it holds in one way.
-use Rattle.std.proofs.Common.{◌≡◌, ℕ, ◌≤◌, Bool, true, List, [], ◌∷◌, length, Option, None}
+use Rattle.std.proofs.Common.{◌≡◌, ℕ, ◌≤◌, Bool, true, List, length, Option, None}
 use Rattle.std.proofs.Props.{props}
 use Rattle.std.specs.Coded.{Coded-set, coded_bool, coded_ℕ, ×_prop, Unit-prop, le_prop}
 use Rattle.heap_formula.specs.declared.terms.Term.{Term}
@@ -28,6 +28,7 @@ use Rattle.command_syntax.specs.Grammar.{has_free_branches}
 use Rattle.format_limits.specs.Limits.{HasFields, IsHeapWithin, IsFormWithin, IsJudgementWithin, IsCaseWithin, IsDefinitionWithin}
 use Rattle.problem_files.proofs.Names.{HaveFreeNames, HaveOwnNames}
 use Rattle.problem_files.proofs.ProgramLines.{IsCommandOf}
+use Rattle.formula_facts.proofs.AllMembers.{each_prop}
 
 -- the definitions, the program and the goal are within the limits of a proof file, the version has the program's commands,
 -- and each predicate has a free name of its own
@@ -41,10 +42,6 @@ pub record IsKept (version : Version) (limit : ℕ) (ds : List Definition) (line
   pub own : HaveOwnNames ds
 
 -- ---- each of its parts holds in one way
-
-each_prop : {X : Type 0} (P : X → Type 0) → ((x : X) → IsProp (P x)) → (xs : List X) → IsProp (Each P xs)
-each_prop P p [] = Unit-prop
-each_prop P p (x ∷ xs) = ×_prop (p x) (each_prop P p xs)
 
 true_prop : (b : Bool) → IsProp (b ≡ true)
 true_prop b = Coded-set coded_bool b true

@@ -9,7 +9,6 @@ use Rattle.heap_formula.specs.Words.{Each}
 use Rattle.pred_defs.specs.Faults.{arity_fault}
 use Rattle.pred_defs.specs.declared.faults.DefFault.TheVariants.{Arity}
 use Rattle.cyc_lex.specs.declared.fault.IllFault.TheVariants.{Arity as Unfit}
-use Rattle.rule_table.proofs.Rewrites.{Each-get}
 use Rattle.format_limits.specs.Limits.{IsDefinitionWithin}
 use Rattle.cyc_grammar.specs.Classes.{is_free_name}
 use Rattle.proof_syntax.specs.Grammar.{reserved}
@@ -17,6 +16,7 @@ use Rattle.heap_reader.specs.Trees.{Heading}
 use Rattle.heap_reader.specs.Flaws.{ill_if, arity_in, use_flaw}
 use Rattle.proof_file.specs.Flaws.{headings}
 use Rattle.proof_file.specs.Written.{name_in, name_of, definition_tree}
+use Rattle.formula_facts.proofs.AllMembers.{each_at}
 
 -- each definition has a name that is not reserved
 abbrev pub HaveFreeNames : List Definition → Type 0
@@ -32,7 +32,7 @@ abbrev pub HaveFewParameters : List Definition → Type 0
 HaveFewParameters ds = (q : ℕ) (d : Definition) → slice_get ds q ≡ Some d → d.arity ≤ 8
 
 pub few_parameters : (limit : ℕ) (ds xs : List Definition) → Each (IsDefinitionWithin limit ds) xs → HaveFewParameters xs
-few_parameters limit ds xs e q d at = (Each-get (IsDefinitionWithin limit ds) xs q d at e).arity
+few_parameters limit ds xs e q d at = (each_at (IsDefinitionWithin limit ds) xs q d at e).arity
 
 -- the names and arities of some definitions' trees
 abbrev pub heads_of : List Definition → List Definition → List Heading

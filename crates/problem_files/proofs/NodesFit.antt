@@ -4,7 +4,6 @@ use Rattle.std.proofs.lemmas.Bool.{and_from}
 use Rattle.heap_formula.specs.Definitions.{Definition}
 use Rattle.heap_formula.specs.Judgements.{antecedent}
 use Rattle.heap_formula.specs.Words.{Each}
-use Rattle.format_limits.proofs.Heaps.{each_of}
 use Rattle.proof_syntax.specs.Grammar as grammar
 use Rattle.proof_file.specs.declared.node.FileNode.{FileNode}
 use Rattle.proof_file.specs.Readable.{is_universal_heap, is_universal_reason, is_readable, are_readable, is_at_line, are_at_lines}
@@ -14,6 +13,7 @@ use Rattle.problem_files.proofs.Lists.{many_fit, all_true}
 use Rattle.problem_files.proofs.Names.{HaveFreeNames}
 use Rattle.problem_files.proofs.Judgements.{judgement_fits, judgement_at_line, heap_readable}
 use Rattle.problem_files.proofs.Reasons.{reason_fits, premises_fit, reason_readable}
+use Rattle.formula_facts.proofs.AllMembers.{each_imply}
 
 module _ (limit : ℕ) (ds : List Definition) (count : ℕ) where
   node_fits : HaveFreeNames ds → count ≤ 4096 → (n : FileNode) → IsNodeWithin limit ds count n → grammar.node.fits (node_tree ds n)
@@ -25,7 +25,7 @@ module _ (limit : ℕ) (ds : List Definition) (count : ℕ) where
   unfolding grammar.nodes grammar.more_nodes
   nodes_fit free most [] some w = absurd (omega (arith, some))
   nodes_fit free most (n ∷ ns) some w =
-      let each = each_of (IsNodeWithin limit ds count) (λ m. grammar.node.fits (node_tree ds m)) (node_fits free most) (n ∷ ns) w in
+      let each = each_imply (IsNodeWithin limit ds count) (λ m. grammar.node.fits (node_tree ds m)) (node_fits free most) (n ∷ ns) w in
       (omega arith, (each.0, many_fit grammar.node (node_tree ds) ns each.1))
 
   node_readable : (n : FileNode) → IsNodeWithin limit ds count n → is_readable n ≡ true
@@ -33,8 +33,8 @@ module _ (limit : ℕ) (ds : List Definition) (count : ℕ) where
       and_from (is_universal_heap (antecedent n.judgement)) (is_universal_reason n.reason) (heap_readable (antecedent n.judgement) w.judgement.universal) (reason_readable limit ds n.reason w.reason)
 
   pub nodes_readable : (ns : List FileNode) → Each (IsNodeWithin limit ds count) ns → are_readable ns ≡ true
-  nodes_readable ns w = all_true is_readable ns (each_of (IsNodeWithin limit ds count) (λ n. is_readable n ≡ true) node_readable ns w)
+  nodes_readable ns w = all_true is_readable ns (each_imply (IsNodeWithin limit ds count) (λ n. is_readable n ≡ true) node_readable ns w)
 
   pub nodes_at_lines : (ns : List FileNode) → Each (IsNodeWithin limit ds count) ns → are_at_lines count ns ≡ true
   nodes_at_lines ns w =
-      all_true (λ n. is_at_line count n.judgement) ns (each_of (IsNodeWithin limit ds count) (λ n. is_at_line count n.judgement ≡ true) (λ n v. judgement_at_line limit ds count n.judgement v.judgement) ns w)
+      all_true (λ n. is_at_line count n.judgement) ns (each_imply (IsNodeWithin limit ds count) (λ n. is_at_line count n.judgement ≡ true) (λ n v. judgement_at_line limit ds count n.judgement v.judgement) ns w)

@@ -14,9 +14,8 @@ use Rattle.heap_formula.specs.Symbolic.{SymbolicHeap}
 use Rattle.heap_formula.specs.Words.{Each}
 use Rattle.pred_defs.specs.Faults.{case_fault}
 use Rattle.format_limits.specs.Limits.{HasFields, IsHeapWithin}
-use Rattle.format_limits.proofs.Heaps.{Each-map, each_max, each_of, IsLow, are_shaped, within}
+use Rattle.format_limits.proofs.Heaps.{Each-map, IsLow, are_shaped, within}
 use Rattle.cyc_lex.specs.declared.fault.What.TheVariants.{Arguments, Pure as PureAtoms, Spatial as SpatialAtoms}
-use Rattle.cyc_grammar.specs.Syntax.{Syntax, Class, after, fits_many}
 use Rattle.heap_syntax.specs.declared.tree.PureTree.{PureTree}
 use Rattle.heap_syntax.specs.Trees.{Spatial, Cell, Predicate, Heap}
 use Rattle.heap_syntax.specs.Words.{star}
@@ -32,18 +31,14 @@ use Rattle.heap_reader.specs.Values.{pure_value, spatial_value, heap_value}
 use Rattle.heap_reader.proofs.NoFlaw.{neither, each_of as each_flawless}
 use Rattle.name_numbers.specs.Numbering as numbers
 use Rattle.formula_reader.specs.Values.{term_value}
+use Rattle.formula_facts.proofs.AllMembers.{each_imply}
+use Rattle.formula_facts.proofs.Greatest.{below_each}
+use Rattle.heap_reader.proofs.Members.{behind_fit}
 
 mapped : {X Y : Type 0} (f : X → Y) (P : Y → Type 0) (xs : List X) → Each (λ x. P (f x)) xs → Each P (map f xs)
 mapped f P xs e = Each-map (λ x. P (f x)) P f (λ x p. p) xs e
 
 -- members of a text, and members that stand after a word
-
-pub many_parts : {T : Type 0} (a : Syntax T) (xs : List T) → fits_many a xs → Each a.fits xs
-many_parts a [] f = tt
-many_parts a (x ∷ xs) f = (f.0, many_parts a xs f.1)
-
-pub behind_parts : {T : Type 0} (c : Class (Unit {0})) (a : Syntax T) (xs : List T) → fits_many (after c a) xs → Each a.fits xs
-behind_parts c a xs f = many_parts (after c a) xs f
 
 -- ---- what holds of each term without a flaw holds of the terms of a heap without one
 
@@ -92,12 +87,12 @@ module _ (P Q : Term → Type 0) (g : (t : Term) → P t → Q t) where
   in_pure_each (Neq t u) p = (g t p.0, g u p.1)
 
   in_spatial_each : (x : SpatialAtom) → InSpatial P x → InSpatial Q x
-  in_spatial_each (atoms.Cell t ts) p = (g t p.0, each_of P Q g ts p.1)
-  in_spatial_each (atoms.Pred q ts) p = each_of P Q g ts p
+  in_spatial_each (atoms.Cell t ts) p = (g t p.0, each_imply P Q g ts p.1)
+  in_spatial_each (atoms.Pred q ts) p = each_imply P Q g ts p
 
   pub in_heap_each : (a : SymbolicHeap) → InHeap P a → InHeap Q a
   in_heap_each a p =
-      (each_of (InPure P) (InPure Q) in_pure_each a.pure p.0, each_of (InSpatial P) (InSpatial Q) in_spatial_each a.spatial p.1)
+      (each_imply (InPure P) (InPure Q) in_pure_each a.pure p.0, each_imply (InSpatial P) (InSpatial Q) in_spatial_each a.spatial p.1)
 
 module _ (m : ℕ) where
   pure_bounded : (x : Pure) → InPure (λ t. univ_bound t ≤ m) x → pure_bound x ≤ m
@@ -105,13 +100,13 @@ module _ (m : ℕ) where
   pure_bounded (Neq t u) q = let a = q.0 in let b = q.1 in omega arith
 
   spatial_bounded : (x : SpatialAtom) → InSpatial (λ t. univ_bound t ≤ m) x → spatial_bound x ≤ m
-  spatial_bounded (atoms.Cell t ts) q = let a = q.0 in let b = each_max univ_bound m ts q.1 in omega arith
-  spatial_bounded (atoms.Pred p ts) q = each_max univ_bound m ts q
+  spatial_bounded (atoms.Cell t ts) q = let a = q.0 in let b = below_each univ_bound m ts q.1 in omega arith
+  spatial_bounded (atoms.Pred p ts) q = below_each univ_bound m ts q
 
   pub heap_bounded : (a : SymbolicHeap) → InHeap (λ t. univ_bound t ≤ m) a → heap_bound a ≤ m
   heap_bounded a q =
-      let p = each_max pure_bound m a.pure (each_of (InPure (λ t. univ_bound t ≤ m)) (λ x. pure_bound x ≤ m) pure_bounded a.pure q.0) in
-      let s = each_max spatial_bound m a.spatial (each_of (InSpatial (λ t. univ_bound t ≤ m)) (λ x. spatial_bound x ≤ m) spatial_bounded a.spatial q.1) in
+      let p = below_each pure_bound m a.pure (each_imply (InPure (λ t. univ_bound t ≤ m)) (λ x. pure_bound x ≤ m) pure_bounded a.pure q.0) in
+      let s = below_each spatial_bound m a.spatial (each_imply (InSpatial (λ t. univ_bound t ≤ m)) (λ x. spatial_bound x ≤ m) spatial_bounded a.spatial q.1) in
       omega arith
 
   pure_open : (x : Pure) → InPure (λ t. exist_bound t ≤ m) x → pure_exists x ≤ m
@@ -119,13 +114,13 @@ module _ (m : ℕ) where
   pure_open (Neq t u) q = let a = q.0 in let b = q.1 in omega arith
 
   spatial_open : (x : SpatialAtom) → InSpatial (λ t. exist_bound t ≤ m) x → spatial_exists x ≤ m
-  spatial_open (atoms.Cell t ts) q = let a = q.0 in let b = each_max exist_bound m ts q.1 in omega arith
-  spatial_open (atoms.Pred p ts) q = each_max exist_bound m ts q
+  spatial_open (atoms.Cell t ts) q = let a = q.0 in let b = below_each exist_bound m ts q.1 in omega arith
+  spatial_open (atoms.Pred p ts) q = below_each exist_bound m ts q
 
   pub heap_open : (a : SymbolicHeap) → InHeap (λ t. exist_bound t ≤ m) a → heap_exists a ≤ m
   heap_open a q =
-      let p = each_max pure_exists m a.pure (each_of (InPure (λ t. exist_bound t ≤ m)) (λ x. pure_exists x ≤ m) pure_open a.pure q.0) in
-      let s = each_max spatial_exists m a.spatial (each_of (InSpatial (λ t. exist_bound t ≤ m)) (λ x. spatial_exists x ≤ m) spatial_open a.spatial q.1) in
+      let p = below_each pure_exists m a.pure (each_imply (InPure (λ t. exist_bound t ≤ m)) (λ x. pure_exists x ≤ m) pure_open a.pure q.0) in
+      let s = below_each spatial_exists m a.spatial (each_imply (InSpatial (λ t. exist_bound t ≤ m)) (λ x. spatial_exists x ≤ m) spatial_open a.spatial q.1) in
       omega arith
 
 -- ---- a cell of a text has a field
@@ -146,7 +141,7 @@ module _ (b : Bool) where
   unfolding shared.spatials shared.spatials1
   atoms_have_fields [] f = tt
   atoms_have_fields (x ∷ xs) f =
-      (atom_has_field x f.1.1.0, each_of (spatial b).fits HasField atom_has_field xs (behind_parts star (spatial b) xs f.1.1.1))
+      (atom_has_field x f.1.1.0, each_imply (spatial b).fits HasField atom_has_field xs (behind_fit star (spatial b) xs f.1.1.1))
 
   heap_has_fields : (h : named.Heap) → (heap b).fits h → Each HasField h.spatial
   unfolding shared.heap

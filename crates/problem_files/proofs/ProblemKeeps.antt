@@ -4,7 +4,7 @@ use Rattle.std.proofs.Common.{◌≡◌, ℕ, ◌+◌, ◌<◌, ◌≤◌, Bool,
 use Rattle.std.specs.Prelude.{not, ◌||◌, nat_eq, nat_lt, nat_le}
 use Rattle.std.specs.List.{list_all}
 use Rattle.std.proofs.Math.Logic.{∥∥₁_elim}
-use Rattle.std.proofs.lemmas.Bool.{ltb-false, or_parts, eqb-false}
+use Rattle.std.proofs.lemmas.Bool.{ltb-false, or_parts, eqb-false, and_parts}
 use Rattle.std.proofs.lemmas.List.{length-map}
 use Rattle.heap_formula.specs.declared.terms.Term.{Term}
 use Rattle.heap_formula.specs.declared.atoms.Pure.{Pure}
@@ -22,8 +22,7 @@ use Rattle.goto_lang.proofs.Faultless.{faultless_is_program}
 use Rattle.pred_defs.specs.declared.faults.DefFault.{DefFault}
 use Rattle.pred_defs.specs.Faults.{case_fault, definition_fault, first_fault, or_later as then_fault}
 use Rattle.rule_table.specs.Tests.{is_universal_pure, is_universal_spatial}
-use Rattle.rule_table.proofs.Reflects.{both, universal_pure_is, universal_spatial_is}
-use Rattle.rule_table.proofs.Rewrites.{Each-get}
+use Rattle.rule_table.proofs.Reflects.{universal_pure_is, universal_spatial_is}
 use Rattle.format_limits.specs.Limits.{IsHeapWithin, IsJudgementWithin, IsCaseWithin, IsDefinitionWithin}
 use Rattle.format_limits.proofs.Heaps.{IsLow}
 use Rattle.cyc_lex.specs.declared.fault.What.TheVariants.{Cases, Disjuncts, Locals, Variable}
@@ -62,10 +61,12 @@ use Rattle.formula_reader.specs.Values.{term_value, variable_value, definition_v
 use Rattle.formula_reader.specs.WellFormed.{IsOfText, IsWellFormed, goal_fault, is_universal_heap, has_line}
 use Rattle.formula_reader.proofs.Fitting.{definition_small}
 use Rattle.formula_reader.proofs.Keeping.{small_of, is_closed, is_known, has_universal_antecedent, has_its_line}
-use Rattle.problem_files.proofs.ProblemHeaps.{many_parts, behind_parts, heap_keeps, in_heap_each, heap_bounded, heap_open, heap_within}
+use Rattle.problem_files.proofs.ProblemHeaps.{heap_keeps, in_heap_each, heap_bounded, heap_open, heap_within}
 use Rattle.problem_files.proofs.ProblemNames.{own_names}
 use Rattle.problem_files.proofs.ProblemLines.{lines_known}
 use Rattle.problem_files.proofs.Kept.{IsKept, kept_prop}
+use Rattle.formula_facts.proofs.AllMembers.{each_at}
+use Rattle.heap_reader.proofs.Members.{many_fit, behind_fit}
 
 -- ---- lists
 
@@ -82,7 +83,7 @@ each_right f (x ∷ xs) e = by_fault (f x) refl e (each_right f xs)
 heaps_parts : {T : Type 0} (between behind : Class (Unit {0})) (a : Syntax (AnyHeap T)) (xs : List (AnyHeap T)) → (shared.heaps between behind a).fits xs → (0 < length xs) × Each a.fits xs
 unfolding shared.listed
 heaps_parts between behind a [] f = let none = f.0 in absurd (omega arith)
-heaps_parts between behind a (x ∷ xs) f = (f.0, (f.1.0, behind_parts between a xs f.1.1))
+heaps_parts between behind a (x ∷ xs) f = (f.0, (f.1.0, behind_fit between a xs f.1.1))
 
 -- ---- terms
 
@@ -183,17 +184,17 @@ module _ (limit : ℕ) (bounded : limit ≤ 32) (hs : List Heading) where
 universal_pures : (xs : List Pure) → list_all is_universal_pure xs ≡ true → Each (InPure IsUniversal) xs
 universal_pures [] e = tt
 universal_pures (x ∷ xs) e =
-    let b = both (is_universal_pure x) (list_all is_universal_pure xs) e in (universal_pure_is x b.0, universal_pures xs b.1)
+    let b = and_parts (is_universal_pure x) (list_all is_universal_pure xs) e in (universal_pure_is x b.0, universal_pures xs b.1)
 
 universal_spatials : (xs : List Spatial) → list_all is_universal_spatial xs ≡ true → Each (InSpatial IsUniversal) xs
 universal_spatials [] e = tt
 universal_spatials (x ∷ xs) e =
-    let b = both (is_universal_spatial x) (list_all is_universal_spatial xs) e in
+    let b = and_parts (is_universal_spatial x) (list_all is_universal_spatial xs) e in
     (universal_spatial_is x b.0, universal_spatials xs b.1)
 
 universal_heap : (a : SymbolicHeap) → is_universal_heap a ≡ true → IsUniversalHeap a
 universal_heap a e =
-    let b = both (list_all is_universal_pure a.pure) (list_all is_universal_spatial a.spatial) e in
+    let b = and_parts (list_all is_universal_pure a.pure) (list_all is_universal_spatial a.spatial) e in
     (universal_pures a.pure b.0, universal_spatials a.spatial b.1)
 
 line_of : (count i : ℕ) → not (nat_eq i 0 || nat_lt count i) ≡ true → IsLineOf count i
@@ -268,7 +269,7 @@ text_keeps names fits right =
     let a = neither (definitions_flaw limit hs 4 tree.definitions) (or_later (lines_flaw variable_flaw variable_span at tree.lines) (goal_flaw limit hs (length tree.lines) goal_at tree.goal)) right in
     let b = neither (lines_flaw variable_flaw variable_span at tree.lines) (goal_flaw limit hs (length tree.lines) goal_at tree.goal) a.1 in
     let small = small_of tree text right in
-    let each_fits = many_parts definition names.definitions fits.1.1.0 in
+    let each_fits = many_fit definition names.definitions fits.1.1.0 in
     let each_good = each_flawless (definition_flaw limit hs) definition_span (IsGood limit (most_fits names.version) hs) (good limit (most_fits names.version) hs) 0 4 tree.definitions a.0 in
     let few = small.few in
     let m = length-map tree.definitions (definition_value hs) in
@@ -278,7 +279,7 @@ text_keeps names fits right =
       program = faultless_is_program (map (line_value variable_value) tree.lines) small.program (lines_universal variable_value tree.lines);
       commands = lines_known names.version (numbers.program_variables names.lines) names.lines fits.1.1.1.0;
       judgement = goal_within limit hs ds (numbers.universals names) (length tree.lines) goal_at names.goal fits.1.1.1.1 b.1 small.goal (is_known tree text right) (has_universal_antecedent tree text right) (length (program_value tree.lines)) (has_its_line tree text right);
-      free = λ q d at_q. Each-get (λ (v : DefinitionValue). is_free_name reserved v.name ≡ true) ds q d at_q (definitions_free limit (most_fits names.version) hs names.definitions each_fits);
+      free = λ q d at_q. each_at (λ (v : DefinitionValue). is_free_name reserved v.name ≡ true) ds q d at_q (definitions_free limit (most_fits names.version) hs names.definitions each_fits);
       own = own_names limit tree.definitions hs a.0;
     }
 

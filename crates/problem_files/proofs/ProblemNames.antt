@@ -14,7 +14,8 @@ use Rattle.formula_reader.specs.Spans.{parameters_span, definition_span}
 use Rattle.formula_reader.specs.Flaws.{headings, parameters_flaw, head_flaw, cases_flaw, definition_flaw, definitions_flaw}
 use Rattle.formula_reader.specs.Values.{definition_value}
 use Rattle.problem_files.proofs.Names.{HaveOwnNames}
-use Rattle.proof_file.proofs.ValuesAgain.{flaw_at as flawless_at, none_of as is_none}
+use Rattle.heap_reader.proofs.FirstPlaces.{flaw_at as flawless_at}
+use Rattle.list_facts.proofs.Options.{not_some as is_none}
 
 -- a member of a mapped list is the value of one
 of_member : {X Y : Type 0} (f : X → Y) (xs : List X) (n : ℕ) (y : Y) → slice_get (map f xs) n ≡ Some y → (x : X) × (slice_get xs n ≡ Some x) × (f x ≡ y)

@@ -29,9 +29,9 @@ use Rattle.proof_file.specs.Spans.{variable_span}
 use Rattle.proof_file.specs.Flaws.{variable_flaw, program_flaw}
 use Rattle.proof_file.specs.Readable.{is_universal_command, are_universal_commands}
 use Rattle.proof_file.specs.Written.{operand_tree, command_tree, lines_behind, lines_tree}
-use Rattle.format_limits.proofs.Heaps.{max_each}
 use Rattle.problem_files.proofs.Lists.{none_later}
 use Rattle.problem_files.proofs.Terms.{term_readable}
+use Rattle.formula_facts.proofs.Greatest.{each_below}
 
 -- ---- what a line keeps
 
@@ -59,7 +59,7 @@ program_lines : (cs : List Command) → IsProgram cs → AreLines (length cs) 0 
 program_lines cs program =
     lines_from (length cs) 0 cs (λ i c e. (
     let here : suc i ≡ 0 + (i + 1) = omega arith in
-    subst (λ (m : ℕ). MayStandAt (length cs) m c) here (program.commands (suc i) c e))) (max_each command_bound 64 cs program.few_variables) program.universal
+    subst (λ (m : ℕ). MayStandAt (length cs) m c) here (program.commands (suc i) c e))) (each_below command_bound 64 cs program.few_variables) program.universal
 
 -- the command has a text in the version
 abbrev pub IsCommandOf : Version → Command → Type 0

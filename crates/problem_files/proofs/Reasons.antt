@@ -10,7 +10,6 @@ use Rattle.heap_formula.specs.Definitions.{Definition}
 use Rattle.heap_formula.specs.Words.{Each}
 use Rattle.rule_table.specs.Tests.{is_universal}
 use Rattle.format_limits.specs.Limits.{IsPairWithin, IsReasonWithin, IsShortNumber, HasShortNumbers}
-use Rattle.format_limits.proofs.Heaps.{each_of}
 use Rattle.cyc_lex.specs.declared.fault.What.TheVariants.{Variable}
 use Rattle.cyc_grammar.specs.Syntax.{one, fits_many}
 use Rattle.cyc_grammar.specs.Classes.{number}
@@ -25,6 +24,7 @@ use Rattle.problem_files.proofs.Names.{HaveFreeNames, HaveOwnNames, HaveFewParam
 use Rattle.problem_files.proofs.Terms.{uterm_fits, term_flawless, term_readable}
 use Rattle.problem_files.proofs.Heaps.{any_heap_fits}
 use Rattle.problem_files.proofs.Judgements.{node_heap_flawless}
+use Rattle.formula_facts.proofs.AllMembers.{each_imply}
 
 -- ---- the parts of a reason
 
@@ -49,7 +49,7 @@ pairs_fit : (ps : List (ℕ × Term)) → Each IsPairWithin ps → grammar.pairs
 unfolding grammar.pairs grammar.pairs1
 pairs_fit [] w = (tt, tt)
 pairs_fit (p ∷ ps) w =
-    (tt, list_fits grammar.pair pair_tree grammar.some_pair grammar.comma (p ∷ ps) (omega arith) (each_of IsPairWithin (λ x. grammar.pair.fits (pair_tree x)) pair_fits (p ∷ ps) w))
+    (tt, list_fits grammar.pair pair_tree grammar.some_pair grammar.comma (p ∷ ps) (omega arith) (each_imply IsPairWithin (λ x. grammar.pair.fits (pair_tree x)) pair_fits (p ∷ ps) w))
 
 -- ---- reasons
 
@@ -117,4 +117,4 @@ module _ (limit : ℕ) (ds : List Definition) where
   reason_readable (Step Exec) w = refl
   reason_readable (Step (Drop i)) w = refl
   reason_readable (Back link) w =
-      all_true (λ pair. is_universal pair.1) link.subst (each_of IsPairWithin (λ p. is_universal p.1 ≡ true) (λ p q. term_readable p.1 q.1.0) link.subst w)
+      all_true (λ pair. is_universal pair.1) link.subst (each_imply IsPairWithin (λ p. is_universal p.1 ≡ true) (λ p q. term_readable p.1 q.1.0) link.subst w)

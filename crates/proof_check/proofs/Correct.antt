@@ -13,9 +13,9 @@ use Rattle.trace_pairs.specs.Graph.{Node as GraphNode}
 use Rattle.trace_pairs.specs.Lasso.{AllProgress}
 use Rattle.trace_pairs.proofs.Orders.{right_graph}
 use Rattle.buchi_inclusion.proofs.Exact.{descends_by_lassos}
-use Rattle.position_sets.proofs.Lists.{at_map}
 use Rattle.node_reasons.specs.Graphs.{graph_node, graph_of, AreRight, AreReadable, HasFewCases, HasSmallHeaps, HoldsAtNode}
 use Rattle.node_reasons.proofs.RightGraphs.{graph_right, graph_local}
+use Rattle.list_facts.proofs.Places.{get_map}
 
 module _ (most : ℕ) (ds : List Definition) (lines : List Command) (nodes : List Node) where
   abbrev g : List GraphNode
@@ -26,5 +26,5 @@ module _ (most : ℕ) (ds : List Definition) (lines : List Command) (nodes : Lis
       let none : ℕ → Bool = λ v. false in
       let is_right = graph_right most ds lines nodes few none (λ v node is fine. small v node is) (λ v node is fine. right v node is) in
       let is_local = graph_local most ds lines nodes commands readable none (λ v node is fine. right v node is) in
-      let some = slice_get_within g 0 (graph_node most ds lines nodes root) (at_map (graph_node most ds lines nodes) nodes 0 root at) in
+      let some = slice_get_within g 0 (graph_node most ds lines nodes root) (get_map (graph_node most ds lines nodes) nodes 0 root at) in
       (holds-at_all ds lines root.judgement).1 (λ σ. descends_by_lassos g (right_graph g none is_right (λ v l. refl) some) all (HoldsAtNode ds lines nodes) (λ v τ l below. is_local v τ l refl below) σ root at)

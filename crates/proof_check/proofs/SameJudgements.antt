@@ -9,8 +9,10 @@ use Rattle.heap_formula.specs.declared.judgements.Judgement.TheVariants.{Entail,
 use Rattle.heap_formula.specs.Symbolic.{SymbolicHeap}
 use Rattle.rule_table.specs.Tests.{same_term, same_pure, same_spatial}
 use Rattle.rule_table.specs.Nodes.{all_same, same_heap, same_judgement}
-use Rattle.rule_table.proofs.Reflects.{same_term_self, same_spatial_self, bool_same, and_true as both_true}
+use Rattle.rule_table.proofs.Reflects.{same_term_self, same_spatial_self}
 use Rattle.rule_table.proofs.RightNodes.{same_judgement_is}
+use Rattle.std.proofs.lemmas.Bool.{and_from as both_true}
+use Rattle.list_facts.proofs.Tests.{bool_same}
 
 same_pure_self : (x : Pure) → same_pure x x ≡ true
 same_pure_self (Eq t u) = both_true (same_term t t) (same_term u u) (same_term_self t) (same_term_self u)
@@ -20,11 +22,11 @@ pub all_same_self : {X : Type 0} (same : X → X → Bool) → ((x : X) → same
 all_same_self same f [] = refl
 all_same_self same f (x ∷ xs) = both_true (same x x) (all_same same xs xs) (f x) (all_same_self same f xs)
 
-same_heap_self : (a : SymbolicHeap) → same_heap a a ≡ true
+pub same_heap_self : (a : SymbolicHeap) → same_heap a a ≡ true
 same_heap_self a =
     both_true (all_same same_pure a.pure a.pure) (all_same same_spatial a.spatial a.spatial) (all_same_self same_pure same_pure_self a.pure) (all_same_self same_spatial same_spatial_self a.spatial)
 
-same_judgement_self : (j : Judgement) → same_judgement j j ≡ true
+pub same_judgement_self : (j : Judgement) → same_judgement j j ≡ true
 same_judgement_self (Entail a bs) =
     both_true (same_heap a a) (all_same same_heap bs bs) (same_heap_self a) (all_same_self same_heap same_heap_self bs)
 same_judgement_self (Runs i a) = both_true (nat_eq i i) (same_heap a a) ((Decides-eqb i i).1 refl) (same_heap_self a)

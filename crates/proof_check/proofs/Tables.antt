@@ -1,5 +1,5 @@
 -- What a tested file answers as a proof system.
-use Rattle.std.proofs.Common.{◌≡◌, ℕ, zero, suc, ◌<◌, Bool, true, false, List, [], ◌∷◌, get_or, map, take, length, Option, Some, refl, sym, ap, ◌∙◌, subst, arith, Vec}
+use Rattle.std.proofs.Common.{◌≡◌, ℕ, ◌<◌, Bool, true, false, List, get_or, map, take, length, Option, Some, refl, sym, ap, ◌∙◌, subst, arith, Vec}
 use Rattle.std.specs.Prelude.{slice_get, nat_lt}
 use Rattle.std.specs.declared.alloc.Global.{Global}
 use Rattle.std.proofs.lemmas.Bool.{leb-true, leb-false, ltb-true, ltb-false}
@@ -18,18 +18,19 @@ use Rattle.buchi_inclusion.specs.declared.system.Checked.{Checked}
 use Rattle.buchi_inclusion.specs.declared.system.Checked.TheVariants as answers
 use Rattle.goto_lang.specs.Lines.{IsProgram}
 use Rattle.symbolic_exec.proofs.ProgramLines.{program_commands}
-use Rattle.position_sets.proofs.Lists.{at_map, get_within}
 use Rattle.proof_graph.specs.Traces.{positions_of}
 use Rattle.proof_graph.proofs.Joined.{mapped_at}
 use Rattle.proof_file.specs.declared.node.FileNode.{FileNode}
 use Rattle.proof_file.specs.declared.file.ProofFile.{ProofFile}
-use Rattle.node_reasons.proofs.RightGraphs.{each_at}
 use Rattle.proof_check.specs.Files.{graph_edge, graph_node, HoldsAtNode, node_of, nodes_of}
 use Rattle.proof_check.specs.Laws.{graph_length}
-use Rattle.proof_check.specs.Tested.{rows_of, first_rows, HasFields, IsTested, EndsBy, is_untested}
+use Rattle.proof_check.specs.Tested.{first_rows, HasFields, IsTested, EndsBy, is_untested}
 use Rattle.proof_check.specs.Verdicts.{file_graph, state_limit, HasRightNodes, IsRightBefore, IsLeastFault, IsVerdict}
 use Rattle.proof_check.specs.declared.verdict.Verdict.TheVariants as verdicts
-use Rattle.proof_check.proofs.TestLoops.{at_index, node_at}
+use Rattle.proof_check.proofs.TestLoops.{node_at}
+use Rattle.formula_facts.proofs.AllMembers.{each_at}
+use Rattle.list_facts.proofs.Places.{get_taken, at_index, get_within, get_map}
+use Rattle.trace_pairs.specs.Turn.{lists_of}
 
 pub has_fields : (f : ProofFile) → IsProgram f.program → HasFields f.program
 has_fields f program i x k is = each_at IsCommand f.program i (New x k) is (program_commands f.program program)
@@ -40,23 +41,16 @@ pub positions_at : (f : ProofFile) (v : ℕ) (n : FileNode) (ps : List ℕ) → 
 positions_at f v n ps within is e =
     let node = graph_node f.defs.most f.defs.list f.program (nodes_of f.nodes) in
     let below : v < length f.nodes = omega (arith, within, graph_length f, length-map f.nodes node_of) in
-    (node (node_of n), at_map node (nodes_of f.nodes) v (node_of n) (node_at f.nodes v n below is), e)
+    (node (node_of n), get_map node (nodes_of f.nodes) v (node_of n) (node_at f.nodes v n below is), e)
 
-take_at : {X : Type 0} (xs : List X) (n k : ℕ) (x : X) → slice_get (take n xs) k ≡ Some x → slice_get xs k ≡ Some x
-take_at [] zero k x e = e
-take_at [] (suc n) k x e = e
-take_at (y ∷ xs) zero k x e = cc
-take_at (y ∷ xs) (suc n) zero x e = e
-take_at (y ∷ xs) (suc n) (suc k) x e = take_at xs n k x e
-
-pub edges_at : (f : ProofFile) (rows : List (Vec Edge Global)) (v : ℕ) (row : Vec Edge Global) (es : List GraphEdge) → rows_of rows ≡ first_rows f (length rows) → is_untested (length rows) v ≡ false → row ≡ get_or rows v row → es ≡ map graph_edge row.items → HasEdges (file_graph f) v es
+pub edges_at : (f : ProofFile) (rows : List (Vec Edge Global)) (v : ℕ) (row : Vec Edge Global) (es : List GraphEdge) → lists_of rows ≡ first_rows f (length rows) → is_untested (length rows) v ≡ false → row ≡ get_or rows v row → es ≡ map graph_edge row.items → HasEdges (file_graph f) v es
 edges_at f rows v row es are tested is e =
     let nodes = nodes_of f.nodes in
     let node = graph_node f.defs.most f.defs.list f.program nodes in
     let edges = edges_of f.defs.most f.defs.list f.program nodes in
-    let there = at_map (λ (r : Vec Edge Global). r.items) rows v row (at_index rows v row row (leb-false (length rows) v tested) (sym is)) in
+    let there = get_map (λ (r : Vec Edge Global). r.items) rows v row (at_index rows v row row (leb-false (length rows) v tested) (sym is)) in
     let m = mapped_at edges (take (length rows) nodes) v row.items (subst (λ rs. slice_get rs v ≡ Some row.items) are there) in
-    (node m.from, at_map node nodes v m.from (take_at nodes (length rows) v m.from m.at), e ∙ ap (map graph_edge) (sym m.is))
+    (node m.from, get_map node nodes v m.from (get_taken nodes (length rows) v m.from m.at), e ∙ ap (map graph_edge) (sym m.is))
 
 -- ---- the answer
 

@@ -1,28 +1,15 @@
 -- One turn of the loop over a file's nodes.
-use Rattle.std.proofs.Common.{◌≡◌, ℕ, zero, suc, ◌+◌, ◌<◌, Bool, true, false, List, [], ◌∷◌, ◌++◌, length, get_or, take, Some, refl, sym, ap, subst, arith, add-one}
+use Rattle.std.proofs.Common.{◌≡◌, ℕ, ◌+◌, ◌<◌, Bool, true, false, List, length, get_or, Some, refl, sym, subst, arith}
 use Rattle.std.specs.Prelude.{slice_get, nat_lt}
 use Rattle.std.proofs.lemmas.Bool.{ltb-true, ltb-false}
 use Rattle.proof_file.specs.declared.node.FileNode.{FileNode}
 use Rattle.rule_table.specs.Nodes.{Node}
 use Rattle.proof_check.specs.Files.{node_of, nodes_of}
-use Rattle.position_sets.proofs.Lists.{at_map as at_mapped}
-
-pub at_index : {X : Type 0} (xs : List X) (k : ℕ) (d x : X) → k < length xs → get_or xs k d ≡ x → slice_get xs k ≡ Some x
-at_index [] k d x h e = absurd (omega arith)
-at_index (y ∷ xs) zero d x h e = ap Some e
-at_index (y ∷ xs) (suc k) d x h e = at_index xs k d x (omega arith) e
+use Rattle.list_facts.proofs.Places.{at_index, get_map as at_mapped}
 
 -- the node that the loop is at
 pub node_at : (ns : List FileNode) (v : ℕ) (n : FileNode) → v < length ns → n ≡ get_or ns v n → slice_get (nodes_of ns) v ≡ Some (node_of n)
 node_at ns v n h e = at_mapped node_of ns v n (at_index ns v n n h (sym e))
-
-take_more_suc : {X : Type 0} (xs : List X) (v : ℕ) (x : X) → slice_get xs v ≡ Some x → take (suc v) xs ≡ take v xs ++ x ∷ []
-take_more_suc [] v x e = absurd cc
-take_more_suc (y ∷ xs) zero x e = let same : y ≡ x = cc in ap (λ z. z ∷ []) same
-take_more_suc (y ∷ xs) (suc v) x e = ap (λ zs. y ∷ zs) (take_more_suc xs v x e)
-
-pub take_more : {X : Type 0} (xs : List X) (v : ℕ) (x : X) → slice_get xs v ≡ Some x → take (v + 1) xs ≡ take v xs ++ x ∷ []
-take_more xs v x e = rw add-one (take_more_suc xs v x e)
 
 -- what holds of the nodes before v and of node v holds of those before v + 1
 pub one_more : (ns : List Node) (P : ℕ → Node → Type 0) (v : ℕ) (n : Node) → slice_get ns v ≡ Some n → ((u : ℕ) (node : Node) → u < v → slice_get ns u ≡ Some node → P u node) → P v n → (u : ℕ) (node : Node) → u < v + 1 → slice_get ns u ≡ Some node → P u node

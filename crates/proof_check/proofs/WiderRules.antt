@@ -1,7 +1,7 @@
 -- A rule's answer under a greater limit of spatial atoms: the same premises, or some that pass the lesser one.
 use Rattle.std.proofs.Common.{◌≡◌, ℕ, ◌≤◌, Bool, true, false, List, [], ◌∷◌, map, length, Option, Some, None, refl, sym, subst, ◌∙◌, arith}
 use Rattle.std.specs.Prelude.{Ok, Err, ◌+◌, max, nat_le, slice_get}
-use Rattle.std.proofs.lemmas.Bool.{leb-true, le-leb}
+use Rattle.std.proofs.lemmas.Bool.{leb-true, le-leb, and_from, and_parts}
 use Rattle.heap_formula.specs.declared.atoms.Pure.TheVariants.{Eq, Neq}
 use Rattle.heap_formula.specs.declared.atoms.Spatial.{Spatial}
 use Rattle.heap_formula.specs.declared.atoms.Spatial.TheVariants.{Cell, Pred}
@@ -31,7 +31,6 @@ use Rattle.rule_table.specs.RuleCut.{cut_left, cut_right}
 use Rattle.rule_table.specs.RuleUnfold.{unfold_premise}
 use Rattle.rule_table.specs.Table.{calls, right_term, unfolded_right, with_right, without_spatial}
 use Rattle.rule_table.specs.Tests.{ascend_from, has_number}
-use Rattle.rule_table.proofs.Reflects.{both, and_true}
 
 -- at most so many spatial atoms
 abbrev pub is_few : ℕ → SymbolicHeap → Bool
@@ -42,24 +41,24 @@ is_few most a = nat_le (length a.spatial) most
 every_weaker : {X : Type 0} (p q : X → Bool) → ((x : X) → p x ≡ true → q x ≡ true) → (xs : List X) → every p xs ≡ true → every q xs ≡ true
 every_weaker p q step [] e = refl
 every_weaker p q step (x ∷ xs) e =
-    let b = both (p x) (every p xs) e in and_true (q x) (every q xs) (step x b.0) (every_weaker p q step xs b.1)
+    let b = and_parts (p x) (every p xs) e in and_from (q x) (every q xs) (step x b.0) (every_weaker p q step xs b.1)
 
 every_both : {X : Type 0} (p q r : X → Bool) → ((x : X) → p x ≡ true → q x ≡ true → r x ≡ true) → (xs : List X) → every p xs ≡ true → every q xs ≡ true → every r xs ≡ true
 every_both p q r step [] e f = refl
 every_both p q r step (x ∷ xs) e f =
-    let b = both (p x) (every p xs) e in
-    let c = both (q x) (every q xs) f in and_true (r x) (every r xs) (step x b.0 c.0) (every_both p q r step xs b.1 c.1)
+    let b = and_parts (p x) (every p xs) e in
+    let c = and_parts (q x) (every q xs) f in and_from (r x) (every r xs) (step x b.0 c.0) (every_both p q r step xs b.1 c.1)
 
 short_wider : (most more : ℕ) → most ≤ more → (a : SymbolicHeap) → is_short most a ≡ true → is_short more a ≡ true
 short_wider most more le a e =
-    let b = both (nat_le (length a.pure) 64) (nat_le (length a.spatial) most) e in
+    let b = and_parts (nat_le (length a.pure) 64) (nat_le (length a.spatial) most) e in
     let few = leb-true (length a.spatial) most b.1 in
-    and_true (nat_le (length a.pure) 64) (nat_le (length a.spatial) more) b.0 (le-leb (length a.spatial) more (omega arith))
+    and_from (nat_le (length a.pure) 64) (nat_le (length a.spatial) more) b.0 (le-leb (length a.spatial) more (omega arith))
 
 short_again : (most more : ℕ) (a : SymbolicHeap) → is_short more a ≡ true → is_few most a ≡ true → is_short most a ≡ true
 short_again most more a e f =
-    let b = both (nat_le (length a.pure) 64) (nat_le (length a.spatial) more) e in
-    and_true (nat_le (length a.pure) 64) (nat_le (length a.spatial) most) b.0 f
+    let b = and_parts (nat_le (length a.pure) 64) (nat_le (length a.spatial) more) e in
+    and_from (nat_le (length a.pure) 64) (nat_le (length a.spatial) most) b.0 f
 
 needs_ok : (b : Bool) (f : RuleFault) (rest : Answer) (ps : List Premise) → needs b f rest ≡ Ok ps → (b ≡ true) × (rest ≡ Ok ps)
 needs_ok true f rest ps e = (refl, e)

@@ -2,7 +2,7 @@
 use Rattle.std.proofs.Common.{◌≡◌, ℕ, suc, ◌<◌, Bool, true, List, [], ◌∷◌, length, refl, subst, arith, Some}
 use Rattle.std.specs.List.{list_all}
 use Rattle.std.proofs.lemmas.List.{length-map}
-use Rattle.std.proofs.lemmas.Bool.{leb-true, leb-false}
+use Rattle.std.proofs.lemmas.Bool.{leb-true, leb-false, and_parts}
 use Rattle.cyc_limits.specs.declared.TheConstants.{MOST_CASES}
 use Rattle.heap_formula.specs.declared.terms.Term.{Term}
 use Rattle.heap_formula.specs.declared.commands.Command.{Command}
@@ -17,29 +17,30 @@ use Rattle.heap_formula.specs.Words.{Each}
 use Rattle.rule_table.specs.Tests.{is_universal, is_universal_pure, is_universal_spatial}
 use Rattle.rule_table.specs.Soundness.{IsCommand}
 use Rattle.rule_table.specs.Nodes.{Node, IsReadable}
-use Rattle.rule_table.proofs.Reflects.{both, universal_is, universal_pure_is, universal_spatial_is}
+use Rattle.rule_table.proofs.Reflects.{universal_is, universal_pure_is, universal_spatial_is}
 use Rattle.trace_pairs.specs.System.{AreRight, IsLocalAt}
 use Rattle.proof_graph.proofs.Joined.{mapped_at}
 use Rattle.proof_file.specs.Readable.{is_universal_heap, is_universal_reason, is_readable, are_readable, is_universal_command, has_few_cases, all_have_few_cases}
 use Rattle.proof_file.specs.declared.node.FileNode.{FileNode}
 use Rattle.proof_file.specs.declared.file.ProofFile.{ProofFile}
-use Rattle.node_reasons.proofs.RightGraphs.{each_at, graph_right, graph_local}
+use Rattle.node_reasons.proofs.RightGraphs.{graph_right, graph_local}
 use Rattle.proof_check.specs.Files.{AreReadable, HasFewCases, HoldsAtNode, graph_node, node_of, nodes_of}
 use Rattle.proof_check.specs.Tested.{IsTested, HasFields, is_untested}
 use Rattle.proof_check.specs.Verdicts.{file_graph}
+use Rattle.formula_facts.proofs.AllMembers.{each_at}
 
 -- each member passes a test that all pass
 each_passes : {X : Type 0} (p : X → Bool) (Q : X → Type 0) → ((x : X) → p x ≡ true → Q x) → (xs : List X) → list_all p xs ≡ true → Each Q xs
 each_passes p Q one [] e = tt
-each_passes p Q one (x ∷ xs) e = let b = both (p x) (list_all p xs) e in (one x b.0, each_passes p Q one xs b.1)
+each_passes p Q one (x ∷ xs) e = let b = and_parts (p x) (list_all p xs) e in (one x b.0, each_passes p Q one xs b.1)
 
 heap_universal : (a : SymbolicHeap) → is_universal_heap a ≡ true → IsUniversalHeap a
 heap_universal a e =
-    let b = both (list_all is_universal_pure a.pure) (list_all is_universal_spatial a.spatial) e in
+    let b = and_parts (list_all is_universal_pure a.pure) (list_all is_universal_spatial a.spatial) e in
     (each_passes is_universal_pure (InPure IsUniversal) universal_pure_is a.pure b.0, each_passes is_universal_spatial (InSpatial IsUniversal) universal_spatial_is a.spatial b.1)
 
 node_readable : (n : FileNode) → is_readable n ≡ true → IsReadable n.judgement n.reason
-node_readable n e = by_reason n.reason (both (is_universal_heap (antecedent n.judgement)) (is_universal_reason n.reason) e)
+node_readable n e = by_reason n.reason (and_parts (is_universal_heap (antecedent n.judgement)) (is_universal_reason n.reason) e)
   where
     by_reason : (r : Reason) → (is_universal_heap (antecedent n.judgement) ≡ true) × (is_universal_reason r ≡ true) → IsReadable n.judgement r
     by_reason (Step rule) b = heap_universal (antecedent n.judgement) b.0
@@ -65,11 +66,11 @@ file_cases f = few_cases f.defs.list f.cases
 command_is : (c : Command) → is_universal_command c ≡ true → ((x k : ℕ) → c ≡ New x k → 0 < k) → IsCommand c
 command_is (Assign x t) e fields = universal_is t e
 command_is (Load x t k) e fields = universal_is t e
-command_is (Store t k u) e fields = let b = both (is_universal t) (is_universal u) e in (universal_is t b.0, universal_is u b.1)
+command_is (Store t k u) e fields = let b = and_parts (is_universal t) (is_universal u) e in (universal_is t b.0, universal_is u b.1)
 command_is (New x k) e fields = fields x k refl
 command_is (Free t) e fields = universal_is t e
-command_is (IfEq t u j) e fields = let b = both (is_universal t) (is_universal u) e in (universal_is t b.0, universal_is u b.1)
-command_is (IfNeq t u j) e fields = let b = both (is_universal t) (is_universal u) e in (universal_is t b.0, universal_is u b.1)
+command_is (IfEq t u j) e fields = let b = and_parts (is_universal t) (is_universal u) e in (universal_is t b.0, universal_is u b.1)
+command_is (IfNeq t u j) e fields = let b = and_parts (is_universal t) (is_universal u) e in (universal_is t b.0, universal_is u b.1)
 command_is (IfAny j) e fields = tt
 command_is (Goto j) e fields = tt
 command_is Stop e fields = tt
@@ -77,7 +78,7 @@ command_is Stop e fields = tt
 commands_are : (cs : List Command) → list_all is_universal_command cs ≡ true → HasFields cs → Each IsCommand cs
 commands_are [] e fields = tt
 commands_are (c ∷ cs) e fields =
-    let b = both (is_universal_command c) (list_all is_universal_command cs) e in
+    let b = and_parts (is_universal_command c) (list_all is_universal_command cs) e in
     (command_is c b.0 (λ x k is. fields 0 x k (λ i. Some (is i))), commands_are cs b.1 (λ i. fields (suc i)))
 
 -- ---- the laws

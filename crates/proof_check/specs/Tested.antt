@@ -1,6 +1,5 @@
 -- A proof file of which the nodes are tested up to the first fault.
-use Rattle.std.specs.Prelude.{◌≡◌, ◌<◌, ◌≤◌, ℕ, Bool, nat_le, List, map, take, length, Option, Some, None, slice_get, Vec}
-use Rattle.std.specs.declared.alloc.Global.{Global}
+use Rattle.std.specs.Prelude.{◌≡◌, ◌<◌, ◌≤◌, ℕ, Bool, nat_le, List, map, take, length, Option, Some, None, slice_get}
 use Rattle.cyc_limits.specs.declared.TheConstants.{MOST_SPATIAL}
 use Rattle.heap_formula.specs.declared.commands.Command.{Command}
 use Rattle.heap_formula.specs.declared.commands.Command.TheVariants.{New}
@@ -10,10 +9,6 @@ use Rattle.rule_table.specs.Nodes.{Node, Edge, edges_of, node_fault}
 use Rattle.proof_file.specs.declared.file.ProofFile.{ProofFile}
 use Rattle.proof_check.specs.Files.{nodes_of}
 use Rattle.proof_check.specs.Verdicts.{IsRightBefore}
-
--- the edges of each node of a list
-abbrev pub rows_of : List (Vec Edge Global) → List (List Edge)
-rows_of rows = map (λ v. v.items) rows
 
 -- the edges of the first n nodes
 abbrev pub first_rows : ProofFile → ℕ → List (List Edge)

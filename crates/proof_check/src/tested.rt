@@ -2,7 +2,8 @@
 ghost use Rattle.std.specs.Prelude.{◌≡◌, length, IfOk, map};
 ghost use Rattle.trace_pairs.specs.System.{IsLeastFaulty};
 ghost use Rattle.proof_check.specs.Files.{graph_edge};
-ghost use Rattle.proof_check.specs.Tested.{rows_of, first_rows, IsTested, EndsBy, is_untested};
+ghost use Rattle.trace_pairs.specs.Turn.{lists_of};
+ghost use Rattle.proof_check.specs.Tested.{first_rows, IsTested, EndsBy, is_untested};
 ghost use Rattle.proof_check.specs.Verdicts.{file_graph, IsLeastFault};
 
 use crate::node_tests::{NodeAnswer, NodeEdge, test_node};
@@ -21,7 +22,7 @@ pub struct TestedFile<'a> {
     edges: Vec<Vec<NodeEdge>>,
     fault: Option<RuleFault>,
     ghost tested: { IsTested file.now (length edges.items) },
-    ghost rows: { rows_of edges.items ≡ first_rows file.now (length edges.items) },
+    ghost rows: { lists_of edges.items ≡ first_rows file.now (length edges.items) },
     ghost ends: { EndsBy file.now (length edges.items) fault },
 }
 

@@ -1,5 +1,5 @@
 -- A file without a flaw fits the values' types.
-use Rattle.std.proofs.Common.{◌≡◌, ℕ, suc, ◌+◌, ◌<◌, ◌≤◌, List, [], ◌∷◌, false, length, None, refl, arith}
+use Rattle.std.proofs.Common.{◌≡◌, ℕ, suc, ◌+◌, ◌<◌, ◌≤◌, List, [], ◌∷◌, false, length, None, refl, arith, ap}
 use Rattle.std.specs.Prelude.{◌||◌, nat_eq, nat_lt, nat_le}
 use Rattle.heap_formula.specs.Words.{Each}
 use Rattle.cyc_lex.specs.declared.fault.What.TheVariants.{Disjuncts, Nodes, ProgramVariables, Variable}
@@ -16,9 +16,10 @@ use Rattle.pred_reader.specs.declared.scope.Scope.TheVariants.{Outside as InNode
 use Rattle.pred_reader.proofs.Fitting.{term_small, outside_small, definitions_small}
 use Rattle.proof_file.specs.Spans.{term_span, definition_span, judgement_span, pair_span, node_span}
 use Rattle.proof_file.specs.Building.{front_of}
-use Rattle.proof_file.specs.Flaws.{headings, term_flaw, variable_flaw, program_flaw, definition_flaw, entailment_flaw, judgement_flaw, pair_flaw, reason_flaw, node_flaw, first_line, first_node, nodes_flaw, file_flaw}
+use Rattle.proof_file.specs.Flaws.{heading, headings, term_flaw, variable_flaw, program_flaw, definition_flaw, entailment_flaw, judgement_flaw, pair_flaw, reason_flaw, node_flaw, first_line, first_node, nodes_flaw, file_flaw}
 use Rattle.proof_file.specs.Values.{term_value, variable_value}
 use Rattle.proof_file.specs.Small.{IsSmallEntailment, IsSmallJudgement, IsSmallPair, IsSmallReason, IsSmallNode, IsSmallFile}
+use Rattle.std.proofs.lemmas.List.{length-map}
 
 -- ---- lines
 
@@ -126,3 +127,6 @@ file_small f some e =
       nodes = nodes_small most few hs count 0 (first_node f) f.nodes some parts.2;
       nodes_few = few_all (node_flaw most hs count) node_span 20000 (λ n k x h. below 20000 n (node_parts most few hs count n k x h).0) (first_node f) f.nodes parts.2;
     }
+
+pub few_heads : (heads : List Heading) (f : File) → heads ≡ headings f.definitions → length f.definitions ≤ 4096 → length heads ≤ 4096
+few_heads heads f known few = omega (arith, few, ap length known, length-map f.definitions heading)

@@ -2,7 +2,7 @@
 use Rattle.std.proofs.Common.{◌≡◌, ℕ, zero, suc, ◌+◌, ◌<◌, ◌≤◌, Bool, true, false, ◌&&◌, List, [], ◌∷◌, map, length, None, refl, arith}
 use Rattle.std.specs.List.{list_all}
 use Rattle.std.specs.Prelude.{◌||◌, nat_eq, nat_lt, nat_le}
-use Rattle.std.proofs.lemmas.Bool.{le-leb, lt-ltb, ltb-false}
+use Rattle.std.proofs.lemmas.Bool.{le-leb, lt-ltb, ltb-false, and_from as both_true}
 use Rattle.std.proofs.lemmas.List.{length-map}
 use Rattle.heap_formula.specs.declared.terms.Term.{Term}
 use Rattle.heap_formula.specs.Words.{Each}
@@ -33,8 +33,8 @@ use Rattle.proof_file.specs.Flaws.{headings, term_flaw, judgement_flaw, node_fla
 use Rattle.proof_file.specs.Values.{term_value, variable_value, definition_value, program_value, judgement_value, pair_value, reason_value, node_value}
 use Rattle.proof_file.specs.Readable.{is_universal_heap, is_universal_reason, is_readable, are_readable, is_universal_command, are_universal_commands, is_at_line, are_at_lines, has_few_cases, all_have_few_cases}
 use Rattle.proof_file.specs.Small.{IsSmallDefinition}
-use Rattle.rule_table.proofs.Reflects.{and_true as both_true}
-use Rattle.pred_reader.proofs.Members.{list_fit, listed_fit, many_fit, spatials_fit}
+use Rattle.pred_reader.proofs.Members.{list_fit, listed_fit, spatials_fit}
+use Rattle.heap_reader.proofs.Members.{many_fit}
 
 -- ---- members
 

@@ -40,7 +40,7 @@ judgement_words (From n h) f =
 
 -- ---- lines
 
-variable_words : (n : ℕ) → variable.fits n → length (variable.words n) + 1 ≡ variable_span n
+pub variable_words : (n : ℕ) → variable.fits n → length (variable.words n) + 1 ≡ variable_span n
 unfolding variable
 variable_words n f = refl
 

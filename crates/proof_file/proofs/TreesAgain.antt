@@ -1,7 +1,6 @@
 -- What a tree without a flaw says is written as that tree.
-use Rattle.std.proofs.Common.{◌≡◌, ℕ, suc, ◌+◌, ◌≤◌, Bool, true, false, List, [], ◌∷◌, length, map, None, refl, subst, arith}
+use Rattle.std.proofs.Common.{◌≡◌, ℕ, suc, ◌+◌, ◌≤◌, true, false, List, [], ◌∷◌, length, map, None, refl, subst, arith}
 use Rattle.std.specs.Prelude.{◌||◌, ◌&&◌, not, nat_eq, nat_lt, nat_le}
-use Rattle.std.proofs.lemmas.Bool.{eqb-true}
 use Rattle.command_syntax.specs.declared.tree.OperandTree.{OperandTree}
 use Rattle.command_syntax.specs.declared.tree.OperandTree.TheVariants as operands
 use Rattle.command_syntax.specs.declared.tree.ChangeTree.TheVariants as changes
@@ -23,12 +22,14 @@ use Rattle.heap_reader.specs.Values.{place_of, operand_value, command_value}
 use Rattle.heap_reader.proofs.Fitting.{most_fits}
 use Rattle.heap_reader.proofs.NoFlaw.{neither, not_ill}
 use Rattle.pred_reader.specs.declared.scope.Scope.TheVariants.{Outside as InNode}
-use Rattle.pred_reader.proofs.TreesAgain.{all_again, listed_again, term_again, found_name, heap_again, heaps_again, definition_again}
+use Rattle.pred_reader.proofs.TreesAgain.{listed_again, term_again, found_name, heap_again, heaps_again, definition_again}
 use Rattle.proof_file.specs.Spans.{term_span, variable_span, definition_span, judgement_span, node_span}
 use Rattle.proof_file.specs.Flaws.{headings, term_flaw, variable_flaw, definition_flaw, judgement_flaw, reason_flaw, node_flaw, first_line, first_node, file_flaw}
 use Rattle.proof_file.specs.Values.{variable_value, definition_value, program_value, judgement_value, side_value, pair_value, reason_value, node_value}
 use Rattle.proof_file.proofs.Fitting.{node_parts, file_parts}
 use Rattle.proof_file.specs.Written.{operand_tree, command_tree, lines_behind, name_of, definition_tree, judgement_tree, side_tree, pair_tree, reason_tree, node_tree, tree_of}
+use Rattle.list_facts.proofs.Tests.{equal_numbers}
+use Rattle.list_facts.proofs.Parts.{map_back}
 
 -- ---- lines
 
@@ -48,13 +49,6 @@ command_again (Change v (changes.New n)) = refl
 command_again (Change v (changes.Assign t)) = λ i. Change v (changes.Assign (operand_again t i))
 command_again (Change v (changes.Load t n)) = λ i. Change v (changes.Load (operand_again t i) n)
 command_again (Change v (changes.Store n t)) = λ i. Change v (changes.Store n (operand_again t i))
-
-equal_numbers : (m n : ℕ) → not (nat_eq m n) ≡ false → m ≡ n
-equal_numbers m n e = by_test (nat_eq m n) refl e
-  where
-    by_test : (b : Bool) → nat_eq m n ≡ b → not b ≡ false → m ≡ n
-    by_test true h g = eqb-true m n h
-    by_test false h g = absurd cc
 
 -- a line without a flaw has its place as its number
 own_number : (count n k : ℕ) (l : Line) → line_flaw variable_flaw variable_span count n k l ≡ None → n + 1 ≡ l.number
@@ -118,7 +112,7 @@ module _ (most : ℕ) (few : most ≤ 32) (hs : List Heading) (vs : List Definit
   reason_again k Exec e = refl
   reason_again k (Drop n) e = refl
   reason_again k (Link l) e =
-      let pairs = all_again pair_value pair_tree pair_again l.substitution in
+      let pairs = map_back pair_value pair_tree pair_again l.substitution in
       λ i. Link (record { target = l.target; substitution = pairs i; mapped = l.mapped; disjuncts = l.disjuncts })
 
   node_again : (count n k : ℕ) (x : Node) → node_flaw most hs count n k x ≡ None → node_tree vs (node_value hs x) ≡ x

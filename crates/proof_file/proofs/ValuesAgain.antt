@@ -20,8 +20,7 @@ use Rattle.proof_file.specs.declared.node.FileNode.{FileNode}
 use Rattle.proof_file.specs.declared.file.ProofFile.{ProofFile}
 use Rattle.heap_reader.specs.Trees.{Heading}
 use Rattle.heap_reader.specs.Values.{place_of, operand_value, command_value}
-pub use Rattle.pred_reader.proofs.ValuesAgain.{get_map, flaw_at, none_of}
-use Rattle.pred_reader.proofs.ValuesAgain.{all_known, each_known, found_place, term_known, heap_known, heaps_known, definition_known, definitions_fit}
+use Rattle.pred_reader.proofs.ValuesAgain.{each_known, found_place, term_known, heap_known, heaps_known, definition_known, definitions_fit}
 use Rattle.proof_file.specs.Flaws.{headings}
 use Rattle.proof_file.specs.Values.{variable_value, definition_value, program_value, judgement_value, side_value, pair_value, reason_value, node_value}
 use Rattle.proof_file.specs.Written.{operand_tree, store_tree, command_tree, lines_behind, name_of, definition_tree, judgement_tree, side_tree, pair_tree, reason_tree, node_tree, tree_of}
@@ -30,6 +29,9 @@ use Rattle.proof_file.specs.Readable.{is_universal_command, are_universal_comman
 use Rattle.proof_file.proofs.Fitting.{file_parts}
 use Rattle.rule_table.specs.Tests.{is_universal}
 use Rattle.proof_file.proofs.ReadableNodes.{nodes_fit}
+use Rattle.list_facts.proofs.Parts.{map_back}
+use Rattle.list_facts.proofs.Places.{get_map}
+use Rattle.heap_reader.proofs.FirstPlaces.{flaw_at}
 
 -- ---- judgements and nodes
 
@@ -71,7 +73,7 @@ module _ (ds : List DefinitionValue) (ts : List Heading) (placed : (p : ℕ) →
   reason_known (Step rules.Exec) f = refl
   reason_known (Step (rules.Drop k)) f = refl
   reason_known (Back l) f =
-      let pairs = all_known pair_tree pair_value pair_known l.subst in
+      let pairs = map_back pair_tree pair_value pair_known l.subst in
       λ i. Back (record { target = l.target; subst = pairs i; map = l.map; disjuncts = l.disjuncts })
 
   node_known : (n : FileNode) → node.fits (node_tree ds n) → node_value ts (node_tree ds n) ≡ n

@@ -1,7 +1,7 @@
 -- A file without a flaw has none as a file of version 2, and each of its judgements is within its version's limit.
 use Rattle.std.proofs.Common.{◌≡◌, ℕ, ◌+◌, ◌≤◌, Bool, true, false, ◌⊎◌, inl, inr, List, [], ◌∷◌, length, map, None, Some, refl, arith}
 use Rattle.std.specs.Prelude.{◌||◌, nat_eq, nat_lt, nat_le, slice_get}
-use Rattle.std.proofs.lemmas.Bool.{le-leb}
+use Rattle.std.proofs.lemmas.Bool.{le-leb, and_from as both_true}
 use Rattle.std.proofs.lemmas.List.{length-map}
 use Rattle.heap_formula.specs.declared.commands.Command.{Command}
 use Rattle.heap_formula.specs.declared.judgements.Judgement.{Judgement as JudgementValue}
@@ -10,7 +10,6 @@ use Rattle.heap_formula.specs.Definitions.{Definition as DefinitionValue}
 use Rattle.heap_formula.specs.Symbolic.{SymbolicHeap}
 use Rattle.heap_formula.specs.Words.{Each}
 use Rattle.rule_table.specs.Answer.{every, heaps_of}
-use Rattle.rule_table.proofs.Reflects.{and_true as both_true}
 use Rattle.cyc_lex.specs.declared.fault.IllFault.TheVariants.{NoLine}
 use Rattle.cyc_lex.specs.declared.fault.What.TheVariants.{Cases, Disjuncts, Nodes}
 use Rattle.heap_syntax.specs.declared.version.Version.{Version}
@@ -34,7 +33,8 @@ use Rattle.proof_file.specs.Spans.{term_span, definition_span, judgement_span, n
 use Rattle.proof_file.specs.Flaws.{headings, term_flaw, program_flaw, head_flaw, definition_flaw, judgement_flaw, reason_flaw, node_flaw, first_line, first_node, file_flaw}
 use Rattle.proof_file.specs.Written.{spatial_tree, heap_tree, judgement_tree, node_tree, lines_tree, tree_of}
 use Rattle.proof_file.proofs.Fitting.{node_parts, file_parts}
-use Rattle.proof_file.proofs.ValuesAgain.{get_map, flaw_at}
+use Rattle.list_facts.proofs.Places.{get_map}
+use Rattle.heap_reader.proofs.FirstPlaces.{flaw_at}
 
 -- ---- more spatial atoms may stand in a heap
 

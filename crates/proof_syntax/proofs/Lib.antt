@@ -1,6 +1,5 @@
 pub mod GrammarLaws
 pub mod GrammarEnds
-pub mod OtherTexts
 pub mod ReasonParts
 pub mod WrittenFiles
 pub mod SeenTrees

@@ -2,3 +2,4 @@ mod ShortTexts
 mod NumberTerms
 mod NumberVariables
 mod ReadTexts
+mod SmallDollars

@@ -1,6 +1,5 @@
 -- A text has one fault, and a fault is answered in one way.
-use Rattle.std.proofs.Common.{◌≡◌, ℕ, ◌+◌, ◌-◌, ◌<◌, List, ◌++◌, take, drop, map, Result, Ok, Err, sym, ap, subst, ◌∙◌, inl, inr, arith, append_assoc, take-add}
-use Rattle.std.proofs.lemmas.Bool.{cases_lt}
+use Rattle.std.proofs.Common.{◌≡◌, ℕ, List, map, Result, Ok, Err, sym, ap, subst, ◌∙◌}
 use Rattle.std.specs.Prelude.{slice_get}
 use Rattle.cyc_lex.specs.declared.fault.LexFault.{LexFault}
 use Rattle.cyc_lex.specs.declared.fault.LexFault.TheVariants as lexical
@@ -11,10 +10,11 @@ use Rattle.cyc_lex.specs.declared.place.Bad.{Bad}
 use Rattle.cyc_lex.specs.Answer.{fault_of}
 use Rattle.cyc_lex.specs.Lexing.{tokens_of}
 use Rattle.cyc_lex.specs.Placed.{Placed}
-use Rattle.cyc_lex.specs.Word.{Word, word_of}
+use Rattle.cyc_lex.specs.Word.{word_of}
 use Rattle.cyc_grammar.specs.Syntax.{Syntax}
-use Rattle.cyc_grammar.specs.Faults.{BeginsText, IsFirstDead, IsSyntaxFault, StandsAt}
+use Rattle.cyc_grammar.specs.Faults.{IsSyntaxFault, StandsAt}
 use Rattle.cyc_grammar.proofs.Laws.{Lawful}
+use Rattle.cyc_grammar.proofs.FirstDead.{one_dead}
 use Rattle.heap_reader.specs.declared.flaw.Flaw.{Flaw}
 use Rattle.heap_reader.specs.declared.flaw.Item.{Item}
 use Rattle.heap_reader.specs.declared.flaw.Item.TheVariants.{Ill, Over}
@@ -41,33 +41,6 @@ is_told bytes (lexical.LongName o l c) is = ap told_bad is
 -- bytes have one first bad place
 pub one_lex_fault : (bytes : List ℕ) (a b : LexFault) → IsLexFault bytes a → IsLexFault bytes b → a ≡ b
 one_lex_fault bytes a b first second = sym (is_told bytes a first) ∙ is_told bytes b second
-
--- ---- the grammar
-
-module _ {T : Type 0} (s : Syntax T) (ws : List Word) where
-  -- what begins with more words begins with fewer
-  fewer : (j m : ℕ) → BeginsText s (take (j + m) ws) → BeginsText s (take j ws)
-  fewer j m begins = (
-    begins.0,
-    take m (drop j ws) ++ begins.1,
-    begins.2,
-    begins.3 ∙ ap (λ front. front ++ begins.1) (take-add j m ws) ∙ append_assoc (take j ws) (take m (drop j ws)) begins.1,
-  )
-
-  -- a word before the first dead one is not the first dead one
-  not_before : (j k : ℕ) → j < k → IsFirstDead s ws j → IsFirstDead s ws k → ⊥
-  not_before j k l first second =
-      let sum : k ≡ j + 1 + (k - (j + 1)) = omega (arith, l) in
-      first.dead (fewer (j + 1) (k - (j + 1)) (subst (λ n. BeginsText s (take n ws)) sum second.alive))
-
-  one_dead : (j k : ℕ) → IsFirstDead s ws j → IsFirstDead s ws k → j ≡ k
-  one_dead j k first second = elim (cases_lt j k) [
-    | inl before ↦ absurd (not_before j k before first second)
-    | inr le ↦ elim (cases_lt k j) [
-      | inl before ↦ absurd (not_before k j before second first)
-      | inr ge ↦ omega (arith, le, ge)
-    ]
-  ]
 
 -- ---- places
 

@@ -2,8 +2,9 @@
 use Rattle.std.proofs.Common.{◌≡◌, ℕ, zero, suc, ◌+◌, ◌-◌, ◌*◌, ◌<◌, ◌≤◌, ◌⊎◌, inl, inr, List, [], ◌∷◌, ◌++◌, arith, Some, None, slice_get, length, map, sym, refl, ap, ◌∙◌, subst, length-append}
 use Rattle.std.proofs.lemmas.Bool.{cases_eq}
 use Rattle.std.proofs.lemmas.List.{map-append}
-use Rattle.buchi_core.proofs.Lists.{get_append_left, get_append_right, get_append_cases}
+use Rattle.buchi_core.proofs.Lists.{get_append_right, get_append_cases}
 use Rattle.ring_family.specs.Ring.{in_blocks}
+use Rattle.list_facts.proofs.Places.{get_append_left}
 
 -- member r of block m, counted from block i on
 pub record InBlock {X : Type 0} (block : ℕ → List X) (i n v : ℕ) (x : X) : Type 0 where

@@ -12,7 +12,6 @@ use Rattle.std.proofs.lemmas.Fmt.{digits_decimal, length-decimal-le, decimal_inj
 use Rattle.std.proofs.lemmas.Slice.Eq.{bytes_eq-Decides}
 use Rattle.std.proofs.lemmas.Str.{is_utf8-from_IsUtf8, chars-encodes, encode_ascii}
 use Rattle.std.proofs.lemmas.Str.Parse.{IsNumeralModel, numerals_by_value}
-use lib.Utf8.{scalar}
 use Rattle.unicode_ident.specs.Ident.{is_xid_continue}
 use Rattle.unicode_ident.proofs.IdentLemmas.{is_xid_continue-ascii, is_xid_start-ascii}
 use Rattle.cyc_lex.specs.Word.{is_identifier, is_name_text}
@@ -20,6 +19,7 @@ use Rattle.cyc_lex.proofs.Letters.{letters-name}
 use Rattle.cyc_lex.proofs.BoolParts.{and-parts}
 use Rattle.cyc_grammar.specs.Classes.{is_free_name}
 use Rattle.heap_syntax.specs.Words.{reserved}
+use Rattle.cyc_lex.proofs.Lexemes.{digits-encode, digits-scalars}
 
 own : IsNumeralModel (λ ds. list_all is_ascii_digit ds ≡ true) (digits_value 10)
 own = numerals_by_value (λ ds. list_all is_ascii_digit ds ≡ true) (search rules)
@@ -30,9 +30,6 @@ digit_small c h = grind (arith, nat_tests)
 digit_both : (c : ℕ) → is_ascii_digit c ≡ true → is_ascii_alphanumeric c ≡ true
 digit_both c h = grind (arith, nat_tests)
 
-small_scalar : (c : ℕ) → c < 128 → scalar c ≡ true
-small_scalar c h = grind (arith, nat_tests)
-
 digit_continues : (c : ℕ) → is_ascii_digit c ≡ true → is_xid_continue c ≡ true
 digit_continues c h = is_xid_continue-ascii c (let s = digit_small c h in omega (arith, s)) ∙ rw (digit_both c h) refl
 
@@ -40,26 +37,12 @@ digits_continue : (cs : List ℕ) → list_all is_ascii_digit cs ≡ true → li
 digits_continue [] h = refl
 digits_continue (c ∷ cs) h = let p = and-parts (is_ascii_digit c) (list_all is_ascii_digit cs) h in rw (digit_continues c p.0, digits_continue cs p.1) refl
 
-digits_encode : (cs : List ℕ) → list_all is_ascii_digit cs ≡ true → encode_utf8_all cs ≡ cs
-digits_encode [] h = refl
-digits_encode (c ∷ cs) h =
-    let p = and-parts (is_ascii_digit c) (list_all is_ascii_digit cs) h in
-    let s = digit_small c p.0 in
-    rw (encode_ascii c (omega (arith, s)), digits_encode cs p.1) refl
-
-digits_scalars : (cs : List ℕ) → list_all is_ascii_digit cs ≡ true → all_scalars cs ≡ true
-digits_scalars [] h = refl
-digits_scalars (c ∷ cs) h =
-    let p = and-parts (is_ascii_digit c) (list_all is_ascii_digit cs) h in
-    let s = digit_small c p.0 in
-    rw (small_scalar c (omega (arith, s)), digits_scalars cs p.1) refl
-
 -- `p` and up to 63 digits
 digits_name : (ds : List ℕ) → list_all is_ascii_digit ds ≡ true → length ds ≤ 63 → is_name_text (112 ∷ ds) ≡ true
 unfolding is_name_text
 digits_name ds h few =
-    let good : all_scalars (112 ∷ ds) ≡ true = rw (digits_scalars ds h) refl in
-    let same : encode_utf8_all (112 ∷ ds) ≡ 112 ∷ ds = rw (encode_ascii 112 (omega arith), digits_encode ds h) refl in
+    let good : all_scalars (112 ∷ ds) ≡ true = rw (digits-scalars ds h) refl in
+    let same : encode_utf8_all (112 ∷ ds) ≡ 112 ∷ ds = rw (encode_ascii 112 (omega arith), digits-encode ds h) refl in
     let utf8 : is_utf8 (112 ∷ ds) ≡ true = is_utf8-from_IsUtf8 (112 ∷ ds) (112 ∷ ds, (good, same)) in
     let characters : chars (112 ∷ ds) ≡ 112 ∷ ds = ap chars (sym same) ∙ chars-encodes (112 ∷ ds) good in
     let id : is_identifier (112 ∷ ds) ≡ true = rw (is_xid_start-ascii 112 (omega arith), digits_continue ds h) refl in

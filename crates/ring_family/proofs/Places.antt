@@ -1,5 +1,5 @@
 -- Where the ring runs through the graph, and how each edge of the graph goes on along it.
-use Rattle.std.proofs.Common.{◌≡◌, ℕ, zero, suc, ◌+◌, ◌*◌, ◌<◌, ◌≤◌, ◌⊎◌, inl, inr, List, [], ◌∷◌, arith, Bool, true, false, cond, Option, Some, None, slice_get, length, refl, ap, sym, subst}
+use Rattle.std.proofs.Common.{◌≡◌, ℕ, ◌+◌, ◌*◌, ◌<◌, ◌≤◌, ◌⊎◌, inl, inr, List, [], ◌∷◌, arith, Bool, true, false, cond, Option, Some, None, slice_get, length, refl, ap, sym, subst}
 use Rattle.std.specs.Prelude.{nat_eq}
 use Rattle.std.proofs.lemmas.Bool.{cases_eq, ne_eqb, both_ways}
 use Rattle.heap_formula.specs.Words.{Each}
@@ -8,6 +8,7 @@ use Rattle.buchi_core.specs.Forest.{is_filled, next_forest, start}
 use Rattle.ring_family.proofs.Blocks.{EachFrom, each_from, blocks_cases, in_block, at_last}
 use Rattle.ring_family.proofs.Graphs.{edge, graph_block, graph_bud, ring_graph}
 use Rattle.ring_family.proofs.Turning.{Turns}
+use Rattle.formula_facts.proofs.AllMembers.{each_at}
 
 -- the positions of a node, none if there is no node
 abbrev pub places_in : Option Node → List ℕ
@@ -32,11 +33,6 @@ place_at k v = first_of_list (places_at k v)
 -- node 0 comes after the last node
 abbrev pub rank : ℕ → ℕ → ℕ
 rank k v = cond (nat_eq v 0) (8 * k + 1) v
-
-each_edge_at : {X : Type 0} (P : X → Type 0) (xs : List X) (i : ℕ) (x : X) → slice_get xs i ≡ Some x → Each P xs → P x
-each_edge_at P [] i x e a = absurd (let f : None ≡ Some x = e in cc)
-each_edge_at P (y ∷ xs) zero x e a = let f : Some y ≡ Some x = e in let same : y ≡ x = cc in subst P same a.0
-each_edge_at P (y ∷ xs) (suc i) x e a = each_edge_at P xs i x e a.1
 
 module _ (k : ℕ) where
   eight : (i : ℕ) → length (graph_block i) ≡ 8
@@ -129,7 +125,7 @@ module _ (k : ℕ) where
         | inl b ↦
             (let place : 8 * b.m + b.r ≡ v = omega (arith, b.place) in
             let each' = each_from (λ r (x : Node). Each (GoodEdge (8 * b.m + r)) x.edges) 0 b.r b.r (graph_block b.m) h.node (omega arith) b.is_x (block_good b.m (omega (arith, b.last))) in
-            subst (λ w. GoodEdge w e) place (each_edge_at (GoodEdge (8 * b.m + b.r)) h.node.edges i e h.is_edge each'))
+            subst (λ w. GoodEdge w e) place (each_at (GoodEdge (8 * b.m + b.r)) h.node.edges i e h.is_edge each'))
         | inr l ↦
-            subst (λ w. GoodEdge w e) (sym l.0) (each_edge_at (GoodEdge (8 * k)) graph_bud.edges i e (subst (λ (x : Node). slice_get x.edges i ≡ Some e) (sym l.1) h.is_edge) (bud_good one))
+            subst (λ w. GoodEdge w e) (sym l.0) (each_at (GoodEdge (8 * k)) graph_bud.edges i e (subst (λ (x : Node). slice_get x.edges i ≡ Some e) (sym l.1) h.is_edge) (bud_good one))
       ]

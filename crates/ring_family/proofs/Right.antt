@@ -1,12 +1,9 @@
 -- Each node of the ring is right.
 use Rattle.std.proofs.Common.{◌≡◌, ℕ, zero, suc, ◌+◌, ◌*◌, ◌<◌, ◌≤◌, inl, inr, List, [], ◌∷◌, arith, Bool, true, false, Option, Some, None, length, refl, ap, ◌∙◌, subst}
-use Rattle.std.specs.Prelude.{Ok, nat_eq, slice_get, if◌then◌else◌}
-use Rattle.std.proofs.lemmas.Bool.{cases_eq, eq-eqb, ne_eqb, lt-ltb, and_from}
+use Rattle.std.specs.Prelude.{Ok, slice_get, if◌then◌else◌}
+use Rattle.std.proofs.lemmas.Bool.{cases_eq, eq-eqb, ne_eqb, lt-ltb}
 use Rattle.heap_formula.specs.declared.terms.Term.TheVariants.{Nil, Univ, Exist}
-use Rattle.heap_formula.specs.declared.atoms.Pure.{Pure}
-use Rattle.heap_formula.specs.declared.atoms.Pure.TheVariants.{Eq, Neq}
 use Rattle.heap_formula.specs.declared.judgements.Judgement.{Judgement}
-use Rattle.heap_formula.specs.declared.judgements.Judgement.TheVariants.{Entail, Term as Runs}
 use Rattle.heap_formula.specs.declared.judgements.Premise.{Premise}
 use Rattle.heap_formula.specs.declared.proof_rules.Rule.{Rule}
 use Rattle.heap_formula.specs.declared.proof_rules.Rule.TheVariants.{Rewrite, Unfold, Done, PureRight, Instantiate, Frame, UnfoldRight}
@@ -17,29 +14,12 @@ use Rattle.heap_formula.specs.Symbolic.{SymbolicHeap}
 use Rattle.heap_formula.specs.Meaning.{cases_of}
 use Rattle.rule_table.specs.LinkTable.{first_of, fault_unless}
 use Rattle.rule_table.specs.RuleBook.{rule_answer}
-use Rattle.rule_table.specs.Tests.{same_term, same_pure, same_spatial}
-use Rattle.rule_table.specs.Nodes.{Node, all_same, same_heap, same_judgement, differs, premises_fault, answer_fault, node_fault}
-use Rattle.rule_table.proofs.Reflects.{same_term_self, same_spatial_self}
+use Rattle.rule_table.specs.Nodes.{Node, same_judgement, differs, premises_fault, answer_fault, node_fault}
 use Rattle.ring_family.specs.Ring.{emp, is_nil, holds, cell_then, after, definitions_from, ring_definitions, by_rule, ring_block, ring_bud, ring_nodes}
 use Rattle.proof_check.specs.Files.{AreRight}
 use Rattle.ring_family.proofs.Answers.{entails, premise, pair, unfolds, rewrites, unfolds_nil, drops_pure, done', unfolds_cell, instantiates, frames}
 use Rattle.ring_family.proofs.Blocks.{EachFrom, each_from, blocks_cases, in_block, at_last}
-use Rattle.proof_check.proofs.SameJudgements.{all_same_self}
-
--- ---- judgements that are one
-
-same_pure_self : (x : Pure) → same_pure x x ≡ true
-same_pure_self (Eq t u) = and_from (same_term t t) (same_term u u) (same_term_self t) (same_term_self u)
-same_pure_self (Neq t u) = and_from (same_term t t) (same_term u u) (same_term_self t) (same_term_self u)
-
-same_heap_self : (a : SymbolicHeap) → same_heap a a ≡ true
-same_heap_self a =
-    and_from (all_same same_pure a.pure a.pure) (all_same same_spatial a.spatial a.spatial) (all_same_self same_pure same_pure_self a.pure) (all_same_self same_spatial same_spatial_self a.spatial)
-
-same_judgement_self : (j : Judgement) → same_judgement j j ≡ true
-same_judgement_self (Entail a bs) =
-    and_from (same_heap a a) (all_same same_heap bs bs) (same_heap_self a) (all_same_self same_heap same_heap_self bs)
-same_judgement_self (Runs i a) = and_from (nat_eq i i) (same_heap a a) (eq-eqb i i refl) (same_heap_self a)
+use Rattle.proof_check.proofs.SameJudgements.{same_judgement_self}
 
 -- ---- nodes by rules
 

@@ -4,13 +4,13 @@ use Rattle.std.proofs.lemmas.Option.{slice_get_within}
 use Rattle.trace_pairs.specs.Graph.{Node, Edge, IsEdge}
 use Rattle.buchi_core.specs.Forest.{next_forest, event_of, start}
 use Rattle.buchi_core.specs.declared.event.Event.{Event}
-use Rattle.buchi_core.proofs.Lists.{get_within}
 use Rattle.buchi_inclusion.specs.Product.{State, Moves, Run, Reachable}
 use Rattle.buchi_inclusion.specs.Answers.{AreReached, HasAtMost, HasMoreThan}
 use Rattle.buchi_inclusion.proofs.Descent.{reach_more}
 use Rattle.ring_family.proofs.Blocks.{blocks_long, blocks_cases}
 use Rattle.ring_family.proofs.Graphs.{graph_block, graph_bud, ring_graph}
 use Rattle.ring_family.proofs.Places.{places_in, places_at, graph_at, all_good}
+use Rattle.list_facts.proofs.Places.{get_within}
 
 -- a node with its start
 abbrev state_at : ℕ → ℕ → State

@@ -33,12 +33,13 @@ use Rattle.rule_table.specs.Fits.{OnPremises}
 use Rattle.rule_table.specs.RuleBook.{variables_of, rule_answer}
 use Rattle.rule_table.specs.RuleCut.{cut_left, cut_right}
 use Rattle.rule_table.specs.RuleUnfold.{unfold_premise}
-use Rattle.rule_table.specs.Table.{with_pures, with_pure, with_right, named, unnamed, rewrite_side, rewrite_atom, drop_answer, calls, are_empty, right_term, unfolded_right}
+use Rattle.rule_table.specs.Table.{with_pures, with_pure, with_right, named, unnamed, rewrite_side, rewrite_atom, drop_answer, calls, right_term, unfolded_right}
 use Rattle.rule_table.specs.Tests.{same_term, same_spatial, is_universal_pure, is_universal_spatial, follows, is_absurd, address_of, ascend_from, has_number}
 use Rattle.rule_table.proofs.Fits.{needs_on, finds_on, limited_on, entails_on, single_on}
 use Rattle.symbolic_exec.specs.Lines.{IsAtLine, IsPremiseAtLine}
 use Rattle.symbolic_exec.proofs.ProgramLines.{answer_lines}
 use Rattle.rule_book.specs.Lines.{IsWithinLines, IsPremiseWithin}
+use Rattle.rule_table.proofs.EmptyPremises.{empty_on}
 
 module _ (n : ℕ) where
   abbrev P : Premise → Type 0
@@ -80,12 +81,6 @@ module _ (n : ℕ) where
   right_lines most ds a b k c (Pred q ts) =
       finds_on P (slice_get (cases_of ds q) c) NoSuchCase _ (λ case at. limited_on P most (one (with_right a (unfolded_right b k (in_heap (right_term ts (heap_exists b)) case) ∷ []))) (tt, tt))
 
-  empty_lines : (xs : List Spatial) (ps : List Pure) (ys : List Spatial) → OnPremises P (are_empty xs ps ys)
-  empty_lines [] [] [] = tt
-  empty_lines [] [] (y ∷ ys) = tt
-  empty_lines [] (p ∷ ps) ys = tt
-  empty_lines (x ∷ xs) ps ys = tt
-
   drop_lines : (j : Judgement) (k : ℕ) → IsWithinLines n j → OnPremises P (drop_answer j k)
   drop_lines (Entail a bs) k h = tt
   drop_lines (Runs i a) k h = finds_on P (slice_get a.spatial k) NoSuchAtom _ (λ x at. (h, tt))
@@ -124,7 +119,7 @@ rule_lines most ds lines j (Unfold k) p h =
 rule_lines most ds lines j (Cut places f) p h =
     needs_on (P (length lines)) (ascend_from 0 (length (antecedent j).spatial) places) NoSuchAtom _ (λ _.
     limited_on (P (length lines)) most (two (cut_left (antecedent j) (has_number places) f) (cut_right j (has_number places) f (max (fresh_number (variables_of lines j) j) (heap_bound f)))) (tt, (kept (length lines) j _ h, tt)))
-rule_lines most ds lines j Done p h = single_on (Q (length lines)) j _ (λ a b. empty_lines (length lines) a.spatial b.pure b.spatial)
+rule_lines most ds lines j Done p h = single_on (Q (length lines)) j _ (λ a b. empty_on (P (length lines)) a.spatial b.pure b.spatial)
 rule_lines most ds lines j (Choose k) p h =
     entails_on (Q (length lines)) j _ (λ a bs. finds_on (P (length lines)) (slice_get bs k) NoSuchAtom _ (λ b at. (tt, tt)))
 rule_lines most ds lines j (PureRight k) p h =

@@ -12,7 +12,6 @@ use Rattle.heap_formula.specs.declared.commands.Command.TheVariants.{Assign, Loa
 use Rattle.heap_formula.specs.declared.judgements.Judgement.{Judgement}
 use Rattle.heap_formula.specs.declared.judgements.Judgement.TheVariants.{Entail, Term as Runs}
 use Rattle.heap_formula.specs.declared.judgements.Pair.{Pair}
-use Rattle.heap_formula.specs.declared.judgements.Premise.{Premise}
 use Rattle.heap_formula.specs.declared.proof_rules.Link.{Link}
 use Rattle.heap_formula.specs.declared.proof_rules.Side.{Side}
 use Rattle.heap_formula.specs.declared.proof_rules.Rule.{Rule}
@@ -30,21 +29,23 @@ use Rattle.heap_formula.specs.Substitution.{in_heap, apply_term, apply_spatial, 
 use Rattle.rule_table.specs.RuleUnfold.{unfold_premise, unfolded}
 use Rattle.rule_table.specs.RuleCut.{cut_left, cut_right}
 use Rattle.rule_table.specs.RuleLink.{MapsInto, IsMatch}
-use Rattle.rule_table.proofs.Appends.{Each-append}
 use Rattle.rule_table.specs.Answer.{finds, limited, one, two}
 use Rattle.rule_table.specs.Tests.{same_term, same_spatial, is_universal_pure, is_universal_spatial, follows, is_absurd, address_of, has_number, ascend_from}
 use Rattle.heap_formula.specs.Fresh.{heap_exists}
-use Rattle.rule_table.specs.Table.{with_pures, with_pure, with_right, without_pure, without_spatial, rewritten, rewrite_side, rewrite_atom, named, unnamed, calls, are_empty, unfolded_right, right_term, instance_term}
+use Rattle.rule_table.specs.Table.{with_pures, with_pure, with_right, without_pure, without_spatial, rewritten, rewrite_side, rewrite_atom, named, unnamed, calls, unfolded_right, right_term, instance_term}
 use Rattle.rule_table.specs.ExecTable.{cell_of, renamed, renamed_term, with_atom, variables_from, with_cell, with_field, at_line, command_answer}
 use Rattle.rule_table.specs.LinkTable.{link_fault, link_premise}
 use Rattle.rule_table.specs.RuleBook.{variables_of, rule_answer}
 use Rattle.rule_table.specs.Fits.{IsPredAt, PairsFit, PremiseFits, OnPremises}
-use Rattle.rule_table.proofs.Fits.{needs_on, finds_on, limited_on, entails_on, single_on, runs_on, get_front, get_back, get_mapped, get_written, pairs_fit_0, same_fit, kept_fit, chosen_fit, children_fit}
+use Rattle.rule_table.proofs.Fits.{needs_on, finds_on, limited_on, entails_on, single_on, runs_on, get_back, get_mapped, get_written, pairs_fit_0, same_fit, kept_fit, chosen_fit, children_fit}
 use Rattle.rule_table.proofs.Commands.{found_is}
 use Rattle.rule_table.proofs.LinkRule.{parts_are, none_of_two}
+use Rattle.formula_facts.proofs.AllMembers.{each_append}
+use Rattle.list_facts.proofs.Places.{get_append_left}
+use Rattle.rule_table.proofs.EmptyPremises.{empty_on}
 
 pred_front : (xs ys : List Spatial) (i : ℕ) → IsPredAt xs i → IsPredAt (xs ++ ys) i
-pred_front xs ys i p = (p.0, p.1, get_front xs ys i (Pred p.0 p.1) p.2)
+pred_front xs ys i p = (p.0, p.1, get_append_left xs ys i (Pred p.0 p.1) p.2)
 
 pred_back : (xs ys : List Spatial) (i : ℕ) → IsPredAt ys i → IsPredAt (xs ++ ys) (length xs + i)
 pred_back xs ys i p = (p.0, p.1, get_back xs ys i (Pred p.0 p.1) p.2)
@@ -85,7 +86,7 @@ unfold_one_fits j k q ts n case at =
     let a = antecedent j in
     let kept = without k a.spatial in
     let body = (case_body ts n case).spatial in
-    fits_with j (unfolded a k (case_body ts n case)) (kept_pairs k a.spatial ++ child_pairs k (length kept) body) (Each-append _ (kept_pairs k a.spatial) (child_pairs k (length kept) body) (kept_fit k a.spatial (kept ++ body) (λ i p. pred_front kept body i p)) (children_fit k (length kept) body a.spatial (kept ++ body) (q, ts, at) (λ i p. pred_back kept body i p)))
+    fits_with j (unfolded a k (case_body ts n case)) (kept_pairs k a.spatial ++ child_pairs k (length kept) body) (each_append _ (kept_pairs k a.spatial) (child_pairs k (length kept) body) (kept_fit k a.spatial (kept ++ body) (λ i p. pred_front kept body i p)) (children_fit k (length kept) body a.spatial (kept ++ body) (q, ts, at) (λ i p. pred_back kept body i p)))
 
 unfold_cases_fit : (j : Judgement) (k q : ℕ) (ts : List Term) (n : ℕ) (cases : List SymbolicHeap) → slice_get (antecedent j).spatial k ≡ Some (Pred q ts) → Each (PremiseFits j) (map (unfold_premise j k ts n) cases)
 unfold_cases_fit j k q ts n [] at = tt
@@ -99,12 +100,6 @@ unfold_fits most ds p j k (Pred q ts) at =
 cut_right_fits : (j : Judgement) (p : ℕ → Bool) (f : SymbolicHeap) (n : ℕ) → PremiseFits j (cut_right j p f n)
 cut_right_fits (Entail a bs) p f n = chosen_fit (others_of p) a.spatial _ (λ i q. pred_front (chosen (others_of p) a.spatial) _ i q)
 cut_right_fits (Runs m a) p f n = chosen_fit (others_of p) a.spatial _ (λ i q. pred_front (chosen (others_of p) a.spatial) _ i q)
-
-empty_fits : (P : Premise → Type 0) (xs : List Spatial) (ps : List Pure) (ys : List Spatial) → OnPremises P (are_empty xs ps ys)
-empty_fits P [] [] [] = tt
-empty_fits P [] [] (y ∷ ys) = tt
-empty_fits P [] (p ∷ ps) ys = tt
-empty_fits P (x ∷ xs) ps ys = tt
 
 unfold_right_fits : (most : ℕ) (ds : List Definition) (a b : SymbolicHeap) (k c : ℕ) (x : Spatial) → OnPremises (PremiseFits (Entail a (b ∷ []))) (calls x (λ q ts. finds (slice_get (cases_of ds q) c) NoSuchCase (λ case. limited most (one (with_right a (unfolded_right b k (in_heap (right_term ts (heap_exists b)) case) ∷ []))))))
 unfold_right_fits most ds a b k c (Cell t ts) = tt
@@ -159,7 +154,7 @@ rule_fits most ds lines j (Unfold k) =
 rule_fits most ds lines j (Cut places f) =
     needs_on (PremiseFits j) (ascend_from 0 (length (antecedent j).spatial) places) NoSuchAtom _ (λ _.
     limited_on (PremiseFits j) most (two (cut_left (antecedent j) (has_number places) f) (cut_right j (has_number places) f (max (fresh_number (variables_of lines j) j) (heap_bound f)))) (chosen_fit (has_number places) (antecedent j).spatial (chosen (has_number places) (antecedent j).spatial) (λ i q. q), (cut_right_fits j (has_number places) f (max (fresh_number (variables_of lines j) j) (heap_bound f)), tt)))
-rule_fits most ds lines j Done = single_on PremiseFits j _ (λ a b. empty_fits (PremiseFits (Entail a (b ∷ []))) a.spatial b.pure b.spatial)
+rule_fits most ds lines j Done = single_on PremiseFits j _ (λ a b. empty_on (PremiseFits (Entail a (b ∷ []))) a.spatial b.pure b.spatial)
 rule_fits most ds lines j (Choose k) =
     entails_on PremiseFits j _ (λ a bs. finds_on (PremiseFits (Entail a bs)) (slice_get bs k) NoSuchAtom _ (λ b at. (right_fits a bs (b ∷ []), tt)))
 rule_fits most ds lines j (PureRight k) =

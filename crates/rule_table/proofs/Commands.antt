@@ -24,7 +24,7 @@ use Rattle.heap_formula.specs.Values.{Stack, value, values}
 use Rattle.heap_formula.specs.Cells.{Cells, cell_at, one_cell, Joins, IsUnion, IsPart}
 use Rattle.heap_formula.specs.Meaning.{Family, PureHolds, IsCell, AtomHolds, SpatialHolds, Holds, Stages, SatisfiesAt, at_stage}
 use Rattle.heap_formula.specs.Fresh.{heap_bound, fresh_number}
-use Rattle.heap_formula.specs.Programs.{Config, Halts, Goes, next_line, jump, value_in, field_at, field_of, counted_from_one, first_values, program_variables, command_bound, term_bound, start_at}
+use Rattle.heap_formula.specs.Programs.{Config, Halts, Goes, next_line, jump, value_in, field_at, field_of, counted_from_one, first_values, program_variables, term_bound, start_at}
 use Rattle.heap_formula.specs.Judgements.{PremiseHolds, IsLocallySound}
 use Rattle.heap_formula.specs.Positions.{without, before, kept_pairs}
 use Rattle.heap_formula.specs.Closedness.{InSpatial, IsUniversal}
@@ -33,8 +33,6 @@ use Rattle.heap_formula.proofs.Unions.{same_cells, union_comm}
 use Rattle.rule_table.proofs.Substitutes.{holds_same, back_along}
 use Rattle.rule_table.proofs.Agreement.{IsBelow, heap_below, first_at}
 use Rattle.rule_table.proofs.Frames.{take_out, pairs_follow}
-use Rattle.rule_table.proofs.Rewrites.{Each-get}
-use Rattle.rule_table.proofs.Appends.{Each-append}
 use Rattle.rule_table.proofs.Links.{equated_value}
 use Rattle.rule_table.proofs.Runs.{one_way, two_ways}
 use Rattle.rule_table.proofs.ExecNew.{after_new, after_at_x, renamed as renamed_is, first_set, joins_put, same_address, exec_new_sound}
@@ -46,21 +44,14 @@ use Rattle.rule_table.specs.Soundness.{IsSound, IsCommand}
 use Rattle.rule_table.proofs.Steps.{finds_sound, limited_sound}
 use Rattle.rule_table.proofs.Reflects.{equated_is}
 use Rattle.rule_table.proofs.CellsIn.{HasCell, cell_there, left_has, is_cell_has}
+use Rattle.formula_facts.proofs.AllMembers.{each_append, each_at}
+use Rattle.formula_facts.proofs.Commands.{bound_at}
 
 -- ---- the command at a line
 
-pub bound_of_command : (lines : List Command) (i : ℕ) (c : Command) → counted_from_one lines i ≡ Some c → command_bound c ≤ program_variables lines
-bound_of_command lines zero c at = cc
-bound_of_command lines (suc i) c at = among lines i c at
-  where
-    among : (lines : List Command) (i : ℕ) (c : Command) → slice_get lines i ≡ Some c → command_bound c ≤ program_variables lines
-    among [] i c at = cc
-    among (d ∷ ds) zero c at = let same : d ≡ c = cc in let e = ap command_bound same in omega arith
-    among (d ∷ ds) (suc i) c at = let r = among ds i c at in omega arith
-
 pub command_is : (lines : List Command) (i : ℕ) (c : Command) → Each IsCommand lines → counted_from_one lines i ≡ Some c → IsCommand c
 command_is lines zero c all at = cc
-command_is lines (suc i) c all at = Each-get IsCommand lines i c at all
+command_is lines (suc i) c all at = each_at IsCommand lines i c at all
 
 -- a command's term has the value that it has in the formula
 start_value : (p : ℕ) (s e : Stack) (t : Term) → IsUniversal t → term_bound t ≤ p → value (first_values p s) [] t ≡ value s e t
@@ -107,7 +98,7 @@ counted_map f (y ∷ xs) (suc (suc k)) x e = counted_map f xs (suc k) x e
 
 pub counted_get : {X : Type 0} (P : X → Type 0) (xs : List X) (k : ℕ) (x : X) → counted_from_one xs k ≡ Some x → Each P xs → P x
 counted_get P xs zero x e a = cc
-counted_get P xs (suc k) x e a = Each-get P xs k x e a
+counted_get P xs (suc k) x e a = each_at P xs k x e a
 
 -- ---- heaps after a write and after a release
 
@@ -204,7 +195,7 @@ module _ (ds : List Definition) (lines : List Command) (i : ℕ) (a : SymbolicHe
   -- a premise that keeps the spatial atoms and adds a pure one
   go_on : (j : ℕ) (x : Pure) → PremiseHolds ds lines stages (at_line j a (with_atom a x)) → PureHolds s e x → (n : ℕ) × Halts lines w n (start_at lines j s h)
   go_on j x premise holds =
-      premise stages (pairs_follow (λ k. k) stages 0 a.spatial) s part (e, (Each-append (PureHolds s e) a.pure (x ∷ []) o.1.0 (holds, tt), o.1.1)) w pos h is
+      premise stages (pairs_follow (λ k. k) stages 0 a.spatial) s part (e, (each_append (PureHolds s e) a.pure (x ∷ []) o.1.0 (holds, tt), o.1.1)) w pos h is
 
   -- x is set to the value of f
   set_on : (x n : ℕ) (f : Term) → x < n → p ≤ n → heap_bound a ≤ n → IsBelow n f → PremiseHolds ds lines stages (at_line (i + 1) a (with_atom (renamed x n a) (Eq (Univ x) (renamed_term x n f)))) → (m : ℕ) × Halts lines w m (next_line here (slice_set here.stack x (value s e f)) h)
@@ -215,7 +206,7 @@ module _ (ds : List Definition) (lines : List Command) (i : ℕ) (a : SymbolicHe
       back_along (holds_same (IsBelow n) (apply_term ((x, Univ n) ∷ [])) s' e s e (renamed_is n x s e v []) (λ m. at_stage ds (stages m)) a (heap_below n a a_below) part) o.1 in
       let equal : PureHolds s' e (Eq (Univ x) (renamed_term x n f)) = after_at_x n x s v [] x_below ∙ sym (renamed_is n x s e v [] f f_below) in
       let b = renamed x n a in
-      let r = premise stages (pairs_follow (λ k. k) stages 0 a.spatial) s' part (e, (Each-append (PureHolds s' e) b.pure (Eq (Univ x) (renamed_term x n f) ∷ []) holds.0 (equal, tt), holds.1)) w pos h is in
+      let r = premise stages (pairs_follow (λ k. k) stages 0 a.spatial) s' part (e, (each_append (PureHolds s' e) b.pure (Eq (Univ x) (renamed_term x n f) ∷ []) holds.0 (equal, tt), holds.1)) w pos h is in
       (r.0, subst (λ st. Halts lines w r.0 (record { line = i + 1; stack = st; heap = h })) (first_set p n x v s (slice_index s x ∷ []) p_below) r.1)
 
   test_value : (t u : Term) → IsUniversal t → IsUniversal u → term_bound t ≤ p → term_bound u ≤ p → (b : Bool) → nat_eq (value_in here t) (value_in here u) ≡ b → (cond b (value s e t ≡ value s e u) (value s e t ≢ value s e u))
@@ -238,7 +229,7 @@ module _ (ds : List Definition) (lines : List Command) (i : ℕ) (a : SymbolicHe
 
   fields_below : (n : ℕ) (t : Term) (c : Found) → heap_bound a ≤ n → cell_of a.pure t a.spatial ≡ Some c → Each (IsBelow n) c.fields
   fields_below n t c a_below found =
-      (Each-get (InSpatial (IsBelow n)) a.spatial c.place (Cell c.address c.fields) (found_is a.pure t a.spatial c found).at (heap_below n a a_below).1).1
+      (each_at (InSpatial (IsBelow n)) a.spatial c.place (Cell c.address c.fields) (found_is a.pure t a.spatial c found).at (heap_below n a a_below).1).1
 
   field_here : (o : Option (List ℕ)) (vs : List ℕ) (k v : ℕ) → o ≡ Some vs → counted_from_one vs k ≡ Some v → field_of o k ≡ Some v
   field_here None vs k v q f = cc
@@ -259,26 +250,26 @@ module _ (ds : List Definition) (lines : List Command) (i : ℕ) (a : SymbolicHe
 
   if_eq_sound : (t u : Term) (j : ℕ) → counted_from_one lines i ≡ Some (IfEq t u j) → IsUniversal t × IsUniversal u → IsLocallySound ds lines (Runs i a) (two (at_line j a (with_atom a (Eq t u))) (at_line (i + 1) a (with_atom a (Neq t u))))
   if_eq_sound t u j at universal stages premises s part o w pos h is =
-      let b = bound_of_command lines i (IfEq t u j) at in
+      let b = bound_at lines i (IfEq t u j) at in
       let c = start_at lines i s h in
       one_way lines w (IfEq t u j) c (jump c (if nat_eq (value_in c t) (value_in c u) then j else i + 1)) at (λ bad. bad) (λ e g. g) (branch ds lines i a stages s part o w pos h is t u j (i + 1) universal.0 universal.1 (omega arith) (omega arith) premises.0 premises.1.0 (nat_eq (value_in c t) (value_in c u)) refl)
 
   if_neq_sound : (t u : Term) (j : ℕ) → counted_from_one lines i ≡ Some (IfNeq t u j) → IsUniversal t × IsUniversal u → IsLocallySound ds lines (Runs i a) (two (at_line j a (with_atom a (Neq t u))) (at_line (i + 1) a (with_atom a (Eq t u))))
   if_neq_sound t u j at universal stages premises s part o w pos h is =
-      let b = bound_of_command lines i (IfNeq t u j) at in
+      let b = bound_at lines i (IfNeq t u j) at in
       let c = start_at lines i s h in
       one_way lines w (IfNeq t u j) c (jump c (if nat_eq (value_in c t) (value_in c u) then i + 1 else j)) at (λ bad. bad) (λ e g. g) (branch ds lines i a stages s part o w pos h is t u (i + 1) j universal.0 universal.1 (omega arith) (omega arith) premises.1.0 premises.0 (nat_eq (value_in c t) (value_in c u)) refl)
 
   assign_sound : (x : ℕ) (t : Term) → counted_from_one lines i ≡ Some (Assign x t) → IsUniversal t → IsLocallySound ds lines (Runs i a) (one (at_line (i + 1) a (with_atom (renamed x n a) (Eq (Univ x) (renamed_term x n t)))))
   assign_sound x t at universal stages premises s part o w pos h is =
-      let b = bound_of_command lines i (Assign x t) at in
+      let b = bound_at lines i (Assign x t) at in
       let c = start_at lines i s h in
       let v = start_value (program_variables lines) s o.0 t universal (omega arith) in
       one_way lines w (Assign x t) c (next_line c (slice_set c.stack x (value s o.0 t)) h) at (λ bad. bad) (λ e g. g ∙ ap (λ m. next_line c (slice_set c.stack x m) h) v) (set_on ds lines i a stages s part o w pos h is x n t (omega arith) p_below a_below (below_of_bound n t (omega arith)) premises.0)
 
   load_sound : (x : ℕ) (t : Term) (k : ℕ) (c : Found) (f : Term) → counted_from_one lines i ≡ Some (Load x t k) → IsUniversal t → cell_of a.pure t a.spatial ≡ Some c → counted_from_one c.fields k ≡ Some f → IsLocallySound ds lines (Runs i a) (one (at_line (i + 1) a (with_atom (renamed x n a) (Eq (Univ x) (renamed_term x n f)))))
   load_sound x t k c f at universal found field stages premises s part o w pos h is =
-      let b = bound_of_command lines i (Load x t k) at in
+      let b = bound_at lines i (Load x t k) at in
       let d = start_at lines i s h in
       let cell = cell_here ds lines i a stages s part o w pos h is t c universal (omega arith) found in
       let reads : field_at h (value_in d t) k ≡ Some (value s o.0 f) = field_here ds lines i a stages s part o w pos h is (cell_at h (value_in d t)) (values s o.0 c.fields) k (value s o.0 f) cell.2 (counted_map (value s o.0) c.fields k f field) in
@@ -304,10 +295,10 @@ module _ (ds : List Definition) (lines : List Command) (i : ℕ) (a : SymbolicHe
       us = slice_set c.fields (k - 1) u
 
       t_below : term_bound t ≤ program_variables lines
-      t_below = let b = bound_of_command lines i (Store t k u) at in omega arith
+      t_below = let b = bound_at lines i (Store t k u) at in omega arith
 
       u_below : term_bound u ≤ program_variables lines
-      u_below = let b = bound_of_command lines i (Store t k u) at in omega arith
+      u_below = let b = bound_at lines i (Store t k u) at in omega arith
 
       cell : (value s o.0 c.address ≡ value_in (start_at lines i s h) t) × HasCell s o.0 c.address c.fields part × (cell_at h (value_in (start_at lines i s h) t) ≡ Some (values s o.0 c.fields))
       cell = cell_here ds lines i a stages s part o w pos h is t c universal.0 t_below found
@@ -330,7 +321,7 @@ module _ (ds : List Definition) (lines : List Command) (i : ℕ) (a : SymbolicHe
 
   free_sound : (t : Term) (c : Found) → counted_from_one lines i ≡ Some (Free t) → IsUniversal t → cell_of a.pure t a.spatial ≡ Some c → IsLocallySound ds lines (Runs i a) (one (record { judgement = Runs (i + 1) (without_spatial c.place a); pairs = kept_pairs c.place a.spatial }))
   free_sound t c at universal found stages premises s part o w pos h is =
-      let b = bound_of_command lines i (Free t) at in
+      let b = bound_at lines i (Free t) at in
       let d = start_at lines i s h in
       let cell = cell_here ds lines i a stages s part o w pos h is t c universal (omega arith) found in
       let out = take_out (at_stage ds) s o.0 a.spatial c.place (Cell c.address c.fields) stages part (found_is a.pure t a.spatial c found).at o.1.1 in
@@ -341,7 +332,7 @@ module _ (ds : List Definition) (lines : List Command) (i : ℕ) (a : SymbolicHe
 
   new_sound : (x k : ℕ) → counted_from_one lines i ≡ Some (New x k) → 0 < k → IsLocallySound ds lines (Runs i a) (one (at_line (i + 1) a (with_cell (renamed x n a) x (variables_from (n + 1) k))))
   new_sound x k at fields =
-      let b = bound_of_command lines i (New x k) at in
+      let b = bound_at lines i (New x k) at in
       exec_new_sound ds lines i a x k n at fields (omega arith) p_below a_below
 
   command_sound : (most : ℕ) (c : Command) → counted_from_one lines i ≡ Some c → IsCommand c → IsSound ds lines (Runs i a) (command_answer most i a n c)

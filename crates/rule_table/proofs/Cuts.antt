@@ -6,7 +6,6 @@ use Rattle.heap_formula.specs.declared.atoms.Spatial.{Spatial}
 use Rattle.heap_formula.specs.declared.commands.Command.{Command}
 use Rattle.heap_formula.specs.Symbolic.{SymbolicHeap}
 use Rattle.heap_formula.specs.Definitions.{Definition}
-use Rattle.heap_formula.specs.Words.{Each}
 use Rattle.heap_formula.specs.Values.{Stack, value}
 use Rattle.heap_formula.specs.Cells.{Cells, no_cells, IsUnion, Star}
 use Rattle.heap_formula.specs.Meaning.{Family, PureHolds, AtomHolds, SpatialHolds, Holds, at_stage, Stages, Satisfies}
@@ -22,7 +21,8 @@ use Rattle.rule_table.proofs.Substitutes.{holds_same, back_along}
 use Rattle.rule_table.proofs.Agreement.{IsBelow, heap_below, holds_agrees, continued, continued-agrees, continued-at}
 use Rattle.rule_table.proofs.Frames.{pairs_follow}
 use Rattle.rule_table.proofs.Conclusions.{IsFresh, antecedent_below, concludes_back, use_premise}
-use Rattle.rule_table.proofs.Appends.{Each-append, then_stages, then_stages-first, append_holds, pairs_follow_if}
+use Rattle.rule_table.proofs.Appends.{then_stages, then_stages-first, append_holds, pairs_follow_if}
+use Rattle.formula_facts.proofs.AllMembers.{each_append, each_chosen}
 
 module _ (G : ℕ → Family) (s e : Stack) where
   one_more : (b : Bool) (x : Spatial) (stages : Stages) (f g : ℕ → ℕ) (ins outs : List Spatial) (h : Cells) → Star (AtomHolds (G (stages 0)) s e x) (Star (SpatialHolds (λ k. G (stages (suc (f k)))) s e ins) (SpatialHolds (λ k. G (stages (suc (g k)))) s e outs)) h → Star (SpatialHolds (λ k. G (stages (place_step b f k))) s e (chosen_step b x ins)) (SpatialHolds (λ k. G (stages (place_step (not b) g k))) s e (chosen_step (not b) x outs)) h
@@ -39,14 +39,6 @@ opened_value : (n : ℕ) (s e f : Stack) (t : Term) → IsBelow n t → value (c
 opened_value n s e f Nil q = refl
 opened_value n s e f (Univ i) q = continued-agrees n s f i (omega arith)
 opened_value n s e f (Exist j) q = continued-at n s f j
-
-Each-chosen : {X : Type 0} (Q : X → Type 0) (xs : List X) (p : ℕ → Bool) → Each Q xs → Each Q (chosen p xs)
-Each-chosen Q [] p q = tt
-Each-chosen Q (x ∷ xs) p q = step Q (p 0) x (chosen (λ k. p (suc k)) xs) q.0 (Each-chosen Q xs (λ k. p (suc k)) q.1)
-  where
-    step : {X : Type 0} (Q : X → Type 0) (b : Bool) (x : X) (ys : List X) → Q x → Each Q ys → Each Q (chosen_step b x ys)
-    step Q true x ys h r = (h, r)
-    step Q false x ys h r = r
 
 pub cut_sound : (ds : List Definition) (lines : List Command) (j : Judgement) (p : ℕ → Bool) (f : SymbolicHeap) (n : ℕ) → IsFresh lines n j → heap_bound f ≤ n → IsLocallySound ds lines j (cut_left (antecedent j) p f ∷ cut_right j p f n ∷ [])
 cut_sound ds lines j p f n fresh f_below stages premises s h o =
@@ -74,7 +66,7 @@ cut_sound ds lines j p f n fresh f_below stages premises s h o =
         back_along (holds_same (IsBelow n) (opened_term n) s' o.0 s t.1.0 (opened_value n s o.0 t.1.0) (λ k. at_stage ds (t.0 k)) f (heap_below n f f_below) split.part) t.1.1 in
         let a' : SymbolicHeap = record { pure = (antecedent j).pure; spatial = kept } in
         let in_a = heap_below n (antecedent j) (antecedent_below lines n j fresh) in
-        let in_a' : InHeap (IsBelow n) a' = (in_a.0, Each-chosen (InSpatial (IsBelow n)) (antecedent j).spatial (others_of p) in_a.1) in
+        let in_a' : InHeap (IsBelow n) a' = (in_a.0, each_chosen (InSpatial (IsBelow n)) (antecedent j).spatial (others_of p) in_a.1) in
         let rest_holds : Holds (λ k. at_stage ds (out_stages k)) s' o.0 a' split.rest =
         back_along (holds_agrees n s s' o.0 agrees (λ k. at_stage ds (out_stages k)) a' in_a' split.rest) (o.1.0, split.others) in
         let below = then_stages kept out_stages t.0 in
@@ -82,5 +74,5 @@ cut_sound ds lines j p f n fresh f_below stages premises s h o =
         append_holds (at_stage ds) s' o.0 kept opened.spatial out_stages t.0 h (record { part = split.rest; rest = split.part; union = union_comm split.union; first = rest_holds.1; others = f_holds.1 }) in
         let follows = pairs_follow_if (chosen_place (others_of p) (antecedent j).spatial) stages below 0 kept (λ i lt. let z : 0 + i ≡ i = omega arith in subst (λ q. below q ≤ stages (chosen_place (others_of p) (antecedent j).spatial q)) (sym z) (let v = then_stages-first kept out_stages t.0 i lt in omega arith)) in
         let b : SymbolicHeap = record { pure = (antecedent j).pure ++ opened.pure; spatial = kept ++ opened.spatial } in
-        let r = use_premise ds lines below j b (premises.1.0 below follows) s' h (o.0, (Each-append (PureHolds s' o.0) (antecedent j).pure opened.pure rest_holds.0 f_holds.0, spatial)) in
+        let r = use_premise ds lines below j b (premises.1.0 below follows) s' h (o.0, (each_append (PureHolds s' o.0) (antecedent j).pure opened.pure rest_holds.0 f_holds.0, spatial)) in
         concludes_back ds lines n j b s s' h fresh agrees r

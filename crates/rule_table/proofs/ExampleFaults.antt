@@ -25,7 +25,7 @@ heap ps xs = record { pure = ps; spatial = xs }
 abbrev node : Judgement → Reason → List ℕ → Node
 node j r us = record { judgement = j; reason = r; premises = us }
 
-abbrev faults_from : List Definition → List Command → List Node → ℕ → List Node → List (Option RuleFault)
+abbrev pub faults_from : List Definition → List Command → List Node → ℕ → List Node → List (Option RuleFault)
 faults_from ds lines all v [] = []
 faults_from ds lines all v (n ∷ ns) = node_fault 16 ds lines all v n ∷ faults_from ds lines all (suc v) ns
 

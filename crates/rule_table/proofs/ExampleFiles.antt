@@ -1,5 +1,5 @@
 -- Examples of files whose every node is right, with some of their trace pairs.
-use Rattle.std.proofs.Common.{◌≡◌, ℕ, suc, List, [], ◌∷◌, Option, Some, None, refl}
+use Rattle.std.proofs.Common.{◌≡◌, ℕ, List, [], ◌∷◌, Option, Some, None, refl}
 use Rattle.heap_formula.specs.declared.terms.Term.TheVariants.{Nil, Univ, Exist}
 use Rattle.heap_formula.specs.declared.atoms.Pure.{Pure}
 use Rattle.heap_formula.specs.declared.atoms.Pure.TheVariants.{Eq, Neq}
@@ -13,23 +13,19 @@ use Rattle.heap_formula.specs.declared.proof_rules.Side.TheVariants.{Left, Right
 use Rattle.heap_formula.specs.declared.proof_rules.Rule.TheVariants.{Absurd, Rewrite, Unfold, Cut, Done, PureRight, Instantiate, Frame, UnfoldRight, Exec}
 use Rattle.heap_formula.specs.declared.proof_rules.Reason.{Reason}
 use Rattle.heap_formula.specs.declared.proof_rules.Reason.TheVariants.{Step, Back}
-use Rattle.heap_formula.specs.declared.proof_rules.RuleFault.{RuleFault}
 use Rattle.heap_formula.specs.Symbolic.{SymbolicHeap}
 use Rattle.heap_formula.specs.Definitions.{Definition}
 use Rattle.std.proofs.Common.{Bool, true, false}
 use Rattle.std.specs.Prelude.{slice_get}
 use Rattle.heap_formula.specs.declared.judgements.Pair.{Pair}
-use Rattle.rule_table.specs.Nodes.{Node, node_fault, Edge, edges_of}
+use Rattle.rule_table.specs.Nodes.{Node, Edge, edges_of}
+use Rattle.rule_table.proofs.ExampleFaults.{faults_from}
 
 abbrev heap : List Pure → List Spatial → SymbolicHeap
 heap ps xs = record { pure = ps; spatial = xs }
 
 abbrev node : Judgement → Reason → List ℕ → Node
 node j r us = record { judgement = j; reason = r; premises = us }
-
-abbrev faults_from : List Definition → List Command → List Node → ℕ → List Node → List (Option RuleFault)
-faults_from ds lines all v [] = []
-faults_from ds lines all v (n ∷ ns) = node_fault 16 ds lines all v n ∷ faults_from ds lines all (suc v) ns
 
 -- two list segments, one after the other, are one segment
 abbrev segments_defs : List Definition

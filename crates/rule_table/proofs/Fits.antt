@@ -15,6 +15,7 @@ use Rattle.heap_formula.specs.Positions.{without, before, pairs_from, same_pairs
 use Rattle.heap_formula.specs.Substitution.{in_spatial}
 use Rattle.rule_table.specs.Answer.{Answer, needs, finds, entails, one_heap, single, runs, limited, each_heap, is_short, has_numbers}
 use Rattle.rule_table.specs.Fits.{IsPredAt, PairsFit, OnPremises}
+use Rattle.formula_facts.proofs.Positions.{get_without}
 
 -- ---- answers
 
@@ -50,11 +51,6 @@ module _ (P : Judgement → Premise → Type 0) where
 
 -- ---- places
 
-pub get_front : {X : Type 0} (xs ys : List X) (k : ℕ) (x : X) → slice_get xs k ≡ Some x → slice_get (xs ++ ys) k ≡ Some x
-get_front [] ys k x e = cc
-get_front (y ∷ xs) ys zero x e = e
-get_front (y ∷ xs) ys (suc k) x e = get_front xs ys k x e
-
 pub get_back : {X : Type 0} (xs ys : List X) (k : ℕ) (x : X) → slice_get ys k ≡ Some x → slice_get (xs ++ ys) (length xs + k) ≡ Some x
 get_back [] ys k x e = let z : k ≡ 0 + k = omega arith in subst (λ m. slice_get ys m ≡ Some x) z e
 get_back (y ∷ xs) ys k x e =
@@ -65,12 +61,6 @@ pub get_mapped : (f : Term → Term) (xs : List Spatial) (k : ℕ) → IsPredAt 
 get_mapped f [] k p = let e = p.2 in cc
 get_mapped f (x ∷ xs) zero p = let e : x ≡ Pred p.0 p.1 = (let q = p.2 in cc) in (p.0, map f p.1, ap (λ y. Some (in_spatial f y)) e)
 get_mapped f (x ∷ xs) (suc k) p = get_mapped f xs k p
-
-pub get_without : {X : Type 0} (k : ℕ) (xs : List X) (i : ℕ) (x : X) → slice_get (without k xs) i ≡ Some x → slice_get xs (before k i) ≡ Some x
-get_without k [] i x e = cc
-get_without zero (y ∷ xs) i x e = e
-get_without (suc k) (y ∷ xs) zero x e = e
-get_without (suc k) (y ∷ xs) (suc i) x e = get_without k xs i x e
 
 get_step : {X : Type 0} (b : Bool) (f : ℕ → ℕ) (y : X) (cs xs : List X) (i : ℕ) (x : X) → ((j : ℕ) → slice_get cs j ≡ Some x → slice_get xs (f j) ≡ Some x) → slice_get (chosen_step b y cs) i ≡ Some x → slice_get (y ∷ xs) (place_step b f i) ≡ Some x
 get_step true f y cs xs zero x g e = e

@@ -28,18 +28,20 @@ use Rattle.heap_formula.specs.Positions.{without, kept_pairs, chosen, chosen_ste
 use Rattle.heap_formula.specs.Substitution.{in_heap, in_spatial, apply_term, apply_judgement, case_body, in_pure, opened_term, case_term, apply_pure}
 use Rattle.rule_table.specs.RuleUnfold.{unfold_premise}
 use Rattle.rule_table.specs.RuleCut.{cut_left, cut_right}
-use Rattle.rule_table.proofs.Appends.{Each-append}
 use Rattle.rule_table.specs.Answer.{Answer, finds, limited, one, two}
 use Rattle.rule_table.specs.Tests.{same_term, same_spatial, is_universal_pure, is_universal_spatial, follows, is_absurd, address_of, has_number, ascend_from}
-use Rattle.rule_table.specs.Table.{with_pures, with_pure, with_right, without_spatial, rewrite_side, rewrite_atom, named, unnamed, calls, are_empty, unfolded_right, right_term, drop_answer, done_answer, choose_answer, pure_right_answer, instantiate_answer, frame_answer, unfold_right_answer}
+use Rattle.rule_table.specs.Table.{with_pures, with_pure, with_right, without_spatial, rewrite_side, rewrite_atom, named, unnamed, calls, unfolded_right, right_term, drop_answer, done_answer, choose_answer, pure_right_answer, instantiate_answer, frame_answer, unfold_right_answer}
 use Rattle.rule_table.specs.ExecTable.{Found, cell_of, renamed, renamed_term, with_atom, variables_from, with_cell, with_field, at_line, command_answer, exec_answer}
 use Rattle.rule_table.specs.RuleBook.{variables_of, rule_answer}
 use Rattle.rule_table.specs.Fits.{OnPremises}
 use Rattle.rule_table.specs.Soundness.{IsCommand, HasUniversalTerms, IsUniversalPremise}
 use Rattle.heap_formula.specs.Closedness.{InPure, InSpatial, InHeap, IsUniversal, IsUniversalHeap}
-use Rattle.rule_table.proofs.Rewrites.{AnyTerm, any_heap, Each-get, Each-without}
+use Rattle.rule_table.proofs.Rewrites.{AnyTerm, any_heap, Each-without}
 use Rattle.rule_table.proofs.Fits.{needs_on, finds_on, limited_on, entails_on, single_on, runs_on}
 use Rattle.rule_table.proofs.Commands.{found_is, counted_get as counted_each}
+use Rattle.formula_facts.proofs.AllMembers.{each_append, each_at, each_set}
+use Rattle.formula_facts.proofs.Terms.{universal_choice}
+use Rattle.rule_table.proofs.EmptyPremises.{empty_on}
 
 module _ (Q : Term → Type 0) (f : Term → Term) (g : (t : Term) → Q t → IsUniversal (f t)) where
   terms_after : (ts : List Term) → Each Q ts → Each IsUniversal (map f ts)
@@ -64,23 +66,14 @@ universal_with : (j : Judgement) (a : SymbolicHeap) → IsUniversalHeap a → Is
 universal_with (Entail b bs) a u = u
 universal_with (Runs i b) a u = u
 
-one_term : (b : Bool) (u t : Term) → IsUniversal u → IsUniversal t → IsUniversal (cond b u t)
-one_term true u t p q = p
-one_term false u t p q = q
-
 replaced_universal : (v : ℕ) (u : Term) → IsUniversal u → (t : Term) → IsUniversal t → IsUniversal (apply_term ((v, u) ∷ []) t)
 replaced_universal v u p Nil q = tt
-replaced_universal v u p (Univ n) q = one_term (nat_eq n v) u (Univ n) p tt
+replaced_universal v u p (Univ n) q = universal_choice (nat_eq n v) u (Univ n) p tt
 replaced_universal v u p (Exist n) q = absurd q
-
-Each-set : {X : Type 0} (P : X → Type 0) (xs : List X) (k : ℕ) (x : X) → P x → Each P xs → Each P (slice_set xs k x)
-Each-set P [] k x p e = tt
-Each-set P (y ∷ xs) zero x p e = (p, e.1)
-Each-set P (y ∷ xs) (suc k) x p e = (e.0, Each-set P xs k x p e.1)
 
 pures_rewritten : (b : Bool) (k v : ℕ) (x : Pure) (u : Term) (xs : List Pure) → IsUniversal u → InPure IsUniversal x → Each (InPure IsUniversal) xs → Each (InPure IsUniversal) (cond b (map (apply_pure ((v, u) ∷ [])) (without k xs)) (slice_set (map (apply_pure ((v, u) ∷ [])) xs) k x))
 pures_rewritten true k v x u xs p q r = pures_after IsUniversal (apply_term ((v, u) ∷ [])) (replaced_universal v u p) (without k xs) (Each-without (InPure IsUniversal) xs k r)
-pures_rewritten false k v x u xs p q r = Each-set (InPure IsUniversal) (map (apply_pure ((v, u) ∷ [])) xs) k x q (pures_after IsUniversal (apply_term ((v, u) ∷ [])) (replaced_universal v u p) xs r)
+pures_rewritten false k v x u xs p q r = each_set (InPure IsUniversal) (map (apply_pure ((v, u) ∷ [])) xs) k x q (pures_after IsUniversal (apply_term ((v, u) ∷ [])) (replaced_universal v u p) xs r)
 
 side_universal : (p : ℕ) (j : Judgement) (k : ℕ) (x : Pure) (t u : Term) → IsUniversalHeap (antecedent j) → InPure IsUniversal x → IsUniversal u → OnPremises IsUniversalPremise (rewrite_side p j k x t u)
 side_universal p j k x Nil u h q r = tt
@@ -101,7 +94,7 @@ rewrite_universal p j k side (Neq t u) h q = tt
 rewrite_universal p j k side (Eq t u) h q = test_universal (same_term t u) p j k side t u h q.0 q.1
 
 pure_universal : (j : Judgement) (x : Pure) → IsUniversalHeap (antecedent j) → InPure IsUniversal x → IsUniversalPremise (with_pure j x)
-pure_universal j x h q = universal_with j _ (Each-append (InPure IsUniversal) (antecedent j).pure (x ∷ []) h.0 (q, tt), h.1)
+pure_universal j x h q = universal_with j _ (each_append (InPure IsUniversal) (antecedent j).pure (x ∷ []) h.0 (q, tt), h.1)
 
 address_universal : (x : Spatial) (t : Term) → address_of x ≡ Some t → InSpatial IsUniversal x → IsUniversal t
 address_universal (Cell v ts) t e q = let same : v ≡ t = cc in subst IsUniversal same q.0
@@ -125,7 +118,7 @@ opened_universal n (Exist j) q = tt
 unfold_one_universal : (j : Judgement) (k : ℕ) (ts : List Term) (n : ℕ) (case : SymbolicHeap) → IsUniversalHeap (antecedent j) → Each IsUniversal ts → IsUniversalPremise (unfold_premise j k ts n case)
 unfold_one_universal j k ts n case h q =
     let body = heap_after AnyTerm (case_term ts n) (case_universal ts n q) case (any_heap case) in
-    universal_with j _ (Each-append (InPure IsUniversal) (antecedent j).pure (case_body ts n case).pure h.0 body.0, Each-append (InSpatial IsUniversal) (without k (antecedent j).spatial) (case_body ts n case).spatial (Each-without (InSpatial IsUniversal) (antecedent j).spatial k h.1) body.1)
+    universal_with j _ (each_append (InPure IsUniversal) (antecedent j).pure (case_body ts n case).pure h.0 body.0, each_append (InSpatial IsUniversal) (without k (antecedent j).spatial) (case_body ts n case).spatial (Each-without (InSpatial IsUniversal) (antecedent j).spatial k h.1) body.1)
 
 unfold_cases_universal : (j : Judgement) (k : ℕ) (ts : List Term) (n : ℕ) (cases : List SymbolicHeap) → IsUniversalHeap (antecedent j) → Each IsUniversal ts → Each IsUniversalPremise (map (unfold_premise j k ts n) cases)
 unfold_cases_universal j k ts n [] h q = tt
@@ -147,13 +140,7 @@ chosen_universal (x ∷ xs) p q = step (p 0) x (chosen (λ k. p (suc k)) xs) q.0
 cut_universal : (j : Judgement) (p : ℕ → Bool) (f : SymbolicHeap) (n : ℕ) → IsUniversalHeap (antecedent j) → IsUniversalPremise (cut_right j p f n)
 cut_universal j p f n h =
     let body = heap_after AnyTerm (opened_term n) (opened_universal n) f (any_heap f) in
-    universal_with j _ (Each-append (InPure IsUniversal) (antecedent j).pure (in_heap (opened_term n) f).pure h.0 body.0, Each-append (InSpatial IsUniversal) (chosen (others_of p) (antecedent j).spatial) (in_heap (opened_term n) f).spatial (chosen_universal (antecedent j).spatial (others_of p) h.1) body.1)
-
-empty_keeps : (P : Premise → Type 0) (xs : List Spatial) (ps : List Pure) (ys : List Spatial) → OnPremises P (are_empty xs ps ys)
-empty_keeps P [] [] [] = tt
-empty_keeps P [] [] (y ∷ ys) = tt
-empty_keeps P [] (p ∷ ps) ys = tt
-empty_keeps P (x ∷ xs) ps ys = tt
+    universal_with j _ (each_append (InPure IsUniversal) (antecedent j).pure (in_heap (opened_term n) f).pure h.0 body.0, each_append (InSpatial IsUniversal) (chosen (others_of p) (antecedent j).spatial) (in_heap (opened_term n) f).spatial (chosen_universal (antecedent j).spatial (others_of p) h.1) body.1)
 
 fields_universal : (n k : ℕ) → Each IsUniversal (variables_from n k)
 fields_universal n zero = tt
@@ -161,7 +148,7 @@ fields_universal n (suc k) = (tt, fields_universal (suc n) k)
 
 module _ (i : ℕ) (a : SymbolicHeap) (n : ℕ) (h : IsUniversalHeap a) where
   atom_universal : (b : SymbolicHeap) (x : Pure) → IsUniversalHeap b → InPure IsUniversal x → IsUniversalHeap (with_atom b x)
-  atom_universal b x u q = (Each-append (InPure IsUniversal) b.pure (x ∷ []) u.0 (q, tt), u.1)
+  atom_universal b x u q = (each_append (InPure IsUniversal) b.pure (x ∷ []) u.0 (q, tt), u.1)
 
   renamed_universal : (x : ℕ) → IsUniversalHeap (renamed x n a)
   renamed_universal x = heap_after IsUniversal (apply_term ((x, Univ n) ∷ [])) (replaced_universal x (Univ n) tt) a h
@@ -170,7 +157,7 @@ module _ (i : ℕ) (a : SymbolicHeap) (n : ℕ) (h : IsUniversalHeap a) where
   set_universal x t q = atom_universal (renamed x n a) (Eq (Univ x) (renamed_term x n t)) (renamed_universal x) (tt, replaced_universal x (Univ n) tt t q)
 
   cell_universal : (t : Term) (c : Found) → cell_of a.pure t a.spatial ≡ Some c → InSpatial IsUniversal (Cell c.address c.fields)
-  cell_universal t c found = Each-get (InSpatial IsUniversal) a.spatial c.place (Cell c.address c.fields) (found_is a.pure t a.spatial c found).at h.1
+  cell_universal t c found = each_at (InSpatial IsUniversal) a.spatial c.place (Cell c.address c.fields) (found_is a.pure t a.spatial c found).at h.1
 
   command_universal : (most : ℕ) (c : Command) → IsCommand c → OnPremises IsUniversalPremise (command_answer most i a n c)
   command_universal most Stop good = tt
@@ -190,10 +177,10 @@ module _ (i : ℕ) (a : SymbolicHeap) (n : ℕ) (h : IsUniversalHeap a) where
       finds_on IsUniversalPremise (cell_of a.pure t a.spatial) NoCell _ (λ c found.
       finds_on IsUniversalPremise (counted_from_one c.fields k) NoCell _ (λ f field.
       let cell = cell_universal t c found in
-      limited_on IsUniversalPremise most (one (at_line (i + 1) a (with_field a c k u))) ((h.0, Each-set (InSpatial IsUniversal) a.spatial c.place (Cell c.address (slice_set c.fields (k - 1) u)) (cell.0, Each-set IsUniversal c.fields (k - 1) u good.1 cell.1) h.1), tt)))
+      limited_on IsUniversalPremise most (one (at_line (i + 1) a (with_field a c k u))) ((h.0, each_set (InSpatial IsUniversal) a.spatial c.place (Cell c.address (slice_set c.fields (k - 1) u)) (cell.0, each_set IsUniversal c.fields (k - 1) u good.1 cell.1) h.1), tt)))
   command_universal most (New x k) good =
       let r = renamed_universal x in
-      limited_on IsUniversalPremise most (one (at_line (i + 1) a (with_cell (renamed x n a) x (variables_from (n + 1) k)))) ((r.0, Each-append (InSpatial IsUniversal) (renamed x n a).spatial (Cell (Univ x) (variables_from (n + 1) k) ∷ []) r.1 ((tt, fields_universal (n + 1) k), tt)), tt)
+      limited_on IsUniversalPremise most (one (at_line (i + 1) a (with_cell (renamed x n a) x (variables_from (n + 1) k)))) ((r.0, each_append (InSpatial IsUniversal) (renamed x n a).spatial (Cell (Univ x) (variables_from (n + 1) k) ∷ []) r.1 ((tt, fields_universal (n + 1) k), tt)), tt)
   command_universal most (Free t) good =
       finds_on IsUniversalPremise (cell_of a.pure t a.spatial) NoCell _ (λ c found.
       limited_on IsUniversalPremise most (one (record { judgement = Runs (i + 1) (without_spatial c.place a); pairs = kept_pairs c.place a.spatial })) ((h.0, Each-without (InSpatial IsUniversal) a.spatial c.place h.1), tt))
@@ -224,7 +211,7 @@ right_universal most ds a b k c (Pred q ts) =
 pub rule_keeps : (most : ℕ) (ds : List Definition) (lines : List Command) (j : Judgement) (rule : Rule) → IsUniversalHeap (antecedent j) → Each IsCommand lines → HasUniversalTerms rule → OnPremises IsUniversalPremise (rule_answer most ds lines j rule)
 rule_keeps most ds lines j Absurd h c r = needs_on IsUniversalPremise (is_absurd (antecedent j)) NotAbsurd (Ok []) (λ _. tt)
 rule_keeps most ds lines j (Rewrite k side) h c r =
-    finds_on IsUniversalPremise (slice_get (antecedent j).pure k) NoSuchAtom _ (λ x at. rewrite_universal (variables_of lines j) j k side x h (Each-get (InPure IsUniversal) (antecedent j).pure k x at h.0))
+    finds_on IsUniversalPremise (slice_get (antecedent j).pure k) NoSuchAtom _ (λ x at. rewrite_universal (variables_of lines j) j k side x h (each_at (InPure IsUniversal) (antecedent j).pure k x at h.0))
 rule_keeps most ds lines j (Split t u) h c r =
     limited_on IsUniversalPremise 32 (two (with_pure j (Eq t u)) (with_pure j (Neq t u))) (pure_universal j (Eq t u) h r, (pure_universal j (Neq t u) h r, tt))
 rule_keeps most ds lines j (Distinct i k) h c r =
@@ -232,17 +219,17 @@ rule_keeps most ds lines j (Distinct i k) h c r =
     finds_on IsUniversalPremise (slice_get (antecedent j).spatial k) NoSuchAtom _ (λ y at_k.
     finds_on IsUniversalPremise (address_of x) NoCell _ (λ t is_t.
     finds_on IsUniversalPremise (address_of y) NoCell _ (λ u is_u.
-    let ut = address_universal x t is_t (Each-get (InSpatial IsUniversal) (antecedent j).spatial i x at_i h.1) in
-    let uu = address_universal y u is_u (Each-get (InSpatial IsUniversal) (antecedent j).spatial k y at_k h.1) in
-    limited_on IsUniversalPremise 32 (one (with_pure j (Neq t (if nat_eq i k then Nil else u)))) (pure_universal j (Neq t (if nat_eq i k then Nil else u)) h (ut, one_term (nat_eq i k) Nil u tt uu), tt)))))
+    let ut = address_universal x t is_t (each_at (InSpatial IsUniversal) (antecedent j).spatial i x at_i h.1) in
+    let uu = address_universal y u is_u (each_at (InSpatial IsUniversal) (antecedent j).spatial k y at_k h.1) in
+    limited_on IsUniversalPremise 32 (one (with_pure j (Neq t (if nat_eq i k then Nil else u)))) (pure_universal j (Neq t (if nat_eq i k then Nil else u)) h (ut, universal_choice (nat_eq i k) Nil u tt uu), tt)))))
 rule_keeps most ds lines j (Weaken k) h c r =
     finds_on IsUniversalPremise (slice_get (antecedent j).pure k) NoSuchAtom _ (λ x at. (universal_with j _ (Each-without (InPure IsUniversal) (antecedent j).pure k h.0, h.1), tt))
 rule_keeps most ds lines j (Unfold k) h c r =
-    finds_on IsUniversalPremise (slice_get (antecedent j).spatial k) NoSuchAtom _ (λ x at. unfold_universal most ds (variables_of lines j) j k x h (Each-get (InSpatial IsUniversal) (antecedent j).spatial k x at h.1))
+    finds_on IsUniversalPremise (slice_get (antecedent j).spatial k) NoSuchAtom _ (λ x at. unfold_universal most ds (variables_of lines j) j k x h (each_at (InSpatial IsUniversal) (antecedent j).spatial k x at h.1))
 rule_keeps most ds lines j (Cut places f) h c r =
     needs_on IsUniversalPremise (ascend_from 0 (length (antecedent j).spatial) places) NoSuchAtom _ (λ _.
     limited_on IsUniversalPremise most (two (cut_left (antecedent j) (has_number places) f) (cut_right j (has_number places) f (max (fresh_number (variables_of lines j) j) (heap_bound f)))) ((h.0, chosen_universal (antecedent j).spatial (has_number places) h.1), (cut_universal j (has_number places) f (max (fresh_number (variables_of lines j) j) (heap_bound f)) h, tt)))
-rule_keeps most ds lines j Done h c r = lift j (done_answer j) (single_on P j _ (λ a b. empty_keeps (P (Entail a (b ∷ []))) a.spatial b.pure b.spatial)) h
+rule_keeps most ds lines j Done h c r = lift j (done_answer j) (single_on P j _ (λ a b. empty_on (P (Entail a (b ∷ []))) a.spatial b.pure b.spatial)) h
 rule_keeps most ds lines j (Choose k) h c r =
     lift j (choose_answer j k) (entails_on P j _ (λ a bs. finds_on (P (Entail a bs)) (slice_get bs k) NoSuchAtom _ (λ b at. (λ u. u, tt)))) h
 rule_keeps most ds lines j (PureRight k) h c r =

@@ -1,5 +1,5 @@
 -- The rules that change the left side are sound.
-use Rattle.std.proofs.Common.{◌≡◌, ℕ, zero, suc, ◌≤◌, max, Bool, true, false, cond, List, [], ◌∷◌, ◌++◌, map, length, Some, refl, sym, ap, ◌∙◌, arith}
+use Rattle.std.proofs.Common.{◌≡◌, ℕ, ◌≤◌, max, Bool, true, false, cond, List, [], ◌∷◌, ◌++◌, map, length, Some, refl, sym, ap, ◌∙◌, arith}
 use Rattle.std.specs.Prelude.{Ok, slice_get, slice_set, slice_index, nat_eq, nat_le, if◌then◌else◌}
 use Rattle.std.proofs.lemmas.Bool.Decides.{Decides-eqb}
 use Rattle.heap_formula.specs.declared.terms.Term.{Term}
@@ -31,8 +31,7 @@ use Rattle.rule_table.specs.RuleCut.{cut_left, cut_right}
 use Rattle.heap_formula.proofs.Unions.{part_trans, union_comm}
 use Rattle.rule_table.proofs.Substitutes.{pures_same, spatial_same, holds_same, along, back_along}
 use Rattle.rule_table.proofs.Frames.{value_universal, take_out, pairs_follow}
-use Rattle.rule_table.proofs.Rewrites.{AnyTerm, any_heap, Each-get, Each-without, OneOf-unmap, value_replaced}
-use Rattle.rule_table.proofs.Appends.{Each-append}
+use Rattle.rule_table.proofs.Rewrites.{AnyTerm, any_heap, Each-without, value_replaced}
 use Rattle.rule_table.proofs.Conclusions.{IsFresh, use_premise}
 use Rattle.rule_table.proofs.PureRules.{by_pures, weaken_sound, split_sound}
 use Rattle.rule_table.proofs.Unfolds.{unfold_sound}
@@ -43,6 +42,8 @@ use Rattle.rule_table.specs.Table.{with_pures, with_pure, rewritten_pures, rewri
 use Rattle.rule_table.specs.Soundness.{IsSound, HasVariables}
 use Rattle.rule_table.proofs.Steps.{needs_sound, finds_sound, limited_sound, runs_sound}
 use Rattle.rule_table.proofs.CellsIn.{cell_there, apart, absurd_heap}
+use Rattle.formula_facts.proofs.AllMembers.{each_append, each_at, each_set}
+use Rattle.formula_facts.proofs.SomeMember.{one_unmap}
 
 -- the fresh number is fresh
 pub is_fresh : (lines : List Command) (p n : ℕ) (j : Judgement) → HasVariables lines p j → fresh_number p j ≤ n → IsFresh lines n j
@@ -65,7 +66,7 @@ module _ (ds : List Definition) (lines : List Command) where
   -- one more pure atom that holds
   pub by_pure : (j : Judgement) (x : Pure) → ((stages : Stages) (s : Stack) (h : Cells) (o : SatisfiesAt ds stages s h (antecedent j)) → PureHolds s o.0 x) → IsLocallySound ds lines j (one (with_pure j x))
   by_pure j x f stages premises s h o =
-      by_pures ds lines j ((antecedent j).pure ++ x ∷ []) stages premises.0 s h o (Each-append (PureHolds s o.0) (antecedent j).pure (x ∷ []) o.1.0 (f stages s h o, tt))
+      by_pures ds lines j ((antecedent j).pure ++ x ∷ []) stages premises.0 s h o (each_append (PureHolds s o.0) (antecedent j).pure (x ∷ []) o.1.0 (f stages s h o, tt))
 
   -- ---- Distinct
 
@@ -93,23 +94,18 @@ module _ (ds : List Definition) (lines : List Command) where
 
   -- ---- Rewrite
 
-  Each-set : {X : Type 0} (P : X → Type 0) (xs : List X) (k : ℕ) (x : X) → P x → Each P xs → Each P (slice_set xs k x)
-  Each-set P [] k x p e = tt
-  Each-set P (y ∷ xs) zero x p e = (p, e.1)
-  Each-set P (y ∷ xs) (suc k) x p e = (e.0, Each-set P xs k x p e.1)
-
   module _ (v : ℕ) (u : Term) where
     pures_rewritten : (b : Bool) (s e : Stack) (k : ℕ) (x : Pure) (a : SymbolicHeap) → value s e u ≡ slice_index s v → PureHolds s e x → Each (PureHolds s e) a.pure → Each (PureHolds s e) (cond b (map (apply_pure ((v, u) ∷ [])) (without k a.pure)) (slice_set (map (apply_pure ((v, u) ∷ [])) a.pure) k x))
     pures_rewritten true s e k x a same here all =
         let a' : SymbolicHeap = record { pure = without k a.pure; spatial = a.spatial } in
         back_along (pures_same AnyTerm (apply_term ((v, u) ∷ [])) s e s e (value_replaced s e v u same) (without k a.pure) (any_heap a').0) (Each-without (PureHolds s e) a.pure k all)
     pures_rewritten false s e k x a same here all =
-        Each-set (PureHolds s e) (map (apply_pure ((v, u) ∷ [])) a.pure) k x here (back_along (pures_same AnyTerm (apply_term ((v, u) ∷ [])) s e s e (value_replaced s e v u same) a.pure (any_heap a).0) all)
+        each_set (PureHolds s e) (map (apply_pure ((v, u) ∷ [])) a.pure) k x here (back_along (pures_same AnyTerm (apply_term ((v, u) ∷ [])) s e s e (value_replaced s e v u same) a.pure (any_heap a).0) all)
 
     -- what the judgement claims after the replacement it claims before
     rewritten_back : (j : Judgement) (b : SymbolicHeap) (s e : Stack) (h : Cells) → IsUniversal u → value s e u ≡ slice_index s v → Concludes ds lines (with_antecedent (apply_judgement ((v, u) ∷ []) j) b) s h → Concludes ds lines j s h
     rewritten_back (Entail a bs) b s e h universal same c =
-        OneOf-unmap (Satisfies ds s h) (Satisfies ds s h) (apply_heap ((v, u) ∷ [])) (λ d t.
+        one_unmap (Satisfies ds s h) (Satisfies ds s h) (apply_heap ((v, u) ∷ [])) (λ d t.
         let f = t.1.0 in
         let same' : value s f u ≡ slice_index s v = value_universal s f e u universal ∙ same in
         (t.0, (f, along (holds_same AnyTerm (apply_term ((v, u) ∷ [])) s f s f (value_replaced s f v u same') (λ m. at_stage ds (t.0 m)) d (any_heap d) h) t.1.1))) bs c
@@ -117,7 +113,7 @@ module _ (ds : List Definition) (lines : List Command) where
 
     rewritten_sound : (p : ℕ) (j : Judgement) (k : ℕ) (x : Pure) → slice_get (antecedent j).pure k ≡ Some x → ((s e : Stack) → PureHolds s e x → value s e u ≡ slice_index s v) → IsUniversal u → IsLocallySound ds lines j (one (rewritten p j k x v u))
     rewritten_sound p j k x at equates universal stages premises s h o =
-        let here = Each-get (PureHolds s o.0) (antecedent j).pure k x at o.1.0 in
+        let here = each_at (PureHolds s o.0) (antecedent j).pure k x at o.1.0 in
         let same = equates s o.0 here in
         let a = antecedent j in
         let b : SymbolicHeap = record { pure = rewritten_pures p k x v u a.pure; spatial = map (apply_spatial ((v, u) ∷ [])) a.spatial } in
@@ -145,7 +141,7 @@ module _ (ds : List Definition) (lines : List Command) where
 
   pub rewrite_is_sound : (p : ℕ) (j : Judgement) (k : ℕ) (side : Side) → IsUniversalHeap (antecedent j) → IsSound ds lines j (rewrite_answer p j k side)
   rewrite_is_sound p j k side universal =
-      finds_sound ds lines j (slice_get (antecedent j).pure k) NoSuchAtom _ (λ x at. rewrite_atom_sound p j k side x at (Each-get (InPure IsUniversal) (antecedent j).pure k x at universal.0))
+      finds_sound ds lines j (slice_get (antecedent j).pure k) NoSuchAtom _ (λ x at. rewrite_atom_sound p j k side x at (each_at (InPure IsUniversal) (antecedent j).pure k x at universal.0))
 
   -- ---- Unfold, Cut, Drop
 

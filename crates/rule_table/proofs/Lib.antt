@@ -35,3 +35,4 @@ pub mod Multisets
 pub mod LinkEntails
 pub mod Conclusions
 pub mod PureRules
+pub mod EmptyPremises

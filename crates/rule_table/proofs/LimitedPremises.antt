@@ -1,6 +1,6 @@
 -- The limits of premises as the program makes them.
-use Rattle.std.proofs.Common.{◌≡◌, ℕ, ◌≤◌, Bool, true, false, ◌&&◌, List, refl, sym, subst, leb-true, le-leb}
-use Rattle.std.specs.Prelude.{nat_le, Result, Ok, Vec}
+use Rattle.std.proofs.Common.{◌≡◌, ℕ, Bool, true, false, ◌&&◌, List, refl, sym, subst}
+use Rattle.std.specs.Prelude.{Result, Ok, Vec}
 use Rattle.std.specs.declared.alloc.Global.{Global}
 use Rattle.heap_formula.specs.declared.judgements.Judgement.{Judgement}
 use Rattle.heap_formula.specs.declared.judgements.Judgement.TheVariants.{Entail, Term as Runs}
@@ -11,11 +11,7 @@ use Rattle.heap_formula.specs.Symbolic.{SymbolicHeap}
 use Rattle.heap_formula.specs.Judgements.{with_antecedent}
 use Rattle.rule_table.specs.Answer.{needs, limited, every, is_short, has_numbers, each_heap, heaps_of, disjuncts}
 use Rattle.rule_table.specs.Answered.{IsAnswer}
-use Rattle.rule_table.proofs.Reflects.{both, bool_same}
-
-pub le_same : (a b c d : ℕ) → (a ≤ b → c ≤ d) → (c ≤ d → a ≤ b) → nat_le a b ≡ nat_le c d
-le_same a b c d f g =
-    bool_same (nat_le a b) (nat_le c d) (λ e. le-leb c d (f (leb-true a b e))) (λ e. le-leb a b (g (leb-true c d e)))
+use Rattle.std.proofs.lemmas.Bool.{and_parts}
 
 pub and_assoc : (p q r : Bool) → (p && q) && r ≡ p && (q && r)
 and_assoc true q r = refl
@@ -31,8 +27,8 @@ any_numbers (Entail d bs) b c e = λ i. e i && every has_numbers bs
 any_numbers (Runs n d) b c e = λ i. e i && true
 
 pub any_first : (i : Judgement) (b : SymbolicHeap) → every has_numbers (heaps_of (with_antecedent i b)) ≡ true → has_numbers b ≡ true
-any_first (Entail d bs) b e = (both (has_numbers b) (every has_numbers bs) e).0
-any_first (Runs n d) b e = (both (has_numbers b) true e).0
+any_first (Entail d bs) b e = (and_parts (has_numbers b) (every has_numbers bs) e).0
+any_first (Runs n d) b e = (and_parts (has_numbers b) true e).0
 
 -- the answer from premises as the program makes them
 pub limited_changed : (most : ℕ) (r : Result (Vec Premise Global) RuleError) (ps qs xs : List Premise) → xs ≡ qs → each_heap (is_short most) ps ≡ true → each_heap has_numbers qs ≡ each_heap has_numbers ps → (each_heap has_numbers ps ≡ true → qs ≡ ps) → IsAnswer r (needs (each_heap has_numbers xs) NoFreshVariable (Ok xs)) → IsAnswer r (limited most ps)

@@ -1,6 +1,5 @@
 -- A link between two entailments is sound.
-use Rattle.std.proofs.Common.{◌≡◌, ℕ, zero, suc, ◌+◌, ◌≤◌, true, List, [], ◌∷◌, length, Some, refl, sym, ap, ◌∙◌, subst, arith, inl, inr, map}
-use Rattle.std.specs.Prelude.{slice_get}
+use Rattle.std.proofs.Common.{◌≡◌, ℕ, ◌+◌, ◌≤◌, true, List, [], ◌∷◌, length, refl, sym, ap, ◌∙◌, subst, arith, inl, inr, map}
 use Rattle.std.proofs.Math.ListN.{get_or}
 use Rattle.std.proofs.lemmas.List.{length-map}
 use Rattle.heap_formula.specs.declared.terms.Term.{Term}
@@ -27,11 +26,7 @@ use Rattle.rule_table.proofs.Appends.{pairs_follow_if}
 use Rattle.rule_table.proofs.Links.{mapped_hold, Chosen, left_over, length_left, none_left}
 use Rattle.rule_table.proofs.LinkRuns.{image_stack, image_value, tabulated-at, all_chosen, all_places, each_follows, map_length, mapped-at, link_pairs}
 use Rattle.rule_table.proofs.Multisets.{covered_holds}
-
-OneOf-put : {X : Type 0} (P : X → Type 0) (xs : List X) (k : ℕ) (x : X) → slice_get xs k ≡ Some x → P x → OneOf P xs
-OneOf-put P [] k x at p = cc
-OneOf-put P (y ∷ xs) zero x at p = let same : x ≡ y = cc in inl (subst P same p)
-OneOf-put P (y ∷ xs) (suc k) x at p = inr (OneOf-put P xs k x at p)
+use Rattle.formula_facts.proofs.SomeMember.{one_at}
 
 -- the substitution's value does not depend on the existential stack
 other_value : (ps : Bindings) (s e f : Stack) (n : ℕ) → ((v : ℕ) → IsUniversal (image ps v)) → (t : Term) → IsBelow n t → value s f (apply_term ps t) ≡ value (image_stack ps s e n) f t
@@ -50,7 +45,7 @@ module _ (ds : List Definition) (ps : Bindings) (s e : Stack) (n : ℕ) (univers
       let f = t.1.0 in
       let moved : Holds (λ m. at_stage ds (t.0 m)) s f (apply_heap ps c) h =
       back_along (holds_same (IsBelow n) (apply_term ps) s f (image_stack ps s e n) f (other_value ps s e f n universal) (λ m. at_stage ds (t.0 m)) c (heap_below n c (omega arith)) h) t.1.1 in
-      OneOf-put (Satisfies ds s h) bs k d.0 d.1 (covered_holds ds s h d.0 (apply_heap ps c) d.2 (t.0, (f, moved)))
+      one_at (Satisfies ds s h) bs k d.0 d.1 (covered_holds ds s h d.0 (apply_heap ps c) d.2 (t.0, (f, moved)))
 
 pub link_entails_sound : (ds : List Definition) (lines : List Command) (a a' : SymbolicHeap) (bs cs : List SymbolicHeap) (ps : Bindings) (ms ks : List ℕ) (n : ℕ) → heap_bound a' ≤ n → max_of (map heap_bound cs) ≤ n → ((v : ℕ) → IsUniversal (image ps v)) → Each (FollowsFrom a.pure) (map (apply_pure ps) a'.pure) → MapsInto a.pure a.spatial (λ _. true) ms (map (apply_spatial ps) a'.spatial) → length a.spatial ≤ length a'.spatial → DisjunctsCover bs ks (map (apply_heap ps) cs) → IsLocallySound ds lines (Entail a bs) (record { judgement = Entail a' cs; pairs = link_pairs ms a'.spatial } ∷ [])
 link_entails_sound ds lines a a' bs cs ps ms ks n below cs_below universal follow maps all_taken cover stages premises s h o =

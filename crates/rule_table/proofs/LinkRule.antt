@@ -1,9 +1,8 @@
 -- Link is sound.
 use Rattle.std.proofs.Common.{◌≡◌, ◌≢◌, ℕ, zero, suc, ◌<◌, ◌≤◌, max, Bool, true, false, not, ◌&&◌, ◌||◌, cond, List, [], ◌∷◌, ◌++◌, map, length, Option, Some, None, refl, sym, ap, ◌∙◌, subst, inl, inr, arith, leb-true}
 use Rattle.std.specs.Prelude.{slice_get, nat_eq, nat_le}
-use Rattle.std.proofs.lemmas.Bool.{cases_lt}
+use Rattle.std.proofs.lemmas.Bool.{cases_lt, and_parts}
 use Rattle.std.proofs.lemmas.Bool.Decides.{Decides-eqb}
-use Rattle.heap_formula.specs.declared.terms.Term.{Term}
 use Rattle.heap_formula.specs.declared.terms.Term.TheVariants.{Univ}
 use Rattle.heap_formula.specs.declared.atoms.Pure.{Pure}
 use Rattle.heap_formula.specs.declared.atoms.Spatial.{Spatial}
@@ -22,7 +21,6 @@ use Rattle.heap_formula.specs.Judgements.{IsLocallySound}
 use Rattle.heap_formula.specs.Closedness.{IsUniversal}
 use Rattle.heap_formula.specs.Substitution.{Bindings, image, apply_pure, apply_spatial, apply_heap}
 use Rattle.rule_table.specs.RuleLink.{minus, count_of, SameAtoms, Covers, DisjunctsCover, MapsInto, FollowsFrom, IsMatch}
-use Rattle.rule_table.proofs.Rewrites.{Each-get}
 use Rattle.rule_table.proofs.Multisets.{stands}
 use Rattle.rule_table.proofs.LinkRuns.{link_runs_sound}
 use Rattle.rule_table.proofs.LinkEntails.{link_entails_sound}
@@ -30,7 +28,9 @@ use Rattle.rule_table.specs.Answer.{one}
 use Rattle.rule_table.specs.Tests.{same_term, follows, has_number}
 use Rattle.rule_table.specs.LinkTable.{first_of, fault_unless, keeps_below, pure_fault, matches_some, spatial_fault, counts_agree, same_atoms, all_follow, covers_some, disjunct_fault, parts_fault, link_fault, link_premise}
 use Rattle.rule_table.specs.Soundness.{HasVariables, AreUniversal}
-use Rattle.rule_table.proofs.Reflects.{both, same_term_is, follows_is, matches_is}
+use Rattle.rule_table.proofs.Reflects.{same_term_is, follows_is, matches_is}
+use Rattle.formula_facts.proofs.AllMembers.{each_at}
+use Rattle.formula_facts.proofs.Terms.{universal_choice}
 
 pub none_of_two : (f g : Option RuleFault) → first_of f g ≡ None → (f ≡ None) × (g ≡ None)
 none_of_two None g e = (refl, e)
@@ -47,7 +47,7 @@ cond_none false rest f e = cc
 pub kept_below : (s : Bindings) (p : ℕ) → keeps_below s p ≡ true → (v : ℕ) → v < p → image s v ≡ Univ v
 kept_below s zero e v lt = absurd (omega arith)
 kept_below s (suc p) e v lt =
-    let b = both (same_term (image s p) (Univ p)) (keeps_below s p) e in
+    let b = and_parts (same_term (image s p) (Univ p)) (keeps_below s p) e in
     elim (cases_lt v p) [
       | inl below ↦ kept_below s p b.1 v below
       | inr le ↦ let q : p ≡ v = omega arith in subst (λ m. image s m ≡ Univ m) q (same_term_is (image s p) (Univ p) b.0)
@@ -104,7 +104,7 @@ all_spatials pures atoms whole seen k (m ∷ ms) [] e = cc
 all_spatials pures atoms whole seen k [] (x ∷ xs) e = cc
 all_spatials pures atoms whole seen k (m ∷ ms) (x ∷ xs) e =
     let c = cond_none (unseen seen m && matches_some pures x (slice_get atoms m)) (spatial_fault pures atoms whole (seen ++ m ∷ []) (suc k) ms xs) (LinkSpatial k) e in
-    let b = both (unseen seen m) (matches_some pures x (slice_get atoms m)) c.0 in
+    let b = and_parts (unseen seen m) (matches_some pures x (slice_get atoms m)) c.0 in
     let y = some_match pures x (slice_get atoms m) b.1 in
     let r = all_spatials pures atoms whole (seen ++ m ∷ []) (suc k) ms xs c.1 in
     let rest = subst (λ (p : ℕ → Bool). MapsInto pures atoms p ms xs) (λ i j. unseen_more seen m j i) r.0 in
@@ -113,31 +113,31 @@ all_spatials pures atoms whole seen k (m ∷ ms) (x ∷ xs) e =
 counts_are : (xs ys zs : List Spatial) → counts_agree xs ys zs ≡ true → Each (λ z. count_of z xs ≡ count_of z ys) zs
 counts_are xs ys [] e = tt
 counts_are xs ys (z ∷ zs) e =
-    let b = both (nat_eq (count_of z xs) (count_of z ys)) (counts_agree xs ys zs) e in
+    let b = and_parts (nat_eq (count_of z xs) (count_of z ys)) (counts_agree xs ys zs) e in
     ((Decides-eqb (count_of z xs) (count_of z ys)).0 b.0, counts_are xs ys zs b.1)
 
 atoms_are : (xs ys : List Spatial) → same_atoms xs ys ≡ true → SameAtoms xs ys
 atoms_are xs ys e x =
     elim (cases_lt 0 (count_of x xs)) [
-      | inl some ↦ let at = stands x xs some in Each-get (λ z. count_of z xs ≡ count_of z ys) xs at.place x at.at (counts_are xs ys xs b.0)
+      | inl some ↦ let at = stands x xs some in each_at (λ z. count_of z xs ≡ count_of z ys) xs at.place x at.at (counts_are xs ys xs b.0)
       | inr none ↦ elim (cases_lt 0 (count_of x ys)) [
-        | inl some ↦ let at = stands x ys some in Each-get (λ z. count_of z xs ≡ count_of z ys) ys at.place x at.at (counts_are xs ys ys b.1)
+        | inl some ↦ let at = stands x ys some in each_at (λ z. count_of z xs ≡ count_of z ys) ys at.place x at.at (counts_are xs ys ys b.1)
         | inr none' ↦ omega arith
       ]
     ]
   where
     b : (counts_agree xs ys xs ≡ true) × (counts_agree xs ys ys ≡ true)
-    b = both (counts_agree xs ys xs) (counts_agree xs ys ys) e
+    b = and_parts (counts_agree xs ys xs) (counts_agree xs ys ys) e
 
 all_follow_are : (pures xs : List Pure) → all_follow pures xs ≡ true → Each (FollowsFrom pures) xs
 all_follow_are pures [] e = tt
 all_follow_are pures (x ∷ xs) e =
-    let b = both (follows pures x) (all_follow pures xs) e in (follows_is pures x b.0, all_follow_are pures xs b.1)
+    let b = and_parts (follows pures x) (all_follow pures xs) e in (follows_is pures x b.0, all_follow_are pures xs b.1)
 
 some_covered : (c : SymbolicHeap) (o : Option SymbolicHeap) → covers_some c o ≡ true → (b : SymbolicHeap) × (o ≡ Some b) × Covers c b
 some_covered c None e = cc
 some_covered c (Some b) e =
-    let t = both (same_atoms b.spatial c.spatial) (all_follow c.pure b.pure) e in
+    let t = and_parts (same_atoms b.spatial c.spatial) (all_follow c.pure b.pure) e in
     (b, refl, record { spatial = atoms_are b.spatial c.spatial t.0; pure = all_follow_are c.pure b.pure t.1 })
 
 all_disjuncts : (bs : List SymbolicHeap) (k : ℕ) (ms : List ℕ) (cs : List SymbolicHeap) → disjunct_fault bs k ms cs ≡ None → DisjunctsCover bs ms cs
@@ -148,10 +148,6 @@ all_disjuncts bs k (m ∷ ms) (c ∷ cs) e =
     let t = cond_none (covers_some c (slice_get bs m)) (disjunct_fault bs (suc k) ms cs) (LinkDisjunct k) e in
     let b = some_covered c (slice_get bs m) t.0 in
     (b.0, b.1, b.2, all_disjuncts bs (suc k) ms cs t.1)
-
-universal_choice : (b : Bool) (t u : Term) → IsUniversal t → IsUniversal u → IsUniversal (cond b t u)
-universal_choice true t u p q = p
-universal_choice false t u p q = q
 
 image_universal : (s : Bindings) → AreUniversal s → (v : ℕ) → IsUniversal (image s v)
 image_universal [] u v = tt

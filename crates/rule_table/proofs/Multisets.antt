@@ -34,7 +34,7 @@ pub stands : (x : Spatial) (ys : List Spatial) → 0 < count_of x ys → StandsA
 stands x [] h = absurd (omega arith)
 stands x (y ∷ ys) h = found (spatial_eq.it x y) x y ys refl h (stands x ys)
 
-counted_itself : (x : Spatial) (xs : List Spatial) → 0 < count_of x (x ∷ xs)
+pub counted_itself : (x : Spatial) (xs : List Spatial) → 0 < count_of x (x ∷ xs)
 counted_itself x xs = let e : spatial_eq.it x x ≡ true = (spatial_eq-Decides x x).1 refl in subst (λ (b : Bool). 0 < (if b then 1 else 0) + count_of x xs) (sym e) (omega arith)
 
 module _ (L : Family) (s e : Stack) where

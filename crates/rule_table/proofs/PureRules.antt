@@ -18,9 +18,9 @@ use Rattle.heap_formula.specs.Meaning.{PureHolds, Stages, SatisfiesAt}
 use Rattle.heap_formula.specs.Judgements.{Concludes, PremiseHolds, IsLocallySound, antecedent, with_antecedent}
 use Rattle.heap_formula.specs.Positions.{without, same_pairs}
 use Rattle.rule_table.proofs.Frames.{pairs_follow}
-use Rattle.rule_table.proofs.Rewrites.{Each-get, Each-without}
-use Rattle.rule_table.proofs.Appends.{Each-append}
+use Rattle.rule_table.proofs.Rewrites.{Each-without}
 use Rattle.rule_table.proofs.Conclusions.{use_premise}
+use Rattle.formula_facts.proofs.AllMembers.{each_append, each_at}
 
 -- the conclusion does not speak of the antecedent
 pub same_conclusion : (ds : List Definition) (lines : List Command) (j : Judgement) (a : SymbolicHeap) (s : Stack) (h : Cells) → Concludes ds lines (with_antecedent j a) s h → Concludes ds lines j s h
@@ -50,10 +50,10 @@ split_sound ds lines j t u stages premises s h o = by (nat_eq (value s o.0 t) (v
   where
     by : (b : Bool) → nat_eq (value s o.0 t) (value s o.0 u) ≡ b → Concludes ds lines j s h
     by true q =
-        by_pures ds lines j ((antecedent j).pure ++ Eq t u ∷ []) stages premises.0 s h o (Each-append (PureHolds s o.0) (antecedent j).pure (Eq t u ∷ []) o.1.0 ((Decides-eqb _ _).0 q, tt))
+        by_pures ds lines j ((antecedent j).pure ++ Eq t u ∷ []) stages premises.0 s h o (each_append (PureHolds s o.0) (antecedent j).pure (Eq t u ∷ []) o.1.0 ((Decides-eqb _ _).0 q, tt))
     by false q =
-        by_pures ds lines j ((antecedent j).pure ++ Neq t u ∷ []) stages premises.1.0 s h o (Each-append (PureHolds s o.0) (antecedent j).pure (Neq t u ∷ []) o.1.0 ((λ e. let d = (Decides-eqb _ _).1 e in cc), tt))
+        by_pures ds lines j ((antecedent j).pure ++ Neq t u ∷ []) stages premises.1.0 s h o (each_append (PureHolds s o.0) (antecedent j).pure (Neq t u ∷ []) o.1.0 ((λ e. let d = (Decides-eqb _ _).1 e in cc), tt))
 
 -- one kind of Absurd: a disequation of a term with itself
 pub absurd_sound : (ds : List Definition) (lines : List Command) (j : Judgement) (k : ℕ) (t : Term) → slice_get (antecedent j).pure k ≡ Some (Neq t t) → IsLocallySound ds lines j []
-absurd_sound ds lines j k t at stages none s h o = absurd (Each-get (PureHolds s o.0) (antecedent j).pure k (Neq t t) at o.1.0 refl)
+absurd_sound ds lines j k t at stages none s h o = absurd (each_at (PureHolds s o.0) (antecedent j).pure k (Neq t t) at o.1.0 refl)

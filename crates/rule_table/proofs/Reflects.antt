@@ -1,5 +1,5 @@
 -- What the tests mean.
-use Rattle.std.proofs.Common.{◌≡◌, ◌⊎◌, ◌↔◌, ℕ, Bool, true, false, ◌&&◌, ◌||◌, List, [], ◌∷◌, refl, sym, ap, subst, inl, inr}
+use Rattle.std.proofs.Common.{◌≡◌, ◌⊎◌, ◌↔◌, ℕ, Bool, true, false, ◌||◌, List, [], ◌∷◌, refl, ap, subst, inl, inr}
 use Rattle.std.specs.Prelude.{nat_eq}
 use Rattle.std.proofs.lemmas.Bool.Decides.{Decides-eqb}
 use Rattle.heap_formula.specs.declared.terms.Term.{Term}
@@ -13,10 +13,8 @@ use Rattle.heap_formula.specs.Closedness.{InPure, IsUniversal, IsUniversalSpatia
 use Rattle.rule_table.specs.RuleLink.{EachPair, mirror_pure, HasPure, FollowsFrom, AreEquated, IsMatch}
 use Rattle.rule_table.specs.Tests.{same_term, same_terms, same_pure, same_spatial, is_universal, are_universal, is_universal_pure, is_universal_spatial, has_pure, is_trivial, follows, equated}
 use Rattle.rule_table.specs.LinkTable.{all_equated, matches}
-
-pub both : (p q : Bool) → p && q ≡ true → (p ≡ true) × (q ≡ true)
-both true q e = (refl, e)
-both false q e = cc
+use Rattle.std.proofs.lemmas.Bool.{and_from, and_parts}
+use Rattle.list_facts.proofs.Tests.{bool_same}
 
 pub either : (p q : Bool) → p || q ≡ true → (p ≡ true) ⊎ (q ≡ true)
 either true q e = inl refl
@@ -38,21 +36,21 @@ same_terms_are [] [] e = refl
 same_terms_are [] (u ∷ us) e = cc
 same_terms_are (t ∷ ts) [] e = cc
 same_terms_are (t ∷ ts) (u ∷ us) e =
-    let b = both (same_term t u) (same_terms ts us) e in λ i. same_term_is t u b.0 i ∷ same_terms_are ts us b.1 i
+    let b = and_parts (same_term t u) (same_terms ts us) e in λ i. same_term_is t u b.0 i ∷ same_terms_are ts us b.1 i
 
 pub same_pure_is : (x y : Pure) → same_pure x y ≡ true → x ≡ y
 same_pure_is (Eq t u) (Eq v w) e =
-    let b = both (same_term t v) (same_term u w) e in λ i. Eq (same_term_is t v b.0 i) (same_term_is u w b.1 i)
+    let b = and_parts (same_term t v) (same_term u w) e in λ i. Eq (same_term_is t v b.0 i) (same_term_is u w b.1 i)
 same_pure_is (Neq t u) (Neq v w) e =
-    let b = both (same_term t v) (same_term u w) e in λ i. Neq (same_term_is t v b.0 i) (same_term_is u w b.1 i)
+    let b = and_parts (same_term t v) (same_term u w) e in λ i. Neq (same_term_is t v b.0 i) (same_term_is u w b.1 i)
 same_pure_is (Eq t u) (Neq v w) e = cc
 same_pure_is (Neq t u) (Eq v w) e = cc
 
 pub same_spatial_is : (x y : Spatial) → same_spatial x y ≡ true → x ≡ y
 same_spatial_is (Cell t ts) (Cell u us) e =
-    let b = both (same_term t u) (same_terms ts us) e in λ i. Cell (same_term_is t u b.0 i) (same_terms_are ts us b.1 i)
+    let b = and_parts (same_term t u) (same_terms ts us) e in λ i. Cell (same_term_is t u b.0 i) (same_terms_are ts us b.1 i)
 same_spatial_is (Pred p ts) (Pred q us) e =
-    let b = both (nat_eq p q) (same_terms ts us) e in λ i. Pred ((Decides-eqb p q).0 b.0 i) (same_terms_are ts us b.1 i)
+    let b = and_parts (nat_eq p q) (same_terms ts us) e in λ i. Pred ((Decides-eqb p q).0 b.0 i) (same_terms_are ts us b.1 i)
 same_spatial_is (Cell t ts) (Pred q us) e = cc
 same_spatial_is (Pred p ts) (Cell u us) e = cc
 
@@ -64,15 +62,15 @@ universal_is (Exist n) e = cc
 pub universals_are : (ts : List Term) → are_universal ts ≡ true → Each IsUniversal ts
 universals_are [] e = tt
 universals_are (t ∷ ts) e =
-    let b = both (is_universal t) (are_universal ts) e in (universal_is t b.0, universals_are ts b.1)
+    let b = and_parts (is_universal t) (are_universal ts) e in (universal_is t b.0, universals_are ts b.1)
 
 pub universal_pure_is : (x : Pure) → is_universal_pure x ≡ true → InPure IsUniversal x
-universal_pure_is (Eq t u) e = let b = both (is_universal t) (is_universal u) e in (universal_is t b.0, universal_is u b.1)
-universal_pure_is (Neq t u) e = let b = both (is_universal t) (is_universal u) e in (universal_is t b.0, universal_is u b.1)
+universal_pure_is (Eq t u) e = let b = and_parts (is_universal t) (is_universal u) e in (universal_is t b.0, universal_is u b.1)
+universal_pure_is (Neq t u) e = let b = and_parts (is_universal t) (is_universal u) e in (universal_is t b.0, universal_is u b.1)
 
 pub universal_spatial_is : (x : Spatial) → is_universal_spatial x ≡ true → IsUniversalSpatial x
 universal_spatial_is (Cell t ts) e =
-    let b = both (is_universal t) (are_universal ts) e in (universal_is t b.0, universals_are ts b.1)
+    let b = and_parts (is_universal t) (are_universal ts) e in (universal_is t b.0, universals_are ts b.1)
 universal_spatial_is (Pred p ts) e = universals_are ts e
 
 pub has_pure_is : (ys : List Pure) (x : Pure) → has_pure ys x ≡ true → HasPure ys x
@@ -109,24 +107,20 @@ all_equated_are pures [] [] e = tt
 all_equated_are pures [] (u ∷ us) e = cc
 all_equated_are pures (t ∷ ts) [] e = cc
 all_equated_are pures (t ∷ ts) (u ∷ us) e =
-    let b = both (equated pures t u) (all_equated pures ts us) e in
+    let b = and_parts (equated pures t u) (all_equated pures ts us) e in
     (equated_is pures t u b.0, all_equated_are pures ts us b.1)
 
 pub matches_is : (pures : List Pure) (x y : Spatial) → matches pures x y ≡ true → IsMatch pures x y
 matches_is pures (Cell t ts) (Cell u us) e =
-    let b = both (equated pures t u) (all_equated pures ts us) e in
+    let b = and_parts (equated pures t u) (all_equated pures ts us) e in
     (equated_is pures t u b.0, all_equated_are pures ts us b.1)
 matches_is pures (Pred p ts) (Pred q us) e =
-    let b = both (nat_eq p q) (all_equated pures ts us) e in
+    let b = and_parts (nat_eq p q) (all_equated pures ts us) e in
     ((Decides-eqb p q).0 b.0, all_equated_are pures ts us b.1)
 matches_is pures (Cell t ts) (Pred q us) e = cc
 matches_is pures (Pred p ts) (Cell u us) e = cc
 
 -- ---- back: equal atoms pass the tests
-
-pub and_true : (p q : Bool) → p ≡ true → q ≡ true → p && q ≡ true
-and_true true q e f = f
-and_true false q e f = cc
 
 nat_itself : (n : ℕ) → nat_eq n n ≡ true
 nat_itself n = (Decides-eqb n n).1 refl
@@ -138,16 +132,11 @@ same_term_self (Exist n) = nat_itself n
 
 pub same_terms_self : (ts : List Term) → same_terms ts ts ≡ true
 same_terms_self [] = refl
-same_terms_self (t ∷ ts) = and_true (same_term t t) (same_terms ts ts) (same_term_self t) (same_terms_self ts)
+same_terms_self (t ∷ ts) = and_from (same_term t t) (same_terms ts ts) (same_term_self t) (same_terms_self ts)
 
 pub same_spatial_self : (x : Spatial) → same_spatial x x ≡ true
-same_spatial_self (Cell t ts) = and_true (same_term t t) (same_terms ts ts) (same_term_self t) (same_terms_self ts)
-same_spatial_self (Pred p ts) = and_true (nat_eq p p) (same_terms ts ts) (nat_itself p) (same_terms_self ts)
-
-pub bool_same : (p q : Bool) → (p ≡ true → q ≡ true) → (q ≡ true → p ≡ true) → p ≡ q
-bool_same true q f g = sym (f refl)
-bool_same false true f g = g refl
-bool_same false false f g = refl
+same_spatial_self (Cell t ts) = and_from (same_term t t) (same_terms ts ts) (same_term_self t) (same_terms_self ts)
+same_spatial_self (Pred p ts) = and_from (nat_eq p p) (same_terms ts ts) (nat_itself p) (same_terms_self ts)
 
 pub decided_spatial : (r : Bool) (x y : Spatial) → ((r ≡ true) ↔ (x ≡ y)) → r ≡ same_spatial x y
 decided_spatial r x y d =

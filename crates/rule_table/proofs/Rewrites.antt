@@ -12,7 +12,7 @@ use Rattle.heap_formula.specs.declared.commands.Command.{Command}
 use Rattle.heap_formula.specs.declared.judgements.Judgement.TheVariants.{Entail}
 use Rattle.heap_formula.specs.Symbolic.{SymbolicHeap}
 use Rattle.heap_formula.specs.Definitions.{Definition}
-use Rattle.heap_formula.specs.Words.{Each, OneOf}
+use Rattle.heap_formula.specs.Words.{Each}
 use Rattle.heap_formula.specs.Values.{Stack, value}
 use Rattle.heap_formula.specs.Meaning.{PureHolds, Holds, at_stage, Satisfies}
 use Rattle.heap_formula.specs.Judgements.{IsLocallySound}
@@ -21,6 +21,8 @@ use Rattle.heap_formula.specs.Closedness.{InPure, InSpatial, InHeap, IsUniversal
 use Rattle.heap_formula.specs.Substitution.{apply_term, apply_heap}
 use Rattle.rule_table.proofs.Substitutes.{holds_same, along, back_along}
 use Rattle.rule_table.proofs.Frames.{value_universal, pairs_follow}
+use Rattle.formula_facts.proofs.AllMembers.{each_at, each_any}
+use Rattle.formula_facts.proofs.SomeMember.{one_unmap}
 
 abbrev pub AnyTerm : Term → Type 0
 AnyTerm _ = Unit {0}
@@ -37,27 +39,13 @@ any_spatial : (x : Spatial) → InSpatial AnyTerm x
 any_spatial (Cell t ts) = (tt, any_terms ts)
 any_spatial (Pred p ts) = any_terms ts
 
-each : {X : Type 0} (P : X → Type 0) → ((x : X) → P x) → (xs : List X) → Each P xs
-each P f [] = tt
-each P f (x ∷ xs) = (f x, each P f xs)
-
 pub any_heap : (a : SymbolicHeap) → InHeap AnyTerm a
-any_heap a = (each (InPure AnyTerm) any_pure a.pure, each (InSpatial AnyTerm) any_spatial a.spatial)
-
-pub Each-get : {X : Type 0} (P : X → Type 0) (xs : List X) (k : ℕ) (x : X) → slice_get xs k ≡ Some x → Each P xs → P x
-Each-get P [] k x at e = cc
-Each-get P (y ∷ xs) zero x at e = let same : y ≡ x = cc in subst P same e.0
-Each-get P (y ∷ xs) (suc k) x at e = Each-get P xs k x at e.1
+any_heap a = (each_any (InPure AnyTerm) any_pure a.pure, each_any (InSpatial AnyTerm) any_spatial a.spatial)
 
 pub Each-without : {X : Type 0} (P : X → Type 0) (xs : List X) (k : ℕ) → Each P xs → Each P (without k xs)
 Each-without P [] k e = tt
 Each-without P (x ∷ xs) zero e = e.1
 Each-without P (x ∷ xs) (suc k) e = (e.0, Each-without P xs k e.1)
-
-pub OneOf-unmap : {X Y : Type 0} (P : Y → Type 0) (Q : X → Type 0) (f : X → Y) → ((x : X) → P (f x) → Q x) → (xs : List X) → OneOf P (map f xs) → OneOf Q xs
-OneOf-unmap P Q f g [] o = o
-OneOf-unmap P Q f g (x ∷ xs) (inl a) = inl (g x a)
-OneOf-unmap P Q f g (x ∷ xs) (inr o) = inr (OneOf-unmap P Q f g xs o)
 
 one_pair : (b : Bool) (s e : Stack) (n v : ℕ) (u : Term) → nat_eq n v ≡ b → value s e u ≡ slice_index s v → value s e (cond b u (Univ n)) ≡ slice_index s n
 one_pair true s e n v u test same = same ∙ ap (slice_index s) (sym ((Decides-eqb n v).0 test))
@@ -82,13 +70,13 @@ rewritten k v u a = apply_heap ((v, u) ∷ []) (record { pure = without k a.pure
 
 pub rewrite_sound : (ds : List Definition) (lines : List Command) (a : SymbolicHeap) (bs : List SymbolicHeap) (k v : ℕ) (u : Term) (x : Pure) → slice_get a.pure k ≡ Some x → Equates v u x → IsUniversal u → IsLocallySound ds lines (Entail a bs) (record { judgement = Entail (rewritten k v u a) (map (apply_heap ((v, u) ∷ [])) bs); pairs = same_pairs a.spatial } ∷ [])
 rewrite_sound ds lines a bs k v u x at equates universal stages premises s h o =
-    let same = equated s o.0 v u x equates (Each-get (PureHolds s o.0) a.pure k x at o.1.0) in
+    let same = equated s o.0 v u x equates (each_at (PureHolds s o.0) a.pure k x at o.1.0) in
     let a' : SymbolicHeap = record { pure = without k a.pure; spatial = a.spatial } in
     let smaller : Holds (λ m. at_stage ds (stages m)) s o.0 a' h = (Each-without (PureHolds s o.0) a.pure k o.1.0, o.1.1) in
     let moved : Holds (λ m. at_stage ds (stages m)) s o.0 (rewritten k v u a) h =
     back_along (holds_same AnyTerm (apply_term ((v, u) ∷ [])) s o.0 s o.0 (value_replaced s o.0 v u same) (λ m. at_stage ds (stages m)) a' (any_heap a') h) smaller in
     let r = premises.0 stages (pairs_follow (λ m. m) stages 0 a.spatial) s h (o.0, moved) in
-    OneOf-unmap (Satisfies ds s h) (Satisfies ds s h) (apply_heap ((v, u) ∷ [])) (λ b t.
+    one_unmap (Satisfies ds s h) (Satisfies ds s h) (apply_heap ((v, u) ∷ [])) (λ b t.
     let e' = t.1.0 in
     let same' : value s e' u ≡ slice_index s v = value_universal s e' o.0 u universal ∙ same in
     (t.0, (e', along (holds_same AnyTerm (apply_term ((v, u) ∷ [])) s e' s e' (value_replaced s e' v u same') (λ m. at_stage ds (t.0 m)) b (any_heap b) h) t.1.1))) bs r

@@ -15,7 +15,7 @@ use Rattle.heap_formula.specs.declared.judgements.Judgement.TheVariants.{Entail}
 use Rattle.heap_formula.specs.declared.proof_rules.RuleFault.TheVariants.{NoSuchAtom, AtomsDiffer, HasExistential, NotFollowing, NoSuchCase}
 use Rattle.heap_formula.specs.Symbolic.{SymbolicHeap}
 use Rattle.heap_formula.specs.Definitions.{Definition}
-use Rattle.heap_formula.specs.Words.{Each, OneOf}
+use Rattle.heap_formula.specs.Words.{Each}
 use Rattle.heap_formula.specs.Values.{Stack, value, values}
 use Rattle.heap_formula.specs.Cells.{Cells, Star}
 use Rattle.heap_formula.specs.Meaning.{Family, PureHolds, SpatialHolds, Holds, CaseHolds, Stages, SatisfiesAt, Satisfies, SatisfiesOne, at_stage, cases_of, least}
@@ -27,7 +27,6 @@ use Rattle.rule_table.proofs.Substitutes.{holds_same, along}
 use Rattle.heap_formula.proofs.StageLaws.{spatial_within, one_stage, least-IsClosed}
 use Rattle.rule_table.proofs.Frames.{value_universal, pairs_follow, done_sound, frame_sound, put_in}
 use Rattle.rule_table.proofs.Rewrites.{AnyTerm, any_heap}
-use Rattle.rule_table.proofs.Appends.{Each-front, Each-back}
 use Rattle.heap_formula.proofs.Unions.{empty_star, star_map, star_assoc_back, union_comm}
 use Rattle.rule_table.proofs.Links.{follows_holds}
 use Rattle.rule_table.specs.Answer.{finds, limited, one}
@@ -37,11 +36,8 @@ use Rattle.rule_table.specs.Table.{with_right, without_pure, calls, are_empty, i
 use Rattle.rule_table.specs.Soundness.{IsSound}
 use Rattle.rule_table.proofs.Steps.{needs_sound, finds_sound, limited_sound, entails_sound, single_sound}
 use Rattle.rule_table.proofs.Reflects.{universal_pure_is, universal_spatial_is, same_spatial_is, follows_is}
-
-pub OneOf-put : {X : Type 0} (P : X → Type 0) (xs : List X) (k : ℕ) (x : X) → slice_get xs k ≡ Some x → P x → OneOf P xs
-OneOf-put P [] k x at p = cc
-OneOf-put P (y ∷ xs) zero x at p = let same : x ≡ y = cc in inl (subst P same p)
-OneOf-put P (y ∷ xs) (suc k) x at p = inr (OneOf-put P xs k x at p)
+use Rattle.formula_facts.proofs.SomeMember.{one_at}
+use Rattle.formula_facts.proofs.AllMembers.{each_front, each_back}
 
 -- a pure atom put back
 pub Each-put : {X : Type 0} (P : X → Type 0) (xs : List X) (k : ℕ) (x : X) → slice_get xs k ≡ Some x → P x → Each P (without k xs) → Each P xs
@@ -76,7 +72,7 @@ module _ (ds : List Definition) (lines : List Command) where
   choose_is_sound j k =
       entails_sound ds lines j _ (λ a bs.
       finds_sound ds lines (Entail a bs) (slice_get bs k) NoSuchAtom _ (λ b at.
-      by_right a bs (b ∷ []) (λ stages s h o r. OneOf-put (Satisfies ds s h) bs k b at (one_only s h b r))))
+      by_right a bs (b ∷ []) (λ stages s h o r. one_at (Satisfies ds s h) bs k b at (one_only s h b r))))
 
   pub pure_right_is_sound : (j : Judgement) (k : ℕ) → IsSound ds lines j (pure_right_answer j k)
   pure_right_is_sound j k =
@@ -166,13 +162,13 @@ module _ (ds : List Definition) (lines : List Command) where
       let all = spatial_within (λ m. at_stage ds (w.0 m)) (λ _. least ds) (λ m p vs g x. (w.0 m, x)) s e (without k b.spatial ++ body.spatial) h w.1.1.1 in
       let parts = split_holds (least ds) s e (without k b.spatial) body.spatial h all in
       let case_holds : Holds (λ _. least ds) (values s e ts) (drop n e) case parts.rest =
-      along (holds_same AnyTerm (right_term ts n) s e (values s e ts) (drop n e) (right_value s e ts n) (λ _. least ds) case (any_heap case) parts.rest) (Each-back (PureHolds s e) b.pure body.pure w.1.1.0, parts.others) in
+      along (holds_same AnyTerm (right_term ts n) s e (values s e ts) (drop n e) (right_value s e ts n) (λ _. least ds) case (any_heap case) parts.rest) (each_back (PureHolds s e) b.pure body.pure w.1.1.0, parts.others) in
       let call : least ds q (values s e ts) parts.rest =
-      least-IsClosed ds q (values s e ts) parts.rest (OneOf-put (CaseHolds (least ds) (values s e ts) parts.rest) (cases_of ds q) c case at_c (drop n e, case_holds)) in
+      least-IsClosed ds q (values s e ts) parts.rest (one_at (CaseHolds (least ds) (values s e ts) parts.rest) (cases_of ds q) c case at_c (drop n e, case_holds)) in
       let whole : SpatialHolds (λ _. least ds) s e b.spatial h =
       put_in (λ _. least ds) s e b.spatial k (Pred q ts) 0 (λ _. 0) h at_k (record { part = parts.rest; rest = parts.part; union = union_comm parts.union; first = call; others = parts.first }) in
       let m = one_stage ds s e b.spatial h whole in
-      inl (λ _. m.0, (e, (Each-front (PureHolds s e) b.pure body.pure w.1.1.0, m.1))))
+      inl (λ _. m.0, (e, (each_front (PureHolds s e) b.pure body.pure w.1.1.0, m.1))))
 
   unfold_right_call_sound : (most : ℕ) (a b : SymbolicHeap) (k c : ℕ) (x : Spatial) → slice_get b.spatial k ≡ Some x → IsSound ds lines (Entail a (b ∷ [])) (calls x (λ q ts. finds (slice_get (cases_of ds q) c) NoSuchCase (λ case. limited most (one (with_right a (unfolded_right b k (in_heap (right_term ts (heap_exists b)) case) ∷ []))))))
   unfold_right_call_sound most a b k c (Cell t ts) at = tt

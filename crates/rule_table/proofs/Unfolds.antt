@@ -24,20 +24,16 @@ use Rattle.rule_table.proofs.Conclusions.{IsFresh, antecedent_below, concludes_b
 use Rattle.rule_table.proofs.Substitutes.{holds_same, back_along}
 use Rattle.rule_table.proofs.Agreement.{IsBelow, heap_below, holds_agrees, value_below, continued, continued-agrees, continued-at}
 use Rattle.rule_table.proofs.Frames.{take_out}
-use Rattle.rule_table.proofs.Rewrites.{AnyTerm, any_heap, Each-get, Each-without}
-use Rattle.rule_table.proofs.Appends.{Each-append, then_stages, then_stages-first, then_stages-others, append_holds, pairs_follow_if, children_follow}
-
-Each-or : {X : Type 0} (P : X → Type 0) (xs : List X) (d : X) → Each P xs → P d → (i : ℕ) → P (get_or xs i d)
-Each-or P [] d e p i = p
-Each-or P (x ∷ xs) d e p zero = e.0
-Each-or P (x ∷ xs) d e p (suc i) = Each-or P xs d e.1 p i
+use Rattle.rule_table.proofs.Rewrites.{AnyTerm, any_heap, Each-without}
+use Rattle.rule_table.proofs.Appends.{then_stages, then_stages-first, then_stages-others, append_holds, pairs_follow_if, children_follow}
+use Rattle.formula_facts.proofs.AllMembers.{each_append, each_at, each_or}
 
 -- a case's term at these arguments has the value that the case's term has under the arguments' values and the locals
 pub case_value : (s e : Stack) (args : List Term) (n : ℕ) (locals : Stack) → Each (IsBelow n) args → (t : Term) → AnyTerm t → value (continued n s locals) e (case_term args n t) ≡ value (values s e args) locals t
 case_value s e args n locals below Nil q = refl
 case_value s e args n locals below (Exist j) q = continued-at n s locals j
 case_value s e args n locals below (Univ j) q =
-    value_below n s (continued n s locals) e (continued-agrees n s locals) (get_or args j Nil) (Each-or (IsBelow n) args Nil below (omega arith) j)
+    value_below n s (continued n s locals) e (continued-agrees n s locals) (get_or args j Nil) (each_or (IsBelow n) args Nil below (omega arith) j)
     ∙ sym (get_or-map (value s e) args j Nil)
 
 module _ (ds : List Definition) (lines : List Command) (j : Judgement) (k p : ℕ) (args : List Term) (n : ℕ) (fresh : IsFresh lines n j) (args_below : Each (IsBelow n) args) (stages : Stages) (s e : Stack) (h : Cells) (pures : Each (PureHolds s e) (antecedent j).pure) where
@@ -74,8 +70,8 @@ module _ (ds : List Definition) (lines : List Command) (j : Judgement) (k p : �
       pairs_follow_if (before k) stages below 0 kept (λ i lt. let z : 0 + i ≡ i = omega arith in subst (λ q. below q ≤ stages (before k q)) (sym z) (let v = then_stages-first kept kept_stages (λ _. m) i lt in omega arith)) in
       let child_follow : Follows (child_pairs k (length kept) body.spatial) stages below =
       children_follow k stages below (length kept) body.spatial (λ i lt. let v = then_stages-others kept kept_stages (λ _. m) i in omega arith) in
-      let follows = Each-append _ (kept_pairs k a.spatial) (child_pairs k (length kept) body.spatial) kept_follow child_follow in
-      let r = use_premise ds lines below j (unfolded a k body) (premise below follows) s' h (e, (Each-append (PureHolds s' e) a.pure body.pure rest_holds.0 body_holds.0, spatial)) in
+      let follows = each_append _ (kept_pairs k a.spatial) (child_pairs k (length kept) body.spatial) kept_follow child_follow in
+      let r = use_premise ds lines below j (unfolded a k body) (premise below follows) s' h (e, (each_append (PureHolds s' e) a.pure body.pure rest_holds.0 body_holds.0, spatial)) in
       concludes_back ds lines n j (unfolded a k body) s s' h fresh agrees r
 
   some_case : (m : ℕ) → m < stages k → (cs : List SymbolicHeap) → Each (PremiseHolds ds lines stages) (map (unfold_premise j k args n) cs) → (part rest : Cells) → IsUnion part rest h → OneOf (CaseHolds (at_stage ds m) (values s e args) part) cs → Rest rest → Concludes ds lines j s h
@@ -89,6 +85,6 @@ module _ (ds : List Definition) (lines : List Command) (j : Judgement) (k p : �
 
 pub unfold_sound : (ds : List Definition) (lines : List Command) (j : Judgement) (k p : ℕ) (args : List Term) (n : ℕ) → slice_get (antecedent j).spatial k ≡ Some (Pred p args) → IsFresh lines n j → IsLocallySound ds lines j (map (unfold_premise j k args n) (cases_of ds p))
 unfold_sound ds lines j k p args n at fresh stages premises s h o =
-    let args_below = Each-get (InSpatial (IsBelow n)) (antecedent j).spatial k (Pred p args) at (heap_below n (antecedent j) (antecedent_below lines n j fresh)).1 in
+    let args_below = each_at (InSpatial (IsBelow n)) (antecedent j).spatial k (Pred p args) at (heap_below n (antecedent j) (antecedent_below lines n j fresh)).1 in
     let out = take_out (at_stage ds) s o.0 (antecedent j).spatial k (Pred p args) stages h at o.1.1 in
     by_stage ds lines j k p args n fresh args_below stages s o.0 h o.1.0 (stages k) refl premises out

@@ -12,9 +12,9 @@ use Rattle.heap_formula.specs.Symbolic.{SymbolicHeap}
 use Rattle.heap_formula.specs.Words.{Each}
 use Rattle.rule_table.proofs.Agreement.{IsBelow, heap_below}
 use Rattle.format_limits.specs.Limits.{HasFields as HasFewFields, IsCaseWithin, IsDefinitionWithin, IsJudgementWithin}
-use Rattle.format_limits.proofs.Heaps.{each_of}
 use Rattle.problem_files.proofs.ProblemHeaps.{in_heap_each}
 use Rattle.pair_family.specs.Closedness.{AreCases, HasFields, IsCase, IsParameterBelow}
+use Rattle.formula_facts.proofs.AllMembers.{each_imply}
 
 has_fields : (x : Spatial) → HasFewFields x → HasFields x
 has_fields (Cell t ts) few = few.0
@@ -29,16 +29,16 @@ module _ (most : ℕ) (all : List Definition) where
   is_case : (k : ℕ) (a : SymbolicHeap) → IsCaseWithin most all k a → IsCase k a
   is_case k a within = (
     in_heap_each (IsBelow k) (IsParameterBelow k) (parameter_below k) a (heap_below k a within.parameters),
-    each_of HasFewFields HasFields has_fields a.spatial within.heap.fields,
+    each_imply HasFewFields HasFields has_fields a.spatial within.heap.fields,
   )
 
   -- the cases of definitions within the limits are cases of their predicates
   pub are_cases : (ds : List Definition) → Each (IsDefinitionWithin most all) ds → AreCases ds
   are_cases [] within p = tt
-  are_cases (d ∷ ds) within zero = each_of (IsCaseWithin most all d.arity) (IsCase d.arity) (is_case d.arity) d.cases within.0.cases
+  are_cases (d ∷ ds) within zero = each_imply (IsCaseWithin most all d.arity) (IsCase d.arity) (is_case d.arity) d.cases within.0.cases
   are_cases (d ∷ ds) within (suc p) = are_cases ds within.1 p
 
   -- the cells of an antecedent within the limits have fields
   pub antecedent_fields : (count : ℕ) (j : Judgement) → IsJudgementWithin most all count j → Each HasFields (antecedent j).spatial
-  antecedent_fields count (Entail a bs) within = each_of HasFewFields HasFields has_fields a.spatial within.heaps.0.fields
-  antecedent_fields count (Runs i a) within = each_of HasFewFields HasFields has_fields a.spatial within.heaps.0.fields
+  antecedent_fields count (Entail a bs) within = each_imply HasFewFields HasFields has_fields a.spatial within.heaps.0.fields
+  antecedent_fields count (Runs i a) within = each_imply HasFewFields HasFields has_fields a.spatial within.heaps.0.fields

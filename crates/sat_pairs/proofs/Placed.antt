@@ -1,5 +1,5 @@
 -- Kept terms by number, and the places of terms among them.
-use Rattle.std.proofs.Common.{◌≡◌, ℕ, zero, suc, ◌+◌, ◌<◌, inl, inr, List, [], ◌∷◌, ◌++◌, map, length, Bool, true, false, ◌||◌, if◌then◌else◌, arith, sym, refl, ap, ◌∙◌}
+use Rattle.std.proofs.Common.{◌≡◌, ℕ, zero, suc, ◌+◌, ◌<◌, inl, inr, List, [], ◌∷◌, ◌++◌, map, length, Bool, true, false, if◌then◌else◌, arith, sym, refl, ap, ◌∙◌}
 use Rattle.std.specs.Prelude.{nat_eq, slice_index, slice_index_or}
 use Rattle.std.proofs.lemmas.Bool.{cases_Bool, eqb-true, eq-eqb, both_ways}
 use Rattle.heap_formula.specs.declared.terms.Term.{Term}
@@ -9,16 +9,12 @@ use Rattle.heap_formula.specs.declared.atoms.Spatial.{Spatial}
 use Rattle.heap_formula.specs.Words.{Each}
 use Rattle.pair_family.specs.BasePairs.{element}
 use Rattle.pair_family.specs.Classes.{term_number}
-use Rattle.pair_family.specs.Combination.{any}
 use Rattle.pair_family.specs.Folding.{spoken}
 use Rattle.pair_family.specs.Frames.{term_at, has_term, one_more, with_terms, kept_terms}
 use Rattle.pair_family.proofs.Lists.{In}
 use Rattle.pair_states.proofs.Combined.{ArePlaces}
 use Rattle.sat_pairs.specs.Numbers.{numbered, with_numbers, kept_numbers, sides_of, with_pure_numbers, place_in, places_in, count_from}
-
-any_map : {X Y : Type 0} (t : Y → Bool) (f : X → Y) (xs : List X) → any t (map f xs) ≡ any (λ x. t (f x)) xs
-any_map t f [] = refl
-any_map t f (x ∷ xs) = ap (λ b. t (f x) || b) (any_map t f xs)
+use Rattle.pair_states.proofs.Labelled.{any_map}
 
 map_snoc : {X Y : Type 0} (f : X → Y) (xs : List X) (x : X) → map f xs ++ (f x ∷ []) ≡ map f (xs ++ (x ∷ []))
 map_snoc f [] x = refl

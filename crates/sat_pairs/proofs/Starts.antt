@@ -1,7 +1,7 @@
 -- What the pure atoms say, by places.
 use Rattle.std.proofs.Common.{◌≡◌, ℕ, zero, suc, ◌+◌, ◌<◌, List, [], ◌∷◌, ◌++◌, map, length, Option, Some, None, arith, sym, refl, ap, ◌∙◌, subst}
 use Rattle.std.specs.Prelude.{MatchOption}
-use Rattle.std.proofs.lemmas.List.{length-map}
+use Rattle.std.proofs.lemmas.List.{length-map, append-nil}
 use Rattle.heap_formula.specs.declared.terms.Term.{Term}
 use Rattle.heap_formula.specs.declared.terms.Term.TheVariants.{Nil}
 use Rattle.heap_formula.specs.declared.atoms.Pure.{Pure}
@@ -16,15 +16,12 @@ use Rattle.pair_family.specs.Combination.{pure_equations, pure_differences, pure
 use Rattle.pair_family.specs.Folding.{Frame, two_at, said_in, with_atom}
 use Rattle.pair_family.specs.Frames.{term_at, with_terms, kept_terms, frames_of}
 use Rattle.pair_family.proofs.Lists.{In, at_each}
-use Rattle.pair_family.proofs.ListFrames.{number_term, terms_there, terms_after}
+use Rattle.pair_family.proofs.ListFrames.{terms_there, terms_after}
 use Rattle.pair_states.specs.Labels.{AreApartLabels, combined_pairs, combined}
 use Rattle.pair_states.proofs.Combined.{ArePlaces, apart_consistent, combined_is}
 use Rattle.sat_pairs.specs.Numbers.{with_numbers, kept_numbers, with_pure_numbers, place_in, count_from, equal_places, differ_places}
 use Rattle.sat_pairs.proofs.Placed.{terms_numbered, kept_are, pure_terms, pure_numbered, placed, placed_at, counted_at, at_left, below_each}
-
-append_nil : {X : Type 0} (xs : List X) → xs ++ [] ≡ xs
-append_nil [] = refl
-append_nil (x ∷ xs) = ap (λ ys. x ∷ ys) (append_nil xs)
+use Rattle.pair_family.proofs.Classes.{same_number}
 
 abbrev pub no_pair : BasePair
 no_pair = record { same = []; differ = []; cells = [] }
@@ -38,7 +35,7 @@ module _ (all : List Term) where
   at = term_at (Nil ∷ all)
 
   here : (t : Term) → In t (Nil ∷ all) → at (place_in (term_number t) ns) ≡ t
-  here t m = placed_at number_term t (Nil ∷ all) m
+  here t m = placed_at same_number t (Nil ∷ all) m
 
   equal_at : (ps : List Pure) → Each (λ t. In t (Nil ∷ all)) (pure_terms ps) → two_at at (equal_places ns ps) ≡ pure_equations ps
   equal_at [] a = refl
@@ -68,8 +65,8 @@ module _ (all : List Term) where
 
   facts_are : (ps : List Pure) → Each (λ t. In t (Nil ∷ all)) (pure_terms ps) → with_atom frame (pure_pair ps) no_pair (Pred 0 []) ≡ pure_facts ps
   facts_are ps a =
-      let e = append_nil (two_at at (equal_places ns ps)) ∙ equal_at ps a in
-      let d = append_nil (two_at at (differ_places ns ps)) ∙ differ_at ps a in
+      let e = append-nil (two_at at (equal_places ns ps)) ∙ equal_at ps a in
+      let d = append-nil (two_at at (differ_places ns ps)) ∙ differ_at ps a in
       λ i. record { equal = e i; differ = d i; cells = [] }
 
   no_places : ArePlaces (Nil ∷ all) [] []

@@ -1,5 +1,5 @@
 -- One more atom, and all atoms: the code's states are those of the definition.
-use Rattle.std.proofs.Common.{◌≡◌, ◌↔◌, inl, inr, ℕ, suc, ◌<◌, List, [], ◌∷◌, ◌++◌, map, length, Bool, true, false, arith, sym, refl, ap, ◌∙◌, subst}
+use Rattle.std.proofs.Common.{◌≡◌, ◌↔◌, inl, inr, ℕ, suc, ◌<◌, List, [], ◌∷◌, ◌++◌, map, length, Bool, true, false, arith, sym, ap, ◌∙◌, subst}
 use Rattle.std.proofs.lemmas.List.{length-map}
 use Rattle.heap_formula.specs.declared.terms.Term.{Term}
 use Rattle.heap_formula.specs.declared.terms.Term.TheVariants.{Nil}
@@ -18,9 +18,9 @@ use Rattle.pair_family.specs.States.{Leads, AreStates}
 use Rattle.pair_family.specs.Tables.{IsMember, Table, in_table, pairs_of}
 use Rattle.pair_family.proofs.Lists.{In, at_each, each_at}
 use Rattle.pair_family.proofs.Kernel.{kept_within}
-use Rattle.pair_family.proofs.ListFrames.{number_term, terms_there, terms_after, are_frames, parameters_frame}
+use Rattle.pair_family.proofs.ListFrames.{terms_there, terms_after, are_frames, parameters_frame}
 use Rattle.pair_family.proofs.SemiNaive.{by_case, case_by}
-use Rattle.pair_family.proofs.States.{states_give}
+use Rattle.pair_family.proofs.States.{states_give, one_out, one_in}
 use Rattle.pair_family.proofs.ByAtom.{first_consistent}
 use Rattle.pair_states.specs.Labels.{IsAdded, combined, Gives, Grows}
 use Rattle.pair_states.proofs.Combined.{ArePlaces, apart_consistent, combined_is}
@@ -28,16 +28,7 @@ use Rattle.sat_pairs.specs.Numbers.{kept_numbers, places_in, count_from, cell_pa
 use Rattle.sat_pairs.specs.Growth.{pairs_for}
 use Rattle.sat_pairs.proofs.Placed.{kept_are, are_places, below_each}
 use Rattle.sat_pairs.proofs.Starts.{no_pair, first_terms, longer, IsStart}
-
-pub one_out : {X : Type 0} (P : X → Type 0) (xs : List X) → OneOf P xs → (x : X) × IsMember x xs × P x
-one_out P [] o = absurd o
-one_out P (x ∷ xs) (inl p) = (x, inl refl, p)
-one_out P (x ∷ xs) (inr o) = let r = one_out P xs o in (r.0, inr r.1, r.2)
-
-pub one_in : {X : Type 0} (P : X → Type 0) (xs : List X) (x : X) → IsMember x xs → P x → OneOf P xs
-one_in P [] x m p = absurd m
-one_in P (y ∷ xs) x (inl s) p = inl (subst P (sym s) p)
-one_in P (y ∷ xs) x (inr m) p = inr (one_in P xs x m p)
+use Rattle.pair_family.proofs.Classes.{same_number}
 
 module _ (table : Table) (k : ℕ) (x : Spatial) (xs : List Spatial) where
   abbrev kept : List Term
@@ -53,7 +44,7 @@ module _ (table : Table) (k : ℕ) (x : Spatial) (xs : List Spatial) where
   facts b c = with_atom (frame_of all) b c (Pred 0 (spoken x))
 
   places : ArePlaces (Nil ∷ all) (spoken x) (places_in numbers (spoken x))
-  places = are_places number_term all (spoken x) (at_each (λ t. In t (Nil ∷ all)) (spoken x) (λ t m. terms_there kept (spoken x) t m))
+  places = are_places same_number all (spoken x) (at_each (λ t. In t (Nil ∷ all)) (spoken x) (λ t m. terms_there kept (spoken x) t m))
 
   said_is : (b c : BasePair) → IsWithin (suc (length all)) b → combined numbers b (places_in numbers (spoken x)) c (count_from 0 (length (Nil ∷ kept))) ≡ said_in (frame_of kept) (facts b c)
   said_is b c w =
@@ -134,10 +125,6 @@ fold_more table k x atoms rest numbers' n bs states next out a w e f p g later =
 
 pub fold_none : (table : Table) (k : ℕ) (atoms : List Spatial) (states : List BasePair) → atoms ≡ [] → AreStates (λ _. in_table table) (frames_of k atoms) states atoms states
 fold_none table k atoms states e = subst (λ z. AreStates (λ _. in_table table) (frames_of k z) states z states) (sym e) (λ d. (λ m. m, λ m. m))
-
-pub no_atoms : {X : Type 0} (xs : List X) → length xs ≡ 0 → xs ≡ []
-no_atoms [] e = refl
-no_atoms (x ∷ xs) e = absurd (omega arith)
 
 -- ---- cases
 

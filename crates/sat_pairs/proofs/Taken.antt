@@ -13,6 +13,7 @@ use Rattle.pair_family.specs.Tables.{IsTable, in_table, IsMember, IsDistinct, Ta
 use Rattle.pair_family.proofs.Lists.{in_left, in_right, in_append, in_map, map_in, at_each}
 use Rattle.pair_family.proofs.Rounds.{at_most, closed_table, gives_within, family_closed}
 use Rattle.sat_pairs.specs.Growth.{total, with_pair, IsAddedTo, IsPartOf, IsGrown, HasAllGiven}
+use Rattle.pair_family.proofs.States.{one_in}
 
 with_out : (T : Table) (p : ℕ) (k : BasePair) (q : ℕ) (b : BasePair) → IsMember b (pairs_of (with_pair T p k) q) → IsMember b (pairs_of T q) ⊎ ((q ≡ p) × (b ≡ k))
 with_out [] p k q b m = inl m
@@ -161,14 +162,9 @@ at_member [] i x l e = absurd (omega arith)
 at_member (y ∷ xs) zero x l e = inl e
 at_member (y ∷ xs) (suc i) x l e = inr (at_member xs i x (omega arith) e)
 
-one_there : {X : Type 0} (P : X → Type 0) (xs : List X) (x : X) → IsMember x xs → P x → OneOf P xs
-one_there P [] x m p = absurd m
-one_there P (y ∷ xs) x (inl s) p = inl (subst P (sym s) p)
-one_there P (y ∷ xs) x (inr m) p = inr (one_there P xs x m p)
-
 -- what a case gives with the family is in the family
 pub case_sound : (ds : List Definition) (p : ℕ) (k : ℕ) (a : SymbolicHeap) → k ≡ arity_of ds p → IsMember a (cases_of ds p) → (b : BasePair) → CaseGives (InFamily ds) k b a → InFamily ds p b
-case_sound ds p k a e m b g = family_closed ds p b (one_there (CaseGives (InFamily ds) (arity_of ds p) b) (cases_of ds p) a m (subst (λ z. CaseGives (InFamily ds) z b a) e g))
+case_sound ds p k a e m b g = family_closed ds p b (one_in (CaseGives (InFamily ds) (arity_of ds p) b) (cases_of ds p) a m (subst (λ z. CaseGives (InFamily ds) z b a) e g))
 
 pub arity_there : (ds : List Definition) (p : ℕ) (d : Definition) → p < length ds → get_or ds p d ≡ d → d.arity ≡ arity_of ds p
 arity_there [] p d l e = absurd (omega arith)

@@ -6,7 +6,7 @@ use Rattle.std.specs.Option.{option_map}
 use Rattle.heap_formula.specs.declared.judgements.Judgement.{Judgement}
 use Rattle.heap_formula.specs.declared.proof_rules.Reason.{Reason}
 use Rattle.trace_pairs.specs.Graph.{Node, Edge, IsGraph}
-use Rattle.buchi_core.proofs.Lists.{get_one, get_within}
+use Rattle.buchi_core.proofs.Lists.{get_one}
 use Rattle.proof_graph.specs.Traces.{positions_of, trace_node, trace_graph_of}
 use Rattle.search_moves.specs.Trying.{Theory}
 use Rattle.tableaux.specs.Tableau.{Premise as TracedPremise, Tableau, goals_of, begin, replay}
@@ -27,6 +27,7 @@ use Rattle.search_calculus.proofs.TraceGraphs.{replay_traces, length-traces_of}
 use Rattle.search_calculus.proofs.ProofGraphs.{length-made_graph, made_at}
 use Rattle.search_calculus.proofs.Slots.{AreFirst, edges_filled, targets_filled}
 use Rattle.search_calculus.proofs.Reasons.{HaveEdges, reason_first, reason_many}
+use Rattle.list_facts.proofs.Places.{get_within}
 
 -- any reason may be given
 abbrev pub IsAllowed : Reason → Type 0

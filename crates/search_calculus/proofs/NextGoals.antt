@@ -6,7 +6,6 @@ use Rattle.std.proofs.lemmas.Option.{slice_get_within}
 use Rattle.heap_formula.specs.declared.judgements.Judgement.{Judgement}
 use Rattle.heap_formula.specs.declared.proof_rules.Reason.{Reason}
 use Rattle.trace_pairs.specs.Graph.{Node, Edge, TargetsAreNodes}
-use Rattle.buchi_core.proofs.Lists.{get_within, get_append_left}
 use Rattle.proof_graph.specs.declared.nodes.GraphNode.{GraphNode}
 use Rattle.proof_graph.specs.Nodes.{open_node, with_premise, changed_at, node_below, nodes_below, HasPremise}
 use Rattle.search_moves.specs.Trying.{Theory}
@@ -22,6 +21,7 @@ use Rattle.search_calculus.proofs.Slots.{length-filled, nodes_more, LeadBelow, A
 use Rattle.search_calculus.proofs.Reasons.{reason_room}
 use Rattle.search_calculus.proofs.MadeRows.{IsRow, made_in_order, made_is_graph, made_row}
 use Rattle.heap_formula.proofs.Members.{each_from}
+use Rattle.list_facts.proofs.Places.{get_within, get_append_left}
 
 -- ---- the next goal's parent
 

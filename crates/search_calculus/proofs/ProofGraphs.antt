@@ -10,7 +10,6 @@ use Rattle.heap_formula.specs.declared.proof_rules.RuleFault.{RuleFault}
 use Rattle.rule_table.specs.LinkTable.{link_fault}
 use Rattle.rule_table.specs.RuleBook.{variables_of}
 use Rattle.trace_pairs.specs.Graph.{Node, Edge}
-use Rattle.buchi_core.proofs.Lists.{get_within, get_append_left}
 use Rattle.trace_decision.specs.Leaf.{add_edge}
 use Rattle.proof_graph.specs.declared.nodes.GraphPremise.{GraphPremise}
 use Rattle.proof_graph.specs.declared.nodes.GraphNode.{GraphNode}
@@ -23,6 +22,7 @@ use Rattle.tableaux.proofs.Waiting.{get_end}
 use Rattle.search_calculus.specs.Calculus.{OpenGoal, MadeNode, judgement_of, edge_unless, edge_to, back, none_beside, premises, link_pairs, pairs_of}
 use Rattle.search_calculus.specs.Graphs.{traces_of, filled, graph_node, nodes_from, made_graph, goal_graph, ShowsMade}
 use Rattle.search_calculus.proofs.TraceGraphs.{traces_end, length-traces_of}
+use Rattle.list_facts.proofs.Places.{get_within, get_append_left}
 
 -- ---- lists with a last member
 

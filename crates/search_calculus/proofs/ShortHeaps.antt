@@ -32,12 +32,13 @@ use Rattle.rule_table.specs.Fits.{OnPremises}
 use Rattle.rule_table.specs.RuleBook.{variables_of, rule_answer}
 use Rattle.rule_table.specs.RuleCut.{cut_left, cut_right}
 use Rattle.rule_table.specs.RuleUnfold.{unfold_premise}
-use Rattle.rule_table.specs.Table.{with_pures, with_pure, with_right, without_spatial, rewritten, rewrite_side, rewrite_atom, named, unnamed, calls, are_empty, right_term, unfolded_right}
+use Rattle.rule_table.specs.Table.{with_pures, with_pure, with_right, without_spatial, rewritten, rewrite_side, rewrite_atom, named, unnamed, calls, right_term, unfolded_right}
 use Rattle.rule_table.specs.Tests.{same_term, same_spatial, is_universal_pure, is_universal_spatial, follows, is_absurd, address_of, ascend_from, has_number}
 use Rattle.rule_table.proofs.Fits.{needs_on, finds_on, limited_on, entails_on, single_on, runs_on}
-use Rattle.rule_table.proofs.Reflects.{both}
 use Rattle.format_limits.proofs.Gives.{limited_gives}
 use Rattle.format_limits.proofs.Heaps.{length-without, short_spatials}
+use Rattle.std.proofs.lemmas.Bool.{and_parts}
+use Rattle.rule_table.proofs.EmptyPremises.{empty_on}
 
 -- the antecedent has at most so many spatial atoms
 abbrev pub IsShort : ℕ → Judgement → Type 0
@@ -49,13 +50,13 @@ StaysShort most j p = IsShort most j → IsShort most p.judgement
 -- ---- rules that add spatial atoms test for it
 
 first_short : (most : ℕ) → (j : Judgement) → every (is_short most) (heaps_of j) ≡ true → IsShort most j
-first_short most (Entail a bs) e = short_spatials most a (both (is_short most a) (every (is_short most) bs) e).0
-first_short most (Runs i a) e = short_spatials most a (both (is_short most a) true e).0
+first_short most (Entail a bs) e = short_spatials most a (and_parts (is_short most a) (every (is_short most) bs) e).0
+first_short most (Runs i a) e = short_spatials most a (and_parts (is_short most a) true e).0
 
 tested_short : (most : ℕ) → (j : Judgement) (ps : List Premise) → each_heap (is_short most) ps ≡ true → Each (StaysShort most j) ps
 tested_short most j [] e = tt
 tested_short most j (p ∷ ps) e =
-    let b = both (every (is_short most) (heaps_of p.judgement)) (each_heap (is_short most) ps) e in ((λ h. first_short most p.judgement b.0), tested_short most j ps b.1)
+    let b = and_parts (every (is_short most) (heaps_of p.judgement)) (each_heap (is_short most) ps) e in ((λ h. first_short most p.judgement b.0), tested_short most j ps b.1)
 
 limited_short : (most : ℕ) → (j : Judgement) (ps : List Premise) → OnPremises (StaysShort most j) (limited most ps)
 limited_short most j ps = limited_gives (OnPremises (StaysShort most j)) (λ f. tt) most ps (λ s n. tested_short most j ps s)
@@ -86,12 +87,6 @@ atom_short most p j k side (Eq t u) = test_short most (same_term t u) p j k (Eq 
 unfold_short : (most : ℕ) → (ds : List Definition) (p : ℕ) (j : Judgement) (k : ℕ) (x : Spatial) → OnPremises (StaysShort most j) (calls x (λ q ts. limited most (map (unfold_premise j k ts (fresh_number p j)) (cases_of ds q))))
 unfold_short most ds p j k (Cell t ts) = tt
 unfold_short most ds p j k (Pred q ts) = limited_short most j (map (unfold_premise j k ts (fresh_number p j)) (cases_of ds q))
-
-empty_short : (P : Premise → Type 0) (xs : List Spatial) (ps : List Pure) (ys : List Spatial) → OnPremises P (are_empty xs ps ys)
-empty_short P [] [] [] = tt
-empty_short P [] [] (y ∷ ys) = tt
-empty_short P [] (p ∷ ps) ys = tt
-empty_short P (x ∷ xs) ps ys = tt
 
 dropped_short : (most : ℕ) → (k : ℕ) (xs : List Spatial) → length xs ≤ most → length (without k xs) ≤ most
 dropped_short most k xs h = let e = length-without xs k in omega (arith, e, h)
@@ -145,7 +140,7 @@ rule_stays_short most ds lines j (Cut places f) =
     needs_on (StaysShort most j) (ascend_from 0 (length (antecedent j).spatial) places) NoSuchAtom _ (λ _.
     limited_short most j (two (cut_left (antecedent j) (has_number places) f) (cut_right j (has_number places) f (max (fresh_number (variables_of lines j) j) (heap_bound f)))))
 rule_stays_short most ds lines j Done =
-    single_on (StaysShort most) j _ (λ a b. empty_short (StaysShort most (Entail a (b ∷ []))) a.spatial b.pure b.spatial)
+    single_on (StaysShort most) j _ (λ a b. empty_on (StaysShort most (Entail a (b ∷ []))) a.spatial b.pure b.spatial)
 rule_stays_short most ds lines j (Choose k) =
     entails_on (StaysShort most) j _ (λ a bs. finds_on (StaysShort most (Entail a bs)) (slice_get bs k) NoSuchAtom _ (λ b at. ((λ h. h), tt)))
 rule_stays_short most ds lines j (PureRight k) =

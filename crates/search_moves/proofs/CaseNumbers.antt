@@ -22,9 +22,10 @@ use Rattle.heap_formula.specs.Positions.{without}
 use Rattle.heap_formula.specs.Substitution.{in_pure, in_spatial, in_heap}
 use Rattle.rule_table.specs.Answer.{needs, finds, limited, one, is_short, has_numbers, heap_numbers}
 use Rattle.rule_table.specs.Table.{calls, right_term, with_right, unfolded_right, unfold_right_answer}
-use Rattle.rule_table.proofs.Reflects.{both, and_true}
 use Rattle.search_moves.specs.Trying.{has_premises}
 use Rattle.search_moves.specs.Rooms.{has_room_for}
+use Rattle.formula_facts.proofs.Greatest.{greatest_le}
+use Rattle.std.proofs.lemmas.Bool.{and_from, and_parts}
 
 pub most_append : {X : Type 0} (f : X → ℕ) (n : ℕ) (xs ys : List X) → max_of (map f xs) ≤ n → max_of (map f ys) ≤ n → max_of (map f (xs ++ ys)) ≤ n
 most_append f n [] ys a b = b
@@ -34,10 +35,6 @@ pub most_without : {X : Type 0} (f : X → ℕ) (n k : ℕ) (xs : List X) → ma
 most_without f n k [] a = a
 most_without f n zero (x ∷ xs) a = omega arith
 most_without f n (suc k) (x ∷ xs) a = let r = most_without f n k xs (omega arith) in omega arith
-
-pub most_less : {X : Type 0} (f g : X → ℕ) → ((x : X) → f x ≤ g x) → (xs : List X) → max_of (map f xs) ≤ max_of (map g xs)
-most_less f g h [] = omega arith
-most_less f g h (x ∷ xs) = let a = h x in let r = most_less f g h xs in omega arith
 
 pub length_without : {X : Type 0} (k : ℕ) (xs : List X) (x : X) → slice_get xs k ≡ Some x → length (without k xs) + 1 ≡ length xs
 length_without k [] x e = cc
@@ -56,13 +53,13 @@ pure_less (Eq t u) = let a = term_exists t in let b = term_exists u in omega ari
 pure_less (Neq t u) = let a = term_exists t in let b = term_exists u in omega arith
 
 spatial_less : (x : Spatial) → most_in_spatial exist_bound x ≤ most_in_spatial number_bound x
-spatial_less (Cell t ts) = let a = term_exists t in let b = most_less exist_bound number_bound term_exists ts in omega arith
-spatial_less (Pred p ts) = most_less exist_bound number_bound term_exists ts
+spatial_less (Cell t ts) = let a = term_exists t in let b = greatest_le exist_bound number_bound term_exists ts in omega arith
+spatial_less (Pred p ts) = greatest_le exist_bound number_bound term_exists ts
 
 exists_less : (b : SymbolicHeap) → heap_exists b ≤ heap_numbers b
 exists_less b =
-    let p = most_less (most_in_pure exist_bound) (most_in_pure number_bound) pure_less b.pure in
-    let s = most_less (most_in_spatial exist_bound) (most_in_spatial number_bound) spatial_less b.spatial in
+    let p = greatest_le (most_in_pure exist_bound) (most_in_pure number_bound) pure_less b.pure in
+    let s = greatest_le (most_in_spatial exist_bound) (most_in_spatial number_bound) spatial_less b.spatial in
     omega arith
 
 -- ---- the terms of a case
@@ -113,11 +110,11 @@ four false q a b = cc
 
 pub case_goes : (most : ℕ) (a b case : SymbolicHeap) (k q : ℕ) (ts : List Term) → slice_get b.spatial k ≡ Some (Pred q ts) → has_room_for most a b case ≡ true → has_premises (limited most (one (with_right a (unfolded_right b k (in_heap (right_term ts (heap_exists b)) case) ∷ [])))) ≡ true
 case_goes most a b case k q ts at room =
-    let r0 = both (is_short most a) (nat_le (length b.pure + length case.pure) 64 && (nat_le (length b.spatial + length case.spatial) (most + 1) && (nat_le (heap_numbers a) 65535 && nat_le (heap_numbers b + heap_numbers case) 65535))) room in
-    let r1 = both (nat_le (length b.pure + length case.pure) 64) (nat_le (length b.spatial + length case.spatial) (most + 1) && (nat_le (heap_numbers a) 65535 && nat_le (heap_numbers b + heap_numbers case) 65535)) r0.1 in
-    let r2 = both (nat_le (length b.spatial + length case.spatial) (most + 1)) (nat_le (heap_numbers a) 65535 && nat_le (heap_numbers b + heap_numbers case) 65535) r1.1 in
-    let r3 = both (nat_le (heap_numbers a) 65535) (nat_le (heap_numbers b + heap_numbers case) 65535) r2.1 in
-    answered _ _ _ _ _ (four (is_short most a) (is_short most h) r0.0 (and_true (nat_le (length h.pure) 64) (nat_le (length h.spatial) most) (le-leb _ _ (pures (leb-true _ _ r1.0))) (le-leb _ _ (spatials (leb-true _ _ r2.0)))))
+    let r0 = and_parts (is_short most a) (nat_le (length b.pure + length case.pure) 64 && (nat_le (length b.spatial + length case.spatial) (most + 1) && (nat_le (heap_numbers a) 65535 && nat_le (heap_numbers b + heap_numbers case) 65535))) room in
+    let r1 = and_parts (nat_le (length b.pure + length case.pure) 64) (nat_le (length b.spatial + length case.spatial) (most + 1) && (nat_le (heap_numbers a) 65535 && nat_le (heap_numbers b + heap_numbers case) 65535)) r0.1 in
+    let r2 = and_parts (nat_le (length b.spatial + length case.spatial) (most + 1)) (nat_le (heap_numbers a) 65535 && nat_le (heap_numbers b + heap_numbers case) 65535) r1.1 in
+    let r3 = and_parts (nat_le (heap_numbers a) 65535) (nat_le (heap_numbers b + heap_numbers case) 65535) r2.1 in
+    answered _ _ _ _ _ (four (is_short most a) (is_short most h) r0.0 (and_from (nat_le (length h.pure) 64) (nat_le (length h.spatial) most) (le-leb _ _ (pures (leb-true _ _ r1.0))) (le-leb _ _ (spatials (leb-true _ _ r2.0)))))
     (four (has_numbers a) (has_numbers h) r3.0 (le-leb _ _ (numbers (leb-true _ _ r3.1))))
   where
     g : Term → Term

@@ -22,14 +22,15 @@ use Rattle.heap_formula.specs.Substitution.{case_term, in_pure, in_spatial, in_h
 use Rattle.rule_table.specs.Answer.{finds, limited, every, each_heap, is_short, has_numbers, heap_numbers, heaps_of, disjuncts}
 use Rattle.rule_table.specs.RuleUnfold.{unfolded, unfold_premise}
 use Rattle.rule_table.specs.Table.{calls, unfold_answer}
-use Rattle.rule_table.proofs.Reflects.{both, and_true}
 use Rattle.search_moves.specs.Trying.{has_premises}
 use Rattle.search_moves.specs.Rooms.{judgement_numbers, has_room_from, has_room_left}
-use Rattle.search_moves.proofs.CaseNumbers.{most_append, most_without, most_less, length_without, argument_number, pures_in, spatials_in, arguments_within, answered}
+use Rattle.search_moves.proofs.CaseNumbers.{most_append, most_without, length_without, argument_number, pures_in, spatials_in, arguments_within, answered}
+use Rattle.formula_facts.proofs.Greatest.{greatest_le}
+use Rattle.std.proofs.lemmas.Bool.{and_from, and_parts}
 
 -- ---- a universal's number is one of the judgement's
 
-term_bound : (t : Term) → univ_bound t ≤ number_bound t
+pub term_bound : (t : Term) → univ_bound t ≤ number_bound t
 term_bound Nil = omega arith
 term_bound (Univ n) = omega arith
 term_bound (Exist n) = omega arith
@@ -39,17 +40,17 @@ pure_below (Eq t u) = let a = term_bound t in let b = term_bound u in omega arit
 pure_below (Neq t u) = let a = term_bound t in let b = term_bound u in omega arith
 
 spatial_below : (x : Spatial) → most_in_spatial univ_bound x ≤ most_in_spatial number_bound x
-spatial_below (Cell t ts) = let a = term_bound t in let b = most_less univ_bound number_bound term_bound ts in omega arith
-spatial_below (Pred p ts) = most_less univ_bound number_bound term_bound ts
+spatial_below (Cell t ts) = let a = term_bound t in let b = greatest_le univ_bound number_bound term_bound ts in omega arith
+spatial_below (Pred p ts) = greatest_le univ_bound number_bound term_bound ts
 
-heap_below : (a : SymbolicHeap) → heap_bound a ≤ heap_numbers a
+pub heap_below : (a : SymbolicHeap) → heap_bound a ≤ heap_numbers a
 heap_below a =
-    let p = most_less (most_in_pure univ_bound) (most_in_pure number_bound) pure_below a.pure in
-    let s = most_less (most_in_spatial univ_bound) (most_in_spatial number_bound) spatial_below a.spatial in
+    let p = greatest_le (most_in_pure univ_bound) (most_in_pure number_bound) pure_below a.pure in
+    let s = greatest_le (most_in_spatial univ_bound) (most_in_spatial number_bound) spatial_below a.spatial in
     omega arith
 
 judgement_below : (j : Judgement) → judgement_bound j ≤ judgement_numbers j
-judgement_below (Entail a bs) = let h = heap_below a in let r = most_less heap_bound heap_numbers heap_below bs in omega arith
+judgement_below (Entail a bs) = let h = heap_below a in let r = greatest_le heap_bound heap_numbers heap_below bs in omega arith
 judgement_below (Runs i a) = let h = heap_below a in omega arith
 
 antecedent_below : (j : Judgement) → heap_numbers (antecedent j) ≤ judgement_numbers j
@@ -59,12 +60,12 @@ antecedent_below (Runs i a) = omega arith
 -- ---- the heaps of a premise
 
 short_heaps : (most : ℕ) (j : Judgement) (h : SymbolicHeap) → is_short most h ≡ true → every (is_short most) (disjuncts j) ≡ true → every (is_short most) (heaps_of (with_antecedent j h)) ≡ true
-short_heaps most (Entail a bs) h s d = and_true (is_short most h) (every (is_short most) bs) s d
-short_heaps most (Runs i a) h s d = and_true (is_short most h) true s refl
+short_heaps most (Entail a bs) h s d = and_from (is_short most h) (every (is_short most) bs) s d
+short_heaps most (Runs i a) h s d = and_from (is_short most h) true s refl
 
 numbered_heaps : (hs : List SymbolicHeap) → max_of (map heap_numbers hs) ≤ 65535 → every has_numbers hs ≡ true
 numbered_heaps [] l = refl
-numbered_heaps (h ∷ hs) l = and_true (has_numbers h) (every has_numbers hs) (le-leb (heap_numbers h) 65535 (omega arith)) (numbered_heaps hs (omega arith))
+numbered_heaps (h ∷ hs) l = and_from (has_numbers h) (every has_numbers hs) (le-leb (heap_numbers h) 65535 (omega arith)) (numbered_heaps hs (omega arith))
 
 numbered_premise : (j : Judgement) (h : SymbolicHeap) → heap_numbers h ≤ 65535 → judgement_numbers j ≤ 65535 → every has_numbers (heaps_of (with_antecedent j h)) ≡ true
 numbered_premise (Entail a bs) h s d = numbered_heaps (h ∷ bs) (omega arith)
@@ -105,19 +106,19 @@ module _ (most p : ℕ) (j : Judgement) (k q : ℕ) (ts : List Term) (at : slice
   cases_go short [] e = (refl, refl)
   cases_go short (c ∷ cs) e =
       let h = unfolded (antecedent j) k (in_heap g c) in
-      let room = both (has_room_from most (max p (judgement_numbers j)) (antecedent j) c) (every (has_room_from most (max p (judgement_numbers j)) (antecedent j)) cs) e in
-      let r0 = both (nat_le (length (antecedent j).pure + length c.pure) 64) (nat_le (length (antecedent j).spatial + length c.spatial) (most + 1) && nat_le (max p (judgement_numbers j) + heap_numbers c) 65535) room.0 in
-      let r1 = both (nat_le (length (antecedent j).spatial + length c.spatial) (most + 1)) (nat_le (max p (judgement_numbers j) + heap_numbers c) 65535) r0.1 in
+      let room = and_parts (has_room_from most (max p (judgement_numbers j)) (antecedent j) c) (every (has_room_from most (max p (judgement_numbers j)) (antecedent j)) cs) e in
+      let r0 = and_parts (nat_le (length (antecedent j).pure + length c.pure) 64) (nat_le (length (antecedent j).spatial + length c.spatial) (most + 1) && nat_le (max p (judgement_numbers j) + heap_numbers c) 65535) room.0 in
+      let r1 = and_parts (nat_le (length (antecedent j).spatial + length c.spatial) (most + 1)) (nat_le (max p (judgement_numbers j) + heap_numbers c) 65535) r0.1 in
       let rest = cases_go short cs room.1 in
-      let few : is_short most h ≡ true = and_true (nat_le (length h.pure) 64) (nat_le (length h.spatial) most) (le-leb _ _ (pures c (leb-true _ _ r0.0))) (le-leb _ _ (spatials c (leb-true _ _ r1.0))) in
+      let few : is_short most h ≡ true = and_from (nat_le (length h.pure) 64) (nat_le (length h.spatial) most) (le-leb _ _ (pures c (leb-true _ _ r0.0))) (le-leb _ _ (spatials c (leb-true _ _ r1.0))) in
       let le : max p (judgement_numbers j) + heap_numbers c ≤ 65535 = leb-true _ _ r1.1 in (
-        and_true (every (is_short most) (heaps_of (with_antecedent j h))) _ (short_heaps most j h few short) rest.0,
-        and_true (every has_numbers (heaps_of (with_antecedent j h))) _ (numbered_premise j h (numbers c le) (omega arith)) rest.1,
+        and_from (every (is_short most) (heaps_of (with_antecedent j h))) _ (short_heaps most j h few short) rest.0,
+        and_from (every has_numbers (heaps_of (with_antecedent j h))) _ (numbered_premise j h (numbers c le) (omega arith)) rest.1,
       )
 
 pub left_goes : (most : ℕ) (ds : List Definition) (p : ℕ) (j : Judgement) (k q : ℕ) (ts : List Term) → slice_get (antecedent j).spatial k ≡ Some (Pred q ts) → has_room_left most p j (cases_of ds q) ≡ true → has_premises (unfold_answer most ds p j k) ≡ true
 left_goes most ds p j k q ts at room =
-    let r = both (every (is_short most) (disjuncts j)) (every (has_room_from most (max p (judgement_numbers j)) (antecedent j)) (cases_of ds q)) room in
+    let r = and_parts (every (is_short most) (disjuncts j)) (every (has_room_from most (max p (judgement_numbers j)) (antecedent j)) (cases_of ds q)) room in
     let go = cases_go most p j k q ts at r.0 (cases_of ds q) r.1 in
     ap (λ (o : Option Spatial). has_premises (finds o NoSuchAtom (λ x. calls x (λ i us. limited most (map (unfold_premise j k us (fresh_number p j)) (cases_of ds i)))))) at
     ∙ answered (each_heap (is_short most) (map (unfold_premise j k ts (fresh_number p j)) (cases_of ds q))) (each_heap has_numbers (map (unfold_premise j k ts (fresh_number p j)) (cases_of ds q))) TooManyAtoms NoFreshVariable (map (unfold_premise j k ts (fresh_number p j)) (cases_of ds q)) go.0 go.1
@@ -129,4 +130,4 @@ parts_go most ds p j k q ts a n few room cases left number is_few is_room found 
     let in_number = subst (λ (i : ℕ). every (has_room_from room i (antecedent j)) (cases_of ds q) ≡ true) number in_left in
     let in_room = subst (λ (i : ℕ). every (has_room_from i (max p (judgement_numbers j)) (antecedent j)) (cases_of ds q) ≡ true) is_room in_number in
     left_goes most ds p j k q ts (subst (λ (b : SymbolicHeap). slice_get b.spatial k ≡ Some (Pred q ts)) left at)
-    (and_true (every (is_short most) (disjuncts j)) (every (has_room_from most (max p (judgement_numbers j)) (antecedent j)) (cases_of ds q)) (subst (λ (i : ℕ). every (is_short i) (disjuncts j) ≡ true) is_few short) in_room)
+    (and_from (every (is_short most) (disjuncts j)) (every (has_room_from most (max p (judgement_numbers j)) (antecedent j)) (cases_of ds q)) (subst (λ (i : ℕ). every (is_short i) (disjuncts j) ≡ true) is_few short) in_room)

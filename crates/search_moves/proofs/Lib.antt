@@ -4,5 +4,5 @@ pub mod LowerNodes
 pub mod FewCases
 mod CaseNumbers
 pub mod Unlinked
-mod LeftNumbers
+pub mod LeftNumbers
 mod LeftOpen

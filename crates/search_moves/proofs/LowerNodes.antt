@@ -11,17 +11,13 @@ use Rattle.proof_graph.specs.NodeViews.{IsViewed}
 use Rattle.proof_graph.specs.ReasonViews.{reason_of}
 use Rattle.search_moves.specs.States.{has_rule, is_work, is_unfold, is_on_line, works_on}
 use Rattle.search_moves.specs.Offering.{is_entailment}
+use Rattle.list_facts.proofs.Places.{get_within}
 
 lower : {X : Type 0} (xs : List X) (n v : ℕ) (x : X) → v < n → slice_get xs v ≡ Some x → drop v (take n xs) ≡ x ∷ drop (suc v) (take n xs)
 lower [] n v x l at = absurd (let e : None ≡ Some x = at in cc)
 lower (y ∷ ys) zero v x l at = absurd (omega arith)
 lower (y ∷ ys) (suc n) zero x l at = let e : Some y ≡ Some x = at in let e' : y ≡ x = cc in ap (λ z. z ∷ take n ys) e'
 lower (y ∷ ys) (suc n) (suc v) x l at = lower ys n v x (omega arith) at
-
-get_some : {X : Type 0} (xs : List X) (v : ℕ) → v < length xs → (x : X) × (slice_get xs v ≡ Some x)
-get_some [] v l = absurd (omega arith)
-get_some (y ∷ ys) zero l = (y, refl)
-get_some (y ∷ ys) (suc v) l = get_some ys v (omega arith)
 
 pub lower_next : {X : Type 0} (xs : List X) (n v : ℕ) (x : X) → v < n → slice_get xs v ≡ Some x → drop v (take n xs) ≡ x ∷ drop (v + 1) (take n xs)
 lower_next xs n v x l at = rw (add-one) (lower xs n v x l at)
@@ -60,7 +56,7 @@ works_there i nodes v view node seen at =
 -- what the node at place v gives is given
 pub lower_given : {X Y : Type 0} (f : ℕ → X → List Y) (xs : List X) (n v : ℕ) (items items' all : List Y) → v < n → n < length xs → ((x : X) → slice_get xs v ≡ Some x → items' ≡ items ++ f v x) → items ++ each_from f v (drop v (take n xs)) ≡ all → items' ++ each_from f (v + 1) (drop (v + 1) (take n xs)) ≡ all
 lower_given f xs n v items items' all l m given so_far =
-    let there = get_some xs v (omega arith) in
+    let there = get_within xs v (omega arith) in
     let rest = each_from f (suc v) (drop (suc v) (take n xs)) in
     let cut : drop v (take n xs) ≡ there.0 ∷ drop (suc v) (take n xs) = lower xs n v there.0 l there.1 in
     let before : items ++ (f v there.0 ++ rest) ≡ all = rw cut at so_far in

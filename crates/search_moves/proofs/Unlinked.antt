@@ -1,5 +1,5 @@
 -- Entailments whose antecedents differ in length have no links.
-use Rattle.std.proofs.Common.{◌≡◌, ℕ, zero, suc, Bool, true, false, List, [], ◌∷◌, map, length, take, Option, None, Some, if◌then◌else◌, arith, refl, ap, leb-true, ◌∙◌}
+use Rattle.std.proofs.Common.{◌≡◌, ℕ, zero, suc, Bool, true, false, List, [], ◌∷◌, map, length, take, None, if◌then◌else◌, arith, refl, ap, leb-true, ◌∙◌}
 use Rattle.std.specs.Prelude.{nat_eq, nat_le}
 use Rattle.std.specs.List.{filter}
 use Rattle.std.specs.Option.{is_none}
@@ -12,7 +12,6 @@ use Rattle.heap_formula.specs.declared.commands.Command.{Command}
 use Rattle.heap_formula.specs.declared.judgements.Judgement.{Judgement}
 use Rattle.heap_formula.specs.declared.judgements.Judgement.TheVariants.{Entail, Term as Runs}
 use Rattle.heap_formula.specs.declared.proof_rules.Link.{Link}
-use Rattle.heap_formula.specs.declared.proof_rules.RuleFault.{RuleFault}
 use Rattle.rule_table.specs.LinkTable.{parts_fault, link_fault}
 use Rattle.rule_table.specs.RuleBook.{variables_of}
 use Rattle.rule_table.proofs.LinkRule.{parts_are}
@@ -22,6 +21,7 @@ use Rattle.back_links.specs.Listing.{candidates, links}
 use Rattle.proof_graph.specs.declared.nodes.GraphNode.{GraphNode}
 use Rattle.search_moves.specs.Lengths.{is_as_long}
 use Rattle.search_moves.specs.Offering.{is_companion, links_to}
+use Rattle.list_facts.proofs.Options.{none_is}
 
 as_long : (a : SymbolicHeap) (bs : List SymbolicHeap) (b : SymbolicHeap) (cs : List SymbolicHeap) (link : Link) → parts_fault a bs b cs (nat_le (length a.spatial) (length b.spatial)) link ≡ None → nat_eq (length a.spatial) (length b.spatial) ≡ true
 as_long a bs b cs link e =
@@ -31,10 +31,6 @@ as_long a bs b cs link e =
     let whole = ap length (all_chosen a.spatial) in
     let most = leb-true (length a.spatial) (length b.spatial) f.2 in
     (Decides-eqb (length a.spatial) (length b.spatial)).1 (omega (arith, left, sent, whole, most))
-
-none_is : (o : Option RuleFault) → is_none o ≡ true → o ≡ None
-none_is None e = refl
-none_is (Some f) e = cc
 
 none_passes : (test : Link → Bool) (xs : List Link) → ((x : Link) → test x ≡ true → ⊥) → filter test xs ≡ []
 none_passes test [] h = refl

@@ -22,6 +22,7 @@ use Rattle.fold_offers.specs.Places.{each_place, each_of, if_some, first_place, 
 use Rattle.fold_offers.specs.Kinds.{is_cell, is_predicate}
 use Rattle.search_moves.specs.declared.instances.Instance.{Instance}
 use Rattle.search_moves.specs.Trying.{Theory, goes}
+use Rattle.std.specs.Option.{option_or}
 
 -- ---- equations of the antecedent
 
@@ -135,15 +136,11 @@ instance_at t Nil = None
 instance_at t (Univ n) = None
 instance_at t (Exist v) = Some (instance v t)
 
-abbrev pub or_later : {X : Type 0} → Option X → Option X → Option X
-or_later None later = later
-or_later (Some x) later = Some x
-
 -- the first existential of the second list, by the term of the first list at its place
 abbrev pub first_instance : List Term → List Term → Option Instance
 first_instance [] us = None
 first_instance (t ∷ ts) [] = None
-first_instance (t ∷ ts) (u ∷ us) = or_later (instance_at t u) (first_instance ts us)
+first_instance (t ∷ ts) (u ∷ us) = option_or (instance_at t u) (first_instance ts us)
 
 -- of two cells of one address and length
 abbrev pub field_instance : Spatial → Spatial → Option Instance

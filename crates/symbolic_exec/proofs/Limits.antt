@@ -14,9 +14,10 @@ use Rattle.heap_formula.specs.Symbolic.{SymbolicHeap}
 use Rattle.rule_table.specs.Answer.{needs, limited, is_short, has_numbers, each_heap, heap_numbers, one, two}
 use Rattle.rule_table.specs.Answered.{IsAnswer}
 use Rattle.rule_table.specs.ExecTable.{renamed, with_atom, with_cell, at_line}
-use Rattle.rule_table.proofs.Reflects.{both}
-use Rattle.rule_table.proofs.LimitedPremises.{le_same, limited_changed}
+use Rattle.rule_table.proofs.LimitedPremises.{limited_changed}
 use Rattle.symbolic_exec.specs.States.{has_room_for}
+use Rattle.std.proofs.lemmas.Bool.{and_parts}
+use Rattle.list_facts.proofs.Tests.{le_same}
 
 -- ---- sizes
 
@@ -74,5 +75,5 @@ as_numbered most i a real made r xs is_made short same over is =
 
     within : each_heap has_numbers (one (at_line i a real)) ≡ true → heap_numbers real ≤ 65535
     within e =
-        let first = both (has_numbers real && true) true e in
-        let only = both (has_numbers real) true first.0 in leb-true _ _ only.0
+        let first = and_parts (has_numbers real && true) true e in
+        let only = and_parts (has_numbers real) true first.0 in leb-true _ _ only.0

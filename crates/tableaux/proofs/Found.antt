@@ -10,7 +10,6 @@ use Rattle.trace_pairs.specs.declared.lasso.Step.{Step}
 use Rattle.trace_decision.specs.Decide.{progresses, number_of}
 use Rattle.trace_decision.proofs.Leaf.{leaf_progresses}
 use Rattle.trace_decision.proofs.Decide.{progress_decided}
-use Rattle.buchi_core.proofs.Lists.{get_within}
 use Rattle.derivation_search.specs.System.{System, after, or_else, chosen, search_of, IsFound}
 use Rattle.derivation_search.specs.Firsts.{IsIn}
 use Rattle.derivation_search.proofs.Induction.{IsOffered, found_has}
@@ -28,6 +27,7 @@ use Rattle.tableaux.proofs.Steps.{Fits, fits_tells, next_tableau, next_is, begin
 use Rattle.tableaux.proofs.Offered.{IsOfferedTo, none_offered, offered_next}
 use Rattle.tableaux.proofs.Few.{found_ends, few_states}
 use Rattle.tableaux.proofs.Made.{AllMade}
+use Rattle.list_facts.proofs.Places.{get_within}
 
 -- a graph without a node has no lasso
 none_progresses : AllProgress []

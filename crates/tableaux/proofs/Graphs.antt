@@ -3,13 +3,13 @@ use Rattle.std.proofs.Common.{◌≡◌, ℕ, zero, suc, ◌<◌, ◌≤◌, ◌
 use Rattle.std.proofs.lemmas.Option.{slice_get_within}
 use Rattle.trace_pairs.specs.Graph.{Node, Edge, IsGraph, IsPositionSet, has}
 use Rattle.trace_pairs.specs.System.{AreIn}
-use Rattle.buchi_core.proofs.Lists.{get_within, get_append_left}
 use Rattle.tableaux.specs.Tableau.{Premise, Goal, Made, Tableau, Calculus}
 use Rattle.tableaux.specs.Fair.{AllOccur, IsFair}
 use Rattle.tableaux.specs.Nodes.{HasRoot, MayStand, LeadsTo}
 use Rattle.tableaux.proofs.Grown.{link_edges}
 use Rattle.tableaux.proofs.Waiting.{get_take}
 use Rattle.tableaux.proofs.Rows.{Row}
+use Rattle.list_facts.proofs.Places.{get_within, get_append_left}
 
 -- no node is made, and the next goal is the judgement
 pub record IsBegun {J R : Type 0} (j : J) (t : Tableau J R) : Type 0 where

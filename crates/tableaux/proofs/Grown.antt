@@ -1,10 +1,11 @@
 -- The nodes of a graph with an edge more, a leaf more, and a link more.
 use Rattle.std.proofs.Common.{◌≡◌, ◌≢◌, ℕ, zero, suc, ◌+◌, arith, List, [], ◌∷◌, ◌++◌, Option, Some, None, slice_get, length, length-append, refl, ap, ◌∙◌}
 use Rattle.trace_pairs.specs.Graph.{Node, Edge, Pair}
-use Rattle.buchi_core.proofs.Lists.{get_append_left, get_append_right}
+use Rattle.buchi_core.proofs.Lists.{get_append_right}
 use Rattle.trace_decision.specs.Leaf.{add_edge, with_leaf}
 use Rattle.tableaux.specs.Tableau.{linked}
 pub use Rattle.trace_decision.proofs.Leaf.{length-add}
+use Rattle.list_facts.proofs.Places.{get_append_left}
 
 -- a node with these edges more
 abbrev pub with_edges : Node → List Edge → Node

@@ -1,7 +1,8 @@
 -- A list made of two lists, member by member; and lists that have the same members.
 use Rattle.std.proofs.Common.{◌≡◌, ℕ, zero, suc, List, [], ◌∷◌, Some, None, slice_get, length, refl, ap, ◌∙◌, arith}
 use Rattle.std.proofs.lemmas.Option.{slice_get_within}
-use Rattle.buchi_core.proofs.Lists.{get_one, get_within}
+use Rattle.buchi_core.proofs.Lists.{get_one}
+use Rattle.list_facts.proofs.Places.{get_within}
 
 -- as long as the shorter one
 abbrev pub joined : {X Y Z : Type 0} → (X → Y → Z) → List X → List Y → List Z

@@ -1,11 +1,12 @@
 -- What any reasons that may be given make is in order.
-use Rattle.std.proofs.Common.{◌≡◌, ℕ, suc, ◌⊎◌, inl, inr, List, [], ◌∷◌, Option, Some, None, slice_get, fold, sym, refl, ap, subst, ◌∙◌}
+use Rattle.std.proofs.Common.{◌≡◌, ℕ, suc, inl, inr, List, [], ◌∷◌, Option, Some, None, slice_get, fold, sym, refl, ap, subst, ◌∙◌}
 use Rattle.trace_pairs.specs.Graph.{Node, IsGraph}
 use Rattle.tableaux.specs.Tableau.{Premise, Goal, Made, Tableau, Calculus, with_premises, at_next, step, begin}
 use Rattle.tableaux.specs.Search.{EachReplayed}
 use Rattle.tableaux.specs.Fair.{IsFair}
 use Rattle.tableaux.proofs.Graphs.{InOrder, graph_in_order}
 use Rattle.tableaux.proofs.Steps.{next_tableau, begins, next_in_order}
+use Rattle.list_facts.proofs.Options.{option_cases}
 
 -- a reason without a fault keeps a tableau in order
 pub at_next_in_order : {J R : Type 0} (c : Calculus J R) (Occurs : J → Type 0) (Allows : R → Type 0) → IsFair c Occurs Allows → (j : J) (nodes : List (Made J R)) (graph : List Node) (goals : List (Goal J)) (r : R) (t : Tableau J R) →
@@ -23,10 +24,6 @@ at_next_in_order {J} {R} c Occurs Allows fair j nodes graph (g ∷ rest) r t ok 
 pub fold_none : {J R : Type 0} (c : Calculus J R) (d : List R) → fold (step c) None d ≡ None
 fold_none c [] = refl
 fold_none c (r ∷ d) = fold_none c d
-
-option_cases : {X : Type 0} (o : Option X) → (o ≡ None) ⊎ ((x : X) × (o ≡ Some x))
-option_cases None = inl refl
-option_cases (Some x) = inr (x, refl)
 
 -- so does a list of them, from any tableau in order
 pub replayed_from : {J R : Type 0} (c : Calculus J R) (Occurs : J → Type 0) (Allows : R → Type 0) → IsFair c Occurs Allows → (j : J) (d : List R) (from t : Tableau J R) → InOrder c Occurs Allows j from → ((k : ℕ) (r : R) → slice_get d k ≡ Some r → Allows r) →

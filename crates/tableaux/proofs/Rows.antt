@@ -2,11 +2,11 @@
 use Rattle.std.proofs.Common.{◌≡◌, ◌≢◌, ℕ, zero, suc, ◌+◌, ◌<◌, inl, inr, arith, List, [], ◌∷◌, ◌++◌, Option, Some, None, slice_get, length, length-append, take, sym, refl, ap, subst, ◌∙◌}
 use Rattle.std.proofs.lemmas.List.{append_assoc, append-nil, take-append-le}
 use Rattle.trace_pairs.specs.Graph.{Node, Edge, Pair}
-use Rattle.buchi_core.proofs.Lists.{get_append_left}
 use Rattle.tableaux.specs.Tableau.{Premise, Goal, Made, Calculus, goals_of, grown, linked}
 use Rattle.tableaux.specs.Nodes.{StandsAt, IsMadeFor, LeadsTo}
 use Rattle.tableaux.proofs.Grown.{with_edges, link_edges, leaf_at, leaf_other, leaf_new, linked_other, linked_new}
 use Rattle.tableaux.proofs.Waiting.{get_end_cases, get_end, waiting, waiting_here, waiting_not, waiting_own, waiting_other, first_waits, FirstWaits}
+use Rattle.list_facts.proofs.Places.{get_append_left}
 
 -- node i has been made, as m: the nodes before it, its premises that are made and those that are left, and its edges
 pub record Row {J R : Type 0} (c : Calculus J R) (nodes : List (Made J R)) (goals : List (Goal J)) (graph : List Node) (i : ℕ) (m : Made J R) : Type 0 where

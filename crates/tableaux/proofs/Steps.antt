@@ -4,7 +4,7 @@ use Rattle.std.proofs.lemmas.Bool.{cases_eq, both_ways}
 use Rattle.std.proofs.lemmas.List.Sums.{fold-append}
 use Rattle.std.proofs.lemmas.Option.{slice_get_within}
 use Rattle.trace_pairs.specs.Graph.{Node}
-use Rattle.buchi_core.proofs.Lists.{get_append_left, get_append_cases}
+use Rattle.buchi_core.proofs.Lists.{get_append_cases}
 use Rattle.derivation_search.specs.System.{after}
 use Rattle.tableaux.specs.Tableau.{Premise, Goal, Made, Tableau, Calculus, goals_of, grown, linked, with_premises, at_next, step, begin, replay}
 use Rattle.tableaux.specs.Room.{has_room, fits_at, fits_in}
@@ -14,6 +14,7 @@ use Rattle.tableaux.proofs.Grown.{length-leaf, length-linked}
 use Rattle.tableaux.proofs.Waiting.{get_end_cases, get_end, waiting_none, goal_of}
 use Rattle.tableaux.proofs.Rows.{Row, row_other, row_parent, row_new}
 use Rattle.tableaux.proofs.Graphs.{InOrder, IsBegun}
+use Rattle.list_facts.proofs.Places.{get_append_left}
 
 -- what a reason that fits tells of the tableau
 pub record Fits {J R : Type 0} (c : Calculus J R) (p : Option (Tableau J R)) (r : R) : Type 0 where

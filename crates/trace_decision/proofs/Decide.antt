@@ -11,14 +11,14 @@ use Rattle.trace_pairs.specs.Lasso.{AllProgress}
 use Rattle.buchi_inclusion.specs.Answers.{LeastFirst}
 use Rattle.buchi_core.proofs.Lists.{any_at, at_any, get_append_cases}
 use Rattle.buchi_inclusion.proofs.Universe.{Listed, states_from, closed_universe, listed_left, listed_right}
-use Rattle.buchi_inclusion.proofs.Runs.{each_append}
+use Rattle.buchi_inclusion.proofs.Runs.{each_append, each_weaker}
 use Rattle.buchi_inclusion.proofs.Exact.{exact, run_append, least_first}
 use Rattle.trace_decision.specs.Equal.{same_state}
 use Rattle.trace_decision.specs.Closure.{closure, some_below}
 use Rattle.trace_decision.specs.Decide.{Move, over_edge, over_edges, from_node, moves_of, is_nothing, is_from, always, leads_to, step, walks, is_start, is_reached, is_at, returns_to, leads_back, turns_bad, has_bad_cycle, progresses}
 use Rattle.trace_decision.proofs.Equal.{both, state_tells, state_reflects}
 use Rattle.trace_decision.proofs.Closure.{closure_sound, closure_joins, closure_id, closure_one, below_some, some_is_below}
-use Rattle.trace_pairs.proofs.Turning.{get_within as get_some}
+use Rattle.list_facts.proofs.Places.{get_within as get_some}
 
 -- a cycle that begins with its least event is bad
 bad_from_least : (g : List Node) → LeastFirst g → BadCycle g
@@ -167,10 +167,6 @@ walk_complete g states closed test (event ∷ events) i s t at run each =
           (closure_one (step g states test) (length states) i n.0 (step_complete g states test i n.0 s u event at n.1 run.1 each.0)) r.walks;
     }
 
-each_same : {P Q : Event → Type 0} → ((event : Event) → P event → Q event) → (events : List Event) → Each P events → Each Q events
-each_same f [] h = tt
-each_same f (event ∷ events) h = (f event h.0, each_same f events h.1)
-
 all_pass : (events : List Event) → Each (Passes always) events
 all_pass [] = tt
 all_pass (event ∷ events) = (refl, all_pass events)
@@ -271,11 +267,11 @@ record BackFrom (g : List Node) (event : Event) (t s : State) : Type 0 where
 back_sound : (g : List Node) (states : List State) (event : Event) (j : ℕ) (t s : State) → slice_get states j ≡ Some t → leads_back g states event j s ≡ true → BackFrom g event t s
 back_sound g states (Dies k) j t s at h =
     let r = returns_sound g states (is_from k) j t s at h in
-    record { events = r.events; run = r.run; least = inr (k, refl, each_same (from_is k) r.events r.each) }
+    record { events = r.events; run = r.run; least = inr (k, refl, each_weaker _ _ (from_is k) r.events r.each) }
 back_sound g states (Green k) j t s at h = absurd (both_ways false refl h)
 back_sound g states Nothing j t s at h =
     let r = returns_sound g states is_nothing j t s at h in
-    record { events = r.events; run = r.run; least = inl (refl, each_same nothing_is r.events r.each) }
+    record { events = r.events; run = r.run; least = inl (refl, each_weaker _ _ nothing_is r.events r.each) }
 
 turns_sound : (g : List Node) (states : List State) (i : ℕ) (a : Option State) → slice_get states i ≡ a → is_reached g states i ≡ true → turns_bad g states a ≡ true → LeastFirst g
 turns_sound g states i None at reached h = absurd (both_ways false refl h)
@@ -306,8 +302,8 @@ back_complete : (g : List Node) (states : List State) → IsClosed g states → 
     ((event ≡ Nothing) × Each IsNothing events) ⊎ ((k : ℕ) × (event ≡ Dies k) × Each (IsFrom k) events) → leads_back g states event j s ≡ true
 back_complete g states closed j event t s events at run least =
     elim least [
-      | inl a ↦ subst (λ x. leads_back g states x j s ≡ true) (sym a.0) (returns_complete g states closed is_nothing j t s events at run (each_same is_nothing_passes events a.1))
-      | inr b ↦ subst (λ x. leads_back g states x j s ≡ true) (sym b.1) (returns_complete g states closed (is_from b.0) j t s events at run (each_same (is_from_passes b.0) events b.2))
+      | inl a ↦ subst (λ x. leads_back g states x j s ≡ true) (sym a.0) (returns_complete g states closed is_nothing j t s events at run (each_weaker _ _ is_nothing_passes events a.1))
+      | inr b ↦ subst (λ x. leads_back g states x j s ≡ true) (sym b.1) (returns_complete g states closed (is_from b.0) j t s events at run (each_weaker _ _ (is_from_passes b.0) events b.2))
     ]
 
 bad_complete : (g : List Node) (states : List State) → IsClosed g states → LeastFirst g → has_bad_cycle g states ≡ true

@@ -3,8 +3,9 @@ use Rattle.std.proofs.Common.{◌≡◌, ◌≢◌, ℕ, zero, suc, ◌<◌, ◌
 use Rattle.trace_pairs.specs.Graph.{Node, Edge, Pair, IsEdge}
 use Rattle.trace_pairs.specs.declared.lasso.Step.{Step}
 use Rattle.trace_pairs.specs.Lasso.{IsPath, Trace, turns, AllProgress}
-use Rattle.buchi_core.proofs.Lists.{get_append_cases, get_append_left}
+use Rattle.buchi_core.proofs.Lists.{get_append_cases}
 use Rattle.trace_decision.specs.Leaf.{add_edge, with_leaf}
+use Rattle.list_facts.proofs.Places.{get_append_left}
 
 record LeafAdded (g g' : List Node) (v : ℕ) : Type 0 where
   old : (u k : ℕ) (e : Edge) → IsEdge g' u k e → IsEdge g u k e ⊎ (e.target ≡ v)

@@ -17,11 +17,12 @@ use Rattle.rule_table.specs.Answer.{needs, limited, every, is_short, has_numbers
 use Rattle.rule_table.specs.Answered.{IsAnswer}
 use Rattle.rule_table.specs.Changes.{changed}
 use Rattle.rule_table.specs.declared.changes.Change.TheVariants.{Opened}
-use Rattle.rule_table.proofs.Reflects.{both, bool_same, and_true as and_both}
-use Rattle.rule_table.proofs.LimitedPremises.{le_same, and_assoc, heaps_short, any_numbers, any_first, limited_changed}
+use Rattle.rule_table.proofs.LimitedPremises.{and_assoc, heaps_short, any_numbers, any_first, limited_changed}
 use Rattle.unfold_rule.specs.Joining.{joined}
 use Rattle.unfold_rule.specs.Cutting.{cut_right_by, cut_fits}
 use Rattle.unfold_rule.proofs.JoinedNumbers.{joined_same, joined_numbers, opened_same, opened_over}
+use Rattle.std.proofs.lemmas.Bool.{and_from as and_both, and_parts}
+use Rattle.list_facts.proofs.Tests.{bool_same, le_same}
 
 -- what is chosen and what is not are the whole list
 chosen_count : {X : Type 0} (p : ℕ → Bool) (xs : List X) → length (chosen p xs) + length (chosen (others_of p) xs) ≡ length xs
@@ -55,8 +56,8 @@ module _ (most : ℕ) (j : Judgement) (p : ℕ → Bool) (formula : SymbolicHeap
   left_inside : every (is_short most) (heaps_of (cut_left (antecedent j) p formula).judgement) ≡ true → length (antecedent j).spatial ≤ length (chosen (others_of p) (antecedent j).spatial) + most
   left_inside e =
       let n = chosen_count p (antecedent j).spatial in
-      let x = both (is_short most (record { pure = (antecedent j).pure; spatial = chosen p (antecedent j).spatial })) (is_short most formula && true) e in
-      let y = both (nat_le (length (antecedent j).pure) 64) (nat_le (length (chosen p (antecedent j).spatial)) most) x.0 in
+      let x = and_parts (is_short most (record { pure = (antecedent j).pure; spatial = chosen p (antecedent j).spatial })) (is_short most formula && true) e in
+      let y = and_parts (nat_le (length (antecedent j).pure) 64) (nat_le (length (chosen p (antecedent j).spatial)) most) x.0 in
       let z = leb-true (length (chosen p (antecedent j).spatial)) most y.1 in omega arith
 
   pub cut_short : (f : Term → Term) → each_heap (is_short most) (two (cut_left (antecedent j) p formula) (cut_right_by j p f formula)) ≡ cut_fits most j (length (chosen (others_of p) (antecedent j).spatial)) formula
@@ -67,12 +68,12 @@ module _ (most : ℕ) (j : Judgement) (p : ℕ → Bool) (formula : SymbolicHeap
       let pure = nat_le (length (antecedent j).pure + length formula.pure) 64 in
       let rest = nat_le (kept + length formula.spatial) most && every (is_short most) (disjuncts j) in
       (λ i. left && (right_short f i && true)) ∙ bool_same (left && ((pure && rest) && true)) (room && (pure && rest)) (λ e.
-      let x = both left ((pure && rest) && true) e in
-      let y = both (pure && rest) true x.1 in
+      let x = and_parts left ((pure && rest) && true) e in
+      let y = and_parts (pure && rest) true x.1 in
       and_both room (pure && rest) (le-leb _ _ (left_inside x.0)) y.0) (λ e.
-      let x = both room (pure && rest) e in
-      let y = both pure rest x.1 in
-      let z = both (nat_le (kept + length formula.spatial) most) (every (is_short most) (disjuncts j)) y.1 in
+      let x = and_parts room (pure && rest) e in
+      let y = and_parts pure rest x.1 in
+      let z = and_parts (nat_le (kept + length formula.spatial) most) (every (is_short most) (disjuncts j)) y.1 in
       and_both left ((pure && rest) && true) (left_short (leb-true _ _ y.0) (leb-true _ _ z.0) (leb-true _ _ x.0)) (and_both (pure && rest) true x.1 refl))
 
   module _ (f g : Term → Term) (same : (t : Term) → number_bound (g t) ≤ 65535 → f t ≡ g t) (over : (t : Term) → number_bound (f t) ≤ 65535 → number_bound (g t) ≤ 65535) where
@@ -84,8 +85,8 @@ module _ (most : ℕ) (j : Judgement) (p : ℕ → Bool) (formula : SymbolicHeap
     pub cut_same : each_heap has_numbers (two (cut_left (antecedent j) p formula) (cut_right_by j p g formula)) ≡ true → two (cut_left (antecedent j) p formula) (cut_right_by j p f formula) ≡ two (cut_left (antecedent j) p formula) (cut_right_by j p g formula)
     cut_same e =
         let kept = chosen (others_of p) (antecedent j).spatial in
-        let b = both (every has_numbers (heaps_of (cut_left (antecedent j) p formula).judgement)) (every has_numbers (heaps_of (cut_right_by j p g formula).judgement) && true) e in
-        let d = both (every has_numbers (heaps_of (cut_right_by j p g formula).judgement)) true b.1 in
+        let b = and_parts (every has_numbers (heaps_of (cut_left (antecedent j) p formula).judgement)) (every has_numbers (heaps_of (cut_right_by j p g formula).judgement) && true) e in
+        let d = and_parts (every has_numbers (heaps_of (cut_right_by j p g formula).judgement)) true b.1 in
         let n = any_first j (joined (antecedent j).pure kept (in_heap g formula)) d.0 in
         let body = joined_same (antecedent j).pure kept f g same over formula (leb-true _ _ n) in
         λ i. two (cut_left (antecedent j) p formula) (record {

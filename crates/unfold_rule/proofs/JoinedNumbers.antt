@@ -11,8 +11,8 @@ use Rattle.rule_table.specs.Answer.{has_numbers, number_bound, heap_numbers, pur
 use Rattle.rule_table.specs.Changes.{changed}
 use Rattle.rule_table.specs.declared.changes.Change.TheVariants.{Left, Right, Opened}
 use Rattle.rule_table.proofs.Saturates.{pures_stop, spatials_stop, pures_pass, spatials_pass, max_of-append}
-use Rattle.rule_table.proofs.LimitedPremises.{le_same}
 use Rattle.unfold_rule.specs.Joining.{joined}
+use Rattle.list_facts.proofs.Tests.{le_same}
 
 module _ (ps : List Pure) (xs : List Spatial) (f g : Term → Term) (same : (t : Term) → number_bound (g t) ≤ 65535 → f t ≡ g t) (over : (t : Term) → number_bound (f t) ≤ 65535 → number_bound (g t) ≤ 65535) where
   pub joined_same : (b : SymbolicHeap) → heap_numbers (joined ps xs (in_heap g b)) ≤ 65535 → in_heap f b ≡ in_heap g b

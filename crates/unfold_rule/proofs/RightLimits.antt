@@ -16,10 +16,11 @@ use Rattle.rule_table.specs.Answer.{needs, limited, every, is_short, has_numbers
 use Rattle.rule_table.specs.Answered.{IsAnswer}
 use Rattle.rule_table.specs.Changes.{changed}
 use Rattle.rule_table.specs.declared.changes.Change.TheVariants.{Right}
-use Rattle.rule_table.proofs.Reflects.{both}
-use Rattle.rule_table.proofs.LimitedPremises.{le_same, limited_changed}
+use Rattle.rule_table.proofs.LimitedPremises.{limited_changed}
 use Rattle.unfold_rule.specs.Unfolding.{right_by, right_fits}
 use Rattle.unfold_rule.proofs.JoinedNumbers.{joined_same, joined_numbers, right_same, right_over}
+use Rattle.std.proofs.lemmas.Bool.{and_parts}
+use Rattle.list_facts.proofs.Tests.{le_same}
 
 module _ (a b : SymbolicHeap) (k : ℕ) (case : SymbolicHeap) where
   pub right_short : (most : ℕ) (f : Term → Term) → k < length b.spatial → each_heap (is_short most) (one (right_by a b k f case)) ≡ right_fits most a b case
@@ -42,9 +43,9 @@ module _ (a b : SymbolicHeap) (k : ℕ) (case : SymbolicHeap) where
 
     pub right_same_premise : each_heap has_numbers (one (right_by a b k g case)) ≡ true → one (right_by a b k f case) ≡ one (right_by a b k g case)
     right_same_premise e =
-        let c = both (every has_numbers (heaps_of (right_by a b k g case).judgement)) true e in
-        let d = both (has_numbers a) (has_numbers (unfolded_right b k (in_heap g case)) && true) c.0 in
-        let n = both (has_numbers (unfolded_right b k (in_heap g case))) true d.1 in
+        let c = and_parts (every has_numbers (heaps_of (right_by a b k g case).judgement)) true e in
+        let d = and_parts (has_numbers a) (has_numbers (unfolded_right b k (in_heap g case)) && true) c.0 in
+        let n = and_parts (has_numbers (unfolded_right b k (in_heap g case))) true d.1 in
         let body = joined_same b.pure (without k b.spatial) f g same over case (leb-true _ _ n.0) in
         λ i. one (with_right a (unfolded_right b k (body i) ∷ []))
 

@@ -22,11 +22,12 @@ use Rattle.rule_table.specs.Answer.{needs, limited, every, is_short, has_numbers
 use Rattle.rule_table.specs.Answered.{IsAnswer}
 use Rattle.rule_table.specs.Changes.{changed}
 use Rattle.rule_table.specs.declared.changes.Change.TheVariants.{Left}
-use Rattle.rule_table.proofs.Reflects.{both}
-use Rattle.rule_table.proofs.LimitedPremises.{le_same, and_assoc, heaps_short, any_numbers, any_first, limited_changed}
+use Rattle.rule_table.proofs.LimitedPremises.{and_assoc, heaps_short, any_numbers, any_first, limited_changed}
 use Rattle.unfold_rule.specs.Joining.{joined}
 use Rattle.unfold_rule.specs.Unfolding.{unfolded_by, case_fits}
 use Rattle.unfold_rule.proofs.JoinedNumbers.{joined_same, joined_numbers, left_same, left_over}
+use Rattle.std.proofs.lemmas.Bool.{and_parts}
+use Rattle.list_facts.proofs.Tests.{le_same}
 
 module _ (j : Judgement) (k : ℕ) (k_in : k < length (antecedent j).spatial) where
   case_short : (most : ℕ) (f : Term → Term) (case : SymbolicHeap) → every (is_short most) (heaps_of (unfolded_by j k f case).judgement) ≡ case_fits most j case
@@ -51,7 +52,7 @@ module _ (j : Judgement) (k : ℕ) (k_in : k < length (antecedent j).spatial) wh
     pub cases_same : (cases : List SymbolicHeap) → each_heap has_numbers (map (unfolded_by j k g) cases) ≡ true → map (unfolded_by j k f) cases ≡ map (unfolded_by j k g) cases
     cases_same [] e = refl
     cases_same (c ∷ cs) e =
-        let b = both (every has_numbers (heaps_of (unfolded_by j k g c).judgement)) (each_heap has_numbers (map (unfolded_by j k g) cs)) e in
+        let b = and_parts (every has_numbers (heaps_of (unfolded_by j k g c).judgement)) (each_heap has_numbers (map (unfolded_by j k g) cs)) e in
         let n = any_first j (unfolded (antecedent j) k (in_heap g c)) b.0 in
         let body = joined_same (antecedent j).pure (without k (antecedent j).spatial) f g same over c (leb-true _ _ n) in
         λ i. record {

@@ -1,13 +1,10 @@
 use Rattle.std.proofs.Common.{sym, subst}
-use Rattle.std.specs.Prelude.{IfOk, Result, Ok, Err}
+use Rattle.std.specs.Prelude.{IfOk}
 use Rattle.heap_formula.specs.declared.proof_rules.Reason.{Reason}
 use Rattle.heap_formula.specs.Judgements.{IsLocallySound}
 use Rattle.rule_table.specs.Nodes.{IsReadable}
 use Rattle.node_reasons.proofs.premises_by_reason.Goals as goal
-
-if_ok : {X E : Type 0} (P Q : X → Type 0) → ((x : X) → P x → Q x) → (r : Result X E) → IfOk r P → IfOk r Q
-if_ok P Q f (Ok x) h = f x h
-if_ok P Q f (Err e) h = tt
+use Rattle.std.proofs.lemmas.Result.{IfOk-weaker}
 
 pub returns-in-Step-clause-sound : goal.returns-in-Step-clause-sound
 returns-in-Step-clause-sound c =
@@ -15,4 +12,4 @@ returns-in-Step-clause-sound c =
 
 pub returns-in-Some-clause-sound : goal.returns-in-Some-clause-sound
 returns-in-Some-clause-sound c =
-    subst (λ (r : Reason). IfOk c.premises_by_link.result (λ v. IsReadable c.args.judgement.now r → IsLocallySound c.args.defs.now.list c.args.program.now c.args.judgement.now v.items)) (sym c.in-Back.is) (if_ok _ _ (λ v sound. sound c.args.defs.now.list) c.premises_by_link.result c.premises_by_link.ensures.sound)
+    subst (λ (r : Reason). IfOk c.premises_by_link.result (λ v. IsReadable c.args.judgement.now r → IsLocallySound c.args.defs.now.list c.args.program.now c.args.judgement.now v.items)) (sym c.in-Back.is) (IfOk-weaker c.premises_by_link.result _ _ (λ v sound. sound c.args.defs.now.list) c.premises_by_link.ensures.sound)

@@ -9,10 +9,11 @@ use Rattle.heap_formula.specs.Judgements.{antecedent}
 use Rattle.back_links.specs.Listing.{number_choices, value_choices}
 use Rattle.back_links.specs.Prospects.{could_place}
 use Rattle.back_links.specs.Branches.{by_places, by_pairs}
-use Rattle.back_links.proofs.Selecting.{number_next, number_cut, numbers_done, emptied, tail_is, last_off}
+use Rattle.back_links.proofs.Selecting.{number_next, number_cut, numbers_done, tail_is, last_off}
 use Rattle.back_links.proofs.Cuts.{places_end, places_all, could_cut}
 use Rattle.back_links.proofs.listing.+choose_places.Goals.{then-put+in_ok-choose_places, else-put}
 use Rattle.back_links.proofs.listing.+choose_places.Goals as goal
+use Rattle.std.proofs.lemmas.List.{nil_from_length}
 
 pub loop-m-preserved : goal.loop-m-preserved
 loop-m-preserved t c =
@@ -46,5 +47,5 @@ returns-then-is_empty-clause-found t c =
     let s = c.args.search.now in
     let none : length c.args.rest.now ≡ 0 = grind (arith, nat_tests, sym c.is_empty.ensures ∙ c.if-is_empty.true) in
     let done : by_pairs s.bud.now s.companion.now s.target s.variables c.deref.result.now c.new-pairs.result.items (value_choices s.values.now s.sources.now) ≡ by_places s.bud.now s.companion.now s.target s.variables s.values.now s.sources.now c.args.made.now.items (number_choices (antecedent s.bud.now).spatial c.args.rest.now) =
-    (λ i. by_pairs s.bud.now s.companion.now s.target s.variables (c.deref.ensures.value i) (c.new-pairs.ensures.items i) (value_choices s.values.now s.sources.now)) ∙ places_end s.bud.now s.companion.now s.target s.variables s.values.now s.sources.now c.args.made.now.items ∙ ap (λ (xs : List Spatial). by_places s.bud.now s.companion.now s.target s.variables s.values.now s.sources.now c.args.made.now.items (number_choices (antecedent s.bud.now).spatial xs)) (sym (emptied c.args.rest.now none)) in
+    (λ i. by_pairs s.bud.now s.companion.now s.target s.variables (c.deref.ensures.value i) (c.new-pairs.ensures.items i) (value_choices s.values.now s.sources.now)) ∙ places_end s.bud.now s.companion.now s.target s.variables s.values.now s.sources.now c.args.made.now.items ∙ ap (λ (xs : List Spatial). by_places s.bud.now s.companion.now s.target s.variables s.values.now s.sources.now c.args.made.now.items (number_choices (antecedent s.bud.now).spatial xs)) (sym (nil_from_length c.args.rest.now none)) in
     subst (λ (zs : List Link). OnOk c.choose_values.result (c.choose_values.new.found.items ≡ take s.most (c.args.found.now.items ++ zs))) done c.choose_values.ensures.found

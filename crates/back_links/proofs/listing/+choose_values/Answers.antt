@@ -10,10 +10,11 @@ use Rattle.rule_table.specs.Answer.{disjuncts}
 use Rattle.back_links.specs.Listing.{value_choices, number_choices}
 use Rattle.back_links.specs.Prospects.{could_send}
 use Rattle.back_links.specs.Branches.{by_pairs, by_entries}
-use Rattle.back_links.proofs.Selecting.{item_next, item_cut, items_done, emptied, tail_is, last_off}
+use Rattle.back_links.proofs.Selecting.{item_next, item_cut, items_done, tail_is, last_off}
 use Rattle.back_links.proofs.Cuts.{pairs_end, pairs_all, value_cut}
 use Rattle.back_links.proofs.listing.+choose_values.Goals.{then-put+in_ok-choose_values, else-put}
 use Rattle.back_links.proofs.listing.+choose_values.Goals as goal
+use Rattle.std.proofs.lemmas.List.{nil_from_length}
 
 pub loop-v-preserved : goal.loop-v-preserved
 loop-v-preserved t c =
@@ -47,5 +48,5 @@ returns-then-is_empty-clause-found t c =
     let s = c.args.search.now in
     let none : length c.args.rest.now ≡ 0 = grind (arith, nat_tests, sym c.is_empty.ensures ∙ c.if-is_empty.true) in
     let done : by_entries s.bud.now s.companion.now s.target s.variables c.args.places.now c.deref.result.now [] (number_choices (disjuncts s.bud.now) (disjuncts s.companion.now)) ≡ by_pairs s.bud.now s.companion.now s.target s.variables c.args.places.now c.args.made.now.items (value_choices s.values.now c.args.rest.now) =
-    ap (λ (q : Bindings). by_entries s.bud.now s.companion.now s.target s.variables c.args.places.now q [] (number_choices (disjuncts s.bud.now) (disjuncts s.companion.now))) c.deref.ensures.value ∙ pairs_end s.bud.now s.companion.now s.target s.variables c.args.places.now c.args.made.now.items ∙ ap (λ (ns : List ℕ). by_pairs s.bud.now s.companion.now s.target s.variables c.args.places.now c.args.made.now.items (value_choices s.values.now ns)) (sym (emptied c.args.rest.now none)) in
+    ap (λ (q : Bindings). by_entries s.bud.now s.companion.now s.target s.variables c.args.places.now q [] (number_choices (disjuncts s.bud.now) (disjuncts s.companion.now))) c.deref.ensures.value ∙ pairs_end s.bud.now s.companion.now s.target s.variables c.args.places.now c.args.made.now.items ∙ ap (λ (ns : List ℕ). by_pairs s.bud.now s.companion.now s.target s.variables c.args.places.now c.args.made.now.items (value_choices s.values.now ns)) (sym (nil_from_length c.args.rest.now none)) in
     subst (λ (zs : List Link). OnOk c.choose_covers.result (c.choose_covers.new.found.items ≡ take s.most (c.args.found.now.items ++ zs))) done c.choose_covers.ensures

@@ -4,11 +4,12 @@ use Rattle.std.proofs.lemmas.List.{reverse-append}
 use Rattle.std.proofs.lemmas.Option.{slice_get_within}
 use Rattle.trace_pairs.specs.declared.lasso.Step.{Step}
 use Rattle.trace_pairs.specs.declared.reach.Visit.{Visit}
-use Rattle.buchi_core.proofs.Lists.{get_within, get_one}
+use Rattle.buchi_core.proofs.Lists.{get_one}
 use Rattle.buchi_inclusion.specs.Table.{state_of, states_of}
 use Rattle.buchi_inclusion.specs.Decision.{IsWayBetween}
 use Rattle.buchi_inclusion.proofs.Deciding.{between_none, between_more}
 use Rattle.buchi_inclusion.proofs.decision.steps_to.Goals as goal
+use Rattle.list_facts.proofs.Places.{get_within}
 
 pub loop-at-init : goal.loop-at-init
 loop-at-init c =

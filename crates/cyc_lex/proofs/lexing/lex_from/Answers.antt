@@ -7,10 +7,11 @@ use Rattle.std.specs.Str.{chars}
 use Rattle.cyc_lex.specs.Placed.{placed}
 use Rattle.cyc_lex.specs.Lexing.{lex, token_at, ended, with_tokens}
 use Rattle.cyc_lex.specs.declared.place.Piece.TheVariants as pieces
-use Rattle.cyc_lex.proofs.Lexed.{IsNext, after-gap, after-token, at-stray, at-long, at-end, end-token, nil-bytes, with_tokens-err}
+use Rattle.cyc_lex.proofs.Lexed.{IsNext, after-gap, after-token, at-stray, at-long, at-end, end-token, with_tokens-err}
 use Rattle.cyc_lex.specs.Lexing.{comment_len}
 use Rattle.cyc_lex.proofs.Pieces.{skip}
 use Rattle.cyc_lex.proofs.lexing.lex_from.Goals as goal
+use Rattle.std.proofs.lemmas.List.{nil_from_length}
 
 pub loop-rest-preserved-in-Gap : goal.loop-rest-preserved-in-Gap
 loop-rest-preserved-in-Gap c =
@@ -79,7 +80,7 @@ returns c =
     let empty = eqb-true _ _ (sym c.loop-rest-test.ensures) in
     let e = at-end c.args.whole (lex c.args.whole c.args.place (comment_len c.args.comment (chars c.args.text.now)) (chars c.args.text.now)) c.loop-rest.out.items c.loop-rest.rest.now c.loop-rest.place c.loop-rest.invariant empty in
     let whole = ap (λ b. with_tokens (map placed c.loop-rest.out.items) (ended b c.loop-rest.place)) c.if-not-whole.false in
-    rw c.in_ok-push.ensures.items (end-token c.args.text.now c.loop-rest.out.items _ c.loop-rest.place (lex c.args.whole c.args.place (comment_len c.args.comment (chars c.args.text.now)) (chars c.args.text.now)) (sym whole ∙ e) (ap (token_at End c.loop-rest.place) (nil-bytes c.loop-rest.rest.now empty)))
+    rw c.in_ok-push.ensures.items (end-token c.args.text.now c.loop-rest.out.items _ c.loop-rest.place (lex c.args.whole c.args.place (comment_len c.args.comment (chars c.args.text.now)) (chars c.args.text.now)) (sym whole ∙ e) (ap (token_at End c.loop-rest.place) (nil_from_length c.loop-rest.rest.now empty)))
 
 pub loop-rest-init : goal.loop-rest-init
 loop-rest-init c = rw c.new-out.ensures.items (record {

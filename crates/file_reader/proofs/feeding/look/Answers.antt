@@ -2,8 +2,9 @@ use Rattle.std.proofs.Common.{List, [], ℕ, ◌++◌, ap, subst, ◌∙◌, ari
 use Rattle.piecewise_lex.specs.Valid.{IsValid}
 use Rattle.file_reader.specs.declared.held.Held.TheVariants as kinds
 use Rattle.file_reader.specs.Helds.{parts_of, IsKept, IsStopped}
-use Rattle.file_reader.proofs.HeldLaws.{ok-all, alive-first, alive-text, alive-led, alive-dies}
+use Rattle.file_reader.proofs.HeldLaws.{alive-first, alive-text, alive-led, alive-dies}
 use Rattle.file_reader.proofs.feeding.look.Goals as goal
+use Rattle.std.proofs.lemmas.Result.{IfOk-weaker}
 
 pub returns-then-not-valid : goal.returns-then-not-valid
 returns-then-not-valid c =
@@ -11,7 +12,7 @@ returns-then-not-valid c =
     let v = c.valid_front-valid.result in
     let fed = c.len-fed.result in
     let valid = subst (λ (b : List ℕ). IsValid b v) c.waiting.ensures c.valid_front-valid.ensures in
-    ok-all c.stopped.result (IsStopped c.first_bad.result fed) (IsKept (parts_of (kinds.Alive a)) [])
+    IfOk-weaker c.stopped.result (IsStopped c.first_bad.result fed) (IsKept (parts_of (kinds.Alive a)) [])
     (λ new h. alive-first a v c.first_bad.result fed new c.requires.alive valid c.if-not-valid.true (omega (arith, c.len-fed.ensures)) c.first_bad.ensures h) c.stopped.ensures
 
 pub returns-else-not-is_end : goal.returns-else-not-is_end
@@ -32,5 +33,5 @@ returns-in-Err c =
     let v = c.valid_front-valid.result in
     let fed = c.len-fed.result in
     let valid = subst (λ (b : List ℕ). IsValid b v) c.waiting.ensures c.valid_front-valid.ensures in
-    ok-all c.stopped-in-Err.result (IsStopped c.in-Err.stop fed) (IsKept (parts_of (kinds.Alive a)) [])
+    IfOk-weaker c.stopped-in-Err.result (IsStopped c.in-Err.stop fed) (IsKept (parts_of (kinds.Alive a)) [])
     (λ new h. alive-text a v c.in-Err.stop fed new c.requires.alive valid c.if-not-valid.false (omega (arith, c.len-fed.ensures)) c.in-Err.ensures h) c.stopped-in-Err.ensures

@@ -2,8 +2,9 @@ use Rattle.std.proofs.Common.{List, [], ℕ, ◌+◌, ◌++◌, ap, subst, ◌�
 use Rattle.piecewise_lex.specs.Valid.{IsValid}
 use Rattle.file_reader.specs.declared.held.Held.TheVariants as kinds
 use Rattle.file_reader.specs.Helds.{parts_of, IsKept, IsStopped}
-use Rattle.file_reader.proofs.HeldLaws.{ok-all, faulty-first, faulty-text, faulty-passes}
+use Rattle.file_reader.proofs.HeldLaws.{faulty-first, faulty-text, faulty-passes}
 use Rattle.file_reader.proofs.feeding.pass.Goals as goal
+use Rattle.std.proofs.lemmas.Result.{IfOk-weaker}
 
 pub returns-then-not-valid : goal.returns-then-not-valid
 returns-then-not-valid c =
@@ -11,7 +12,7 @@ returns-then-not-valid c =
     let v = c.valid_front-valid.result in
     let fed = f.place.offset + c.len.result in
     let valid = subst (λ (b : List ℕ). IsValid b v) c.deref.ensures.value c.valid_front-valid.ensures in
-    ok-all c.stopped.result (IsStopped c.first_bad.result fed) (IsKept (parts_of (kinds.Faulty f)) [])
+    IfOk-weaker c.stopped.result (IsStopped c.first_bad.result fed) (IsKept (parts_of (kinds.Faulty f)) [])
     (λ new h. faulty-first f v c.first_bad.result fed new valid c.if-not-valid.true (omega (arith, c.len.ensures)) c.first_bad.ensures h) c.stopped.ensures
 
 pub returns-in-Ok : goal.returns-in-Ok
@@ -26,5 +27,5 @@ returns c =
     let v = c.valid_front-valid.result in
     let fed = f.place.offset + c.len.result in
     let valid = subst (λ (b : List ℕ). IsValid b v) c.deref.ensures.value c.valid_front-valid.ensures in
-    ok-all c.stopped-in-Err.result (IsStopped c.in-Err.stop fed) (IsKept (parts_of (kinds.Faulty f)) [])
+    IfOk-weaker c.stopped-in-Err.result (IsStopped c.in-Err.stop fed) (IsKept (parts_of (kinds.Faulty f)) [])
     (λ new h. faulty-text f v c.in-Err.stop fed new valid c.if-not-valid.false (omega (arith, c.len.ensures)) c.in-Err.ensures h) c.stopped-in-Err.ensures

@@ -1,10 +1,9 @@
 use Rattle.std.proofs.Common.{◌≡◌, List, [], ℕ, true, sym, subst, ◌∙◌, arith, eqb-true}
 use Rattle.std.specs.Prelude.{map, take}
-use Rattle.std.proofs.lemmas.List.{take_all}
+use Rattle.std.proofs.lemmas.List.{take_all, nil_from_length}
 use Rattle.cyc_lex.specs.Cutting.{cut_text}
 use Rattle.cyc_lex.specs.Placed.{Placed}
 use Rattle.cyc_lex.specs.Word.{word_of}
-use Rattle.cyc_lex.proofs.Lexed.{nil-bytes}
 use Rattle.cyc_lex.specs.Lexing.{Stops}
 use Rattle.cyc_grammar.specs.Classes.{are_tokens}
 use Rattle.piecewise_lex.specs.Valid.{IsValid}
@@ -29,7 +28,7 @@ last_fault-requires-clause-words c =
     let v = c.valid_front-valid.result in
     let us = cut_text a.place a.comment v.text.now in
     let valid = subst (λ (b : List ℕ). IsValid b v) c.waiting.ensures c.valid_front-valid.ensures in
-    let none : v.tail.now ≡ [] = nil-bytes v.tail.now (eqb-true _ _ (sym c.is_empty.ensures ∙ c.if-not-is_empty.false)) in
+    let none : v.tail.now ≡ [] = nil_from_length v.tail.now (eqb-true _ _ (sym c.is_empty.ensures ∙ c.if-not-is_empty.false)) in
     let waits = sym (whole-rest a.place a.comment (waiting_of a) v valid none) ∙ c.in-Ok.ensures.0 in
     let all : take c.in-Ok.count us ≡ us = take_all c.in-Ok.count us (omega (arith, c.in-Ok.ensures.1)) in
     subst (λ (ts : List Placed). are_tokens (map word_of ts) ≡ true) (sym all) (wait-words a us c.requires.alive waits)
@@ -40,7 +39,7 @@ last_fault-requires-clause-few c =
     let v = c.valid_front-valid.result in
     let us = cut_text a.place a.comment v.text.now in
     let valid = subst (λ (b : List ℕ). IsValid b v) c.waiting.ensures c.valid_front-valid.ensures in
-    let none : v.tail.now ≡ [] = nil-bytes v.tail.now (eqb-true _ _ (sym c.is_empty.ensures ∙ c.if-not-is_empty.false)) in
+    let none : v.tail.now ≡ [] = nil_from_length v.tail.now (eqb-true _ _ (sym c.is_empty.ensures ∙ c.if-not-is_empty.false)) in
     let waits = sym (whole-rest a.place a.comment (waiting_of a) v valid none) ∙ c.in-Ok.ensures.0 in
     omega (arith, wait-few a us c.requires.alive waits, c.in-Ok.ensures.1, c.requires.room)
 
@@ -50,7 +49,7 @@ returns-in-Ok c =
     let v = c.valid_front-valid.result in
     let us = cut_text a.place a.comment v.text.now in
     let valid = subst (λ (b : List ℕ). IsValid b v) c.waiting.ensures c.valid_front-valid.ensures in
-    let none : v.tail.now ≡ [] = nil-bytes v.tail.now (eqb-true _ _ (sym c.is_empty.ensures ∙ c.if-not-is_empty.false)) in
+    let none : v.tail.now ≡ [] = nil_from_length v.tail.now (eqb-true _ _ (sym c.is_empty.ensures ∙ c.if-not-is_empty.false)) in
     let waits = sym (whole-rest a.place a.comment (waiting_of a) v valid none) ∙ c.in-Ok.ensures.0 in
     let all : take c.in-Ok.count us ≡ us = take_all c.in-Ok.count us (omega (arith, c.in-Ok.ensures.1)) in
     some-all c.last_fault.result (IsLast (reached_of a.awaited) a.tokens (take c.in-Ok.count us)) (EndsWith a)
@@ -61,5 +60,5 @@ returns-in-Err c =
     let a = c.args.alive.now in
     let v = c.valid_front-valid.result in
     let valid = subst (λ (b : List ℕ). IsValid b v) c.waiting.ensures c.valid_front-valid.ensures in
-    let none : v.tail.now ≡ [] = nil-bytes v.tail.now (eqb-true _ _ (sym c.is_empty.ensures ∙ c.if-not-is_empty.false)) in
+    let none : v.tail.now ≡ [] = nil_from_length v.tail.now (eqb-true _ _ (sym c.is_empty.ensures ∙ c.if-not-is_empty.false)) in
     alive-stop a c.in-Err.stop c.told_stop-in-Err.result c.requires.alive (subst (Stops c.in-Err.stop) (whole-rest a.place a.comment (waiting_of a) v valid none) c.in-Err.ensures) c.told_stop-in-Err.ensures

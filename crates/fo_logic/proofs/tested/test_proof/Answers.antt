@@ -4,15 +4,17 @@ use Rattle.std.specs.declared.alloc.Global.{Global}
 use Rattle.std.proofs.lemmas.List.{map-append}
 use Rattle.heap_formula.specs.Words.{Each}
 use Rattle.fo_formula.specs.declared.nodes.FoNode.{FoNode}
-use Rattle.fo_formula.proofs.Lists.{each_map, each_at}
 use Rattle.fo_table.specs.Nodes.{Edge, node_fault, edges_of}
 use Rattle.fo_nodes.specs.declared.node_tests.NodeAnswer.{NodeAnswer}
 use Rattle.fo_nodes.specs.Answers.{IsNodeAnswer}
 use Rattle.fo_nodes.specs.Files.{IsSmallSequent, IsReadNode}
-use Rattle.fo_logic.specs.Tested.{rows_of, first_rows}
+use Rattle.fo_logic.specs.Tested.{first_rows}
 use Rattle.fo_logic.specs.Verdicts.{IsRightBefore}
-use Rattle.fo_logic.proofs.TestLoops.{at_index, take_more, one_more}
+use Rattle.fo_logic.proofs.TestLoops.{one_more}
 use Rattle.fo_logic.proofs.tested.test_proof.Goals as goal
+use Rattle.formula_facts.proofs.AllMembers.{each_imply, each_at}
+use Rattle.list_facts.proofs.Places.{take_get, at_index}
+use Rattle.trace_pairs.specs.Turn.{lists_of}
 
 pub test_node-requires : goal.test_node-requires
 test_node-requires c =
@@ -23,7 +25,7 @@ test_node-requires c =
     let same : c.as_slice-nodes.result.now ≡ f.nodes = c.as_slice-nodes.ensures in
     let within = subst (λ (ns : List FoNode). v < length ns) same c.loop-v-test.true in
     let at = at_index f.nodes v n n within (sym (c.index-nodes-v.is ∙ ap (λ (ns : List FoNode). get_or ns v n) same)) in
-    let all = each_map (IsReadNode cs) (λ (m : FoNode). IsSmallSequent m.sequent) (λ m r. r.small) f.nodes c.requires.nodes in
+    let all = each_imply (IsReadNode cs) (λ (m : FoNode). IsSmallSequent m.sequent) (λ m r. r.small) f.nodes c.requires.nodes in
     record {
       definitions = c.requires.definitions;
       small = each_at (λ (m : FoNode). IsSmallSequent m.sequent) f.nodes v n at all;
@@ -68,12 +70,12 @@ loop-v-preserved c =
     let said = subst (λ (a : NodeAnswer). IsNodeAnswer a (node_fault f.theory f.nodes v n) (edges n)) c.in-Right.is told in
     let pushed = c.in_ok-push-in-Right.ensures.items in (
       omega (arith, ap length pushed, length-append c.loop-v.edges.items (c.in-Right.next ∷ []), inv.0),
-      ap rows_of pushed
+      ap lists_of pushed
           ∙ map-append (λ (r : Vec Edge Global). r.items) c.loop-v.edges.items (c.in-Right.next ∷ [])
           ∙ ap (λ rs. rs ++ c.in-Right.next.items ∷ []) inv.1
           ∙ ap (λ es. first_rows f v ++ es ∷ []) said.1
           ∙ sym (map-append edges (take v f.nodes) (n ∷ []))
-          ∙ ap (map edges) (sym (take_more f.nodes v n at)),
+          ∙ ap (map edges) (sym (take_get f.nodes v n at)),
       one_more f.nodes (λ u node. node_fault f.theory f.nodes u node ≡ None) v n at inv.2 said.0,
     )
 

@@ -2,9 +2,10 @@ use Rattle.derivations.specs.Effects.{IsEffect}
 use Rattle.fo_calculus.specs.Calculus.{sequent_of, calculus_of}
 use Rattle.fo_search.specs.Effects.{IsEffectOfLink}
 use Rattle.std.proofs.Common.{Some, sym, ap, ◌∙◌}
-use Rattle.fo_search.proofs.Small.{here_at, none_at, small_at}
+use Rattle.fo_search.proofs.Small.{here_at, small_at}
 use Rattle.fo_search.proofs.Steps.{ok_map, link_nowhere, link_effect}
 use Rattle.fo_search.proofs.effects.effect_of.Goals as goal
+use Rattle.std.proofs.lemmas.Option.{slice_get_past}
 
 pub effect_of_link-requires-clause-companion : goal.effect_of_link-requires-clause-companion
 effect_of_link-requires-clause-companion c =
@@ -12,7 +13,7 @@ effect_of_link-requires-clause-companion c =
 
 pub returns-in-None : goal.returns-in-None
 returns-in-None c =
-    link_nowhere c.args.theory.now c.args.made.now c.args.goal.now c.args.reason.now c.in-Link.link c.in-Link.is (none_at c.args.made.now c.in-Link.link.to c.in-None.ensures.lookup.3)
+    link_nowhere c.args.theory.now c.args.made.now c.args.goal.now c.args.reason.now c.in-Link.link c.in-Link.is (slice_get_past c.args.made.now c.in-Link.link.to c.in-None.ensures.lookup.3)
 
 pub returns-in-Some : goal.returns-in-Some
 returns-in-Some c =

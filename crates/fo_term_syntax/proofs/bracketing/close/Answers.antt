@@ -1,10 +1,10 @@
 use Rattle.std.proofs.Common.{◌≡◌, ◌++◌, ◌∷◌, [], length, refl, sym, ap, ◌∙◌, arith, append_assoc}
 use Rattle.std.specs.Prelude.{map}
-use Rattle.std.proofs.lemmas.List.{map_push}
+use Rattle.std.proofs.lemmas.List.{map_push, nil_from_length}
 use Rattle.cyc_grammar.proofs.WrittenTexts.{on-ok}
 use Rattle.fo_term_syntax.specs.Seen.{mark_seen}
 use Rattle.fo_term_syntax.specs.Brackets.{Closing, closings, behind_next}
-use Rattle.fo_term_syntax.proofs.CountLaws.{closed-all, closed-here, next-here, none-left}
+use Rattle.fo_term_syntax.proofs.CountLaws.{closed-all, closed-here, next-here}
 use Rattle.fo_term_syntax.proofs.bracketing.close.Goals as goal
 
 pub loop-init : goal.loop-init
@@ -33,9 +33,9 @@ loop-preserved c =
     )
 
 pub returns-clause-marks : goal.returns-clause-marks
-returns-clause-marks c = closed-all (map mark_seen c.loop.marks.items) c.loop.waits (map mark_seen c.args.marks.now.items ++ closings c.args.waits.now) (none-left c.loop.waits (omega (arith, c.loop-test.false, c.len-end.ensures, c.loop.invariant.1.1))) c.loop.invariant.0
+returns-clause-marks c = closed-all (map mark_seen c.loop.marks.items) c.loop.waits (map mark_seen c.args.marks.now.items ++ closings c.args.waits.now) (nil_from_length c.loop.waits (omega (arith, c.loop-test.false, c.len-end.ensures, c.loop.invariant.1.1))) c.loop.invariant.0
 
 pub returns-clause-waits : goal.returns-clause-waits
 returns-clause-waits c =
-    let none = none-left c.loop.waits (omega (arith, c.loop-test.false, c.len-end.ensures, c.loop.invariant.1.1)) in
+    let none = nil_from_length c.loop.waits (omega (arith, c.loop-test.false, c.len-end.ensures, c.loop.invariant.1.1)) in
     none ∙ ap behind_next (sym none) ∙ c.loop.invariant.1.0

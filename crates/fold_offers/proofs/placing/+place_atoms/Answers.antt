@@ -4,9 +4,10 @@ use Rattle.heap_formula.specs.declared.atoms.Spatial.{Spatial}
 use Rattle.heap_formula.specs.declared.proof_rules.Rule.{Rule}
 use Rattle.rule_table.specs.Tests.{has_number}
 use Rattle.fold_offers.specs.Folds.{Binding, fold_by, placed, bind_atom}
-use Rattle.fold_offers.proofs.Rest.{step_on, all_given, first_and_rest}
+use Rattle.fold_offers.proofs.Rest.{step_on, all_given}
 use Rattle.fold_offers.proofs.placing.+place_atoms.Goals.{then-not-is_among+in_ok-bound+in-Some+in_ok-places+in_ok-place_atoms, then-not-is_among+in_ok-bound+in_default-2, else-not-is_among}
 use Rattle.fold_offers.proofs.placing.+place_atoms.Goals as goal
+use Rattle.list_facts.proofs.Parts.{first_and_rest}
 
 pub loop-i-preserved : goal.loop-i-preserved
 loop-i-preserved t c =

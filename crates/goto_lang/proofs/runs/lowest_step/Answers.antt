@@ -3,9 +3,9 @@ use Rattle.std.proofs.lemmas.Result.{IfOk-weaker}
 use Rattle.heap_formula.specs.declared.commands.Command.TheVariants.{New}
 use Rattle.heap_formula.specs.Programs.{command_bound}
 use Rattle.goto_lang.specs.States.{state_of}
-use Rattle.goto_lang.proofs.Moves.{bound_at}
 use Rattle.goto_lang.proofs.Ends.{zero_takes, makes_lowest}
 use Rattle.goto_lang.proofs.runs.lowest_step.Goals as goal
+use Rattle.formula_facts.proofs.Commands.{bound_at}
 
 pub perform-requires-clause-variables : goal.perform-requires-clause-variables
 perform-requires-clause-variables c =

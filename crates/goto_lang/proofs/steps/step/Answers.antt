@@ -2,8 +2,9 @@ use Rattle.std.proofs.Common.{◌≤◌, sym, subst, ℕ}
 use Rattle.std.proofs.lemmas.Result.{IfOk-weaker}
 use Rattle.heap_formula.specs.Programs.{command_bound}
 use Rattle.goto_lang.specs.States.{state_of}
-use Rattle.goto_lang.proofs.Moves.{bound_at, exactly, makes_step, makes_stay, new_takes}
+use Rattle.goto_lang.proofs.Moves.{exactly, makes_step, makes_stay, new_takes}
 use Rattle.goto_lang.proofs.steps.step.Goals as goal
+use Rattle.formula_facts.proofs.Commands.{bound_at}
 
 pub perform-requires-clause-variables : goal.perform-requires-clause-variables
 perform-requires-clause-variables c =

@@ -10,11 +10,13 @@ use Rattle.proof_check.specs.declared.node_tests.NodeAnswer.{NodeAnswer}
 use Rattle.proof_check.specs.Answers.{IsNodeAnswer}
 use Rattle.proof_check.specs.Files.{node_of, nodes_of}
 use Rattle.proof_check.specs.Laws.{file_cases}
-use Rattle.proof_check.specs.Tested.{rows_of, first_rows, IsSmallBefore}
+use Rattle.proof_check.specs.Tested.{first_rows, IsSmallBefore}
 use Rattle.proof_check.specs.Verdicts.{IsRightBefore}
 use Rattle.proof_check.proofs.Tables.{has_fields}
-use Rattle.proof_check.proofs.TestLoops.{node_at, take_more, one_more}
+use Rattle.proof_check.proofs.TestLoops.{node_at, one_more}
 use Rattle.proof_check.proofs.tested.test_file.Goals as goal
+use Rattle.list_facts.proofs.Places.{take_get}
+use Rattle.trace_pairs.specs.Turn.{lists_of}
 
 pub test_node-requires : goal.test_node-requires
 test_node-requires c = file_cases c.args.file.now
@@ -58,12 +60,12 @@ loop-v-preserved c =
     let few = subst (λ (a : SymbolicHeap). length a.spatial ≤ 32) c.antecedent.ensures c.spatial-atoms.ensures.at_most in
     let pushed = c.in_ok-push-in-Right.ensures.items in (
       omega (arith, ap length pushed, length-append c.loop-v.edges.items (c.in-Right.next ∷ []), inv.0),
-      ap rows_of pushed
+      ap lists_of pushed
           ∙ map-append (λ (r : Vec Edge Global). r.items) c.loop-v.edges.items (c.in-Right.next ∷ [])
           ∙ ap (λ rs. rs ++ c.in-Right.next.items ∷ []) inv.1
           ∙ ap (λ es. first_rows f v ++ es ∷ []) said.1
           ∙ sym (map-append edges (take v nodes) (node_of n ∷ []))
-          ∙ ap (map edges) (sym (take_more nodes v (node_of n) at)),
+          ∙ ap (map edges) (sym (take_get nodes v (node_of n) at)),
       one_more nodes (λ u node. node_fault f.defs.most f.defs.list f.program nodes u node ≡ None) v (node_of n) at inv.2 said.0,
       one_more nodes (λ u node. length (antecedent node.judgement).spatial ≤ 32) v (node_of n) at inv.3 few,
     )

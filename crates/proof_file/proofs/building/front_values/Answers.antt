@@ -1,17 +1,13 @@
-use Rattle.std.proofs.Common.{◌≡◌, ◌≤◌, List, length, map, ap, arith}
+use Rattle.std.proofs.Common.{map, arith}
 use Rattle.std.proofs.lemmas.List.{length-map}
-use Rattle.heap_reader.specs.Trees.{Heading}
 use Rattle.heap_reader.proofs.Programs.{lines_are_program}
-use Rattle.proof_syntax.specs.Trees.{File, definition_of}
+use Rattle.proof_syntax.specs.Trees.{definition_of}
 use Rattle.proof_file.specs.Building.{front_of}
-use Rattle.proof_file.specs.Flaws.{heading, headings, variable_flaw, first_line}
+use Rattle.proof_file.specs.Flaws.{variable_flaw, first_line}
 use Rattle.proof_file.specs.Spans.{variable_span}
 use Rattle.proof_file.specs.Values.{variable_value}
-use Rattle.proof_file.proofs.Fitting.{variable_few, file_parts, file_small}
+use Rattle.proof_file.proofs.Fitting.{variable_few, file_parts, file_small, few_heads}
 use Rattle.proof_file.proofs.building.front_values.Goals as goal
-
-few_heads : (heads : List Heading) (f : File) → heads ≡ headings f.definitions → length f.definitions ≤ 4096 → length heads ≤ 4096
-few_heads heads f known few = omega (arith, few, ap length known, length-map f.definitions heading)
 
 pub definition_values-requires-clause-small : goal.definition_values-requires-clause-small
 definition_values-requires-clause-small c =

@@ -1,21 +1,16 @@
-use Rattle.std.proofs.Common.{◌≡◌, ◌≤◌, List, length, map, None, refl, sym, ap, ◌∙◌, subst, arith}
-use Rattle.std.proofs.lemmas.List.{length-map}
+use Rattle.std.proofs.Common.{List, map, None, refl, sym, ap, ◌∙◌, subst}
 use Rattle.heap_formula.specs.Words.{Each}
-use Rattle.heap_reader.specs.Trees.{Heading}
 use Rattle.pred_syntax.specs.declared.tree.DefinitionTree.{DefinitionTree}
 use Rattle.proof_syntax.specs.declared.tree.NodeTree.{NodeTree}
 use Rattle.pred_defs.specs.Book.{DefinitionBook}
-use Rattle.proof_syntax.specs.Trees.{File, definition_of, node_of, file_of}
+use Rattle.proof_syntax.specs.Trees.{definition_of, node_of, file_of}
 use Rattle.proof_file.specs.Building.{front_of, IsSaid}
 use Rattle.proof_file.specs.Small.{IsSmallNode}
-use Rattle.proof_file.specs.Flaws.{heading, headings, file_flaw}
+use Rattle.proof_file.specs.Flaws.{headings, file_flaw}
 use Rattle.proof_file.specs.Values.{definition_value, program_value, node_value}
-use Rattle.proof_file.proofs.Fitting.{file_small, front_right}
+use Rattle.proof_file.proofs.Fitting.{file_small, front_right, few_heads}
 use Rattle.proof_file.proofs.SpanLaws.{nodes_some}
 use Rattle.proof_file.proofs.reading.file_of_tree.Goals as goal
-
-few_heads : (heads : List Heading) (f : File) → heads ≡ headings f.definitions → length f.definitions ≤ 4096 → length heads ≤ 4096
-few_heads heads f known few = omega (arith, few, ap length known, length-map f.definitions heading)
 
 pub front_values-requires-clause-known : goal.front_values-requires-clause-known
 front_values-requires-clause-known c = c.requires.known ∙ ap (λ (ds : List DefinitionTree). headings (map definition_of ds)) (sym c.deref.ensures.value)

@@ -1,8 +1,9 @@
 use Rattle.std.proofs.Common.{◌≡◌, ◌∙◌, suc, length, sym, ap, subst, arith}
 use Rattle.std.proofs.lemmas.Bool.{eqb-true}
 use Rattle.sat_pairs.specs.Growth.{pairs_for}
-use Rattle.sat_pairs.proofs.Steps.{Stepped, fold_within, fold_more, fold_none, no_atoms}
+use Rattle.sat_pairs.proofs.Steps.{Stepped, fold_within, fold_more, fold_none}
 use Rattle.sat_pairs.proofs.cases.+fold.Goals as goal
+use Rattle.std.proofs.lemmas.List.{nil_from_length}
 
 pub fold-requires : goal.fold-requires
 fold-requires t c =
@@ -29,4 +30,4 @@ returns t c =
 
 pub returns-then-is_empty : goal.returns-then-is_empty
 returns-then-is_empty t c =
-    fold_none c.args.table.now c.args.k c.args.atoms.now c.args.states.keys (no_atoms c.args.atoms.now (eqb-true (length c.args.atoms.now) 0 (sym c.is_empty.ensures ∙ c.if-is_empty.true)))
+    fold_none c.args.table.now c.args.k c.args.atoms.now c.args.states.keys (nil_from_length c.args.atoms.now (eqb-true (length c.args.atoms.now) 0 (sym c.is_empty.ensures ∙ c.if-is_empty.true)))

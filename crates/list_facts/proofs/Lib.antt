@@ -1,0 +1,5 @@
+pub mod Bits
+pub mod Options
+pub mod Parts
+pub mod Places
+pub mod Tests
