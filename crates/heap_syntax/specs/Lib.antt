@@ -1,4 +1,6 @@
 pub mod Words
 pub mod Versions
 pub mod Trees
+pub mod Keeping
 pub mod Grammar
+pub mod Members

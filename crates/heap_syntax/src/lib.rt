@@ -4,6 +4,7 @@
 mod atom_writing;
 mod form;
 mod heap_writing;
+mod keep;
 mod mark;
 mod read_atoms;
 mod read_heaps;
@@ -13,9 +14,10 @@ mod word;
 
 pub use form::{AtomForm, TermForm, WrittenForm};
 pub use heap_writing::{write_heap, write_heaps};
+pub use keep::Keep;
 pub use mark::Mark;
 pub use read_atoms::{arguments, fields, sign, spatial};
-pub use read_heaps::{heap, heaps};
+pub use read_heaps::{heap, heaps, kept_heap, kept_heaps};
 pub use tree::{HeapTree, PureTree, SpatialTree};
 pub use version::{Version, read_version, write_version};
 pub use word::{free_name, reserved_words};
