@@ -1,4 +1,5 @@
 pub mod Words
+pub mod Numbers
 pub mod Versions
 pub mod Trees
 pub mod Keeping
