@@ -1,13 +1,13 @@
 -- What is kept of a definition that is read is its front.
 use Rattle.std.proofs.Common.{ℕ, Bool, false, List, refl}
-use Rattle.cyc_grammar.specs.Syntax.{Class, one, seq, after, before}
+use Rattle.cyc_grammar.specs.Syntax.{Class, one}
 use Rattle.cyc_grammar.specs.Classes.{number}
 use Rattle.heap_syntax.specs.declared.keep.Keep.{Keep}
 use Rattle.heap_syntax.specs.Words.{pred_word, semicolon, bar, opening, closing, opening_brace, closing_brace, free_name}
 use Rattle.heap_syntax.specs.Grammar.{Any}
 use Rattle.heap_syntax.proofs.Fronts as shared
 use Rattle.heap_syntax.proofs.Fronts.{Fronts, same-front, seq-front, shaped-front, after-front, before-front}
-use Rattle.pred_syntax.specs.Trees.{Heap, Definition}
+use Rattle.pred_syntax.specs.Trees.{Heap}
 use Rattle.pred_syntax.specs.Keeping.{heap_front, heaps_front, definition_front}
 use Rattle.pred_syntax.specs.Grammar.{terms, terms_of, spatial, heap, kept_heap, heaps, kept_heaps, to_definition, from_definition, cases, kept_cases, definition, kept_definition}
 

@@ -1,6 +1,5 @@
 -- What is kept of a statement that is read is its front.
-use Rattle.std.proofs.Common.{◌≡◌, refl, inl, inr, ◌⊎◌, ap, sym, ◌∙◌, List, Ok, Err}
-use Rattle.cyc_lex.specs.Word.{Word}
+use Rattle.std.proofs.Common.{◌≡◌, refl, inl, inr, ◌⊎◌, ap, ◌∙◌, Ok, Err}
 use Rattle.cyc_grammar.specs.Syntax.{Reading, ◌>>=◌, Syntax, alt, is_one}
 use Rattle.command_syntax.specs.Grammar as commands
 use Rattle.heap_syntax.specs.declared.keep.Keep.{Keep}

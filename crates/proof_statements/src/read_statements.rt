@@ -61,9 +61,7 @@ pub fn kept_pred_or_later<'a>(
     if cursor.is_keyword_next("pred") {
         return Ok(PredOrLater::Pred(kept_definition(alloc, keep, cursor)?));
     }
-    Ok(PredOrLater::Later(kept_line_or_node(
-        alloc, keep, version, cursor,
-    )?))
+    Ok(PredOrLater::Later(kept_line_or_node(alloc, keep, version, cursor)?))
 }
 
 /// Reads a node, or the last statement; so much is kept of its lists of heaps and of theirs.

@@ -1,7 +1,6 @@
 -- What is kept of a node that is read is its front.
 use Rattle.std.proofs.Common.{◌≡◌, ℕ, Bool, true, false, List, Ok, Err, refl, inl, inr, ◌⊎◌}
-use Rattle.cyc_lex.specs.Word.{Word}
-use Rattle.cyc_grammar.specs.Syntax.{Reading, ◌>>=◌, Syntax, Class, read_class, one, seq, after, before, told, headed, is_one}
+use Rattle.cyc_grammar.specs.Syntax.{Reading, ◌>>=◌, read_class, one, seq, after, told, headed, is_one}
 use Rattle.cyc_grammar.specs.Classes.{number}
 use Rattle.heap_syntax.specs.declared.keep.Keep.{Keep}
 use Rattle.heap_syntax.specs.declared.keep.Keep.TheVariants.{All}
@@ -10,7 +9,7 @@ use Rattle.heap_syntax.proofs.Fronts.{mapped, Fronts, same-front, seq-front, bot
 use Rattle.pred_syntax.proofs.DefinitionFronts.{heap-front, heaps-front}
 use Rattle.proof_syntax.specs.declared.reason_word.ReasonWord.{ReasonWord}
 use Rattle.proof_syntax.specs.declared.reason_word.ReasonWord.TheVariants as words
-use Rattle.proof_syntax.specs.Trees.{Heap, Entailment, Judgement, Reason, Node}
+use Rattle.proof_syntax.specs.Trees.{Heap, Entailment, Judgement, Reason}
 use Rattle.proof_syntax.specs.Keeping.{heap_front, heaps_front, entailment_front, judgement_front, reason_front, node_front}
 use Rattle.proof_syntax.specs.Grammar.{Any, or_word, by_word, turnstile, from_word, given_word, node_word, terms, heap, kept_heap, to_entailment, from_entailment, disjuncts, kept_disjuncts, entailment_over, entailment, kept_entailment, state_over, state, kept_state, to_judgement, from_judgement, judgement_over, judgement, kept_judgement, bracketed, cut, kept_cut, Parts, parts_over, parts, kept_parts, made_of, to_reason, from_reason, reason_word, reason_over, reason, kept_reason, premises, to_node, from_node, node_over, node, kept_node}
 

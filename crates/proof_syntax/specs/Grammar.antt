@@ -189,22 +189,22 @@ Parts words.Link = LinkData
 
 -- the rule Cut has this after it
 abbrev pub parts_over : Syntax (List ℕ × Heap) → (w : ReasonWord) → Syntax (Parts w)
-parts_over cut words.Absurd = nothing
-parts_over cut words.Rewrite = rewrite
-parts_over cut words.Split = split
-parts_over cut words.Distinct = two_numbers
-parts_over cut words.Weaken = one number
-parts_over cut words.Unfold = one number
-parts_over cut words.Cut = cut
-parts_over cut words.Done = nothing
-parts_over cut words.Choose = one number
-parts_over cut words.PureRight = one number
-parts_over cut words.Instantiate = instantiate
-parts_over cut words.Frame = two_numbers
-parts_over cut words.UnfoldRight = two_numbers
-parts_over cut words.Exec = nothing
-parts_over cut words.Drop = one number
-parts_over cut words.Link = link
+parts_over behind_cut words.Absurd = nothing
+parts_over behind_cut words.Rewrite = rewrite
+parts_over behind_cut words.Split = split
+parts_over behind_cut words.Distinct = two_numbers
+parts_over behind_cut words.Weaken = one number
+parts_over behind_cut words.Unfold = one number
+parts_over behind_cut words.Cut = behind_cut
+parts_over behind_cut words.Done = nothing
+parts_over behind_cut words.Choose = one number
+parts_over behind_cut words.PureRight = one number
+parts_over behind_cut words.Instantiate = instantiate
+parts_over behind_cut words.Frame = two_numbers
+parts_over behind_cut words.UnfoldRight = two_numbers
+parts_over behind_cut words.Exec = nothing
+parts_over behind_cut words.Drop = one number
+parts_over behind_cut words.Link = link
 
 unfoldable pub parts : (w : ReasonWord) → Syntax (Parts w)
 parts w = parts_over cut w

@@ -81,9 +81,7 @@ fn kept_judgement<'a>(
         let (line, heap) = kept_state(alloc, keep, cursor)?;
         return Ok(JudgementTree::From(line, heap));
     }
-    Ok(JudgementTree::Entailment(kept_entailment(
-        alloc, keep, cursor,
-    )?))
+    Ok(JudgementTree::Entailment(kept_entailment(alloc, keep, cursor)?))
 }
 
 #[tactic(auto, unfolding(crate::specs::Grammar::premises))]

@@ -1,7 +1,6 @@
-use Rattle.std.proofs.Common.{subst, ◌⊎◌}
+use Rattle.std.proofs.Common.{subst}
 use Rattle.cyc_grammar.specs.Syntax.{Syntax}
 use Rattle.cyc_grammar.specs.Giving.{Gives}
-use Rattle.proof_syntax.specs.Trees.{Definition, Line, Node}
 use Rattle.proof_statements.specs.Trees.{pred_or_later_of}
 use Rattle.proof_statements.specs.Left.{Preds, Statement}
 use Rattle.proof_statements.proofs.StatementFronts.{whole-statement}
