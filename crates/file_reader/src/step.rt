@@ -9,7 +9,8 @@ use cyc_grammar::{Cursor, Refusal};
 use cyc_lex::OutOfMemory;
 use heap_syntax::{Keep, Version};
 use proof_statements::{
-    LineOrNode, NodeOrEnd, PredOrLater, first_statement, kept_line_or_node, kept_node_or_end, kept_pred_or_later,
+    LineOrNode, NodeOrEnd, PredOrLater, first_statement, kept_line_or_node, kept_node_or_end,
+    kept_pred_or_later,
 };
 use std::alloc::Global;
 
@@ -60,11 +61,7 @@ fn after_line(
     }
 }
 
-fn after_node(
-    alloc: Global,
-    keep: Keep,
-    cursor: &mut Cursor<'_, '_>,
-) -> Result<Awaited, Refusal>
+fn after_node(alloc: Global, keep: Keep, cursor: &mut Cursor<'_, '_>) -> Result<Awaited, Refusal>
     ensures { Gives (λ n. (reached_of n, cursor.new)) result (kept_next_read keep (reached_of Awaited.Nodes) cursor.old) }
 {
     match kept_node_or_end(alloc, keep, cursor)? {

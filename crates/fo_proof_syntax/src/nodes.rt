@@ -12,8 +12,8 @@ use crate::write_reasons::write_reason;
 use cyc_grammar::{Cursor, Refusal};
 use cyc_lex::WordWriter;
 use cyc_memory::OutOfMemory;
-use heap_syntax::{more_numbers, write_numbers};
 use fo_problem_syntax::{Item, more_statements, sequent, write_sequent, write_statements};
+use heap_syntax::{more_numbers, write_numbers};
 use std::alloc::Global;
 
 #[tactic(auto, unfolding(crate::specs::Grammar::premises))]

@@ -12,8 +12,8 @@ use crate::reason_word::{ReasonWord, side_from_text};
 use crate::term_lists::{entries, terms};
 use crate::tree::{LinkTree, ReasonTree, SideTree};
 use cyc_grammar::{Cursor, Refusal};
-use heap_syntax::more_numbers;
 use fo_term_syntax::{SignTree, atom};
+use heap_syntax::more_numbers;
 use std::alloc::Global;
 
 fn numbers(alloc: Global, cursor: &mut Cursor<'_, '_>) -> Result<Vec<u32>, Refusal>

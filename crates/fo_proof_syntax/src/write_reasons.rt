@@ -10,8 +10,8 @@ use crate::term_lists::{write_entries, write_terms};
 use crate::tree::{LinkTree, ReasonTree};
 use cyc_lex::WordWriter;
 use cyc_memory::OutOfMemory;
-use heap_syntax::write_numbers;
 use fo_term_syntax::{SignTree, write_atom};
+use heap_syntax::write_numbers;
 use std::alloc::Global;
 
 #[tactic(auto, using(cyc_lex::proofs::WritingLaws::write_all_on), unfolding(crate::specs::Grammar::bracketed, cyc_lex::specs::Writing::write_all))]
