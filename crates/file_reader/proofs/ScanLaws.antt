@@ -15,8 +15,11 @@ use Rattle.cyc_grammar.proofs.Laws.{one-law}
 use Rattle.cyc_grammar.proofs.ClassLaws.{the_end-law}
 use Rattle.proof_syntax.specs.Trees.{File}
 use Rattle.proof_syntax.specs.Grammar.{file}
-use Rattle.proof_statements.specs.Left.{Reached, At, Ended, Left, Statement as Read, statement_of, next, join, joined}
+use Rattle.proof_statements.specs.Left.{Reached, At, Ended, Left, Statement as Read, statement_of, statement_front, next, join, joined}
 use Rattle.proof_statements.proofs.LeftLaws.{statement-law}
+use Rattle.proof_statements.proofs.StatementFronts.{kept-front, next-front}
+use Rattle.heap_syntax.specs.declared.keep.Keep.{Keep}
+use Rattle.heap_syntax.proofs.Fronts.{mapped}
 use Rattle.cyc_lex.specs.declared.place.Place.{Place}
 use Rattle.piecewise_lex.specs.declared.spans.Span.{Span}
 use Rattle.piecewise_lex.specs.Spans.{Ends, IsSpan, front_tokens}
@@ -30,12 +33,21 @@ use Rattle.file_reader.specs.declared.step.Step.TheVariants as steps
 use Rattle.cyc_lex.specs.declared.fault.ReadFault.TheVariants as faults
 use Rattle.file_reader.specs.Outcomes.{at_token, syntax_fault}
 use Rattle.file_reader.specs.Steps.{Leads}
-use Rattle.file_reader.specs.Scans.{reached_of, lead, nothing_behind, next_read, LeadsOn, DiesOn, IsDead, IsStep, IsRefused, TellsDead, HasDead, Finds, IsScan}
+use Rattle.file_reader.specs.Scans.{reached_of, lead, nothing_behind, next_read, kept_next_read, LeadsOn, DiesOn, IsDead, IsStep, IsRefused, TellsDead, HasDead, Finds, IsScan}
 use Rattle.file_reader.proofs.Beginning.{lead-more, lead-fault}
 use Rattle.file_reader.proofs.StepLaws.{fault-within}
 use Rattle.file_reader.proofs.Tokens.{slice-take, syntax-later}
 
 -- ---- one statement
+
+-- where a statement leads is seen of what is kept of it
+pub kept-next : (k : Keep) (r : Reached) (ws : List Word) → kept_next_read k r ws ≡ next_read r ws
+kept-next k Ended ws = refl
+kept-next k (At p) ws = ap (λ (q : Reading (Read p)). q >>= lead p) ((kept-front k p).reads ws) ∙ by ((statement_of p).read ws)
+  where
+    by : (q : Reading (Read p)) → ((q >>= mapped (statement_front k p)) >>= lead p) ≡ (q >>= lead p)
+    by (Ok x) = ap (λ (s : Reached). Ok (s, x.1)) (next-front k p x.0)
+    by (Err n) = refl
 
 abbrev reached_in : Reached → Reading Reached → Reached
 reached_in d (Ok x) = x.0

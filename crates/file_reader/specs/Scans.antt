@@ -11,10 +11,11 @@ use Rattle.cyc_grammar.specs.Syntax.{Reading, ◌>>=◌, read_class}
 use Rattle.cyc_grammar.specs.Classes.{the_end}
 use Rattle.cyc_grammar.specs.declared.cursor.Refusal.{Refusal}
 use Rattle.cyc_grammar.specs.declared.cursor.Refusal.TheVariants as refusals
+use Rattle.heap_syntax.specs.declared.keep.Keep.{Keep}
 use Rattle.piecewise_lex.specs.Taking.{reading, tokens_in, HasTaken}
 use Rattle.proof_syntax.specs.Trees.{File}
 use Rattle.proof_syntax.specs.Grammar.{file}
-use Rattle.proof_statements.specs.Left.{Part, First, Preds, Lines, Nodes, Reached, At, Ended, Left, Statement, statement_of, next}
+use Rattle.proof_statements.specs.Left.{Part, First, Preds, Lines, Nodes, Reached, At, Ended, Left, Statement, statement_of, kept_statement, next}
 use Rattle.file_reader.specs.declared.awaited.Awaited.{Awaited}
 use Rattle.file_reader.specs.declared.awaited.Awaited.TheVariants as awaited
 use Rattle.file_reader.specs.declared.step.Step.{Step}
@@ -43,6 +44,11 @@ nothing_behind x = Err 0
 abbrev pub next_read : Reached → List Word → Reading Reached
 next_read (At p) ws = (statement_of p).read ws >>= lead p
 next_read Ended ws = read_class the_end ws >>= nothing_behind
+
+-- the same, where so much is kept of a statement as it is read
+abbrev pub kept_next_read : Keep → Reached → List Word → Reading Reached
+kept_next_read k (At p) ws = (kept_statement k p).read ws >>= lead p
+kept_next_read k Ended ws = read_class the_end ws >>= nothing_behind
 
 -- whatever words stand before, which lead to the one part, these lead on to the other
 abbrev pub LeadsOn : Reached → List Word → Reached → Type 0

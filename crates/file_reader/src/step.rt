@@ -2,16 +2,20 @@
 
 ghost use Rattle.std.specs.Prelude.{◌≡◌, IfOk};
 ghost use Rattle.cyc_grammar.specs.Giving.{Gives};
-ghost use Rattle.file_reader.specs.Scans.{reached_of, next_read, IsRefused, IsStep};
+ghost use Rattle.file_reader.specs.Scans.{reached_of, next_read, kept_next_read, IsRefused, IsStep};
 
 use crate::awaited::Awaited;
 use cyc_grammar::{Cursor, Refusal};
 use cyc_lex::OutOfMemory;
-use heap_syntax::Version;
+use heap_syntax::{Keep, Version};
 use proof_statements::{
-    LineOrNode, NodeOrEnd, PredOrLater, first_statement, line_or_node, node_or_end, pred_or_later,
+    LineOrNode, NodeOrEnd, PredOrLater, first_statement, kept_line_or_node, kept_node_or_end,
+    kept_pred_or_later,
 };
 use std::alloc::Global;
+
+/// The trees of statements are dropped, so little need be kept of their lists, which may be of any length.
+const KEPT: Keep = Keep::Beyond(0);
 
 /// What tokens come to where a statement is to come: they are one, and this may come next; the first dead one of them has so
 /// many to the end; or they may go on.
@@ -30,12 +34,13 @@ fn after_first(cursor: &mut Cursor<'_, '_>) -> Result<Awaited, Refusal>
 
 fn after_pred(
     alloc: Global,
+    keep: Keep,
     version: Version,
     cursor: &mut Cursor<'_, '_>,
 ) -> Result<Awaited, Refusal>
-    ensures { Gives (λ n. (reached_of n, cursor.new)) result (next_read (reached_of (Awaited.Preds version)) cursor.old) }
+    ensures { Gives (λ n. (reached_of n, cursor.new)) result (kept_next_read keep (reached_of (Awaited.Preds version)) cursor.old) }
 {
-    match pred_or_later(alloc, version, cursor)? {
+    match kept_pred_or_later(alloc, keep, version, cursor)? {
         PredOrLater::Pred(_) => Ok(Awaited::Preds(version)),
         PredOrLater::Later(LineOrNode::Line(_)) => Ok(Awaited::Lines(version)),
         PredOrLater::Later(LineOrNode::Node(_)) => Ok(Awaited::Nodes),
@@ -44,21 +49,22 @@ fn after_pred(
 
 fn after_line(
     alloc: Global,
+    keep: Keep,
     version: Version,
     cursor: &mut Cursor<'_, '_>,
 ) -> Result<Awaited, Refusal>
-    ensures { Gives (λ n. (reached_of n, cursor.new)) result (next_read (reached_of (Awaited.Lines version)) cursor.old) }
+    ensures { Gives (λ n. (reached_of n, cursor.new)) result (kept_next_read keep (reached_of (Awaited.Lines version)) cursor.old) }
 {
-    match line_or_node(alloc, version, cursor)? {
+    match kept_line_or_node(alloc, keep, version, cursor)? {
         LineOrNode::Line(_) => Ok(Awaited::Lines(version)),
         LineOrNode::Node(_) => Ok(Awaited::Nodes),
     }
 }
 
-fn after_node(alloc: Global, cursor: &mut Cursor<'_, '_>) -> Result<Awaited, Refusal>
-    ensures { Gives (λ n. (reached_of n, cursor.new)) result (next_read (reached_of Awaited.Nodes) cursor.old) }
+fn after_node(alloc: Global, keep: Keep, cursor: &mut Cursor<'_, '_>) -> Result<Awaited, Refusal>
+    ensures { Gives (λ n. (reached_of n, cursor.new)) result (kept_next_read keep (reached_of Awaited.Nodes) cursor.old) }
 {
-    match node_or_end(alloc, cursor)? {
+    match kept_node_or_end(alloc, keep, cursor)? {
         NodeOrEnd::Node(_) => Ok(Awaited::Nodes),
         NodeOrEnd::End => Ok(Awaited::Ended),
     }
@@ -74,16 +80,17 @@ fn after_end(cursor: &mut Cursor<'_, '_>) -> Result<Awaited, Refusal>
 
 fn after_statement(
     alloc: Global,
+    keep: Keep,
     awaited: Awaited,
     cursor: &mut Cursor<'_, '_>,
 ) -> Result<Awaited, Refusal>
-    ensures { Gives (λ n. (reached_of n, cursor.new)) result (next_read (reached_of awaited) cursor.old) }
+    ensures { Gives (λ n. (reached_of n, cursor.new)) result (kept_next_read keep (reached_of awaited) cursor.old) }
 {
     match awaited {
         Awaited::First => after_first(cursor),
-        Awaited::Preds(version) => after_pred(alloc, version, cursor),
-        Awaited::Lines(version) => after_line(alloc, version, cursor),
-        Awaited::Nodes => after_node(alloc, cursor),
+        Awaited::Preds(version) => after_pred(alloc, keep, version, cursor),
+        Awaited::Lines(version) => after_line(alloc, keep, version, cursor),
+        Awaited::Nodes => after_node(alloc, keep, cursor),
         Awaited::Ended => after_end(cursor),
     }
 }
@@ -112,7 +119,7 @@ pub fn take_step(
     ensures { IfOk result (IsStep (reached_of awaited) cursor.entry) }
 {
     let mut cursor = cursor;
-    match after_statement(alloc, awaited, &mut cursor) {
+    match after_statement(alloc, KEPT, awaited, &mut cursor) {
         Ok(next) => {
             if cursor.left() > 0 {
                 return Ok(Step::Open);

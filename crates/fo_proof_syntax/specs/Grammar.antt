@@ -4,6 +4,7 @@ use Rattle.std.proofs.Common.{inl, inr}
 use Rattle.cyc_lex.specs.Word.{Word}
 use Rattle.cyc_grammar.specs.Syntax.{Reading, ◌>>=◌, Syntax, one, seq, alt, many, shaped, after, before, headed, is_one, uncons, or_empty}
 use Rattle.cyc_grammar.specs.Classes.{the_end, number}
+unfoldable pub use Rattle.heap_syntax.specs.Numbers.{numbers}
 use Rattle.heap_syntax.specs.Grammar.{Any, cons, IsSome}
 use Rattle.heap_syntax.specs.Words.{last_word, cyclist_word, comma, semicolon, assign, opening_brace, closing_brace}
 use Rattle.fo_term_syntax.specs.Words.{dollar}
@@ -20,9 +21,6 @@ use Rattle.fo_proof_syntax.specs.Words.{node_word, by_word, to_word, fo_word, op
 use Rattle.fo_proof_syntax.specs.Trees.{Entry, LinkData, Reason, Axiom, Refl, Clash, Decompose, Replace, WeakenLeft, WeakenRight, Contract, Unfold, Cut, Right, Link, Node, File}
 
 -- ---- the parts of a reason
-
-unfoldable pub numbers : Syntax (List ℕ)
-numbers = many (is_one number) (one number)
 
 -- "[" { number } "]"
 unfoldable pub bracketed : Syntax (List ℕ)

@@ -4,7 +4,6 @@
 
 mod files;
 mod nodes;
-mod number_list;
 mod read_reasons;
 mod reason_word;
 mod term_lists;

@@ -6,7 +6,6 @@ ghost use Rattle.cyc_grammar.specs.Giving.{Gives};
 ghost use Rattle.fo_proof_syntax.specs.Grammar.{premises, node, nodes};
 ghost use Rattle.fo_proof_syntax.specs.Trees.{node_of};
 
-use crate::number_list::{more_numbers, write_numbers};
 use crate::read_reasons::reason;
 use crate::tree::NodeTree;
 use crate::write_reasons::write_reason;
@@ -14,6 +13,7 @@ use cyc_grammar::{Cursor, Refusal};
 use cyc_lex::WordWriter;
 use cyc_memory::OutOfMemory;
 use fo_problem_syntax::{Item, more_statements, sequent, write_sequent, write_statements};
+use heap_syntax::{more_numbers, write_numbers};
 use std::alloc::Global;
 
 #[tactic(auto, unfolding(crate::specs::Grammar::premises))]

@@ -8,12 +8,12 @@ ghost use Rattle.fo_proof_syntax.specs.Words.{side_word, reason_word};
 ghost use Rattle.fo_proof_syntax.specs.Grammar.{numbers, bracketed, two_numbers, replace, right_rule, link, Parts, parts, to_reason, reason, parts_read};
 ghost use Rattle.fo_proof_syntax.specs.Trees.{signs_of, link_of, reason_of};
 
-use crate::number_list::more_numbers;
 use crate::reason_word::{ReasonWord, side_from_text};
 use crate::term_lists::{entries, terms};
 use crate::tree::{LinkTree, ReasonTree, SideTree};
 use cyc_grammar::{Cursor, Refusal};
 use fo_term_syntax::{SignTree, atom};
+use heap_syntax::more_numbers;
 use std::alloc::Global;
 
 fn numbers(alloc: Global, cursor: &mut Cursor<'_, '_>) -> Result<Vec<u32>, Refusal>

@@ -5,13 +5,13 @@ ghost use Rattle.cyc_lex.specs.Writing.{write, write_all};
 ghost use Rattle.fo_proof_syntax.specs.Grammar.{bracketed, right_rule, link, reason, behind_word, FitsBehind};
 ghost use Rattle.fo_proof_syntax.specs.Trees.{signs_of, link_of, reason_of, word_of_reason};
 
-use crate::number_list::write_numbers;
 use crate::reason_word::{ReasonWord, text_of_side};
 use crate::term_lists::{write_entries, write_terms};
 use crate::tree::{LinkTree, ReasonTree};
 use cyc_lex::WordWriter;
 use cyc_memory::OutOfMemory;
 use fo_term_syntax::{SignTree, write_atom};
+use heap_syntax::write_numbers;
 use std::alloc::Global;
 
 #[tactic(auto, using(cyc_lex::proofs::WritingLaws::write_all_on), unfolding(crate::specs::Grammar::bracketed, cyc_lex::specs::Writing::write_all))]

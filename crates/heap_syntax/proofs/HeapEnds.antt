@@ -1,11 +1,11 @@
 -- The texts of heaps are of lexemes.
-use Rattle.std.proofs.Common.{◌≡◌, ℕ, Bool, true, List, inl, inr, ◌⊎◌}
+use Rattle.std.proofs.Common.{◌≡◌, ℕ, Bool, true, List, ◌⊎◌}
 use Rattle.cyc_lex.specs.Word.{is_lexeme}
 use Rattle.cyc_grammar.specs.Syntax.{Syntax, Class, one, seq, is_one, uncons, join_empty, split_empty}
 use Rattle.cyc_grammar.proofs.ClassLaws.{name-lexeme}
 use Rattle.cyc_grammar.proofs.Ends.{Inner, one-inner, seq-inner, after-inner, before-inner, alt-inner, many-inner, shaped-inner, list1-inner, or_empty-inner}
 use Rattle.heap_syntax.specs.declared.tree.PureTree.{PureTree}
-use Rattle.heap_syntax.specs.Trees.{Spatial, Heap}
+use Rattle.heap_syntax.specs.Trees.{Spatial}
 use Rattle.heap_syntax.specs.Words.{true_word, emp, equal, unequal, comma, colon, star, arrow, opening, closing, reserved, free_name}
 use Rattle.heap_syntax.specs.Grammar.{Any, cons, IsSome, more_listed, listed, Terms, to_sign, from_sign, sign, to_pure, from_pure, pure, some_pure, pures1, pures, fields, arguments, to_spatial, from_spatial, predicate, cell, spatial, some_spatial, spatials1, spatials, to_heap, from_heap, heap, some_heap, heaps}
 use Rattle.heap_syntax.proofs.WordTexts.{true-word, emp-word, syms}

@@ -1,4 +1,6 @@
 pub mod Loops
+pub mod KeepingLaws
+pub mod Fronts
 pub mod HeapLaws
 pub mod WordTexts
 pub mod HeapEnds

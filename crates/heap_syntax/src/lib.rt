@@ -4,7 +4,9 @@
 mod atom_writing;
 mod form;
 mod heap_writing;
+mod keep;
 mod mark;
+mod number_list;
 mod read_atoms;
 mod read_heaps;
 mod tree;
@@ -13,9 +15,11 @@ mod word;
 
 pub use form::{AtomForm, TermForm, WrittenForm};
 pub use heap_writing::{write_heap, write_heaps};
+pub use keep::Keep;
 pub use mark::Mark;
+pub use number_list::{more_numbers, write_numbers};
 pub use read_atoms::{arguments, fields, sign, spatial};
-pub use read_heaps::{heap, heaps};
+pub use read_heaps::{heap, heaps, kept_heap, kept_heaps};
 pub use tree::{HeapTree, PureTree, SpatialTree};
 pub use version::{Version, read_version, write_version};
 pub use word::{free_name, reserved_words};

@@ -4,10 +4,12 @@ ghost use Rattle.std.specs.Prelude.{◌≡◌, ◌++◌, ◌∷◌, [], map};
 ghost use Rattle.cyc_grammar.specs.Syntax.{many, after, is_one};
 ghost use Rattle.cyc_grammar.specs.Giving.{Gives, with_front};
 ghost use Rattle.heap_syntax.specs.Words.{comma};
-ghost use Rattle.heap_syntax.specs.Grammar.{sign, pure, pures, fields, arguments, spatial};
+ghost use Rattle.heap_syntax.specs.Grammar.{sign, pure, kept_pures, fields, arguments, spatial};
 ghost use Rattle.heap_syntax.specs.Trees.{pure_of, spatial_of};
+ghost use Rattle.heap_syntax.specs.Members.{GivesMembers};
 
 use crate::form::TermForm;
+use crate::keep::Keep;
 use crate::tree::{PureTree, SpatialTree};
 use crate::word::{free_name, reserved_words};
 use cyc_grammar::{Cursor, Refusal};
@@ -43,21 +45,25 @@ fn pure<'a, F: TermForm<'a>>(
     })
 }
 
-/// Reads the pure atoms after some.
+/// Reads the pure atoms after the first one.
 fn more_pures<'a, F: TermForm<'a>>(
+    alloc: Global,
     form: &F,
-    mut items: Vec<PureTree<F::Term>>,
+    keep: Keep,
+    first: PureTree<F::Term>,
     cursor: &mut Cursor<'_, 'a>,
 ) -> Result<Vec<PureTree<F::Term>>, Refusal>
-    ensures { Gives (λ x. (map (pure_of F.seen) x.items, cursor.new)) result
-        (with_front (map (pure_of F.seen) items.items) ((many (is_one comma) (after comma (pure (F.terms form.now).syntax))).read cursor.old)) }
+    ensures { GivesMembers keep (pure_of F.seen) first comma (pure (F.terms form.now).syntax) cursor.old result cursor.new }
 {
+    let mut items = Vec::new(alloc);
+    items.push(first)?;
     for _ in 0..cursor.left() {
         if !cursor.is_symbol_next(",") {
             return Ok(items);
         }
         cursor.symbol(",")?;
-        items.push(pure(form, cursor)?)?;
+        let item = pure(form, cursor)?;
+        items = keep.with_member(items, item)?;
     }
     if cursor.is_symbol_next(",") {
         return Err(Refusal::Dead(cursor.left()));
@@ -65,23 +71,23 @@ fn more_pures<'a, F: TermForm<'a>>(
     Ok(items)
 }
 
-/// Reads pure atoms and the colon.
-#[tactic(auto, unfolding(crate::specs::Grammar::pures, crate::specs::Grammar::pures1, crate::specs::Grammar::listed))]
-pub fn pures<'a, F: TermForm<'a>>(
+/// Reads pure atoms, of which so much is kept, and the colon.
+#[tactic(auto, unfolding(crate::specs::Grammar::kept_pures, crate::specs::Grammar::kept_listed))]
+pub fn kept_pures<'a, F: TermForm<'a>>(
     alloc: Global,
     form: &F,
+    keep: Keep,
     cursor: &mut Cursor<'_, 'a>,
 ) -> Result<Vec<PureTree<F::Term>>, Refusal>
-    ensures { Gives (λ x. (map (pure_of F.seen) x.items, cursor.new)) result ((pures (F.terms form.now)).read cursor.old) }
+    ensures { Gives (λ x. (map (pure_of F.seen) x.items, cursor.new)) result ((kept_pures keep (F.terms form.now)).read cursor.old) }
 {
-    let mut items = Vec::new(alloc);
     if cursor.is_keyword_next("true") {
         cursor.keyword("true")?;
         cursor.symbol(":")?;
-        return Ok(items);
+        return Ok(Vec::new(alloc));
     }
-    items.push(pure(form, cursor)?)?;
-    let items = more_pures(form, items, cursor)?;
+    let first = pure(form, cursor)?;
+    let items = more_pures(alloc, form, keep, first, cursor)?;
     cursor.symbol(":")?;
     Ok(items)
 }

@@ -2,3 +2,4 @@ pub mod DefinitionLaws
 pub mod DefinitionEnds
 pub mod SeenTrees
 pub mod WrittenTerms
+pub mod DefinitionFronts

@@ -3,6 +3,7 @@ use Rattle.std.specs.Prelude.{ℕ, Bool, true, false, List, ◌⊎◌, codes}
 use Rattle.std.proofs.Common.{inl, inr}
 use Rattle.cyc_grammar.specs.Syntax.{Syntax, Class, one, seq, alt, many, shaped, after, before, is_one}
 use Rattle.cyc_grammar.specs.Classes.{symbol, number}
+use Rattle.heap_syntax.specs.declared.keep.Keep.{Keep}
 use Rattle.heap_syntax.specs.Grammar as shared
 use Rattle.heap_syntax.specs.Grammar.{Terms}
 use Rattle.heap_syntax.specs.Words.{nil, pred_word, semicolon, bar, opening, closing, opening_brace, closing_brace, free_name}
@@ -91,6 +92,13 @@ heap t = shared.heap (terms_of t) (spatial t)
 abbrev pub heaps : Class (Unit {0}) → Class (Unit {0}) → Syntax (List Heap)
 heaps between behind = shared.heaps between behind (heap (terms false))
 
+-- the same, of whose lists so much is kept
+abbrev pub kept_heap : Keep → Syntax TermTree → Syntax Heap
+kept_heap k t = shared.kept_heap k (terms_of t) (spatial t)
+
+abbrev pub kept_heaps : Keep → Class (Unit {0}) → Class (Unit {0}) → Syntax (List Heap)
+kept_heaps k between behind = shared.kept_heaps k between behind (kept_heap k (terms false))
+
 -- ---- pred = "pred" name "(" number ")" "{" heap { "|" heap } "}" ";"
 
 abbrev pub to_definition : List ℕ × (ℕ × List Heap) → Definition
@@ -102,8 +110,17 @@ from_definition d = (d.name, (d.arity, d.cases))
 unfoldable pub cases : Syntax (List Heap)
 cases = heaps bar closing_brace
 
+unfoldable pub kept_cases : Keep → Syntax (List Heap)
+kept_cases k = kept_heaps k bar closing_brace
+
+abbrev pub definition_over : Syntax (List Heap) → Syntax Definition
+definition_over cases = shaped {A = List ℕ × (ℕ × List Heap)} to_definition from_definition Any (after pred_word (seq (one free_name) (after opening (seq (one number) (after closing (after opening_brace (before cases semicolon)))))))
+
 unfoldable pub definition : Syntax Definition
-definition = shaped {A = List ℕ × (ℕ × List Heap)} to_definition from_definition Any (after pred_word (seq (one free_name) (after opening (seq (one number) (after closing (after opening_brace (before cases semicolon)))))))
+definition = definition_over cases
+
+unfoldable pub kept_definition : Keep → Syntax Definition
+kept_definition k = definition_over (kept_cases k)
 
 -- definitions as often as the word "pred" stands next
 unfoldable pub definitions : Syntax (List Definition)

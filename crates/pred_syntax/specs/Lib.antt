@@ -1,3 +1,4 @@
 pub mod Trees
 pub mod Grammar
 pub mod Fits
+pub mod Keeping

@@ -4,31 +4,36 @@ ghost use Rattle.std.specs.Prelude.{◌≡◌, ◌++◌, ◌∷◌, [], map, OnO
 ghost use Rattle.cyc_lex.specs.Writing.{write, write_all};
 ghost use Rattle.cyc_grammar.specs.Giving.{Gives, with_front};
 ghost use Rattle.heap_syntax.specs.Words.{pred_word};
-ghost use Rattle.pred_syntax.specs.Grammar.{cases, definition, definitions};
+ghost use Rattle.pred_syntax.specs.Grammar.{cases, kept_cases, definition, kept_definition, definitions};
 ghost use Rattle.pred_syntax.specs.Trees.{heap_of, definition_of};
 
-use crate::term_heaps::{heaps, write_heaps};
+use crate::term_heaps::{kept_heaps, write_heaps};
 use crate::tree::{DefinitionTree, HeapTree};
 use cyc_grammar::{Cursor, Refusal};
 use cyc_lex::WordWriter;
 use cyc_memory::OutOfMemory;
-use heap_syntax::{Mark, free_name};
+use heap_syntax::{Keep, Mark, free_name};
 use std::alloc::Global;
 
-#[tactic(auto, unfolding(crate::specs::Grammar::cases))]
-fn cases<'a>(alloc: Global, cursor: &mut Cursor<'_, 'a>) -> Result<Vec<HeapTree<'a>>, Refusal>
-    ensures { Gives (λ x. (map heap_of x.items, cursor.new)) result (cases.read cursor.old) }
+#[tactic(auto, unfolding(crate::specs::Grammar::kept_cases))]
+fn kept_cases<'a>(
+    alloc: Global,
+    keep: Keep,
+    cursor: &mut Cursor<'_, 'a>,
+) -> Result<Vec<HeapTree<'a>>, Refusal>
+    ensures { Gives (λ x. (map heap_of x.items, cursor.new)) result ((kept_cases keep).read cursor.old) }
 {
-    heaps(alloc, &Mark::Symbol("|"), &Mark::Symbol("}"), cursor)
+    kept_heaps(alloc, keep, &Mark::Symbol("|"), &Mark::Symbol("}"), cursor)
 }
 
-/// Reads the definition of a predicate.
-#[tactic(auto, unfolding(crate::specs::Grammar::definition))]
-pub fn definition<'a>(
+/// Reads the definition of a predicate; so much is kept of its cases and of their lists.
+#[tactic(auto, unfolding(crate::specs::Grammar::kept_definition))]
+pub fn kept_definition<'a>(
     alloc: Global,
+    keep: Keep,
     cursor: &mut Cursor<'_, 'a>,
 ) -> Result<DefinitionTree<'a>, Refusal>
-    ensures { Gives (λ x. (definition_of x, cursor.new)) result (definition.read cursor.old) }
+    ensures { Gives (λ x. (definition_of x, cursor.new)) result ((kept_definition keep).read cursor.old) }
 {
     cursor.keyword("pred")?;
     let name = free_name(cursor)?;
@@ -36,9 +41,20 @@ pub fn definition<'a>(
     let arity = cursor.number()?;
     cursor.symbol(")")?;
     cursor.symbol("{")?;
-    let cases = cases(alloc, cursor)?;
+    let cases = kept_cases(alloc, keep, cursor)?;
     cursor.symbol(";")?;
     Ok(DefinitionTree { name, arity, cases })
+}
+
+/// Reads the definition of a predicate.
+#[tactic(auto, unfolding(crate::specs::Grammar::definition, crate::specs::Grammar::kept_definition, crate::specs::Grammar::cases, crate::specs::Grammar::kept_cases, heap_syntax::specs::Grammar::heap, heap_syntax::specs::Grammar::kept_heap, heap_syntax::specs::Grammar::pures, heap_syntax::specs::Grammar::pures1, heap_syntax::specs::Grammar::kept_pures, heap_syntax::specs::Grammar::listed, heap_syntax::specs::Grammar::kept_listed, heap_syntax::specs::Grammar::spatials, heap_syntax::specs::Grammar::spatials1, heap_syntax::specs::Grammar::kept_spatials))]
+pub fn definition<'a>(
+    alloc: Global,
+    cursor: &mut Cursor<'_, 'a>,
+) -> Result<DefinitionTree<'a>, Refusal>
+    ensures { Gives (λ x. (definition_of x, cursor.new)) result (definition.read cursor.old) }
+{
+    kept_definition(alloc, Keep::All, cursor)
 }
 
 /// Reads the definitions after some.

@@ -7,7 +7,7 @@ mod form;
 mod term_heaps;
 mod tree;
 
-pub use definition_list::{definition, definitions, write_definitions};
+pub use definition_list::{definition, definitions, kept_definition, write_definitions};
 pub use form::{universal_term, write_universal_term};
-pub use term_heaps::{heap, heaps, write_heap, write_heaps};
+pub use term_heaps::{heap, heaps, kept_heap, kept_heaps, write_heap, write_heaps};
 pub use tree::{DefinitionTree, HeapTree, PureTree, SpatialTree, TermTree};

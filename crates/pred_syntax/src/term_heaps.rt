@@ -4,7 +4,7 @@ ghost use Rattle.std.specs.Prelude.{◌≡◌, map, OnOk};
 ghost use Rattle.cyc_lex.specs.Writing.{write_all};
 ghost use Rattle.cyc_grammar.specs.Giving.{Gives};
 ghost use Rattle.heap_syntax.specs.Words.{marked};
-ghost use Rattle.pred_syntax.specs.Grammar.{terms, heap, heaps};
+ghost use Rattle.pred_syntax.specs.Grammar.{terms, heap, kept_heap, heaps, kept_heaps};
 ghost use Rattle.pred_syntax.specs.Trees.{heap_of};
 
 use crate::form::NumberedForm;
@@ -12,8 +12,41 @@ use crate::tree::HeapTree;
 use cyc_grammar::{Cursor, Refusal};
 use cyc_lex::WordWriter;
 use cyc_memory::OutOfMemory;
-use heap_syntax::Mark;
+use heap_syntax::{Keep, Mark};
 use std::alloc::Global;
+
+/// A heap, of whose lists so much is kept, without existential variables where `universal` says so.
+pub fn kept_heap<'a>(
+    alloc: Global,
+    universal: bool,
+    keep: Keep,
+    cursor: &mut Cursor<'_, 'a>,
+) -> Result<HeapTree<'a>, Refusal>
+    ensures { Gives (λ x. (heap_of x, cursor.new)) result ((kept_heap keep (terms universal)).read cursor.old) }
+{
+    heap_syntax::kept_heap(alloc, &NumberedForm { universal }, keep, cursor)
+}
+
+/// One heap or more, with a word between neighbours and one after the last; so much is kept of them and of their lists.
+pub fn kept_heaps<'a>(
+    alloc: Global,
+    keep: Keep,
+    between: &Mark<'_>,
+    behind: &Mark<'_>,
+    cursor: &mut Cursor<'_, 'a>,
+) -> Result<Vec<HeapTree<'a>>, Refusal>
+    ensures { Gives (λ x. (map heap_of x.items, cursor.new)) result
+        ((kept_heaps keep (marked between.now) (marked behind.now)).read cursor.old) }
+{
+    heap_syntax::kept_heaps(
+        alloc,
+        &NumberedForm { universal: false },
+        keep,
+        between,
+        behind,
+        cursor,
+    )
+}
 
 /// A heap, without existential variables where `universal` says so.
 pub fn heap<'a>(

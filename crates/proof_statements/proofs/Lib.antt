@@ -1,3 +1,4 @@
 pub mod Statements
 pub mod Listed
 pub mod LeftLaws
+pub mod StatementFronts

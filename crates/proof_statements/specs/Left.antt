@@ -3,10 +3,12 @@ use Rattle.std.specs.Prelude.{List, [], ◌∷◌, ◌⊎◌, Ok, Err}
 use Rattle.std.proofs.Common.{inl, inr}
 use Rattle.cyc_grammar.specs.Syntax.{Reading, Syntax, one, seq, alt, after, before, is_one}
 use Rattle.cyc_grammar.specs.Classes.{the_end}
+use Rattle.heap_syntax.specs.declared.keep.Keep.{Keep}
 use Rattle.heap_syntax.specs.declared.version.Version.{Version}
 use Rattle.command_syntax.specs.Grammar as commands
 use Rattle.proof_syntax.specs.Trees.{Definition, Line, Node, File}
-use Rattle.proof_syntax.specs.Grammar.{cyclist_word, proof_word, pred_word, node_word, last_word, semicolon, version, variable, lines, definition, definitions, node, more_nodes, nodes, file}
+use Rattle.proof_syntax.specs.Keeping.{definition_front, node_front}
+use Rattle.proof_syntax.specs.Grammar.{cyclist_word, proof_word, pred_word, node_word, last_word, semicolon, version, variable, lines, definition, kept_definition, definitions, node, kept_node, more_nodes, nodes, file}
 
 -- where a statement is to come: the first of all; a definition, or what may follow one; a line or a node; a node, or the
 -- last of all
@@ -61,6 +63,29 @@ statement_of First = first_statement
 statement_of (Preds v) = alt (is_one pred_word) definition (line_or_node v)
 statement_of (Lines v) = line_or_node v
 statement_of Nodes = alt (is_one node_word) node last_statement
+
+-- the same, of whose lists of heaps and of whose heaps' lists so much is kept
+unfoldable pub kept_line_or_node : Keep → Version → Syntax (Line ⊎ Node)
+kept_line_or_node k v = alt (is_one commands.line_word) (commands.line v variable) (kept_node k)
+
+abbrev pub kept_statement : Keep → (p : Part) → Syntax (Statement p)
+kept_statement k First = first_statement
+kept_statement k (Preds v) = alt (is_one pred_word) (kept_definition k) (kept_line_or_node k v)
+kept_statement k (Lines v) = kept_line_or_node k v
+kept_statement k Nodes = alt (is_one node_word) (kept_node k) last_statement
+
+-- what is kept of it
+abbrev pub line_or_node_front : Keep → Line ⊎ Node → Line ⊎ Node
+line_or_node_front k (inl l) = inl l
+line_or_node_front k (inr n) = inr (node_front k n)
+
+abbrev pub statement_front : Keep → (p : Part) → Statement p → Statement p
+statement_front k First v = v
+statement_front k (Preds v) (inl d) = inl (definition_front k d)
+statement_front k (Preds v) (inr s) = inr (line_or_node_front k s)
+statement_front k (Lines v) s = line_or_node_front k s
+statement_front k Nodes (inl n) = inl (node_front k n)
+statement_front k Nodes (inr u) = inr u
 
 -- where it leads
 abbrev pub next : (p : Part) → Statement p → Reached

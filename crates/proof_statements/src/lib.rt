@@ -6,9 +6,13 @@ mod tree;
 
 ghost use Rattle.std.specs.Prelude.{◌≡◌, ◌++◌, ◌+◌, [], suc, length, List, ℕ, Ok, Err};
 ghost use Rattle.cyc_lex.specs.Word.{Word};
-ghost use Rattle.proof_statements.specs.Left.{Part, At, Statement, left_of, statement_of, next, join, joined};
+ghost use Rattle.proof_statements.specs.Left.{Part, At, Statement, left_of, statement_of, kept_statement, statement_front, next, join, joined};
+ghost use Rattle.heap_syntax.specs.declared.keep.Keep.{Keep};
 
-pub use read_statements::{first_statement, line_or_node, node_or_end, pred_or_later};
+pub use read_statements::{
+    first_statement, kept_line_or_node, kept_node_or_end, kept_pred_or_later, line_or_node,
+    node_or_end, pred_or_later,
+};
 pub use tree::{LineOrNode, NodeOrEnd, PredOrLater};
 
 /// A statement comes off the front of what is left of a file: whatever words follow, what is read of all is the
@@ -16,6 +20,13 @@ pub use tree::{LineOrNode, NodeOrEnd, PredOrLater};
 pub fn statements_come_off_the_front()
     ensures { (p : Part) (ws more : List Word) (t : Statement p) → (statement_of p).read ws ≡ Ok (t, [])
         → (left_of (At p)).read (ws ++ more) ≡ joined (join p t) ((left_of (next p t)).read more) }
+{}
+
+/// What is kept of a statement as it is read is its front: the whole is read of the same words, with the same rest or the same
+/// fault, and leads to the same part.
+pub fn fronts_of_statements_are_read()
+    ensures front { (k : Keep) (p : Part) (ws : List Word) → (kept_statement k p).read ws ≡ joined (statement_front k p) ((statement_of p).read ws) }
+    ensures part { (k : Keep) (p : Part) (t : Statement p) → next p (statement_front k p t) ≡ next p t }
 {}
 
 /// The fault of a statement is the fault of the file, whatever words follow.

@@ -2,15 +2,15 @@
 
 ghost use Rattle.std.specs.Prelude.{◌≡◌};
 ghost use Rattle.cyc_grammar.specs.Giving.{Gives};
-ghost use Rattle.proof_statements.specs.Left.{Preds, Lines, Nodes, statement_of, first_statement, last_statement, line_or_node};
+ghost use Rattle.proof_statements.specs.Left.{Preds, Lines, Nodes, statement_of, kept_statement, first_statement, last_statement};
 ghost use Rattle.proof_statements.specs.Left.{First};
 ghost use Rattle.proof_statements.specs.Trees.{line_or_node_of, pred_or_later_of, node_or_end_of};
 
 use crate::tree::{LineOrNode, NodeOrEnd, PredOrLater};
 use cyc_grammar::{Cursor, Refusal};
-use heap_syntax::{Version, read_version};
-use pred_syntax::definition;
-use proof_syntax::{line, node};
+use heap_syntax::{Keep, Version, read_version};
+use pred_syntax::kept_definition;
+use proof_syntax::{kept_node, line};
 use std::alloc::Global;
 
 /// Reads the statement that says the version.
@@ -33,8 +33,53 @@ fn last_statement(cursor: &mut Cursor<'_, '_>) -> Result<(), Refusal>
     cursor.symbol(";")
 }
 
+/// Reads a line of a program of a version, or a node; so much is kept of its lists of heaps and of theirs.
+#[tactic(auto, unfolding(crate::specs::Left::kept_line_or_node))]
+pub fn kept_line_or_node<'a>(
+    alloc: Global,
+    keep: Keep,
+    version: Version,
+    cursor: &mut Cursor<'_, 'a>,
+) -> Result<LineOrNode<'a>, Refusal>
+    ensures { Gives (λ s. (line_or_node_of s, cursor.new)) result ((kept_statement keep (Lines version)).read cursor.old) }
+{
+    if cursor.is_keyword_next("line") {
+        return Ok(LineOrNode::Line(line(version, cursor)?));
+    }
+    Ok(LineOrNode::Node(kept_node(alloc, keep, cursor)?))
+}
+
+/// Reads a definition, a line of a program of a version, or a node; so much is kept of its lists of heaps and of theirs.
+pub fn kept_pred_or_later<'a>(
+    alloc: Global,
+    keep: Keep,
+    version: Version,
+    cursor: &mut Cursor<'_, 'a>,
+) -> Result<PredOrLater<'a>, Refusal>
+    ensures { Gives (λ s. (pred_or_later_of s, cursor.new)) result ((kept_statement keep (Preds version)).read cursor.old) }
+{
+    if cursor.is_keyword_next("pred") {
+        return Ok(PredOrLater::Pred(kept_definition(alloc, keep, cursor)?));
+    }
+    Ok(PredOrLater::Later(kept_line_or_node(alloc, keep, version, cursor)?))
+}
+
+/// Reads a node, or the last statement; so much is kept of its lists of heaps and of theirs.
+pub fn kept_node_or_end<'a>(
+    alloc: Global,
+    keep: Keep,
+    cursor: &mut Cursor<'_, 'a>,
+) -> Result<NodeOrEnd<'a>, Refusal>
+    ensures { Gives (λ s. (node_or_end_of s, cursor.new)) result ((kept_statement keep Nodes).read cursor.old) }
+{
+    if cursor.is_keyword_next("node") {
+        return Ok(NodeOrEnd::Node(kept_node(alloc, keep, cursor)?));
+    }
+    last_statement(cursor)?;
+    Ok(NodeOrEnd::End)
+}
+
 /// Reads a line of a program of a version, or a node.
-#[tactic(auto, unfolding(crate::specs::Left::line_or_node))]
 pub fn line_or_node<'a>(
     alloc: Global,
     version: Version,
@@ -42,10 +87,7 @@ pub fn line_or_node<'a>(
 ) -> Result<LineOrNode<'a>, Refusal>
     ensures { Gives (λ s. (line_or_node_of s, cursor.new)) result ((statement_of (Lines version)).read cursor.old) }
 {
-    if cursor.is_keyword_next("line") {
-        return Ok(LineOrNode::Line(line(version, cursor)?));
-    }
-    Ok(LineOrNode::Node(node(alloc, cursor)?))
+    kept_line_or_node(alloc, Keep::All, version, cursor)
 }
 
 /// Reads a definition, a line of a program of a version, or a node.
@@ -56,19 +98,12 @@ pub fn pred_or_later<'a>(
 ) -> Result<PredOrLater<'a>, Refusal>
     ensures { Gives (λ s. (pred_or_later_of s, cursor.new)) result ((statement_of (Preds version)).read cursor.old) }
 {
-    if cursor.is_keyword_next("pred") {
-        return Ok(PredOrLater::Pred(definition(alloc, cursor)?));
-    }
-    Ok(PredOrLater::Later(line_or_node(alloc, version, cursor)?))
+    kept_pred_or_later(alloc, Keep::All, version, cursor)
 }
 
 /// Reads a node, or the last statement.
 pub fn node_or_end<'a>(alloc: Global, cursor: &mut Cursor<'_, 'a>) -> Result<NodeOrEnd<'a>, Refusal>
     ensures { Gives (λ s. (node_or_end_of s, cursor.new)) result ((statement_of Nodes).read cursor.old) }
 {
-    if cursor.is_keyword_next("node") {
-        return Ok(NodeOrEnd::Node(node(alloc, cursor)?));
-    }
-    last_statement(cursor)?;
-    Ok(NodeOrEnd::End)
+    kept_node_or_end(alloc, Keep::All, cursor)
 }

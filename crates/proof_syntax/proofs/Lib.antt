@@ -3,3 +3,4 @@ pub mod GrammarEnds
 pub mod ReasonParts
 pub mod WrittenFiles
 pub mod SeenTrees
+pub mod NodeFronts

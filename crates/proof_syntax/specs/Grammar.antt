@@ -4,13 +4,15 @@ use Rattle.std.proofs.Common.{inl, inr}
 use Rattle.cyc_lex.specs.Word.{Word}
 use Rattle.cyc_grammar.specs.Syntax.{Reading, ◌>>=◌, Syntax, Class, one, seq, alt, many, shaped, after, before, headed, nothing, is_one, uncons, list1, or_empty}
 use Rattle.cyc_grammar.specs.Classes.{symbol, keyword, the_end, number, keyword_of}
+unfoldable pub use Rattle.heap_syntax.specs.Numbers.{numbers}
 pub use Rattle.heap_syntax.specs.Words.{nil, true_word, emp, pred_word, or_word, last_word, cyclist_word, equal, unequal, comma, colon, semicolon, star, bar, arrow, assign, turnstile, opening, closing, opening_brace, closing_brace, reserved, free_name}
 pub use Rattle.heap_syntax.specs.Versions.{version}
 pub use Rattle.heap_syntax.specs.Grammar.{Any, cons, IsSome, some_heap}
 unfoldable pub use Rattle.heap_syntax.specs.Grammar.{sign, pure}
-pub use Rattle.pred_syntax.specs.Grammar.{dollar, query, to_term, from_term, to_uterm, from_uterm, IsUniversal, terms_of, some_pure, pures1, pures, fields, arguments, spatial, some_spatial, spatials, heap, heaps, to_definition, from_definition}
-unfoldable pub use Rattle.pred_syntax.specs.Grammar.{term, uterm, terms, cases, definition, definitions}
+pub use Rattle.pred_syntax.specs.Grammar.{dollar, query, to_term, from_term, to_uterm, from_uterm, IsUniversal, terms_of, some_pure, pures1, pures, fields, arguments, spatial, some_spatial, spatials, heap, kept_heap, heaps, kept_heaps, to_definition, from_definition}
+unfoldable pub use Rattle.pred_syntax.specs.Grammar.{term, uterm, terms, cases, definition, kept_definition, definitions}
 use Rattle.command_syntax.specs.Grammar as commands
+use Rattle.heap_syntax.specs.declared.keep.Keep.{Keep}
 use Rattle.heap_syntax.specs.declared.version.Version.{Version}
 use Rattle.pred_syntax.specs.declared.tree.TermTree.{TermTree}
 use Rattle.pred_syntax.specs.declared.tree.TermTree.TheVariants.{Nil}
@@ -66,12 +68,27 @@ from_entailment e = (e.antecedent, e.disjuncts)
 unfoldable pub disjuncts : Syntax (List Heap)
 disjuncts = heaps or_word by_word
 
+unfoldable pub kept_disjuncts : Keep → Syntax (List Heap)
+kept_disjuncts k = kept_heaps k or_word by_word
+
+abbrev pub entailment_over : Syntax Heap → Syntax (List Heap) → Syntax Entailment
+entailment_over antecedent disjuncts = shaped {A = Heap × List Heap} to_entailment from_entailment Any (seq antecedent (after turnstile disjuncts))
+
 unfoldable pub entailment : Syntax Entailment
-entailment = shaped {A = Heap × List Heap} to_entailment from_entailment Any (seq (heap (terms true)) (after turnstile disjuncts))
+entailment = entailment_over (heap (terms true)) disjuncts
+
+unfoldable pub kept_entailment : Keep → Syntax Entailment
+kept_entailment k = entailment_over (kept_heap k (terms true)) (kept_disjuncts k)
 
 -- "from" number "given" uheap "by"
+abbrev pub state_over : Syntax Heap → Syntax (ℕ × Heap)
+state_over given = after from_word (seq (one number) (after given_word (before given by_word)))
+
 unfoldable pub state : Syntax (ℕ × Heap)
-state = after from_word (seq (one number) (after given_word (before (heap (terms true)) by_word)))
+state = state_over (heap (terms true))
+
+unfoldable pub kept_state : Keep → Syntax (ℕ × Heap)
+kept_state k = state_over (kept_heap k (terms true))
 
 abbrev pub to_judgement : (ℕ × Heap) ⊎ Entailment → Judgement
 to_judgement (inl p) = From p.0 p.1
@@ -81,13 +98,16 @@ abbrev pub from_judgement : Judgement → (ℕ × Heap) ⊎ Entailment
 from_judgement (From n h) = inl (n, h)
 from_judgement (Entails e) = inr e
 
+abbrev pub judgement_over : Syntax (ℕ × Heap) → Syntax Entailment → Syntax Judgement
+judgement_over state entailment = shaped {A = (ℕ × Heap) ⊎ Entailment} to_judgement from_judgement Any (alt (is_one from_word) state entailment)
+
 unfoldable pub judgement : Syntax Judgement
-judgement = shaped {A = (ℕ × Heap) ⊎ Entailment} to_judgement from_judgement Any (alt (is_one from_word) state entailment)
+judgement = judgement_over state entailment
+
+unfoldable pub kept_judgement : Keep → Syntax Judgement
+kept_judgement k = judgement_over (kept_state k) (kept_entailment k)
 
 -- ---- the parts of a reason
-
-unfoldable pub numbers : Syntax (List ℕ)
-numbers = many (is_one number) (one number)
 
 -- "[" { number } "]"
 unfoldable pub bracketed : Syntax (List ℕ)
@@ -109,6 +129,9 @@ split = seq uterm uterm
 -- "[" { number } "]" heap
 unfoldable pub cut : Syntax (List ℕ × Heap)
 cut = seq bracketed (heap (terms false))
+
+unfoldable pub kept_cut : Keep → Syntax (List ℕ × Heap)
+kept_cut k = seq bracketed (kept_heap k (terms false))
 
 -- "?" number uterm
 unfoldable pub instantiate : Syntax (ℕ × TermTree)
@@ -164,23 +187,30 @@ Parts words.Exec = Unit {0}
 Parts words.Drop = ℕ
 Parts words.Link = LinkData
 
+-- the rule Cut has this after it
+abbrev pub parts_over : Syntax (List ℕ × Heap) → (w : ReasonWord) → Syntax (Parts w)
+parts_over behind_cut words.Absurd = nothing
+parts_over behind_cut words.Rewrite = rewrite
+parts_over behind_cut words.Split = split
+parts_over behind_cut words.Distinct = two_numbers
+parts_over behind_cut words.Weaken = one number
+parts_over behind_cut words.Unfold = one number
+parts_over behind_cut words.Cut = behind_cut
+parts_over behind_cut words.Done = nothing
+parts_over behind_cut words.Choose = one number
+parts_over behind_cut words.PureRight = one number
+parts_over behind_cut words.Instantiate = instantiate
+parts_over behind_cut words.Frame = two_numbers
+parts_over behind_cut words.UnfoldRight = two_numbers
+parts_over behind_cut words.Exec = nothing
+parts_over behind_cut words.Drop = one number
+parts_over behind_cut words.Link = link
+
 unfoldable pub parts : (w : ReasonWord) → Syntax (Parts w)
-parts words.Absurd = nothing
-parts words.Rewrite = rewrite
-parts words.Split = split
-parts words.Distinct = two_numbers
-parts words.Weaken = one number
-parts words.Unfold = one number
-parts words.Cut = cut
-parts words.Done = nothing
-parts words.Choose = one number
-parts words.PureRight = one number
-parts words.Instantiate = instantiate
-parts words.Frame = two_numbers
-parts words.UnfoldRight = two_numbers
-parts words.Exec = nothing
-parts words.Drop = one number
-parts words.Link = link
+parts w = parts_over cut w
+
+unfoldable pub kept_parts : Keep → (w : ReasonWord) → Syntax (Parts w)
+kept_parts k w = parts_over (kept_cut k) w
 
 abbrev pub made_of : (w : ReasonWord) → Parts w → Reason
 made_of words.Absurd u = Absurd
@@ -225,11 +255,20 @@ from_reason (Link l) = (words.Link, l)
 abbrev pub parts_read : ReasonWord → List Word → Reading Reason
 parts_read w ws = (parts w).read ws >>= λ y. Ok (made_of w y.0, y.1)
 
+abbrev pub kept_parts_read : Keep → ReasonWord → List Word → Reading Reason
+kept_parts_read k w ws = (kept_parts k w).read ws >>= λ y. Ok (made_of w y.0, y.1)
+
 abbrev pub reason_word : Class ReasonWord
 reason_word = keyword_of reason_text reason_words
 
+abbrev pub reason_over : ((w : ReasonWord) → Syntax (Parts w)) → Syntax Reason
+reason_over parts = shaped {A = (w : ReasonWord) × Parts w} to_reason from_reason Any (headed reason_word parts)
+
 unfoldable pub reason : Syntax Reason
-reason = shaped {A = (w : ReasonWord) × Parts w} to_reason from_reason Any (headed reason_word parts)
+reason = reason_over parts
+
+unfoldable pub kept_reason : Keep → Syntax Reason
+kept_reason k = reason_over (kept_parts k)
 
 -- the words after a rule's word, case by case
 abbrev pub behind_word : Reason → List Word
@@ -290,8 +329,14 @@ to_node p = record { judgement = p.0; reason = p.1.0; premises = p.1.1 }
 abbrev pub from_node : Node → Judgement × (Reason × List ℕ)
 from_node n = (n.judgement, (n.reason, n.premises))
 
+abbrev pub node_over : Syntax Judgement → Syntax Reason → Syntax Node
+node_over judgement reason = shaped {A = Judgement × (Reason × List ℕ)} to_node from_node Any (after node_word (seq judgement (seq reason premises)))
+
 unfoldable pub node : Syntax Node
-node = shaped {A = Judgement × (Reason × List ℕ)} to_node from_node Any (after node_word (seq judgement (seq reason premises)))
+node = node_over judgement reason
+
+unfoldable pub kept_node : Keep → Syntax Node
+kept_node k = node_over (kept_judgement k) (kept_reason k)
 
 -- ---- file = "cyclist" "proof" ( "1" | "2" ) ";" { pred } { line } node { node } "end" ";", and the end of the text
 

@@ -1,3 +1,4 @@
 pub mod ReasonWords
 pub mod Trees
 pub mod Grammar
+pub mod Keeping

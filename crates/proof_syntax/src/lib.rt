@@ -3,7 +3,6 @@
 
 mod form;
 mod line_lists;
-mod number_list;
 mod read_files;
 mod read_reasons;
 mod reason_word;
@@ -12,7 +11,7 @@ mod write_files;
 mod write_reasons;
 
 pub use line_lists::line;
-pub use read_files::{node, read_tree};
+pub use read_files::{kept_node, read_tree};
 pub use tree::{
     DefinitionTree, EntailmentTree, FileTree, HeapTree, JudgementTree, LineTree, LinkTree,
     NodeTree, PairTree, PureTree, ReasonTree, SideTree, SpatialTree, TermTree,

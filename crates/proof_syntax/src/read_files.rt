@@ -6,33 +6,46 @@ ghost use Rattle.cyc_grammar.specs.Syntax.{read_whole};
 ghost use Rattle.cyc_grammar.specs.Classes.{are_tokens};
 ghost use Rattle.cyc_grammar.specs.Faults.{Reads, IsRead};
 ghost use Rattle.cyc_grammar.specs.Giving.{Gives, IsWithin, with_front, words};
-ghost use Rattle.proof_syntax.specs.Grammar.{disjuncts, node_word, definitions, entailment, state, judgement, premises, node, more_nodes, nodes, body, file};
+ghost use Rattle.proof_syntax.specs.Grammar.{kept_disjuncts, node_word, definitions, kept_entailment, kept_state, kept_judgement, premises, node, kept_node, more_nodes, nodes, body, file};
 ghost use Rattle.proof_syntax.specs.Trees.{File, heap_of, definition_of, entailment_of, judgement_of, node_of, file_of};
 
 use crate::line_lists::lines;
-use crate::number_list::more_numbers;
-use crate::read_reasons::reason;
+use crate::read_reasons::kept_reason;
 use crate::tree::{EntailmentTree, FileTree, HeapTree, JudgementTree, NodeTree};
 use cyc_grammar::{Cursor, Refusal, read_fault};
 use cyc_lex::{ReadFault, Token, Tokens};
-use heap_syntax::{Mark, read_version};
-use pred_syntax::{definitions, heap, heaps};
+use heap_syntax::{Keep, Mark, more_numbers, read_version};
+use pred_syntax::{definitions, kept_heap, kept_heaps};
 use std::alloc::Global;
 
-#[tactic(auto, unfolding(crate::specs::Grammar::disjuncts))]
-fn disjuncts<'a>(alloc: Global, cursor: &mut Cursor<'_, 'a>) -> Result<Vec<HeapTree<'a>>, Refusal>
-    ensures { Gives (λ x. (map heap_of x.items, cursor.new)) result (disjuncts.read cursor.old) }
+#[tactic(auto, unfolding(crate::specs::Grammar::kept_disjuncts))]
+fn kept_disjuncts<'a>(
+    alloc: Global,
+    keep: Keep,
+    cursor: &mut Cursor<'_, 'a>,
+) -> Result<Vec<HeapTree<'a>>, Refusal>
+    ensures { Gives (λ x. (map heap_of x.items, cursor.new)) result ((kept_disjuncts keep).read cursor.old) }
 {
-    heaps(alloc, &Mark::Keyword("or"), &Mark::Keyword("by"), cursor)
+    kept_heaps(
+        alloc,
+        keep,
+        &Mark::Keyword("or"),
+        &Mark::Keyword("by"),
+        cursor,
+    )
 }
 
-#[tactic(auto, unfolding(crate::specs::Grammar::entailment))]
-fn entailment<'a>(alloc: Global, cursor: &mut Cursor<'_, 'a>) -> Result<EntailmentTree<'a>, Refusal>
-    ensures { Gives (λ x. (entailment_of x, cursor.new)) result (entailment.read cursor.old) }
+#[tactic(auto, unfolding(crate::specs::Grammar::kept_entailment))]
+fn kept_entailment<'a>(
+    alloc: Global,
+    keep: Keep,
+    cursor: &mut Cursor<'_, 'a>,
+) -> Result<EntailmentTree<'a>, Refusal>
+    ensures { Gives (λ x. (entailment_of x, cursor.new)) result ((kept_entailment keep).read cursor.old) }
 {
-    let antecedent = heap(alloc, true, cursor)?;
+    let antecedent = kept_heap(alloc, true, keep, cursor)?;
     cursor.symbol("|-")?;
-    let disjuncts = disjuncts(alloc, cursor)?;
+    let disjuncts = kept_disjuncts(alloc, keep, cursor)?;
     Ok(EntailmentTree {
         antecedent,
         disjuncts,
@@ -40,27 +53,35 @@ fn entailment<'a>(alloc: Global, cursor: &mut Cursor<'_, 'a>) -> Result<Entailme
 }
 
 /// The number of a line and the symbolic state there.
-#[tactic(auto, unfolding(crate::specs::Grammar::state))]
-fn state<'a>(alloc: Global, cursor: &mut Cursor<'_, 'a>) -> Result<(u32, HeapTree<'a>), Refusal>
-    ensures { Gives (λ x. ((x.0, heap_of x.1), cursor.new)) result (state.read cursor.old) }
+#[tactic(auto, unfolding(crate::specs::Grammar::kept_state))]
+fn kept_state<'a>(
+    alloc: Global,
+    keep: Keep,
+    cursor: &mut Cursor<'_, 'a>,
+) -> Result<(u32, HeapTree<'a>), Refusal>
+    ensures { Gives (λ x. ((x.0, heap_of x.1), cursor.new)) result ((kept_state keep).read cursor.old) }
 {
     cursor.keyword("from")?;
     let line = cursor.number()?;
     cursor.keyword("given")?;
-    let heap = heap(alloc, true, cursor)?;
+    let heap = kept_heap(alloc, true, keep, cursor)?;
     cursor.keyword("by")?;
     Ok((line, heap))
 }
 
-#[tactic(auto, unfolding(crate::specs::Grammar::judgement))]
-fn judgement<'a>(alloc: Global, cursor: &mut Cursor<'_, 'a>) -> Result<JudgementTree<'a>, Refusal>
-    ensures { Gives (λ x. (judgement_of x, cursor.new)) result (judgement.read cursor.old) }
+#[tactic(auto, unfolding(crate::specs::Grammar::kept_judgement))]
+fn kept_judgement<'a>(
+    alloc: Global,
+    keep: Keep,
+    cursor: &mut Cursor<'_, 'a>,
+) -> Result<JudgementTree<'a>, Refusal>
+    ensures { Gives (λ x. (judgement_of x, cursor.new)) result ((kept_judgement keep).read cursor.old) }
 {
     if cursor.is_keyword_next("from") {
-        let (line, heap) = state(alloc, cursor)?;
+        let (line, heap) = kept_state(alloc, keep, cursor)?;
         return Ok(JudgementTree::From(line, heap));
     }
-    Ok(JudgementTree::Entailment(entailment(alloc, cursor)?))
+    Ok(JudgementTree::Entailment(kept_entailment(alloc, keep, cursor)?))
 }
 
 #[tactic(auto, unfolding(crate::specs::Grammar::premises))]
@@ -79,20 +100,30 @@ fn premises(alloc: Global, cursor: &mut Cursor<'_, '_>) -> Result<Vec<u32>, Refu
     Ok(items)
 }
 
-/// Reads one node.
-#[tactic(auto, unfolding(crate::specs::Grammar::node))]
-pub fn node<'a>(alloc: Global, cursor: &mut Cursor<'_, 'a>) -> Result<NodeTree<'a>, Refusal>
-    ensures { Gives (λ x. (node_of x, cursor.new)) result (node.read cursor.old) }
+/// Reads one node; so much is kept of its lists of heaps and of theirs.
+#[tactic(auto, unfolding(crate::specs::Grammar::kept_node))]
+pub fn kept_node<'a>(
+    alloc: Global,
+    keep: Keep,
+    cursor: &mut Cursor<'_, 'a>,
+) -> Result<NodeTree<'a>, Refusal>
+    ensures { Gives (λ x. (node_of x, cursor.new)) result ((kept_node keep).read cursor.old) }
 {
     cursor.keyword("node")?;
-    let judgement = judgement(alloc, cursor)?;
-    let reason = reason(alloc, cursor)?;
+    let judgement = kept_judgement(alloc, keep, cursor)?;
+    let reason = kept_reason(alloc, keep, cursor)?;
     let premises = premises(alloc, cursor)?;
     Ok(NodeTree {
         judgement,
         reason,
         premises,
     })
+}
+
+fn node<'a>(alloc: Global, cursor: &mut Cursor<'_, 'a>) -> Result<NodeTree<'a>, Refusal>
+    ensures { Gives (λ x. (node_of x, cursor.new)) result (node.read cursor.old) }
+{
+    kept_node(alloc, Keep::All, cursor)
 }
 
 /// Reads the nodes after some.

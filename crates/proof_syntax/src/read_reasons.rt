@@ -3,14 +3,14 @@
 ghost use Rattle.std.specs.Prelude.{◌≡◌, ◌++◌, ◌∷◌, [], Ok, map};
 ghost use Rattle.cyc_grammar.specs.Syntax.{many, after, is_one, read_class};
 ghost use Rattle.cyc_grammar.specs.Giving.{Gives, with_front};
-ghost use Rattle.proof_syntax.specs.Grammar.{comma, numbers, bracketed, two_numbers, side, rewrite, split, cut, instantiate, pair, pairs1, pairs, link, Parts, parts, to_reason, reason_word, reason, parts_read};
+ghost use Rattle.proof_syntax.specs.Grammar.{comma, numbers, bracketed, two_numbers, side, rewrite, split, kept_cut, instantiate, pair, pairs1, pairs, link, Parts, kept_parts, to_reason, reason_word, kept_reason, kept_parts_read};
 ghost use Rattle.proof_syntax.specs.Trees.{heap_of, link_of, reason_of};
 
-use crate::number_list::more_numbers;
 use crate::reason_word::{ReasonWord, side_from_text};
 use crate::tree::{HeapTree, LinkTree, PairTree, ReasonTree, SideTree, TermTree};
 use cyc_grammar::{Cursor, Refusal};
-use pred_syntax::{heap, universal_term};
+use heap_syntax::{Keep, more_numbers};
+use pred_syntax::{kept_heap, universal_term};
 use std::alloc::Global;
 
 fn numbers(alloc: Global, cursor: &mut Cursor<'_, '_>) -> Result<Vec<u32>, Refusal>
@@ -72,12 +72,16 @@ fn split(cursor: &mut Cursor<'_, '_>) -> Result<(TermTree, TermTree), Refusal>
     Ok((left, right))
 }
 
-#[tactic(auto, unfolding(crate::specs::Grammar::cut))]
-fn cut<'a>(alloc: Global, cursor: &mut Cursor<'_, 'a>) -> Result<(Vec<u32>, HeapTree<'a>), Refusal>
-    ensures { Gives (λ x. ((x.0.items, heap_of x.1), cursor.new)) result (cut.read cursor.old) }
+#[tactic(auto, unfolding(crate::specs::Grammar::kept_cut))]
+fn kept_cut<'a>(
+    alloc: Global,
+    keep: Keep,
+    cursor: &mut Cursor<'_, 'a>,
+) -> Result<(Vec<u32>, HeapTree<'a>), Refusal>
+    ensures { Gives (λ x. ((x.0.items, heap_of x.1), cursor.new)) result ((kept_cut keep).read cursor.old) }
 {
     let positions = bracketed(alloc, cursor)?;
-    let formula = heap(alloc, false, cursor)?;
+    let formula = kept_heap(alloc, false, keep, cursor)?;
     Ok((positions, formula))
 }
 
@@ -171,13 +175,14 @@ fn reason_word(cursor: &mut Cursor<'_, '_>) -> Result<ReasonWord, Refusal>
 }
 
 /// Reads what stands after the word of a reason.
-#[tactic(auto, unfolding(crate::specs::Grammar::parts))]
-fn parts<'a>(
+#[tactic(auto, unfolding(crate::specs::Grammar::kept_parts))]
+fn kept_parts<'a>(
     alloc: Global,
+    keep: Keep,
     word: ReasonWord,
     cursor: &mut Cursor<'_, 'a>,
 ) -> Result<ReasonTree<'a>, Refusal>
-    ensures { Gives (λ x. (reason_of x, cursor.new)) result (parts_read word cursor.old) }
+    ensures { Gives (λ x. (reason_of x, cursor.new)) result (kept_parts_read keep word cursor.old) }
 {
     match word {
         ReasonWord::Absurd => Ok(ReasonTree::Absurd),
@@ -196,7 +201,7 @@ fn parts<'a>(
         ReasonWord::Weaken => Ok(ReasonTree::Weaken(cursor.number()?)),
         ReasonWord::Unfold => Ok(ReasonTree::Unfold(cursor.number()?)),
         ReasonWord::Cut => {
-            let (positions, formula) = cut(alloc, cursor)?;
+            let (positions, formula) = kept_cut(alloc, keep, cursor)?;
             Ok(ReasonTree::Cut(positions, formula))
         }
         ReasonWord::Done => Ok(ReasonTree::Done),
@@ -220,10 +225,15 @@ fn parts<'a>(
     }
 }
 
-#[tactic(auto, unfolding(crate::specs::Grammar::reason))]
-pub fn reason<'a>(alloc: Global, cursor: &mut Cursor<'_, 'a>) -> Result<ReasonTree<'a>, Refusal>
-    ensures { Gives (λ x. (reason_of x, cursor.new)) result (reason.read cursor.old) }
+/// Reads a reason; so much is kept of the lists of its heap.
+#[tactic(auto, unfolding(crate::specs::Grammar::kept_reason))]
+pub fn kept_reason<'a>(
+    alloc: Global,
+    keep: Keep,
+    cursor: &mut Cursor<'_, 'a>,
+) -> Result<ReasonTree<'a>, Refusal>
+    ensures { Gives (λ x. (reason_of x, cursor.new)) result ((kept_reason keep).read cursor.old) }
 {
     let word = reason_word(cursor)?;
-    parts(alloc, word, cursor)
+    kept_parts(alloc, keep, word, cursor)
 }

@@ -8,12 +8,11 @@ ghost use Rattle.proof_syntax.specs.Grammar.{disjuncts, definitions, entailment,
 ghost use Rattle.proof_syntax.specs.Trees.{heap_of, definition_of, entailment_of, judgement_of, node_of, file_of};
 
 use crate::line_lists::write_lines;
-use crate::number_list::write_numbers;
 use crate::tree::{EntailmentTree, FileTree, HeapTree, JudgementTree, NodeTree};
 use crate::write_reasons::write_reason;
 use cyc_lex::WordWriter;
 use cyc_memory::OutOfMemory;
-use heap_syntax::{Mark, write_version};
+use heap_syntax::{Mark, write_numbers, write_version};
 use pred_syntax::{write_definitions, write_heap, write_heaps};
 use std::alloc::Global;
 

@@ -6,11 +6,11 @@ ghost use Rattle.cyc_grammar.specs.Syntax.{after, words_many, fits_many, list1};
 ghost use Rattle.proof_syntax.specs.Grammar.{uterm, comma, bracketed, pair, some_pair, pairs, link, reason, behind_word, FitsBehind};
 ghost use Rattle.proof_syntax.specs.Trees.{link_of, reason_of, word_of_reason};
 
-use crate::number_list::write_numbers;
 use crate::reason_word::{ReasonWord, text_of_side};
 use crate::tree::{LinkTree, PairTree, ReasonTree, TermTree};
 use cyc_lex::WordWriter;
 use cyc_memory::OutOfMemory;
+use heap_syntax::write_numbers;
 use pred_syntax::{write_heap, write_universal_term};
 
 #[tactic(auto, using(cyc_lex::proofs::WritingLaws::write_all_on), unfolding(crate::specs::Grammar::bracketed, cyc_lex::specs::Writing::write_all))]

@@ -1,16 +1,16 @@
-//! Lists of numbers.
+//! Lists of numbers without a word between them.
 
 ghost use Rattle.std.specs.Prelude.{◌≡◌, ◌++◌, ◌∷◌, [], OnOk};
 ghost use Rattle.cyc_lex.specs.Writing.{write, write_all};
 ghost use Rattle.cyc_grammar.specs.Giving.{Gives, with_front};
-ghost use Rattle.fo_proof_syntax.specs.Grammar.{numbers};
+ghost use Rattle.heap_syntax.specs.Numbers.{numbers};
 
 use cyc_grammar::{Cursor, Refusal};
 use cyc_lex::WordWriter;
 use cyc_memory::OutOfMemory;
 
 /// Reads the numbers after some.
-#[tactic(auto, unfolding(crate::specs::Grammar::numbers))]
+#[tactic(auto, unfolding(crate::specs::Numbers::numbers))]
 pub fn more_numbers(mut items: Vec<u32>, cursor: &mut Cursor<'_, '_>) -> Result<Vec<u32>, Refusal>
     ensures { Gives (λ x. (x.items, cursor.new)) result (with_front items.items (numbers.read cursor.old)) }
 {
@@ -27,7 +27,7 @@ pub fn more_numbers(mut items: Vec<u32>, cursor: &mut Cursor<'_, '_>) -> Result<
 }
 
 /// Writes the numbers.
-#[tactic(auto, unfolding(crate::specs::Grammar::numbers))]
+#[tactic(auto, unfolding(crate::specs::Numbers::numbers))]
 pub fn write_numbers(trees: &[u32], writer: &mut WordWriter) -> Result<(), OutOfMemory>
     ensures { OnOk result (writer.new ≡ write_all writer.old (numbers.words trees.now)) }
 {

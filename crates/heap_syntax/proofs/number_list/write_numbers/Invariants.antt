@@ -2,7 +2,7 @@ use Rattle.std.proofs.Common.{◌≡◌, drop}
 use Rattle.cyc_lex.specs.Writing.{write_all}
 use Rattle.cyc_grammar.specs.Syntax.{words_many, one}
 use Rattle.cyc_grammar.specs.Classes.{number}
-use Rattle.proof_syntax.proofs.number_list.write_numbers.Given as goal
+use Rattle.heap_syntax.proofs.number_list.write_numbers.Given as goal
 
 abbrev pub invariant-loop-tree : goal.invariant-loop-tree
 invariant-loop-tree l =

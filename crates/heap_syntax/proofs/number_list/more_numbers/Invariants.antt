@@ -2,7 +2,7 @@ use Rattle.std.proofs.Common.{◌≡◌, ◌-◌, length}
 use Rattle.cyc_grammar.specs.Syntax.{read_many, is_one, one}
 use Rattle.cyc_grammar.specs.Giving.{with_front}
 use Rattle.cyc_grammar.specs.Classes.{number}
-use Rattle.fo_proof_syntax.proofs.number_list.more_numbers.Given as goal
+use Rattle.heap_syntax.proofs.number_list.more_numbers.Given as goal
 
 abbrev pub invariant-loop : goal.invariant-loop
 invariant-loop l =

@@ -4,7 +4,7 @@ use Rattle.cyc_grammar.specs.Syntax.{begins, is_one, read_many, one}
 use Rattle.cyc_grammar.specs.Giving.{with_front}
 use Rattle.cyc_grammar.proofs.Loop.{goes_on}
 use Rattle.cyc_grammar.specs.Classes.{number}
-use Rattle.fo_proof_syntax.proofs.number_list.more_numbers.Goals as goal
+use Rattle.heap_syntax.proofs.number_list.more_numbers.Goals as goal
 
 pub loop-preserved : goal.loop-preserved
 loop-preserved c =

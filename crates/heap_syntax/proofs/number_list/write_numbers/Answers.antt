@@ -3,8 +3,8 @@ use Rattle.cyc_lex.specs.Writing.{write_all}
 use Rattle.cyc_grammar.specs.Syntax.{words_many, one}
 use Rattle.cyc_grammar.proofs.WrittenTexts.{left-at, none-at, wrote-item, wrote-all}
 use Rattle.cyc_grammar.specs.Classes.{number}
-use Rattle.fo_proof_syntax.specs.Grammar.{numbers}
-use Rattle.fo_proof_syntax.proofs.number_list.write_numbers.Goals as goal
+use Rattle.heap_syntax.specs.Numbers.{numbers}
+use Rattle.heap_syntax.proofs.number_list.write_numbers.Goals as goal
 
 pub loop-tree-preserved : goal.loop-tree-preserved
 unfolding numbers write_all
