@@ -5,10 +5,10 @@ ghost use Rattle.trace_pairs.specs.Graph.{IsGraph};
 ghost use Rattle.trace_pairs.specs.declared.reach.Visit.{Visit};
 ghost use Rattle.buchi_inclusion.specs.declared.product.Transition.{Transition};
 ghost use Rattle.buchi_core.specs.declared.event.Event.TheVariants.{Dies};
-ghost use Rattle.buchi_inclusion.specs.Product.{BadCycle};
-ghost use Rattle.buchi_inclusion.specs.Table.{states_of, IsTable, IsItem, AreItems};
-ghost use Rattle.buchi_inclusion.specs.Decision.{IsLeast, class_row as class_row_of, IsClass, IsWalk, IsNoWay, HasWay, AreWays, IsWayBetween, IsClassOf, IsWayBack, IsCounter, AreNoWays, IsGoodClass, IsAbsent, IsAbsentFrom};
-ghost use Rattle.buchi_inclusion.specs.BadMoves.{IsBadMove};
+ghost use Rattle.buchi_inclusion.specs.Table.{states_of, IsTable};
+ghost use Rattle.buchi_inclusion.specs.Decision.{IsLeast, class_row as class_row_of, IsClass, IsWalk, IsClassOf, IsWayBack, IsCounter, IsAbsent, IsAbsentFrom};
+ghost use Rattle.buchi_inclusion.specs.ClassWays.{IsClassItem, AreClassItems, HasClassWay, IsNoClassWay, FindsWay, AreClassWays, IsClassWayBetween};
+ghost use Rattle.buchi_inclusion.specs.BadMoves.{IsBadMove, DecidesRow, DecidesClass, Decides};
 
 use crate::product::{Table, Transition, state_at};
 use crate::ranks::{are_rising, rank_of, ranks_of};
@@ -84,9 +84,9 @@ fn steps_to(
     visits: &[Visit],
     place: usize,
 ) -> Result<Vec<Step>, OutOfMemory>
-    requires ways { (start : ℕ) × AreWays class.now.graph.now (states_of class.now.table.now.states) class.now.least start visits.now }
+    requires ways { (start : ℕ) × AreClassWays class.now start visits.now }
     requires place { place < length visits.now }
-    ensures { IfOk result (λ v. IsWayBetween class.now.graph.now (states_of class.now.table.now.states) class.now.least visits.now 0 place v.items) }
+    ensures { IfOk result (λ v. IsClassWayBetween class.now visits.now 0 place v.items) }
 {
     let mut steps = Vec::new(alloc);
     let mut at = place;
@@ -121,7 +121,7 @@ fn way_over(
     requires class { IsClassOf class.now }
     requires targets { IsClass class.now.least class.now.table.now.rows.items targets.now }
     requires start { start < length (states_of class.now.table.now.states) }
-    ensures { IfOk result (λ o. MatchOption o (IsNoWay class.now.graph.now (states_of class.now.table.now.states) class.now.least start to) (λ v. IsWalk class.now.graph.now (states_of class.now.table.now.states) class.now.least start to v.items)) }
+    ensures { IfOk result (FindsWay class.now start to) }
 {
     let visits = visits_from(alloc, targets, start)?;
     let Some(at) = place_of(&visits, to) else {
@@ -140,7 +140,7 @@ fn way_to(
 ) -> Result<Option<Vec<Step>>, OutOfMemory>
     requires class { IsClassOf class.now }
     requires start { start < length (states_of class.now.table.now.states) }
-    ensures { IfOk result (λ o. MatchOption o (IsNoWay class.now.graph.now (states_of class.now.table.now.states) class.now.least start to) (λ v. IsWalk class.now.graph.now (states_of class.now.table.now.states) class.now.least start to v.items)) }
+    ensures { IfOk result (FindsWay class.now start to) }
 {
     let targets = class_table(alloc, &class.table.rows, class.least)?;
     way_over(alloc, class, &targets, start, to)
@@ -224,8 +224,8 @@ pub fn lasso_of(
 fn leads_to(alloc: Global, class: &Class<'_>, start: usize, to: usize) -> Result<bool, OutOfMemory>
     requires class { IsClassOf class.now }
     requires start { start < length (states_of class.now.table.now.states) }
-    ensures way { IfOk result (λ b. b ≡ true → HasWay class.now.graph.now (states_of class.now.table.now.states) class.now.least start to) }
-    ensures none { IfOk result (λ b. b ≡ false → IsNoWay class.now.graph.now (states_of class.now.table.now.states) class.now.least start to) }
+    ensures way { IfOk result (λ b. b ≡ true → HasClassWay class.now start to) }
+    ensures none { IfOk result (λ b. b ≡ false → IsNoClassWay class.now start to) }
 {
     if is_reached(alloc, class, start, to)? {
         return Ok(true);
@@ -246,10 +246,11 @@ fn is_bad_item(
     item: Transition,
 ) -> Result<bool, OutOfMemory>
     requires class { IsClassOf class.now }
-    requires item { IsItem class.now.graph.now (states_of class.now.table.now.states) place edge item }
+    requires item { IsClassItem class.now place edge item }
     ensures least { IfOk result (λ b. b ≡ true → item.event ≡ class.now.least) }
-    ensures way { IfOk result (λ b. b ≡ true → HasWay class.now.graph.now (states_of class.now.table.now.states) class.now.least item.target place) }
-    ensures none { IfOk result (λ b. b ≡ false → item.event ≡ class.now.least → IsNoWay class.now.graph.now (states_of class.now.table.now.states) class.now.least item.target place) }
+    ensures way { IfOk result (λ b. b ≡ true → HasClassWay class.now item.target place) }
+    ensures none { IfOk result (λ b. b ≡ false → item.event ≡ class.now.least
+        → IsNoClassWay class.now item.target place) }
 {
     if earlier(item.event, class.least) {
         return Ok(false);
@@ -275,8 +276,8 @@ fn decide_row(
     row: &[Transition],
 ) -> Result<Option<BadMove>, OutOfMemory>
     requires class { IsClassOf class.now }
-    requires row { AreItems class.now.graph.now (states_of class.now.table.now.states) place row.now }
-    ensures { IfOk result (λ o. MatchOption o (AreNoWays class.now.graph.now (states_of class.now.table.now.states) class.now.least place row.now) (IsBadMove class.now.graph.now (states_of class.now.table.now.states))) }
+    requires row { AreClassItems class.now place row.now }
+    ensures { IfOk result (DecidesRow class.now place row.now) }
 {
     for (edge, item) in row.iter().enumerate() {
         if is_bad_item(alloc, class, place, edge, *item)? {
@@ -325,7 +326,7 @@ fn search_class(
     requires graph { IsGraph graph.now }
     requires table { IsTable graph.now (states_of table.now.states) table.now.rows.items }
     requires least { IsLeast least }
-    ensures { IfOk result (λ o. MatchOption o (IsGoodClass graph.now (states_of table.now.states) table.now.rows.items least) (IsBadMove graph.now (states_of table.now.states))) }
+    ensures { IfOk result (DecidesClass graph.now table.now least) }
 {
     let ranks = ranks_of(alloc, &table.rows, least)?;
     let rising = are_rising(&table.rows, least, &ranks);
@@ -355,7 +356,7 @@ fn decide_class(
     requires graph { IsGraph graph.now }
     requires table { IsTable graph.now (states_of table.now.states) table.now.rows.items }
     requires least { IsLeast least }
-    ensures { IfOk result (λ o. MatchOption o (IsGoodClass graph.now (states_of table.now.states) table.now.rows.items least) (IsBadMove graph.now (states_of table.now.states))) }
+    ensures { IfOk result (DecidesClass graph.now table.now least) }
 {
     if !rows_have(&table.rows, least) {
         return Ok(None);
@@ -395,7 +396,7 @@ pub fn decide(
 ) -> Result<Option<BadMove>, OutOfMemory>
     requires graph { IsGraph graph.now }
     requires table { IsTable graph.now (states_of table.now.states) table.now.rows.items }
-    ensures { IfOk result (λ o. MatchOption o (BadCycle graph.now → ⊥) (IsBadMove graph.now (states_of table.now.states))) }
+    ensures { IfOk result (Decides graph.now table.now) }
 {
     let found = decide_class(alloc, graph, table, Event::Nothing)?;
     if found.is_some() {

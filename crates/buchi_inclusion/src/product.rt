@@ -3,9 +3,9 @@
 ghost use Rattle.std.specs.Prelude.{ℕ, ◌≡◌, ◌≤◌, ◌<◌, ◌^◌, Some, length, slice_get, IfOk, OnOk, MatchOption};
 ghost use Rattle.buchi_core.specs.Stepping.{forest_in};
 ghost use Rattle.buchi_core.specs.View.{forest_of};
-ghost use Rattle.buchi_inclusion.specs.Table.{state_of, states_of, IsFound, IsLast, IsState, Finds, AreStates, IsRow, Extends, IsTable};
+ghost use Rattle.buchi_inclusion.specs.Table.{state_of, states_of, IsFound, IsLast, IsState, Finds, AreStates, Extends};
 ghost use Rattle.trace_pairs.specs.Graph.{IsGraph};
-ghost use Rattle.buchi_inclusion.specs.Answers.{HasMoreThan};
+ghost use Rattle.buchi_inclusion.specs.Explored.{ExploresRow, Explores};
 ghost use Rattle.buchi_inclusion.specs.Product.{State, IsStart};
 
 use buchi_core::{AgeForest, Entry, Event, Stepper, entries_in, start};
@@ -52,7 +52,8 @@ pub fn count_of(states: &IndexSet<Product<'_>>) -> usize
 
 /// The state at a place.
 pub fn state_at<'a>(states: &IndexSet<Product<'a>>, place: usize) -> Option<Product<'a>>
-    ensures { MatchOption result (length (states_of states.now) ≤ place) (λ p. slice_get (states_of states.now) place ≡ Some (state_of p)) }
+    ensures { MatchOption result (length (states_of states.now) ≤ place)
+        (λ p. slice_get (states_of states.now) place ≡ Some (state_of p)) }
 {
     let all = states.as_slice();
     if place < all.len() {
@@ -119,7 +120,7 @@ fn explore_row<'a>(
     requires few { length (states_of states.old) ≤ limit }
     ensures states { OnOk result (AreStates graph.now (states_of states.new)) }
     ensures extends { OnOk result (Extends (states_of states.old) (states_of states.new)) }
-    ensures row { IfOk result (λ o. MatchOption o (HasMoreThan graph.now limit) (λ row. IsRow graph.now (states_of states.new) place row.items × (length (states_of states.new) ≤ limit))) }
+    ensures row { IfOk result (ExploresRow graph.now limit (states_of states.new) place) }
 {
     let mut row = Vec::new(alloc);
     let Some(state) = state_at(states, place) else {
@@ -170,7 +171,7 @@ pub fn explore<'a>(
     limit: u32,
 ) -> Result<Option<Table<'a>>, OutOfMemory>
     requires graph { IsGraph graph.now }
-    ensures { IfOk result (λ o. MatchOption o (HasMoreThan graph.now limit) (λ t. IsTable graph.now (states_of t.states) t.rows.items × (length (states_of t.states) ≤ limit))) }
+    ensures { IfOk result (Explores graph.now limit) }
 {
     let mut states = IndexSet::with_capacity(alloc, graph.len())?;
     let first = first_forest(graph);

@@ -1,8 +1,9 @@
 //! A search in depth for a way from one state of a product to another.
 
 ghost use Rattle.std.specs.Prelude.{◌≡◌, ◌<◌, ◌≤◌, true, length, IfOk, OnOk, MatchOption, slice_get, Some};
-ghost use Rattle.buchi_inclusion.specs.Table.{states_of, IsItem, AreItems};
-ghost use Rattle.buchi_inclusion.specs.Decision.{IsClassOf, HasWay, AreLed};
+ghost use Rattle.buchi_inclusion.specs.Table.{states_of};
+ghost use Rattle.buchi_inclusion.specs.Decision.{IsClassOf};
+ghost use Rattle.buchi_inclusion.specs.ClassWays.{IsClassItem, AreClassItems, HasClassWay, AreClassLed};
 
 use crate::decision::Class;
 use crate::product::Transition;
@@ -41,10 +42,10 @@ fn push_target(
     stack: &mut Vec<usize>,
 ) -> Result<(), OutOfMemory>
     requires class { IsClassOf class.now }
-    requires item { IsItem class.now.graph.now (states_of class.now.table.now.states) place edge item }
-    requires way { HasWay class.now.graph.now (states_of class.now.table.now.states) class.now.least start place }
-    requires stack { AreLed class.now.graph.now (states_of class.now.table.now.states) class.now.least start stack.old.items }
-    ensures { OnOk result (AreLed class.now.graph.now (states_of class.now.table.now.states) class.now.least start stack.new.items) }
+    requires item { IsClassItem class.now place edge item }
+    requires way { HasClassWay class.now start place }
+    requires stack { AreClassLed class.now start stack.old.items }
+    ensures { OnOk result (AreClassLed class.now start stack.new.items) }
 {
     if earlier(item.event, class.least) {
         return Ok(());
@@ -66,10 +67,10 @@ fn push_targets(
     stack: &mut Vec<usize>,
 ) -> Result<(), OutOfMemory>
     requires class { IsClassOf class.now }
-    requires row { AreItems class.now.graph.now (states_of class.now.table.now.states) place row.now }
-    requires way { HasWay class.now.graph.now (states_of class.now.table.now.states) class.now.least start place }
-    requires stack { AreLed class.now.graph.now (states_of class.now.table.now.states) class.now.least start stack.old.items }
-    ensures { OnOk result (AreLed class.now.graph.now (states_of class.now.table.now.states) class.now.least start stack.new.items) }
+    requires row { AreClassItems class.now place row.now }
+    requires way { HasClassWay class.now start place }
+    requires stack { AreClassLed class.now start stack.old.items }
+    ensures { OnOk result (AreClassLed class.now start stack.new.items) }
 {
     for (edge, item) in row.iter().enumerate() {
         push_target(class, start, place, edge, *item, marks, stack)?;
@@ -86,9 +87,9 @@ fn push_row(
     stack: &mut Vec<usize>,
 ) -> Result<(), OutOfMemory>
     requires class { IsClassOf class.now }
-    requires way { HasWay class.now.graph.now (states_of class.now.table.now.states) class.now.least start place }
-    requires stack { AreLed class.now.graph.now (states_of class.now.table.now.states) class.now.least start stack.old.items }
-    ensures { OnOk result (AreLed class.now.graph.now (states_of class.now.table.now.states) class.now.least start stack.new.items) }
+    requires way { HasClassWay class.now start place }
+    requires stack { AreClassLed class.now start stack.old.items }
+    ensures { OnOk result (AreClassLed class.now start stack.new.items) }
 {
     match row_at(&class.table.rows, place) {
         None => Ok(()),
@@ -106,7 +107,7 @@ pub fn is_reached(
 ) -> Result<bool, OutOfMemory>
     requires class { IsClassOf class.now }
     requires start { start < length (states_of class.now.table.now.states) }
-    ensures { IfOk result (λ b. b ≡ true → HasWay class.now.graph.now (states_of class.now.table.now.states) class.now.least start to) }
+    ensures { IfOk result (λ b. b ≡ true → HasClassWay class.now start to) }
 {
     let count = class.table.rows.len();
     let mut marks = vec![in alloc; false; count]?;

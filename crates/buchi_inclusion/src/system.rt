@@ -1,8 +1,8 @@
 //! The check of a proof system: its least faulty node, and else whether all its lassos progress.
 
-ghost use Rattle.std.specs.Prelude.{◌≡◌, IfOk, MatchOption};
-ghost use Rattle.trace_pairs.specs.System.{NoneFaulty, IsLeastFaulty};
-ghost use Rattle.buchi_inclusion.specs.Checked.{IsChecked};
+ghost use Rattle.std.specs.Prelude.{◌≡◌, IfOk};
+ghost use Rattle.trace_pairs.specs.System.{NoneFaulty};
+ghost use Rattle.buchi_inclusion.specs.Checked.{FindsFaulty, IsChecked};
 
 use crate::{Inclusion, included};
 use cyc_memory::OutOfMemory;
@@ -21,7 +21,7 @@ pub enum Checked {
 
 /// The least faulty node.
 fn least_faulty<P: ProofSystem>(alloc: Global, proof: &P) -> Result<Option<u32>, OutOfMemory>
-    ensures { IfOk result (λ o. MatchOption o (NoneFaulty (P.graph_of proof.now) (P.is_faulty proof.now)) (λ n. IsLeastFaulty (P.graph_of proof.now) (P.is_faulty proof.now) n)) }
+    ensures { IfOk result (FindsFaulty (P.graph_of proof.now) (P.is_faulty proof.now)) }
 {
     for node in 0..proof.nodes() {
         if proof.faulty(alloc, node)? {

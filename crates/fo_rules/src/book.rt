@@ -56,7 +56,8 @@ pub fn premises(
     requires left_fits { length sequent.now.left ≤ MOST_LEFT }
     requires right_fits { length sequent.now.right ≤ MOST_RIGHT }
     ensures answer { IsAnswer result (rule_answer theory.now sequent.now rule.now) }
-    ensures sound { IfOk result (λ v. HasConstant theory.now → IsOpenSequent theory.now.constructors sequent.now → HasOpenTerms theory.now.constructors rule.now → IsLocallySound theory.now sequent.now v.items) }
+    ensures sound { IfOk result (λ v. HasConstant theory.now → IsOpenSequent theory.now.constructors sequent.now
+        → HasOpenTerms theory.now.constructors rule.now → IsLocallySound theory.now sequent.now v.items) }
 {
     premises_by_rule(alloc, theory, sequent, rule)
 }

@@ -1,14 +1,13 @@
 // Links from buds to companions.
 ghost use Rattle.std.specs.Prelude.{◌≡◌, ◌<◌, ◌≤◌, ◌^◌, ℕ, length, map, slice_get, slice_index, IfOk};
-ghost use Rattle.std.specs.Option.{option_map};
 ghost use Rattle.fo_formula.specs.Sizes.{atoms_size};
 ghost use Rattle.fo_formula.specs.Words.{in_atom};
 ghost use Rattle.fo_table.specs.Answered.{IsAnswer};
-ghost use Rattle.fo_table.specs.LinkTable.{is_atom, linked, map_place as place_of, link_fault as fault_of_link, link_premise as premise_of};
-ghost use Rattle.fo_table.specs.Nodes.{unless_fault};
+ghost use Rattle.fo_table.specs.LinkTable.{is_atom, map_place as place_of, link_fault as fault_of_link, link_premise as premise_of};
 ghost use Rattle.fo_table.specs.Traces.{pairs_from};
 ghost use Rattle.fo_parts.specs.Putting.{put};
 ghost use Rattle.fo_parts.specs.declared.changes.Change.TheVariants.{Substitution};
+ghost use Rattle.fo_rules.specs.Answers.{right_link_fault, companion_answer};
 
 use cyc_limits::{MOST_LEFT, MOST_RIGHT, MOST_TERMS};
 use cyc_memory::OutOfMemory;
@@ -82,7 +81,7 @@ fn right_fault(
     requires change { change.now ≡ Substitution link.now.substitution }
     requires small { atoms_size bud.now.right ≤ MOST_TERMS }
     requires few { length companion.now.right ≤ MOST_RIGHT }
-    ensures { IfOk result (λ o. o ≡ option_map FoFault.LinkRight (place_of bud.now.right 0 link.now.right_map (linked link.now companion.now.right))) }
+    ensures { IfOk result (λ o. o ≡ right_link_fault bud.now companion.now link.now) }
 {
     let entries = link.right_map.as_slice();
     let atoms = companion.right.as_slice();
@@ -171,7 +170,7 @@ pub fn premises_by_link(
     requires bud_few { length bud.now.left ≤ MOST_LEFT }
     requires left_few { length companion.now.left ≤ MOST_LEFT }
     requires right_few { length companion.now.right ≤ MOST_RIGHT }
-    ensures { IsAnswer result (unless_fault (fault_of_link bud.now companion.now link.now) (premise_of companion.now link.now)) }
+    ensures { IsAnswer result (companion_answer bud.now companion.now link.now) }
 {
     let fault = link_fault(alloc, bud, companion, link)?;
     match fault {

@@ -1,14 +1,14 @@
 // A term in the place of a variable that it equals.
 ghost use Rattle.std.specs.Prelude.{◌≡◌, ◌<◌, ◌≤◌, ◌+◌, ◌∷◌, [], length, map, nat_le, IfOk};
 ghost use Rattle.heap_formula.specs.Positions.{without};
-ghost use Rattle.fo_formula.specs.Sizes.{atoms_size};
 ghost use Rattle.fo_formula.specs.Words.{in_atom};
 ghost use Rattle.fo_table.specs.Answered.{IsAnswer};
-ghost use Rattle.fo_table.specs.Answers.{finds, limited as limited_answer};
+ghost use Rattle.fo_table.specs.Answers.{limited as limited_answer};
 ghost use Rattle.fo_table.specs.Table.{with_term, named as named_of, unnamed as unnamed_of, replace_answer};
-ghost use Rattle.fo_table.specs.Tests.{only_variable as only_variable_of};
 ghost use Rattle.fo_parts.specs.Putting.{put};
 ghost use Rattle.fo_parts.specs.declared.changes.Change.TheVariants.{Substitution};
+ghost use Rattle.fo_rules.specs.Making.{changed_size};
+ghost use Rattle.fo_rules.specs.Answers.{named_answer};
 
 use cyc_limits::{MOST_LEFT, MOST_RIGHT, MOST_TERMS};
 use cyc_memory::OutOfMemory;
@@ -30,7 +30,7 @@ fn one_term(alloc: Global, n: u16, term: &Term) -> Result<Change, OutOfMemory>
 
 /// Whether the two sides have at most 4,096 terms after a change.
 fn are_small(change: &Change, left: &[FoAtom], right: &[FoAtom]) -> bool
-    ensures { result ≡ nat_le (atoms_size (map (in_atom (put change.now)) left.now) + atoms_size (map (in_atom (put change.now)) right.now)) MOST_TERMS }
+    ensures { result ≡ nat_le (changed_size change.now left.now + changed_size change.now right.now) MOST_TERMS }
 {
     size_of_changed_atoms(change, left) + size_of_changed_atoms(change, right) <= MOST_TERMS
 }
@@ -100,7 +100,7 @@ fn replaced_named(
     requires i_in { i < length sequent.now.left }
     requires left_fits { length sequent.now.left ≤ MOST_LEFT }
     requires right_fits { length sequent.now.right ≤ MOST_RIGHT }
-    ensures { IsAnswer result (finds (only_variable_of named.now) FoFault.NotVariable (λ n. limited_answer sequent.now 0 (with_term sequent.now i n other.now ∷ []))) }
+    ensures { IsAnswer result (named_answer sequent.now i named.now other.now) }
 {
     match only_variable(named.as_slice()) {
         None => Err(FoRuleError::Fault(FoFault::NotVariable)),
@@ -119,7 +119,8 @@ fn replaced_side(
     requires i_in { i < length sequent.now.left }
     requires left_fits { length sequent.now.left ≤ MOST_LEFT }
     requires right_fits { length sequent.now.right ≤ MOST_RIGHT }
-    ensures { IsAnswer result (finds (only_variable_of (named_of side left.now right.now)) FoFault.NotVariable (λ n. limited_answer sequent.now 0 (with_term sequent.now i n (unnamed_of side left.now right.now) ∷ []))) }
+    ensures { IsAnswer result
+        (named_answer sequent.now i (named_of side left.now right.now) (unnamed_of side left.now right.now)) }
 {
     match side {
         Side::Left => replaced_named(alloc, sequent, i, left, right),

@@ -1,17 +1,12 @@
 // The atoms of a case in the place of a predicate on the right.
-ghost use Rattle.std.specs.Prelude.{◌≡◌, ◌<◌, ◌≤◌, ◌+◌, length, map, nat_le, nat_eq, slice_get, IfOk};
+ghost use Rattle.std.specs.Prelude.{◌≡◌, ◌<◌, ◌≤◌, ◌+◌, length, map, IfOk};
 ghost use Rattle.std.specs.List.{list_all};
 ghost use Rattle.fo_formula.specs.Meaning.{cases_of};
-ghost use Rattle.fo_formula.specs.Bounds.{atoms_bound};
-ghost use Rattle.fo_formula.specs.Sizes.{atom_size, words_size};
-ghost use Rattle.fo_formula.specs.Words.{in_atom};
-ghost use Rattle.fo_formula.specs.declared.atoms.FoAtom.{FoAtom as AtomValue};
 ghost use Rattle.fo_formula.specs.declared.numbers.Kind.TheVariants.{Locals};
 ghost use Rattle.fo_table.specs.Answered.{IsAnswer};
-ghost use Rattle.fo_table.specs.Answers.{needs, finds, limited as limited_answer};
-ghost use Rattle.fo_table.specs.Table.{right_premise as premise_of, right_answer};
-ghost use Rattle.fo_parts.specs.Putting.{put};
-ghost use Rattle.fo_rules.specs.Making.{right_by};
+ghost use Rattle.fo_table.specs.Table.{right_answer};
+ghost use Rattle.fo_rules.specs.Making.{right_by, atom_fits};
+ghost use Rattle.fo_rules.specs.Answers.{case_answer, numbered_answer, chosen_answer};
 
 use cyc_limits::{MOST_LEFT, MOST_RIGHT, MOST_TERMS};
 use cyc_memory::OutOfMemory;
@@ -79,7 +74,7 @@ fn case_premises(
 /// Whether each atom of the case, after a change, has with `others` terms at most 4,096.
 fn are_small(others: usize, change: &Change, case: &[FoAtom]) -> bool
     requires { others ≤ 8194 }
-    ensures { result ≡ list_all (λ (x : AtomValue). nat_le (others + atom_size (in_atom (put change.now) x)) MOST_TERMS) case.now }
+    ensures { result ≡ list_all (atom_fits others change.now) case.now }
 {
     for atom in case {
         if others + size_of_changed_atom(change, atom) > MOST_TERMS {
@@ -100,7 +95,7 @@ fn case_in_place(
     requires j_in { j < length sequent.now.right }
     requires left_fits { length sequent.now.left ≤ MOST_LEFT }
     requires right_fits { length sequent.now.right ≤ MOST_RIGHT }
-    ensures { IsAnswer result (limited_answer sequent.now (words_size terms.now) (map (premise_of sequent.now j arguments.now terms.now) case.now)) }
+    ensures { IsAnswer result (case_answer sequent.now j arguments.now terms.now case.now) }
 {
     if !is_small_with(sequent, size_of_terms(terms.as_slice())) {
         return Err(FoRuleError::Fault(FoFault::TooManyTerms));
@@ -128,7 +123,7 @@ fn numbered_case(
     requires j_in { j < length sequent.now.right }
     requires left_fits { length sequent.now.left ≤ MOST_LEFT }
     requires right_fits { length sequent.now.right ≤ MOST_RIGHT }
-    ensures { IsAnswer result (needs (nat_eq (length terms.now) (atoms_bound Locals case.now)) FoFault.TermCount (limited_answer sequent.now (words_size terms.now) (map (premise_of sequent.now j arguments.now terms.now) case.now))) }
+    ensures { IsAnswer result (numbered_answer sequent.now j arguments.now terms.now case.now) }
 {
     if terms.as_slice().len() != bound_of_atoms(Kind::Locals, case) as usize {
         return Err(FoRuleError::Fault(FoFault::TermCount));
@@ -148,7 +143,7 @@ fn chosen_case(
     requires j_in { j < length sequent.now.right }
     requires left_fits { length sequent.now.left ≤ MOST_LEFT }
     requires right_fits { length sequent.now.right ≤ MOST_RIGHT }
-    ensures { IsAnswer result (finds (slice_get cases.now c) FoFault.NoSuchCase (λ case. needs (nat_eq (length terms.now) (atoms_bound Locals case)) FoFault.TermCount (limited_answer sequent.now (words_size terms.now) (map (premise_of sequent.now j arguments.now terms.now) case)))) }
+    ensures { IsAnswer result (chosen_answer cases.now sequent.now j c arguments.now terms.now) }
 {
     match cases.get(c as usize) {
         None => Err(FoRuleError::Fault(FoFault::NoSuchCase)),

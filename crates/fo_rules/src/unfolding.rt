@@ -1,18 +1,13 @@
 // The cases in the place of a predicate on the left.
-ghost use Rattle.std.specs.Prelude.{◌≡◌, ◌<◌, ◌≤◌, ◌+◌, true, length, map, nat_le, ◌&&◌, List, [], ◌∷◌, IfOk};
+ghost use Rattle.std.specs.Prelude.{◌≡◌, ◌<◌, ◌≤◌, ◌+◌, true, length, map, nat_le, List, [], ◌∷◌, IfOk};
 ghost use Rattle.std.specs.List.{list_all};
 ghost use Rattle.fo_formula.specs.Bounds.{atoms_bound, sequent_bound};
-ghost use Rattle.fo_formula.specs.Sizes.{atoms_size, sequent_size};
-ghost use Rattle.fo_formula.specs.Values.{sign_value};
-ghost use Rattle.fo_parts.specs.Capping.{capped};
-ghost use Rattle.fo_formula.specs.Words.{in_atom};
 ghost use Rattle.fo_formula.specs.declared.atoms.FoAtom.{FoAtom as AtomValue};
 ghost use Rattle.fo_formula.specs.declared.numbers.Kind.TheVariants.{Locals};
 ghost use Rattle.fo_formula.specs.declared.terms.Sign.TheVariants.{Universal};
 ghost use Rattle.fo_table.specs.Answered.{IsAnswer};
 ghost use Rattle.fo_table.specs.Table.{variables_from, is_numbered, unfold_premise as premise_of, unfold_cases as cases_answer, unfold_answer};
-ghost use Rattle.fo_rules.specs.Making.{unfold_by};
-ghost use Rattle.fo_parts.specs.Putting.{put};
+ghost use Rattle.fo_rules.specs.Making.{unfold_by, case_fits, unfolding_fits};
 
 use crate::right_cases::cases;
 use cyc_limits::{MOST_LEFT, MOST_RIGHT, MOST_TERMS, VARIABLE_NUMBERS};
@@ -43,7 +38,7 @@ fn are_short(kept: usize, cases: &[FoAtoms]) -> bool
 /// Whether each case, after a change, has with `others` terms at most 4,096.
 fn are_small(others: usize, change: &Change, cases: &[FoAtoms]) -> bool
     requires { others ≤ 8194 }
-    ensures { result ≡ list_all (λ (c : List AtomValue). nat_le (others + atoms_size (map (in_atom (put change.now)) c)) MOST_TERMS) cases.now }
+    ensures { result ≡ list_all (case_fits others change.now) cases.now }
 {
     for case in cases {
         if others + size_of_changed_atoms(change, case.as_slice()) > MOST_TERMS {
@@ -156,7 +151,7 @@ fn fit(
     arguments: &Terms,
     cases: &[FoAtoms],
 ) -> Result<bool, OutOfMemory>
-    ensures { IfOk result (λ b. b ≡ nat_le (sequent_size sequent.now + 0) MOST_TERMS && list_all (λ (c : List AtomValue). nat_le ((capped (atoms_size kept.now) + capped (atoms_size sequent.now.right)) + atoms_size (map (in_atom (sign_value arguments.now [])) c)) MOST_TERMS) cases.now) }
+    ensures { IfOk result (λ b. b ≡ unfolding_fits sequent.now kept.now arguments.now cases.now) }
 {
     if !is_small_with(sequent, 0) {
         return Ok(false);

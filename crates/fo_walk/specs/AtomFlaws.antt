@@ -42,7 +42,18 @@ module _ (constructors : List Heading) (scope : Scope) where
   abbrev pub term_flaw : ℕ → ℕ → Found → List Sign → Found
   term_flaw m k limit t = signs_flaw m k limit t (places_of t)
 
+  -- a term, the token between and a term; the limit stands against the first alone
+  abbrev pub equation_flaw : ℕ → ℕ → Found → List Sign → List Sign → Found
+  equation_flaw m k limit t u =
+      or_later (term_flaw m k limit t) (term_flaw (m + length t) (k + tokens_in t + 1) None u)
+
   module _ (predicates : List Heading) where
+    -- a predicate's name with so many arguments, whose signs have these places
+    abbrev pub name_flaw : Reached → Found → List ℕ → ℕ → List Sign → List ℕ → Found
+    name_flaw from limit name n ss places =
+        or_later (use_flaw (arity_in predicates name) n from.token)
+        (or_later limit (signs_flaw from.terms from.token None ss places))
+
     abbrev pub predicate_flaw : ℕ → ℕ → Found → List Sign → Found
     predicate_flaw m k limit [] = None
     predicate_flaw m k limit (Variable n ∷ ss) = None
@@ -50,7 +61,7 @@ module _ (constructors : List Heading) (scope : Scope) where
     predicate_flaw m k limit (Apply name n ∷ ss) = or_later (use_flaw (arity_in predicates name) n k) (or_later limit (signs_flaw m k None ss (drop 1 (places_of (Apply name n ∷ ss)))))
 
     abbrev pub atom_flaw : ℕ → ℕ → Found → Atom → Found
-    atom_flaw m k limit (Equation t u) = or_later (term_flaw m k limit t) (term_flaw (m + length t) (k + tokens_in t + 1) None u)
+    atom_flaw m k limit (Equation t u) = equation_flaw m k limit t u
     atom_flaw m k limit (Predicate t) = predicate_flaw m k limit t
 
     -- atoms of which n stand before, in a list of at most so many
@@ -71,3 +82,8 @@ abbrev pub IsWalk : Result Reached Stop → Found → ℕ → ℕ → Type 0
 IsWalk (Ok reached) found token terms = (found ≡ None) × ((reached.token ≡ token) × (reached.terms ≡ terms))
 IsWalk (Err (Flaw flaw)) found token terms = found ≡ Some flaw
 IsWalk (Err OutOfMemory) found token terms = Unit {0}
+
+-- the same from what is reached on, over so many tokens and terms
+abbrev pub IsWalkFrom : Reached → Result Reached Stop → (ℕ → ℕ → Found) → ℕ → ℕ → Type 0
+IsWalkFrom from result flaw tokens terms =
+    IsWalk result (flaw from.terms from.token) (from.token + tokens) (from.terms + terms)

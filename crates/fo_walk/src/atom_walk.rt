@@ -7,8 +7,8 @@ ghost use Rattle.fo_term_syntax.specs.Places.{places_of as places_in, tokens_in}
 ghost use Rattle.fo_term_syntax.proofs.PlaceLaws.{HaveRoom};
 ghost use Rattle.cyc_lex.specs.declared.fault.What.TheVariants.{Atoms};
 ghost use Rattle.fo_walk.specs.AtomSpans.{atom_span, total_span, atoms_span, behind_first, terms_in, total_terms, IsAtom, AreAtoms};
-ghost use Rattle.heap_reader.specs.Flaws.{or_later, over_if, arity_in, use_flaw, IsName};
-ghost use Rattle.fo_walk.specs.AtomFlaws.{signs_flaw, term_flaw, predicate_flaw, atom_flaw, atoms_flaw, side_flaw, IsWalk};
+ghost use Rattle.heap_reader.specs.Flaws.{or_later, over_if, IsName};
+ghost use Rattle.fo_walk.specs.AtomFlaws.{predicate_flaw, atom_flaw, atoms_flaw, side_flaw, equation_flaw, name_flaw, IsWalkFrom};
 
 use crate::flaw::{Reached, Scope, Stop};
 use crate::term_walk::{check_limit, check_use, walk_signs, walk_term};
@@ -28,9 +28,11 @@ fn walk_equation(
 ) -> Result<Reached, Stop>
     requires left { IsTerm (map sign_of left.now) }
     requires right { IsTerm (map sign_of right.now) }
-    requires tokens { from.token + (tokens_in (map sign_of left.now) + 1 + tokens_in (map sign_of right.now) + 1) < 2 ^ 64 }
+    requires tokens { from.token + atom_span (Equation (map sign_of left.now) (map sign_of right.now)) < 2 ^ 64 }
     requires terms { from.terms + (length left.now + length right.now) < 2 ^ 64 }
-    ensures { IsWalk result (or_later (term_flaw constructors.now scope from.terms from.token limit (map sign_of left.now)) (term_flaw constructors.now scope (from.terms + length (map sign_of left.now)) (from.token + tokens_in (map sign_of left.now) + 1) None (map sign_of right.now))) (from.token + (tokens_in (map sign_of left.now) + 1 + tokens_in (map sign_of right.now) + 1)) (from.terms + (length left.now + length right.now)) }
+    ensures { IsWalkFrom from result
+        (λ m k. equation_flaw constructors.now scope m k limit (map sign_of left.now) (map sign_of right.now))
+        (atom_span (Equation (map sign_of left.now) (map sign_of right.now))) (length left.now + length right.now) }
 {
     let middle = walk_term(alloc, constructors, scope, limit, from, left)?;
     let behind_sign = Reached {
@@ -58,7 +60,9 @@ fn check_predicate(
     requires each { length signs.now < length places.now }
     requires room { HaveRoom (2 ^ 64 - (from.token + 1)) places.now }
     requires terms { from.terms + length signs.now < 2 ^ 64 }
-    ensures { IsName result (or_later (use_flaw (arity_in predicates.now name.now) arguments from.token) (or_later limit (signs_flaw constructors.now scope from.terms from.token None (map sign_of signs.now) places.now))) }
+    ensures { IsName result
+        (name_flaw constructors.now scope predicates.now from limit name.now arguments
+        (map sign_of signs.now) places.now) }
 {
     check_use(predicates.arity_of(name), arguments, from.token)?;
     check_limit(limit)?;
@@ -81,7 +85,10 @@ fn walk_use(
     requires places { places.now ≡ places_in (Apply name.now arguments ∷ map sign_of others.now) }
     requires tokens { from.token + (tokens_in (Apply name.now arguments ∷ map sign_of others.now) + 1) < 2 ^ 64 }
     requires terms { from.terms + length others.now < 2 ^ 64 }
-    ensures { IsWalk result (predicate_flaw constructors.now scope predicates.now from.terms from.token limit (Apply name.now arguments ∷ map sign_of others.now)) (from.token + (tokens_in (Apply name.now arguments ∷ map sign_of others.now) + 1)) (from.terms + length others.now) }
+    ensures { IsWalkFrom from result
+        (λ m k. predicate_flaw constructors.now scope predicates.now m k limit
+        (Apply name.now arguments ∷ map sign_of others.now))
+        (tokens_in (Apply name.now arguments ∷ map sign_of others.now) + 1) (length others.now) }
 {
     let last = places[others.len() + 1];
     let behind_name = &places[1..];
@@ -117,7 +124,9 @@ fn walk_predicate(
     requires is { IsApplication (map sign_of signs.now) }
     requires tokens { from.token + (tokens_in (map sign_of signs.now) + 1) < 2 ^ 64 }
     requires terms { from.terms + behind_first (map sign_of signs.now) < 2 ^ 64 }
-    ensures { IsWalk result (predicate_flaw constructors.now scope predicates.now from.terms from.token limit (map sign_of signs.now)) (from.token + (tokens_in (map sign_of signs.now) + 1)) (from.terms + behind_first (map sign_of signs.now)) }
+    ensures { IsWalkFrom from result
+        (λ m k. predicate_flaw constructors.now scope predicates.now m k limit (map sign_of signs.now))
+        (tokens_in (map sign_of signs.now) + 1) (behind_first (map sign_of signs.now)) }
 {
     let places = places_of(alloc, signs)?;
     match signs {
@@ -152,7 +161,9 @@ pub fn walk_atom(
     requires is { IsAtom (atom_of tree.now) }
     requires tokens { from.token + atom_span (atom_of tree.now) < 2 ^ 64 }
     requires terms { from.terms + terms_in (atom_of tree.now) < 2 ^ 64 }
-    ensures { IsWalk result (atom_flaw constructors.now scope predicates.now from.terms from.token limit (atom_of tree.now)) (from.token + atom_span (atom_of tree.now)) (from.terms + terms_in (atom_of tree.now)) }
+    ensures { IsWalkFrom from result
+        (λ m k. atom_flaw constructors.now scope predicates.now m k limit (atom_of tree.now))
+        (atom_span (atom_of tree.now)) (terms_in (atom_of tree.now)) }
 {
     match tree {
         AtomTree::Equation(left, right) => walk_equation(
@@ -199,7 +210,9 @@ fn walk_some_atoms(
     requires are { AreAtoms (map atom_of trees.now) }
     requires tokens { from.token + total_span (map atom_of trees.now) < 2 ^ 64 }
     requires terms { from.terms + total_terms (map atom_of trees.now) < 2 ^ 64 }
-    ensures { IsWalk result (atoms_flaw constructors.now scope predicates.now most 0 from.terms from.token limit (map atom_of trees.now)) (from.token + total_span (map atom_of trees.now)) (from.terms + total_terms (map atom_of trees.now)) }
+    ensures { IsWalkFrom from result
+        (λ m k. atoms_flaw constructors.now scope predicates.now most 0 m k limit (map atom_of trees.now))
+        (total_span (map atom_of trees.now)) (total_terms (map atom_of trees.now)) }
 {
     let mut reached = from;
     let mut limit = limit;
@@ -226,7 +239,9 @@ pub fn walk_atoms(
     requires are { AreAtoms (map atom_of trees.now) }
     requires tokens { from.token + atoms_span (map atom_of trees.now) < 2 ^ 64 }
     requires terms { from.terms + total_terms (map atom_of trees.now) < 2 ^ 64 }
-    ensures { IsWalk result (side_flaw constructors.now scope predicates.now most from.terms from.token limit (map atom_of trees.now)) (from.token + atoms_span (map atom_of trees.now)) (from.terms + total_terms (map atom_of trees.now)) }
+    ensures { IsWalkFrom from result
+        (λ m k. side_flaw constructors.now scope predicates.now most m k limit (map atom_of trees.now))
+        (atoms_span (map atom_of trees.now)) (total_terms (map atom_of trees.now)) }
 {
     if !trees.is_empty() {
         return walk_some_atoms(

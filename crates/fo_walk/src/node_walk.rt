@@ -8,7 +8,7 @@ ghost use Rattle.fo_problem_syntax.specs.Trees.{sequent_of};
 ghost use Rattle.fo_proof_syntax.specs.Trees.{node_of};
 ghost use Rattle.fo_walk.specs.declared.flaw.Scope.TheVariants.{Node};
 ghost use Rattle.fo_walk.specs.AtomSpans.{atoms_span, total_terms, AreAtoms};
-ghost use Rattle.fo_walk.specs.AtomFlaws.{side_flaw, IsWalk};
+ghost use Rattle.fo_walk.specs.AtomFlaws.{side_flaw, IsWalk, IsWalkFrom};
 ghost use Rattle.fo_walk.specs.Parts.{IsSequent, IsNode};
 ghost use Rattle.fo_walk.specs.Spans.{sequent_span, sequent_terms, premises_span, node_span};
 ghost use Rattle.fo_walk.specs.Flaws.{sequent_flaw, node_flaw, nodes_flaw};
@@ -37,8 +37,9 @@ fn walk_side(
     requires are { AreAtoms (map atom_of trees.now) }
     requires tokens { from.token + atoms_span (map atom_of trees.now) < 2 ^ 64 }
     requires terms { from.terms + total_terms (map atom_of trees.now) < 2 ^ 64 }
-    ensures { IsWalk result (side_flaw names.now.constructors Node names.now.predicates most from.terms from.token None (map atom_of trees.now))
-        (from.token + atoms_span (map atom_of trees.now)) (from.terms + total_terms (map atom_of trees.now)) }
+    ensures { IsWalkFrom from result
+        (λ m k. side_flaw names.now.constructors Node names.now.predicates most m k None (map atom_of trees.now))
+        (atoms_span (map atom_of trees.now)) (total_terms (map atom_of trees.now)) }
 {
     walk_atoms(
         alloc,

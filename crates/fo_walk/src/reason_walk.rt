@@ -8,7 +8,7 @@ ghost use Rattle.fo_term_syntax.specs.Grammar.{IsTerm};
 ghost use Rattle.fo_proof_syntax.specs.Trees.{signs_of, entry_of, link_of, reason_of};
 ghost use Rattle.fo_walk.specs.declared.flaw.Scope.TheVariants.{Node};
 ghost use Rattle.fo_walk.specs.AtomSpans.{atom_span, terms_in, IsAtom};
-ghost use Rattle.fo_walk.specs.AtomFlaws.{atom_flaw, IsWalk};
+ghost use Rattle.fo_walk.specs.AtomFlaws.{atom_flaw, IsWalkFrom};
 ghost use Rattle.fo_walk.specs.Parts.{IsEntry, IsReason};
 ghost use Rattle.fo_walk.specs.Spans.{term_span, entry_span, entry_terms, link_span, reason_span, reason_terms};
 ghost use Rattle.fo_walk.specs.Flaws.{terms_flaw, entry_flaw, entries_flaw, reason_flaw};
@@ -34,8 +34,8 @@ fn walk_some_terms(
     requires are { Each IsTerm (map signs_of trees.now) }
     requires tokens { from.token + total term_span (map signs_of trees.now) < 2 ^ 64 }
     requires terms { from.terms + total length (map signs_of trees.now) < 2 ^ 64 }
-    ensures { IsWalk result (terms_flaw constructors.now from.terms from.token (map signs_of trees.now))
-        (from.token + total term_span (map signs_of trees.now)) (from.terms + total length (map signs_of trees.now)) }
+    ensures { IsWalkFrom from result (λ m k. terms_flaw constructors.now m k (map signs_of trees.now))
+        (total term_span (map signs_of trees.now)) (total length (map signs_of trees.now)) }
 {
     let mut reached = from;
     for tree in trees {
@@ -74,8 +74,8 @@ fn walk_entry(
     requires is { IsEntry (entry_of tree.now) }
     requires tokens { from.token + entry_span (entry_of tree.now) < 2 ^ 64 }
     requires terms { from.terms + entry_terms (entry_of tree.now) < 2 ^ 64 }
-    ensures { IsWalk result (entry_flaw constructors.now from.terms from.token (entry_of tree.now))
-        (from.token + entry_span (entry_of tree.now)) (from.terms + entry_terms (entry_of tree.now)) }
+    ensures { IsWalkFrom from result (λ m k. entry_flaw constructors.now m k (entry_of tree.now))
+        (entry_span (entry_of tree.now)) (entry_terms (entry_of tree.now)) }
 {
     if tree.variable > GREATEST_VARIABLE {
         return Err(Stop::Flaw(over(What::Variable, from.token + 1)));
@@ -100,8 +100,8 @@ fn walk_some_entries(
     requires are { Each IsEntry (map entry_of trees.now) }
     requires tokens { from.token + total entry_span (map entry_of trees.now) < 2 ^ 64 }
     requires terms { from.terms + total entry_terms (map entry_of trees.now) < 2 ^ 64 }
-    ensures { IsWalk result (entries_flaw constructors.now from.terms from.token (map entry_of trees.now))
-        (from.token + total entry_span (map entry_of trees.now)) (from.terms + total entry_terms (map entry_of trees.now)) }
+    ensures { IsWalkFrom from result (λ m k. entries_flaw constructors.now m k (map entry_of trees.now))
+        (total entry_span (map entry_of trees.now)) (total entry_terms (map entry_of trees.now)) }
 {
     let mut reached = from;
     for tree in trees {
@@ -139,7 +139,8 @@ fn walk_link(
     requires are { Each IsEntry (link_of tree.now).substitution }
     requires tokens { from.token + link_span (link_of tree.now) < 2 ^ 64 }
     requires terms { from.terms + total entry_terms (link_of tree.now).substitution < 2 ^ 64 }
-    ensures { IsPassed result (entries_flaw constructors.now from.terms (from.token + 2) (link_of tree.now).substitution)
+    ensures { IsPassed result
+        (entries_flaw constructors.now from.terms (from.token + 2) (link_of tree.now).substitution)
         (from.token + link_span (link_of tree.now)) }
 {
     let behind = walk_entries(alloc, constructors, from.advanced(2), &tree.substitution)?;
@@ -155,7 +156,8 @@ fn walk_cut(
     requires is { IsAtom (atom_of tree.now) }
     requires tokens { from.token + atom_span (atom_of tree.now) < 2 ^ 64 }
     requires terms { from.terms + terms_in (atom_of tree.now) < 2 ^ 64 }
-    ensures { IsPassed result (atom_flaw names.now.constructors Node names.now.predicates from.terms from.token None (atom_of tree.now))
+    ensures { IsPassed result
+        (atom_flaw names.now.constructors Node names.now.predicates from.terms from.token None (atom_of tree.now))
         (from.token + atom_span (atom_of tree.now)) }
 {
     let behind = walk_atom(
@@ -180,7 +182,8 @@ pub fn walk_reason(
     requires is { IsReason (reason_of tree.now) }
     requires tokens { from.token + reason_span (reason_of tree.now) < 2 ^ 64 }
     requires terms { from.terms + reason_terms (reason_of tree.now) < 2 ^ 64 }
-    ensures { IsPassed result (reason_flaw names.now.constructors names.now.predicates from.terms from.token (reason_of tree.now))
+    ensures { IsPassed result
+        (reason_flaw names.now.constructors names.now.predicates from.terms from.token (reason_of tree.now))
         (from.token + reason_span (reason_of tree.now)) }
 {
     match tree {

@@ -6,7 +6,7 @@ ghost use Rattle.fo_term_syntax.specs.Grammar.{IsTerm};
 ghost use Rattle.fo_term_syntax.specs.Places.{places_of as places_in, tokens_in};
 ghost use Rattle.fo_term_syntax.proofs.PlaceLaws.{HaveRoom};
 ghost use Rattle.heap_reader.specs.Flaws.{use_flaw, IsName};
-ghost use Rattle.fo_walk.specs.AtomFlaws.{variable_flaw, terms_flaw, sign_flaw, signs_flaw, term_flaw, IsWalk};
+ghost use Rattle.fo_walk.specs.AtomFlaws.{variable_flaw, terms_flaw, sign_flaw, signs_flaw, term_flaw, IsWalkFrom};
 
 use crate::flaw::{Reached, Scope, Stop};
 use cyc_lex::{IllFault, What};
@@ -100,7 +100,8 @@ pub fn walk_signs(
     requires each { length signs.now < length places.now }
     requires room { HaveRoom (2 ^ 64 - (from.token + 1)) places.now }
     requires terms { from.terms + length signs.now < 2 ^ 64 }
-    ensures { IsName result (signs_flaw names.now scope from.terms from.token limit (map sign_of signs.now) places.now) }
+    ensures { IsName result
+        (signs_flaw names.now scope from.terms from.token limit (map sign_of signs.now) places.now) }
 {
     let mut limit = limit;
     for (n, sign) in signs.iter().enumerate() {
@@ -131,7 +132,8 @@ pub fn walk_term(
     requires is { IsTerm (map sign_of signs.now) }
     requires tokens { from.token + tokens_in (map sign_of signs.now) < 2 ^ 64 }
     requires terms { from.terms + length signs.now < 2 ^ 64 }
-    ensures { IsWalk result (term_flaw names.now scope from.terms from.token limit (map sign_of signs.now)) (from.token + tokens_in (map sign_of signs.now)) (from.terms + length signs.now) }
+    ensures { IsWalkFrom from result (λ m k. term_flaw names.now scope m k limit (map sign_of signs.now))
+        (tokens_in (map sign_of signs.now)) (length signs.now) }
 {
     let places = places_of(alloc, signs)?;
     match walk_signs(names, scope, limit, from, signs, &places) {

@@ -67,7 +67,8 @@ pub fn walk_constructors(
 ) -> Result<usize, Flaw>
     requires there { length trees.now ≤ length constructors.now }
     requires fits { at + total constructor_span (map constructor_of trees.now) < 2 ^ 64 }
-    ensures { IsWalk result (listed_flaw (constructor_flaw constructors.now) constructor_span 0 at (map constructor_of trees.now))
+    ensures { IsWalk result
+        (listed_flaw (constructor_flaw constructors.now) constructor_span 0 at (map constructor_of trees.now))
         (at + total constructor_span (map constructor_of trees.now)) }
 {
     let mut next = at;
@@ -86,7 +87,8 @@ fn check_definition_head(
 ) -> Result<(), Flaw>
     requires there { n ≤ length names.now.predicates }
     requires fits { at + 3 < 2 ^ 64 }
-    ensures { IsName result (definition_head_flaw names.now.constructors names.now.predicates n at (definition_of tree.now)) }
+    ensures { IsName result
+        (definition_head_flaw names.now.constructors names.now.predicates n at (definition_of tree.now)) }
 {
     if n >= MOST_PREDICATES {
         return Err(over(What::Predicates, at));
@@ -171,7 +173,8 @@ fn walk_definition(
     requires is { IsDefinition (definition_of tree.now) }
     requires there { n ≤ length names.now.predicates }
     requires fits { at + definition_span (definition_of tree.now) < 2 ^ 64 }
-    ensures { IsPassed result (definition_flaw names.now.constructors names.now.predicates n at (definition_of tree.now))
+    ensures { IsPassed result
+        (definition_flaw names.now.constructors names.now.predicates n at (definition_of tree.now))
         (at + definition_span (definition_of tree.now)) }
 {
     check_definition_head(names, n, at, tree)?;
@@ -189,7 +192,9 @@ pub fn walk_definitions(
     requires are { Each IsDefinition (map definition_of trees.now) }
     requires there { length trees.now ≤ length names.now.predicates }
     requires fits { at + total definition_span (map definition_of trees.now) < 2 ^ 64 }
-    ensures { IsPassed result (listed_flaw (definition_flaw names.now.constructors names.now.predicates) definition_span 0 at (map definition_of trees.now))
+    ensures { IsPassed result
+        (listed_flaw (definition_flaw names.now.constructors names.now.predicates) definition_span 0 at
+        (map definition_of trees.now))
         (at + total definition_span (map definition_of trees.now)) }
 {
     let mut next = at;

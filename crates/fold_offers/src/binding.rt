@@ -25,7 +25,8 @@ fn bind_variable(
     variable: Term,
     term: Term,
 ) -> Result<bool, OutOfMemory>
-    ensures { IfOk result (IsBound (variable_bound binding.old.items variable term (bound_in_binding binding.old.items variable)) binding.new.items) }
+    ensures { IfOk result (IsBound (variable_bound binding.old.items variable term
+        (bound_in_binding binding.old.items variable)) binding.new.items) }
 {
     match bound_in(binding, variable) {
         Some(bound) => Ok(same_term(bound, term)),

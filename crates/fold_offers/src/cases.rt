@@ -3,7 +3,8 @@ ghost use Rattle.std.specs.Prelude.{◌≡◌, ◌≤◌, ◌++◌, IfOk, OnOk, 
 ghost use Rattle.std.specs.List.{list_any, list_all};
 ghost use Rattle.rule_table.specs.Tests.{same_term as same_terms};
 ghost use Rattle.fold_offers.specs.Kinds.{is_cell as is_cell_atom};
-ghost use Rattle.fold_offers.specs.Folds.{is_named_by, is_named as is_named_in, is_settled as is_settled_in, are_settled as are_settled_in, can_fold as can_fold_case, bound_term as term_under, folded as folded_by, ascending as ascending_places, case_follows as case_follows_under, fold_by};
+ghost use Rattle.fold_offers.specs.Folds.{is_named_by, is_named as is_named_in, is_settled as is_settled_in, are_settled as are_settled_in, can_fold as can_fold_case, bound_term as term_under, folded as folded_by, ascending as ascending_places, case_follows as case_follows_under};
+ghost use Rattle.fold_offers.specs.Placing.{fold_at};
 
 use crate::binding::{bound_pure, bound_term};
 use crate::kinds::is_cell;
@@ -184,7 +185,7 @@ pub fn push_fold(
     binding: &[(Term, Term)],
 ) -> Result<(), OutOfMemory>
     requires { fold.now.arity ≤ MOST_ARGUMENTS }
-    ensures { OnOk result (rules.new.items ≡ rules.old.items ++ fold_by fold.now.state.now fold.now.predicate fold.now.arity fold.now.case.now places.now binding.now) }
+    ensures { OnOk result (rules.new.items ≡ rules.old.items ++ fold_at fold.now places.now binding.now) }
 {
     if case_follows(fold, binding) {
         let places = ascending(alloc, fold.state.spatial(), places)?;

@@ -1,9 +1,10 @@
 // Placing a case's atoms among those of a state.
 ghost use Rattle.std.specs.Prelude.{◌≡◌, ◌≤◌, ◌++◌, ◌∷◌, [], Some, IfOk, OnOk, length};
-ghost use Rattle.fold_offers.specs.Folds.{fold_by, placed, bind_atom as atom_bound, folds_of_case, folds_of, folds as folds_of_state};
+ghost use Rattle.fold_offers.specs.Folds.{bind_atom as atom_bound, folds_of_case, folds_of, folds as folds_of_state};
 ghost use Rattle.fold_offers.specs.Bound.{IsExtended};
 ghost use Rattle.fold_offers.specs.Limits.{HasFewParameters};
 ghost use Rattle.heap_formula.specs.Words.{Each};
+ghost use Rattle.fold_offers.specs.Placing.{folds_by_placing};
 
 use crate::binding::bind_atom;
 use crate::cases::{Fold, can_fold, push_fold};
@@ -47,7 +48,8 @@ fn place_atoms(
     binding: &[(Term, Term)],
 ) -> Result<(), OutOfMemory>
     requires { fold.now.arity ≤ MOST_ARGUMENTS }
-    ensures { OnOk result (rules.new.items ≡ rules.old.items ++ placed (fold_by fold.now.state.now fold.now.predicate fold.now.arity fold.now.case.now) fold.now.state.now.spatial atoms.now places.now (Some binding.now)) }
+    ensures { OnOk result (rules.new.items
+        ≡ rules.old.items ++ folds_by_placing fold.now atoms.now places.now binding.now) }
 {
     let [atom, rest @ ..] = atoms else {
         return push_fold(rules, alloc, fold, places, binding);

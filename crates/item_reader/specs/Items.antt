@@ -16,13 +16,16 @@ use Rattle.heap_reader.specs.Trees.{Heading}
 use Rattle.heap_reader.specs.Flaws.{Found, heap_flaw}
 use Rattle.heap_reader.specs.Values.{heap_value}
 use Rattle.pred_defs.specs.Book.{DefinitionBook}
-use Rattle.pred_syntax.specs.Trees.{Heap, Definition}
+use Rattle.pred_syntax.specs.Trees.{Heap, Definition, heap_of, definition_of}
 use Rattle.pred_reader.specs.declared.scope.Scope.TheVariants.{Outside}
 use Rattle.pred_reader.specs.Spans.{term_span}
 use Rattle.pred_reader.specs.Flaws.{heading, term_flaw, definition_flaw}
 use Rattle.pred_reader.specs.Values.{term_value, definition_value}
 use Rattle.item_reader.specs.declared.items.Item.{Item}
 use Rattle.item_reader.specs.declared.items.Item.TheVariants.{Value, Flawed, Open}
+use Rattle.heap_syntax.specs.declared.tree.HeapTree.{HeapTree}
+use Rattle.pred_syntax.specs.declared.tree.TermTree.{TermTree}
+use Rattle.pred_syntax.specs.declared.tree.DefinitionTree.{DefinitionTree}
 
 -- what a use of a predicate is compared with
 abbrev pub defined : DefinitionValue → Heading
@@ -77,3 +80,14 @@ definition_found book place tree more =
 
 abbrev pub says_definition : DefinitionBook → Definition → DefinitionValue → Type 0
 says_definition book tree v = v ≡ definition_value (defined_heads book.list ++ heading tree ∷ []) tree
+
+-- what is read of the heap that begins at a token, where these definitions came before
+abbrev pub IsHeapItem : DefinitionBook → ℕ → Heap → Item SymbolicHeap (HeapTree TermTree) → Type 0
+IsHeapItem book place tree item =
+    IsItem (heap_found book place tree) (says_heap book tree) heap_of tree item
+
+-- the same of a definition
+abbrev pub IsDefinitionItem :
+    DefinitionBook → ℕ → Definition → Item DefinitionValue DefinitionTree → Type 0
+IsDefinitionItem book place tree item =
+    IsItem (definition_found book place tree) (says_definition book tree) definition_of tree item

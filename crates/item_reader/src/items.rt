@@ -6,7 +6,7 @@ ghost use Rattle.pred_reader.specs.Spans.{term_span, definition_span};
 ghost use Rattle.heap_reader.specs.Flaws.{IsName};
 ghost use Rattle.pred_reader.specs.Flaws.{heading, definition_flaw};
 ghost use Rattle.pred_syntax.specs.Trees.{heap_of, definition_of};
-ghost use Rattle.item_reader.specs.Items.{is_unknown, defined_heads, IsItem, heap_found, says_heap, definition_found, says_definition};
+ghost use Rattle.item_reader.specs.Items.{is_unknown, defined_heads, IsHeapItem, IsDefinitionItem};
 
 use cyc_lex::{IllFault, What};
 use cyc_limits::MOST_PREDICATES;
@@ -65,7 +65,7 @@ pub fn heap_item<'a>(
     defs: &Defs,
 ) -> Result<Item<Heap, HeapTree<'a>>, OutOfMemory>
     requires { at + heap_span term_span (heap_of tree) < 2 ^ 64 }
-    ensures { IfOk result (λ item. IsItem (heap_found defs.now at (heap_of tree.entry)) (says_heap defs.now (heap_of tree.entry)) heap_of (heap_of tree.entry) item) }
+    ensures { IfOk result (λ item. IsHeapItem defs.now at (heap_of tree.entry) item) }
 {
     let heads = Heads::new(alloc, heads(alloc, defs.as_slice())?)?;
     match walk_heap(&heads, &Scope::Outside, defs.most(), at, &tree) {
@@ -121,7 +121,7 @@ pub fn definition_item<'a>(
     defs: &Defs,
 ) -> Result<Item<Def, DefinitionTree<'a>>, OutOfMemory>
     requires { at + definition_span (definition_of tree) < 2 ^ 64 }
-    ensures { IfOk result (λ item. IsItem (definition_found defs.now at (definition_of tree.entry)) (says_definition defs.now (definition_of tree.entry)) definition_of (definition_of tree.entry) item) }
+    ensures { IfOk result (λ item. IsDefinitionItem defs.now at (definition_of tree.entry) item) }
 {
     let so_far = defs.as_slice();
     let heads = heads_with(alloc, so_far, tree.name, tree.arity)?;

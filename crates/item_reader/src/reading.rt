@@ -2,8 +2,7 @@
 ghost use Rattle.std.specs.Prelude.{◌≡◌, ◌<◌, ◌^◌, false, length, map, drop};
 ghost use Rattle.cyc_lex.specs.Word.{EndsOnce, word_of};
 ghost use Rattle.pred_syntax.specs.Grammar.{terms, heap, definition};
-ghost use Rattle.pred_syntax.specs.Trees.{heap_of, definition_of};
-ghost use Rattle.item_reader.specs.Items.{IsItem, IsReadPart, heap_found, says_heap, definition_found, says_definition};
+ghost use Rattle.item_reader.specs.Items.{IsReadPart, IsHeapItem, IsDefinitionItem};
 
 use crate::items::{Item, definition_item, heap_item};
 use cyc_grammar::{Cursor, read_fault};
@@ -33,7 +32,7 @@ pub fn read_heap<'a>(
     requires few { length tokens.now < 2 ^ 32 }
     requires words { EndsOnce (map word_of tokens.now) }
     requires there { place < length tokens.now }
-    ensures { IsReadPart (heap (terms false)) (λ tree. IsItem (heap_found defs.now place tree) (says_heap defs.now tree) heap_of tree) tokens.now place result }
+    ensures { IsReadPart (heap (terms false)) (IsHeapItem defs.now place) tokens.now place result }
 {
     let mut cursor = cursor_at(tokens, place);
     let tree = match heap(alloc, false, &mut cursor) {
@@ -57,7 +56,7 @@ pub fn read_pred<'a>(
     requires few { length tokens.now < 2 ^ 32 }
     requires words { EndsOnce (map word_of tokens.now) }
     requires there { place < length tokens.now }
-    ensures { IsReadPart definition (λ tree. IsItem (definition_found defs.now place tree) (says_definition defs.now tree) definition_of tree) tokens.now place result }
+    ensures { IsReadPart definition (IsDefinitionItem defs.now place) tokens.now place result }
 {
     let mut cursor = cursor_at(tokens, place);
     let tree = match definition(alloc, &mut cursor) {

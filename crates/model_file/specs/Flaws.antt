@@ -55,6 +55,11 @@ definitions_flaw m = listed_flaw (definition_flaw MOST_SPATIAL (headings m.defin
 abbrev pub ask_flaw : Model → Found
 ask_flaw m = heap_flaw (term_flaw Outside) term_span MOST_SPATIAL (headings m.definitions) (first_atom m) m.ask
 
+-- of the stack, the heap and the formula
+abbrev pub behind_definitions_flaw : Model → Found
+behind_definitions_flaw m =
+    or_later (stack_flaw (first_value m) m.stack)
+    (or_later (cells_flaw (first_cell m) m.cells) (ask_flaw m))
+
 abbrev pub model_flaw : Model → Found
-model_flaw m =
-    or_later (definitions_flaw m) (or_later (stack_flaw (first_value m) m.stack) (or_later (cells_flaw (first_cell m) m.cells) (ask_flaw m)))
+model_flaw m = or_later (definitions_flaw m) (behind_definitions_flaw m)

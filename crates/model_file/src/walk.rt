@@ -4,13 +4,13 @@ ghost use Rattle.std.specs.Prelude.{◌≡◌, ◌+◌, ◌<◌, ◌≤◌, ◌^
 ghost use Rattle.std.specs.List.{list_any};
 ghost use Rattle.pred_syntax.specs.Trees.{heap_of, definition_of};
 ghost use Rattle.heap_reader.specs.Spans.{total, heap_span};
-ghost use Rattle.heap_reader.specs.Flaws.{or_later, listed_flaw, heap_flaw, IsName, IsWalk};
+ghost use Rattle.heap_reader.specs.Flaws.{listed_flaw, heap_flaw, IsName, IsWalk};
 ghost use Rattle.pred_reader.specs.declared.scope.Scope.TheVariants.{Outside};
 ghost use Rattle.pred_reader.specs.Spans.{term_span, definition_span};
 ghost use Rattle.pred_reader.specs.Flaws.{headings, term_flaw, definition_flaw};
 ghost use Rattle.model_syntax.specs.Trees.{cell_of, model_of};
 ghost use Rattle.model_file.specs.Spans.{numbers_span, values_span, cell_span, cells_span};
-ghost use Rattle.model_file.specs.Flaws.{address_of, stack_flaw, fields_flaw, address_flaw, cell_flaw, cells_flaw, first_value, first_cell, first_atom, definitions_flaw, ask_flaw, model_flaw as first_flaw};
+ghost use Rattle.model_file.specs.Flaws.{address_of, stack_flaw, fields_flaw, address_flaw, cell_flaw, cells_flaw, first_value, first_atom, definitions_flaw, model_flaw as first_flaw, behind_definitions_flaw};
 
 use cyc_lex::{IllFault, What};
 use cyc_limits::{MOST_ARGUMENTS, MOST_CELLS, MOST_SPATIAL, MOST_VALUES};
@@ -73,7 +73,8 @@ fn address(cells: &[CellTree], n: usize, at: usize, address: u32) -> Result<(), 
 fn cell(cells: &[CellTree], n: usize, at: usize, tree: &CellTree) -> Result<usize, Flaw>
     requires there { n < length cells.now }
     requires fits { at + cell_span (cell_of tree.now) < 2 ^ 64 }
-    ensures { IsWalk result (cell_flaw (map cell_of cells.now) n at (cell_of tree.now)) (at + cell_span (cell_of tree.now)) }
+    ensures { IsWalk result (cell_flaw (map cell_of cells.now) n at (cell_of tree.now))
+        (at + cell_span (cell_of tree.now)) }
 {
     address(cells, n, at, tree.address)?;
     if n >= MOST_CELLS {
@@ -110,7 +111,7 @@ fn behind_definitions(heads: &Heads<'_>, at: usize, tree: &ModelTree<'_>) -> Res
     requires known { heads.now ≡ headings (model_of tree.now).definitions }
     requires place { at + 1 ≡ first_value (model_of tree.now) }
     requires fits { first_atom (model_of tree.now) + heap_span term_span (model_of tree.now).ask < 2 ^ 64 }
-    ensures { IsWalk result (or_later (stack_flaw (first_value (model_of tree.now)) (model_of tree.now).stack) (or_later (cells_flaw (first_cell (model_of tree.now)) (model_of tree.now).cells) (ask_flaw (model_of tree.now))))
+    ensures { IsWalk result (behind_definitions_flaw (model_of tree.now))
         (first_atom (model_of tree.now) + heap_span term_span (model_of tree.now).ask) }
 {
     let behind_stack = stack(at + 1, &tree.stack)?;
@@ -128,7 +129,8 @@ fn behind_definitions(heads: &Heads<'_>, at: usize, tree: &ModelTree<'_>) -> Res
 fn parts(heads: &Heads<'_>, tree: &ModelTree<'_>) -> Result<usize, Flaw>
     requires known { heads.now ≡ headings (model_of tree.now).definitions }
     requires fits { first_atom (model_of tree.now) + heap_span term_span (model_of tree.now).ask < 2 ^ 64 }
-    ensures { IsWalk result (first_flaw (model_of tree.now)) (first_atom (model_of tree.now) + heap_span term_span (model_of tree.now).ask) }
+    ensures { IsWalk result (first_flaw (model_of tree.now))
+        (first_atom (model_of tree.now) + heap_span term_span (model_of tree.now).ask) }
 {
     let behind = walk_definitions(heads, MOST_SPATIAL as u8, 4, &tree.definitions)?;
     behind_definitions(heads, behind, tree)

@@ -1,5 +1,5 @@
 -- What labels say: each kept term's class is told by a label, equal for terms of one class.
-use Rattle.std.specs.Prelude.{◌≡◌, ◌≢◌, ◌↔◌, ◌⊎◌, ℕ, List, [], ◌∷◌, ◌++◌, map, filter, not, ◌&&◌, ◌||◌, Bool, true, false, nat_eq, slice_index, if◌then◌else◌, length}
+use Rattle.std.specs.Prelude.{◌≡◌, ◌≢◌, ◌↔◌, ◌⊎◌, ℕ, List, [], ◌∷◌, ◌++◌, map, filter, not, ◌&&◌, ◌||◌, Bool, true, false, nat_eq, slice_index, if◌then◌else◌, length, Option, MatchOption}
 use Rattle.heap_formula.specs.Words.{Each, OneOf}
 use Rattle.pair_family.specs.BasePairs.{BasePair}
 use Rattle.pair_family.specs.Combination.{any, upto, pairs_below, each_two}
@@ -28,11 +28,15 @@ is_first_label labels i = not (any (λ j. nat_eq (slice_index labels j) (slice_i
 abbrev pub is_cell_label : List ℕ → List ℕ → ℕ → Bool
 is_cell_label labels cs i = is_first_label labels i && any (λ c. nat_eq c (slice_index labels i)) cs
 
+-- the pairs of numbers whose labels a difference joins
+abbrev pub different_pairs : List ℕ → List (ℕ × ℕ) → List (ℕ × ℕ)
+different_pairs labels ds = filter (has_difference labels ds) (pairs_below (length labels))
+
 -- what labels, differences and addresses say of the kept terms
 abbrev pub said_by : List ℕ → List (ℕ × ℕ) → List ℕ → BasePair
 said_by labels ds cs = record {
   same = filter (has_same labels) (pairs_below (length labels));
-  differ = filter (has_difference labels ds) (pairs_below (length labels));
+  differ = different_pairs labels ds;
   cells = filter (is_cell_label labels cs) (upto (length labels));
 }
 
@@ -61,6 +65,10 @@ all_pairs labels ds cs = label_pairs labels ds ++ cell_pairs (slice_index labels
 abbrev pub AreApartLabels : List (ℕ × ℕ) → Type 0
 AreApartLabels ds = Each (λ q. q.0 ≢ q.1) ds
 
+-- the base pair, where the labels of these pairs differ; none where those of one are one
+abbrev pub IfApart : List (ℕ × ℕ) → BasePair → Option BasePair → Type 0
+IfApart ds b found = MatchOption found (¬ AreApartLabels ds) (λ k. AreApartLabels ds × (k ≡ b))
+
 -- what differences and cells say of some of the numbers
 abbrev pub told_by : List ℕ → List (ℕ × ℕ) → List ℕ → List ℕ → BasePair
 told_by labels ds cs kept = said_by (labels_at labels kept) (all_pairs labels ds cs) (labels_at labels cs)
@@ -85,6 +93,14 @@ combined start b places c kept = told_by (combined_labels start b places c) (b.d
 -- d is what one more base pair gives
 abbrev pub Gives : List ℕ → BasePair → List ℕ → List ℕ → BasePair → BasePair → Type 0
 Gives start b places kept d c = AreApartLabels (combined_pairs start b places c) × (d ≡ combined start b places c kept)
+
+-- d is what one of several more gives
+abbrev pub GivesSome : List ℕ → BasePair → List ℕ → List ℕ → List BasePair → BasePair → Type 0
+GivesSome start b places kept cs d = OneOf (Gives start b places kept d) cs
+
+-- d is what one of several more gives after one of several
+abbrev pub GivesFrom : List ℕ → List BasePair → List ℕ → List ℕ → List BasePair → BasePair → Type 0
+GivesFrom start bs places kept cs d = OneOf (λ b. OneOf (Gives start b places kept d) cs) bs
 
 -- d is a member after something gave more
 abbrev pub Grows : List BasePair → List BasePair → (BasePair → Type 0) → Type 0

@@ -1,8 +1,8 @@
 // A base pair is taken in.
-ghost use Rattle.std.specs.Prelude.{◌≡◌, ◌≢◌, ◌≤◌, ◌<◌, ◌++◌, ◌∷◌, [], ◌↔◌, IsTrue, if◌then◌else◌, List, ℕ, length, map, filter, slice_index, nat_eq, IfOk, MatchOption};
+ghost use Rattle.std.specs.Prelude.{◌≡◌, ◌≢◌, ◌≤◌, ◌<◌, ◌++◌, ◌∷◌, [], ◌↔◌, IsTrue, if◌then◌else◌, List, ℕ, length, map, filter, slice_index, nat_eq, IfOk};
 ghost use Rattle.heap_formula.specs.Words.{Each, OneOf};
 ghost use Rattle.pair_family.specs.Combination.{upto, pairs_below, any, each_two};
-ghost use Rattle.pair_states.specs.Labels.{said_by, all_pairs, told_by, cell_pairs, label_pairs, AreApartLabels, combined_pairs, combined};
+ghost use Rattle.pair_states.specs.Labels.{said_by, all_pairs, told_by, cell_pairs, label_pairs, combined_pairs, combined, IfApart};
 
 use crate::known::Known;
 use crate::labels::{
@@ -34,7 +34,8 @@ pub fn tell(
     cells: &[usize],
     kept: &[usize],
 ) -> Result<Option<Known>, AllocError>
-    ensures { IfOk result (λ o. MatchOption o (¬ AreApartLabels (all_pairs labels.now differences.now cells.now)) (λ k. AreApartLabels (all_pairs labels.now differences.now cells.now) × (k ≡ told_by labels.now differences.now cells.now kept.now))) }
+    ensures { IfOk result (IfApart (all_pairs labels.now differences.now cells.now)
+        (told_by labels.now differences.now cells.now kept.now)) }
 {
     let addresses = labels_of(alloc, labels, cells)?;
     let all = differences_of(alloc, labels, differences, &addresses)?;
@@ -55,7 +56,8 @@ pub fn combine(
     pair: &Known,
     kept: &[usize],
 ) -> Result<Option<Known>, AllocError>
-    ensures { IfOk result (λ o. MatchOption o (¬ AreApartLabels (combined_pairs start.now state.now places.now pair.now)) (λ k. AreApartLabels (combined_pairs start.now state.now places.now pair.now) × (k ≡ combined start.now state.now places.now pair.now kept.now))) }
+    ensures { IfOk result (IfApart (combined_pairs start.now state.now places.now pair.now)
+        (combined start.now state.now places.now pair.now kept.now)) }
 {
     let equations = pairs_then(alloc, state.same(), places, pair.same())?;
     let labels = join_all(alloc, start, &equations)?;

@@ -2,7 +2,7 @@
 ghost use Rattle.std.specs.Prelude.{◌≡◌, ◌≢◌, ◌≤◌, ◌<◌, ◌++◌, ◌∷◌, [], ◌↔◌, IsTrue, if◌then◌else◌, List, ℕ, length, map, filter, slice_index, nat_eq, IfOk, MatchOption};
 ghost use Rattle.heap_formula.specs.Words.{Each, OneOf};
 ghost use Rattle.pair_family.specs.Combination.{upto, pairs_below, any, each_two};
-ghost use Rattle.pair_states.specs.Labels.{row, has_same, neighbours, is_between_labels, has_difference, is_first_label, is_cell_label, relabelled, joined_labels, labels_at, label_pairs, cell_pairs, pairs_at, numbers_at};
+ghost use Rattle.pair_states.specs.Labels.{row, has_same, neighbours, is_between_labels, has_difference, is_first_label, is_cell_label, relabelled, joined_labels, labels_at, label_pairs, cell_pairs, pairs_at, numbers_at, different_pairs};
 
 use std::alloc::{AllocError, Global};
 
@@ -114,7 +114,7 @@ pub fn differing_pairs(
     labels: &[u64],
     differences: &[(u64, u64)],
 ) -> Result<Vec<(usize, usize)>, AllocError>
-    ensures { IfOk result (λ v. v.items ≡ filter (has_difference labels.now differences.now) (pairs_below (length labels.now))) }
+    ensures { IfOk result (λ v. v.items ≡ different_pairs labels.now differences.now) }
 {
     let mut pairs = Vec::new(alloc);
     for j in 0..labels.len() {
@@ -291,7 +291,8 @@ pub fn differences_of(
     differences: &[(usize, usize)],
     cells: &[u64],
 ) -> Result<Vec<(u64, u64)>, AllocError>
-    ensures { IfOk result (λ v. v.items ≡ label_pairs labels.now differences.now ++ cell_pairs (slice_index labels.now 0) cells.now) }
+    ensures { IfOk result (λ v. v.items
+        ≡ label_pairs labels.now differences.now ++ cell_pairs (slice_index labels.now 0) cells.now) }
 {
     let mut out = Vec::new(alloc);
     push_label_pairs(&mut out, labels, differences)?;

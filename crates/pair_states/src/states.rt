@@ -1,7 +1,6 @@
 // Sets of states, each member once.
 ghost use Rattle.std.specs.Prelude.{◌≡◌, [], IfOk};
-ghost use Rattle.heap_formula.specs.Words.{OneOf};
-ghost use Rattle.pair_states.specs.Labels.{Gives, Grows, IsAdded};
+ghost use Rattle.pair_states.specs.Labels.{Gives, Grows, IsAdded, GivesSome, GivesFrom};
 
 use crate::combining::combine;
 use crate::known::Known;
@@ -36,7 +35,8 @@ fn grow_by(
     pair: &Known,
     kept: &[usize],
 ) -> Result<(), AllocError>
-    ensures { IfOk result (λ _. Grows set.old.keys set.new.keys (λ d. Gives start.now state.now places.now kept.now d pair.now)) }
+    ensures { IfOk result (λ _. Grows set.old.keys set.new.keys
+        (λ d. Gives start.now state.now places.now kept.now d pair.now)) }
 {
     match combine(alloc, start, state, places, pair, kept)? {
         None => Ok(()),
@@ -57,7 +57,8 @@ fn grow_by_each(
     pairs: &[Known],
     kept: &[usize],
 ) -> Result<(), AllocError>
-    ensures { IfOk result (λ _. Grows set.old.keys set.new.keys (λ d. OneOf (Gives start.now state.now places.now kept.now d) pairs.now)) }
+    ensures { IfOk result (λ _. Grows set.old.keys set.new.keys
+        (GivesSome start.now state.now places.now kept.now pairs.now)) }
 {
     for pair in pairs {
         grow_by(alloc, set, start, state, places, pair, kept)?;
@@ -75,7 +76,8 @@ fn grow_by_all(
     pairs: &[Known],
     kept: &[usize],
 ) -> Result<(), AllocError>
-    ensures { IfOk result (λ _. Grows set.old.keys set.new.keys (λ d. OneOf (λ b. OneOf (Gives start.now b places.now kept.now d) pairs.now) states.now)) }
+    ensures { IfOk result (λ _. Grows set.old.keys set.new.keys
+        (GivesFrom start.now states.now places.now kept.now pairs.now)) }
 {
     for state in states {
         grow_by_each(alloc, set, start, state, places, pairs, kept)?;
@@ -92,7 +94,7 @@ pub fn states_after(
     pairs: &[Known],
     kept: &[usize],
 ) -> Result<IndexSet<Known>, AllocError>
-    ensures { IfOk result (λ v. Grows [] v.keys (λ d. OneOf (λ b. OneOf (Gives start.now b places.now kept.now d) pairs.now) states.now)) }
+    ensures { IfOk result (λ v. Grows [] v.keys (GivesFrom start.now states.now places.now kept.now pairs.now)) }
 {
     let mut set = IndexSet::new(alloc);
     grow_by_all(alloc, &mut set, start, states, places, pairs, kept)?;

@@ -63,17 +63,38 @@ ring_definitions k = definitions_from k 0 k
 abbrev pub by_rule : SymbolicHeap → SymbolicHeap → Rule → List ℕ → Node
 by_rule a b rule premises = record { judgement = Entail a (b ∷ []); reason = Step rule; premises = premises }
 
--- nodes 8 i to 8 i + 7: the case of `nil`, then that of a cell, which leads to node 8 i + 8
-abbrev pub ring_block : ℕ → ℕ → List Node
-ring_block k i =
-    by_rule (holds i (Univ i)) (holds k (Univ i)) (Unfold 0) ((8 * i + 1) ∷ (8 * i + 5) ∷ []) ∷
-    by_rule (is_nil (Univ i)) (holds k (Univ i)) (Rewrite 0 Left) ((8 * i + 2) ∷ []) ∷
+-- node 8 i, which unfolds predicate i at variable i
+abbrev pub unfold_node : ℕ → ℕ → Node
+unfold_node k i =
+    by_rule (holds i (Univ i)) (holds k (Univ i)) (Unfold 0) ((8 * i + 1) ∷ (8 * i + 5) ∷ [])
+
+-- node 8 i + 1, whose variable is `nil`
+abbrev pub rewrite_node : ℕ → ℕ → Node
+rewrite_node k i = by_rule (is_nil (Univ i)) (holds k (Univ i)) (Rewrite 0 Left) ((8 * i + 2) ∷ [])
+
+-- nodes 8 i + 2 to 8 i + 4: the rest of the case of `nil`
+abbrev pub nil_case : ℕ → ℕ → List Node
+nil_case k i =
     by_rule emp (holds k Nil) (UnfoldRight 0 0) ((8 * i + 3) ∷ []) ∷
     by_rule emp (is_nil Nil) (PureRight 0) ((8 * i + 4) ∷ []) ∷
-    by_rule emp emp Done [] ∷
-    by_rule (cell_then (Univ i) (Univ (i + 1)) (after k i)) (holds k (Univ i)) (UnfoldRight 0 1) ((8 * i + 6) ∷ []) ∷
-    by_rule (cell_then (Univ i) (Univ (i + 1)) (after k i)) (cell_then (Univ i) (Exist 0) k) (Instantiate 0 (Univ (i + 1))) ((8 * i + 7) ∷ []) ∷
-    by_rule (cell_then (Univ i) (Univ (i + 1)) (after k i)) (cell_then (Univ i) (Univ (i + 1)) k) (Frame 0 0) ((8 * i + 8) ∷ []) ∷ []
+    by_rule emp emp Done [] ∷ []
+
+-- a cell at variable i, and the next predicate of what it leads to
+abbrev pub cell_side : ℕ → ℕ → SymbolicHeap
+cell_side k i = cell_then (Univ i) (Univ (i + 1)) (after k i)
+
+-- nodes 8 i + 5 to 8 i + 7: the case of a cell, which leads to node 8 i + 8
+abbrev pub cell_case : ℕ → ℕ → List Node
+cell_case k i =
+    by_rule (cell_side k i) (holds k (Univ i)) (UnfoldRight 0 1) ((8 * i + 6) ∷ []) ∷
+    by_rule (cell_side k i) (cell_then (Univ i) (Exist 0) k)
+    (Instantiate 0 (Univ (i + 1))) ((8 * i + 7) ∷ []) ∷
+    by_rule (cell_side k i) (cell_then (Univ i) (Univ (i + 1)) k)
+    (Frame 0 0) ((8 * i + 8) ∷ []) ∷ []
+
+-- nodes 8 i to 8 i + 7
+abbrev pub ring_block : ℕ → ℕ → List Node
+ring_block k i = unfold_node k i ∷ rewrite_node k i ∷ (nil_case k i ++ cell_case k i)
 
 -- node 8 k, which is node 0 at variable k
 abbrev pub ring_bud : ℕ → Node

@@ -1,6 +1,6 @@
 // The nodes of the family, in blocks of eight.
-ghost use Rattle.std.specs.Prelude.{◌≡◌, ◌<◌, ◌≤◌, ◌+◌, ◌-◌, ◌*◌, ◌++◌, ◌∷◌, [], IfOk, OnOk};
-ghost use Rattle.ring_family.specs.Ring.{after, ring_block, ring_bud, ring_nodes, in_blocks, file_node, file_nodes, emp as nothing, is_nil as nil_heap, holds as call_heap, cell_then as cell_heap, by_rule as ruled};
+ghost use Rattle.std.specs.Prelude.{◌≡◌, ◌<◌, ◌≤◌, ◌+◌, ◌-◌, ◌*◌, ◌++◌, [], IfOk, OnOk};
+ghost use Rattle.ring_family.specs.Ring.{after, ring_block, ring_bud, ring_nodes, in_blocks, file_node, file_nodes, cell_then as cell_heap, unfold_node, rewrite_node, nil_case, cell_case};
 ghost use Rattle.heap_formula.specs.declared.terms.Term.TheVariants as terms;
 ghost use Rattle.heap_formula.specs.declared.proof_rules.Rule.TheVariants as rules;
 ghost use Rattle.heap_formula.specs.declared.proof_rules.Side.TheVariants as sides;
@@ -14,7 +14,7 @@ use std::alloc::Global;
 
 /// The first node of a block, which unfolds its predicate.
 fn unfolded(alloc: Global, k: u16, i: u16) -> Result<FileNode, OutOfMemory>
-    ensures { IfOk result (λ n. n ≡ file_node (ruled (call_heap i (terms.Univ i)) (call_heap k (terms.Univ i)) (rules.Unfold 0) ((8 * i + 1) ∷ (8 * i + 5) ∷ []))) }
+    ensures { IfOk result (λ n. n ≡ file_node (unfold_node k i)) }
 {
     let first = 8 * u32::from(i);
     let left = holds(alloc, i, Term::Univ(i))?;
@@ -24,7 +24,7 @@ fn unfolded(alloc: Global, k: u16, i: u16) -> Result<FileNode, OutOfMemory>
 
 /// The case of `nil`, before its equation is used.
 fn rewritten(alloc: Global, k: u16, i: u16) -> Result<FileNode, OutOfMemory>
-    ensures { IfOk result (λ n. n ≡ file_node (ruled (nil_heap (terms.Univ i)) (call_heap k (terms.Univ i)) (rules.Rewrite 0 sides.Left) ((8 * i + 2) ∷ []))) }
+    ensures { IfOk result (λ n. n ≡ file_node (rewrite_node k i)) }
 {
     let left = is_nil(alloc, Term::Univ(i))?;
     let right = holds(alloc, k, Term::Univ(i))?;
@@ -44,7 +44,7 @@ fn push_nil_case(
     i: u16,
     nodes: &mut Vec<FileNode>,
 ) -> Result<(), OutOfMemory>
-    ensures { OnOk result (nodes.new.items ≡ nodes.old.items ++ file_node (ruled nothing (call_heap k terms.Nil) (rules.UnfoldRight 0 0) ((8 * i + 3) ∷ [])) ∷ file_node (ruled nothing (nil_heap terms.Nil) (rules.PureRight 0) ((8 * i + 4) ∷ [])) ∷ file_node (ruled nothing nothing rules.Done []) ∷ []) }
+    ensures { OnOk result (nodes.new.items ≡ nodes.old.items ++ file_nodes (nil_case k i)) }
 {
     let first = 8 * u32::from(i);
     let right = holds(alloc, k, Term::Nil)?;
@@ -77,7 +77,7 @@ fn push_cell_case(
     nodes: &mut Vec<FileNode>,
 ) -> Result<(), OutOfMemory>
     requires { i < k }
-    ensures { OnOk result (nodes.new.items ≡ nodes.old.items ++ file_node (ruled (cell_heap (terms.Univ i) (terms.Univ (i + 1)) (after k i)) (call_heap k (terms.Univ i)) (rules.UnfoldRight 0 1) ((8 * i + 6) ∷ [])) ∷ file_node (ruled (cell_heap (terms.Univ i) (terms.Univ (i + 1)) (after k i)) (cell_heap (terms.Univ i) (terms.Exist 0) k) (rules.Instantiate 0 (terms.Univ (i + 1))) ((8 * i + 7) ∷ [])) ∷ file_node (ruled (cell_heap (terms.Univ i) (terms.Univ (i + 1)) (after k i)) (cell_heap (terms.Univ i) (terms.Univ (i + 1)) k) (rules.Frame 0 0) ((8 * i + 8) ∷ [])) ∷ []) }
+    ensures { OnOk result (nodes.new.items ≡ nodes.old.items ++ file_nodes (cell_case k i)) }
 {
     let first = 8 * u32::from(i);
     let (v, u) = (Term::Univ(i), Term::Univ(i + 1));

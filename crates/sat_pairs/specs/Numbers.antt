@@ -59,3 +59,7 @@ abbrev pub differ_places : List ℕ → List Pure → List (ℕ × ℕ)
 differ_places ns [] = []
 differ_places ns (Eq t u ∷ ps) = differ_places ns ps
 differ_places ns (Neq t u ∷ ps) = (place_in (term_number t) ns, place_in (term_number u) ns) ∷ differ_places ns ps
+
+-- what pure atoms say of the places of their terms
+abbrev pub pure_pair_at : List ℕ → List Pure → BasePair
+pure_pair_at ns ps = record { same = equal_places ns ps; differ = differ_places ns ps; cells = [] }

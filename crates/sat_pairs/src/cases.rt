@@ -1,19 +1,18 @@
 // What a symbolic heap gives with base pairs of a table.
-ghost use Rattle.std.specs.Prelude.{◌≡◌, ◌↔◌, ◌<◌, ◌++◌, ◌∷◌, [], suc, length, IfOk, IsTrue, MatchOption};
-ghost use Rattle.heap_formula.specs.Words.{Each, OneOf};
+ghost use Rattle.std.specs.Prelude.{◌≡◌, ◌↔◌, ◌<◌, ◌++◌, ◌∷◌, [], suc, length, IfOk, IsTrue};
+ghost use Rattle.heap_formula.specs.Words.{Each};
 ghost use Rattle.pair_family.specs.BasePairs.{BasePair};
 ghost use Rattle.pair_family.specs.Closedness.{HasFields, AreCases};
-ghost use Rattle.pair_family.specs.Combination.{pure_facts, AreConsistent};
 ghost use Rattle.pair_family.specs.Family.{CaseGives};
-ghost use Rattle.pair_family.specs.Folding.{said_in, spoken};
+ghost use Rattle.pair_family.specs.Folding.{spoken};
 ghost use Rattle.pair_family.specs.Frames.{kept_terms, frames_of};
 ghost use Rattle.pair_family.specs.States.{AreStates};
 ghost use Rattle.pair_family.specs.Statements.{IsSatisfiable};
 ghost use Rattle.pair_family.specs.Tables.{IsMember, IsTable, in_table};
 ghost use Rattle.pair_family.specs.Within.{IsWithin};
 ghost use Rattle.sat_pairs.specs.Growth.{pairs_for};
-ghost use Rattle.pair_states.specs.Labels.{Gives, Grows};
-ghost use Rattle.sat_pairs.specs.Numbers.{count_from, places_in, cell_pair_alone, equal_places, differ_places};
+ghost use Rattle.sat_pairs.specs.Numbers.{places_in, cell_pair_alone, equal_places, differ_places, pure_pair_at};
+ghost use Rattle.sat_pairs.specs.CaseStates.{Starts, StepsBy};
 
 use crate::numbers::{
     count_of, kept_numbers, number_of, numbers_below, place_of, places_of, push_pure,
@@ -70,7 +69,7 @@ fn push_differ(
 
 /// What pure atoms say of the places of their terms.
 fn pure_pair(alloc: Global, numbers: &[u64], atoms: &[Pure]) -> Result<Known, OutOfMemory>
-    ensures { IfOk result (λ k. k ≡ record { same = equal_places numbers.now atoms.now; differ = differ_places numbers.now atoms.now; cells = [] }) }
+    ensures { IfOk result (λ k. k ≡ pure_pair_at numbers.now atoms.now) }
 {
     let mut same = Vec::new(alloc);
     push_equal(&mut same, numbers, atoms)?;
@@ -81,7 +80,7 @@ fn pure_pair(alloc: Global, numbers: &[u64], atoms: &[Pure]) -> Result<Known, Ou
 
 /// What the pure atoms say of the terms that the spatial atoms speak of and of the parameters, unless they exclude one another.
 fn start(alloc: Global, k: u32, heap: &Heap) -> Result<Option<Known>, OutOfMemory>
-    ensures { IfOk result (λ o. MatchOption o (¬ AreConsistent (pure_facts heap.now.pure)) (λ s. AreConsistent (pure_facts heap.now.pure) × (s ≡ said_in (frames_of k heap.now.spatial 0) (pure_facts heap.now.pure)))) }
+    ensures { IfOk result (Starts k heap.now) }
 {
     let mut numbers = kept_numbers(alloc, k, heap.spatial())?;
     let kept = numbers_below(alloc, count_of(&numbers))?;
@@ -137,7 +136,7 @@ fn step(
     pairs: &[Known],
     states: &[Known],
 ) -> Result<IndexSet<Known>, OutOfMemory>
-    ensures { IfOk result (λ v. Grows [] v.keys (λ d. OneOf (λ b. OneOf (Gives numbers.now b (places_in numbers.now (spoken atom.now)) (count_from 0 after) d) pairs.now) states.now)) }
+    ensures { IfOk result (λ v. StepsBy numbers.now after atom.now pairs.now states.now v.keys) }
 {
     let kept = numbers_below(alloc, after)?;
     let places = places_for(alloc, numbers, atom)?;
@@ -163,7 +162,8 @@ fn fold(
 ) -> Result<IndexSet<Known>, OutOfMemory>
     requires cell { cell.now ≡ cell_pair_alone }
     requires within { Each (IsWithin (suc (length (kept_terms k atoms.now)))) states.keys }
-    ensures { IfOk result (λ out. AreStates (λ _. in_table table.now) (frames_of k atoms.now) states.keys atoms.now out.keys) }
+    ensures { IfOk result (λ out. AreStates (λ _. in_table table.now) (frames_of k atoms.now)
+        states.keys atoms.now out.keys) }
 {
     if atoms.is_empty() {
         return Ok(states);

@@ -113,7 +113,8 @@ fn put_definition(
     requires there { pred < length defs.now.list }
     ensures part { IfOk result (λ n. IsPartOf defs.now.list most table.new × (n ≡ total table.new)) }
     ensures grown { IfOk result (λ _. IsGrown table.old table.new) }
-    ensures taken { IfOk result (λ _. HasAllGiven table.old table.new pred (arity_of defs.now.list pred) (cases_of defs.now.list pred)) }
+    ensures taken { IfOk result (λ _. HasAllGiven table.old table.new pred
+        (arity_of defs.now.list pred) (cases_of defs.now.list pred)) }
     ensures many { (result ≡ Err PairFault.TooManyPairs) → HasMoreThan defs.now.list most }
 {
     let k = arity_at(defs, pred);

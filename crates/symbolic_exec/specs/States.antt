@@ -7,6 +7,11 @@ use Rattle.heap_formula.specs.declared.commands.Command.{Command}
 use Rattle.heap_formula.specs.declared.commands.Command.TheVariants.{New}
 use Rattle.heap_formula.specs.Symbolic.{SymbolicHeap}
 use Rattle.symbolic_exec.specs.declared.commands.Setting.{Setting}
+use Rattle.heap_formula.specs.declared.atoms.Pure.{Pure}
+use Rattle.heap_formula.specs.declared.atoms.Pure.TheVariants.{Eq}
+use Rattle.heap_formula.specs.declared.judgements.Premise.{Premise}
+use Rattle.rule_table.specs.Answer.{two}
+use Rattle.rule_table.specs.ExecTable.{at_line, with_atom, renamed, renamed_term}
 
 -- the variables from n on, k of them; the number after the greatest stands for all that pass it
 abbrev pub variables_up_to : ℕ → ℕ → List Term
@@ -25,3 +30,12 @@ IsSetting at = (at.line ≤ MOST_LINES) × (at.fresh ≤ 65536) × (at.most ≤ 
 abbrev pub new_fields : Command → ℕ
 new_fields (New x k) = k
 new_fields _ = 0
+
+-- the state after `x := t`: variable n stands for the old value of x
+abbrev pub after_assignment : ℕ → ℕ → Term → SymbolicHeap → SymbolicHeap
+after_assignment x n t a = with_atom (renamed x n a) (Eq (Univ x) (renamed_term x n t))
+
+-- the target where an atom holds, the next line where the other does
+abbrev pub branch_premises : Setting → ℕ → SymbolicHeap → Pure → Pure → List Premise
+branch_premises at target a holds fails =
+    two (at_line target a (with_atom a holds)) (at_line (at.line + 1) a (with_atom a fails))

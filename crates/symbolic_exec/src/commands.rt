@@ -3,13 +3,12 @@ ghost use Rattle.std.specs.Prelude.{◌≡◌, ◌≤◌, ◌<◌, ◌+◌, IfOk
 ghost use Rattle.heap_formula.specs.declared.atoms.Pure.TheVariants.{Eq};
 ghost use Rattle.heap_formula.specs.declared.commands.Command.TheVariants.{Load, Store, New, Free, IfAny, Goto};
 ghost use Rattle.heap_formula.specs.declared.judgements.Judgement.TheVariants.{Term as Runs};
-ghost use Rattle.heap_formula.specs.declared.terms.Term.TheVariants.{Univ};
 ghost use Rattle.heap_formula.specs.Positions.{before, pairs_from};
-ghost use Rattle.rule_table.specs.Answer.{limited, one, two};
+ghost use Rattle.rule_table.specs.Answer.{limited, one};
 ghost use Rattle.rule_table.specs.Answered.{IsAnswer};
-ghost use Rattle.rule_table.specs.ExecTable.{at_line as premise_at, with_atom as heap_with_atom, with_field as heap_with_field, renamed, renamed_term, command_answer};
+ghost use Rattle.rule_table.specs.ExecTable.{at_line as premise_at, with_field as heap_with_field, command_answer};
 ghost use Rattle.symbolic_exec.specs.Cells.{found_of};
-ghost use Rattle.symbolic_exec.specs.States.{has_room_for, IsSetting, new_fields};
+ghost use Rattle.symbolic_exec.specs.States.{has_room_for, IsSetting, new_fields, after_assignment, branch_premises};
 
 use crate::cells::{FoundCell, cell_at, field_at, with_field};
 use crate::states::{allocated, assigned, at_line, only_at_line, with_atom};
@@ -42,7 +41,8 @@ fn has_room(most: u8, a: &Heap, pure: usize, spatial: usize) -> bool
 // The old value of x has the fresh number, also in the term that x gets.
 fn set(alloc: Global, at: Setting, a: &Heap, x: u16, t: Term) -> Result<Vec<Premise>, RuleError>
     requires { IsSetting at }
-    ensures { IsAnswer result (limited at.most (one (premise_at (at.line + 1) a.now (heap_with_atom (renamed x at.fresh a.now) (Eq (Univ x) (renamed_term x at.fresh t)))))) }
+    ensures { IsAnswer result
+        (limited at.most (one (premise_at (at.line + 1) a.now (after_assignment x at.fresh t a.now)))) }
 {
     if !has_room(at.most, a, 1, 0) {
         return Err(RuleError::Fault(RuleFault::TooManyAtoms));
@@ -124,7 +124,8 @@ fn freed_premise(
     rest: Heap,
     place: usize,
 ) -> Result<Vec<Premise>, OutOfMemory>
-    ensures { IfOk result (λ v. v.items ≡ one (record { judgement = Runs line rest; pairs = pairs_from (before place) 0 rest.spatial })) }
+    ensures { IfOk result (λ v. v.items
+        ≡ one (record { judgement = Runs line rest; pairs = pairs_from (before place) 0 rest.spatial })) }
 {
     let pairs = pairs_of_kept(alloc, rest.spatial(), place)?;
     one_premise(
@@ -160,7 +161,7 @@ fn branches(
 ) -> Result<Vec<Premise>, OutOfMemory>
     requires setting { IsSetting at }
     requires room { length a.now.pure < MOST_PURE }
-    ensures { IfOk result (λ v. v.items ≡ two (premise_at target a.now (heap_with_atom a.now holds)) (premise_at (at.line + 1) a.now (heap_with_atom a.now fails))) }
+    ensures { IfOk result (λ v. v.items ≡ branch_premises at target a.now holds fails) }
 {
     let jumps = at_line(alloc, target, a, with_atom(alloc, a, holds)?)?;
     let goes_on = at_line(alloc, at.line + 1, a, with_atom(alloc, a, fails)?)?;
@@ -177,7 +178,7 @@ fn test(
     fails: Pure,
 ) -> Result<Vec<Premise>, RuleError>
     requires { IsSetting at }
-    ensures { IsAnswer result (limited at.most (two (premise_at target a.now (heap_with_atom a.now holds)) (premise_at (at.line + 1) a.now (heap_with_atom a.now fails)))) }
+    ensures { IsAnswer result (limited at.most (branch_premises at target a.now holds fails)) }
 {
     if !has_room(at.most, a, 1, 0) {
         return Err(RuleError::Fault(RuleFault::TooManyAtoms));

@@ -3,8 +3,8 @@ ghost use Rattle.std.specs.Prelude.{◌≡◌, ◌<◌, ◌≤◌, ◌+◌, [], 
 ghost use Rattle.heap_formula.specs.declared.atoms.Pure.TheVariants.{Eq};
 ghost use Rattle.heap_formula.specs.declared.terms.Term.TheVariants.{Univ};
 ghost use Rattle.rule_table.specs.Answer.{one};
-ghost use Rattle.rule_table.specs.ExecTable.{renamed, renamed_term, with_atom as heap_with_atom, with_cell as heap_with_cell, at_line as premise_at};
-ghost use Rattle.symbolic_exec.specs.States.{variables_up_to};
+ghost use Rattle.rule_table.specs.ExecTable.{renamed, with_atom as heap_with_atom, with_cell as heap_with_cell, at_line as premise_at};
+ghost use Rattle.symbolic_exec.specs.States.{variables_up_to, after_assignment};
 
 use cyc_limits::{MOST_ARGUMENTS, MOST_PURE, MOST_SPATIAL};
 use cyc_memory::OutOfMemory;
@@ -75,7 +75,7 @@ fn renaming(alloc: Global, x: u16, n: u32) -> Result<Subst, OutOfMemory>
 /// The state after `x := t`: variable `n` stands for the old value of `x`.
 pub fn assigned(alloc: Global, a: &Heap, x: u16, n: u32, t: Term) -> Result<Heap, OutOfMemory>
     requires { length a.now.pure < MOST_PURE }
-    ensures { IfOk result (λ h. h ≡ heap_with_atom (renamed x (min n 65535) a.now) (Eq (Univ x) (renamed_term x (min n 65535) t))) }
+    ensures { IfOk result (λ h. h ≡ after_assignment x (min n 65535) t a.now) }
 {
     let subst = renaming(alloc, x, n)?;
     let old = apply_to_heap(alloc, a, &subst)?;

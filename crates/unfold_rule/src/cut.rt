@@ -2,17 +2,15 @@
 ghost use Rattle.std.specs.Prelude.{◌≡◌, ◌≤◌, ◌+◌, true, max, IfOk, List, length};
 ghost use Rattle.heap_formula.specs.declared.commands.Command.{Command};
 ghost use Rattle.heap_formula.specs.Definitions.{Definition};
-ghost use Rattle.heap_formula.specs.Fresh.{fresh_number, heap_bound};
 ghost use Rattle.heap_formula.specs.Judgements.{IsLocallySound, antecedent as antecedent_of};
 ghost use Rattle.heap_formula.specs.Positions.{chosen, others_of};
-ghost use Rattle.rule_table.specs.Answer.{limited, two};
 ghost use Rattle.rule_table.specs.Answered.{IsAnswer};
 ghost use Rattle.rule_table.specs.Changes.{changed, IsSmall};
-ghost use Rattle.rule_table.specs.RuleCut.{cut_left, cut_right};
+ghost use Rattle.rule_table.specs.RuleCut.{cut_left};
 ghost use Rattle.rule_table.specs.Soundness.{HasVariables};
 ghost use Rattle.rule_table.specs.Table.{cut_answer};
 ghost use Rattle.rule_table.specs.Tests.{has_number};
-ghost use Rattle.unfold_rule.specs.Cutting.{cut_right_by, cut_fits};
+ghost use Rattle.unfold_rule.specs.Cutting.{cut_right_by, cut_fits, cut_by, placed_cut_answer};
 
 use crate::joining::joined_heap;
 use cyc_limits::{MOST_PURE, MOST_SPATIAL};
@@ -58,7 +56,8 @@ fn right_premise(
     requires stays { rest.items ≡ chosen (others_of (has_number places.now)) (antecedent_of judgement.now).spatial }
     requires pure_fits { length (antecedent_of judgement.now).pure + length formula.now.pure ≤ MOST_PURE }
     requires spatial_fits { length rest.items + length formula.now.spatial ≤ MOST_SPATIAL }
-    ensures { IfOk result (λ p. p ≡ cut_right_by judgement.now (has_number places.now) (changed change.now) formula.now) }
+    ensures { IfOk result (λ p. p
+        ≡ cut_right_by judgement.now (has_number places.now) (changed change.now) formula.now) }
 {
     let a = antecedent(judgement);
     let pairs = chosen_pairs(alloc, true, places, a.spatial())?;
@@ -81,7 +80,7 @@ fn cut_premises(
     requires stays { rest.items ≡ chosen (others_of (has_number places.now)) (antecedent_of judgement.now).spatial }
     requires pure_fits { length (antecedent_of judgement.now).pure + length formula.now.pure ≤ MOST_PURE }
     requires spatial_fits { length rest.items + length formula.now.spatial ≤ MOST_SPATIAL }
-    ensures { IfOk result (λ v. v.items ≡ two (cut_left (antecedent_of judgement.now) (has_number places.now) formula.now) (cut_right_by judgement.now (has_number places.now) (changed change.now) formula.now)) }
+    ensures { IfOk result (λ v. v.items ≡ cut_by judgement.now places.now (changed change.now) formula.now) }
 {
     let left = left_premise(alloc, antecedent(judgement), places, formula)?;
     let right = right_premise(alloc, judgement, places, rest, change, formula)?;
@@ -92,7 +91,8 @@ fn fits(most: u8, judgement: &Judgement, stay: usize, formula: &Heap) -> bool
     requires most_fits { most ≤ MOST_SPATIAL }
     requires few { stay ≤ MOST_SPATIAL }
     ensures value { result ≡ cut_fits most judgement.now stay formula.now }
-    ensures pure_fits { result ≡ true → length (antecedent_of judgement.now).pure + length formula.now.pure ≤ MOST_PURE }
+    ensures pure_fits { result ≡ true
+        → length (antecedent_of judgement.now).pure + length formula.now.pure ≤ MOST_PURE }
     ensures spatial_fits { result ≡ true → stay + length formula.now.spatial ≤ MOST_SPATIAL }
 {
     let a = antecedent(judgement);
@@ -120,7 +120,7 @@ fn cut_at(
     requires most_fits { most ≤ MOST_SPATIAL }
     requires stays { rest.items ≡ chosen (others_of (has_number places.now)) (antecedent_of judgement.now).spatial }
     requires few { length rest.items ≤ MOST_SPATIAL }
-    ensures { IsAnswer result (limited most (two (cut_left (antecedent_of judgement.now) (has_number places.now) formula.now) (cut_right judgement.now (has_number places.now) formula.now (max (fresh_number p judgement.now) (heap_bound formula.now))))) }
+    ensures { IsAnswer result (placed_cut_answer most p judgement.now places.now formula.now) }
 {
     if !fits(most, judgement, rest.len(), formula) {
         return Err(RuleError::Fault(RuleFault::TooManyAtoms));

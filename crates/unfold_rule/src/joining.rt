@@ -40,7 +40,8 @@ pub fn joined_heap(
     requires small { IsSmall change.now }
     requires pure_fits { length first_pure.now + length formula.now.pure ≤ MOST_PURE }
     requires spatial_fits { length first_spatial.items + length formula.now.spatial ≤ MOST_SPATIAL }
-    ensures { IfOk result (λ h. h ≡ joined first_pure.now first_spatial.items (in_heap (changed change.now) formula.now)) }
+    ensures { IfOk result (λ h. h
+        ≡ joined first_pure.now first_spatial.items (in_heap (changed change.now) formula.now)) }
 {
     let mut pure = Vec::with_capacity(alloc, first_pure.len() + formula.pure().len())?;
     pure.extend_from_slice(first_pure)?;

@@ -1,16 +1,14 @@
 // The cases in the place of a predicate of the antecedent.
 ghost use Rattle.std.specs.Prelude.{◌≡◌, ◌<◌, ◌≤◌, ◌+◌, ◌++◌, true, map, IfOk, OnOk, List, length};
 ghost use Rattle.heap_formula.specs.declared.commands.Command.{Command};
-ghost use Rattle.heap_formula.specs.Fresh.{fresh_number};
 ghost use Rattle.heap_formula.specs.Judgements.{IsLocallySound, antecedent as antecedent_of};
 ghost use Rattle.heap_formula.specs.Positions.{before, pairs_from, child_pairs};
-ghost use Rattle.rule_table.specs.Answer.{every, limited};
+ghost use Rattle.rule_table.specs.Answer.{every};
 ghost use Rattle.rule_table.specs.Answered.{IsAnswer};
 ghost use Rattle.rule_table.specs.Changes.{changed, IsSmall};
-ghost use Rattle.rule_table.specs.RuleUnfold.{unfold_premise};
 ghost use Rattle.rule_table.specs.Soundness.{HasVariables};
 ghost use Rattle.rule_table.specs.Table.{unfold_answer};
-ghost use Rattle.unfold_rule.specs.Unfolding.{unfolded_by, case_fits};
+ghost use Rattle.unfold_rule.specs.Unfolding.{unfolded_by, case_fits, unfold_cases_answer};
 
 use crate::joining::{joined_heap, kept_atoms};
 use cyc_limits::{MOST_PURE, MOST_SPATIAL};
@@ -141,7 +139,7 @@ fn unfold_cases(
 ) -> Result<Vec<Premise>, RuleError>
     requires most_fits { most ≤ MOST_SPATIAL }
     requires k_in { k < length (antecedent_of judgement.now).spatial }
-    ensures { IsAnswer result (limited most (map (unfold_premise judgement.now k args.now (fresh_number p judgement.now)) cases.now)) }
+    ensures { IsAnswer result (unfold_cases_answer most p judgement.now k args.now cases.now) }
 {
     if !all_fit(most, judgement, cases) {
         return Err(RuleError::Fault(RuleFault::TooManyAtoms));

@@ -1,15 +1,13 @@
 // A case in the place of a predicate of the succedent.
 ghost use Rattle.std.specs.Prelude.{◌≡◌, ◌<◌, ◌≤◌, ◌+◌, IfOk, List, length, MatchOption, slice_get, None, Some};
 ghost use Rattle.heap_formula.specs.declared.commands.Command.{Command};
-ghost use Rattle.heap_formula.specs.Fresh.{heap_exists};
 ghost use Rattle.heap_formula.specs.Judgements.{IsLocallySound};
-ghost use Rattle.heap_formula.specs.Meaning.{cases_of};
 ghost use Rattle.heap_formula.specs.declared.proof_rules.RuleFault.TheVariants.{NoSuchCase};
-ghost use Rattle.rule_table.specs.Answer.{finds, limited, one};
+ghost use Rattle.rule_table.specs.Answer.{one};
 ghost use Rattle.rule_table.specs.Answered.{IsAnswer};
 ghost use Rattle.rule_table.specs.Changes.{changed, IsSmall};
-ghost use Rattle.rule_table.specs.Table.{calls, right_term, unfold_right_answer};
-ghost use Rattle.unfold_rule.specs.Unfolding.{right_by, right_fits};
+ghost use Rattle.rule_table.specs.Table.{unfold_right_answer};
+ghost use Rattle.unfold_rule.specs.Unfolding.{right_by, right_fits, right_case_answer, right_call_answer};
 
 use crate::joining::{joined_heap, kept_atoms};
 use cyc_limits::{MOST_PURE, MOST_SPATIAL};
@@ -61,7 +59,7 @@ fn unfold_case(
 ) -> Result<Vec<Premise>, RuleError>
     requires most_fits { most ≤ MOST_SPATIAL }
     requires k_in { k < length b.now.spatial }
-    ensures { IsAnswer result (limited most (one (right_by a.now b.now k (right_term args.now (heap_exists b.now)) case.now))) }
+    ensures { IsAnswer result (right_case_answer most a.now b.now k args.now case.now) }
 {
     if !fits(most, a, b, case) {
         return Err(RuleError::Fault(RuleFault::TooManyAtoms));
@@ -86,7 +84,7 @@ fn unfold_call(
     c: u32,
 ) -> Result<Vec<Premise>, RuleError>
     requires { k < length b.now.spatial }
-    ensures { IsAnswer result (calls x.now (λ q ts. finds (slice_get (cases_of defs.now.list q) c) NoSuchCase (λ case. limited defs.now.most (one (right_by a.now b.now k (right_term ts (heap_exists b.now)) case))))) }
+    ensures { IsAnswer result (right_call_answer defs.now.most defs.now.list a.now b.now k c x.now) }
 {
     let most = defs.most();
     let Spatial::Pred(q, args) = x else {
