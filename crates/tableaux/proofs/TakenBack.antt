@@ -2,7 +2,7 @@
 use Rattle.std.proofs.Common.{◌≡◌, ℕ, ◌+◌, ◌<◌, ◌≤◌, List, [], ◌∷◌, ◌++◌, map, reverse, Option, Some, None, slice_get, length, length-append, arith, refl, sym, ap, subst, ◌∙◌}
 use Rattle.std.proofs.lemmas.List.{map-append, reverse-append}
 use Rattle.std.proofs.lemmas.List.Sums.{fold-append}
-use Rattle.buchi_core.proofs.Lists.{get_append_left}
+use Rattle.list_facts.proofs.Places.{get_append_left}
 use Rattle.derivation_search.specs.Stack.{front}
 use Rattle.derivation_search.proofs.Members.{front-after}
 use Rattle.tableaux.specs.Tableau.{Premise, Goal, Made, Tableau, Calculus, goals_of, step, at_next, with_premises, replay, begin}
