@@ -1,10 +1,11 @@
 -- Terms that are chosen one after another, and whether those chosen leave a choice possible.
-use Rattle.std.specs.Prelude.{◌≤◌, ℕ, List, [], ◌∷◌, length, Bool, true, ◌&&◌, ◌||◌, not, nat_eq, nat_lt, replicate}
+use Rattle.std.specs.Prelude.{◌≡◌, ◌≤◌, ℕ, List, [], ◌∷◌, ◌++◌, length, take, Bool, true, ◌&&◌, ◌||◌, not, nat_eq, nat_lt, replicate}
 use Rattle.std.specs.List.{filter, list_any, list_all, zip}
 use Rattle.cyc_limits.specs.declared.TheConstants.{MOST_LEFT, MOST_RIGHT, MOST_TERMS}
 use Rattle.fo_formula.specs.declared.terms.Sign.{Sign}
 use Rattle.fo_formula.specs.declared.terms.Sign.TheVariants.{Universal, Local, Constructor}
 use Rattle.fo_formula.specs.declared.atoms.FoAtom.{FoAtom}
+use Rattle.fo_formula.specs.declared.nodes.FoLink.{FoLink}
 use Rattle.fo_formula.specs.declared.sequents.FoSequent.{FoSequent}
 use Rattle.fo_formula.specs.Sizes.{sequent_size}
 use Rattle.fo_formula.specs.Words.{Word, in_atom}
@@ -18,7 +19,7 @@ use Rattle.fo_moves.specs.declared.wanted.LinkValues.{LinkValues}
 use Rattle.fo_moves.specs.declared.wanted.CaseLocals.{CaseLocals}
 use Rattle.fo_moves.specs.declared.wanted.Wanted.{Wanted}
 use Rattle.fo_moves.specs.declared.wanted.Wanted.TheVariants.{Values, Locals}
-use Rattle.fo_moves.specs.Subterms.{terms_of_atom}
+use Rattle.fo_moves.specs.Subterms.{terms_of_atom, lists_of}
 use Rattle.fo_moves.specs.Links.{link_by, is_fit}
 use Rattle.fo_moves.specs.After.{holds_by, suits}
 
@@ -41,9 +42,13 @@ settles_word change w = list_all (settles change) w
 abbrev pub settles_atom : Change → FoAtom → Bool
 settles_atom change x = list_all (settles_word change) (terms_of_atom x)
 
+-- the atom stands among these after the change
+abbrev pub stands_after : Change → List FoAtom → FoAtom → Bool
+stands_after change atoms x = list_any (λ y. same_atom y (in_atom (put change) x)) atoms
+
 -- the atom, if it is settled, stands among these after the change
 abbrev pub may_stand : Change → List FoAtom → FoAtom → Bool
-may_stand change atoms x = not (settles_atom change x) || list_any (λ y. same_atom y (in_atom (put change) x)) atoms
+may_stand change atoms x = not (settles_atom change x) || stands_after change atoms x
 
 -- the atom of a case, if it is settled, holds by the left side after the change
 abbrev pub may_hold : Change → List FoAtom → FoAtom → Bool
@@ -70,9 +75,14 @@ abbrev pub may_do : Wanted → List Word → Bool
 may_do (Values goal) made = may_link goal made
 may_do (Locals goal) made = may_suit goal made
 
+-- the link from the bud to the companion that puts these terms for the sources
+abbrev pub link_with : LinkValues → List Word → FoLink
+link_with goal terms =
+    link_by goal.bud.now goal.companion.now goal.number (zip goal.sources.now terms)
+
 -- the choice is right
 abbrev pub does : Wanted → List Word → Bool
-does (Values goal) terms = is_fit goal.bud.now goal.companion.now (link_by goal.bud.now goal.companion.now goal.number (zip goal.sources.now terms))
+does (Values goal) terms = is_fit goal.bud.now goal.companion.now (link_with goal terms)
 does (Locals goal) terms = suits goal.left.now goal.arguments.now goal.case.now terms
 
 abbrev pub if_done : Wanted → List Word → List (List Word)
@@ -81,3 +91,11 @@ if_done wanted terms = filter (does wanted) (terms ∷ [])
 -- the right choices that begin with these terms and go on with k of the values
 abbrev pub done_after : Wanted → List Word → ℕ → List Word → List (List Word)
 done_after wanted made k values = below (if_done wanted) made (replicate k values)
+
+-- the first right choices of k of the values, in lexicographic order
+abbrev pub first_choices : ℕ → Wanted → ℕ → List Word → List (List Word)
+first_choices most wanted k values = take most (filter (does wanted) (lists_of k values))
+
+-- these choices were added to the old ones, as far as there are at most so many
+abbrev pub AddsFirst : ℕ → List (List Word) → List (List Word) → List (List Word) → Type 0
+AddsFirst most old new more = new ≡ take most (old ++ more)

@@ -21,6 +21,10 @@ abbrev pub parts_of : Word → List Word
 parts_of [] = []
 parts_of (s ∷ w) = first_term (s ∷ w) ∷ parts_of w
 
+-- those of each term of the atoms
+abbrev pub parts_of_atoms : List FoAtom → List Word
+parts_of_atoms xs = flat_map parts_of (flat_map terms_of_atom xs)
+
 -- each word once, where it comes first; these are done already
 abbrev pub once : List Word → List Word → List Word
 once done [] = done

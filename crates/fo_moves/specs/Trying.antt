@@ -1,10 +1,20 @@
 -- Which rules have no fault.
-use Rattle.std.specs.Prelude.{Bool, is_ok}
+use Rattle.std.specs.Prelude.{◌≡◌, ◌≤◌, ◌+◌, Bool, true, is_ok}
+use Rattle.cyc_limits.specs.declared.TheConstants.{MOST_TERMS}
+use Rattle.fo_formula.specs.declared.nodes.FoReason.{FoReason}
 use Rattle.fo_formula.specs.declared.nodes.FoRule.{FoRule}
 use Rattle.fo_formula.specs.declared.sequents.FoSequent.{FoSequent}
 use Rattle.fo_formula.specs.declared.theory.FoTheory.{FoTheory}
+use Rattle.fo_formula.specs.Sizes.{sequent_size, reason_size}
 use Rattle.fo_table.specs.Table.{rule_answer}
 
 -- the rule has no fault at the sequent
 abbrev pub goes : FoTheory → FoSequent → FoRule → Bool
 goes t s rule = is_ok (rule_answer t s rule)
+
+abbrev pub HasPremises : FoTheory → FoSequent → FoRule → Type 0
+HasPremises t s rule = goes t s rule ≡ true
+
+-- the sequent has, with the reason, at most 4,096 terms
+abbrev pub HasRoomFor : FoSequent → FoReason → Type 0
+HasRoomFor s reason = sequent_size s + reason_size reason ≤ MOST_TERMS

@@ -66,7 +66,8 @@ fn push_cases(
 ) -> Result<(), OutOfMemory>
     requires values { values.now ≡ subterms_of sequent.now }
     requires few { length cases.now ≤ 65536 }
-    ensures { OnOk result (rules.new.items ≡ rules.old.items ++ each_place (rights_by sequent.now j arguments.now) cases.now) }
+    ensures { OnOk result (rules.new.items
+        ≡ rules.old.items ++ each_place (rights_by sequent.now j arguments.now) cases.now) }
 {
     for (c, case) in cases.iter().enumerate() {
         let choices = terms_for_case(alloc, sequent, values, arguments, case.as_slice())?;

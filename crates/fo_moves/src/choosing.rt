@@ -1,9 +1,7 @@
 // Terms that are chosen one after another, by depth-first search.
-ghost use Rattle.std.specs.Prelude.{◌≡◌, ◌≤◌, ◌++◌, take, length, IfOk, OnOk};
-ghost use Rattle.fo_moves.specs.Choosing.{may_link as values_may, may_suit as locals_may, may_do as wanted_may, does as wanted_does, if_done, done_after, IsWithin};
-ghost use Rattle.std.specs.List.{filter};
+ghost use Rattle.std.specs.Prelude.{◌≡◌, ◌≤◌, length, IfOk, OnOk};
+ghost use Rattle.fo_moves.specs.Choosing.{may_link as values_may, may_suit as locals_may, may_do as wanted_may, does as wanted_does, if_done, done_after, IsWithin, first_choices, AddsFirst};
 ghost use Rattle.fo_moves.specs.After.{suits as suits_left};
-ghost use Rattle.fo_moves.specs.Subterms.{lists_of};
 
 use crate::linking::{is_fit, link_by, paired};
 use crate::settling::{all_hold, may_all_hold, may_all_stand};
@@ -116,7 +114,8 @@ fn add_choice(
 ) -> Result<(), OutOfMemory>
     requires within { IsWithin search.now.wanted }
     requires few { length found.old.items ≤ search.now.most }
-    ensures { OnOk result (found.new.items ≡ take search.now.most (found.old.items ++ if_done search.now.wanted made.now)) }
+    ensures { OnOk result (AddsFirst search.now.most found.old.items found.new.items
+        (if_done search.now.wanted made.now)) }
 {
     if found.len() as u128 >= search.most {
         return Ok(());
@@ -136,7 +135,8 @@ fn choose(
 ) -> Result<(), OutOfMemory>
     requires within { IsWithin search.now.wanted }
     requires few { length found.old.items ≤ search.now.most }
-    ensures found { OnOk result (found.new.items ≡ take search.now.most (found.old.items ++ done_after search.now.wanted made.old.items count search.now.values.now)) }
+    ensures found { OnOk result (AddsFirst search.now.most found.old.items found.new.items
+        (done_after search.now.wanted made.old.items count search.now.values.now)) }
     ensures made { OnOk result (made.new.items ≡ made.old.items) }
 {
     if found.len() as u128 >= search.most {
@@ -159,7 +159,7 @@ fn choose(
 /// The first right choices of so many terms, in lexicographic order.
 pub fn choices(alloc: Global, search: &Search<'_>, count: usize) -> Result<Vec<Terms>, OutOfMemory>
     requires { IsWithin search.now.wanted }
-    ensures { IfOk result (λ v. v.items ≡ take search.now.most (filter (wanted_does search.now.wanted) (lists_of count search.now.values.now))) }
+    ensures { IfOk result (λ v. v.items ≡ first_choices search.now.most search.now.wanted count search.now.values.now) }
 {
     let mut made = Vec::new(alloc);
     let mut found = Vec::new(alloc);

@@ -1,8 +1,8 @@
 // The links from a bud to a companion.
 ghost use Rattle.std.specs.Prelude.{◌≡◌, ◌≤◌, IfOk, length, map};
-ghost use Rattle.std.specs.List.{zip};
 ghost use Rattle.fo_formula.specs.Sizes.{sequent_size};
-ghost use Rattle.fo_moves.specs.Links.{link_by as link_by_pairs, links_to as first_links};
+ghost use Rattle.fo_moves.specs.Links.{links_to as first_links};
+ghost use Rattle.fo_moves.specs.Choosing.{link_with};
 
 use crate::choosing::{Search, choices};
 use crate::linking::{link_by, paired};
@@ -21,7 +21,7 @@ fn links_by(
 ) -> Result<Vec<FoLink>, OutOfMemory>
     requires left_fits { length goal.now.bud.now.left ≤ MOST_LEFT }
     requires right_fits { length goal.now.bud.now.right ≤ MOST_RIGHT }
-    ensures { IfOk result (λ v. v.items ≡ map (λ ts. link_by_pairs goal.now.bud.now goal.now.companion.now goal.now.number (zip goal.now.sources.now ts)) choices.now) }
+    ensures { IfOk result (λ v. v.items ≡ map (link_with goal.now) choices.now) }
 {
     let mut links = Vec::new(alloc);
     for terms in choices {

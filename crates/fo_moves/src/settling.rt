@@ -7,7 +7,7 @@ ghost use Rattle.fo_parts.specs.Putting.{put};
 ghost use Rattle.fo_formula.specs.Words.{in_atom};
 ghost use Rattle.fo_table.specs.Tests.{same_atom};
 ghost use Rattle.fo_moves.specs.After.{holds_by as atom_holds_by};
-ghost use Rattle.fo_moves.specs.Choosing.{has_pair as some_pair, settles as sign_settled, settles_word as word_settled, settles_atom as atom_settled, may_stand as atom_may_stand, may_hold as atom_may_hold};
+ghost use Rattle.fo_moves.specs.Choosing.{has_pair as some_pair, settles as sign_settled, settles_word as word_settled, settles_atom as atom_settled, may_stand as atom_may_stand, may_hold as atom_may_hold, stands_after};
 
 use cyc_limits::MOST_TERMS;
 use cyc_memory::OutOfMemory;
@@ -93,7 +93,7 @@ fn is_among_changed(
     atom: &FoAtom,
 ) -> Result<bool, OutOfMemory>
     requires { atoms_size atoms.now ≤ MOST_TERMS }
-    ensures { IfOk result (λ b. b ≡ list_any (λ (y : AtomValue). same_atom y (in_atom (put change.now) atom.now)) atoms.now) }
+    ensures { IfOk result (λ b. b ≡ stands_after change.now atoms.now atom.now) }
 {
     if size_of_changed_atom(change, atom) > MOST_TERMS {
         return Ok(false);

@@ -3,7 +3,7 @@ ghost use Rattle.std.specs.Prelude.{◌≡◌, ◌∷◌, [], IfOk, OnOk};
 ghost use Rattle.std.specs.List.{list_any, flat_map};
 ghost use Rattle.fo_formula.specs.Words.{first_term};
 ghost use Rattle.fo_table.specs.Tests.{same_word};
-ghost use Rattle.fo_moves.specs.Subterms.{terms_of_atom, parts_of, once, subterms as subterms_of};
+ghost use Rattle.fo_moves.specs.Subterms.{terms_of_atom, parts_of, once, subterms as subterms_of, parts_of_atoms};
 
 use cyc_memory::OutOfMemory;
 use fo_formula::{FoAtom, FoSequent, Sign, Term};
@@ -78,7 +78,7 @@ fn push_parts_of_atoms(
     atoms: &[FoAtom],
     words: &mut Vec<Term>,
 ) -> Result<(), OutOfMemory>
-    ensures { OnOk result (words.new.items ≡ once words.old.items (flat_map parts_of (flat_map terms_of_atom atoms.now))) }
+    ensures { OnOk result (words.new.items ≡ once words.old.items (parts_of_atoms atoms.now)) }
 {
     for atom in atoms {
         push_parts_of_atom(alloc, atom, words)?;

@@ -1,5 +1,5 @@
 -- The values that a heap forces on the locals of a formula.
-use Rattle.std.specs.Prelude.{◌≡◌, ℕ, zero, suc, ◌+◌, List, [], ◌∷◌, ◌++◌, ◌⊎◌, ◌≤◌, length, Bool, true, false, map, Option, Some, None, slice_get, slice_index, nat_eq, if◌then◌else◌}
+use Rattle.std.specs.Prelude.{◌≡◌, ℕ, zero, suc, ◌+◌, List, [], ◌∷◌, ◌++◌, ◌⊎◌, ◌≤◌, length, Bool, true, false, map, Option, Some, None, slice_get, slice_index, nat_eq, if◌then◌else◌, MatchOption, Vec}
 use Rattle.heap_formula.specs.declared.terms.Term.{Term}
 use Rattle.heap_formula.specs.declared.terms.Term.TheVariants.{Nil, Univ, Exist}
 use Rattle.heap_formula.specs.Words.{Each, max_of}
@@ -11,6 +11,7 @@ use Rattle.model_check.specs.declared.locals.Local.{Local}
 use Rattle.model_check.specs.declared.locals.Forced.{Forced}
 use Rattle.model_check.specs.declared.locals.Forced.TheVariants.{Unknown, Value, Absent}
 use Rattle.model_check.specs.Steps.{source, target}
+use Rattle.std.specs.declared.alloc.Global.{Global}
 
 -- the value of a local, if it has one
 abbrev pub local_value : List Local → ℕ → Option ℕ
@@ -99,3 +100,8 @@ Passes h s steps before after new false = (e : Stack) → StepsHold h s e steps 
 abbrev pub IsEvaluated : Cells → Stack → List Step → Option (List Local) → Type 0
 IsEvaluated h s steps None = (e : Stack) → StepsHold h s e steps → ⊥
 IsEvaluated h s steps (Some ls) = AreForced h s steps ls × AllPassed s ls steps
+
+-- the same of a list that is found, or of none
+abbrev pub Evaluates : Cells → Stack → List Step → Option (Vec Local Global) → Type 0
+Evaluates h s steps found =
+    MatchOption found (IsEvaluated h s steps None) (λ v. IsEvaluated h s steps (Some v.items))

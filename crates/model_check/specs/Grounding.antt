@@ -1,5 +1,5 @@
 -- Which rules the cases of definitions are, in a given heap.
-use Rattle.std.specs.Prelude.{◌≡◌, ◌<◌, ℕ, List, [], ◌∷◌, ◌++◌, ◌⊎◌, Some, slice_get}
+use Rattle.std.specs.Prelude.{◌≡◌, ◌<◌, ℕ, List, [], ◌∷◌, ◌++◌, ◌⊎◌, Some, slice_get, ◌≤◌, length, Option, MatchOption}
 use Rattle.heap_formula.specs.Symbolic.{SymbolicHeap}
 use Rattle.heap_formula.specs.declared.atoms.Spatial.{Spatial}
 use Rattle.heap_formula.specs.declared.atoms.Spatial.TheVariants.{Cell, Pred}
@@ -18,6 +18,10 @@ use Rattle.model_check.specs.MaskParts.{place, Covers}
 -- the question has this number
 abbrev pub IsQuestion : List Question → ℕ → ℕ → List ℕ → Type 0
 IsQuestion qs q p vs = slice_get qs q ≡ Some (record { predicate = p; values = vs })
+
+-- the question of this number, none where there are no more than so many
+abbrev pub IsQuestionAt : List Question → ℕ → Option Question → Type 0
+IsQuestionAt qs q found = MatchOption found (length qs ≤ q) (λ x. slice_get qs q ≡ Some x)
 
 abbrev pub IsPiece : List Question → ℕ → List ℕ → Piece → Type 0
 IsPiece qs p vs (Here m) = ⊥

@@ -16,6 +16,10 @@ abbrev pub Added : Row → Row → ℕ → Bool → Type 0
 Added old new m true = (ws : List ℕ) × (number ws ≡ m) × (new ≡ old ++ ws ∷ [])
 Added old new m false = (new ≡ old) × HoldsMask m old
 
+-- the row has these masks more
+abbrev pub Gains : Row → Row → (ℕ → Type 0) → Type 0
+Gains old new P = (m : ℕ) → HoldsMask m new ↔ (HoldsMask m old ⊎ P m)
+
 -- m is a disjoint union of this mask and one of the others
 abbrev pub JoinsOne : ℕ → Row → ℕ → Type 0
 JoinsOne part others m = OneOf (λ rest. Apart part (number rest) m) others
@@ -47,6 +51,10 @@ AddsMask head mask old new = (q m : ℕ) → HasMask new q m ↔ (HasMask old q 
 -- the table has these masks more, at the question head
 abbrev pub AddsRule : ℕ → (ℕ → Type 0) → List Row → List Row → Type 0
 AddsRule head P old new = (q m : ℕ) → HasMask new q m ↔ (HasMask old q m ⊎ ((q ≡ head) × P m))
+
+-- the table has what the rule gives from it more
+abbrev pub AppliesRule : GroundRule → List Row → List Row → Type 0
+AppliesRule r old new = AddsRule r.head (Unions (HasMask old) r.pieces) old new
 
 -- each mask of the table is derived
 abbrev pub IsDerived : List GroundRule → List Row → Type 0

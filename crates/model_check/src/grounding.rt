@@ -1,11 +1,11 @@
 // From cases of definitions to rules on masks.
-ghost use Rattle.std.specs.Prelude.{◌≡◌, ℕ, List, [], ◌<◌, ◌≤◌, ◌^◌, ◌↔◌, IsTrue, IfOk, OnOk, Ok, MatchOption, Some, None, vec_len, length, slice_get};
+ghost use Rattle.std.specs.Prelude.{◌≡◌, ℕ, List, [], ◌<◌, ◌^◌, ◌↔◌, IsTrue, IfOk, OnOk, Ok, Some, None, vec_len};
 ghost use Rattle.heap_formula.specs.Words.{Each};
 ghost use Rattle.heap_formula.specs.Values.{Stack, value, values};
 ghost use Rattle.model_check.specs.Constructive.{Member, AreConstructive, IsConstructive, CellFits, Fits, IsOnly};
 ghost use Rattle.model_check.specs.ForcedLocals.{stack_of};
 ghost use Rattle.model_check.specs.MaskParts.{place, Covers};
-ghost use Rattle.model_check.specs.Grounding.{IsListed, IsQuestion, PieceFits, PiecesFit, Extends, Asked, AskedPiece, AskedPieces, GroundedCase, GroundedCases, IsGrounded, Grounds};
+ghost use Rattle.model_check.specs.Grounding.{IsListed, IsQuestion, PieceFits, PiecesFit, Extends, Asked, AskedPiece, AskedPieces, GroundedCase, GroundedCases, IsGrounded, Grounds, IsQuestionAt};
 ghost use Rattle.heap_formula.specs.Meaning.{cases_of};
 ghost use Rattle.heap_formula.specs.Cells.{IsHeap};
 
@@ -62,7 +62,9 @@ pub fn pieces_of(
     atoms: &[Spatial],
 ) -> Result<Pieces, OutOfMemory>
     requires listed { Each (IsListed places.now.keys stack.now (stack_of locals.now)) atoms.now }
-    ensures { OnOk result ((ys : List Piece) → result ≡ Ok ys → AskedPieces places.now.keys questions.old.keys questions.new.keys stack.now (stack_of locals.now) atoms.now ys) }
+    ensures { OnOk result ((ys : List Piece) → result ≡ Ok ys
+        → AskedPieces places.now.keys questions.old.keys questions.new.keys
+        stack.now (stack_of locals.now) atoms.now ys) }
 {
     let mut pieces = Vec::new(alloc);
     for atom in atoms {
@@ -85,7 +87,8 @@ fn ground_case(
 ) -> Result<(), OutOfMemory>
     requires covers { Covers places.now.keys cells.now }
     requires constructive { IsConstructive case.now }
-    ensures { OnOk result (GroundedCase cells.now places.now.keys questions.old.keys questions.new.keys rules.old.items rules.new.items head values.now case.now) }
+    ensures { OnOk result (GroundedCase cells.now places.now.keys questions.old.keys questions.new.keys
+        rules.old.items rules.new.items head values.now case.now) }
 {
     match locals_of(alloc, values, cells, case)? {
         None => Ok(()),
@@ -110,7 +113,8 @@ fn ground_cases(
 ) -> Result<(), OutOfMemory>
     requires covers { Covers places.now.keys cells.now }
     requires constructive { Each IsConstructive cases.now }
-    ensures { OnOk result (GroundedCases cells.now places.now.keys questions.old.keys questions.new.keys rules.old.items rules.new.items head values.now cases.now) }
+    ensures { OnOk result (GroundedCases cells.now places.now.keys questions.old.keys questions.new.keys
+        rules.old.items rules.new.items head values.now cases.now) }
 {
     for case in cases {
         ground_case(alloc, cells, places, questions, rules, head, values, case)?;
@@ -131,7 +135,8 @@ fn ground_question(
 ) -> Result<(), OutOfMemory>
     requires covers { Covers places.now.keys cells.now }
     requires constructive { AreConstructive defs.now.list }
-    ensures { OnOk result (GroundedCases cells.now places.now.keys questions.old.keys questions.new.keys rules.old.items rules.new.items head question.now.values (cases_of defs.now.list question.now.predicate)) }
+    ensures { OnOk result (GroundedCases cells.now places.now.keys questions.old.keys questions.new.keys
+        rules.old.items rules.new.items head question.now.values (cases_of defs.now.list question.now.predicate)) }
 {
     ground_cases(
         alloc,
@@ -149,7 +154,7 @@ fn copied_question(
     questions: &IndexSet<Question>,
     q: usize,
 ) -> Result<Option<Question>, OutOfMemory>
-    ensures { IfOk result (λ o. MatchOption o (length questions.now.keys ≤ q) (λ x. slice_get questions.now.keys q ≡ Some x)) }
+    ensures { IfOk result (IsQuestionAt questions.now.keys q) }
 {
     match question_at(questions, q) {
         None => Ok(None),

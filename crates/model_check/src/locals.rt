@@ -3,7 +3,7 @@ ghost use Rattle.std.specs.Prelude.{◌≡◌, ℕ, ◌<◌, ◌≤◌, ◌++◌
 ghost use Rattle.heap_formula.specs.Words.{Each};
 ghost use Rattle.heap_formula.specs.Cells.{cell_at};
 ghost use Rattle.model_check.specs.Steps.{target, steps_of as all_steps};
-ghost use Rattle.model_check.specs.ForcedLocals.{local_value, term_value, field_of as cell_field, target_of, Sets, Follows, Passes, StepsHold, AreForced, IsEvaluated};
+ghost use Rattle.model_check.specs.ForcedLocals.{local_value, term_value, field_of as cell_field, target_of, Sets, Follows, Passes, StepsHold, AreForced, Evaluates};
 ghost use Rattle.heap_formula.specs.Values.{Stack, value, values};
 ghost use Rattle.heap_formula.specs.Meaning.{PureHolds};
 ghost use Rattle.model_check.specs.Constructive.{IsConstructive, CellFits, Fits, IsOnly};
@@ -172,7 +172,7 @@ fn evaluate(
     cells: &Cells,
     steps: &[Step],
 ) -> Result<Option<Vec<Local>>, OutOfMemory>
-    ensures { IfOk result (λ o. MatchOption o (IsEvaluated cells.now stack.now steps.now None) (λ v. IsEvaluated cells.now stack.now steps.now (Some v.items))) }
+    ensures { IfOk result (Evaluates cells.now stack.now steps.now) }
 {
     let mut locals = Vec::new(alloc);
     for _round in 0..usize::MAX {
@@ -312,7 +312,7 @@ fn evaluate_heap(
     cells: &Cells,
     heap: &Heap,
 ) -> Result<Option<Vec<Local>>, OutOfMemory>
-    ensures { IfOk result (λ o. MatchOption o (IsEvaluated cells.now stack.now (all_steps heap.now) None) (λ v. IsEvaluated cells.now stack.now (all_steps heap.now) (Some v.items))) }
+    ensures { IfOk result (Evaluates cells.now stack.now (all_steps heap.now)) }
 {
     let steps = steps_of(alloc, heap)?;
     evaluate(alloc, stack, cells, &steps)

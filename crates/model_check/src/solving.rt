@@ -2,9 +2,9 @@
 ghost use Rattle.std.specs.Prelude.{◌≡◌, ℕ, ◌<◌, ◌≤◌, ◌↔◌, ◌⊎◌, Some, IfOk, OnOk, IsTrue, vec_len, slice_get, slice_index, slice_set, replicate, length, nat_eq, if◌then◌else◌};
 ghost use Rattle.heap_formula.specs.Words.{Each};
 ghost use Rattle.model_check.specs.WideMasks.{number, HoldsMask};
-ghost use Rattle.model_check.specs.Ground.{Unions, IsSolved};
+ghost use Rattle.model_check.specs.Ground.{IsSolved};
 ghost use Rattle.model_check.specs.declared.ground.GroundRule.{GroundRule};
-ghost use Rattle.model_check.specs.Tables.{HasMask, AddsMask, AddsRule, IsDerived, IsClosed, AreClosed, HeadsFit, IsOld, IsFresh, AreSettled, AreBefore};
+ghost use Rattle.model_check.specs.Tables.{HasMask, AddsMask, AddsRule, IsDerived, IsClosed, AreClosed, HeadsFit, IsOld, IsFresh, AreSettled, AreBefore, AppliesRule};
 
 use crate::ground::{GroundRule, Piece};
 use crate::mask::Mask;
@@ -57,7 +57,7 @@ fn apply_rule(
     rule: &GroundRule,
 ) -> Result<(), OutOfMemory>
     requires { rule.now.head < vec_len table.old }
-    ensures members { OnOk result (AddsRule rule.now.head (Unions (HasMask table.old.items) rule.now.pieces) table.old.items table.new.items) }
+    ensures members { OnOk result (AppliesRule rule.now table.old.items table.new.items) }
     ensures rows { vec_len table.new ≡ vec_len table.old }
     ensures longer { OnOk result (vec_len log.old ≤ vec_len log.new) }
     ensures same { OnOk result (vec_len log.new ≡ vec_len log.old → table.new.items ≡ table.old.items) }
@@ -111,7 +111,8 @@ fn note_times(
     requires rule { rule < vec_len applied.old }
     requires head { head < vec_len grown.old }
     ensures applied { applied.new.items ≡ slice_set applied.old.items rule before }
-    ensures grown { grown.new.items ≡ (if nat_eq before after then grown.old.items else slice_set grown.old.items head after) }
+    ensures grown { grown.new.items
+        ≡ (if nat_eq before after then grown.old.items else slice_set grown.old.items head after) }
 {
     applied[rule] = before;
     if before != after {

@@ -1,8 +1,8 @@
 // Sets of masks, and the disjoint unions of their members.
-ghost use Rattle.std.specs.Prelude.{◌≡◌, ℕ, ◌++◌, ◌∷◌, [], ◌^◌, ◌↔◌, ◌⊎◌, IsTrue, IfOk, OnOk, Bool, length};
+ghost use Rattle.std.specs.Prelude.{◌≡◌, ℕ, ◌++◌, ◌∷◌, [], ◌^◌, ◌↔◌, IsTrue, IfOk, OnOk, Bool, length};
 ghost use Rattle.model_check.specs.WideMasks.{number, HoldsMask};
 ghost use Rattle.model_check.specs.Ground.{Apart, Unions, PieceIs};
-ghost use Rattle.model_check.specs.Tables.{Added, JoinsOne, JoinsSome, HasMask, JoinsPiece};
+ghost use Rattle.model_check.specs.Tables.{Added, JoinsOne, JoinsSome, HasMask, JoinsPiece, Gains};
 
 use crate::ground::Piece;
 use crate::mask::Mask;
@@ -62,7 +62,7 @@ pub fn has_mask(masks: &[Mask], mask: &Mask) -> bool
 
 /// Adds the union of two masks if they have no place in common.
 fn add_pair(alloc: Global, out: &mut Row, part: &Mask, rest: &Mask) -> Result<(), OutOfMemory>
-    ensures { IfOk result (λ _. (m : ℕ) → HoldsMask m out.new ↔ (HoldsMask m out.old ⊎ Apart (number part.now) (number rest.now) m)) }
+    ensures { IfOk result (λ _. Gains out.old out.new (Apart (number part.now) (number rest.now))) }
 {
     if part.is_apart(rest) {
         out.add(part.union(alloc, rest)?)?;
@@ -71,7 +71,7 @@ fn add_pair(alloc: Global, out: &mut Row, part: &Mask, rest: &Mask) -> Result<()
 }
 
 fn add_pairs(alloc: Global, out: &mut Row, part: &Mask, others: &[Mask]) -> Result<(), OutOfMemory>
-    ensures { IfOk result (λ _. (m : ℕ) → HoldsMask m out.new ↔ (HoldsMask m out.old ⊎ JoinsOne (number part.now) others.now m)) }
+    ensures { IfOk result (λ _. Gains out.old out.new (JoinsOne (number part.now) others.now)) }
 {
     for rest in others {
         add_pair(alloc, out, part, rest)?;

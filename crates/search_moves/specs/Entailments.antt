@@ -14,7 +14,7 @@ use Rattle.heap_formula.specs.declared.proof_rules.Rule.{Rule}
 use Rattle.heap_formula.specs.declared.proof_rules.Rule.TheVariants.{Absurd, Rewrite, Distinct, Unfold, Done, Choose, PureRight, Instantiate, Frame, UnfoldRight}
 use Rattle.heap_formula.specs.Symbolic.{SymbolicHeap}
 use Rattle.heap_formula.specs.Meaning.{cases_of}
-use Rattle.heap_formula.specs.Substitution.{in_heap}
+use Rattle.heap_formula.specs.Substitution.{in_heap, in_pure}
 use Rattle.rule_table.specs.RuleLink.{mirror_pure}
 use Rattle.rule_table.specs.Tests.{same_term, same_pure, is_universal, is_universal_pure, follows, address_of, some_cell_at}
 use Rattle.rule_table.specs.Table.{right_term}
@@ -206,8 +206,16 @@ may_follow t j a x = not (is_universal_pure x) || (follows a.pure x || list_any 
 abbrev pub may_unfold : Theory → Judgement → SymbolicHeap → SymbolicHeap → Bool
 may_unfold t j a body = list_all (has_place a.spatial) body.spatial && list_all (may_follow t j a) body.pure
 
+-- each of a case's pure atoms follows or may, its parameters being replaced
+abbrev pub all_may_follow : Theory → Judgement → SymbolicHeap → List Term → List Pure → Bool
+all_may_follow t j a ts xs = list_all (may_follow t j a) (map (in_pure (right_term ts 0)) xs)
+
+abbrev pub may_unfold_case : Theory → Judgement → SymbolicHeap → List Term → SymbolicHeap → Bool
+may_unfold_case t j a ts case = may_unfold t j a (in_heap (right_term ts 0) case)
+
 abbrev pub right_unfold_at : Theory → Judgement → SymbolicHeap → ℕ → List Term → ℕ → SymbolicHeap → List Rule
-right_unfold_at t j a k ts c case = if may_unfold t j a (in_heap (right_term ts 0) case) then UnfoldRight k c ∷ [] else []
+right_unfold_at t j a k ts c case =
+    if may_unfold_case t j a ts case then UnfoldRight k c ∷ [] else []
 
 abbrev pub right_unfolds_of : Theory → Judgement → SymbolicHeap → ℕ → Spatial → List Rule
 right_unfolds_of t j a k (Cell u us) = []
@@ -235,6 +243,10 @@ instance_lines t j a b =
     first_that (goes t j) (predicate_frames a.spatial b.spatial) ∷
     last_line t j a b ∷ []
 
+-- the first of them that applies
+abbrev pub instance_line : Theory → Judgement → SymbolicHeap → SymbolicHeap → List Rule
+instance_line t j a b = first_line (instance_lines t j a b)
+
 abbrev pub single_lines : Theory → Judgement → SymbolicHeap → SymbolicHeap → List (List Rule)
 single_lines t j a b =
     filter (goes t j) (Done ∷ []) ∷
@@ -243,8 +255,16 @@ single_lines t j a b =
     first_that (goes t j) (cell_frames a.spatial b.spatial) ∷
     instance_lines t j a b
 
+-- the first of them that applies
+abbrev pub single_line : Theory → Judgement → SymbolicHeap → SymbolicHeap → List Rule
+single_line t j a b = first_line (single_lines t j a b)
+
+-- with several disjuncts: the choice of one, and unfolding on the left
+abbrev pub several_line : Theory → Judgement → SymbolicHeap → List SymbolicHeap → List Rule
+several_line t j a bs = filter (goes t j) (choices bs ++ unfolds a.spatial)
+
 -- where no link is admitted
 abbrev pub entailment_after : Theory → Judgement → SymbolicHeap → List SymbolicHeap → List Rule
 entailment_after t j a [] = []
-entailment_after t j a (b ∷ []) = first_line (single_lines t j a b)
-entailment_after t j a (b ∷ c ∷ bs) = filter (goes t j) (choices (b ∷ c ∷ bs) ++ unfolds a.spatial)
+entailment_after t j a (b ∷ []) = single_line t j a b
+entailment_after t j a (b ∷ c ∷ bs) = several_line t j a (b ∷ c ∷ bs)

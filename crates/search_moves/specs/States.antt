@@ -148,6 +148,14 @@ unfolds_for a (Some t) = unfolds_at a t
 abbrev pub unfolds_if : Bool → SymbolicHeap → Option Command → List Rule
 unfolds_if missing a c = if missing then unfolds_for a (wanted_cell c) else []
 
+-- Exec has no cell where it wants one
+abbrev pub lacks_cell : Theory → Judgement → Bool
+lacks_cell t j = misses_cell (exec_answer t.most t.lines j)
+
+-- the predicates that may have the cell that the line wants and that is not there
+abbrev pub cell_unfolds : Theory → Judgement → ℕ → SymbolicHeap → List Rule
+cell_unfolds t j i a = unfolds_if (lacks_cell t j) a (counted_from_one t.lines i)
+
 -- ---- the nodes before
 
 -- the rule unfolds an atom or executes a command
@@ -253,4 +261,4 @@ state_before t j i a =
 -- where no link is admitted
 abbrev pub state_after : Theory → List GraphNode → ℕ → Judgement → ℕ → SymbolicHeap → List Rule
 state_after t nodes goal j i a =
-    filter (goes t j) (folds_if t nodes goal i a ++ (Exec ∷ unfolds_if (misses_cell (exec_answer t.most t.lines j)) a (counted_from_one t.lines i)))
+    filter (goes t j) (folds_if t nodes goal i a ++ (Exec ∷ cell_unfolds t j i a))

@@ -67,7 +67,8 @@ pub fn closing_rules(
 ) -> Result<Vec<Rule>, OutOfMemory>
     requires judgement { antecedent_of at.now.judgement.now ≡ left.now }
     requires cases { every (has_some_case at.now.defs.now.list) left.now.spatial ≡ true }
-    ensures { IfOk result (λ v. CloseAlike (theory_of at.now) at.now.judgement.now v.items (entailment_after (theory_of at.now) at.now.judgement.now left.now heaps.now)) }
+    ensures { IfOk result (λ v. CloseAlike (theory_of at.now) at.now.judgement.now v.items
+        (entailment_after (theory_of at.now) at.now.judgement.now left.now heaps.now)) }
 {
     if heaps.len() != 1 {
         return Ok(Vec::new(alloc));

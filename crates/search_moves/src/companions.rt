@@ -54,7 +54,8 @@ fn links_to(
     judgement: &Judgement,
 ) -> Result<Vec<Link>, OutOfMemory>
     requires node { v < length graph.now }
-    requires companion { (node : GraphNode) → slice_get graph.now v ≡ Some node → is_companion_of judgement.now node ≡ true }
+    requires companion { (node : GraphNode) → slice_get graph.now v ≡ Some node
+        → is_companion_of judgement.now node ≡ true }
     ensures { IfOk result (λ found. (node : GraphNode) → slice_get graph.now v ≡ Some node
         → found.items ≡ links_to_node MOST_LINKS program.now judgement.now v node) }
 {

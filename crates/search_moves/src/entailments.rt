@@ -2,10 +2,9 @@
 ghost use Rattle.std.specs.Prelude.{◌≡◌, ◌≤◌, ◌++◌, ◌∷◌, [], ℕ, IfOk, length};
 ghost use Rattle.std.specs.List.{filter};
 ghost use Rattle.heap_formula.specs.Meaning.{cases_of};
-ghost use Rattle.fold_offers.specs.Places.{first_line};
 ghost use Rattle.search_moves.specs.Trying.{goes as goes_at};
 ghost use Rattle.search_moves.specs.Settings.{theory_of};
-ghost use Rattle.search_moves.specs.Entailments.{unfolds as unfolds_of, choices as choices_of, last_line, instance_lines, single_lines, entailment_before, entailment_after};
+ghost use Rattle.search_moves.specs.Entailments.{last_line, instance_line, single_line, several_line, entailment_before, entailment_after};
 
 use crate::distincts::distincts;
 use crate::instances::{argument_instances, equation_instances, field_instances, instance_rules};
@@ -76,7 +75,7 @@ fn instance_offers(
     right: &Heap,
 ) -> Result<Vec<Rule>, OutOfMemory>
     requires cases { (q : ℕ) → length (cases_of at.now.defs.now.list q) ≤ 65536 }
-    ensures { IfOk result (λ v. v.items ≡ first_line (instance_lines (theory_of at.now) at.now.judgement.now left.now right.now)) }
+    ensures { IfOk result (λ v. v.items ≡ instance_line (theory_of at.now) at.now.judgement.now left.now right.now) }
 {
     let instances = equation_instances(alloc, right.pure())?;
     let rules = first_that_goes(alloc, at, instance_rules(alloc, &instances)?)?;
@@ -104,7 +103,7 @@ fn single_offers(
     right: &Heap,
 ) -> Result<Vec<Rule>, OutOfMemory>
     requires cases { (q : ℕ) → length (cases_of at.now.defs.now.list q) ≤ 65536 }
-    ensures { IfOk result (λ v. v.items ≡ first_line (single_lines (theory_of at.now) at.now.judgement.now left.now right.now)) }
+    ensures { IfOk result (λ v. v.items ≡ single_line (theory_of at.now) at.now.judgement.now left.now right.now) }
 {
     let rules = rule_alone(alloc, at, Rule::Done)?;
     if !rules.is_empty() {
@@ -134,7 +133,7 @@ fn several_offers(
     heaps: &[Heap],
 ) -> Result<Vec<Rule>, OutOfMemory>
     requires few { length heaps.now ≤ 64 }
-    ensures { IfOk result (λ v. v.items ≡ filter (goes_at (theory_of at.now) at.now.judgement.now) (choices_of heaps.now ++ unfolds_of left.now.spatial)) }
+    ensures { IfOk result (λ v. v.items ≡ several_line (theory_of at.now) at.now.judgement.now left.now heaps.now) }
 {
     let rules = joined(choices(alloc, heaps)?, unfolds(alloc, left.spatial())?)?;
     those_that_go(alloc, at, rules)

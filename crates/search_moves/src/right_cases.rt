@@ -1,13 +1,13 @@
 // Cases of predicates of the right side.
 ghost use Rattle.std.specs.Prelude.{◌≡◌, ◌≤◌, ◌++◌, ℕ, IfOk, OnOk, length, map};
 ghost use Rattle.std.specs.List.{list_all};
-ghost use Rattle.heap_formula.specs.Substitution.{in_pure, in_spatial, in_heap};
+ghost use Rattle.heap_formula.specs.Substitution.{in_pure, in_spatial};
 ghost use Rattle.heap_formula.specs.Meaning.{cases_of};
 ghost use Rattle.rule_table.specs.Table.{right_term};
 ghost use Rattle.rule_table.specs.Tests.{some_cell_at};
 ghost use Rattle.fold_offers.specs.Places.{each_place};
 ghost use Rattle.search_moves.specs.Settings.{theory_of};
-ghost use Rattle.search_moves.specs.Entailments.{may_stand as may_stand_at, has_place as has_place_at, may_follow as may_follow_at, may_unfold as may_unfold_at, right_unfold_at, right_unfolds as right_unfolds_of};
+ghost use Rattle.search_moves.specs.Entailments.{may_stand as may_stand_at, has_place as has_place_at, may_follow as may_follow_at, all_may_follow, may_unfold_case, right_unfold_at, right_unfolds as right_unfolds_of};
 
 use crate::distincts::distincts_for;
 use crate::setting::{Setting, some_goes};
@@ -102,7 +102,7 @@ fn may_all_follow(
     args: &Args,
     case: &[Pure],
 ) -> Result<bool, OutOfMemory>
-    ensures { IfOk result (λ b. b ≡ list_all (may_follow_at (theory_of at.now) at.now.judgement.now left.now) (map (in_pure (right_term args.now 0)) case.now)) }
+    ensures { IfOk result (λ b. b ≡ all_may_follow (theory_of at.now) at.now.judgement.now left.now args.now case.now) }
 {
     for atom in case {
         if !may_follow(alloc, at, left, pure_in_case(args, *atom))? {
@@ -119,7 +119,8 @@ fn may_unfold(
     args: &Args,
     case: &Heap,
 ) -> Result<bool, OutOfMemory>
-    ensures { IfOk result (λ b. b ≡ may_unfold_at (theory_of at.now) at.now.judgement.now left.now (in_heap (right_term args.now 0) case.now)) }
+    ensures { IfOk result (λ b. b
+        ≡ may_unfold_case (theory_of at.now) at.now.judgement.now left.now args.now case.now) }
 {
     if !have_places(left.spatial(), args, case.spatial()) {
         return Ok(false);
@@ -137,7 +138,8 @@ fn push_right_unfolds(
     cases: &[Heap],
 ) -> Result<(), OutOfMemory>
     requires { length cases.now ≤ 65536 }
-    ensures { OnOk result (rules.new.items ≡ rules.old.items ++ each_place (right_unfold_at (theory_of at.now) at.now.judgement.now left.now k args.now) cases.now) }
+    ensures { OnOk result (rules.new.items ≡ rules.old.items
+        ++ each_place (right_unfold_at (theory_of at.now) at.now.judgement.now left.now k args.now) cases.now) }
 {
     for (c, case) in cases.iter().enumerate() {
         if may_unfold(alloc, at, left, args, case)? {

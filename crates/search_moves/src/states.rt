@@ -2,10 +2,9 @@
 ghost use Rattle.std.specs.Prelude.{◌≡◌, ◌≤◌, ◌<◌, ◌++◌, IfOk, length};
 ghost use Rattle.std.specs.List.{list_any};
 ghost use Rattle.heap_formula.specs.Programs.{counted_from_one};
-ghost use Rattle.rule_table.specs.ExecTable.{exec_answer};
 ghost use Rattle.rule_table.specs.Tests.{equated as are_equated};
 ghost use Rattle.search_moves.specs.Settings.{theory_of};
-ghost use Rattle.search_moves.specs.States.{is_stop as is_stop_command, wanted_cell as wanted_by, reaches as reaches_term, unfolds_at as unfolds_at_term, unfolds_if, stops_that_go, misses_cell as exec_misses, folds_if, state_before, state_after};
+ghost use Rattle.search_moves.specs.States.{is_stop as is_stop_command, wanted_cell as wanted_by, reaches as reaches_term, unfolds_at as unfolds_at_term, lacks_cell, cell_unfolds, stops_that_go, folds_if, state_before, state_after};
 ghost use Rattle.heap_formula.specs.Words.{Each};
 ghost use Rattle.fold_offers.specs.Limits.{HasFewParameters};
 
@@ -82,7 +81,7 @@ fn unfolds_at(alloc: Global, state: &Heap, term: Term) -> Result<Vec<Rule>, OutO
 }
 
 fn misses_cell(alloc: Global, at: &Setting<'_>) -> Result<bool, OutOfMemory>
-    ensures { IfOk result (λ b. b ≡ exec_misses (exec_answer at.now.defs.now.most at.now.program.now at.now.judgement.now)) }
+    ensures { IfOk result (λ b. b ≡ lacks_cell (theory_of at.now) at.now.judgement.now) }
 {
     match premises(alloc, at.defs, at.program, at.judgement, &Rule::Exec) {
         Ok(_) => Ok(false),
@@ -98,7 +97,7 @@ fn missing_unfolds(
     line: u32,
     state: &Heap,
 ) -> Result<Vec<Rule>, OutOfMemory>
-    ensures { IfOk result (λ v. v.items ≡ unfolds_if (exec_misses (exec_answer at.now.defs.now.most at.now.program.now at.now.judgement.now)) state.now (counted_from_one at.now.program.now line)) }
+    ensures { IfOk result (λ v. v.items ≡ cell_unfolds (theory_of at.now) at.now.judgement.now line state.now) }
 {
     if !misses_cell(alloc, at)? {
         return Ok(Vec::new(alloc));
@@ -169,7 +168,8 @@ pub fn rules_after(
 ) -> Result<Vec<Rule>, OutOfMemory>
     requires goal { goal < length graph.now }
     requires parameters { Each HasFewParameters at.now.defs.now.list }
-    ensures { IfOk result (λ v. v.items ≡ state_after (theory_of at.now) graph.now goal at.now.judgement.now line state.now) }
+    ensures { IfOk result (λ v. v.items
+        ≡ state_after (theory_of at.now) graph.now goal at.now.judgement.now line state.now) }
 {
     let mut rules = folds_behind_exec(alloc, at, graph, goal, line, state)?;
     rules.push(Rule::Exec)?;

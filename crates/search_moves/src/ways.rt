@@ -59,7 +59,8 @@ fn way_of_rule(rule: &RuleView<'_>) -> Way
 }
 
 fn way_of(reason: Option<&ReasonView<'_>>) -> Way
-    ensures { (above : Bool) → has_rule (by_exec above) (option_map reason_of (option_copied reason.entry)) ≡ said_by above result }
+    ensures { (above : Bool) → has_rule (by_exec above) (option_map reason_of (option_copied reason.entry))
+        ≡ said_by above result }
 {
     match reason {
         Some(ReasonView::Step(rule)) => way_of_rule(rule),
@@ -120,7 +121,8 @@ fn is_on_line(judgement: &JudgementView<'_>, line: u32) -> bool
 
 /// Whether a node of the line unfolds or executes.
 pub fn works_on(node: NodeView<'_>, line: u32) -> bool
-    ensures { result ≡ (is_on_line_judgement line (judgement_of node.entry.judgement.now) && has_rule is_work_rule (option_map reason_of (option_copied node.entry.reason))) }
+    ensures { result ≡ (is_on_line_judgement line (judgement_of node.entry.judgement.now)
+        && has_rule is_work_rule (option_map reason_of (option_copied node.entry.reason))) }
 {
     is_on_line(node.judgement, line) && works(node.reason)
 }
