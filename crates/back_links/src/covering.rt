@@ -49,7 +49,8 @@ fn agree_on_these(xs: &[Spatial], subst: &Subst, ys: &[Spatial]) -> bool
 }
 
 fn agree_on_those(xs: &[Spatial], subst: &Subst, ys: &[Spatial]) -> bool
-    ensures { result ≡ counts_agree xs.now (map (apply_spatial subst.now) ys.now) (map (apply_spatial subst.now) ys.now) }
+    ensures { result
+        ≡ counts_agree xs.now (map (apply_spatial subst.now) ys.now) (map (apply_spatial subst.now) ys.now) }
 {
     for z in ys {
         let w = apply_to_spatial(z, subst);

@@ -63,7 +63,8 @@ pub fn matches_at(pures: &[Pure], x: &Spatial, atoms: &[Spatial], m: u32) -> boo
 /// Whether entry `k` names an atom that matches and that no earlier entry names.
 fn entry_fits(pures: &[Pure], x: &Spatial, atoms: &[Spatial], entries: &[u32], k: usize) -> bool
     requires { k < length entries.now }
-    ensures { result ≡ (not (has_number (take k entries.now) (slice_index entries.now k)) && matches_some pures.now x.now (slice_get atoms.now (slice_index entries.now k))) }
+    ensures { result ≡ (not (has_number (take k entries.now) (slice_index entries.now k))
+        && matches_some pures.now x.now (slice_get atoms.now (slice_index entries.now k))) }
 {
     let m = entries[k];
     if is_among(&entries[..k], m as usize) {
@@ -82,7 +83,8 @@ pub fn spatial_fault(
     xs: &[Spatial],
 ) -> Option<RuleFault>
     requires { length xs.now ≤ 32 }
-    ensures { result ≡ first_spatial_fault pures.now atoms.now whole [] 0 entries.now (map (apply_spatial subst.now) xs.now) }
+    ensures { result
+        ≡ first_spatial_fault pures.now atoms.now whole [] 0 entries.now (map (apply_spatial subst.now) xs.now) }
 {
     for (k, x) in xs.iter().enumerate() {
         if k >= entries.len() {

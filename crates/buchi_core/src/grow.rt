@@ -25,7 +25,8 @@ fn push_moved(
     requires left { AreLeft young.old }
     ensures long { array_vec_len young.new.entries ≡ array_vec_len young.old.entries + length forest.now }
     ensures left { AreLeft young.new }
-    ensures moved { made young.new ≡ scan_from trimmed (made young.old) (map (moved _pairs.now (members positions)) (entries_of forest.now)) }
+    ensures moved { made young.new
+        ≡ scan_from trimmed (made young.old) (map (moved _pairs.now (members positions)) (entries_of forest.now)) }
 {
     for entry in forest {
         let set = successors_of(masks, positions, entry.set);
@@ -47,7 +48,8 @@ fn push_children(
     requires left { AreLeft young.old }
     ensures long { array_vec_len young.new.entries ≡ array_vec_len young.old.entries + length forest.now }
     ensures left { AreLeft young.new }
-    ensures children { made young.new ≡ scan_from trimmed (made young.old) (children _pairs.now (members positions) 0 (entries_of forest.now)) }
+    ensures children { made young.new
+        ≡ scan_from trimmed (made young.old) (children _pairs.now (members positions) 0 (entries_of forest.now)) }
 {
     let mut number: u8 = 0;
     for entry in forest {

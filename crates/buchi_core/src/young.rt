@@ -74,7 +74,8 @@ fn give(young: &mut Young, parent: Option<u8>, set: u32)
 pub(crate) fn push_entry(young: &mut Young, parent: Option<u8>, set: u32)
     requires room { array_vec_len young.old.entries < 65 }
     requires left { AreLeft young.old }
-    ensures entries { made young.new ≡ made young.old ++ (trimmed (made young.old) (record { parent = parent; set = members set }) ∷ []) }
+    ensures entries { made young.new ≡ made young.old
+        ++ (trimmed (made young.old) (record { parent = parent; set = members set }) ∷ []) }
     ensures long { array_vec_len young.new.entries ≡ array_vec_len young.old.entries + 1 }
     ensures left { AreLeft young.new }
 {

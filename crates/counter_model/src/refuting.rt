@@ -58,8 +58,11 @@ pub fn refute(
         → IsFirstPlace defs.now.list disjuncts.now None) }
     ensures not_found_searched { IfOk result (λ r. r ≡ Refuted.NotFound
         → IsFirstPlace defs.now.list disjuncts.now None) }
-    ensures not_constructive { IfOk result (λ r. (place : _) → (r ≡ Refuted.NotConstructive place) ↔ ((judgement_bound (Judgement.Entail antecedent.now disjuncts.now) ≤ MOST_UNIVERSALS) × IsPlace defs.now.list disjuncts.now place)) }
-    ensures too_many { IfOk result (λ r. (r ≡ Refuted.TooManyUniversals) ↔ (MOST_UNIVERSALS < judgement_bound (Judgement.Entail antecedent.now disjuncts.now))) }
+    ensures not_constructive { IfOk result (λ r. (place : _) → (r ≡ Refuted.NotConstructive place)
+        ↔ ((judgement_bound (Judgement.Entail antecedent.now disjuncts.now) ≤ MOST_UNIVERSALS)
+        × IsPlace defs.now.list disjuncts.now place)) }
+    ensures too_many { IfOk result (λ r. (r ≡ Refuted.TooManyUniversals)
+        ↔ (MOST_UNIVERSALS < judgement_bound (Judgement.Entail antecedent.now disjuncts.now))) }
 {
     let bound = bound_of_heap(antecedent).max(bound_of_heaps(disjuncts.heaps()));
     if bound > MOST_UNIVERSALS {

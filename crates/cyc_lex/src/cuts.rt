@@ -63,7 +63,8 @@ pub fn cut_token(place: Place, text: &str) -> Cut<'_>
 /// comes; the end token is one of them.
 pub fn count_tokens(place: Place, comment: bool, text: &str) -> Result<usize, Stop>
     requires { HasRoom place (length text.now) }
-    ensures { Counts (cut_text place comment text.now) result (lex true place (comment_len comment (chars text.now)) (chars text.now)) }
+    ensures { Counts (cut_text place comment text.now) result
+        (lex true place (comment_len comment (chars text.now)) (chars text.now)) }
 {
     let (mut rest, mut place) = skip_comment(place, comment, text);
     let mut count = 1;

@@ -138,7 +138,8 @@ pub fn lex_from(
     text: &str,
 ) -> Result<Vec<Token<'_>>, Stop>
     requires { HasRoom place (length text.now) }
-    ensures { Lexes (λ v. map placed v.items) result (lex whole place (comment_len comment (chars text.now)) (chars text.now)) }
+    ensures { Lexes (λ v. map placed v.items) result
+        (lex whole place (comment_len comment (chars text.now)) (chars text.now)) }
 {
     let mut out = Vec::new(alloc);
     let (mut rest, mut place) = skip_comment(place, comment, text);
@@ -175,7 +176,8 @@ pub fn lex_from(
 /// The tokens of a text, which is the whole text or is followed by a bad byte.
 pub fn lex(alloc: Global, whole: bool, text: &str) -> Result<Vec<Token<'_>>, Stop>
     requires { length text.now < 2 ^ 32 - 1 }
-    ensures { Lexes (λ v. map placed v.items) result (lex whole start 0 (chars text.now)) }
+    ensures { Lexes (λ v. map placed v.items) result
+        (lex whole start 0 (chars text.now)) }
 {
     lex_from(alloc, Place::START, false, whole, text)
 }

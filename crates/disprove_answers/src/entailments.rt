@@ -35,7 +35,8 @@ fn answer_to_entailment(
 ) -> Result<Answer, OutOfMemory>
     requires goal { problem.now.goal ≡ Judgement.Entail antecedent.now disjuncts.now }
     requires size { cells ≤ 4 }
-    ensures said { IfOk result (λ a. IsEntailmentAnswer cells problem.now.defs.list antecedent.now disjuncts.now a.status a.text.items) }
+    ensures said { IfOk result (λ a. IsEntailmentAnswer cells problem.now.defs.list antecedent.now disjuncts.now
+        a.status a.text.items) }
     ensures ending { IfOk result (λ a. is_answer a.status ≡ true) }
 {
     problem_is_within(problem);

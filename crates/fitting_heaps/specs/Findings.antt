@@ -5,11 +5,12 @@ use Rattle.heap_formula.specs.Definitions.{Definition}
 use Rattle.heap_formula.specs.Fresh.{heap_exists}
 use Rattle.heap_formula.specs.Words.{OneOf}
 use Rattle.heap_formula.specs.Values.{Stack}
-use Rattle.heap_formula.specs.Cells.{Cells}
-use Rattle.heap_formula.specs.Meaning.{Family, Holds, cases_of}
+use Rattle.heap_formula.specs.Cells.{Cells, Star}
+use Rattle.heap_formula.specs.Meaning.{Family, Holds, cases_of, AtomHolds}
 use Rattle.model_check.specs.Questions.{Question}
 use Rattle.model_check.specs.Grounding.{IsQuestion}
 use Rattle.fitting_heaps.specs.Bounds.{AreAtMost, IsAmong}
+use Rattle.heap_formula.specs.declared.atoms.Spatial.{Spatial}
 
 -- questions in order, and for each the heaps found so far of which it holds
 pub record Findings : Type 0 where
@@ -42,6 +43,12 @@ TakesCases n t q vs bs = (h : Cells) → OneOf (FitsCase n (found_if_asked n t) 
 -- the same of the cases of the predicate that the question asks
 abbrev pub IsSettled : List Definition → ℕ → Findings → ℕ → Type 0
 IsSettled ds n t q = (p : ℕ) (vs : List ℕ) → IsQuestion t.questions q p vs → TakesCases n t q vs (cases_of ds p)
+
+-- the heaps have each union of one of the parts with one of which the atom holds by what is found
+abbrev pub TakesAtom : ℕ → Findings → Stack → Stack → List Cells → Spatial → List Cells → Type 0
+TakesAtom n t s e parts x heaps =
+    (h : Cells) → Star (IsAmong n parts) (AtomHolds (found_if_asked n t) s e x) h
+    → IsAmong n heaps h
 
 -- a step that found nothing has left all as it was, and P holds
 abbrev pub UnlessGrown : Bool → Findings → Findings → Type 0 → Type 0

@@ -1,9 +1,9 @@
 // The heaps of which a list of atoms holds, by what is found of the predicates.
 ghost use Rattle.std.specs.Prelude.{◌≡◌, ℕ, IfOk, [], ◌∷◌};
-ghost use Rattle.heap_formula.specs.Cells.{Cells as SomeHeap, Star, no_cells};
-ghost use Rattle.heap_formula.specs.Meaning.{AtomHolds, SpatialHolds, IsCell};
+ghost use Rattle.heap_formula.specs.Cells.{Cells as SomeHeap, no_cells};
+ghost use Rattle.heap_formula.specs.Meaning.{SpatialHolds, IsCell};
 ghost use Rattle.fitting_heaps.specs.Bounds.{IsAmong};
-ghost use Rattle.fitting_heaps.specs.Findings.{found_if_asked, UnlessGrown};
+ghost use Rattle.fitting_heaps.specs.Findings.{found_if_asked, UnlessGrown, TakesAtom};
 
 use crate::combining::{Heaps, combine};
 use crate::table::Table;
@@ -36,7 +36,8 @@ fn with_atom(
     parts: &[Cells],
     atom: &Spatial,
 ) -> Result<(Heaps, bool), OutOfMemory>
-    ensures { IfOk result (λ r. UnlessGrown r.1 table.old table.new ((h : SomeHeap) → Star (IsAmong greatest parts.now) (AtomHolds (found_if_asked greatest table.old) stack.now locals.now atom.now) h → IsAmong greatest r.0 h)) }
+    ensures { IfOk result (λ r. UnlessGrown r.1 table.old table.new
+        (TakesAtom greatest table.old stack.now locals.now parts.now atom.now r.0)) }
 {
     match atom {
         Spatial::Cell(t, ts) => {

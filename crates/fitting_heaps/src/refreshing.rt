@@ -83,7 +83,8 @@ fn refresh_cases(
     values: &[u64],
     cases: &[Heap],
 ) -> Result<bool, OutOfMemory>
-    ensures { IfOk result (λ grown. UnlessGrown grown table.old table.new (TakesCases greatest table.old q values.now cases.now)) }
+    ensures { IfOk result (λ grown. UnlessGrown grown table.old table.new
+        (TakesCases greatest table.old q values.now cases.now)) }
 {
     let mut grown = false;
     for case in cases {
@@ -100,7 +101,8 @@ fn refresh_question(
     table: &mut Table,
     q: usize,
 ) -> Result<bool, OutOfMemory>
-    ensures { IfOk result (λ grown. UnlessGrown grown table.old table.new (IsSettled defs.now.list greatest table.old q)) }
+    ensures { IfOk result (λ grown. UnlessGrown grown table.old table.new
+        (IsSettled defs.now.list greatest table.old q)) }
 {
     match table.question(q)? {
         None => Ok(false),

@@ -1,7 +1,7 @@
 // What is found so far of each question.
-ghost use Rattle.std.specs.Prelude.{◌≡◌, ◌≤◌, [], ◌∷◌, length, false, IfOk, MatchOption, Some, slice_get};
+ghost use Rattle.std.specs.Prelude.{◌≡◌, [], ◌∷◌, length, false, IfOk, Some, slice_get};
 ghost use Rattle.heap_formula.specs.Cells.{Cells as SomeHeap};
-ghost use Rattle.model_check.specs.Grounding.{IsQuestion};
+ghost use Rattle.model_check.specs.Grounding.{IsQuestion, IsQuestionAt};
 ghost use Rattle.fitting_heaps.specs.Bounds.{IsAmong};
 ghost use Rattle.fitting_heaps.specs.Findings.{heaps_in, IsFound, UnlessGrown};
 
@@ -51,7 +51,7 @@ impl Table {
 
     /// A copy of a question.
     pub fn question(&self, q: usize) -> Result<Option<Question>, OutOfMemory>
-        ensures { IfOk result (λ o. MatchOption o (length self.now.questions ≤ q) (λ x. slice_get self.now.questions q ≡ Some x)) }
+        ensures { IfOk result (IsQuestionAt self.now.questions q) }
     {
         match self.questions.as_slice().get(q) {
             None => Ok(None),
@@ -76,7 +76,8 @@ impl Table {
         predicate: u16,
         values: Vec<u64>,
     ) -> Result<(usize, bool), OutOfMemory>
-        ensures { IfOk result (λ r. UnlessGrown r.1 self.old self.new (IsQuestion self.old.questions r.0 predicate values.items)) }
+        ensures { IfOk result (λ r. UnlessGrown r.1 self.old self.new
+            (IsQuestion self.old.questions r.0 predicate values.items)) }
     {
         let (q, is_new) = self
             .questions

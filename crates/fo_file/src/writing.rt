@@ -42,6 +42,7 @@ pub fn bytes_spell_one_file()
 /// Nodes within the limits make a proof over the theory of a problem that was read, and that proof has a text. The function
 /// does nothing.
 pub fn proofs_of_problems_have_texts()
-    ensures { (p : Question) (nodes : List FoNode) → IsFoQuestion p → IsWritableProblem p → 0 < length nodes → length nodes ≤ MOST_NODES
+    ensures { (p : Question) (nodes : List FoNode)
+        → IsFoQuestion p → IsWritableProblem p → 0 < length nodes → length nodes ≤ MOST_NODES
         → Each (IsNodeWithin p.theory) nodes → IsWritable (record { theory = p.theory; nodes = nodes }) }
 {}

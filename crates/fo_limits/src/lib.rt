@@ -21,7 +21,8 @@ use cyc_limits::MOST_NODES;
 
 /// The premises of a rule are within the limits where the theory, the sequent and the rule are.
 pub fn premises_stay_within()
-    ensures { (t : FoTheory) (s : FoSequent) (rule : FoRule) (ps : List FoPremise) → IsTheoryWithin t → IsSequentWithin t s → IsRuleWithin t rule
+    ensures { (t : FoTheory) (s : FoSequent) (rule : FoRule) (ps : List FoPremise)
+        → IsTheoryWithin t → IsSequentWithin t s → IsRuleWithin t rule
         → rule_answer t s rule ≡ Ok ps → Each (λ (p : FoPremise). IsSequentWithin t p.sequent) ps }
 {}
 
@@ -33,8 +34,10 @@ pub fn within_is_open()
 
 /// The numbers of a reason without a fault are within the limits, where a link leads to one of at most 20,000 nodes.
 pub fn numbers_stay_within()
-    ensures rules { (t : FoTheory) (s : FoSequent) (rule : FoRule) (ps : List FoPremise) → IsTheoryWithin t → IsSequentWithin t s
+    ensures rules { (t : FoTheory) (s : FoSequent) (rule : FoRule) (ps : List FoPremise)
+        → IsTheoryWithin t → IsSequentWithin t s
         → rule_answer t s rule ≡ Ok ps → Each IsNumberWithin (numbers_of (Rule rule)) }
-    ensures links { (t : FoTheory) (bud companion : FoSequent) (link : FoLink) → IsSequentWithin t bud → link.to < MOST_NODES
+    ensures links { (t : FoTheory) (bud companion : FoSequent) (link : FoLink)
+        → IsSequentWithin t bud → link.to < MOST_NODES
         → link_fault bud companion link ≡ None → Each IsNumberWithin (numbers_of (Link link)) }
 {}

@@ -48,7 +48,8 @@ fn premise_fault(
     number: u32,
 ) -> Option<FoFault>
     requires { i < 2 ^ 32 }
-    ensures { result ≡ first_of (fault_unless (nat_lt v number) NoSuchNode) (premise_differs i premise.now (slice_get nodes.now number)) }
+    ensures { result ≡ first_of (fault_unless (nat_lt v number) NoSuchNode)
+        (premise_differs i premise.now (slice_get nodes.now number)) }
 {
     if number as usize <= v || number as usize >= nodes.len() {
         return Some(FoFault::NoSuchNode);
@@ -167,7 +168,8 @@ pub fn test_node(
     requires definitions { Each IsSmallDefinition theory.now.definitions }
     requires small { IsSmallSequent node.now.sequent }
     requires all_small { Each (λ (n : NodeValue). IsSmallSequent n.sequent) nodes.now }
-    ensures { IfOk result (λ a. IsNodeAnswer a (first_node_fault theory.now nodes.now v node.now) (edges_of theory.now nodes.now node.now)) }
+    ensures { IfOk result (λ a. IsNodeAnswer a
+        (first_node_fault theory.now nodes.now v node.now) (edges_of theory.now nodes.now node.now)) }
 {
     let premises = match premises_by_reason(alloc, theory, nodes, &node.sequent, &node.reason) {
         Ok(premises) => premises,

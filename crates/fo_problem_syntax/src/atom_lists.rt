@@ -71,7 +71,8 @@ pub fn atoms_or<'a>(
     locals: bool,
     cursor: &mut Cursor<'_, 'a>,
 ) -> Result<Vec<AtomTree<'a>>, Refusal>
-    ensures { Gives (λ x. (atoms_of x, cursor.new)) result ((atoms_or (class.keyword none.now) locals).read cursor.old) }
+    ensures { Gives (λ x. (atoms_of x, cursor.new)) result
+        ((atoms_or (class.keyword none.now) locals).read cursor.old) }
 {
     if cursor.is_keyword_next(none) {
         cursor.keyword(none)?;
@@ -109,7 +110,8 @@ pub fn write_atoms_or(
     writer: &mut WordWriter,
 ) -> Result<(), OutOfMemory>
     requires { (atoms_or (class.keyword none.now) locals).fits (map atom_of trees.now) }
-    ensures { OnOk result (writer.new ≡ write_all writer.old ((atoms_or (class.keyword none.now) locals).words (map atom_of trees.now))) }
+    ensures { OnOk result (writer.new
+        ≡ write_all writer.old ((atoms_or (class.keyword none.now) locals).words (map atom_of trees.now))) }
 {
     match trees {
         [] => writer.name(none),

@@ -53,7 +53,8 @@ fn more_listed<'a, I: Item<'a>>(
     cursor: &mut Cursor<'_, 'a>,
 ) -> Result<Vec<I::Tree>, Refusal>
     ensures { Gives (λ x. (map I.seen x.items, cursor.new)) result
-        (with_front (map I.seen items.items) (read_many (is_one (marked between.now)) (after (marked between.now) (I.syntax item.now)) most cursor.old)) }
+        (with_front (map I.seen items.items)
+        (read_many (is_one (marked between.now)) (after (marked between.now) (I.syntax item.now)) most cursor.old)) }
 {
     for _ in 0..most {
         if !between.is_next(cursor) {
@@ -75,7 +76,8 @@ pub fn listed<'a, I: Item<'a>>(
     item: &I,
     cursor: &mut Cursor<'_, 'a>,
 ) -> Result<Vec<I::Tree>, Refusal>
-    ensures { Gives (λ x. (map I.seen x.items, cursor.new)) result ((list_of (marked between.now) (I.syntax item.now)).read cursor.old) }
+    ensures { Gives (λ x. (map I.seen x.items, cursor.new)) result
+        ((list_of (marked between.now) (I.syntax item.now)).read cursor.old) }
 {
     let most = cursor.left();
     let mut items = Vec::new(alloc);
@@ -114,7 +116,8 @@ fn write_more_listed<'a, I: Item<'a>>(
     writer: &mut WordWriter,
 ) -> Result<(), OutOfMemory>
     requires { fits_many (after (marked between.now) (I.syntax item.now)) (map I.seen trees.now) }
-    ensures { OnOk result (writer.new ≡ write_all writer.old (words_many (after (marked between.now) (I.syntax item.now)) (map I.seen trees.now))) }
+    ensures { OnOk result (writer.new
+        ≡ write_all writer.old (words_many (after (marked between.now) (I.syntax item.now)) (map I.seen trees.now))) }
 {
     for tree in trees {
         between.write(writer)?;
@@ -132,7 +135,8 @@ pub fn write_listed<'a, I: Item<'a>>(
     writer: &mut WordWriter,
 ) -> Result<(), OutOfMemory>
     requires { (list_of (marked between.now) (I.syntax item.now)).fits (map I.seen trees.now) }
-    ensures { OnOk result (writer.new ≡ write_all writer.old ((list_of (marked between.now) (I.syntax item.now)).words (map I.seen trees.now))) }
+    ensures { OnOk result (writer.new
+        ≡ write_all writer.old ((list_of (marked between.now) (I.syntax item.now)).words (map I.seen trees.now))) }
 {
     match trees {
         [] => unreachable!(),

@@ -32,7 +32,8 @@ fn write_right(
     writer: &mut WordWriter,
 ) -> Result<(), OutOfMemory>
     requires { right_rule.fits (atom, (case, map signs_of terms.now)) }
-    ensures { OnOk result (writer.new ≡ write_all writer.old (right_rule.words (atom, (case, map signs_of terms.now)))) }
+    ensures { OnOk result (writer.new
+        ≡ write_all writer.old (right_rule.words (atom, (case, map signs_of terms.now)))) }
 {
     writer.number(atom)?;
     writer.number(case)?;

@@ -51,7 +51,8 @@ fn put_place(
 /// The places of the signs among marks, and last the token after the marks, which begin at token 2 of a term.
 fn places_of_marks(alloc: Global, marks: &[Mark<'_>]) -> Result<Vec<usize>, AllocError>
     requires { marks_end 2 (First 0) (map mark_seen marks.now) < 2 ^ 64 }
-    ensures { IfOk result (λ x. x.items ≡ 0 ∷ marks_at 2 (First 0) (map mark_seen marks.now) ++ marks_end 2 (First 0) (map mark_seen marks.now) ∷ []) }
+    ensures { IfOk result (λ x. x.items ≡ 0 ∷ marks_at 2 (First 0) (map mark_seen marks.now)
+        ++ marks_end 2 (First 0) (map mark_seen marks.now) ∷ []) }
 {
     let mut places = Vec::new(alloc);
     places.push(0)?;

@@ -115,7 +115,8 @@ fn write_application(
     writer: &mut WordWriter,
 ) -> Result<(), OutOfMemory>
     requires { (application locals).fits (Apply name.now arguments ∷ map sign_of signs.now) }
-    ensures { OnOk result (writer.new ≡ write_all writer.old ((application locals).words (Apply name.now arguments ∷ map sign_of signs.now))) }
+    ensures { OnOk result (writer.new
+        ≡ write_all writer.old ((application locals).words (Apply name.now arguments ∷ map sign_of signs.now))) }
 {
     write_named(name, writer)?;
     write_marks(locals, &brackets(alloc, arguments, signs)?, writer)

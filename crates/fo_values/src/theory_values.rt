@@ -85,7 +85,8 @@ fn definitions(
     requires known { Each (IsKnownDefinition constructors.now predicates.now) (map definition_of trees.now) }
     requires few { length constructors.now < 65536 }
     requires few_predicates { length predicates.now < 65536 }
-    ensures { IfOk result (λ ds. ds ≡ map (definition_value constructors.now predicates.now) (map definition_of trees.now)) }
+    ensures { IfOk result (λ ds. ds
+        ≡ map (definition_value constructors.now predicates.now) (map definition_of trees.now)) }
 {
     let mut definitions = Vec::with_capacity(alloc, trees.len())?;
     for tree in trees {
@@ -106,8 +107,8 @@ pub fn theory(
         (map definition_of definition_trees.now) }
     requires few { length constructor_heads.now < 65536 }
     requires few_predicates { length predicate_heads.now < 65536 }
-    ensures { IfOk result (λ t. t ≡ theory_value constructor_heads.now predicate_heads.now (map constructor_of constructor_trees.now)
-        (map definition_of definition_trees.now)) }
+    ensures { IfOk result (λ t. t ≡ theory_value constructor_heads.now predicate_heads.now
+        (map constructor_of constructor_trees.now) (map definition_of definition_trees.now)) }
 {
     let constructors = constructors(alloc, constructor_trees)?;
     let definitions = definitions(alloc, constructor_heads, predicate_heads, definition_trees)?;

@@ -22,7 +22,9 @@ fn entailment(
     disjuncts: &[NumberedHeap<'_>],
 ) -> Result<usize, Flaw>
     requires { at + goal_span (Entailment (heap_of antecedent.now) (map heap_of disjuncts.now)) < 2 ^ 64 }
-    ensures { IsWalk result (goal_flaw most heads.now count at (Entailment (heap_of antecedent.now) (map heap_of disjuncts.now))) (at + goal_span (Entailment (heap_of antecedent.now) (map heap_of disjuncts.now))) }
+    ensures { IsWalk result
+        (goal_flaw most heads.now count at (Entailment (heap_of antecedent.now) (map heap_of disjuncts.now)))
+        (at + goal_span (Entailment (heap_of antecedent.now) (map heap_of disjuncts.now))) }
 {
     let right = walk_heap(heads, &Scope::Goal, most, at + 1, antecedent)?;
     walk_heaps(heads, &Scope::Goal, most, What::Disjuncts, right, disjuncts)
@@ -37,7 +39,8 @@ fn state(
     heap: &NumberedHeap<'_>,
 ) -> Result<usize, Flaw>
     requires { at + goal_span (From line (heap_of heap.now)) < 2 ^ 64 }
-    ensures { IsWalk result (goal_flaw most heads.now count at (From line (heap_of heap.now))) (at + goal_span (From line (heap_of heap.now))) }
+    ensures { IsWalk result (goal_flaw most heads.now count at (From line (heap_of heap.now)))
+        (at + goal_span (From line (heap_of heap.now))) }
 {
     if line == 0 || line as usize > count {
         return Err(ill(IllFault::NoLine, at + 2));

@@ -52,7 +52,8 @@ fn parameter(parameters: &[&str], n: usize, at: usize, text: &str) -> Result<usi
 
 fn some_parameters(parameters: &[&str], at: usize) -> Result<usize, Flaw>
     requires { at + total parameter_span (map text_of parameters.now) < 2 ^ 64 }
-    ensures { IsWalk result (parameters_flaw at (map text_of parameters.now)) (at + total parameter_span (map text_of parameters.now)) }
+    ensures { IsWalk result (parameters_flaw at (map text_of parameters.now))
+        (at + total parameter_span (map text_of parameters.now)) }
 {
     let mut next = at;
     for (n, text) in parameters.iter().enumerate() {
@@ -64,7 +65,8 @@ fn some_parameters(parameters: &[&str], at: usize) -> Result<usize, Flaw>
 /// The parameters of a predicate and the parenthesis after them.
 fn parameters(parameters: &[&str], at: usize) -> Result<usize, Flaw>
     requires { at + parameters_span (map text_of parameters.now) < 2 ^ 64 }
-    ensures { IsWalk result (parameters_flaw at (map text_of parameters.now)) (at + parameters_span (map text_of parameters.now)) }
+    ensures { IsWalk result (parameters_flaw at (map text_of parameters.now))
+        (at + parameters_span (map text_of parameters.now)) }
 {
     match parameters {
         [] => Ok(at + 1),
@@ -81,7 +83,8 @@ fn definition_head(
 ) -> Result<usize, Flaw>
     requires there { n ≤ length heads.now }
     requires fits { at + definition_span (definition_of tree.now) < 2 ^ 64 }
-    ensures { IsWalk result (head_flaw heads.now n at (definition_of tree.now)) (at + 3 + parameters_span (definition_of tree.now).parameters + 1) }
+    ensures { IsWalk result (head_flaw heads.now n at (definition_of tree.now))
+        (at + 3 + parameters_span (definition_of tree.now).parameters + 1) }
 {
     if n >= MOST_PREDICATES {
         return Err(over(What::Predicates, at));
@@ -102,7 +105,8 @@ fn definition(
 ) -> Result<usize, Flaw>
     requires there { n ≤ length heads.now }
     requires fits { at + definition_span (definition_of tree.now) < 2 ^ 64 }
-    ensures { IsWalk result (definition_flaw most heads.now n at (definition_of tree.now)) (at + definition_span (definition_of tree.now)) }
+    ensures { IsWalk result (definition_flaw most heads.now n at (definition_of tree.now))
+        (at + definition_span (definition_of tree.now)) }
 {
     let first = definition_head(heads, n, at, tree)?;
     let scope = Scope::Case(tree.parameters.len());
@@ -120,7 +124,8 @@ pub fn definitions(
 ) -> Result<usize, Flaw>
     requires there { length trees.now ≤ length heads.now }
     requires fits { at + definitions_span (map definition_of trees.now) < 2 ^ 64 }
-    ensures { IsWalk result (definitions_flaw most heads.now at (map definition_of trees.now)) (at + definitions_span (map definition_of trees.now)) }
+    ensures { IsWalk result (definitions_flaw most heads.now at (map definition_of trees.now))
+        (at + definitions_span (map definition_of trees.now)) }
 {
     let mut next = at;
     for (n, tree) in trees.iter().enumerate() {

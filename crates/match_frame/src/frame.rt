@@ -23,7 +23,11 @@ fn framed(
 ) -> Result<Vec<Premise>, OutOfMemory>
     requires i_in { i < length a.now.spatial }
     requires k_in { k < length b.now.spatial }
-    ensures { IfOk result (λ v. v.items ≡ one (record { judgement = Entail (without_spatial i a.now) (without_spatial k b.now ∷ []); pairs = kept_pairs i a.now.spatial })) }
+    ensures { IfOk result (λ v. v.items
+        ≡ one (record {
+          judgement = Entail (without_spatial i a.now) (without_spatial k b.now ∷ []);
+          pairs = kept_pairs i a.now.spatial;
+        })) }
 {
     let left = a.without_spatial(i)?;
     let right = b.without_spatial(k)?;

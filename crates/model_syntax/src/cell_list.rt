@@ -32,7 +32,8 @@ fn more_cells(
     mut items: Vec<CellTree>,
     cursor: &mut Cursor<'_, '_>,
 ) -> Result<Vec<CellTree>, Refusal>
-    ensures { Gives (λ x. (map cell_of x.items, cursor.new)) result (with_front (map cell_of items.items) ((many (is_one comma) (after comma cell)).read cursor.old)) }
+    ensures { Gives (λ x. (map cell_of x.items, cursor.new)) result
+        (with_front (map cell_of items.items) ((many (is_one comma) (after comma cell)).read cursor.old)) }
 {
     for _ in 0..cursor.left() {
         if !cursor.is_symbol_next(",") {

@@ -15,7 +15,8 @@ use std::alloc::Global;
 
 /// Reads the numbers after some.
 fn more_numbers(mut items: Vec<u32>, cursor: &mut Cursor<'_, '_>) -> Result<Vec<u32>, Refusal>
-    ensures { Gives (λ x. (x.items, cursor.new)) result (with_front items.items ((many (is_one comma) (after comma (one number))).read cursor.old)) }
+    ensures { Gives (λ x. (x.items, cursor.new)) result
+        (with_front items.items ((many (is_one comma) (after comma (one number))).read cursor.old)) }
 {
     for _ in 0..cursor.left() {
         if !cursor.is_symbol_next(",") {

@@ -1,5 +1,5 @@
 -- Numbers in place of names, by first occurrence.
-use Rattle.std.specs.Prelude.{not, List, ◌++◌, map, filter, if◌then◌else◌}
+use Rattle.std.specs.Prelude.{not, List, ◌++◌, map, filter, if◌then◌else◌, ℕ}
 use Rattle.heap_syntax.specs.Trees.{Cell, Predicate, pure_of}
 use Rattle.command_syntax.specs.Trees as lines
 use Rattle.problem_syntax.specs.Trees as named
@@ -60,8 +60,12 @@ definition d =
 
 -- ---- programs
 
+-- the number of the variable with this text, which has no prime
+abbrev pub variable_in : List Name → List ℕ → ℕ
+variable_in variables s = place_of variables (plain s)
+
 abbrev pub line : List Name → named.Line → Line
-line variables l = lines.line_of (λ s. place_of variables (plain s)) l
+line variables l = lines.line_of (variable_in variables) l
 
 -- ---- goals: each disjunct has existential variables of its own
 

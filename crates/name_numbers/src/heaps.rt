@@ -34,7 +34,8 @@ fn pure_atoms<'a>(
     scope: &Scope<'_, 'a>,
     trees: &[PureTree<NameTree<'a>>],
 ) -> Result<Vec<PureTree<NumberedTerm>>, OutOfMemory>
-    ensures { IfOk result (λ v. v.items ≡ map (pure_of (term_of (scope_of scope.now))) (map (pure_of named_of) trees.now)) }
+    ensures { IfOk result (λ v. v.items
+        ≡ map (pure_of (term_of (scope_of scope.now))) (map (pure_of named_of) trees.now)) }
 {
     let mut atoms = Vec::with_capacity(alloc, trees.len())?;
     for tree in trees {

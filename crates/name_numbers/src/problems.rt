@@ -109,7 +109,8 @@ fn goal_behind<'a>(
     tree: &GoalTree<'a>,
 ) -> Result<NumberedGoal<'a>, OutOfMemory>
     ensures { IfOk result (λ g. goal_of g
-        ≡ goal_number (firsts (map name_of uses.entry.items ++ names_of_goal (named.goal_of tree.now))) (named.goal_of tree.now)) }
+        ≡ goal_number (firsts (map name_of uses.entry.items ++ names_of_goal (named.goal_of tree.now)))
+        (named.goal_of tree.now)) }
 {
     let universals = first_names(alloc, &with_goal_names(alloc, uses, tree)?)?;
     goal(alloc, &universals, tree)

@@ -3,9 +3,7 @@
 ghost use Rattle.std.specs.Prelude.{◌≡◌, map, IfOk};
 ghost use Rattle.command_syntax.specs.Trees as programs;
 ghost use Rattle.problem_syntax.specs.Trees.{text_of, line_of};
-ghost use Rattle.name_numbers.specs.Names.{place_of};
-ghost use Rattle.name_numbers.specs.Occurrences.{plain};
-ghost use Rattle.name_numbers.specs.Numbering.{line as line_number};
+ghost use Rattle.name_numbers.specs.Numbering.{line as line_number, variable_in};
 ghost use Rattle.name_numbers.specs.Views.{names_of};
 
 use crate::names::{NameUse, Names};
@@ -15,7 +13,7 @@ use problem_syntax::LineTree;
 use std::alloc::Global;
 
 fn variable<'a>(variables: &Names<'a>, text: &'a str) -> usize
-    ensures { result ≡ place_of (names_of variables.now) (plain text.entry.now) }
+    ensures { result ≡ variable_in (names_of variables.now) text.entry.now }
 {
     variables.place_of(NameUse {
         text,
@@ -24,7 +22,8 @@ fn variable<'a>(variables: &Names<'a>, text: &'a str) -> usize
 }
 
 fn operand<'a>(variables: &Names<'a>, tree: OperandTree<&'a str>) -> OperandTree<usize>
-    ensures { result ≡ programs.operand_of (λ s. place_of (names_of variables.now) (plain s)) (programs.operand_of text_of tree.entry) }
+    ensures { result
+        ≡ programs.operand_of (variable_in (names_of variables.now)) (programs.operand_of text_of tree.entry) }
 {
     match tree {
         OperandTree::Nil => OperandTree::Nil,
@@ -33,7 +32,8 @@ fn operand<'a>(variables: &Names<'a>, tree: OperandTree<&'a str>) -> OperandTree
 }
 
 fn change<'a>(variables: &Names<'a>, tree: ChangeTree<&'a str>) -> ChangeTree<usize>
-    ensures { result ≡ programs.change_of (λ s. place_of (names_of variables.now) (plain s)) (programs.change_of text_of tree.entry) }
+    ensures { result
+        ≡ programs.change_of (variable_in (names_of variables.now)) (programs.change_of text_of tree.entry) }
 {
     match tree {
         ChangeTree::New(count) => ChangeTree::New(count),
@@ -44,7 +44,8 @@ fn change<'a>(variables: &Names<'a>, tree: ChangeTree<&'a str>) -> ChangeTree<us
 }
 
 fn command<'a>(variables: &Names<'a>, tree: CommandTree<&'a str>) -> CommandTree<usize>
-    ensures { result ≡ programs.command_of (λ s. place_of (names_of variables.now) (plain s)) (programs.command_of text_of tree.entry) }
+    ensures { result
+        ≡ programs.command_of (variable_in (names_of variables.now)) (programs.command_of text_of tree.entry) }
 {
     match tree {
         CommandTree::Stop => CommandTree::Stop,

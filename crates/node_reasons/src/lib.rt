@@ -28,7 +28,9 @@ pub fn premises_by_reason(
     reason: &Reason,
     companion: Option<&Judgement>,
 ) -> Result<Vec<Premise>, RuleError>
-    ensures answer { IsAnswer result (reason_answer defs.now.most defs.now.list program.now judgement.now reason.now (option_copied companion.entry)) }
+    ensures answer { IsAnswer result
+        (reason_answer defs.now.most defs.now.list program.now judgement.now reason.now
+        (option_copied companion.entry)) }
     ensures sound { IfOk result (λ v. IsReadable judgement.now reason.now
         → IsLocallySound defs.now.list program.now judgement.now v.items) }
 {

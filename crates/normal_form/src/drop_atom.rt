@@ -16,7 +16,8 @@ use std::alloc::Global;
 
 fn dropped(alloc: Global, line: u32, a: &Heap, k: usize) -> Result<Vec<Premise>, OutOfMemory>
     requires { k < length a.now.spatial }
-    ensures { IfOk result (λ v. v.items ≡ one (record { judgement = Runs line (without_spatial k a.now); pairs = kept_pairs k a.now.spatial })) }
+    ensures { IfOk result (λ v. v.items
+        ≡ one (record { judgement = Runs line (without_spatial k a.now); pairs = kept_pairs k a.now.spatial })) }
 {
     let rest = a.without_spatial(k)?;
     let pairs = pairs_of_kept(alloc, rest.spatial(), k)?;

@@ -41,7 +41,11 @@ fn with_atom_at(alloc: Global, atoms: &[Pure], k: usize, x: Pure) -> Result<Vec<
 // The heap without pure atom k, or with x in its place.
 fn settled(alloc: Global, a: &Heap, k: usize, x: Pure, drops: bool) -> Result<Heap, OutOfMemory>
     requires { k < length a.now.pure }
-    ensures { IfOk result (λ h. h ≡ record { pure = if drops then without k a.now.pure else slice_set a.now.pure k x; spatial = a.now.spatial }) }
+    ensures { IfOk result (λ h. h
+        ≡ record {
+          pure = if drops then without k a.now.pure else slice_set a.now.pure k x;
+          spatial = a.now.spatial;
+        }) }
 {
     let spatial = Vec::from_slice(alloc, a.spatial())?;
     if drops {

@@ -16,7 +16,8 @@ use std::alloc::Global;
 /// The judgement without pure atom `k` of the antecedent, as the one premise.
 pub fn weakened(alloc: Global, judgement: &Judgement, k: usize) -> Result<Vec<Premise>, OutOfMemory>
     requires { k < length (antecedent_of judgement.now).pure }
-    ensures { IfOk result (λ v. v.items ≡ one (with_pures judgement.now (without k (antecedent_of judgement.now).pure))) }
+    ensures { IfOk result (λ v. v.items
+        ≡ one (with_pures judgement.now (without k (antecedent_of judgement.now).pure))) }
 {
     let pure = atoms_without(alloc, antecedent(judgement).pure(), k)?;
     one_premise(alloc, with_pure_atoms(alloc, judgement, pure)?)

@@ -67,7 +67,8 @@ impl Lexer {
         // Whatever comes: what was defined for the piece and the rest are these tokens, and then what is defined for the rest.
         ensures law { KeepsLaw self.old piece.now self.new (seen result) }
         // So that a caller knows how much it may still feed, after a fault too.
-        ensures within { self.new.place.offset + length self.new.waiting ≤ self.old.place.offset + (length self.old.waiting + length piece.now) }
+        ensures within { self.new.place.offset + length self.new.waiting
+            ≤ self.old.place.offset + (length self.old.waiting + length piece.now) }
         ensures count { OnOk result (self.new.place.offset + length self.new.waiting
             ≡ self.old.place.offset + (length self.old.waiting + length piece.now)) }
     {

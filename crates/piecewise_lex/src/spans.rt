@@ -38,7 +38,8 @@ pub fn pass_statement(place: Place, comment: bool, text: &str) -> Result<Span<'_
     ensures taken { Spans (reading place comment text.now) result }
     // Whatever bytes come after the text.
     ensures law { IfOk result (λ s. (more : List ℕ) → tokens_from place comment (text.now ++ more)
-        ≡ with_tokens (front_tokens s.tokens (reading place comment text.now)) (tokens_from s.place s.comment (s.rest.now ++ more))) }
+        ≡ with_tokens (front_tokens s.tokens (reading place comment text.now))
+        (tokens_from s.place s.comment (s.rest.now ++ more))) }
 {
     let mut tokens = 0;
     let mut place = place;

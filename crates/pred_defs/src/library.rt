@@ -93,7 +93,10 @@ impl Defs {
     pub fn push(&mut self, name: &str, arity: u32, cases: &[Heap]) -> Result<(), DefFault>
         requires { 0 < length cases.now }
         ensures answer { IsRefusal result (push_fault self.old name.now arity cases.now) }
-        ensures appended { OnOk result (self.new ≡ record { most = self.old.most; list = self.old.list ++ record { name = name.now; arity = arity; cases = cases.now } ∷ [] }) }
+        ensures appended { OnOk result (self.new ≡ record {
+          most = self.old.most;
+          list = self.old.list ++ record { name = name.now; arity = arity; cases = cases.now } ∷ [];
+        }) }
         ensures unchanged { OnErr result (self.new ≡ self.old) }
     {
         if let Some(fault) = fault_of_push(self, name, arity, cases) {

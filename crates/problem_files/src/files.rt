@@ -17,7 +17,8 @@ pub fn file_for(
 ) -> Result<ProofFile, OutOfMemory>
     requires some_node { 0 < length nodes }
     requires few { length nodes ≤ MOST_NODES }
-    requires within { Each (IsNodeWithin problem.now.defs.most problem.now.defs.list (length problem.now.program)) nodes }
+    requires within { Each
+        (IsNodeWithin problem.now.defs.most problem.now.defs.list (length problem.now.program)) nodes }
     ensures version { IfOk result (λ f. f.version ≡ problem.now.version) }
     ensures definitions { IfOk result (λ f. f.defs ≡ problem.now.defs) }
     ensures program { IfOk result (λ f. f.program ≡ problem.now.program) }

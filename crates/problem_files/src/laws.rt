@@ -8,7 +8,9 @@ use formula_reader::Problem;
 
 /// The definitions, the program and the goal of a problem are within the limits of a proof file of its version.
 pub fn problem_is_within(_problem: &Problem)
-    ensures definitions { Each (IsDefinitionWithin _problem.now.defs.most _problem.now.defs.list) _problem.now.defs.list }
+    ensures definitions { Each (IsDefinitionWithin _problem.now.defs.most _problem.now.defs.list)
+        _problem.now.defs.list }
     ensures program { IsProgram _problem.now.program }
-    ensures goal { IsJudgementWithin _problem.now.defs.most _problem.now.defs.list (length _problem.now.program) _problem.now.goal }
+    ensures goal { IsJudgementWithin _problem.now.defs.most _problem.now.defs.list
+        (length _problem.now.program) _problem.now.goal }
 {}

@@ -19,7 +19,8 @@ fn more_names<'a>(
     mut items: Vec<&'a str>,
     cursor: &mut Cursor<'_, 'a>,
 ) -> Result<Vec<&'a str>, Refusal>
-    ensures { Gives (λ x. (map text_of x.items, cursor.new)) result (with_front (map text_of items.entry.items) ((more_listed comma (one free_name)).read cursor.old)) }
+    ensures { Gives (λ x. (map text_of x.items, cursor.new)) result
+        (with_front (map text_of items.entry.items) ((more_listed comma (one free_name)).read cursor.old)) }
 {
     for _ in 0..cursor.left() {
         if !cursor.is_symbol_next(",") {
@@ -87,7 +88,8 @@ fn more_definitions<'a>(
     mut items: Vec<DefinitionTree<'a>>,
     cursor: &mut Cursor<'_, 'a>,
 ) -> Result<Vec<DefinitionTree<'a>>, Refusal>
-    ensures { Gives (λ x. (map definition_of x.items, cursor.new)) result (with_front (map definition_of items.entry.items) (definitions.read cursor.old)) }
+    ensures { Gives (λ x. (map definition_of x.items, cursor.new)) result
+        (with_front (map definition_of items.entry.items) (definitions.read cursor.old)) }
 {
     for _ in 0..cursor.left() {
         if !cursor.is_keyword_next("pred") {

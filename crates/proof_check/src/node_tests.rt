@@ -56,7 +56,8 @@ fn premise_fault(
     number: u32,
 ) -> Option<RuleFault>
     requires { i < 2 ^ 32 }
-    ensures { result ≡ first_of (fault_unless (nat_lt v number) NoSuchNode) (premise_differs (nodes_of nodes.now) i number premise.now (slice_get (nodes_of nodes.now) number)) }
+    ensures { result ≡ first_of (fault_unless (nat_lt v number) NoSuchNode)
+        (premise_differs (nodes_of nodes.now) i number premise.now (slice_get (nodes_of nodes.now) number)) }
 {
     if number as usize <= v || number as usize >= nodes.len() {
         return Some(RuleFault::NoSuchNode);
@@ -166,7 +167,9 @@ pub fn test_node(
     node: &FileNode,
 ) -> Result<NodeAnswer, OutOfMemory>
     requires { Each HasFewCases defs.now.list }
-    ensures { IfOk result (λ a. IsNodeAnswer a (first_node_fault defs.now.most defs.now.list program.now (nodes_of nodes.now) v (node_of node.now)) (edges_of defs.now.most defs.now.list program.now (nodes_of nodes.now) (node_of node.now))) }
+    ensures { IfOk result (λ a. IsNodeAnswer a
+        (first_node_fault defs.now.most defs.now.list program.now (nodes_of nodes.now) v (node_of node.now))
+        (edges_of defs.now.most defs.now.list program.now (nodes_of nodes.now) (node_of node.now))) }
 {
     let companion = companion_of(nodes, &node.reason);
     let premises = match premises_by_reason(

@@ -56,7 +56,8 @@ fn flags_at(
     v: usize,
     row: &Row,
 ) -> Result<Vec<bool>, OutOfMemory>
-    ensures { IfOk result (λ f. f.items ≡ flags_to (carries (map flags_of behind.now.items) v (row_of row.now).arrows) row.now.atoms) }
+    ensures { IfOk result (λ f. f.items
+        ≡ flags_to (carries (map flags_of behind.now.items) v (row_of row.now).arrows) row.now.atoms) }
 {
     let mut flags = Vec::new(alloc);
     for atom in 0..row.atoms {

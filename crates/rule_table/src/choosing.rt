@@ -109,7 +109,9 @@ pub fn chosen_pairs(
     atoms: &[Spatial],
 ) -> Result<Pairs, OutOfMemory>
     requires { length atoms.now ≤ MOST_SPATIAL }
-    ensures { IfOk result (λ p. p ≡ pairs_from (chosen_place (taken outside places.now) atoms.now) 0 (chosen (taken outside places.now) atoms.now)) }
+    ensures { IfOk result (λ p. p
+        ≡ pairs_from (chosen_place (taken outside places.now) atoms.now) 0
+        (chosen (taken outside places.now) atoms.now)) }
 {
     pick_pairs(alloc, outside, places, atoms)
 }
