@@ -8,3 +8,4 @@ pub mod Readings
 pub mod Wider
 mod Indexes
 mod Loops
+pub mod FlawFronts
