@@ -39,12 +39,14 @@ module _ (most : ℕ) (m : ℕ) (pures_within : 64 ≤ m) (spatials_within : mos
     where
       by : (o : Found) → heap_found k e.antecedent ≡ o → entailment_flaw most hs k (entailment_front (Beyond m) e) ≡ entailment_flaw most hs k e
       by (Some f) h = rw (heap_same k e.antecedent, h) refl
-      by None h = rw (heap_whole k e.antecedent h) (ap (λ o. or_later (heap_found k e.antecedent) o) (heaps_same (k + heap_span term_span e.antecedent) e.disjuncts))
+      by None h =
+          ap (λ (x : Heap). or_later (heap_found k x) (heaps_found (k + heap_span term_span x) (heaps_front (Beyond m) e.disjuncts))) (heap_whole k e.antecedent h)
+          ∙ ap (λ o. or_later (heap_found k e.antecedent) o) (heaps_same (k + heap_span term_span e.antecedent) e.disjuncts)
 
   entailment_whole : (k : ℕ) (e : Entailment) → entailment_flaw most hs k e ≡ None → entailment_front (Beyond m) e ≡ e
   entailment_whole k e h =
       let both = neither (heap_found k e.antecedent) (heaps_found (k + heap_span term_span e.antecedent) e.disjuncts) h in
-      rw (heap_whole k e.antecedent both.0, heaps_whole (k + heap_span term_span e.antecedent) e.disjuncts both.1) refl
+      λ i. record { antecedent = heap_whole k e.antecedent both.0 i; disjuncts = heaps_whole (k + heap_span term_span e.antecedent) e.disjuncts both.1 i }
 
   judgement_same : (count k : ℕ) (j : Judgement) → judgement_flaw most hs count k (judgement_front (Beyond m) j) ≡ judgement_flaw most hs count k j
   judgement_same count k (Entails e) = entailment_same k e
@@ -101,10 +103,12 @@ module _ (most : ℕ) (m : ℕ) (pures_within : 64 ≤ m) (spatials_within : mos
     where
       by : (o : Found) → judgement_found count k x ≡ o → or_later (judgement_found count k (node_front (Beyond m) x)) (reason_found k (node_front (Beyond m) x)) ≡ or_later (judgement_found count k x) (reason_found k x)
       by (Some f) e = rw (judgement_same count (k + 1) x.judgement, e) refl
-      by None e = rw (judgement_whole count (k + 1) x.judgement e) (ap (λ o. or_later (judgement_found count k x) o) (reason_same (k + 1 + judgement_span x.judgement) x.reason))
+      by None e =
+          ap (λ (j : Judgement). or_later (judgement_flaw most hs count (k + 1) j) (reason_flaw most hs (k + 1 + judgement_span j) (reason_front (Beyond m) x.reason))) (judgement_whole count (k + 1) x.judgement e)
+          ∙ ap (λ o. or_later (judgement_found count k x) o) (reason_same (k + 1 + judgement_span x.judgement) x.reason)
 
   pub node_whole : (count n k : ℕ) (x : Node) → node_flaw most hs count n k x ≡ None → node_front (Beyond m) x ≡ x
   node_whole count n k x e =
       let rest = neither (over_if (nat_le 20000 n) Nodes k) (or_later (judgement_found count k x) (reason_found k x)) e in
       let both = neither (judgement_found count k x) (reason_found k x) rest.1 in
-      rw (judgement_whole count (k + 1) x.judgement both.0, reason_whole (k + 1 + judgement_span x.judgement) x.reason both.1) refl
+      λ i. record { judgement = judgement_whole count (k + 1) x.judgement both.0 i; reason = reason_whole (k + 1 + judgement_span x.judgement) x.reason both.1 i; premises = x.premises }
