@@ -10,3 +10,4 @@ mod Indexes
 mod Loops
 pub mod Members
 pub mod FirstPlaces
+pub mod FlawFronts

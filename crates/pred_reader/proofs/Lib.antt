@@ -4,3 +4,4 @@ pub mod SpanLaws
 pub mod WithinSpans
 pub mod TreesAgain
 pub mod ValuesAgain
+pub mod DefinitionFlaws

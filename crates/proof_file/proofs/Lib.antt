@@ -6,3 +6,4 @@ mod TreesAgain
 pub mod ValuesAgain
 pub mod Readings
 pub mod Wider
+pub mod NodeFlaws
