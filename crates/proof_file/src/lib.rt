@@ -3,6 +3,7 @@
 
 mod building;
 mod file;
+mod fronts;
 mod line_trees;
 mod node;
 mod reading;
@@ -15,6 +16,7 @@ mod writing;
 
 pub use building::{FileFront, NodeFault, file_of_values, front_flaw, front_values, node_of_tree};
 pub use file::ProofFile;
+pub use fronts::flaws_show_in_what_is_kept;
 pub use node::{FileNode, FileNodes};
 pub use reading::read_file;
 pub use upgrading::upgrade;
