@@ -17,7 +17,7 @@ ghost use Rattle.proof_file.specs.Flaws.{node_flaw};
 pub fn flaws_show_in_what_is_kept()
     ensures definitions { (most m : ℕ) → 64 ≤ m → most ≤ m → 16 ≤ m → (hs : List Heading) (n k : ℕ) (ds : List Definition)
         → listed_flaw (definition_flaw most hs) definition_span n k (map (definition_front (Beyond m)) ds)
-            ≡ listed_flaw (definition_flaw most hs) definition_span n k ds }
+        ≡ listed_flaw (definition_flaw most hs) definition_span n k ds }
     ensures whole_definitions { (most m : ℕ) → 64 ≤ m → most ≤ m → 16 ≤ m → (hs : List Heading) (n k : ℕ) (ds : List Definition)
         → listed_flaw (definition_flaw most hs) definition_span n k ds ≡ None → map (definition_front (Beyond m)) ds ≡ ds }
     ensures node { (most m : ℕ) → 64 ≤ m → most ≤ m → 16 ≤ m → (hs : List Heading) (count n k : ℕ) (x : Node)
