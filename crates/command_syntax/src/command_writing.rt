@@ -19,7 +19,8 @@ fn write_operand<'a, F: WrittenVariable<'a>>(
     writer: &mut WordWriter,
 ) -> Result<(), OutOfMemory>
     requires { (operand (F.variables form.now)).fits (operand_of F.seen tree) }
-    ensures { OnOk result (writer.new ≡ write_all writer.old ((operand (F.variables form.now)).words (operand_of F.seen tree))) }
+    ensures { OnOk result
+        (writer.new ≡ write_all writer.old ((operand (F.variables form.now)).words (operand_of F.seen tree))) }
 {
     match tree {
         OperandTree::Nil => writer.name("nil"),
@@ -43,7 +44,8 @@ fn write_store<'a, F: WrittenVariable<'a>>(
     writer: &mut WordWriter,
 ) -> Result<(), OutOfMemory>
     requires { (store (F.variables form.now)).fits (field, operand_of F.seen value) }
-    ensures { OnOk result (writer.new ≡ write_all writer.old ((store (F.variables form.now)).words (field, operand_of F.seen value))) }
+    ensures { OnOk result
+        (writer.new ≡ write_all writer.old ((store (F.variables form.now)).words (field, operand_of F.seen value))) }
 {
     writer.symbol(".")?;
     writer.number(field)?;
@@ -59,7 +61,8 @@ fn write_change<'a, F: WrittenVariable<'a>>(
     writer: &mut WordWriter,
 ) -> Result<(), OutOfMemory>
     requires { (change (F.variables form.now)).fits (change_of F.seen tree) }
-    ensures { OnOk result (writer.new ≡ write_all writer.old ((change (F.variables form.now)).words (change_of F.seen tree))) }
+    ensures { OnOk result
+        (writer.new ≡ write_all writer.old ((change (F.variables form.now)).words (change_of F.seen tree))) }
 {
     match tree {
         ChangeTree::New(fields) => {
@@ -103,8 +106,12 @@ fn write_branch<'a, F: WrittenVariable<'a>>(
     target: u32,
     writer: &mut WordWriter,
 ) -> Result<(), OutOfMemory>
-    requires { (branch (F.variables form.now)).fits (operand_of F.seen left, (is_equation, (operand_of F.seen right, target))) }
-    ensures { OnOk result (writer.new ≡ write_all writer.old ((branch (F.variables form.now)).words (operand_of F.seen left, (is_equation, (operand_of F.seen right, target))))) }
+    requires { (branch (F.variables form.now)).fits
+        (operand_of F.seen left, (is_equation, (operand_of F.seen right, target))) }
+    ensures { OnOk result
+        (writer.new ≡ write_all writer.old
+        ((branch (F.variables form.now)).words
+        (operand_of F.seen left, (is_equation, (operand_of F.seen right, target))))) }
 {
     write_operand(form, left, writer)?;
     write_sign(is_equation, writer)?;
@@ -122,7 +129,8 @@ pub fn write_command<'a, F: WrittenVariable<'a>>(
     writer: &mut WordWriter,
 ) -> Result<(), OutOfMemory>
     requires { (command version (F.variables form.now)).fits (command_of F.seen tree) }
-    ensures { OnOk result (writer.new ≡ write_all writer.old ((command version (F.variables form.now)).words (command_of F.seen tree))) }
+    ensures { OnOk result
+        (writer.new ≡ write_all writer.old ((command version (F.variables form.now)).words (command_of F.seen tree))) }
 {
     match tree {
         CommandTree::Stop => {

@@ -20,7 +20,8 @@ fn write_line<'a, F: WrittenVariable<'a>>(
     writer: &mut WordWriter,
 ) -> Result<(), OutOfMemory>
     requires { (line version (F.variables form.now)).fits (line_of F.seen tree) }
-    ensures { OnOk result (writer.new ≡ write_all writer.old ((line version (F.variables form.now)).words (line_of F.seen tree))) }
+    ensures { OnOk result
+        (writer.new ≡ write_all writer.old ((line version (F.variables form.now)).words (line_of F.seen tree))) }
 {
     writer.name("line")?;
     writer.number(tree.number)?;
@@ -37,7 +38,9 @@ pub fn write_lines<'a, F: WrittenVariable<'a>>(
     writer: &mut WordWriter,
 ) -> Result<(), OutOfMemory>
     requires { (lines version (F.variables form.now)).fits (map (line_of F.seen) trees.now) }
-    ensures { OnOk result (writer.new ≡ write_all writer.old ((lines version (F.variables form.now)).words (map (line_of F.seen) trees.now))) }
+    ensures { OnOk result
+        (writer.new ≡ write_all writer.old
+        ((lines version (F.variables form.now)).words (map (line_of F.seen) trees.now))) }
 {
     for tree in trees {
         write_line(form, version, *tree, writer)?;

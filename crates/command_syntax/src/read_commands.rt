@@ -39,7 +39,8 @@ fn store<'a, F: VariableForm<'a>>(
     form: &F,
     cursor: &mut Cursor<'_, 'a>,
 ) -> Result<(u32, OperandTree<F::Variable>), Refusal>
-    ensures { Gives (λ x. ((x.0, operand_of F.seen x.1), cursor.new)) result ((store (F.variables form.now)).read cursor.old) }
+    ensures { Gives (λ x. ((x.0, operand_of F.seen x.1), cursor.new)) result
+        ((store (F.variables form.now)).read cursor.old) }
 {
     cursor.symbol(".")?;
     let field = cursor.number()?;
@@ -88,7 +89,8 @@ fn branch<'a, F: VariableForm<'a>>(
     ),
     Refusal,
 >
-    ensures { Gives (λ x. ((operand_of F.seen x.0, (x.1, (operand_of F.seen x.2, x.3))), cursor.new)) result ((branch (F.variables form.now)).read cursor.old) }
+    ensures { Gives (λ x. ((operand_of F.seen x.0, (x.1, (operand_of F.seen x.2, x.3))), cursor.new)) result
+        ((branch (F.variables form.now)).read cursor.old) }
 {
     let left = operand(form, cursor)?;
     let is_equation = sign(cursor)?;
@@ -125,7 +127,8 @@ pub fn command<'a, F: VariableForm<'a>>(
     version: Version,
     cursor: &mut Cursor<'_, 'a>,
 ) -> Result<CommandTree<F::Variable>, Refusal>
-    ensures { Gives (λ x. (command_of F.seen x, cursor.new)) result ((command version (F.variables form.now)).read cursor.old) }
+    ensures { Gives (λ x. (command_of F.seen x, cursor.new)) result
+        ((command version (F.variables form.now)).read cursor.old) }
 {
     if cursor.is_keyword_next("stop") {
         cursor.keyword("stop")?;

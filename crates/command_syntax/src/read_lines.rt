@@ -19,7 +19,8 @@ pub fn line<'a, F: VariableForm<'a>>(
     version: Version,
     cursor: &mut Cursor<'_, 'a>,
 ) -> Result<LineTree<F::Variable>, Refusal>
-    ensures { Gives (λ x. (line_of F.seen x, cursor.new)) result ((line version (F.variables form.now)).read cursor.old) }
+    ensures { Gives (λ x. (line_of F.seen x, cursor.new)) result
+        ((line version (F.variables form.now)).read cursor.old) }
 {
     cursor.keyword("line")?;
     let number = cursor.number()?;
@@ -36,7 +37,8 @@ fn more_lines<'a, F: VariableForm<'a>>(
     mut items: Vec<LineTree<F::Variable>>,
     cursor: &mut Cursor<'_, 'a>,
 ) -> Result<Vec<LineTree<F::Variable>>, Refusal>
-    ensures { Gives (λ x. (map (line_of F.seen) x.items, cursor.new)) result (with_front (map (line_of F.seen) items.items) ((lines version (F.variables form.now)).read cursor.old)) }
+    ensures { Gives (λ x. (map (line_of F.seen) x.items, cursor.new)) result
+        (with_front (map (line_of F.seen) items.items) ((lines version (F.variables form.now)).read cursor.old)) }
 {
     for _ in 0..cursor.left() {
         if !cursor.is_keyword_next("line") {
@@ -57,7 +59,8 @@ pub fn lines<'a, F: VariableForm<'a>>(
     version: Version,
     cursor: &mut Cursor<'_, 'a>,
 ) -> Result<Vec<LineTree<F::Variable>>, Refusal>
-    ensures { Gives (λ x. (map (line_of F.seen) x.items, cursor.new)) result ((lines version (F.variables form.now)).read cursor.old) }
+    ensures { Gives (λ x. (map (line_of F.seen) x.items, cursor.new)) result
+        ((lines version (F.variables form.now)).read cursor.old) }
 {
     let items: Vec<LineTree<F::Variable>> = Vec::new(alloc);
     more_lines(form, version, items, cursor)

@@ -37,8 +37,11 @@ pub fn take_node(
     requires fits { node.fits (node_of tree.now) }
     requires few { found.flaw ≡ None → length heads.now ≤ MOST_PREDICATES }
     requires room { at + node_span (node_of tree.now) < 2 ^ 64 }
-    ensures flaw { IfOk result (λ f. f.flaw ≡ or_later found.flaw (node_flaw (most_spatial version) heads.now lines (length found.nodes.items) at (node_of tree.now))) }
-    ensures nodes { IfOk result (λ f. f.flaw ≡ None → f.nodes.items ≡ found.nodes.items ++ node_value heads.now (node_of tree.now) ∷ []) }
+    ensures flaw { IfOk result
+        (λ f. f.flaw ≡ or_later found.flaw
+        (node_flaw (most_spatial version) heads.now lines (length found.nodes.items) at (node_of tree.now))) }
+    ensures nodes { IfOk result
+        (λ f. f.flaw ≡ None → f.nodes.items ≡ found.nodes.items ++ node_value heads.now (node_of tree.now) ∷ []) }
 {
     if found.flaw.is_some() {
         return Ok(found);

@@ -38,7 +38,8 @@ fn after_pred(
     version: Version,
     cursor: &mut Cursor<'_, '_>,
 ) -> Result<Awaited, Refusal>
-    ensures { Gives (λ n. (reached_of n, cursor.new)) result (kept_next_read keep (reached_of (Awaited.Preds version)) cursor.old) }
+    ensures { Gives (λ n. (reached_of n, cursor.new)) result
+        (kept_next_read keep (reached_of (Awaited.Preds version)) cursor.old) }
 {
     match kept_pred_or_later(alloc, keep, version, cursor)? {
         PredOrLater::Pred(_) => Ok(Awaited::Preds(version)),
@@ -53,7 +54,8 @@ fn after_line(
     version: Version,
     cursor: &mut Cursor<'_, '_>,
 ) -> Result<Awaited, Refusal>
-    ensures { Gives (λ n. (reached_of n, cursor.new)) result (kept_next_read keep (reached_of (Awaited.Lines version)) cursor.old) }
+    ensures { Gives (λ n. (reached_of n, cursor.new)) result
+        (kept_next_read keep (reached_of (Awaited.Lines version)) cursor.old) }
 {
     match kept_line_or_node(alloc, keep, version, cursor)? {
         LineOrNode::Line(_) => Ok(Awaited::Lines(version)),
@@ -62,7 +64,8 @@ fn after_line(
 }
 
 fn after_node(alloc: Global, keep: Keep, cursor: &mut Cursor<'_, '_>) -> Result<Awaited, Refusal>
-    ensures { Gives (λ n. (reached_of n, cursor.new)) result (kept_next_read keep (reached_of Awaited.Nodes) cursor.old) }
+    ensures { Gives (λ n. (reached_of n, cursor.new)) result
+        (kept_next_read keep (reached_of Awaited.Nodes) cursor.old) }
 {
     match kept_node_or_end(alloc, keep, cursor)? {
         NodeOrEnd::Node(_) => Ok(Awaited::Nodes),

@@ -57,7 +57,9 @@ fn read_nodes(
     requires room { length text.now < 2 ^ 32 - 1 }
     requires few { flaw ≡ None → length heads.now ≤ MOST_PREDICATES }
     requires begun { IsBegun text.now front.now }
-    ensures { IfOk result (λ o. IfSome o (λ f. AreAllNodes text.now front.now.version heads.now (front_defs front.now) front.now.lines.items flaw f.flaw f.nodes.items)) }
+    ensures { IfOk result
+        (λ o. IfSome o (λ f. AreAllNodes text.now front.now.version heads.now
+        (front_defs front.now) front.now.lines.items flaw f.flaw f.nodes.items)) }
 {
     let count = front.lines.len();
     let none = Found {

@@ -57,7 +57,8 @@ fn pure_atoms<F: TermReader>(
     trees: &[PureTree<F::Term>],
 ) -> Result<usize, Flaw>
     requires { at + total (pure_span F.span) trees.now < 2 ^ 64 }
-    ensures { IsWalk result (listed_flaw (pure_flaw (F.flaw form.now) F.span) (pure_span F.span) 0 at trees.now) (at + total (pure_span F.span) trees.now) }
+    ensures { IsWalk result (listed_flaw (pure_flaw (F.flaw form.now) F.span) (pure_span F.span) 0 at trees.now)
+        (at + total (pure_span F.span) trees.now) }
 {
     let mut next = at;
     for (n, tree) in trees.iter().enumerate() {
@@ -73,7 +74,8 @@ pub fn pure_part<F: TermReader>(
     trees: &[PureTree<F::Term>],
 ) -> Result<usize, Flaw>
     requires { at + pures_span F.span trees.now < 2 ^ 64 }
-    ensures { IsWalk result (listed_flaw (pure_flaw (F.flaw form.now) F.span) (pure_span F.span) 0 at trees.now) (at + pures_span F.span trees.now) }
+    ensures { IsWalk result (listed_flaw (pure_flaw (F.flaw form.now) F.span) (pure_span F.span) 0 at trees.now)
+        (at + pures_span F.span trees.now) }
 {
     match trees {
         [] => Ok(at + 2),
@@ -91,7 +93,8 @@ fn cell<F: TermReader>(
     fields: &[F::Term],
 ) -> Result<usize, Flaw>
     requires { at + spatial_span F.span (Cell address fields.now) < 2 ^ 64 }
-    ensures { IsWalk result (cell_flaw (F.flaw form.now) F.span most n at address fields.now) (at + spatial_span F.span (Cell address fields.now)) }
+    ensures { IsWalk result (cell_flaw (F.flaw form.now) F.span most n at address fields.now)
+        (at + spatial_span F.span (Cell address fields.now)) }
 {
     if n >= most as usize {
         return Err(over(What::Spatial, at));
@@ -137,7 +140,8 @@ fn predicate<F: TermReader>(
     args: &[F::Term],
 ) -> Result<usize, Flaw>
     requires { at + spatial_span F.span (Predicate name.now args.now) < 2 ^ 64 }
-    ensures { IsWalk result (spatial_flaw (F.flaw form.now) F.span most heads.now n at (Predicate name.now args.now)) (at + spatial_span F.span (Predicate name.now args.now)) }
+    ensures { IsWalk result (spatial_flaw (F.flaw form.now) F.span most heads.now n at (Predicate name.now args.now))
+        (at + spatial_span F.span (Predicate name.now args.now)) }
 {
     predicate_name(heads, at, name, args.len())?;
     if n >= most as usize {
@@ -157,7 +161,8 @@ pub fn spatial_atom<F: TermReader>(
     tree: &SpatialTree<'_, F::Term>,
 ) -> Result<usize, Flaw>
     requires { at + spatial_span F.span (spatial_of tree.now) < 2 ^ 64 }
-    ensures { IsWalk result (spatial_flaw (F.flaw form.now) F.span most heads.now n at (spatial_of tree.now)) (at + spatial_span F.span (spatial_of tree.now)) }
+    ensures { IsWalk result (spatial_flaw (F.flaw form.now) F.span most heads.now n at (spatial_of tree.now))
+        (at + spatial_span F.span (spatial_of tree.now)) }
 {
     match tree {
         SpatialTree::Cell(address, fields) => cell(form, most, n, at, *address, fields),

@@ -20,7 +20,9 @@ fn spatial_atoms<F: TermReader>(
     trees: &[SpatialTree<'_, F::Term>],
 ) -> Result<usize, Flaw>
     requires { at + total (spatial_span F.span) (map spatial_of trees.now) < 2 ^ 64 }
-    ensures { IsWalk result (listed_flaw (spatial_flaw (F.flaw form.now) F.span most heads.now) (spatial_span F.span) 0 at (map spatial_of trees.now)) (at + total (spatial_span F.span) (map spatial_of trees.now)) }
+    ensures { IsWalk result
+        (listed_flaw (spatial_flaw (F.flaw form.now) F.span most heads.now) (spatial_span F.span) 0 at
+        (map spatial_of trees.now)) (at + total (spatial_span F.span) (map spatial_of trees.now)) }
 {
     let mut next = at;
     for (n, tree) in trees.iter().enumerate() {
@@ -38,7 +40,9 @@ fn spatial_part<F: TermReader>(
     trees: &[SpatialTree<'_, F::Term>],
 ) -> Result<usize, Flaw>
     requires { at + spatials_span F.span (map spatial_of trees.now) < 2 ^ 64 }
-    ensures { IsWalk result (listed_flaw (spatial_flaw (F.flaw form.now) F.span most heads.now) (spatial_span F.span) 0 at (map spatial_of trees.now)) (at + spatials_span F.span (map spatial_of trees.now)) }
+    ensures { IsWalk result
+        (listed_flaw (spatial_flaw (F.flaw form.now) F.span most heads.now) (spatial_span F.span) 0 at
+        (map spatial_of trees.now)) (at + spatials_span F.span (map spatial_of trees.now)) }
 {
     match trees {
         [] => Ok(at + 2),
@@ -56,7 +60,8 @@ pub fn walk_heap<F: TermReader>(
     tree: &HeapTree<'_, F::Term>,
 ) -> Result<usize, Flaw>
     requires { at + heap_span F.span (heap_of tree.now) < 2 ^ 64 }
-    ensures { IsWalk result (heap_flaw (F.flaw form.now) F.span most heads.now at (heap_of tree.now)) (at + heap_span F.span (heap_of tree.now)) }
+    ensures { IsWalk result (heap_flaw (F.flaw form.now) F.span most heads.now at (heap_of tree.now))
+        (at + heap_span F.span (heap_of tree.now)) }
 {
     let spatial = pure_part(form, at, &tree.pure)?;
     spatial_part(heads, form, most, spatial, &tree.spatial)
@@ -72,7 +77,8 @@ fn counted_heap<F: TermReader>(
     tree: &HeapTree<'_, F::Term>,
 ) -> Result<usize, Flaw>
     requires { at + heap_span F.span (heap_of tree.now) < 2 ^ 64 }
-    ensures { IsWalk result (counted_flaw (F.flaw form.now) F.span most heads.now what n at (heap_of tree.now)) (at + heap_span F.span (heap_of tree.now)) }
+    ensures { IsWalk result (counted_flaw (F.flaw form.now) F.span most heads.now what n at (heap_of tree.now))
+        (at + heap_span F.span (heap_of tree.now)) }
 {
     if n >= MOST_DISJUNCTS {
         return Err(over(what, at));
@@ -90,7 +96,8 @@ pub fn walk_heaps<F: TermReader>(
     trees: &[HeapTree<'_, F::Term>],
 ) -> Result<usize, Flaw>
     requires { at + total (heap_span F.span) (map heap_of trees.now) < 2 ^ 64 }
-    ensures { IsWalk result (heaps_flaw (F.flaw form.now) F.span most heads.now what at (map heap_of trees.now)) (at + total (heap_span F.span) (map heap_of trees.now)) }
+    ensures { IsWalk result (heaps_flaw (F.flaw form.now) F.span most heads.now what at (map heap_of trees.now))
+        (at + total (heap_span F.span) (map heap_of trees.now)) }
 {
     let mut next = at;
     for (n, tree) in trees.iter().enumerate() {

@@ -52,7 +52,8 @@ fn load<F: VariableReader>(
     field: u32,
 ) -> Result<usize, Flaw>
     requires { at + operand_span F.span address + 2 < 2 ^ 64 }
-    ensures { IsWalk result (change_flaw (F.flaw form.now) F.span at (Load address field)) (at + operand_span F.span address + 2) }
+    ensures { IsWalk result
+        (change_flaw (F.flaw form.now) F.span at (Load address field)) (at + operand_span F.span address + 2) }
 {
     let number = operand(form, at, address)?;
     field_number(number, field)?;
@@ -67,7 +68,8 @@ fn store<F: VariableReader>(
     value: OperandTree<F::Variable>,
 ) -> Result<usize, Flaw>
     requires { at + (2 + operand_span F.span value) < 2 ^ 64 }
-    ensures { IsWalk result (change_flaw (F.flaw form.now) F.span at (Store field value)) (at + (2 + operand_span F.span value)) }
+    ensures { IsWalk result
+        (change_flaw (F.flaw form.now) F.span at (Store field value)) (at + (2 + operand_span F.span value)) }
 {
     field_number(at, field)?;
     operand(form, at + 2, value)
@@ -103,7 +105,8 @@ fn branch<F: VariableReader>(
     target: u32,
 ) -> Result<usize, Flaw>
     requires { at + operand_span F.span left + operand_span F.span right + 2 < 2 ^ 64 }
-    ensures { IsWalk result (branch_flaw (F.flaw form.now) F.span count at left right target) (at + operand_span F.span left + operand_span F.span right + 2) }
+    ensures { IsWalk result (branch_flaw (F.flaw form.now) F.span count at left right target)
+        (at + operand_span F.span left + operand_span F.span right + 2) }
 {
     let second = operand(form, at, left)?;
     let number = operand(form, second, right)?;
@@ -190,7 +193,8 @@ pub fn walk_lines<F: VariableReader>(
     lines: &[LineTree<F::Variable>],
 ) -> Result<usize, Flaw>
     requires { at + total (line_span F.span) lines.now < 2 ^ 64 }
-    ensures { IsWalk result (lines_flaw (F.flaw form.now) F.span at lines.now) (at + total (line_span F.span) lines.now) }
+    ensures { IsWalk result
+        (lines_flaw (F.flaw form.now) F.span at lines.now) (at + total (line_span F.span) lines.now) }
 {
     let mut next = at;
     for (n, tree) in lines.iter().enumerate() {

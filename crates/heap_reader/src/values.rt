@@ -159,7 +159,8 @@ pub fn entailment_value<F: TermReader>(
     requires some { 0 < length disjuncts.now }
     requires most { length disjuncts.now ≤ MOST_DISJUNCTS }
     requires few { length heads.now ≤ MOST_PREDICATES }
-    ensures { IfOk result (λ j. j ≡ value_of_entailment F.value heads.now (heap_of antecedent.now) (map heap_of disjuncts.now)) }
+    ensures { IfOk result
+        (λ j. j ≡ value_of_entailment F.value heads.now (heap_of antecedent.now) (map heap_of disjuncts.now)) }
 {
     let antecedent = heap_value(alloc, heads, form, antecedent)?;
     let disjuncts = heap_values(alloc, heads, form, disjuncts)?;

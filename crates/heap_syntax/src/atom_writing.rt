@@ -30,7 +30,8 @@ fn write_pure<'a, F: WrittenForm<'a>>(
     writer: &mut WordWriter,
 ) -> Result<(), OutOfMemory>
     requires { (pure (F.terms form.now).syntax).fits (pure_of F.seen tree) }
-    ensures { OnOk result (writer.new ≡ write_all writer.old ((pure (F.terms form.now).syntax).words (pure_of F.seen tree))) }
+    ensures { OnOk result
+        (writer.new ≡ write_all writer.old ((pure (F.terms form.now).syntax).words (pure_of F.seen tree))) }
 {
     form.write_term(tree.left, writer)?;
     write_sign(tree.is_equation, writer)?;
@@ -43,7 +44,9 @@ fn write_more_pures<'a, F: WrittenForm<'a>>(
     writer: &mut WordWriter,
 ) -> Result<(), OutOfMemory>
     requires { fits_many (after comma (pure (F.terms form.now).syntax)) (map (pure_of F.seen) trees.now) }
-    ensures { OnOk result (writer.new ≡ write_all writer.old (words_many (after comma (pure (F.terms form.now).syntax)) (map (pure_of F.seen) trees.now))) }
+    ensures { OnOk result
+        (writer.new ≡ write_all writer.old
+        (words_many (after comma (pure (F.terms form.now).syntax)) (map (pure_of F.seen) trees.now))) }
 {
     for tree in trees {
         writer.symbol(",")?;
@@ -59,7 +62,8 @@ pub fn write_pures<'a, F: WrittenForm<'a>>(
     writer: &mut WordWriter,
 ) -> Result<(), OutOfMemory>
     requires { (pures (F.terms form.now)).fits (map (pure_of F.seen) trees.now) }
-    ensures { OnOk result (writer.new ≡ write_all writer.old ((pures (F.terms form.now)).words (map (pure_of F.seen) trees.now))) }
+    ensures { OnOk result
+        (writer.new ≡ write_all writer.old ((pures (F.terms form.now)).words (map (pure_of F.seen) trees.now))) }
 {
     match trees {
         [] => {
@@ -80,7 +84,9 @@ fn write_more_terms<'a, F: WrittenForm<'a>>(
     writer: &mut WordWriter,
 ) -> Result<(), OutOfMemory>
     requires { fits_many (after comma (F.terms form.now).syntax) (map F.seen trees.now) }
-    ensures { OnOk result (writer.new ≡ write_all writer.old (words_many (after comma (F.terms form.now).syntax) (map F.seen trees.now))) }
+    ensures { OnOk result
+        (writer.new ≡ write_all writer.old
+        (words_many (after comma (F.terms form.now).syntax) (map F.seen trees.now))) }
 {
     for tree in trees {
         writer.symbol(",")?;
@@ -96,7 +102,8 @@ fn write_fields<'a, F: WrittenForm<'a>>(
     writer: &mut WordWriter,
 ) -> Result<(), OutOfMemory>
     requires { (fields (F.terms form.now)).fits (map F.seen trees.now) }
-    ensures { OnOk result (writer.new ≡ write_all writer.old ((fields (F.terms form.now)).words (map F.seen trees.now))) }
+    ensures { OnOk result
+        (writer.new ≡ write_all writer.old ((fields (F.terms form.now)).words (map F.seen trees.now))) }
 {
     match trees {
         [] => unreachable!(),
@@ -115,7 +122,8 @@ fn write_arguments<'a, F: WrittenForm<'a>>(
     writer: &mut WordWriter,
 ) -> Result<(), OutOfMemory>
     requires { (arguments (F.terms form.now)).fits (map F.seen trees.now) }
-    ensures { OnOk result (writer.new ≡ write_all writer.old ((arguments (F.terms form.now)).words (map F.seen trees.now))) }
+    ensures { OnOk result
+        (writer.new ≡ write_all writer.old ((arguments (F.terms form.now)).words (map F.seen trees.now))) }
 {
     match trees {
         [] => writer.symbol(")"),
@@ -130,7 +138,8 @@ pub fn write_spatial<'a, F: WrittenForm<'a>>(
     writer: &mut WordWriter,
 ) -> Result<(), OutOfMemory>
     requires { (spatial (F.terms form.now)).fits (spatial_of F.seen tree.now) }
-    ensures { OnOk result (writer.new ≡ write_all writer.old ((spatial (F.terms form.now)).words (spatial_of F.seen tree.now))) }
+    ensures { OnOk result
+        (writer.new ≡ write_all writer.old ((spatial (F.terms form.now)).words (spatial_of F.seen tree.now))) }
 {
     match tree {
         SpatialTree::Cell(address, fields) => {

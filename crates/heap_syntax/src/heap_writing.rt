@@ -20,7 +20,9 @@ fn write_more_spatials<'a, F: WrittenForm<'a>>(
     writer: &mut WordWriter,
 ) -> Result<(), OutOfMemory>
     requires { fits_many (after star (spatial (F.terms form.now))) (map (spatial_of F.seen) trees.now) }
-    ensures { OnOk result (writer.new ≡ write_all writer.old (words_many (after star (spatial (F.terms form.now))) (map (spatial_of F.seen) trees.now))) }
+    ensures { OnOk result
+        (writer.new ≡ write_all writer.old
+        (words_many (after star (spatial (F.terms form.now))) (map (spatial_of F.seen) trees.now))) }
 {
     for tree in trees {
         writer.symbol("*")?;
@@ -36,7 +38,9 @@ fn write_spatials<'a, F: WrittenForm<'a>>(
     writer: &mut WordWriter,
 ) -> Result<(), OutOfMemory>
     requires { (spatials (F.terms form.now) (spatial (F.terms form.now))).fits (map (spatial_of F.seen) trees.now) }
-    ensures { OnOk result (writer.new ≡ write_all writer.old ((spatials (F.terms form.now) (spatial (F.terms form.now))).words (map (spatial_of F.seen) trees.now))) }
+    ensures { OnOk result
+        (writer.new ≡ write_all writer.old
+        ((spatials (F.terms form.now) (spatial (F.terms form.now))).words (map (spatial_of F.seen) trees.now))) }
 {
     match trees {
         [] => writer.name("emp"),
@@ -55,7 +59,9 @@ pub fn write_heap<'a, F: WrittenForm<'a>>(
     writer: &mut WordWriter,
 ) -> Result<(), OutOfMemory>
     requires { (heap (F.terms form.now) (spatial (F.terms form.now))).fits (heap_of F.seen tree.now) }
-    ensures { OnOk result (writer.new ≡ write_all writer.old ((heap (F.terms form.now) (spatial (F.terms form.now))).words (heap_of F.seen tree.now))) }
+    ensures { OnOk result
+        (writer.new ≡ write_all writer.old
+        ((heap (F.terms form.now) (spatial (F.terms form.now))).words (heap_of F.seen tree.now))) }
 {
     write_pures(form, &tree.pure, writer)?;
     write_spatials(form, &tree.spatial, writer)
@@ -67,8 +73,12 @@ fn write_more_heaps<'a, F: WrittenForm<'a>>(
     trees: &[HeapTree<'a, F::Term>],
     writer: &mut WordWriter,
 ) -> Result<(), OutOfMemory>
-    requires { fits_many (after (marked between.now) (heap (F.terms form.now) (spatial (F.terms form.now)))) (map (heap_of F.seen) trees.now) }
-    ensures { OnOk result (writer.new ≡ write_all writer.old (words_many (after (marked between.now) (heap (F.terms form.now) (spatial (F.terms form.now)))) (map (heap_of F.seen) trees.now))) }
+    requires { fits_many (after (marked between.now) (heap (F.terms form.now) (spatial (F.terms form.now))))
+        (map (heap_of F.seen) trees.now) }
+    ensures { OnOk result
+        (writer.new ≡ write_all writer.old
+        (words_many (after (marked between.now) (heap (F.terms form.now) (spatial (F.terms form.now))))
+        (map (heap_of F.seen) trees.now))) }
 {
     for tree in trees {
         between.write(writer)?;
@@ -86,8 +96,12 @@ pub fn write_heaps<'a, F: WrittenForm<'a>>(
     trees: &[HeapTree<'a, F::Term>],
     writer: &mut WordWriter,
 ) -> Result<(), OutOfMemory>
-    requires { (heaps (marked between.now) (marked behind.now) (heap (F.terms form.now) (spatial (F.terms form.now)))).fits (map (heap_of F.seen) trees.now) }
-    ensures { OnOk result (writer.new ≡ write_all writer.old ((heaps (marked between.now) (marked behind.now) (heap (F.terms form.now) (spatial (F.terms form.now)))).words (map (heap_of F.seen) trees.now))) }
+    requires { (heaps (marked between.now) (marked behind.now)
+        (heap (F.terms form.now) (spatial (F.terms form.now)))).fits (map (heap_of F.seen) trees.now) }
+    ensures { OnOk result
+        (writer.new ≡ write_all writer.old
+        ((heaps (marked between.now) (marked behind.now)
+        (heap (F.terms form.now) (spatial (F.terms form.now)))).words (map (heap_of F.seen) trees.now))) }
 {
     match trees {
         [] => unreachable!(),

@@ -53,7 +53,8 @@ fn more_pures<'a, F: TermForm<'a>>(
     first: PureTree<F::Term>,
     cursor: &mut Cursor<'_, 'a>,
 ) -> Result<Vec<PureTree<F::Term>>, Refusal>
-    ensures { GivesMembers keep (pure_of F.seen) first comma (pure (F.terms form.now).syntax) cursor.old result cursor.new }
+    ensures { GivesMembers keep (pure_of F.seen) first comma (pure (F.terms form.now).syntax) cursor.old result
+        cursor.new }
 {
     let mut items = Vec::new(alloc);
     items.push(first)?;
@@ -79,7 +80,8 @@ pub fn kept_pures<'a, F: TermForm<'a>>(
     keep: Keep,
     cursor: &mut Cursor<'_, 'a>,
 ) -> Result<Vec<PureTree<F::Term>>, Refusal>
-    ensures { Gives (λ x. (map (pure_of F.seen) x.items, cursor.new)) result ((kept_pures keep (F.terms form.now)).read cursor.old) }
+    ensures { Gives (λ x. (map (pure_of F.seen) x.items, cursor.new)) result
+        ((kept_pures keep (F.terms form.now)).read cursor.old) }
 {
     if cursor.is_keyword_next("true") {
         cursor.keyword("true")?;

@@ -82,7 +82,8 @@ pub fn heap<'a, F: AtomForm<'a>>(
     form: &F,
     cursor: &mut Cursor<'_, 'a>,
 ) -> Result<HeapTree<'a, F::Term>, Refusal>
-    ensures { Gives (λ x. (heap_of F.seen x, cursor.new)) result ((heap (F.terms form.now) (F.atoms form.now)).read cursor.old) }
+    ensures { Gives (λ x. (heap_of F.seen x, cursor.new)) result
+        ((heap (F.terms form.now) (F.atoms form.now)).read cursor.old) }
 {
     kept_heap(alloc, form, Keep::All, cursor)
 }

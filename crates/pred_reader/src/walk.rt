@@ -46,7 +46,9 @@ fn cases(
     trees: &[HeapTree<'_>],
 ) -> Result<usize, Flaw>
     requires { at + total (heap_span term_span) (map heap_of trees.now) < 2 ^ 64 }
-    ensures { IsWalk result (heaps_flaw (term_flaw (Case arity)) term_span most heads.now Cases at (map heap_of trees.now)) (at + total (heap_span term_span) (map heap_of trees.now)) }
+    ensures { IsWalk result
+        (heaps_flaw (term_flaw (Case arity)) term_span most heads.now Cases at (map heap_of trees.now)) (at + total
+        (heap_span term_span) (map heap_of trees.now)) }
 {
     walk_heaps(heads, &Scope::Case(arity), most, What::Cases, at, trees)
 }
@@ -60,7 +62,8 @@ fn definition(
 ) -> Result<usize, Flaw>
     requires there { n ≤ length heads.now }
     requires fits { at + definition_span (definition_of tree.now) < 2 ^ 64 }
-    ensures { IsWalk result (definition_flaw most heads.now n at (definition_of tree.now)) (at + definition_span (definition_of tree.now)) }
+    ensures { IsWalk result
+        (definition_flaw most heads.now n at (definition_of tree.now)) (at + definition_span (definition_of tree.now)) }
 {
     definition_head(heads, n, at, tree)?;
     let behind = cases(heads, most, tree.arity, at + 6, &tree.cases)?;
@@ -77,7 +80,9 @@ pub fn walk_definitions(
 ) -> Result<usize, Flaw>
     requires there { length trees.now ≤ length heads.now }
     requires fits { at + total definition_span (map definition_of trees.now) < 2 ^ 64 }
-    ensures { IsWalk result (listed_flaw (definition_flaw most heads.now) definition_span 0 at (map definition_of trees.now)) (at + total definition_span (map definition_of trees.now)) }
+    ensures { IsWalk result
+        (listed_flaw (definition_flaw most heads.now) definition_span 0 at
+        (map definition_of trees.now)) (at + total definition_span (map definition_of trees.now)) }
 {
     let mut next = at;
     for (n, tree) in trees.iter().enumerate() {

@@ -64,7 +64,8 @@ fn more_definitions<'a>(
     mut items: Vec<DefinitionTree<'a>>,
     cursor: &mut Cursor<'_, 'a>,
 ) -> Result<Vec<DefinitionTree<'a>>, Refusal>
-    ensures { Gives (λ x. (map definition_of x.items, cursor.new)) result (with_front (map definition_of items.entry.items) (definitions.read cursor.old)) }
+    ensures { Gives (λ x. (map definition_of x.items, cursor.new)) result
+        (with_front (map definition_of items.entry.items) (definitions.read cursor.old)) }
 {
     for _ in 0..cursor.left() {
         if !cursor.is_keyword_next("pred") {

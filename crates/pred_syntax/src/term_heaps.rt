@@ -66,7 +66,8 @@ pub fn heaps<'a>(
     behind: &Mark<'_>,
     cursor: &mut Cursor<'_, 'a>,
 ) -> Result<Vec<HeapTree<'a>>, Refusal>
-    ensures { Gives (λ x. (map heap_of x.items, cursor.new)) result ((heaps (marked between.now) (marked behind.now)).read cursor.old) }
+    ensures { Gives (λ x. (map heap_of x.items, cursor.new)) result
+        ((heaps (marked between.now) (marked behind.now)).read cursor.old) }
 {
     heap_syntax::heaps(
         alloc,
@@ -97,7 +98,9 @@ pub fn write_heaps(
     writer: &mut WordWriter,
 ) -> Result<(), OutOfMemory>
     requires { (heaps (marked between.now) (marked behind.now)).fits (map heap_of trees.now) }
-    ensures { OnOk result (writer.new ≡ write_all writer.old ((heaps (marked between.now) (marked behind.now)).words (map heap_of trees.now))) }
+    ensures { OnOk result
+        (writer.new ≡ write_all writer.old
+        ((heaps (marked between.now) (marked behind.now)).words (map heap_of trees.now))) }
 {
     heap_syntax::write_heaps(
         &NumberedForm { universal: false },

@@ -47,7 +47,8 @@ fn front(
 ) -> Result<usize, Flaw>
     requires known { heads.now ≡ headings (map definition_of definitions.now) }
     requires fits { first_node (front_of version (map definition_of definitions.now) lines.now) < 2 ^ 64 }
-    ensures { IsWalk result (file_flaw (front_of version (map definition_of definitions.now) lines.now)) (first_node (front_of version (map definition_of definitions.now) lines.now)) }
+    ensures { IsWalk result (file_flaw (front_of version (map definition_of definitions.now) lines.now))
+        (first_node (front_of version (map definition_of definitions.now) lines.now)) }
 {
     let first_line = walk_definitions(heads, version.most_spatial(), 4, definitions)?;
     walk_lines(&ProgramVariables, first_line, lines)
@@ -78,7 +79,8 @@ pub fn front_values(
     requires known { heads.now ≡ headings (map definition_of definitions.now) }
     requires right { file_flaw (front_of version (map definition_of definitions.now) lines.now) ≡ None }
     ensures most { IfOk result (λ f. f.defs.most ≡ most_spatial version) }
-    ensures definitions { IfOk result (λ f. f.defs.list ≡ map (definition_value heads.now) (map definition_of definitions.now)) }
+    ensures definitions { IfOk result
+        (λ f. f.defs.list ≡ map (definition_value heads.now) (map definition_of definitions.now)) }
     ensures program { IfOk result (λ f. f.program ≡ program_value lines.now) }
 {
     let values = definition_values(alloc, heads, definitions)?;
@@ -101,7 +103,8 @@ pub fn node_of_tree(
     requires fits { node.fits (node_of tree.now) }
     requires few { length heads.now ≤ MOST_PREDICATES }
     requires room { at + node_span (node_of tree.now) < 2 ^ 64 }
-    ensures { IsNodeMade (node_flaw (most_spatial version) heads.now lines n at (node_of tree.now)) (node_value heads.now (node_of tree.now)) result }
+    ensures { IsNodeMade (node_flaw (most_spatial version) heads.now lines n at (node_of tree.now))
+        (node_value heads.now (node_of tree.now)) result }
 {
     match walk::node(heads, version.most_spatial(), lines, n, at, tree) {
         Ok(_) => match node(alloc, heads, tree) {

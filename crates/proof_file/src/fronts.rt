@@ -15,10 +15,12 @@ ghost use Rattle.proof_file.specs.Flaws.{node_flaw};
 /// without a flaw all is kept: so a reader need not hold what stands after a member that is one too many. The function does
 /// nothing.
 pub fn flaws_show_in_what_is_kept()
-    ensures definitions { (most m : ℕ) → 64 ≤ m → most ≤ m → 16 ≤ m → (hs : List Heading) (n k : ℕ) (ds : List Definition)
+    ensures definitions { (most m : ℕ) → 64 ≤ m → most ≤ m → 16 ≤ m
+        → (hs : List Heading) (n k : ℕ) (ds : List Definition)
         → listed_flaw (definition_flaw most hs) definition_span n k (map (definition_front (Beyond m)) ds)
         ≡ listed_flaw (definition_flaw most hs) definition_span n k ds }
-    ensures whole_definitions { (most m : ℕ) → 64 ≤ m → most ≤ m → 16 ≤ m → (hs : List Heading) (n k : ℕ) (ds : List Definition)
+    ensures whole_definitions { (most m : ℕ) → 64 ≤ m → most ≤ m → 16 ≤ m
+        → (hs : List Heading) (n k : ℕ) (ds : List Definition)
         → listed_flaw (definition_flaw most hs) definition_span n k ds ≡ None → map (definition_front (Beyond m)) ds ≡ ds }
     ensures node { (most m : ℕ) → 64 ≤ m → most ≤ m → 16 ≤ m → (hs : List Heading) (count n k : ℕ) (x : Node)
         → node_flaw most hs count n k (node_front (Beyond m) x) ≡ node_flaw most hs count n k x }

@@ -27,7 +27,8 @@ fn entailment(
     tree: &EntailmentTree<'_>,
 ) -> Result<usize, Flaw>
     requires { at + entailment_span (entailment_of tree.now) < 2 ^ 64 }
-    ensures { IsWalk result (entailment_flaw most heads.now at (entailment_of tree.now)) (at + entailment_span (entailment_of tree.now)) }
+    ensures { IsWalk result
+        (entailment_flaw most heads.now at (entailment_of tree.now)) (at + entailment_span (entailment_of tree.now)) }
 {
     let right = walk_heap(heads, &Scope::Outside, most, at, &tree.antecedent)?;
     walk_heaps(
@@ -50,7 +51,8 @@ fn state(
     tree: &HeapTree<'_>,
 ) -> Result<usize, Flaw>
     requires { at + 3 + heap_span term_span (heap_of tree.now) < 2 ^ 64 }
-    ensures { IsWalk result (state_flaw most heads.now count at line (heap_of tree.now)) (at + 3 + heap_span term_span (heap_of tree.now)) }
+    ensures { IsWalk result
+        (state_flaw most heads.now count at line (heap_of tree.now)) (at + 3 + heap_span term_span (heap_of tree.now)) }
 {
     if line == 0 || line as usize > count {
         return Err(ill(IllFault::NoLine, at + 1));
@@ -66,7 +68,8 @@ fn judgement(
     tree: &JudgementTree<'_>,
 ) -> Result<usize, Flaw>
     requires { at + judgement_span (judgement_of tree.now) < 2 ^ 64 }
-    ensures { IsWalk result (judgement_flaw most heads.now count at (judgement_of tree.now)) (at + judgement_span (judgement_of tree.now)) }
+    ensures { IsWalk result
+        (judgement_flaw most heads.now count at (judgement_of tree.now)) (at + judgement_span (judgement_of tree.now)) }
 {
     match tree {
         JudgementTree::Entailment(tree) => entailment(heads, most, at, tree),
@@ -98,7 +101,8 @@ fn pairs(at: usize, trees: &[PairTree]) -> Result<usize, Flaw>
 /// The pairs of a substitution and the brace after them.
 fn pair_part(at: usize, trees: &[PairTree]) -> Result<usize, Flaw>
     requires { at + total_or 1 pair_span trees.now < 2 ^ 64 }
-    ensures { IsWalk result (listed_flaw (λ n. pair_flaw) pair_span 0 at trees.now) (at + total_or 1 pair_span trees.now) }
+    ensures { IsWalk result
+        (listed_flaw (λ n. pair_flaw) pair_span 0 at trees.now) (at + total_or 1 pair_span trees.now) }
 {
     match trees {
         [] => Ok(at + 1),
@@ -108,7 +112,8 @@ fn pair_part(at: usize, trees: &[PairTree]) -> Result<usize, Flaw>
 
 fn link(at: usize, tree: &LinkTree) -> Result<usize, Flaw>
     requires { at + link_span (link_of tree.now) < 2 ^ 64 }
-    ensures { IsWalk result (listed_flaw (λ n. pair_flaw) pair_span 0 (at + 3) (link_of tree.now).substitution) (at + link_span (link_of tree.now)) }
+    ensures { IsWalk result (listed_flaw (λ n. pair_flaw) pair_span 0 (at + 3) (link_of tree.now).substitution)
+        (at + link_span (link_of tree.now)) }
 {
     let behind = pair_part(at + 3, &tree.substitution)?;
     Ok(behind + (2 + tree.map.len()) + (2 + tree.disjuncts.len()) + 1)
@@ -116,7 +121,9 @@ fn link(at: usize, tree: &LinkTree) -> Result<usize, Flaw>
 
 fn instantiate(at: usize, variable: u32, tree: TermTree) -> Result<usize, Flaw>
     requires { at + 3 + term_span tree < 2 ^ 64 }
-    ensures { IsWalk result (or_later (over_if (nat_lt GREATEST_VARIABLE variable) Variable (at + 2)) (term_flaw Outside (at + 3) tree)) (at + 3 + term_span tree) }
+    ensures { IsWalk result
+        (or_later (over_if (nat_lt GREATEST_VARIABLE variable) Variable (at + 2))
+        (term_flaw Outside (at + 3) tree)) (at + 3 + term_span tree) }
 {
     if variable > GREATEST_VARIABLE {
         return Err(over(What::Variable, at + 2));
@@ -126,7 +133,8 @@ fn instantiate(at: usize, variable: u32, tree: TermTree) -> Result<usize, Flaw>
 
 fn split(at: usize, left: TermTree, right: TermTree) -> Result<usize, Flaw>
     requires { at + term_span left + term_span right < 2 ^ 64 }
-    ensures { IsWalk result (or_later (term_flaw Outside (at + 1) left) (term_flaw Outside (at + term_span left) right)) (at + term_span left + term_span right) }
+    ensures { IsWalk result (or_later (term_flaw Outside (at + 1) left) (term_flaw Outside (at + term_span left) right))
+        (at + term_span left + term_span right) }
 {
     let behind = Scope::Outside.walk(at + 1, left)?;
     Scope::Outside.walk(behind - 1, right)
@@ -134,7 +142,8 @@ fn split(at: usize, left: TermTree, right: TermTree) -> Result<usize, Flaw>
 
 fn reason(heads: &Heads<'_>, most: u8, at: usize, tree: &ReasonTree<'_>) -> Result<usize, Flaw>
     requires { at + reason_span (reason_of tree.now) < 2 ^ 64 }
-    ensures { IsWalk result (reason_flaw most heads.now at (reason_of tree.now)) (at + reason_span (reason_of tree.now)) }
+    ensures { IsWalk result
+        (reason_flaw most heads.now at (reason_of tree.now)) (at + reason_span (reason_of tree.now)) }
 {
     match tree {
         ReasonTree::Absurd | ReasonTree::Done | ReasonTree::Exec => Ok(at + 2),
@@ -176,7 +185,8 @@ pub fn node(
     tree: &NodeTree<'_>,
 ) -> Result<usize, Flaw>
     requires { at + node_span (node_of tree.now) < 2 ^ 64 }
-    ensures { IsWalk result (node_flaw most heads.now count n at (node_of tree.now)) (at + node_span (node_of tree.now)) }
+    ensures { IsWalk result
+        (node_flaw most heads.now count n at (node_of tree.now)) (at + node_span (node_of tree.now)) }
 {
     if n >= MOST_NODES {
         return Err(over(What::Nodes, at));
@@ -194,7 +204,8 @@ fn nodes(
     trees: &[NodeTree<'_>],
 ) -> Result<usize, Flaw>
     requires { at + total node_span (map node_of trees.now) < 2 ^ 64 }
-    ensures { IsWalk result (listed_flaw (node_flaw most heads.now count) node_span 0 at (map node_of trees.now)) (at + total node_span (map node_of trees.now)) }
+    ensures { IsWalk result (listed_flaw (node_flaw most heads.now count) node_span 0 at (map node_of trees.now))
+        (at + total node_span (map node_of trees.now)) }
 {
     let mut next = at;
     for (n, tree) in trees.iter().enumerate() {
@@ -207,7 +218,8 @@ fn nodes(
 fn statements(heads: &Heads<'_>, tree: &FileTree<'_>) -> Result<usize, Flaw>
     requires known { heads.now ≡ headings (file_of tree.now).definitions }
     requires fits { first_node (file_of tree.now) + total node_span (map node_of tree.now.nodes.items) < 2 ^ 64 }
-    ensures { IsWalk result (first_flaw (file_of tree.now)) (first_node (file_of tree.now) + total node_span (map node_of tree.now.nodes.items)) }
+    ensures { IsWalk result (first_flaw (file_of tree.now))
+        (first_node (file_of tree.now) + total node_span (map node_of tree.now.nodes.items)) }
 {
     let most = tree.version.most_spatial();
     let first_line = walk_definitions(heads, most, 4, &tree.definitions)?;

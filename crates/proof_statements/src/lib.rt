@@ -25,7 +25,8 @@ pub fn statements_come_off_the_front()
 /// What is kept of a statement as it is read is its front: the whole is read of the same words, with the same rest or the same
 /// fault, and leads to the same part.
 pub fn fronts_of_statements_are_read()
-    ensures front { (k : Keep) (p : Part) (ws : List Word) → (kept_statement k p).read ws ≡ joined (statement_front k p) ((statement_of p).read ws) }
+    ensures front { (k : Keep) (p : Part) (ws : List Word) → (kept_statement k p).read ws
+        ≡ joined (statement_front k p) ((statement_of p).read ws) }
     ensures part { (k : Keep) (p : Part) (t : Statement p) → next p (statement_front k p t) ≡ next p t }
 {}
 

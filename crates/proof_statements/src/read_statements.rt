@@ -41,7 +41,8 @@ pub fn kept_line_or_node<'a>(
     version: Version,
     cursor: &mut Cursor<'_, 'a>,
 ) -> Result<LineOrNode<'a>, Refusal>
-    ensures { Gives (λ s. (line_or_node_of s, cursor.new)) result ((kept_statement keep (Lines version)).read cursor.old) }
+    ensures { Gives (λ s. (line_or_node_of s, cursor.new)) result
+        ((kept_statement keep (Lines version)).read cursor.old) }
 {
     if cursor.is_keyword_next("line") {
         return Ok(LineOrNode::Line(line(version, cursor)?));
@@ -56,7 +57,8 @@ pub fn kept_pred_or_later<'a>(
     version: Version,
     cursor: &mut Cursor<'_, 'a>,
 ) -> Result<PredOrLater<'a>, Refusal>
-    ensures { Gives (λ s. (pred_or_later_of s, cursor.new)) result ((kept_statement keep (Preds version)).read cursor.old) }
+    ensures { Gives (λ s. (pred_or_later_of s, cursor.new)) result
+        ((kept_statement keep (Preds version)).read cursor.old) }
 {
     if cursor.is_keyword_next("pred") {
         return Ok(PredOrLater::Pred(kept_definition(alloc, keep, cursor)?));

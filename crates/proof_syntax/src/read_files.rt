@@ -133,7 +133,8 @@ fn more_nodes<'a>(
     mut items: Vec<NodeTree<'a>>,
     cursor: &mut Cursor<'_, 'a>,
 ) -> Result<Vec<NodeTree<'a>>, Refusal>
-    ensures { Gives (λ x. (map node_of x.items, cursor.new)) result (with_front (map node_of items.entry.items) (more_nodes.read cursor.old)) }
+    ensures { Gives (λ x. (map node_of x.items, cursor.new)) result
+        (with_front (map node_of items.entry.items) (more_nodes.read cursor.old)) }
 {
     for _ in 0..cursor.left() {
         if !cursor.is_keyword_next("node") {
