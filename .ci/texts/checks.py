@@ -1251,6 +1251,83 @@ REPEATED = [
     ),
 ]
 
+# Lists with many more members than a limit allows: the first beyond it is told, whatever stands behind it, unless the text is
+# none of the format.
+BEYOND = [
+    (
+        b"cyclist proof 1;\n"
+        b"node true:emp|-true:emp by Done;\n"
+        b"node "
+        + b"nil=nil," * 149
+        + b"$65535=nil,"
+        + b"nil=nil," * 50
+        + b"nil=nil:emp|-true:emp by Done;\n"
+        b"end;\n",
+        5, b"limit pure token 272 line 3 column 518",
+    ),
+    (
+        b"cyclist proof 1;\n"
+        b"node true:emp|-true:emp by Done;\n"
+        b"node true:"
+        + b"nil->(nil)*" * 99
+        + b"p()|-true:emp by Done;\n"
+        b"node true:q()|-true:emp by Done;\n"
+        b"end;\n",
+        5, b"limit spatial token 114 line 3 column 187",
+    ),
+    (
+        b"cyclist proof 1;\n"
+        b"node true:emp|-true:emp by Done;\n"
+        b"node true:emp|-"
+        + b"true:emp or " * 99
+        + b"true:emp by Done;\n"
+        b"end;\n",
+        5, b"limit disjuncts token 84 line 3 column 208",
+    ),
+    (
+        b"cyclist proof 1;\n"
+        b"node true:emp|-true:emp by Done;\n"
+        b"node true:emp|-true:emp by Cut[]true:"
+        + b"nil->(nil)*" * 99
+        + b"nil->(nil);\n"
+        b"end;\n",
+        5, b"limit spatial token 125 line 3 column 214",
+    ),
+    (
+        b"cyclist proof 1;\n"
+        b"line 1:stop;\n"
+        b"node from 1 given true:"
+        + b"nil->(nil)*" * 99
+        + b"nil->(nil) by Exec;\n"
+        b"end;\n",
+        5, b"limit spatial token 111 line 3 column 200",
+    ),
+    (
+        b"cyclist proof 1;\n"
+        b"pred p(0){"
+        + b"true:emp|" * 99
+        + b"true:emp};pred p(0){true:emp};node true:q()|-true:emp by Done;\n"
+        b"end;\n",
+        5, b"limit cases token 74 line 2 column 155",
+    ),
+    (
+        b"cyclist proof 1;\n"
+        b"pred p(0){"
+        + b"nil=nil," * 199
+        + b"nil=nil:emp};node true:emp|-true:emp by Done;\n"
+        b"end;\n",
+        5, b"limit pure token 266 line 2 column 523",
+    ),
+    (
+        b"cyclist proof 1;\n"
+        b"node "
+        + b"nil=nil," * 199
+        + b"nil=nil:emp|-true:emp by Done;\n"
+        b"end\n",
+        3, b"unreadable syntax token 814 line 4 column 1",
+    ),
+]
+
 # Small texts with their first dead token.
 DEAD_TOKENS = [
     # no version's number
@@ -1629,7 +1706,7 @@ NODES_AT_THEIR_LIMIT = [
 
 TABLES = [
     FIRST, RIGHT, TOKENS, GRAMMAR, SAID, NODES, ACCEPTED, PROGRAMS, ILL_PROGRAMS, VERSIONS, NUMBERS, LINKS, COUNTS,
-    VERDICTS, FLAWS, REPEATED, DEAD_TOKENS, LINES, NODES_AT_THEIR_LIMIT,
+    VERDICTS, FLAWS, REPEATED, BEYOND, DEAD_TOKENS, LINES, NODES_AT_THEIR_LIMIT,
 ]
 
 # These are in the written form.
