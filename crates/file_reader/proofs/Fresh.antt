@@ -17,7 +17,7 @@ use Rattle.cyc_lex.specs.Placed.{Placed}
 use Rattle.cyc_lex.specs.Word.{word_of, EndsOnce}
 use Rattle.cyc_lex.proofs.Lexed.{whole-text}
 use Rattle.cyc_lex.proofs.TokenLaws.{known, unknown}
-use Rattle.cyc_grammar.specs.Syntax.{Syntax, read_whole}
+use Rattle.cyc_grammar.specs.Syntax.{read_whole}
 use Rattle.cyc_grammar.specs.Faults.{IsSyntaxFault}
 use Rattle.cyc_grammar.specs.declared.cursor.Refusal.TheVariants as refusals
 use Rattle.cyc_grammar.proofs.FirstDead.{one_dead}

@@ -6,6 +6,8 @@ pub mod Fresh
 pub mod PieceLaws
 pub mod Sizes
 mod ScanLaws
+mod KeptTrees
+mod KeptParts
 mod HeldLaws
 mod EndLaws
 mod WholeLaws

@@ -25,14 +25,15 @@ use Rattle.heap_reader.specs.Flaws.{Found, or_later, listed_flaw}
 use Rattle.heap_reader.specs.Spans.{total, line_span}
 use Rattle.proof_syntax.specs.Trees.{Definition, Line, Node, File}
 use Rattle.proof_syntax.specs.Grammar.{node, file}
+use Rattle.proof_syntax.specs.Keeping.{definition_front}
 use Rattle.proof_syntax.proofs.GrammarLaws.{file-law}
-use Rattle.proof_statements.specs.Left.{First, Preds, Lines, Nodes, At, Ended, Left, statement_of, joined, line_or_node}
+use Rattle.proof_statements.specs.Left.{First, Preds, Lines, Nodes, At, Ended, Left, statement_of, kept_statement, joined, line_or_node}
 use Rattle.proof_statements.proofs.LeftLaws.{statement-law}
 use Rattle.proof_file.specs.Flaws.{headings, definition_flaw, program_flaw, node_flaw, nodes_flaw, first_line, first_node, file_flaw}
 use Rattle.proof_file.specs.Spans.{definition_span, variable_span, node_span}
 use Rattle.file_reader.specs.declared.front.Spot.{Spot}
 use Rattle.file_reader.specs.Steps.{Leads, tree_of, span_of}
-use Rattle.file_reader.specs.Wholes.{IsPart, IsTheEnd, IsAt, LeadsFront, front_size, front_defs, IsFront, IsBegun, LeadsNodes, IsAll, found_in, AreNodes, AreAllNodes, StandsIn, IsFlawIn, IsWhole, IsAnswer}
+use Rattle.file_reader.specs.Wholes.{IsPart, IsKeptPart, kept, IsTheEnd, IsAt, LeadsFront, front_size, front_defs, IsFront, IsKeptFront, IsBegun, LeadsNodes, IsAll, found_in, AreNodes, AreKeptNodes, AreAllNodes, AreAllKept, StandsIn, IsFlawIn, IsWhole, IsAnswer}
 use Rattle.file_reader.specs.declared.whole.Whole.{Whole}
 use Rattle.file_reader.specs.declared.whole.Whole.TheVariants as wholes
 use Rattle.file_reader.specs.Outcomes.{item_fault}
@@ -64,6 +65,8 @@ use Rattle.file_reader.proofs.EndLaws.{later-tokens, text-tokens}
 use Rattle.file_reader.proofs.Fresh.{tokens-end, tokens-few, from-start}
 use Rattle.file_reader.proofs.ScanLaws.{span-size}
 use Rattle.file_reader.proofs.Sizes.{statement-span}
+use Rattle.file_reader.proofs.KeptTrees.{node-fits, definitions-span, node-span}
+use Rattle.file_reader.proofs.KeptParts.{later-kept, end-kept, pred-kept, line-kept, same-found, same-value, kept-headings, kept-flaw, whole-front}
 
 -- ---- one statement
 
@@ -182,6 +185,27 @@ module _ (text : List ℕ) (in_lines : Bool) (v : Version) (ds : List Definition
   pub front-node-fits : (x : Node) → IsPart in_lines v vs [] (inr (inr x)) → node.fits x
   front-node-fits x e = part-node-fits in_lines v vs x e
 
+-- and what is kept of it
+module _ (text : List ℕ) (in_lines : Bool) (v : Version) (trees : List Definition) (ls : List Line) (s : Spot) (f : IsKeptFront text in_lines v trees ls s) (t : Span) (k : IsSpan (reading s.place s.comment s.rest.now) t) where
+  abbrev kept_vs : List Word
+  kept_vs = map word_of (new_tokens s t)
+
+  pub kept-front-pred : (tree : Definition) → IsKeptPart kept in_lines v kept_vs [] (inl tree) → IsKeptFront text in_lines v (trees ++ tree ∷ []) ls (on text s f.read.tokens f.read.at t k)
+  kept-front-pred tree e =
+      let d = pred-kept in_lines v kept_vs tree e in
+      record {
+        definitions = f.definitions ++ d.0 ∷ [];
+        are = (λ i. f.are i ++ d.2 i ∷ []) ∙ sym (map_push (definition_front kept) f.definitions d.0);
+        read = front-pred text in_lines v f.definitions ls s f.read t k d.0 d.1;
+      }
+
+  pub kept-front-line : (l : Line) → IsKeptPart kept in_lines v kept_vs [] (inr (inl l)) → IsKeptFront text true v trees (ls ++ l ∷ []) (on text s f.read.tokens f.read.at t k)
+  kept-front-line l e = record {
+    definitions = f.definitions;
+    are = f.are;
+    read = front-line text in_lines v f.definitions ls s f.read t k l (line-kept in_lines v kept_vs l e);
+  }
+
 -- ---- the first statement
 
 pub front-open : (text : List ℕ) (t : Span) → IsUtf8 text → IsSpan (reading start false text) t → (v : Version) → (statement_of First).read (map word_of (front_tokens t.tokens (reading start false text))) ≡ Ok (v, [])
@@ -238,17 +262,38 @@ nodes-none text v hs ds ls first found values s f none =
     (neither first (listed_flaw (node_flaw (most_spatial v) hs (length ls)) node_span 0 (front_size ds ls) f.nodes) (sym f.flaw ∙ none)).0
 
 -- the first node
-pub nodes-begin : (text : List ℕ) (f : Front) (hs : List Heading) (first found : Found) (values : List FileNode) → IsBegun text f → found ≡ or_later first (node_flaw (most_spatial f.version) hs (length f.lines.items) 0 f.before (node_of f.first)) → (found ≡ None → values ≡ node_value hs (node_of f.first) ∷ [])
-    → AreNodes text f.version hs (front_defs f) f.lines.items first found values f.behind
+nodes-begin : (text : List ℕ) (f : Front) (hs : List Heading) (first found : Found) (values : List FileNode) (b : IsBegun text f) → found ≡ or_later first (node_flaw (most_spatial f.version) hs (length f.lines.items) 0 f.before b.first) → (found ≡ None → values ≡ node_value hs b.first ∷ [])
+    → AreNodes text f.version hs b.definitions f.lines.items first found values f.behind
 nodes-begin text f hs first found values b flaw made = record {
-  nodes = node_of f.first ∷ [];
+  nodes = b.first ∷ [];
   tokens = b.tokens;
   at = b.at;
   leads = b.leads;
   size = omega (arith, b.size, b.span);
-  flaw = flaw ∙ ap (or_later first) (ap (λ k. node_flaw (most_spatial f.version) hs (length f.lines.items) 0 k (node_of f.first)) b.size ∙ sym (later-none (node_flaw (most_spatial f.version) hs (length f.lines.items) 0 (front_size (front_defs f) f.lines.items) (node_of f.first))));
+  flaw = flaw ∙ ap (or_later first) (ap (λ k. node_flaw (most_spatial f.version) hs (length f.lines.items) 0 k b.first) b.size ∙ sym (later-none (node_flaw (most_spatial f.version) hs (length f.lines.items) 0 (front_size b.definitions f.lines.items) b.first)));
   made = made;
 }
+
+-- and what is kept of it
+module _ (text : List ℕ) (f : Front) (b : IsBegun text f) where
+  pub begun-fits : node.fits (node_of f.first)
+  begun-fits = subst (λ (x : Node). node.fits x) (sym b.is) (node-fits 64 b.first b.fits)
+
+  pub begun-span : f.before + node_span (node_of f.first) ≤ length text
+  begun-span = omega (arith, b.span, b.at.few, ap node_span b.is, node-span 64 b.first)
+
+  pub begun-size : front_size (front_defs f) f.lines.items ≤ f.before
+  begun-size = omega (arith, b.size, ap (total definition_span) b.are, definitions-span 64 b.definitions)
+
+  pub kept-begin : (hs : List Heading) (first found : Found) (values : List FileNode) → found ≡ or_later first (node_flaw (most_spatial f.version) hs (length f.lines.items) 0 f.before (node_of f.first)) → (found ≡ None → values ≡ node_value hs (node_of f.first) ∷ [])
+      → AreKeptNodes text f hs first found values f.behind
+  kept-begin hs first found values flaw made = record {
+    definitions = b.definitions;
+    are = b.are;
+    read =
+        nodes-begin text f hs first found values b (same-found f.version hs (length f.lines.items) 0 f.before (node_of f.first) b.first b.is first found flaw)
+        (λ none. made none ∙ ap (λ (v : FileNode). v ∷ []) (same-value f.version hs (length f.lines.items) 0 f.before (node_of f.first) b.first b.is first found flaw none));
+  }
 
 module _ (text : List ℕ) (v : Version) (hs : List Heading) (ds : List Definition) (ls : List Line) (first found : Found) (values : List FileNode) (s : Spot) (f : AreNodes text v hs ds ls first found values s) (t : Span) (k : IsSpan (reading s.place s.comment s.rest.now) t) where
   abbrev us : List Word
@@ -295,6 +340,44 @@ module _ (text : List ℕ) (v : Version) (hs : List Heading) (ds : List Definiti
         made = f.made;
       }
 
+-- and what is kept of it
+module _ (text : List ℕ) (f : Front) (hs : List Heading) (first found : Found) (values : List FileNode) (s : Spot) (r : AreKeptNodes text f hs first found values s) (t : Span) (k : IsSpan (reading s.place s.comment s.rest.now) t) where
+  abbrev kept_us : List Word
+  kept_us = map word_of (new_tokens s t)
+
+  pub kept-none : found ≡ None → first ≡ None
+  kept-none none = nodes-none text f.version hs r.definitions f.lines.items first found values s r.read none
+
+  module _ (tree : Node) (e : (kept_statement kept Nodes).read kept_us ≡ Ok (inl tree, [])) where
+    pub later-fits : node.fits tree
+    later-fits =
+        let x = later-kept kept_us tree e in
+        subst (λ (y : Node). node.fits y) (sym x.2) (node-fits 64 x.0 (later-node-fits kept_us x.0 x.1))
+
+    pub later-span : s.tokens + node_span tree ≤ length text
+    later-span =
+        let x = later-kept kept_us tree e in
+        omega (arith, nodes-span text f.version hs r.definitions f.lines.items first found values s r.read t k x.0 x.1, ap node_span x.2, node-span 64 x.0)
+
+    pub kept-more : (next : Found) (all : List FileNode) → next ≡ or_later found (node_flaw (most_spatial f.version) hs (length f.lines.items) (length values) s.tokens tree) → (next ≡ None → all ≡ values ++ node_value hs tree ∷ [])
+        → AreKeptNodes text f hs first next all (on text s r.read.tokens r.read.at t k)
+    kept-more next all flaw more =
+        let x = later-kept kept_us tree e in
+        record {
+          definitions = r.definitions;
+          are = r.are;
+          read =
+              nodes-more text f.version hs r.definitions f.lines.items first found values s r.read t k x.0 next all x.1 (same-found f.version hs (length f.lines.items) (length values) s.tokens tree x.0 x.2 found next flaw)
+              (λ none. more none ∙ ap (λ (v : FileNode). values ++ v ∷ []) (same-value f.version hs (length f.lines.items) (length values) s.tokens tree x.0 x.2 found next flaw none));
+        }
+
+  pub kept-end : (kept_statement kept Nodes).read kept_us ≡ Ok (inr tt, []) → IsAll text (r.read.tokens ++ new_tokens s t) → AreAllKept text f hs first found values
+  kept-end e all = record {
+    definitions = r.definitions;
+    are = r.are;
+    read = nodes-end text f.version hs r.definitions f.lines.items first found values s r.read t k (end-kept kept_us e) all;
+  }
+
 -- ---- the end of the text
 
 -- the tokens that are left
@@ -336,11 +419,19 @@ whole-tree text v ds ls found values f =
     same = omega arith
 
 -- what was found of a front and of all nodes after it
-pub all-found : (text : List ℕ) (f : Front) (hs : List Heading) (first found : Found) (values : List FileNode) → hs ≡ headings (front_defs f) → first ≡ file_flaw (tree_of f.version (front_defs f) f.lines.items []) → AreAllNodes text f.version hs (front_defs f) f.lines.items first found values
-    → AreAllNodes text f.version (headings (front_defs f)) (front_defs f) f.lines.items (file_flaw (tree_of f.version (front_defs f) f.lines.items [])) found values
+pub all-found : (text : List ℕ) (f : Front) (hs : List Heading) (first found : Found) (values : List FileNode) → hs ≡ headings (front_defs f) → first ≡ file_flaw (tree_of f.version (front_defs f) f.lines.items []) → (h : AreAllKept text f hs first found values)
+    → AreAllNodes text f.version (headings h.definitions) h.definitions f.lines.items (file_flaw (tree_of f.version h.definitions f.lines.items [])) found values
 all-found text f hs first found values known is h =
-    subst (λ (o : Found). AreAllNodes text f.version (headings (front_defs f)) (front_defs f) f.lines.items o found values) is
-    (subst (λ (ks : List Heading). AreAllNodes text f.version ks (front_defs f) f.lines.items first found values) known h)
+    subst (λ (o : Found). AreAllNodes text f.version (headings h.definitions) h.definitions f.lines.items o found values) (is ∙ ap (λ (ds : List Definition). file_flaw (tree_of f.version ds f.lines.items [])) h.are ∙ kept-flaw f.version h.definitions f.lines.items)
+    (subst (λ (ks : List Heading). AreAllNodes text f.version ks h.definitions f.lines.items first found values) (known ∙ ap headings h.are ∙ kept-headings h.definitions) h.read)
+
+-- where there is no flaw, all was kept
+pub all-kept : (text : List ℕ) (f : Front) (hs : List Heading) (first found : Found) (values : List FileNode) → first ≡ file_flaw (tree_of f.version (front_defs f) f.lines.items []) → (h : AreAllKept text f hs first found values) → found ≡ None → front_defs f ≡ h.definitions
+all-kept text f hs first found values is h none =
+    let v = f.version in
+    let ls = f.lines.items in
+    let old = (neither first (listed_flaw (node_flaw (most_spatial v) hs (length ls)) node_span 0 (front_size h.definitions ls) h.read.nodes) (sym h.read.flaw ∙ none)).0 in
+    h.are ∙ whole-front v h.definitions ls (sym (is ∙ ap (λ (ds : List Definition). file_flaw (tree_of v ds ls [])) h.are ∙ kept-flaw v h.definitions ls) ∙ old)
 
 -- its flaw is at one of its tokens
 pub tree-few : (text : List ℕ) (t : File) (flaw : Flaw) (h : IsTree text t (Some flaw)) → flaw.token < length text + 1

@@ -10,6 +10,9 @@ use Rattle.cyc_grammar.specs.Syntax.{read_class}
 use Rattle.cyc_grammar.specs.Classes.{the_end}
 use Rattle.cyc_grammar.specs.Faults.{StandsAt}
 use Rattle.piecewise_lex.specs.Taking.{reading, HasTaken}
+use Rattle.cyc_limits.specs.declared.TheConstants.{MOST_PURE}
+use Rattle.heap_syntax.specs.declared.keep.Keep.{Keep}
+use Rattle.heap_syntax.specs.declared.keep.Keep.TheVariants.{Beyond}
 use Rattle.heap_syntax.specs.declared.version.Version.{Version}
 use Rattle.heap_syntax.specs.Versions.{most_spatial}
 use Rattle.heap_reader.specs.Trees.{Heading}
@@ -19,7 +22,8 @@ use Rattle.heap_reader.specs.Told.{IsFlawTold}
 use Rattle.heap_reader.specs.declared.flaw.Flaw.{Flaw}
 use Rattle.proof_syntax.specs.Trees.{Definition, Line, Node, definition_of, node_of}
 use Rattle.proof_syntax.specs.Grammar.{node}
-use Rattle.proof_statements.specs.Left.{Preds, Lines, Nodes, At, Ended, statement_of}
+use Rattle.proof_syntax.specs.Keeping.{definition_front, node_front}
+use Rattle.proof_statements.specs.Left.{Preds, Lines, Nodes, At, Ended, statement_of, kept_statement}
 use Rattle.proof_file.specs.declared.file.ProofFile.{ProofFile}
 use Rattle.proof_file.specs.declared.node.FileNode.{FileNode}
 use Rattle.proof_file.specs.Flaws.{node_flaw}
@@ -39,6 +43,16 @@ abbrev pub IsPart : Bool → Version → List Word → List Word → Definition 
 IsPart false v ws rest s = (statement_of (Preds v)).read ws ≡ Ok (s, rest)
 IsPart true v ws rest (inl d) = ⊥
 IsPart true v ws rest (inr s) = (statement_of (Lines v)).read ws ≡ Ok (s, rest)
+
+-- the same, where so much is kept of it as it is read
+abbrev pub IsKeptPart : Keep → Bool → Version → List Word → List Word → Definition ⊎ (Line ⊎ Node) → Type 0
+IsKeptPart k false v ws rest s = (kept_statement k (Preds v)).read ws ≡ Ok (s, rest)
+IsKeptPart k true v ws rest (inl d) = ⊥
+IsKeptPart k true v ws rest (inr s) = (kept_statement k (Lines v)).read ws ≡ Ok (s, rest)
+
+-- more is kept of each list than any limit allows
+abbrev pub kept : Keep
+kept = Beyond MOST_PURE
 
 abbrev pub IsTheEnd : List Word → Type 0
 IsTheEnd ws = read_class the_end ws ≡ Ok (tt, [])
@@ -67,21 +81,32 @@ pub record IsFront (text : List ℕ) (in_lines : Bool) (v : Version) (ds : List 
   pub leads : LeadsFront in_lines v ds ls (map word_of tokens)
   pub size : s.tokens ≡ front_size ds ls
 
--- and of these nodes
+-- and these trees are kept of the definitions
+pub record IsKeptFront (text : List ℕ) (in_lines : Bool) (v : Version) (trees : List Definition) (ls : List Line) (s : Spot) : Type 0 where
+  pub definitions : List Definition
+  pub are : trees ≡ map (definition_front kept) definitions
+  pub read : IsFront text in_lines v definitions ls s
+
+-- the words are those of the version, these definitions, these lines and these nodes
 abbrev pub LeadsNodes : Version → List Definition → List Line → List Node → List Word → Type 0
 LeadsNodes v ds ls xs ws = Leads ws (At Nodes) (λ ns. tree_of v ds ls (xs ++ ns))
 
+-- what is kept of the definitions
 abbrev pub front_defs : Front → List Definition
 front_defs f = map definition_of f.definitions.items
 
--- what stands before the nodes was read, and the first node, which the grammar has
+-- what stands before the nodes was read, and the first node, which the grammar has; and the trees are kept of them
 pub record IsBegun (text : List ℕ) (f : Front) : Type 0 where
+  pub definitions : List Definition
+  pub first : Node
   pub tokens : List Placed
+  pub are : front_defs f ≡ map (definition_front kept) definitions
+  pub is : node_of f.first ≡ node_front kept first
   pub at : IsAt text tokens f.behind
-  pub leads : LeadsNodes f.version (front_defs f) f.lines.items (node_of f.first ∷ []) (map word_of tokens)
-  pub size : f.before ≡ front_size (front_defs f) f.lines.items
-  pub span : f.behind.tokens ≡ f.before + node_span (node_of f.first)
-  pub fits : node.fits (node_of f.first)
+  pub leads : LeadsNodes f.version definitions f.lines.items (first ∷ []) (map word_of tokens)
+  pub size : f.before ≡ front_size definitions f.lines.items
+  pub span : f.behind.tokens ≡ f.before + node_span first
+  pub fits : node.fits first
 
 -- the first flaw of a text, whose first before its nodes is this
 abbrev pub found_in : Version → List Heading → List Definition → List Line → Found → List Node → Found
@@ -97,6 +122,12 @@ pub record AreNodes (text : List ℕ) (v : Version) (hs : List Heading) (ds : Li
   pub flaw : found ≡ found_in v hs ds ls first nodes
   pub made : found ≡ None → values ≡ map (node_value hs) nodes
 
+-- the same after a front, of whose definitions these are kept
+pub record AreKeptNodes (text : List ℕ) (f : Front) (hs : List Heading) (first found : Found) (values : List FileNode) (s : Spot) : Type 0 where
+  pub definitions : List Definition
+  pub are : front_defs f ≡ map (definition_front kept) definitions
+  pub read : AreNodes text f.version hs definitions f.lines.items first found values s
+
 -- these tokens are all before the end token
 abbrev pub IsAll : List ℕ → List Placed → Type 0
 IsAll text ts = (us : List Placed) × (tokens_of text ≡ Ok (ts ++ us)) × IsTheEnd (map word_of us)
@@ -109,6 +140,12 @@ pub record AreAllNodes (text : List ℕ) (v : Version) (hs : List Heading) (ds :
   pub leads : Leads (map word_of tokens) Ended (λ u. tree_of v ds ls nodes)
   pub flaw : found ≡ found_in v hs ds ls first nodes
   pub made : found ≡ None → values ≡ map (node_value hs) nodes
+
+-- the same after a front, of whose definitions these are kept
+pub record AreAllKept (text : List ℕ) (f : Front) (hs : List Heading) (first found : Found) (values : List FileNode) : Type 0 where
+  pub definitions : List Definition
+  pub are : front_defs f ≡ map (definition_front kept) definitions
+  pub read : AreAllNodes text f.version hs definitions f.lines.items first found values
 
 -- ---- what the whole comes to
 

@@ -3,7 +3,7 @@
 ghost use Rattle.std.specs.Prelude.{◌-◌, ◌<◌, ◌^◌, [], length, false, IfOk, IfSome};
 ghost use Rattle.file_reader.specs.Wholes.{IsBegun, IsFront};
 
-use crate::part::{first_part, front_part};
+use crate::part::{KEPT, first_part, front_part};
 use cyc_grammar::Cursor;
 use cyc_lex::{Place, Stop};
 use heap_syntax::Version;
@@ -21,7 +21,8 @@ pub struct Spot<'a> {
     pub tokens: usize,
 }
 
-/// What stands before the nodes of a file, with its number of tokens; the first node, and how far the text was read.
+/// What is kept of what stands before the nodes of a file, with its number of tokens; what is kept of the first node, and how far
+/// the text was read.
 #[derive(Drop)]
 pub struct Front<'a> {
     pub version: Version,
@@ -86,7 +87,7 @@ pub fn read_front(alloc: Global, text: &str) -> Result<Option<Front<'_>>, Stop>
             rest: statement.rest,
             tokens: before + statement.tokens,
         };
-        match front_part(alloc, version, in_lines, cursor)? {
+        match front_part(alloc, KEPT, version, in_lines, cursor)? {
             None => return Ok(None),
             Some(part) => match part {
                 PredOrLater::Pred(tree) => definitions.push(tree)?,

@@ -2,12 +2,12 @@
 
 ghost use Rattle.std.specs.Prelude.{◌≡◌, ◌-◌, ◌≤◌, ◌<◌, ◌^◌, List, None, length, true, IfOk, IfSome};
 ghost use Rattle.cyc_lex.specs.Placed.{Placed};
-ghost use Rattle.file_reader.specs.Wholes.{AreAllNodes, IsAll, IsAt, IsAnswer, IsBegun, IsWhole, front_defs};
+ghost use Rattle.file_reader.specs.Wholes.{AreAllKept, IsAll, IsAt, IsAnswer, IsBegun, IsWhole};
 
 use crate::flaw_place::fault_of_flaw;
 use crate::found::{Found, take_node};
 use crate::front::{Front, Spot, read_front};
-use crate::part::{is_the_end, later_part};
+use crate::part::{KEPT, is_the_end, later_part};
 use cyc_grammar::Cursor;
 use cyc_lex::{OutOfMemory, ReadFault, Stop, count_tokens};
 use cyc_limits::MOST_PREDICATES;
@@ -58,8 +58,7 @@ fn read_nodes(
     requires few { flaw ≡ None → length heads.now ≤ MOST_PREDICATES }
     requires begun { IsBegun text.now front.now }
     ensures { IfOk result
-        (λ o. IfSome o (λ f. AreAllNodes text.now front.now.version heads.now
-        (front_defs front.now) front.now.lines.items flaw f.flaw f.nodes.items)) }
+        (λ o. IfSome o (λ f. AreAllKept text.now front.now heads.now flaw f.flaw f.nodes.items)) }
 {
     let count = front.lines.len();
     let none = Found {
@@ -89,7 +88,7 @@ fn read_nodes(
             rest: statement.rest,
             tokens: before + statement.tokens,
         };
-        match later_part(alloc, cursor)? {
+        match later_part(alloc, KEPT, cursor)? {
             None => return Ok(None),
             Some(part) => match part {
                 NodeOrEnd::Node(tree) => {

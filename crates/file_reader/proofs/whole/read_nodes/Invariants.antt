@@ -1,10 +1,10 @@
 use Rattle.std.proofs.Common.{◌≡◌, length}
-use Rattle.file_reader.specs.Wholes.{AreNodes, front_defs}
+use Rattle.file_reader.specs.Wholes.{AreKeptNodes}
 use Rattle.file_reader.proofs.whole.read_nodes.Given as goal
 
 abbrev pub invariant-nodes : goal.invariant-nodes
 invariant-nodes l = record {
-  read : AreNodes l.fn.text l.fn.front.version l.fn.heads (front_defs l.fn.front) l.fn.front.lines.items l.fn.flaw l.found.flaw l.found.nodes.items l.spot;
+  read : AreKeptNodes l.fn.text l.fn.front l.fn.heads l.fn.flaw l.found.flaw l.found.nodes.items l.spot;
   count : l.count ≡ length l.fn.front.lines.items;
 }
 

@@ -3,14 +3,20 @@ use Rattle.std.specs.Prelude.{IfSome}
 use Rattle.std.proofs.lemmas.List.{length-map}
 use Rattle.pred_defs.specs.Book.{DefinitionBook}
 use Rattle.pred_syntax.specs.declared.tree.DefinitionTree.{DefinitionTree}
-use Rattle.proof_syntax.specs.Trees.{definition_of}
+use Rattle.proof_syntax.specs.Trees.{Definition, definition_of}
 use Rattle.proof_file.specs.Building.{front_of}
-use Rattle.proof_file.specs.Flaws.{heading, headings, file_flaw}
+use Rattle.proof_file.specs.Flaws.{heading, headings, first_node, file_flaw}
 use Rattle.proof_file.specs.Values.{definition_value, program_value}
 use Rattle.file_reader.specs.Steps.{tree_of}
-use Rattle.file_reader.specs.Wholes.{AreAllNodes, IsFlawIn, front_defs}
-use Rattle.file_reader.proofs.WholeLaws.{front-few, IsTree, all-found, whole-tree, tree-few, tree-flawed}
+use Rattle.file_reader.specs.Wholes.{AreAllKept, IsFlawIn, front_defs}
+use Rattle.file_reader.proofs.WholeLaws.{begun-size, front-few, IsTree, all-found, all-kept, whole-tree, tree-few, tree-flawed}
 use Rattle.file_reader.proofs.whole.whole_of_front.Goals as goal
+
+pub front_flaw-flaw-requires-clause-fits : goal.front_flaw-flaw-requires-clause-fits
+front_flaw-flaw-requires-clause-fits c =
+    let f = c.args.front.now in
+    let size : first_node (front_of f.version (map definition_of c.deref-2.result.now) c.deref-3.result.now) ≡ first_node (front_of f.version (front_defs f) f.lines.items) = λ i. first_node (front_of f.version (map definition_of (c.deref-2.ensures.value i)) (c.deref-3.ensures.value i)) in
+    omega (arith, size, begun-size c.args.text.now f c.requires.begun)
 
 pub read_nodes-requires-clause-few : goal.read_nodes-requires-clause-few
 read_nodes-requires-clause-few c none =
@@ -27,10 +33,10 @@ fault_of_flaw-requires-clause-token c =
     let found = c.in-Some.found in
     let known : c.in_ok-heads.heads ≡ headings ds = c.in_ok-heads.ensures ∙ ap (λ (xs : List DefinitionTree). headings (map definition_of xs)) c.deref.ensures.value in
     let first : c.front_flaw-flaw.result ≡ file_flaw (tree_of f.version ds ls []) = c.front_flaw-flaw.ensures ∙ (λ i. file_flaw (front_of f.version (map definition_of (c.deref-2.ensures.value i)) (c.deref-3.ensures.value i))) in
-    let read = subst (λ o. IfSome o (λ r. AreAllNodes text f.version c.in_ok-heads.heads ds ls c.front_flaw-flaw.result r.flaw r.nodes.items)) c.in-Some.is c.in_ok-found.ensures in
+    let read = subst (λ o. IfSome o (λ r. AreAllKept text f c.in_ok-heads.heads c.front_flaw-flaw.result r.flaw r.nodes.items)) c.in-Some.is c.in_ok-found.ensures in
     let all = all-found text f c.in_ok-heads.heads c.front_flaw-flaw.result found.flaw found.nodes.items known first read in
-    let t = tree_of f.version ds ls all.nodes in
-    let tree = whole-tree text f.version ds ls found.flaw found.nodes.items all in
+    let t = tree_of f.version read.definitions ls all.nodes in
+    let tree = whole-tree text f.version read.definitions ls found.flaw found.nodes.items all in
     omega (arith, c.requires.room, tree-few text t c.in-Some-flaw.flaw (subst (IsTree text t) c.in-Some-flaw.is tree))
 
 pub returns-in-Some-2 : goal.returns-in-Some-2
@@ -42,10 +48,10 @@ returns-in-Some-2 c =
     let found = c.in-Some.found in
     let known : c.in_ok-heads.heads ≡ headings ds = c.in_ok-heads.ensures ∙ ap (λ (xs : List DefinitionTree). headings (map definition_of xs)) c.deref.ensures.value in
     let first : c.front_flaw-flaw.result ≡ file_flaw (tree_of f.version ds ls []) = c.front_flaw-flaw.ensures ∙ (λ i. file_flaw (front_of f.version (map definition_of (c.deref-2.ensures.value i)) (c.deref-3.ensures.value i))) in
-    let read = subst (λ o. IfSome o (λ r. AreAllNodes text f.version c.in_ok-heads.heads ds ls c.front_flaw-flaw.result r.flaw r.nodes.items)) c.in-Some.is c.in_ok-found.ensures in
+    let read = subst (λ o. IfSome o (λ r. AreAllKept text f c.in_ok-heads.heads c.front_flaw-flaw.result r.flaw r.nodes.items)) c.in-Some.is c.in_ok-found.ensures in
     let all = all-found text f c.in_ok-heads.heads c.front_flaw-flaw.result found.flaw found.nodes.items known first read in
-    let t = tree_of f.version ds ls all.nodes in
-    let tree = whole-tree text f.version ds ls found.flaw found.nodes.items all in
+    let t = tree_of f.version read.definitions ls all.nodes in
+    let tree = whole-tree text f.version read.definitions ls found.flaw found.nodes.items all in
     let flaw = c.in-Some-flaw.flaw in
     let told = subst (λ o. IfSome o (IsFlawIn text flaw)) c.in-Some-2.is c.in_ok-fault-in-Some-flaw.ensures in
     tree-flawed text t flaw c.in-Some-2.fault (subst (IsTree text t) c.in-Some-flaw.is tree) told
@@ -59,11 +65,11 @@ file_of_values-requires c =
     let found = c.in-Some.found in
     let known : c.in_ok-heads.heads ≡ headings ds = c.in_ok-heads.ensures ∙ ap (λ (xs : List DefinitionTree). headings (map definition_of xs)) c.deref.ensures.value in
     let first : c.front_flaw-flaw.result ≡ file_flaw (tree_of f.version ds ls []) = c.front_flaw-flaw.ensures ∙ (λ i. file_flaw (front_of f.version (map definition_of (c.deref-2.ensures.value i)) (c.deref-3.ensures.value i))) in
-    let read = subst (λ o. IfSome o (λ r. AreAllNodes text f.version c.in_ok-heads.heads ds ls c.front_flaw-flaw.result r.flaw r.nodes.items)) c.in-Some.is c.in_ok-found.ensures in
+    let read = subst (λ o. IfSome o (λ r. AreAllKept text f c.in_ok-heads.heads c.front_flaw-flaw.result r.flaw r.nodes.items)) c.in-Some.is c.in_ok-found.ensures in
     let all = all-found text f c.in_ok-heads.heads c.front_flaw-flaw.result found.flaw found.nodes.items known first read in
-    let t = tree_of f.version ds ls all.nodes in
-    let tree = whole-tree text f.version ds ls found.flaw found.nodes.items all in
-    let defs_are = c.in_ok-values-in-None-flaw.ensures.definitions ∙ (λ i. map (definition_value (known i)) (map definition_of (c.deref-in-None-flaw.ensures.value i))) in
+    let t = tree_of f.version read.definitions ls all.nodes in
+    let tree = whole-tree text f.version read.definitions ls found.flaw found.nodes.items all in
+    let defs_are = c.in_ok-values-in-None-flaw.ensures.definitions ∙ (λ i. map (definition_value (known i)) (map definition_of (c.deref-in-None-flaw.ensures.value i))) ∙ ap (λ (es : List Definition). map (definition_value (headings es)) es) (all-kept text f c.in_ok-heads.heads c.front_flaw-flaw.result found.flaw found.nodes.items first read c.in-None-flaw.is) in
     let lines_are = c.in_ok-values-in-None-flaw.ensures.program ∙ ap program_value c.deref-in-None-flaw-2.ensures.value in
     (t, tree.spelled.0, tree.flaw ∙ c.in-None-flaw.is, record { version = refl; most = c.in_ok-values-in-None-flaw.ensures.most; definitions = defs_are; program = lines_are; nodes = all.made c.in-None-flaw.is })
 
@@ -76,11 +82,11 @@ returns c =
     let found = c.in-Some.found in
     let known : c.in_ok-heads.heads ≡ headings ds = c.in_ok-heads.ensures ∙ ap (λ (xs : List DefinitionTree). headings (map definition_of xs)) c.deref.ensures.value in
     let first : c.front_flaw-flaw.result ≡ file_flaw (tree_of f.version ds ls []) = c.front_flaw-flaw.ensures ∙ (λ i. file_flaw (front_of f.version (map definition_of (c.deref-2.ensures.value i)) (c.deref-3.ensures.value i))) in
-    let read = subst (λ o. IfSome o (λ r. AreAllNodes text f.version c.in_ok-heads.heads ds ls c.front_flaw-flaw.result r.flaw r.nodes.items)) c.in-Some.is c.in_ok-found.ensures in
+    let read = subst (λ o. IfSome o (λ r. AreAllKept text f c.in_ok-heads.heads c.front_flaw-flaw.result r.flaw r.nodes.items)) c.in-Some.is c.in_ok-found.ensures in
     let all = all-found text f c.in_ok-heads.heads c.front_flaw-flaw.result found.flaw found.nodes.items known first read in
-    let t = tree_of f.version ds ls all.nodes in
-    let tree = whole-tree text f.version ds ls found.flaw found.nodes.items all in
-    let defs_are = c.in_ok-values-in-None-flaw.ensures.definitions ∙ (λ i. map (definition_value (known i)) (map definition_of (c.deref-in-None-flaw.ensures.value i))) in
+    let t = tree_of f.version read.definitions ls all.nodes in
+    let tree = whole-tree text f.version read.definitions ls found.flaw found.nodes.items all in
+    let defs_are = c.in_ok-values-in-None-flaw.ensures.definitions ∙ (λ i. map (definition_value (known i)) (map definition_of (c.deref-in-None-flaw.ensures.value i))) ∙ ap (λ (es : List Definition). map (definition_value (headings es)) es) (all-kept text f c.in_ok-heads.heads c.front_flaw-flaw.result found.flaw found.nodes.items first read c.in-None-flaw.is) in
     let lines_are = c.in_ok-values-in-None-flaw.ensures.program ∙ ap program_value c.deref-in-None-flaw-2.ensures.value in (
       tree.all,
       tree.tokens,

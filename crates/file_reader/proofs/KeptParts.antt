@@ -1,0 +1,187 @@
+-- What is kept of statements tells their flaws, and is all of them where they have none.
+use Rattle.std.proofs.Common.{◌≡◌, ℕ, ◌≤◌, Bool, true, false, List, [], Some, None, Ok, Err, refl, sym, ap, subst, ◌∙◌, arith, inl, inr, ◌⊎◌}
+use Rattle.std.specs.Prelude.{map}
+use Rattle.cyc_lex.specs.Word.{Word}
+use Rattle.cyc_grammar.specs.Syntax.{Reading, ◌>>=◌}
+use Rattle.heap_syntax.specs.declared.keep.Keep.{Keep}
+use Rattle.heap_syntax.specs.declared.version.Version.{Version}
+use Rattle.heap_syntax.specs.Versions.{most_spatial}
+use Rattle.heap_syntax.proofs.Fronts.{mapped}
+use Rattle.heap_reader.specs.Trees.{Heading}
+use Rattle.heap_reader.specs.Flaws.{Found, or_later, listed_flaw}
+use Rattle.heap_reader.proofs.Fitting.{most_fits}
+use Rattle.heap_reader.proofs.NoFlaw.{neither}
+use Rattle.pred_reader.proofs.DefinitionFlaws.{definitions_flaw, definitions_whole, same_headings}
+use Rattle.proof_syntax.specs.Trees.{Definition, Line, Node}
+use Rattle.proof_syntax.specs.Keeping.{definition_front, node_front}
+use Rattle.proof_statements.specs.Left.{Part, Preds, Lines, Nodes, Statement, statement_of, kept_statement, line_or_node_front, statement_front}
+use Rattle.proof_statements.proofs.StatementFronts.{kept-front}
+use Rattle.proof_file.specs.Flaws.{headings, definition_flaw, program_flaw, node_flaw, first_line, nodes_flaw, file_flaw}
+use Rattle.proof_file.specs.Spans.{definition_span}
+use Rattle.proof_file.specs.Values.{node_value}
+use Rattle.proof_file.proofs.NodeFlaws.{node_same, node_whole}
+use Rattle.file_reader.specs.Steps.{tree_of}
+use Rattle.file_reader.specs.Wholes.{IsPart, IsKeptPart, kept}
+
+-- ---- statements
+
+abbrev value_in : {A : Type 0} → A → Reading A → A
+value_in d (Ok x) = x.0
+value_in d (Err n) = d
+
+abbrev rest_in : {A : Type 0} → Reading A → List Word
+rest_in (Ok x) = x.1
+rest_in (Err n) = []
+
+not-read : {A : Type 0} (q : Reading A) (n : ℕ) (x : A) (rest : List Word) → q ≡ Err n → q ≡ Ok (x, rest) → ⊥
+not-read q n x rest e f = cc
+
+-- what is kept of a statement is kept of one that is read of the same words
+pub from-kept : (k : Keep) (p : Part) (ws rest : List Word) (s : Statement p) → (kept_statement k p).read ws ≡ Ok (s, rest) → (t : Statement p) × ((statement_of p).read ws ≡ Ok (t, rest)) × (statement_front k p t ≡ s)
+from-kept k p ws rest s e = by ((statement_of p).read ws) refl
+  where
+    got : ((statement_of p).read ws >>= mapped (statement_front k p)) ≡ Ok (s, rest)
+    got = sym ((kept-front k p).reads ws) ∙ e
+
+    by : (q : Reading (Statement p)) → (statement_of p).read ws ≡ q → (t : Statement p) × ((statement_of p).read ws ≡ Ok (t, rest)) × (statement_front k p t ≡ s)
+    by (Ok x) same =
+        let is = sym (ap (λ (q : Reading (Statement p)). q >>= mapped (statement_front k p)) same) ∙ got in
+        (x.0, same ∙ ap (λ (ws : List Word). Ok (x.0, ws)) (ap rest_in is), ap (value_in s) is)
+    by (Err n) same =
+        absurd (not-read ((statement_of p).read ws >>= mapped (statement_front k p)) n s rest (ap (λ (q : Reading (Statement p)). q >>= mapped (statement_front k p)) same) got)
+
+apart : {A B : Type 0} (s : A ⊎ B) (x : A) (y : B) → s ≡ inl x → s ≡ inr y → ⊥
+apart s x y e f = cc
+
+abbrev left_in : {A B : Type 0} → A → A ⊎ B → A
+left_in d (inl x) = x
+left_in d (inr y) = d
+
+abbrev right_in : {A B : Type 0} → B → A ⊎ B → B
+right_in d (inl x) = d
+right_in d (inr y) = y
+
+abbrev KeptNode : List Word → Node → Type 0
+KeptNode ws tree = (x : Node) × ((statement_of Nodes).read ws ≡ Ok (inl x, [])) × (tree ≡ node_front kept x)
+
+pub later-kept : (ws : List Word) (tree : Node) → (kept_statement kept Nodes).read ws ≡ Ok (inl tree, []) → KeptNode ws tree
+later-kept ws tree e = let t = from-kept kept Nodes ws [] (inl tree) e in by t.0 t.1 t.2
+  where
+    by : (t : Node ⊎ Unit {0}) → (statement_of Nodes).read ws ≡ Ok (t, []) → statement_front kept Nodes t ≡ inl tree → KeptNode ws tree
+    by (inl x) read same = (x, read, sym (ap (left_in tree) same))
+    by (inr u) read same = absurd (apart (statement_front kept Nodes (inr u)) tree u same refl)
+
+pub end-kept : (ws : List Word) → (kept_statement kept Nodes).read ws ≡ Ok (inr tt, []) → (statement_of Nodes).read ws ≡ Ok (inr tt, [])
+end-kept ws e = let t = from-kept kept Nodes ws [] (inr tt) e in by t.0 t.1 t.2
+  where
+    by : (t : Node ⊎ Unit {0}) → (statement_of Nodes).read ws ≡ Ok (t, []) → statement_front kept Nodes t ≡ inr tt → (statement_of Nodes).read ws ≡ Ok (inr tt, [])
+    by (inl x) read same = absurd (apart (statement_front kept Nodes (inl x)) (node_front kept x) tt refl same)
+    by (inr u) read same = read
+
+-- ---- before the nodes
+
+module _ (in_lines : Bool) (v : Version) (ws : List Word) where
+  abbrev KeptPart : Definition ⊎ (Line ⊎ Node) → Type 0
+  KeptPart s = (t : Definition ⊎ (Line ⊎ Node)) × IsPart in_lines v ws [] t × (statement_front kept (Preds v) t ≡ s)
+
+part-kept : (in_lines : Bool) (v : Version) (ws : List Word) (s : Definition ⊎ (Line ⊎ Node)) → IsKeptPart kept in_lines v ws [] s → KeptPart in_lines v ws s
+part-kept false v ws s e = from-kept kept (Preds v) ws [] s e
+part-kept true v ws (inl d) e = absurd e
+part-kept true v ws (inr s) e =
+    let t = from-kept kept (Lines v) ws [] s e in
+    (inr t.0, t.1, ap (λ (x : Line ⊎ Node). inr x) t.2)
+
+module _ (in_lines : Bool) (v : Version) (ws : List Word) where
+  abbrev KeptPred : Definition → Type 0
+  KeptPred tree = (x : Definition) × IsPart in_lines v ws [] (inl x) × (tree ≡ definition_front kept x)
+
+  pub pred-kept : (tree : Definition) → IsKeptPart kept in_lines v ws [] (inl tree) → KeptPred tree
+  pred-kept tree e = let t = part-kept in_lines v ws (inl tree) e in by t.0 t.1 t.2
+    where
+      by : (t : Definition ⊎ (Line ⊎ Node)) → IsPart in_lines v ws [] t → statement_front kept (Preds v) t ≡ inl tree → KeptPred tree
+      by (inl x) read same = (x, read, sym (ap (left_in tree) same))
+      by (inr s) read same = absurd (apart (statement_front kept (Preds v) (inr s)) tree (line_or_node_front kept s) same refl)
+
+  later-part : (s : Line ⊎ Node) → IsKeptPart kept in_lines v ws [] (inr s) → (t : Line ⊎ Node) × IsPart in_lines v ws [] (inr t) × (line_or_node_front kept t ≡ s)
+  later-part s e = let t = part-kept in_lines v ws (inr s) e in by t.0 t.1 t.2
+    where
+      by : (t : Definition ⊎ (Line ⊎ Node)) → IsPart in_lines v ws [] t → statement_front kept (Preds v) t ≡ inr s → (t : Line ⊎ Node) × IsPart in_lines v ws [] (inr t) × (line_or_node_front kept t ≡ s)
+      by (inl x) read same = absurd (apart (statement_front kept (Preds v) (inl x)) (definition_front kept x) s refl same)
+      by (inr t) read same = (t, read, ap (right_in s) same)
+
+  pub line-kept : (l : Line) → IsKeptPart kept in_lines v ws [] (inr (inl l)) → IsPart in_lines v ws [] (inr (inl l))
+  line-kept l e = let t = later-part (inl l) e in by t.0 t.1 t.2
+    where
+      by : (t : Line ⊎ Node) → IsPart in_lines v ws [] (inr t) → line_or_node_front kept t ≡ inl l → IsPart in_lines v ws [] (inr (inl l))
+      by (inl x) read same = subst (λ (x : Line). IsPart in_lines v ws [] (inr (inl x))) (ap (left_in l) same) read
+      by (inr x) read same = absurd (apart (line_or_node_front kept (inr x)) l (node_front kept x) same refl)
+
+  pub node-kept : (tree : Node) → IsKeptPart kept in_lines v ws [] (inr (inr tree)) → (x : Node) × IsPart in_lines v ws [] (inr (inr x)) × (tree ≡ node_front kept x)
+  node-kept tree e = let t = later-part (inr tree) e in by t.0 t.1 t.2
+    where
+      by : (t : Line ⊎ Node) → IsPart in_lines v ws [] (inr t) → line_or_node_front kept t ≡ inr tree → (x : Node) × IsPart in_lines v ws [] (inr (inr x)) × (tree ≡ node_front kept x)
+      by (inl x) read same = absurd (apart (line_or_node_front kept (inl x)) x tree refl same)
+      by (inr x) read same = (x, read, sym (ap (right_in tree) same))
+
+-- ---- flaws
+
+all-within : 64 ≤ 64
+all-within = omega arith
+
+few-within : 16 ≤ 64
+few-within = omega arith
+
+module _ (v : Version) (hs : List Heading) where
+  spatials-within : most_spatial v ≤ 64
+  spatials-within = omega (arith, most_fits v)
+
+  abbrev flaw_of : ℕ → ℕ → ℕ → Node → Found
+  flaw_of = node_flaw (most_spatial v) hs
+
+  module _ (count n k : ℕ) (tree x : Node) (is : tree ≡ node_front kept x) where
+    same-flaw : flaw_of count n k tree ≡ flaw_of count n k x
+    same-flaw = ap (flaw_of count n k) is ∙ node_same (most_spatial v) 64 all-within spatials-within few-within hs count n k x
+
+    same-node : flaw_of count n k tree ≡ None → tree ≡ x
+    same-node none = is ∙ node_whole (most_spatial v) 64 all-within spatials-within few-within hs count n k x (sym same-flaw ∙ none)
+
+    -- behind what was found before
+    pub same-found : (old found : Found) → found ≡ or_later old (flaw_of count n k tree) → found ≡ or_later old (flaw_of count n k x)
+    same-found old found e = e ∙ ap (or_later old) same-flaw
+
+    pub same-value : (old found : Found) → found ≡ or_later old (flaw_of count n k tree) → found ≡ None → node_value hs tree ≡ node_value hs x
+    same-value old found e none = ap (node_value hs) (same-node (neither old (flaw_of count n k tree) (sym e ∙ none)).1)
+
+-- ---- flaws of what stands before the nodes
+
+pub kept-headings : (ds : List Definition) → headings (map (definition_front kept) ds) ≡ headings ds
+kept-headings ds = same_headings 64 ds
+
+module _ (v : Version) (ds : List Definition) (ls : List Line) where
+  abbrev trees : List Definition
+  trees = map (definition_front kept) ds
+
+  abbrev defs_found : List Definition → Found
+  defs_found es = listed_flaw (definition_flaw (most_spatial v) (headings ds)) definition_span 0 4 es
+
+  abbrev rest_found : List Definition → Found
+  rest_found es = or_later (program_flaw (first_line (tree_of v es ls [])) ls) (nodes_flaw (tree_of v es ls []))
+
+  defs-same : defs_found trees ≡ defs_found ds
+  defs-same = definitions_flaw (most_spatial v) 64 all-within (spatials-within v []) few-within (headings ds) 0 4 ds
+
+  defs-whole : defs_found ds ≡ None → trees ≡ ds
+  defs-whole none = definitions_whole (most_spatial v) 64 all-within (spatials-within v []) few-within (headings ds) 0 4 ds none
+
+  both-found : (o : Found) → defs_found ds ≡ o → or_later (defs_found trees) (rest_found trees) ≡ or_later (defs_found ds) (rest_found ds)
+  both-found None e = (λ i. or_later (defs-same i) (rest_found (defs-whole e i)))
+  both-found (Some flaw) e = ap (λ o. or_later o (rest_found trees)) (defs-same ∙ e) ∙ sym (ap (λ o. or_later o (rest_found ds)) e)
+
+  -- the first flaw before the nodes shows in what is kept
+  pub kept-flaw : file_flaw (tree_of v trees ls []) ≡ file_flaw (tree_of v ds ls [])
+  kept-flaw =
+      ap (λ (hs : List Heading). or_later (listed_flaw (definition_flaw (most_spatial v) hs) definition_span 0 4 trees) (rest_found trees)) (kept-headings ds)
+      ∙ both-found (defs_found ds) refl
+
+  pub whole-front : file_flaw (tree_of v ds ls []) ≡ None → trees ≡ ds
+  whole-front none = defs-whole (neither (defs_found ds) (rest_found ds) none).0
