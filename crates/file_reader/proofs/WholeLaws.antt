@@ -85,7 +85,7 @@ unfolding line_or_node
 part-node-fits false v vs n e = ((statement-law (Preds v)).takes vs (inr (inr n), []) e).2
 part-node-fits true v vs n e = node-read v vs n e
 
-pub later-node-fits : (vs : List Word) (n : Node) → (statement_of Nodes).read vs ≡ Ok (inl n, []) → node.fits n
+later-node-fits : (vs : List Word) (n : Node) → (statement_of Nodes).read vs ≡ Ok (inl n, []) → node.fits n
 later-node-fits vs n e = ((statement-law Nodes).takes vs (inl n, []) e).2
 
 -- ---- where the words lead
@@ -157,7 +157,7 @@ module _ (text : List ℕ) (in_lines : Bool) (v : Version) (ds : List Definition
   abbrev vs : List Word
   vs = map word_of (new_tokens s t)
 
-  pub front-pred : (d : Definition) → IsPart in_lines v vs [] (inl d) → IsFront text in_lines v (ds ++ d ∷ []) ls (on text s f.tokens f.at t k)
+  front-pred : (d : Definition) → IsPart in_lines v vs [] (inl d) → IsFront text in_lines v (ds ++ d ∷ []) ls (on text s f.tokens f.at t k)
   front-pred d e =
       record {
         tokens = f.tokens ++ new_tokens s t;
@@ -166,7 +166,7 @@ module _ (text : List ℕ) (in_lines : Bool) (v : Version) (ds : List Definition
         size = omega (arith, f.size, size-of text s f.tokens f.at t k (definition_span d) (part-span in_lines v vs (inl d) e), total-more definition_span ds d);
       }
 
-  pub front-line : (l : Line) → IsPart in_lines v vs [] (inr (inl l)) → IsFront text true v ds (ls ++ l ∷ []) (on text s f.tokens f.at t k)
+  front-line : (l : Line) → IsPart in_lines v vs [] (inr (inl l)) → IsFront text true v ds (ls ++ l ∷ []) (on text s f.tokens f.at t k)
   front-line l e =
       record {
         tokens = f.tokens ++ new_tokens s t;
@@ -257,7 +257,7 @@ front-few v ds ls none =
     (definitions_small (most_spatial v) (most_fits v) (headings ds) 4 ds defs.0).1
 
 -- where there is no flaw, there is none before the nodes
-pub nodes-none : (text : List ℕ) (v : Version) (hs : List Heading) (ds : List Definition) (ls : List Line) (first found : Found) (values : List FileNode) (s : Spot) → AreNodes text v hs ds ls first found values s → found ≡ None → first ≡ None
+nodes-none : (text : List ℕ) (v : Version) (hs : List Heading) (ds : List Definition) (ls : List Line) (first found : Found) (values : List FileNode) (s : Spot) → AreNodes text v hs ds ls first found values s → found ≡ None → first ≡ None
 nodes-none text v hs ds ls first found values s f none =
     (neither first (listed_flaw (node_flaw (most_spatial v) hs (length ls)) node_span 0 (front_size ds ls) f.nodes) (sym f.flaw ∙ none)).0
 
@@ -309,7 +309,7 @@ module _ (text : List ℕ) (v : Version) (hs : List Heading) (ds : List Definiti
       by (Some flaw) is = refl
       by None is = λ i. node_flaw (most_spatial v) hs (length ls) (nodes-number is i) (f.size i) x
 
-  pub nodes-more : (x : Node) (next : Found) (all : List FileNode) → (statement_of Nodes).read us ≡ Ok (inl x, []) → next ≡ or_later found (node_flaw (most_spatial v) hs (length ls) (length values) s.tokens x) → (next ≡ None → all ≡ values ++ node_value hs x ∷ [])
+  nodes-more : (x : Node) (next : Found) (all : List FileNode) → (statement_of Nodes).read us ≡ Ok (inl x, []) → next ≡ or_later found (node_flaw (most_spatial v) hs (length ls) (length values) s.tokens x) → (next ≡ None → all ≡ values ++ node_value hs x ∷ [])
       → AreNodes text v hs ds ls first next all (on text s f.tokens f.at t k)
   nodes-more x next all e flaw more =
       record {
@@ -325,11 +325,11 @@ module _ (text : List ℕ) (v : Version) (hs : List Heading) (ds : List Definiti
             more none ∙ ap (λ (xs : List FileNode). xs ++ node_value hs x ∷ []) (f.made old) ∙ sym (map_push (node_value hs) f.nodes x);
       }
 
-  pub nodes-span : (x : Node) → (statement_of Nodes).read us ≡ Ok (inl x, []) → s.tokens + node_span x ≤ length text
+  nodes-span : (x : Node) → (statement_of Nodes).read us ≡ Ok (inl x, []) → s.tokens + node_span x ≤ length text
   nodes-span x e =
       omega (arith, at-few text s f.tokens f.at t k, size-of text s f.tokens f.at t k (node_span x) (statement-span Nodes us (inl x) e))
 
-  pub nodes-end : (statement_of Nodes).read us ≡ Ok (inr tt, []) → IsAll text (f.tokens ++ new_tokens s t) → AreAllNodes text v hs ds ls first found values
+  nodes-end : (statement_of Nodes).read us ≡ Ok (inr tt, []) → IsAll text (f.tokens ++ new_tokens s t) → AreAllNodes text v hs ds ls first found values
   nodes-end e all =
       record {
         nodes = f.nodes;

@@ -122,7 +122,7 @@ pub record AreNodes (text : List ℕ) (v : Version) (hs : List Heading) (ds : Li
   pub flaw : found ≡ found_in v hs ds ls first nodes
   pub made : found ≡ None → values ≡ map (node_value hs) nodes
 
--- the same after a front, of whose definitions these are kept
+-- the same after a front whose trees are kept of these definitions
 pub record AreKeptNodes (text : List ℕ) (f : Front) (hs : List Heading) (first found : Found) (values : List FileNode) (s : Spot) : Type 0 where
   pub definitions : List Definition
   pub are : front_defs f ≡ map (definition_front kept) definitions
@@ -141,7 +141,7 @@ pub record AreAllNodes (text : List ℕ) (v : Version) (hs : List Heading) (ds :
   pub flaw : found ≡ found_in v hs ds ls first nodes
   pub made : found ≡ None → values ≡ map (node_value hs) nodes
 
--- the same after a front, of whose definitions these are kept
+-- the same after a front whose trees are kept of these definitions
 pub record AreAllKept (text : List ℕ) (f : Front) (hs : List Heading) (first found : Found) (values : List FileNode) : Type 0 where
   pub definitions : List Definition
   pub are : front_defs f ≡ map (definition_front kept) definitions

@@ -42,7 +42,8 @@ fn read_part<'a>(
     in_lines: bool,
     cursor: &mut Cursor<'_, 'a>,
 ) -> Result<PredOrLater<'a>, Refusal>
-    ensures { IfOk result (λ s. IsKeptPart keep in_lines version cursor.old cursor.new (pred_or_later_of s)) }
+    ensures { IfOk result
+        (λ s. IsKeptPart keep in_lines version cursor.old cursor.new (pred_or_later_of s)) }
 {
     if in_lines {
         return Ok(PredOrLater::Later(kept_line_or_node(alloc, keep, version, cursor)?));
@@ -59,7 +60,8 @@ pub fn front_part<'a>(
     in_lines: bool,
     cursor: Cursor<'_, 'a>,
 ) -> Result<Option<PredOrLater<'a>>, OutOfMemory>
-    ensures { IfOk result (λ o. IfSome o (λ s. IsKeptPart keep in_lines version cursor.entry [] (pred_or_later_of s))) }
+    ensures { IfOk result
+        (λ o. IfSome o (λ s. IsKeptPart keep in_lines version cursor.entry [] (pred_or_later_of s))) }
 {
     let mut cursor = cursor;
     match read_part(alloc, keep, version, in_lines, &mut cursor) {
@@ -80,7 +82,8 @@ pub fn later_part<'a>(
     keep: Keep,
     cursor: Cursor<'_, 'a>,
 ) -> Result<Option<NodeOrEnd<'a>>, OutOfMemory>
-    ensures { IfOk result (λ o. IfSome o (λ s. (kept_statement keep Nodes).read cursor.entry ≡ Ok (node_or_end_of s, []))) }
+    ensures { IfOk result
+        (λ o. IfSome o (λ s. (kept_statement keep Nodes).read cursor.entry ≡ Ok (node_or_end_of s, []))) }
 {
     let mut cursor = cursor;
     match kept_node_or_end(alloc, keep, &mut cursor) {
