@@ -37,7 +37,7 @@ not-read : {A : Type 0} (q : Reading A) (n : ℕ) (x : A) (rest : List Word) →
 not-read q n x rest e f = cc
 
 -- what is kept of a statement is kept of one that is read of the same words
-pub from-kept : (k : Keep) (p : Part) (ws rest : List Word) (s : Statement p) → (kept_statement k p).read ws ≡ Ok (s, rest) → (t : Statement p) × ((statement_of p).read ws ≡ Ok (t, rest)) × (statement_front k p t ≡ s)
+from-kept : (k : Keep) (p : Part) (ws rest : List Word) (s : Statement p) → (kept_statement k p).read ws ≡ Ok (s, rest) → (t : Statement p) × ((statement_of p).read ws ≡ Ok (t, rest)) × (statement_front k p t ≡ s)
 from-kept k p ws rest s e = by ((statement_of p).read ws) refl
   where
     got : ((statement_of p).read ws >>= mapped (statement_front k p)) ≡ Ok (s, rest)
