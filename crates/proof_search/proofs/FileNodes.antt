@@ -1,6 +1,6 @@
 -- A derivation's nodes as a file's.
 use Rattle.std.proofs.Common.{◌≡◌, ℕ, zero, suc, ◌+◌, ◌≤◌, List, [], ◌∷◌, map, Option, Some, slice_get, length, arith, refl, sym, ap, ◌∙◌}
-use Rattle.std.proofs.lemmas.Option.{slice_get_within}
+use Rattle.std.proofs.lemmas.Option.{slice_get_within, same_Some}
 use Rattle.heap_formula.specs.declared.proof_rules.Reason.{Reason}
 use Rattle.heap_formula.specs.declared.proof_rules.Reason.TheVariants.{Step, Back}
 use Rattle.trace_pairs.specs.Graph.{Node, Edge}
@@ -54,9 +54,6 @@ get_within [] v h ne = absurd (ne (omega (arith, h)))
 get_within (x ∷ xs) zero h ne = (x, refl)
 get_within (x ∷ xs) (suc v) h ne = get_within xs v (omega (arith, h)) (λ e. ne (ap suc e))
 
-pub some_is : {X : Type 0} (x y : X) → Some x ≡ Some y → x ≡ y
-some_is x y e = cc
-
 -- what the code makes of a derivation without open goals
 pub nodes_are : (s : Derivation) → IsInOrder s → goals_in s ≡ [] → file_nodes_from s.graph 0 s.made.items ≡ nodes_made (theory_in s) (nodes_in s)
 nodes_are s order closed =
@@ -68,7 +65,7 @@ nodes_are s order closed =
         let within = slice_get_within (traces_of (theory_in s) (nodes_in s)) v n at_n in
         let m = get_within (nodes_in s) v (omega (arith, within, length-traces_of (theory_in s) (nodes_in s))) (λ e. omega (arith, e, within, length-traces_of (theory_in s) (nodes_in s))) in
         let slots = made_slots (theory_in s) s.root (reasons_in s) (tableau_in s) order.is.problem order.is.replayed v m.0 m.1 in
-        (slots.node, ap (slice_get (made_graph (theory_in s) (nodes_in s))) (omega arith) ∙ slots.is_node, slots.filled_by ∙ ap (λ (x : Node). map (λ (e : Edge). e.target) x.edges) (some_is slots.traces n (sym slots.is_traces ∙ at_n)))
+        (slots.node, ap (slice_get (made_graph (theory_in s) (nodes_in s))) (omega arith) ∙ slots.is_node, slots.filled_by ∙ ap (λ (x : Node). map (λ (e : Edge). e.target) x.edges) (same_Some slots.traces n (sym slots.is_traces ∙ at_n)))
 
 -- the graph has a node for each that is made
 pub graph_long : (s : Derivation) → IsInOrder s → goals_in s ≡ [] → length s.made.items ≤ length s.graph

@@ -1,6 +1,6 @@
 -- What is found is a proof of the problem's goal.
 use Rattle.std.proofs.Common.{◌≡◌, ℕ, ◌<◌, ◌≤◌, List, [], ◌∷◌, map, Some, slice_get, length, arith, sym, ap, subst, ◌∙◌}
-use Rattle.std.proofs.lemmas.Option.{slice_get_within}
+use Rattle.std.proofs.lemmas.Option.{slice_get_within, same_Some}
 use Rattle.std.proofs.lemmas.Bool.{and_parts, leb-true}
 use Rattle.std.specs.Prelude.{nat_le}
 use Rattle.heap_formula.specs.declared.judgements.Judgement.{Judgement}
@@ -20,7 +20,7 @@ use Rattle.proof_file.specs.declared.node.FileNode.{FileNode}
 use Rattle.proof_check.specs.Files.{graph_of, AreRight, nodes_of, node_of, HasSmallHeaps}
 use Rattle.proof_check.specs.Verdicts.{IsCorrect}
 use Rattle.proof_graph.proofs.Joined.{mapped_at}
-use Rattle.node_reasons.proofs.RightGraphs.{each_at}
+use Rattle.formula_facts.proofs.AllMembers.{each_at}
 use Rattle.proof_check.proofs.KeptFacts.{root_holds}
 use Rattle.rule_table.specs.Nodes.{Node}
 use Rattle.heap_syntax.specs.declared.version.Version.{Version}
@@ -40,7 +40,7 @@ use Rattle.found_files.proofs.Found.{makes_proof}
 use Rattle.derivation_moves.specs.declared.derivation.Derivation.{Derivation}
 use Rattle.derivation_moves.specs.Derivations.{theory_in, nodes_in, goals_in, reasons_in, tableau_in, about, IsInOrder, IsItsSearch}
 use Rattle.proof_search.specs.Outcomes.{theory_for, search_for, reasons_of, IsProofFor}
-use Rattle.proof_search.proofs.FileNodes.{reasons_made, some_is}
+use Rattle.proof_search.proofs.FileNodes.{reasons_made}
 
 -- the limit of each version
 some_atoms : (version : Version) → 0 < most_spatial version
@@ -76,7 +76,7 @@ has_found problem moves most depth order is_about limits found =
     let same_root = ap (λ (x : _). x.1.1) is_about in
     let same : theory_in moves ≡ theory_for problem = λ i. record { most = (same_defs i).most; definitions = (same_defs i).list; lines = same_program i } in
     let makes = makes_proof (theory_for problem) problem.goal most depth (reasons_in moves) limits (sym found) in
-    let both : makes.tableau ≡ tableau_in moves = some_is makes.tableau (tableau_in moves) (sym makes.made ∙ ((λ i. replay (calculus_of (sym same i)) (sym same_root i) (reasons_in moves)) ∙ order.is.replayed)) in
+    let both : makes.tableau ≡ tableau_in moves = same_Some makes.tableau (tableau_in moves) (sym makes.made ∙ ((λ i. replay (calculus_of (sym same i)) (sym same_root i) (reasons_in moves)) ∙ order.is.replayed)) in
     record {
       same_theory = same;
       closed = sym (ap (λ (b : Tableau Judgement Reason). b.goals) both) ∙ makes.closed;
