@@ -71,10 +71,10 @@ later-kept ws tree e = let t = from-kept kept Nodes ws [] (inl tree) e in by t.0
     by (inl x) read same = (x, read, sym (ap (left_in tree) same))
     by (inr u) read same = absurd (apart (statement_front kept Nodes (inr u)) tree u same refl)
 
-pub end-kept : (ws : List Word) → (kept_statement kept Nodes).read ws ≡ Ok (inr tt, []) → (statement_of Nodes).read ws ≡ Ok (inr tt, [])
-end-kept ws e = let t = from-kept kept Nodes ws [] (inr tt) e in by t.0 t.1 t.2
+pub end-kept : (ws rest : List Word) → (kept_statement kept Nodes).read ws ≡ Ok (inr tt, rest) → (statement_of Nodes).read ws ≡ Ok (inr tt, rest)
+end-kept ws rest e = let t = from-kept kept Nodes ws rest (inr tt) e in by t.0 t.1 t.2
   where
-    by : (t : Node ⊎ Unit {0}) → (statement_of Nodes).read ws ≡ Ok (t, []) → statement_front kept Nodes t ≡ inr tt → (statement_of Nodes).read ws ≡ Ok (inr tt, [])
+    by : (t : Node ⊎ Unit {0}) → (statement_of Nodes).read ws ≡ Ok (t, rest) → statement_front kept Nodes t ≡ inr tt → (statement_of Nodes).read ws ≡ Ok (inr tt, rest)
     by (inl x) read same = absurd (apart (statement_front kept Nodes (inl x)) (node_front kept x) tt refl same)
     by (inr u) read same = read
 

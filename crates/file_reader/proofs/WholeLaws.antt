@@ -24,16 +24,16 @@ use Rattle.heap_reader.specs.Trees.{Heading}
 use Rattle.heap_reader.specs.Flaws.{Found, or_later, listed_flaw}
 use Rattle.heap_reader.specs.Spans.{total, line_span}
 use Rattle.proof_syntax.specs.Trees.{Definition, Line, Node, File}
-use Rattle.proof_syntax.specs.Grammar.{node, file}
+use Rattle.proof_syntax.specs.Grammar.{last_word, semicolon, node, file}
 use Rattle.proof_syntax.specs.Keeping.{definition_front}
 use Rattle.proof_syntax.proofs.GrammarLaws.{file-law}
-use Rattle.proof_statements.specs.Left.{First, Preds, Lines, Nodes, At, Ended, Left, statement_of, kept_statement, joined, line_or_node}
+use Rattle.proof_statements.specs.Left.{First, Preds, Lines, Nodes, At, Ended, Left, statement_of, kept_statement, joined, line_or_node, last_statement}
 use Rattle.proof_statements.proofs.LeftLaws.{statement-law}
 use Rattle.proof_file.specs.Flaws.{headings, definition_flaw, program_flaw, node_flaw, nodes_flaw, first_line, first_node, file_flaw}
 use Rattle.proof_file.specs.Spans.{definition_span, variable_span, node_span}
 use Rattle.file_reader.specs.declared.front.Spot.{Spot}
 use Rattle.file_reader.specs.Steps.{Leads, tree_of, span_of}
-use Rattle.file_reader.specs.Wholes.{IsPart, IsKeptPart, kept, IsTheEnd, IsAt, LeadsFront, front_size, front_defs, IsFront, IsKeptFront, IsBegun, LeadsNodes, IsAll, found_in, AreNodes, AreKeptNodes, AreAllNodes, AreAllKept, StandsIn, IsFlawIn, IsWhole, IsAnswer}
+use Rattle.file_reader.specs.Wholes.{IsPart, IsKeptPart, kept, IsTheEnd, IsAt, LeadsFront, front_size, front_defs, IsFront, IsKeptFront, IsBegun, LeadsNodes, IsAll, IsLastLeft, found_in, AreNodes, AreKeptNodes, AreAllNodes, AreAllKept, StandsIn, IsFlawIn, IsWhole, IsAnswer}
 use Rattle.file_reader.specs.declared.whole.Whole.{Whole}
 use Rattle.file_reader.specs.declared.whole.Whole.TheVariants as wholes
 use Rattle.file_reader.specs.Outcomes.{item_fault}
@@ -375,8 +375,57 @@ module _ (text : List ℕ) (f : Front) (hs : List Heading) (first found : Found)
   kept-end e all = record {
     definitions = r.definitions;
     are = r.are;
-    read = nodes-end text f.version hs r.definitions f.lines.items first found values s r.read t k (end-kept kept_us e) all;
+    read = nodes-end text f.version hs r.definitions f.lines.items first found values s r.read t k (end-kept kept_us [] e) all;
   }
+
+-- ---- the last statement
+
+-- its words are two
+last-words : (ws rest : List Word) → (statement_of Nodes).read ws ≡ Ok (inr tt, rest) → ws ≡ last_word.word tt ∷ semicolon.word tt ∷ rest
+unfolding last_statement
+last-words ws rest e = ((statement-law Nodes).takes ws (inr tt, rest) e).0
+
+last-read : (statement_of Nodes).read (last_word.word tt ∷ semicolon.word tt ∷ []) ≡ Ok (inr tt, [])
+unfolding last_statement
+last-read = refl
+
+-- tokens of which the first two have these words
+record Parted (us : List Placed) (a b : Word) (rest : List Word) : Type 0 where
+  front : List Placed
+  left : List Placed
+  are : us ≡ front ++ left
+  words : map word_of front ≡ a ∷ b ∷ []
+  others : map word_of left ≡ rest
+
+parted : (us : List Placed) (a b : Word) (rest : List Word) → map word_of us ≡ a ∷ b ∷ rest → Parted us a b rest
+parted [] a b rest e = absurd cc
+parted (x ∷ []) a b rest e = absurd cc
+parted (x ∷ y ∷ zs) a b rest e =
+    let first : word_of x ≡ a = cc in
+    let second : word_of y ≡ b = cc in
+    let others : map word_of zs ≡ rest = cc in
+    record { front = x ∷ y ∷ []; left = zs; are = refl; words = λ i. first i ∷ second i ∷ []; others = others }
+
+module _ (text : List ℕ) (v : Version) (hs : List Heading) (ds : List Definition) (ls : List Line) (first found : Found) (values : List FileNode) (s : Spot) (f : AreNodes text v hs ds ls first found values s) where
+  nodes-last : (us : List Placed) (rest : List Word) → tokens_of text ≡ Ok (f.tokens ++ us) → (statement_of Nodes).read (map word_of us) ≡ Ok (inr tt, rest) → IsTheEnd rest → AreAllNodes text v hs ds ls first found values
+  nodes-last us rest tokens e end =
+      let w = parted us (last_word.word tt) (semicolon.word tt) rest (last-words (map word_of us) rest e) in
+      let read : (statement_of Nodes).read (map word_of w.front) ≡ Ok (inr tt, []) = ap (statement_of Nodes).read w.words ∙ last-read in
+      record {
+        nodes = f.nodes;
+        tokens = f.tokens ++ w.front;
+        at = (w.left, tokens ∙ ap (λ (zs : List Placed). Ok (f.tokens ++ zs)) w.are ∙ ap (λ (zs : List Placed). Ok zs) (sym (append_assoc f.tokens w.front w.left)), subst IsTheEnd (sym w.others) end);
+        leads = subst (λ (ws : List Word). Leads ws Ended (λ u. tree_of v ds ls f.nodes)) (sym (map-append word_of f.tokens w.front)) (later-end v ds ls f.nodes (map word_of f.tokens) (map word_of w.front) f.leads read);
+        flaw = f.flaw;
+        made = f.made;
+      }
+
+pub kept-last : (text : List ℕ) (f : Front) (hs : List Heading) (first found : Found) (values : List FileNode) (s : Spot) (r : AreKeptNodes text f hs first found values s) → IsLastLeft text r.read.tokens → AreAllKept text f hs first found values
+kept-last text f hs first found values s r h = record {
+  definitions = r.definitions;
+  are = r.are;
+  read = nodes-last text f.version hs r.definitions f.lines.items first found values s r.read h.0 h.2.0 h.1 (end-kept (map word_of h.0) h.2.0 h.2.1) h.2.2;
+}
 
 -- ---- the end of the text
 

@@ -132,6 +132,11 @@ pub record AreKeptNodes (text : List ℕ) (f : Front) (hs : List Heading) (first
 abbrev pub IsAll : List ℕ → List Placed → Type 0
 IsAll text ts = (us : List Placed) × (tokens_of text ≡ Ok (ts ++ us)) × IsTheEnd (map word_of us)
 
+-- behind these tokens the last statement and the end token are left
+abbrev pub IsLastLeft : List ℕ → List Placed → Type 0
+IsLastLeft text ts =
+    (us : List Placed) × (tokens_of text ≡ Ok (ts ++ us)) × ((rest : List Word) × ((kept_statement kept Nodes).read (map word_of us) ≡ Ok (inr tt, rest)) × IsTheEnd rest)
+
 -- all was read, to the end of the text
 pub record AreAllNodes (text : List ℕ) (v : Version) (hs : List Heading) (ds : List Definition) (ls : List Line) (first found : Found) (values : List FileNode) : Type 0 where
   pub nodes : List Node

@@ -2,20 +2,20 @@
 
 ghost use Rattle.std.specs.Prelude.{◌≡◌, ◌-◌, ◌≤◌, ◌<◌, ◌^◌, List, None, length, true, IfOk, IfSome};
 ghost use Rattle.cyc_lex.specs.Placed.{Placed};
-ghost use Rattle.file_reader.specs.Wholes.{AreAllKept, IsAll, IsAt, IsAnswer, IsBegun, IsWhole};
+ghost use Rattle.file_reader.specs.Wholes.{AreAllKept, IsAll, IsAt, IsAnswer, IsBegun, IsLastLeft, IsWhole};
 
 use crate::flaw_place::fault_of_flaw;
 use crate::found::{Found, take_node};
 use crate::front::{Front, Spot, read_front};
 use crate::part::{KEPT, is_the_end, later_part};
-use cyc_grammar::Cursor;
+use cyc_grammar::{Cursor, Refusal};
 use cyc_lex::{OutOfMemory, ReadFault, Stop, count_tokens};
 use cyc_limits::MOST_PREDICATES;
 use heap_reader::{Flaw, Heads};
 use piecewise_lex::{pass_statement, valid_front};
 use pred_reader::heads;
 use proof_file::{ProofFile, file_of_values, front_flaw, front_values};
-use proof_statements::NodeOrEnd;
+use proof_statements::{NodeOrEnd, kept_node_or_end};
 use std::alloc::Global;
 
 /// What a text that the grammar has comes to: the file that it says, or its first flaw.
@@ -43,6 +43,21 @@ fn ends(text: &str, spot: &Spot<'_>) -> Result<bool, Stop>
     let count = count_tokens(spot.place, spot.comment, spot.rest)?;
     let cursor = Cursor::of_text(spot.place, spot.comment, spot.rest, count);
     Ok(is_the_end(cursor))
+}
+
+/// Whether nothing but the last statement and the end of the text is left. Where its `;` is the text's last byte, it has not
+/// ended for a reader to whom more may come.
+fn is_last(alloc: Global, text: &str, spot: &Spot<'_>) -> Result<bool, Stop>
+    requires { (ts : List Placed) × IsAt text.now ts spot.now }
+    ensures { IfOk result (λ b. b ≡ true → (ts : List Placed) → IsAt text.now ts spot.now → IsLastLeft text.now ts) }
+{
+    let count = count_tokens(spot.place, spot.comment, spot.rest)?;
+    let mut cursor = Cursor::of_text(spot.place, spot.comment, spot.rest, count);
+    match kept_node_or_end(alloc, KEPT, &mut cursor) {
+        Ok(NodeOrEnd::End) => Ok(is_the_end(cursor)),
+        Ok(NodeOrEnd::Node(_)) | Err(Refusal::Dead(_)) => Ok(false),
+        Err(Refusal::OutOfMemory) => Err(Stop::OutOfMemory),
+    }
 }
 
 /// What is found of the nodes, the first of which was read, where this is the first flaw before them; none where the text has a
@@ -78,6 +93,9 @@ fn read_nodes(
     'nodes: loop {
         let statement = pass_statement(spot.place, spot.comment, spot.rest)?;
         if !statement.ended {
+            if is_last(alloc, text, &spot)? {
+                return Ok(Some(found));
+            }
             return Ok(None);
         }
         let cursor = Cursor::of_text(spot.place, spot.comment, spot.rest, statement.tokens);

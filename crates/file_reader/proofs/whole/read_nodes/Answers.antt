@@ -15,7 +15,7 @@ use Rattle.proof_file.specs.Flaws.{node_flaw}
 use Rattle.proof_file.specs.Values.{node_value}
 use Rattle.file_reader.specs.Wholes.{kept}
 use Rattle.file_reader.proofs.ScanLaws.{tokens-of-lexemes, ended-some, span-size}
-use Rattle.file_reader.proofs.WholeLaws.{new_tokens, at-few, at-more, begun-fits, begun-span, kept-begin, kept-none, later-fits, later-span, kept-more, kept-end}
+use Rattle.file_reader.proofs.WholeLaws.{new_tokens, at-few, at-more, begun-fits, begun-span, kept-begin, kept-none, later-fits, later-span, kept-more, kept-end, kept-last}
 use Rattle.file_reader.proofs.whole.read_nodes.Goals as goal
 
 pub nodes-init : goal.nodes-init
@@ -64,13 +64,18 @@ ends-requires c =
 
 pub returns-then-branch : goal.returns-then-branch
 returns-then-branch c =
+    let r = c.nodes.invariant.read in
+    kept-last c.args.text.now c.args.front.now c.args.heads.now c.args.flaw c.nodes.found.flaw c.nodes.found.nodes.items c.nodes.spot r (c.in_ok-is_last.ensures c.if-branch.true r.read.tokens r.read.at)
+
+pub returns-then-branch-2 : goal.returns-then-branch-2
+returns-then-branch-2 c =
     let P : NodeOrEnd → Type 0 = λ s. (kept_statement kept Nodes).read (text_words c.nodes.spot.place c.nodes.spot.comment c.nodes.spot.rest.now c.in_ok-statement.statement.tokens) ≡ Ok (node_or_end_of s, []) in
     let read = subst (λ (ws : List Word). IfSome c.in_ok-later_part.field-0 (λ s. (kept_statement kept Nodes).read ws ≡ Ok (node_or_end_of s, []))) c.of_text-cursor.ensures c.in_ok-later_part.ensures in
     let part = subst (λ o. IfSome o P) c.in-Some.is read in
     let t = c.in_ok-statement.statement in
     let k = c.in_ok-statement.ensures.taken in
     let r = c.nodes.invariant.read.read in
-    let all = c.in_ok-ends-in-End.ensures c.if-branch.true (r.tokens ++ new_tokens c.nodes.spot t) (at-more c.args.text.now c.nodes.spot r.tokens r.at t k) in
+    let all = c.in_ok-ends-in-End.ensures c.if-branch-2.true (r.tokens ++ new_tokens c.nodes.spot t) (at-more c.args.text.now c.nodes.spot r.tokens r.at t k) in
     kept-end c.args.text.now c.args.front.now c.args.heads.now c.args.flaw c.nodes.found.flaw c.nodes.found.nodes.items c.nodes.spot c.nodes.invariant.read t k (subst P c.in-End.is part) all
 
 pub nodes-smaller : goal.nodes-smaller
