@@ -82,4 +82,6 @@ many '(' > "$work/file"; show '16 MB of (' check
 endless "${begin}emp|-true:emp by Link 0{}[" '0 ' > "$work/file"; show '16 MB of a list of numbers' check
 endless "$begin" 'a()*' > "$work/file"; show '16 MB of atoms, no end' check
 (printf '%s' "$begin"; repeated 'a()*' 4194200 | tr -d '\n'; echo 'a()|-true:emp by Done;end;') > "$work/file"; show '16 MB of atoms beyond a limit' check
+(printf '%sb() |- true : emp by Done;' "$begin"; repeated 'node true : emp |- true : emp by Done;' 441000 | tr -d '\n'; printf 'end;') > "$work/file"
+show '16 MB behind a flaw, no line feed' check
 wide_nodes > "$work/file"; show '16 MB of right nodes' check

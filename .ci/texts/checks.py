@@ -298,6 +298,12 @@ SAID = [
     ),
     (
         b"cyclist proof 1;\n"
+        b"node true:zz()|-true:emp by Done;\n"
+        b"end;",
+        4, b"ill-formed unknown token 7 line 2 column 11",
+    ),
+    (
+        b"cyclist proof 1;\n"
         b"pred p(1) { true : emp };\n"
         b"node true : p() |- true : emp by Done;\n"
         b"end;\n",
@@ -1251,17 +1257,6 @@ REPEATED = [
     ),
 ]
 
-# Without a line feed at the end, so that the last `;` is the last byte.
-UNENDED = [
-    (b"cyclist proof 1;\nnode true:emp|-true:emp by Done;\nend;", 0, b"accepted entailment nodes 1 links 0"),
-    (
-        b"cyclist proof 1;\n"
-        b"node true:zz()|-true:emp by Done;\n"
-        b"end;",
-        4, b"ill-formed unknown token 7 line 2 column 11",
-    ),
-]
-
 # Lists with many more members than a limit allows: the first beyond it is told, whatever stands behind it, unless the text is
 # none of the format.
 BEYOND = [
@@ -1717,7 +1712,7 @@ NODES_AT_THEIR_LIMIT = [
 
 TABLES = [
     FIRST, RIGHT, TOKENS, GRAMMAR, SAID, NODES, ACCEPTED, PROGRAMS, ILL_PROGRAMS, VERSIONS, NUMBERS, LINKS, COUNTS,
-    VERDICTS, FLAWS, REPEATED, UNENDED, BEYOND, DEAD_TOKENS, LINES, NODES_AT_THEIR_LIMIT,
+    VERDICTS, FLAWS, REPEATED, BEYOND, DEAD_TOKENS, LINES, NODES_AT_THEIR_LIMIT,
 ]
 
 # These are in the written form.

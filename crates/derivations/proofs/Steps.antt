@@ -2,6 +2,7 @@
 use Rattle.std.proofs.Common.{◌≡◌, ◌<◌, inl, inr, List, [], ◌∷◌, ◌++◌, Some, length, arith, sym, ap, subst, ◌∙◌}
 use Rattle.std.specs.Prelude.{ℕ}
 use Rattle.std.proofs.lemmas.List.{length-map}
+use Rattle.std.proofs.lemmas.Option.{same_Some}
 use Rattle.std.proofs.lemmas.List.Sums.{fold-append}
 use Rattle.derivation_search.specs.System.{after}
 use Rattle.derivation_search.specs.Stack.{front}
@@ -11,7 +12,7 @@ use Rattle.tableaux.proofs.Steps.{next_tableau}
 use Rattle.derivations.specs.declared.derivation.Derivation.{Derivation}
 use Rattle.derivations.specs.declared.logic.Effect.{Effect}
 use Rattle.derivations.specs.Derivations.{goals_in, reasons_in, tableau_in, about, IsInOrder, HasEffect}
-use Rattle.tableaux.proofs.Stack.{split_last}
+use Rattle.list_facts.proofs.Parts.{split_last}
 use Rattle.tableaux.proofs.TakenBack.{WasAt, was_at}
 use Rattle.derivations.proofs.Nexts.{replayed_next}
 
@@ -25,9 +26,6 @@ pub record Before {L J R : Type 0} (calculus : L → Calculus J R) (s s' : Deriv
   pub made : s.made.items ≡ s'.made.items ++ record { goal = goal; reason = reason } ∷ []
   pub has : (calculus s.logic).premises s'.made.items goal reason ≡ Some premises
 
-some_same : {X : Type 0} (x y : X) → Some x ≡ Some y → x ≡ y
-some_same x y e = cc
-
 module _ {L J R : Type 0} (calculus : L → Calculus J R) (Occurs : L → J → Type 0) (Allows : L → R → Type 0) (s s' : Derivation L J R) (order : IsInOrder calculus Occurs Allows s) (order' : IsInOrder calculus Occurs Allows s') (same : about s' ≡ about s) where
   replayed' : replay (calculus s.logic) s.root (reasons_in s') ≡ Some (tableau_in s')
   replayed' = subst (λ (a : L × (ℕ × J)). replay (calculus a.0) a.1.1 (reasons_in s') ≡ Some (tableau_in s')) same order'.replayed
@@ -36,7 +34,7 @@ module _ {L J R : Type 0} (calculus : L → Calculus J R) (Occurs : L → J → 
   pub took : (r : R) (e : Effect J) (has : HasEffect calculus s r e) → reasons_in s' ≡ after (reasons_in s) r → s'.made.items ≡ s.made.items ++ record { goal = has.goal; reason = r } ∷ []
   took r e has more =
       sym (ap (λ (t : Tableau J R). t.nodes)
-      (some_same (next_tableau (calculus s.logic) s.made.items s.traces has.goal has.rest e.premises.items r) (tableau_in s')
+      (same_Some (next_tableau (calculus s.logic) s.made.items s.traces has.goal has.rest e.premises.items r) (tableau_in s')
       (sym (replayed_next calculus Occurs Allows s order r e has) ∙ (ap (replay (calculus s.logic) s.root) (sym more) ∙ replayed'))))
 
   -- a reason that was taken back left its goal the next one
@@ -71,4 +69,4 @@ module _ {L J R : Type 0} (calculus : L → Calculus J R) (Occurs : L → J → 
           was = was_at (calculus s.logic) (replay (calculus s.logic) s.root (reasons_in s')) r (tableau_in s) stepped
 
           is : was.before ≡ tableau_in s'
-          is = some_same was.before (tableau_in s') (sym was.is ∙ replayed')
+          is = same_Some was.before (tableau_in s') (sym was.is ∙ replayed')

@@ -137,6 +137,14 @@ abbrev pub IsLastLeft : List ℕ → List Placed → Type 0
 IsLastLeft text ts =
     (us : List Placed) × (tokens_of text ≡ Ok (ts ++ us)) × ((rest : List Word) × ((kept_statement kept Nodes).read (map word_of us) ≡ Ok (inr tt, rest)) × IsTheEnd rest)
 
+-- where it is so, these tokens are all before the end token
+abbrev pub TellsEnd : List ℕ → Spot → Bool → Type 0
+TellsEnd text s b = b ≡ true → (ts : List Placed) → IsAt text ts s → IsAll text ts
+
+-- where it is so, the last statement and the end token are left behind these tokens
+abbrev pub TellsLast : List ℕ → Spot → Bool → Type 0
+TellsLast text s b = b ≡ true → (ts : List Placed) → IsAt text ts s → IsLastLeft text ts
+
 -- all was read, to the end of the text
 pub record AreAllNodes (text : List ℕ) (v : Version) (hs : List Heading) (ds : List Definition) (ls : List Line) (first found : Found) (values : List FileNode) : Type 0 where
   pub nodes : List Node

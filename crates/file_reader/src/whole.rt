@@ -2,7 +2,7 @@
 
 ghost use Rattle.std.specs.Prelude.{◌≡◌, ◌-◌, ◌≤◌, ◌<◌, ◌^◌, List, None, length, true, IfOk, IfSome};
 ghost use Rattle.cyc_lex.specs.Placed.{Placed};
-ghost use Rattle.file_reader.specs.Wholes.{AreAllKept, IsAll, IsAt, IsAnswer, IsBegun, IsLastLeft, IsWhole};
+ghost use Rattle.file_reader.specs.Wholes.{AreAllKept, IsAt, IsAnswer, IsBegun, IsWhole, TellsEnd, TellsLast};
 
 use crate::flaw_place::fault_of_flaw;
 use crate::found::{Found, take_node};
@@ -38,7 +38,7 @@ pub fn answer_of(whole: Whole) -> Result<ProofFile, ReadFault>
 /// Whether nothing but the end of the text is left.
 fn ends(text: &str, spot: &Spot<'_>) -> Result<bool, Stop>
     requires { (ts : List Placed) × IsAt text.now ts spot.now }
-    ensures { IfOk result (λ b. b ≡ true → (ts : List Placed) → IsAt text.now ts spot.now → IsAll text.now ts) }
+    ensures { IfOk result (TellsEnd text.now spot.now) }
 {
     let count = count_tokens(spot.place, spot.comment, spot.rest)?;
     let cursor = Cursor::of_text(spot.place, spot.comment, spot.rest, count);
@@ -49,7 +49,7 @@ fn ends(text: &str, spot: &Spot<'_>) -> Result<bool, Stop>
 /// ended for a reader to whom more may come.
 fn is_last(alloc: Global, text: &str, spot: &Spot<'_>) -> Result<bool, Stop>
     requires { (ts : List Placed) × IsAt text.now ts spot.now }
-    ensures { IfOk result (λ b. b ≡ true → (ts : List Placed) → IsAt text.now ts spot.now → IsLastLeft text.now ts) }
+    ensures { IfOk result (TellsLast text.now spot.now) }
 {
     let count = count_tokens(spot.place, spot.comment, spot.rest)?;
     let mut cursor = Cursor::of_text(spot.place, spot.comment, spot.rest, count);

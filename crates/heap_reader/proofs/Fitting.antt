@@ -23,7 +23,7 @@ most_fits Two = omega arith
 
 -- a heap without a flaw is within its limit
 module _ {T : Type 0} (flaw : ℕ → T → Found) (span : T → ℕ) (most : ℕ) (hs : List Heading) where
-  spatial_few : (n k : ℕ) (x : Spatial T) → spatial_flaw flaw span most hs n k x ≡ None → n < most
+  pub spatial_few : (n k : ℕ) (x : Spatial T) → spatial_flaw flaw span most hs n k x ≡ None → n < most
   spatial_few n k (Cell t ts) e =
       below most n (not_over _ SpatialAtoms k (neither (over_if (nat_le most n) SpatialAtoms k) (or_later (flaw k t) (arguments_flaw flaw span (k + span t + 1) ts)) e).0)
   spatial_few n k (Predicate name ts) e =

@@ -8,11 +8,12 @@ use Rattle.cyc_lex.specs.declared.fault.What.TheVariants.{Pure, Spatial as Spati
 use Rattle.heap_syntax.specs.declared.keep.Keep.TheVariants.{Beyond}
 use Rattle.heap_syntax.specs.declared.tree.PureTree.{PureTree}
 use Rattle.heap_syntax.specs.Keeping.{members, heap_front, heaps_front}
-use Rattle.heap_syntax.specs.Trees.{Spatial, Cell, Predicate, Heap}
+use Rattle.heap_syntax.specs.Trees.{Spatial, Heap}
 use Rattle.heap_reader.specs.Trees.{Heading}
 use Rattle.heap_reader.specs.Spans.{pure_span, pures_span, spatial_span, heap_span}
-use Rattle.heap_reader.specs.Flaws.{Found, over_if, or_later, listed_flaw, arity_in, use_flaw, arguments_flaw, pure_flaw, cell_flaw, spatial_flaw, heap_flaw, counted_flaw, heaps_flaw}
+use Rattle.heap_reader.specs.Flaws.{Found, over_if, or_later, listed_flaw, pure_flaw, spatial_flaw, heap_flaw, counted_flaw, heaps_flaw}
 use Rattle.heap_reader.proofs.NoFlaw.{neither, not_over, below, few_all}
+use Rattle.heap_reader.proofs.Fitting.{spatial_few}
 
 -- ---- lists whose members from some number on have a flaw
 
@@ -59,13 +60,6 @@ module _ {T : Type 0} (flaw : ℕ → T → Found) (span : T → ℕ) (most : �
   pure_few : (n k : ℕ) (x : PureTree T) → pure_flaw flaw span n k x ≡ None → n < 64
   pure_few n k x e = below 64 n (not_over _ Pure k (neither (over_if (nat_le 64 n) Pure k) (or_later (flaw k x.left) (flaw (k + span x.left) x.right)) e).0)
 
-  spatial_few : (n k : ℕ) (x : Spatial T) → spatial_flaw flaw span most hs n k x ≡ None → n < most
-  spatial_few n k (Cell t ts) e =
-      below most n (not_over _ SpatialAtoms k (neither (over_if (nat_le most n) SpatialAtoms k) (or_later (flaw k t) (arguments_flaw flaw span (k + span t + 1) ts)) e).0)
-  spatial_few n k (Predicate name ts) e =
-      let a = neither (use_flaw (arity_in hs name) (length ts) k) (or_later (over_if (nat_le most n) SpatialAtoms k) (arguments_flaw flaw span (k + 2) ts)) e in
-      below most n (not_over _ SpatialAtoms k (neither (over_if (nat_le most n) SpatialAtoms k) (arguments_flaw flaw span (k + 2) ts) a.1).0)
-
   abbrev pures_found : ℕ → List (PureTree T) → Found
   pures_found k xs = listed_flaw (pure_flaw flaw span) (pure_span span) 0 k xs
 
@@ -79,12 +73,12 @@ module _ {T : Type 0} (flaw : ℕ → T → Found) (span : T → ℕ) (most : �
       by (Some f) e = rw (members_flaw (pure_flaw flaw span) (pure_span span) 64 pure_few k m h.pure pures_within, e) refl
       by None e =
           rw (members_whole (pure_flaw flaw span) (pure_span span) 64 pure_few k m h.pure pures_within e)
-          (ap (λ o. or_later (pures_found k h.pure) o) (members_flaw (spatial_flaw flaw span most hs) (spatial_span span) most spatial_few (k + pures_span span h.pure) m h.spatial spatials_within))
+          (ap (λ o. or_later (pures_found k h.pure) o) (members_flaw (spatial_flaw flaw span most hs) (spatial_span span) most (spatial_few flaw span most hs) (k + pures_span span h.pure) m h.spatial spatials_within))
 
   pub front_whole : (k : ℕ) (h : Heap T) → heap_flaw flaw span most hs k h ≡ None → heap_front (Beyond m) h ≡ h
   front_whole k h e =
       let both = neither (pures_found k h.pure) (spatials_found (k + pures_span span h.pure) h.spatial) e in
-      rw (members_whole (pure_flaw flaw span) (pure_span span) 64 pure_few k m h.pure pures_within both.0, members_whole (spatial_flaw flaw span most hs) (spatial_span span) most spatial_few (k + pures_span span h.pure) m h.spatial spatials_within both.1) refl
+      rw (members_whole (pure_flaw flaw span) (pure_span span) 64 pure_few k m h.pure pures_within both.0, members_whole (spatial_flaw flaw span most hs) (spatial_span span) most (spatial_few flaw span most hs) (k + pures_span span h.pure) m h.spatial spatials_within both.1) refl
 
   module _ (what : What) (heaps_within : 16 ≤ m) where
     counted_few : (n k : ℕ) (h : Heap T) → counted_flaw flaw span most hs what n k h ≡ None → n < 16

@@ -8,3 +8,4 @@ pub mod Written
 pub mod Upgrades
 pub mod Fits
 pub mod Building
+pub mod Fronts

@@ -1,5 +1,5 @@
 // The first flaw of a file, as it shows in what is kept of its trees.
-ghost use Rattle.std.specs.Prelude.{◌≡◌, ◌≤◌, ℕ, List, map, None};
+ghost use Rattle.std.specs.Prelude.{ℕ, List, map};
 ghost use Rattle.heap_syntax.specs.declared.keep.Keep.TheVariants.{Beyond};
 ghost use Rattle.pred_syntax.specs.Trees.{Definition};
 ghost use Rattle.pred_syntax.specs.Keeping.{definition_front};
@@ -10,20 +10,18 @@ ghost use Rattle.heap_reader.specs.Flaws.{listed_flaw};
 ghost use Rattle.pred_reader.specs.Flaws.{definition_flaw};
 ghost use Rattle.pred_reader.specs.Spans.{definition_span};
 ghost use Rattle.proof_file.specs.Flaws.{node_flaw};
+ghost use Rattle.proof_file.specs.Fronts.{KeepsEnough, HasItsFlaw, IsWholeIfFlawless};
 
 /// Where more members are kept of each list than any limit allows, the first flaw of what is kept is the first flaw, and
 /// without a flaw all is kept: so a reader need not hold what stands after a member that is one too many. The function does
 /// nothing.
 pub fn flaws_show_in_what_is_kept()
-    ensures definitions { (most m : ℕ) → 64 ≤ m → most ≤ m → 16 ≤ m
-        → (hs : List Heading) (n k : ℕ) (ds : List Definition)
-        → listed_flaw (definition_flaw most hs) definition_span n k (map (definition_front (Beyond m)) ds)
-        ≡ listed_flaw (definition_flaw most hs) definition_span n k ds }
-    ensures whole_definitions { (most m : ℕ) → 64 ≤ m → most ≤ m → 16 ≤ m
-        → (hs : List Heading) (n k : ℕ) (ds : List Definition)
-        → listed_flaw (definition_flaw most hs) definition_span n k ds ≡ None → map (definition_front (Beyond m)) ds ≡ ds }
-    ensures node { (most m : ℕ) → 64 ≤ m → most ≤ m → 16 ≤ m → (hs : List Heading) (count n k : ℕ) (x : Node)
-        → node_flaw most hs count n k (node_front (Beyond m) x) ≡ node_flaw most hs count n k x }
-    ensures whole_node { (most m : ℕ) → 64 ≤ m → most ≤ m → 16 ≤ m → (hs : List Heading) (count n k : ℕ) (x : Node)
-        → node_flaw most hs count n k x ≡ None → node_front (Beyond m) x ≡ x }
+    ensures definitions { (most m : ℕ) → KeepsEnough most m → (hs : List Heading) (n k : ℕ) (ds : List Definition)
+        → HasItsFlaw (listed_flaw (definition_flaw most hs) definition_span n k) (map (definition_front (Beyond m))) ds }
+    ensures whole_definitions { (most m : ℕ) → KeepsEnough most m → (hs : List Heading) (n k : ℕ) (ds : List Definition)
+        → IsWholeIfFlawless (listed_flaw (definition_flaw most hs) definition_span n k) (map (definition_front (Beyond m))) ds }
+    ensures node { (most m : ℕ) → KeepsEnough most m → (hs : List Heading) (count n k : ℕ) (x : Node)
+        → HasItsFlaw (node_flaw most hs count n k) (node_front (Beyond m)) x }
+    ensures whole_node { (most m : ℕ) → KeepsEnough most m → (hs : List Heading) (count n k : ℕ) (x : Node)
+        → IsWholeIfFlawless (node_flaw most hs count n k) (node_front (Beyond m)) x }
 {}

@@ -10,8 +10,7 @@ ghost use Rattle.proof_statements.specs.Left.{Part, At, Statement, left_of, stat
 ghost use Rattle.heap_syntax.specs.declared.keep.Keep.{Keep};
 
 pub use read_statements::{
-    first_statement, kept_line_or_node, kept_node_or_end, kept_pred_or_later, line_or_node,
-    node_or_end, pred_or_later,
+    first_statement, kept_line_or_node, kept_node_or_end, kept_pred_or_later,
 };
 pub use tree::{LineOrNode, NodeOrEnd, PredOrLater};
 

@@ -2,8 +2,7 @@
 
 ghost use Rattle.std.specs.Prelude.{◌≡◌};
 ghost use Rattle.cyc_grammar.specs.Giving.{Gives};
-ghost use Rattle.proof_statements.specs.Left.{Preds, Lines, Nodes, statement_of, kept_statement, first_statement, last_statement};
-ghost use Rattle.proof_statements.specs.Left.{First};
+ghost use Rattle.proof_statements.specs.Left.{First, Preds, Lines, Nodes, statement_of, kept_statement, first_statement, last_statement};
 ghost use Rattle.proof_statements.specs.Trees.{line_or_node_of, pred_or_later_of, node_or_end_of};
 
 use crate::tree::{LineOrNode, NodeOrEnd, PredOrLater};
@@ -79,33 +78,4 @@ pub fn kept_node_or_end<'a>(
     }
     last_statement(cursor)?;
     Ok(NodeOrEnd::End)
-}
-
-/// Reads a line of a program of a version, or a node.
-pub fn line_or_node<'a>(
-    alloc: Global,
-    version: Version,
-    cursor: &mut Cursor<'_, 'a>,
-) -> Result<LineOrNode<'a>, Refusal>
-    ensures { Gives (λ s. (line_or_node_of s, cursor.new)) result ((statement_of (Lines version)).read cursor.old) }
-{
-    kept_line_or_node(alloc, Keep::All, version, cursor)
-}
-
-/// Reads a definition, a line of a program of a version, or a node.
-pub fn pred_or_later<'a>(
-    alloc: Global,
-    version: Version,
-    cursor: &mut Cursor<'_, 'a>,
-) -> Result<PredOrLater<'a>, Refusal>
-    ensures { Gives (λ s. (pred_or_later_of s, cursor.new)) result ((statement_of (Preds version)).read cursor.old) }
-{
-    kept_pred_or_later(alloc, Keep::All, version, cursor)
-}
-
-/// Reads a node, or the last statement.
-pub fn node_or_end<'a>(alloc: Global, cursor: &mut Cursor<'_, 'a>) -> Result<NodeOrEnd<'a>, Refusal>
-    ensures { Gives (λ s. (node_or_end_of s, cursor.new)) result ((statement_of Nodes).read cursor.old) }
-{
-    kept_node_or_end(alloc, Keep::All, cursor)
 }

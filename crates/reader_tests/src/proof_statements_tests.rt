@@ -1,11 +1,15 @@
 use crate::texts::{cut, start};
 use cyc_grammar::{Cursor, Refusal};
-use heap_syntax::Version;
+use heap_syntax::{Keep, Version};
 use proof_statements::{
-    LineOrNode, NodeOrEnd, PredOrLater, first_statement, line_or_node, node_or_end, pred_or_later,
+    LineOrNode, NodeOrEnd, PredOrLater, first_statement, kept_line_or_node, kept_node_or_end,
+    kept_pred_or_later,
 };
 use std::alloc::Global;
 use std::test::Fail;
+
+/// Of each list one member, whatever is read of it.
+const KEEP: Keep = Keep::Beyond(0);
 
 /// Where a statement is to come.
 #[derive(Clone, Copy)]
@@ -56,15 +60,15 @@ fn statement(
             Ok(version(found))
         }
         Part::Preds => {
-            let found = pred_or_later(alloc, Version::One, cursor)?;
+            let found = kept_pred_or_later(alloc, KEEP, Version::One, cursor)?;
             Ok(first(&found))
         }
         Part::Lines => {
-            let found = line_or_node(alloc, Version::One, cursor)?;
+            let found = kept_line_or_node(alloc, KEEP, Version::One, cursor)?;
             Ok(second(&found))
         }
         Part::Nodes => {
-            let found = node_or_end(alloc, cursor)?;
+            let found = kept_node_or_end(alloc, KEEP, cursor)?;
             Ok(third(&found))
         }
     }

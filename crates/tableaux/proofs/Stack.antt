@@ -4,6 +4,8 @@ use Rattle.std.specs.Prelude.{nat_eq, nat_lt, nat_le}
 use Rattle.std.specs.Option.{option_to_list}
 use Rattle.std.proofs.lemmas.List.{append_assoc, append-nil, reverse-append, length-reverse}
 use Rattle.std.proofs.lemmas.Bool.{cases_Bool, and_parts, leb-true, ltb-true, eq-eqb}
+use Rattle.list_facts.proofs.Places.{get_end}
+use Rattle.list_facts.proofs.Parts.{split_last}
 use Rattle.tableaux.specs.Tableau.{Premise, Goal, goals_of}
 use Rattle.tableaux.specs.Room.{is_nil, has_room}
 use Rattle.tableaux.specs.Goals.{begins_with, others_of}
@@ -34,18 +36,6 @@ popped_fewer old new p e = ap length e ∙ length-append new (p ∷ [])
 pub record HasLast {X : Type 0} (xs : List X) (x : X) : Type 0 where
   pub rest : List X
   pub are : xs ≡ rest ++ x ∷ []
-
-pub get_end : {X : Type 0} (xs : List X) (x : X) → slice_get (xs ++ x ∷ []) (length xs) ≡ Some x
-get_end [] x = refl
-get_end (y ∷ xs) x = get_end xs x
-
-pub split_last : {X : Type 0} (xs : List X) → (xs ≡ []) ⊎ ((ys : List X) × (y : X) × (xs ≡ ys ++ y ∷ []))
-split_last [] = inl refl
-split_last {X} (x ∷ xs) =
-    elim (split_last xs) [
-      | inl none ↦ inr ([], x, ap (λ (zs : List X). x ∷ zs) none)
-      | inr some ↦ inr (x ∷ some.0, some.1, ap (λ (zs : List X). x ∷ zs) some.2)
-    ]
 
 pub last_of : {X : Type 0} (xs : List X) (x : X) → Some x ≡ slice_get xs (length xs - 1) → HasLast xs x
 last_of {X} xs x h =

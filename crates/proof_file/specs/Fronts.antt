@@ -1,0 +1,18 @@
+-- The first flaw of a file's statements, as it shows in what is kept of them.
+use Rattle.std.specs.Prelude.{◌≡◌, ◌≤◌, ℕ, None}
+use Rattle.cyc_limits.specs.declared.TheConstants.{MOST_PURE, MOST_DISJUNCTS}
+use Rattle.heap_reader.specs.Flaws.{Found}
+
+-- so many members kept of each list are no fewer than any limit allows, where so many spatial atoms are allowed
+pub record KeepsEnough (most m : ℕ) : Type 0 where
+  pub pure : MOST_PURE ≤ m
+  pub spatial : most ≤ m
+  pub heaps : MOST_DISJUNCTS ≤ m
+
+-- what is kept of a tree has the flaw that the tree has
+abbrev pub HasItsFlaw : {X : Type 0} → (X → Found) → (X → X) → X → Type 0
+HasItsFlaw flaw front x = flaw (front x) ≡ flaw x
+
+-- all is kept of a tree without a flaw
+abbrev pub IsWholeIfFlawless : {X : Type 0} → (X → Found) → (X → X) → X → Type 0
+IsWholeIfFlawless flaw front x = flaw x ≡ None → front x ≡ x
