@@ -1,5 +1,5 @@
 -- The places of predicate atoms are a set of positions.
-use Rattle.std.proofs.Common.{◌≡◌, ℕ, zero, suc, ◌+◌, ◌<◌, ◌≤◌, List, [], ◌∷◌, ◌++◌, drop, ◌∙◌, length, arith, true, false, nat_eq, refl, sym, ap, subst, inl, inr, eqb-true, Some, slice_get}
+use Rattle.std.proofs.Common.{◌≡◌, ℕ, zero, suc, ◌+◌, ◌<◌, ◌≤◌, List, [], ◌∷◌, length, arith, true, false, nat_eq, refl, subst, inl, inr, eqb-true, Some, slice_get}
 use Rattle.std.specs.Prelude.{slice_index}
 use Rattle.std.specs.List.Sorted.{IsStrictlyIncreasing}
 use Rattle.std.proofs.lemmas.Bool.{or_cases, or_left, or_right, eq-eqb, both_ways}
@@ -32,20 +32,6 @@ places_rise k (Predicate p ts ∷ xs) (suc i) l =
 -- the places of a list of at most 32 atoms
 pub places_set : (xs : List FoAtom) → length xs ≤ 32 → IsPositionSet (predicate_places 0 xs)
 places_set xs few = (places_rise 0 xs, λ q h. omega (arith, (places_within 0 xs q h).1, few))
-
-append_none : (ps : List ℕ) → ps ++ [] ≡ ps
-append_none [] = refl
-append_none (p ∷ ps) = ap (λ qs. p ∷ qs) (append_none ps)
-
-drop_past : (xs : List FoAtom) (i : ℕ) → length xs ≤ i → drop i xs ≡ []
-drop_past [] zero l = refl
-drop_past [] (suc i) l = refl
-drop_past (x ∷ xs) zero l = absurd (omega (arith, l))
-drop_past (x ∷ xs) (suc i) l = drop_past xs i (omega (arith, l))
-
--- the places found are all, where none of the list is left
-pub places_done : (xs : List FoAtom) (k i : ℕ) (ps : List ℕ) → length xs ≤ i → ps ++ predicate_places k (drop i xs) ≡ predicate_places 0 xs → ps ≡ predicate_places 0 xs
-places_done xs k i ps l e = sym (ap (λ ys. ps ++ predicate_places k ys) (drop_past xs i l) ∙ append_none ps) ∙ e
 
 -- the place of a predicate atom is there
 place_there : (n : ℕ) (xs : List FoAtom) (k : ℕ) → (q : ℕ) × (ts : List Word) × (slice_get xs k ≡ Some (Predicate q ts)) → has (predicate_places n xs) (n + k) ≡ true
