@@ -10,10 +10,10 @@ use Rattle.fo_formula.specs.declared.theory.FoTheory.{FoTheory}
 use Rattle.fo_table.specs.declared.premises.FoPremise.{FoPremise}
 use Rattle.fo_table.specs.LinkTable.{link_premise}
 use Rattle.fo_table.specs.Nodes.{unless_fault, link_answer, reason_answer, edges_to, targets_of, answer_edges}
-use Rattle.fo_nodes.specs.Files.{graph_edge, graph_node, graph_of}
+use Rattle.fo_nodes.specs.Files.{graph_node, graph_of}
 use Rattle.trace_pairs.specs.Graph.{Node, Edge}
 use Rattle.buchi_core.proofs.Lists.{get_one}
-use Rattle.proof_graph.specs.Traces.{trace_pairs_of}
+use Rattle.proof_graph.specs.Traces.{trace_pairs_of, graph_edge}
 use Rattle.tableaux.specs.Tableau.{Tableau}
 use Rattle.tableaux.proofs.Joined.{same_lists}
 use Rattle.tableaux.proofs.Made.{AllLead}

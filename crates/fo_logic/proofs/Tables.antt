@@ -1,24 +1,27 @@
 -- What a tested proof answers as a proof system.
-use Rattle.std.proofs.Common.{◌≡◌, ℕ, ◌<◌, Bool, true, false, List, get_or, map, take, length, Option, Some, refl, sym, ap, ◌∙◌, subst, arith, Vec}
-use Rattle.std.specs.Prelude.{slice_get, nat_lt}
+use Rattle.std.proofs.Common.{◌≡◌, ℕ, ◌<◌, false, List, get_or, map, take, length, Option, Some, sym, ap, ◌∙◌, subst, arith, Vec}
+use Rattle.std.specs.Prelude.{slice_get}
 use Rattle.std.specs.declared.alloc.Global.{Global}
-use Rattle.std.proofs.lemmas.Bool.{leb-true, leb-false, ltb-true, ltb-false}
+use Rattle.std.proofs.lemmas.Bool.{leb-false}
 use Rattle.std.proofs.lemmas.Option.{slice_get_within}
+use Rattle.heap_formula.specs.declared.judgements.NodeEdge.{NodeEdge}
 use Rattle.fo_formula.specs.declared.nodes.FoFile.{FoFile}
 use Rattle.fo_formula.specs.declared.nodes.FoNode.{FoNode}
 use Rattle.fo_formula.proofs.ValidityLaws.{holds-at_all}
 use Rattle.fo_table.specs.declared.faults.FoFault.{FoFault}
-use Rattle.fo_table.specs.Nodes.{Edge, edges_of, node_fault}
+use Rattle.fo_table.specs.Nodes.{edges_of, node_fault}
 use Rattle.trace_pairs.specs.Graph.{Edge as GraphEdge}
-use Rattle.trace_pairs.specs.System.{HasPositions, HasEdges, NoneFaulty, IsLeastFaulty}
+use Rattle.trace_pairs.specs.System.{HasPositions, HasEdges, NoneFaulty, IsLeastFaulty, is_untested}
 use Rattle.trace_pairs.specs.Walk.{Walk}
+use Rattle.trace_pairs.proofs.Untested.{least_untested}
 use Rattle.buchi_inclusion.specs.Checked.{IsChecked}
 use Rattle.buchi_inclusion.specs.declared.system.Checked.{Checked}
 use Rattle.buchi_inclusion.specs.declared.system.Checked.TheVariants as answers
+use Rattle.proof_graph.specs.Traces.{graph_edge}
 use Rattle.proof_graph.proofs.Joined.{mapped_at}
-use Rattle.fo_nodes.specs.Files.{predicate_places, graph_edge, graph_node, HoldsAtNode}
+use Rattle.fo_nodes.specs.Files.{predicate_places, graph_node, HoldsAtNode}
 use Rattle.fo_logic.specs.Laws.{graph_length}
-use Rattle.fo_logic.specs.Tested.{first_rows, EndsBy, is_untested}
+use Rattle.fo_logic.specs.Tested.{first_rows, EndsBy}
 use Rattle.fo_logic.specs.Verdicts.{file_graph, state_limit, HasRightNodes, IsRightBefore, IsLeastFault, IsVerdict}
 use Rattle.fo_logic.specs.declared.verdict.FoVerdict.TheVariants as verdicts
 use Rattle.list_facts.proofs.Places.{get_taken, at_index, get_within, get_map}
@@ -32,11 +35,11 @@ positions_at f v n ps within is e =
     let below : v < length f.nodes = omega (arith, within, graph_length f) in
     (node n, get_map node f.nodes v n (at_index f.nodes v n n below (sym is)), e)
 
-pub edges_at : (f : FoFile) (rows : List (Vec Edge Global)) (v : ℕ) (row : Vec Edge Global) (es : List GraphEdge) → lists_of rows ≡ first_rows f (length rows) → is_untested (length rows) v ≡ false → row ≡ get_or rows v row → es ≡ map graph_edge row.items → HasEdges (file_graph f) v es
+pub edges_at : (f : FoFile) (rows : List (Vec NodeEdge Global)) (v : ℕ) (row : Vec NodeEdge Global) (es : List GraphEdge) → lists_of rows ≡ first_rows f (length rows) → is_untested (length rows) v ≡ false → row ≡ get_or rows v row → es ≡ map graph_edge row.items → HasEdges (file_graph f) v es
 edges_at f rows v row es are tested is e =
     let node = graph_node f.theory f.nodes in
     let edges = edges_of f.theory f.nodes in
-    let there = get_map (λ (r : Vec Edge Global). r.items) rows v row (at_index rows v row row (leb-false (length rows) v tested) (sym is)) in
+    let there = get_map (λ (r : Vec NodeEdge Global). r.items) rows v row (at_index rows v row row (leb-false (length rows) v tested) (sym is)) in
     let m = mapped_at edges (take (length rows) f.nodes) v row.items (subst (λ rs. slice_get rs v ≡ Some row.items) are there) in
     (node m.from, get_map node f.nodes v m.from (get_taken f.nodes (length rows) v m.from m.at), e ∙ ap (map graph_edge) (sym m.is))
 
@@ -46,12 +49,8 @@ pub named_fault : (f : FoFile) (n v : ℕ) (fault : Option FoFault) (x : FoFault
 named_fault f n v fault x right ends is least =
     with_node (get_within f.nodes v (omega (arith, least.node, graph_length f)))
   where
-    by_test : (b : Bool) → nat_lt n v ≡ b → n ≡ v
-    by_test true t = absurd (let l = leb-false n n (least.least n (ltb-true n v t)) in omega arith)
-    by_test false t = let a = ltb-false n v t in let b = leb-true n v least.is_faulty in omega arith
-
     same : n ≡ v
-    same = by_test (nat_lt n v) refl
+    same = least_untested (file_graph f) n v least
 
     with_node : (node : FoNode) × (slice_get f.nodes v ≡ Some node) → IsLeastFault f v x
     with_node at = record {

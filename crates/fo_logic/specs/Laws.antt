@@ -3,9 +3,8 @@ use Rattle.std.proofs.Common.{◌≡◌, ℕ, ◌<◌, length, arith}
 use Rattle.std.proofs.lemmas.List.{length-map}
 use Rattle.std.proofs.lemmas.Bool.{leb-false}
 use Rattle.fo_formula.specs.declared.nodes.FoFile.{FoFile}
-use Rattle.trace_pairs.specs.System.{AreRight, IsLocalAt}
+use Rattle.trace_pairs.specs.System.{AreRight, IsLocalAt, is_untested}
 use Rattle.fo_nodes.specs.Files.{graph_node, HoldsAtNode, IsFoProof}
-use Rattle.fo_logic.specs.Tested.{is_untested}
 use Rattle.fo_logic.specs.Verdicts.{file_graph, IsRightBefore}
 use Rattle.fo_nodes.proofs.RightGraphs.{graph_right, graph_local}
 

@@ -1,19 +1,20 @@
 // A proof as a proof system: each node is tested once, up to the first fault.
-ghost use Rattle.std.specs.Prelude.{◌≡◌, ◌≤◌, length, IfOk, map};
-ghost use Rattle.trace_pairs.specs.System.{IsLeastFaulty};
+ghost use Rattle.std.specs.Prelude.{◌≡◌, ◌≤◌, length, IfOk};
+ghost use Rattle.trace_pairs.specs.System.{IsLeastFaulty, is_untested};
 ghost use Rattle.fo_formula.specs.declared.atoms.FoAtom.{FoAtom as AtomValue};
-ghost use Rattle.fo_nodes.specs.Files.{IsFoProof, graph_edge, predicate_places};
+ghost use Rattle.fo_nodes.specs.Files.{IsFoProof, predicate_places};
 ghost use Rattle.fo_nodes.specs.Once.{proof_once};
 ghost use Rattle.trace_pairs.specs.Turn.{lists_of};
-ghost use Rattle.fo_logic.specs.Tested.{first_rows, EndsBy, is_untested};
+ghost use Rattle.fo_logic.specs.Tested.{first_rows, EndsBy};
 ghost use Rattle.fo_logic.specs.Verdicts.{file_graph, IsRightBefore, IsLeastFault};
 
 use cyc_limits::MOST_LEFT;
 use cyc_memory::OutOfMemory;
 use fo_formula::{FoAtom, FoFile};
-use fo_nodes::{NodeAnswer, NodeEdge, test_node};
+use fo_nodes::{NodeAnswer, test_node};
 use fo_table::FoFault;
-use proof_graph::trace_edge;
+use heap_formula::NodeEdge;
+use proof_graph::trace_edges;
 use std::alloc::Global;
 use trace_pairs::{Edge, ProofSystem};
 
@@ -47,17 +48,6 @@ pub fn test_proof(alloc: Global, file: &FoFile) -> Result<TestedProof<'_>, OutOf
     }
     let fault = None;
     Ok(TestedProof { file, edges, fault })
-}
-
-/// The edges as those of a trace graph.
-fn trace_edges(alloc: Global, edges: &[NodeEdge]) -> Result<Vec<Edge>, OutOfMemory>
-    ensures { IfOk result (λ v. v.items ≡ map graph_edge edges.now) }
-{
-    let mut traced = Vec::new(alloc);
-    for edge in edges {
-        traced.push(trace_edge(alloc, edge.target, edge.pairs.as_slice())?)?;
-    }
-    Ok(traced)
 }
 
 /// The places of the predicate atoms.

@@ -1,13 +1,12 @@
 -- One turn of the loop over a node's premises.
-use Rattle.std.proofs.Common.{◌≡◌, ℕ, suc, ◌+◌, ◌<◌, List, [], ◌∷◌, ◌++◌, append_assoc, length-append, arith, length, get_or, drop, Option, Some, None, refl, sym, ap, ◌∙◌, add-one, drop-cons}
+use Rattle.std.proofs.Common.{◌≡◌, ℕ, suc, ◌+◌, ◌<◌, List, ◌∷◌, length, get_or, drop, Option, Some, None, refl, sym, ap, ◌∙◌, add-one, drop-cons}
 use Rattle.std.specs.Prelude.{slice_get, nat_lt}
 use Rattle.fo_table.specs.declared.premises.FoPremise.{FoPremise}
 use Rattle.fo_table.specs.declared.faults.FoFault.{FoFault}
 use Rattle.fo_formula.specs.declared.nodes.FoNode.{FoNode}
 use Rattle.fo_table.specs.declared.faults.FoFault.TheVariants.{NoSuchNode}
 use Rattle.fo_table.specs.LinkTable.{first_of, fault_unless}
-use Rattle.fo_table.specs.Nodes.{Edge, differs, premises_fault, edges_to}
-use Rattle.list_facts.proofs.Places.{drop_get}
+use Rattle.fo_table.specs.Nodes.{differs, premises_fault}
 
 skip : (a b rest : Option FoFault) → first_of a b ≡ None → first_of a (first_of b rest) ≡ rest
 skip None None rest e = refl
@@ -24,15 +23,3 @@ premise_step nodes v ps us i p in_ps in_us is none =
     ∙ ap (λ (q : FoPremise). premises_fault nodes v i (q ∷ drop (suc i) ps) (u ∷ drop (suc i) us)) is
     ∙ skip (fault_unless (nat_lt v u) NoSuchNode) (differs i p (slice_get nodes u)) (premises_fault nodes v (suc i) (drop (suc i) ps) (drop (suc i) us)) none in
     rw add-one (sym h)
-
-pub edge_step : (edges pushed all : List Edge) (rest next : List FoPremise) (us : List ℕ) (p : FoPremise) (u : ℕ) → rest ≡ p ∷ next → pushed ≡ edges ++ (record { target = u; pairs = p.pairs } ∷ []) → slice_get us (length edges) ≡ Some u →
-    (length edges + length rest ≡ length us) × (edges ++ edges_to rest (drop (length edges) us) ≡ all) → (length pushed + length next ≡ length us) × (pushed ++ edges_to next (drop (length pushed) us) ≡ all)
-edge_step edges pushed all rest next us p u is push at so_far =
-    let size : length pushed ≡ suc (length edges) = ap length push ∙ length-append edges _ ∙ omega arith in (
-      omega (arith, size, ap length is, so_far.0),
-      (λ i. push i ++ edges_to next (drop (size i) us))
-          ∙ append_assoc edges (record { target = u; pairs = p.pairs } ∷ []) (edges_to next (drop (suc (length edges)) us))
-          ∙ ap (λ (xs : List ℕ). edges ++ edges_to (p ∷ next) xs) (sym (drop_get us (length edges) u at))
-          ∙ ap (λ (ps : List FoPremise). edges ++ edges_to ps (drop (length edges) us)) (sym is)
-          ∙ so_far.1,
-    )

@@ -3,7 +3,9 @@ use Rattle.std.proofs.Common.{◌≡◌, ℕ, ◌≤◌, Bool, true, false, List
 use Rattle.std.specs.Prelude.{slice_get}
 use Rattle.std.proofs.lemmas.List.{length-map}
 use Rattle.std.proofs.lemmas.Option.{slice_get_within}
+use Rattle.heap_formula.specs.declared.judgements.NodeEdge.{NodeEdge}
 use Rattle.heap_formula.specs.declared.judgements.Pair.{Pair}
+use Rattle.heap_formula.specs.Edges.{EdgeHolds}
 use Rattle.heap_formula.specs.Words.{Each}
 use Rattle.heap_formula.specs.Meaning.{Stages}
 use Rattle.heap_formula.proofs.Members.{each_from}
@@ -13,29 +15,25 @@ use Rattle.fo_formula.specs.declared.theory.FoTheory.{FoTheory}
 use Rattle.fo_formula.specs.Shapes.{HasConstant}
 use Rattle.fo_formula.specs.Validity.{HoldsAt}
 use Rattle.fo_table.specs.declared.premises.FoPremise.{FoPremise}
-use Rattle.fo_table.specs.Nodes.{Edge, node_fault, edges_to, edges_of, targets_of, EdgeHolds}
+use Rattle.fo_table.specs.Nodes.{node_fault, edges_to, edges_of, targets_of}
 use Rattle.proof_graph.proofs.FallingPairs.{falls_of}
 use Rattle.trace_pairs.specs.Graph.{Node as GraphNode, Edge as GraphEdge, Pair as GraphPair, IsEdge, Falls, has}
 use Rattle.trace_pairs.specs.System.{AreRight, IsLocalAt, IsRight}
-use Rattle.proof_graph.specs.Traces.{trace_pair}
+use Rattle.proof_graph.specs.Traces.{trace_pair, graph_edge}
+use Rattle.proof_graph.proofs.NodeEdges.{edges_short}
 pub use Rattle.proof_graph.proofs.Joined.{Mapped, mapped_at}
-use Rattle.fo_nodes.specs.Files.{predicate_places, graph_edge, graph_node, graph_of, HoldsAtNode, IsSmallSequent, IsSmallDefinition, IsReadNode}
+use Rattle.fo_nodes.specs.Files.{predicate_places, graph_node, graph_of, HoldsAtNode, IsSmallSequent, IsSmallDefinition, IsReadNode}
 use Rattle.fo_nodes.proofs.Places.{place_of, places_set}
 use Rattle.fo_nodes.proofs.Fits.{IsPredAt, PairsFit}
 use Rattle.fo_nodes.proofs.Fine.{PremiseFits}
 use Rattle.fo_nodes.proofs.Reasons.{Leads, by_node}
 use Rattle.fo_nodes.proofs.RightNodes.{node_holds}
 use Rattle.formula_facts.proofs.AllMembers.{each_at}
-use Rattle.list_facts.proofs.Places.{get_within as some_at, get_map as at_mapped}
-
-edges_short : (ps : List FoPremise) (us : List ℕ) → length (edges_to ps us) ≤ length ps
-edges_short [] us = omega arith
-edges_short (p ∷ ps) [] = omega arith
-edges_short (p ∷ ps) (u ∷ us) = let r = edges_short ps us in omega arith
+use Rattle.list_facts.proofs.Places.{get_map as at_mapped}
 
 module _ (t : FoTheory) (nodes : List FoNode) (small : Each IsSmallDefinition t.definitions) where
   -- an edge leads to a node, and its pairs join predicate atoms
-  record IsGood (s : FoSequent) (edge : Edge) : Type 0 where
+  record IsGood (s : FoSequent) (edge : NodeEdge) : Type 0 where
     node : FoNode
     at : slice_get nodes edge.target ≡ Some node
     fit : PairsFit s.left node.sequent.left edge.pairs
@@ -58,8 +56,8 @@ module _ (t : FoTheory) (nodes : List FoNode) (small : Each IsSmallDefinition t.
   node_few v node none =
       let b = by_node nodes t small v node none in
       let l = length-map (edges_of t nodes node) graph_edge in
-      let e = ap (λ (xs : List Edge). length xs) b.edges in
-      let m = edges_short b.premises (targets_of node.premises node.reason) in
+      let e = ap (λ (xs : List NodeEdge). length xs) b.edges in
+      let m = edges_short (λ (p : FoPremise). p.pairs) b.premises (targets_of node.premises node.reason) in
       let f = b.few in omega arith
 
   -- a node of the graph is in order where the node of the proof has no fault and a small sequent
@@ -89,17 +87,17 @@ module _ (t : FoTheory) (nodes : List FoNode) (small : Each IsSmallDefinition t.
         ));
   }
     where
-      edges : List Edge
+      edges : List NodeEdge
       edges = edges_of t nodes node
 
-      good : (k : ℕ) (edge : Edge) → slice_get edges k ≡ Some edge → IsGood node.sequent edge
+      good : (k : ℕ) (edge : NodeEdge) → slice_get edges k ≡ Some edge → IsGood node.sequent edge
       good k edge is = each_at (IsGood node.sequent) edges k edge is (node_good v node none)
 
   -- the relation is local at a node without a fault
   node_local : HasConstant t → (v : ℕ) (node : FoNode) → slice_get nodes v ≡ Some node → IsReadNode t.constructors node → node_fault t nodes v node ≡ None → (σ : Stages) →
       ((k : ℕ) (e : GraphEdge) → IsEdge g v k e → (τ : Stages) → Falls e.pairs σ τ → HoldsAtNode t nodes e.target τ) → HoldsAt t σ node.sequent
   node_local constant v node at read none σ below =
-      node_holds t nodes constant small v node σ read.sequent read.reason none (each_from (EdgeHolds t nodes σ) (edges_of t nodes node) (λ k edge is_edge τ follows target at_target.
+      node_holds t nodes constant small v node σ read.sequent read.reason none (each_from (EdgeHolds (HoldsAtNode t nodes) σ) (edges_of t nodes node) (λ k edge is_edge τ follows target at_target.
       below k (graph_edge edge) (record { node = graph_node t nodes node; is_node = at_mapped (graph_node t nodes) nodes v node at; is_edge = at_mapped graph_edge (edges_of t nodes node) k edge is_edge }) τ (falls_of edge.pairs σ τ follows) target at_target))
 
   -- nodes that are not among the faulty ones are in order

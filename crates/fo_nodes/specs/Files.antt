@@ -14,10 +14,10 @@ use Rattle.fo_formula.specs.declared.theory.FoTheory.{FoTheory}
 use Rattle.fo_formula.specs.Shapes.{HasConstant, IsOpenSequent}
 use Rattle.fo_formula.specs.Sizes.{sequent_size}
 use Rattle.fo_formula.specs.Validity.{HoldsAt}
-use Rattle.fo_table.specs.Nodes.{Edge, edges_of, node_fault}
+use Rattle.fo_table.specs.Nodes.{edges_of, node_fault}
 use Rattle.fo_table.specs.Soundness.{HasOpenReason}
-use Rattle.trace_pairs.specs.Graph.{Node as GraphNode, Edge as GraphEdge}
-use Rattle.proof_graph.specs.Traces.{trace_edge}
+use Rattle.trace_pairs.specs.Graph.{Node as GraphNode}
+use Rattle.proof_graph.specs.Traces.{graph_edge}
 
 -- ---- the trace graph
 
@@ -26,9 +26,6 @@ abbrev pub predicate_places : ℕ → List FoAtom → List ℕ
 predicate_places k [] = []
 predicate_places k (Equation l r ∷ xs) = predicate_places (suc k) xs
 predicate_places k (Predicate p ts ∷ xs) = k ∷ predicate_places (suc k) xs
-
-abbrev pub graph_edge : Edge → GraphEdge
-graph_edge e = trace_edge e.target e.pairs
 
 -- a node with the places of its left predicate atoms, and an edge to each premise or to the companion
 abbrev pub graph_node : FoTheory → List FoNode → FoNode → GraphNode

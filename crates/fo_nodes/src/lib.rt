@@ -5,4 +5,4 @@
 mod node_tests;
 
 pub use cyc_memory::OutOfMemory;
-pub use node_tests::{NodeAnswer, NodeEdge, test_node};
+pub use node_tests::{NodeAnswer, test_node};

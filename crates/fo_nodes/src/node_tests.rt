@@ -1,5 +1,5 @@
 // The first fault of a node, or its edges.
-ghost use Rattle.std.specs.Prelude.{Ok, Some, ◌≡◌, ◌<◌, ◌≤◌, ◌^◌, length, slice_get, nat_lt, IfOk};
+ghost use Rattle.std.specs.Prelude.{Ok, Some, ◌≡◌, ◌<◌, ◌^◌, length, slice_get, nat_lt, IfOk};
 ghost use Rattle.heap_formula.specs.Words.{Each};
 ghost use Rattle.fo_formula.specs.declared.nodes.FoNode.{FoNode as NodeValue};
 ghost use Rattle.fo_table.specs.Answered.{IsAnswer};
@@ -10,27 +10,12 @@ ghost use Rattle.fo_nodes.specs.Files.{IsSmallSequent, IsSmallDefinition};
 ghost use Rattle.fo_nodes.specs.Answers.{IsNodeAnswer};
 
 use cyc_memory::OutOfMemory;
-use fo_formula::{FoNode, FoReason, FoSequent, FoTheory, Pairs};
+use fo_formula::{FoNode, FoReason, FoSequent, FoTheory};
 use fo_parts::is_one_sequent;
 use fo_rules::{premises, premises_by_link};
 use fo_table::{FoFault, FoPremise, FoRuleError};
+use heap_formula::NodeEdge;
 use std::alloc::Global;
-use std::marker::Model;
-
-/// An edge of a node: the node that proves a premise, or the companion, and the trace pairs to it.
-#[derive(Drop)]
-pub struct NodeEdge {
-    pub target: u32,
-    pub pairs: Pairs,
-}
-
-impl Model for NodeEdge {
-    ghost use Rattle.fo_table.specs.Nodes.{Edge};
-
-    ghost Value = { Edge };
-
-    ghost view = { λ e. record { target = e.target; pairs = e.pairs } };
-}
 
 /// A node that is right with its edges, or its first fault.
 #[derive(Drop)]

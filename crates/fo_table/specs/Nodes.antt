@@ -1,15 +1,13 @@
 -- The faults of a node of a proof, and its edges.
-use Rattle.std.specs.Prelude.{◌≡◌, ℕ, suc, List, [], ◌∷◌, length, nat_eq, nat_lt, Option, Some, None, Ok, Err, slice_get}
-use Rattle.heap_formula.specs.declared.judgements.Pair.{Pair}
-use Rattle.heap_formula.specs.Judgements.{Follows}
-use Rattle.heap_formula.specs.Meaning.{Stages}
+use Rattle.std.specs.Prelude.{ℕ, suc, List, [], ◌∷◌, length, nat_eq, nat_lt, Option, Some, None, Ok, Err, slice_get}
+use Rattle.heap_formula.specs.declared.judgements.NodeEdge.{NodeEdge}
+use Rattle.heap_formula.specs.Edges.{edges_along}
 use Rattle.fo_formula.specs.declared.nodes.FoLink.{FoLink}
 use Rattle.fo_formula.specs.declared.nodes.FoNode.{FoNode}
 use Rattle.fo_formula.specs.declared.nodes.FoReason.{FoReason}
 use Rattle.fo_formula.specs.declared.nodes.FoReason.TheVariants.{Rule, Link}
 use Rattle.fo_formula.specs.declared.sequents.FoSequent.{FoSequent}
 use Rattle.fo_formula.specs.declared.theory.FoTheory.{FoTheory}
-use Rattle.fo_formula.specs.Validity.{HoldsAt}
 use Rattle.fo_table.specs.declared.faults.FoFault.{FoFault}
 use Rattle.fo_table.specs.declared.faults.FoFault.TheVariants.{PremiseCount, PremiseDiffers, NoSuchNode}
 use Rattle.fo_table.specs.declared.premises.FoPremise.{FoPremise}
@@ -68,31 +66,19 @@ node_fault t nodes v node =
 
 -- ---- edges
 
--- an edge of a proof: the node to which it leads, and the trace pairs along it
-pub record Edge : Type 0 where
-  pub target : ℕ
-  pub pairs : List Pair
-
 -- an edge to each premise's node, in order
-abbrev pub edges_to : List FoPremise → List ℕ → List Edge
-edges_to [] us = []
-edges_to (p ∷ ps) [] = []
-edges_to (p ∷ ps) (u ∷ us) = record { target = u; pairs = p.pairs } ∷ edges_to ps us
+abbrev pub edges_to : List FoPremise → List ℕ → List NodeEdge
+edges_to ps us = edges_along (λ (p : FoPremise). p.pairs) ps us
 
 -- a rule's edges lead to the nodes with the numbers, and a link's to its companion
 abbrev pub targets_of : List ℕ → FoReason → List ℕ
 targets_of us (Rule rule) = us
 targets_of us (Link link) = link.to ∷ []
 
-abbrev pub answer_edges : List ℕ → Answer → List Edge
+abbrev pub answer_edges : List ℕ → Answer → List NodeEdge
 answer_edges us (Err f) = []
 answer_edges us (Ok ps) = edges_to ps us
 
 -- the edges of a node
-abbrev pub edges_of : FoTheory → List FoNode → FoNode → List Edge
+abbrev pub edges_of : FoTheory → List FoNode → FoNode → List NodeEdge
 edges_of t nodes node = answer_edges (targets_of node.premises node.reason) (reason_answer t nodes node.sequent node.reason)
-
--- the edge's target holds at all stages that follow these
-abbrev pub EdgeHolds : FoTheory → List FoNode → Stages → Edge → Type 0
-EdgeHolds t nodes stages edge =
-    (below : Stages) → Follows edge.pairs stages below → (node : FoNode) → slice_get nodes edge.target ≡ Some node → HoldsAt t below node.sequent

@@ -9,8 +9,8 @@ use Rattle.heap_formula.specs.declared.proof_rules.Reason.TheVariants.{Step, Bac
 use Rattle.rule_table.specs.Nodes.{Node as RuleNode, edges_to, answer_edges, link_edges, reason_edges}
 use Rattle.trace_pairs.specs.Graph.{Node, Edge}
 use Rattle.buchi_core.proofs.Lists.{get_one}
-use Rattle.proof_check.specs.Files.{graph_edge, graph_node, graph_of, node_of, nodes_of}
-use Rattle.proof_graph.specs.Traces.{trace_pairs_of}
+use Rattle.proof_check.specs.Files.{graph_node, graph_of, node_of, nodes_of}
+use Rattle.proof_graph.specs.Traces.{trace_pairs_of, graph_edge}
 use Rattle.search_moves.specs.Trying.{Theory}
 use Rattle.tableaux.proofs.Joined.{same_lists}
 use Rattle.tableaux.proofs.Made.{AllLead}

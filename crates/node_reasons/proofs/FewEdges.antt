@@ -38,10 +38,12 @@ use Rattle.rule_table.specs.Tests.{same_term, same_spatial, is_universal_pure, i
 use Rattle.rule_table.specs.ExecTable.{cell_of, renamed, renamed_term, with_atom, with_cell, with_field, variables_from, at_line, command_answer}
 use Rattle.rule_table.specs.Table.{with_pures, with_pure, with_right, without_pure, without_spatial, named, unnamed, rewrite_side, rewrite_atom, calls, are_empty, right_term, unfolded_right}
 use Rattle.rule_table.specs.RuleBook.{variables_of, rule_answer}
-use Rattle.rule_table.specs.Nodes.{Node, edges_to, answer_edges, link_edges, edges_of}
+use Rattle.rule_table.specs.Nodes.{Node, answer_edges, link_edges, edges_of}
 use Rattle.rule_table.specs.LinkTable.{link_fault, link_premise}
+use Rattle.proof_graph.specs.Traces.{graph_edge}
+use Rattle.proof_graph.proofs.NodeEdges.{edges_short}
 use Rattle.node_reasons.specs.Answers.{unless_fault, reason_answer}
-use Rattle.node_reasons.specs.Graphs.{graph_edge, HasFewCases}
+use Rattle.node_reasons.specs.Graphs.{HasFewCases}
 
 abbrev pub IsFew : Answer → Type 0
 IsFew (Ok ps) = length ps ≤ 16
@@ -168,13 +170,8 @@ rule_few most ds lines h j Exec =
     runs_few j _ (λ i a. finds_few (counted_from_one lines i) WrongJudgement _ (λ c. command_few most i a (fresh_number (program_variables lines) j) c))
 rule_few most ds lines h j (Drop k) = runs_few j _ (λ i a. finds_few (slice_get a.spatial k) NoSuchAtom _ (λ x. omega arith))
 
-edges_short : (ps : List Premise) (us : List ℕ) → length (edges_to ps us) ≤ length ps
-edges_short [] us = omega arith
-edges_short (p ∷ ps) [] = omega arith
-edges_short (p ∷ ps) (u ∷ us) = let r = edges_short ps us in omega arith
-
 answer_short : (us : List ℕ) (answer : Answer) → IsFew answer → length (answer_edges us answer) ≤ 16
-answer_short us (Ok ps) h = let r = edges_short ps us in omega arith
+answer_short us (Ok ps) h = let r = edges_short (λ (p : Premise). p.pairs) ps us in omega arith
 answer_short us (Err f) h = omega arith
 
 link_short : (link : Link) (o : Option Node) → length (link_edges link o) ≤ 16

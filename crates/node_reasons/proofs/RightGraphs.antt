@@ -5,24 +5,26 @@ use Rattle.std.proofs.lemmas.List.{length-map}
 use Rattle.std.proofs.lemmas.Option.{slice_get_within}
 use Rattle.heap_formula.specs.declared.commands.Command.{Command}
 use Rattle.heap_formula.specs.declared.judgements.Judgement.{Judgement}
+use Rattle.heap_formula.specs.declared.judgements.NodeEdge.{NodeEdge}
 use Rattle.heap_formula.specs.declared.judgements.Pair.{Pair}
 use Rattle.heap_formula.specs.declared.judgements.Premise.{Premise}
 use Rattle.heap_formula.specs.Definitions.{Definition}
 use Rattle.heap_formula.specs.Words.{Each}
 use Rattle.heap_formula.specs.Meaning.{Stages}
 use Rattle.heap_formula.specs.Judgements.{HoldsAt, antecedent}
+use Rattle.heap_formula.specs.Edges.{EdgeHolds}
 use Rattle.rule_table.specs.Soundness.{IsCommand}
 use Rattle.rule_table.specs.Fits.{IsPredAt, PairsFit, PremiseFits}
-use Rattle.rule_table.specs.Nodes.{Node, Edge, node_fault, IsReadable, edges_to, edges_of, EdgeHolds}
+use Rattle.rule_table.specs.Nodes.{Node, node_fault, IsReadable, edges_to, edges_of, HoldsAtNode}
 use Rattle.rule_table.proofs.RightNodes.{node_holds}
 use Rattle.proof_graph.proofs.FallingPairs.{falls_of}
 use Rattle.trace_pairs.specs.Graph.{Node as GraphNode, Edge as GraphEdge, Pair as GraphPair, IsEdge, Falls, has}
 use Rattle.trace_pairs.specs.System.{AreRight, IsLocalAt, IsRight}
-use Rattle.proof_graph.specs.Traces.{positions_of, trace_pair}
+use Rattle.proof_graph.specs.Traces.{positions_of, trace_pair, graph_edge}
 use Rattle.node_reasons.proofs.FewEdges.{few_edges}
 use Rattle.node_reasons.proofs.Reasons.{Leads, by_reason}
 use Rattle.node_reasons.specs.Answers.{targets_of}
-use Rattle.node_reasons.specs.Graphs.{graph_edge, graph_node, graph_of, AreReadable, HasFewCases, HoldsAtNode}
+use Rattle.node_reasons.specs.Graphs.{graph_node, graph_of, AreReadable, HasFewCases}
 pub use Rattle.proof_graph.proofs.Joined.{Mapped, mapped_at}
 use Rattle.heap_formula.proofs.Members.{each_from}
 use Rattle.proof_graph.proofs.Places.{place_of, places_set}
@@ -31,7 +33,7 @@ use Rattle.list_facts.proofs.Places.{get_within as some_at, get_map as at_mapped
 
 module _ (most : ℕ) (ds : List Definition) (lines : List Command) (nodes : List Node) where
   -- an edge leads to a node, and its pairs join predicate atoms
-  record IsGood (j : Judgement) (edge : Edge) : Type 0 where
+  record IsGood (j : Judgement) (edge : NodeEdge) : Type 0 where
     node : Node
     at : slice_get nodes edge.target ≡ Some node
     fit : PairsFit (antecedent j).spatial (antecedent node.judgement).spatial edge.pairs
@@ -80,17 +82,17 @@ module _ (most : ℕ) (ds : List Definition) (lines : List Command) (nodes : Lis
         ));
   }
     where
-      edges : List Edge
+      edges : List NodeEdge
       edges = edges_of most ds lines nodes node
 
-      good : (k : ℕ) (edge : Edge) → slice_get edges k ≡ Some edge → IsGood node.judgement edge
+      good : (k : ℕ) (edge : NodeEdge) → slice_get edges k ≡ Some edge → IsGood node.judgement edge
       good k edge is = each_at (IsGood node.judgement) edges k edge is (node_good v node none)
 
   -- the relation is local at a node without a fault
   node_local : Each IsCommand lines → (v : ℕ) (node : Node) → slice_get nodes v ≡ Some node → IsReadable node.judgement node.reason → node_fault most ds lines nodes v node ≡ None → (σ : Stages) →
       ((k : ℕ) (e : GraphEdge) → IsEdge g v k e → (τ : Stages) → Falls e.pairs σ τ → Holds e.target τ) → HoldsAt ds lines σ node.judgement
   node_local commands v node at readable none σ below =
-      node_holds most ds lines nodes v node σ commands readable none (each_from (EdgeHolds ds lines nodes σ) (edges_of most ds lines nodes node) (λ k edge is_edge τ follows target at_target.
+      node_holds most ds lines nodes v node σ commands readable none (each_from (EdgeHolds (HoldsAtNode ds lines nodes) σ) (edges_of most ds lines nodes node) (λ k edge is_edge τ follows target at_target.
       below k (graph_edge edge) (record { node = graph_node most ds lines nodes node; is_node = at_mapped (graph_node most ds lines nodes) nodes v node at; is_edge = at_mapped graph_edge (edges_of most ds lines nodes node) k edge is_edge }) τ (falls_of edge.pairs σ τ follows) target at_target))
 
   -- nodes that are not among the faulty ones are in order where they have small heaps and no fault

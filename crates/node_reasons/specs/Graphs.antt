@@ -3,14 +3,10 @@ use Rattle.std.specs.Prelude.{◌≡◌, ◌≤◌, ℕ, length, List, map, Some
 use Rattle.cyc_limits.specs.declared.TheConstants.{MOST_CASES, MOST_SPATIAL}
 use Rattle.heap_formula.specs.declared.commands.Command.{Command}
 use Rattle.heap_formula.specs.Definitions.{Definition}
-use Rattle.heap_formula.specs.Judgements.{HoldsAt, antecedent}
-use Rattle.heap_formula.specs.Meaning.{Stages}
-use Rattle.rule_table.specs.Nodes.{Node, Edge, edges_of, node_fault, IsReadable}
-use Rattle.trace_pairs.specs.Graph.{Node as GraphNode, Edge as GraphEdge}
-use Rattle.proof_graph.specs.Traces.{positions_of, trace_edge}
-
-abbrev pub graph_edge : Edge → GraphEdge
-graph_edge e = trace_edge e.target e.pairs
+use Rattle.heap_formula.specs.Judgements.{antecedent}
+use Rattle.rule_table.specs.Nodes.{Node, edges_of, node_fault, IsReadable}
+use Rattle.trace_pairs.specs.Graph.{Node as GraphNode}
+use Rattle.proof_graph.specs.Traces.{positions_of, graph_edge}
 
 -- a node with the places of its predicate atoms, and an edge to each premise or to the companion
 abbrev pub graph_node : ℕ → List Definition → List Command → List Node → Node → GraphNode
@@ -36,7 +32,3 @@ HasFewCases d = length d.cases ≤ MOST_CASES
 -- the antecedents have at most 32 spatial atoms
 abbrev pub HasSmallHeaps : List Node → Type 0
 HasSmallHeaps nodes = (v : ℕ) (node : Node) → slice_get nodes v ≡ Some node → length (antecedent node.judgement).spatial ≤ MOST_SPATIAL
-
--- the judgement of node v holds at the stages
-abbrev pub HoldsAtNode : List Definition → List Command → List Node → ℕ → Stages → Type 0
-HoldsAtNode ds lines nodes v stages = (node : Node) → slice_get nodes v ≡ Some node → HoldsAt ds lines stages node.judgement

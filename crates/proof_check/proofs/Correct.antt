@@ -8,12 +8,12 @@ use Rattle.heap_formula.specs.Words.{Each}
 use Rattle.heap_formula.specs.Judgements.{JudgementHolds}
 use Rattle.heap_formula.proofs.JudgementLaws.{holds-at_all}
 use Rattle.rule_table.specs.Soundness.{IsCommand}
-use Rattle.rule_table.specs.Nodes.{Node}
+use Rattle.rule_table.specs.Nodes.{Node, HoldsAtNode}
 use Rattle.trace_pairs.specs.Graph.{Node as GraphNode}
 use Rattle.trace_pairs.specs.Lasso.{AllProgress}
 use Rattle.trace_pairs.proofs.Orders.{right_graph}
 use Rattle.buchi_inclusion.proofs.Exact.{descends_by_lassos}
-use Rattle.node_reasons.specs.Graphs.{graph_node, graph_of, AreRight, AreReadable, HasFewCases, HasSmallHeaps, HoldsAtNode}
+use Rattle.node_reasons.specs.Graphs.{graph_node, graph_of, AreRight, AreReadable, HasFewCases, HasSmallHeaps}
 use Rattle.node_reasons.proofs.RightGraphs.{graph_right, graph_local}
 use Rattle.list_facts.proofs.Places.{get_map}
 

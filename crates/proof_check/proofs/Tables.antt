@@ -1,30 +1,32 @@
 -- What a tested file answers as a proof system.
-use Rattle.std.proofs.Common.{◌≡◌, ℕ, ◌<◌, Bool, true, false, List, get_or, map, take, length, Option, Some, refl, sym, ap, ◌∙◌, subst, arith, Vec}
-use Rattle.std.specs.Prelude.{slice_get, nat_lt}
+use Rattle.std.proofs.Common.{◌≡◌, ℕ, ◌<◌, false, List, get_or, map, take, length, Option, Some, sym, ap, ◌∙◌, subst, arith, Vec}
+use Rattle.std.specs.Prelude.{slice_get}
 use Rattle.std.specs.declared.alloc.Global.{Global}
-use Rattle.std.proofs.lemmas.Bool.{leb-true, leb-false, ltb-true, ltb-false}
+use Rattle.std.proofs.lemmas.Bool.{leb-false}
 use Rattle.std.proofs.lemmas.List.{length-map}
 use Rattle.std.proofs.lemmas.Option.{slice_get_within}
 use Rattle.heap_formula.specs.declared.commands.Command.TheVariants.{New}
+use Rattle.heap_formula.specs.declared.judgements.NodeEdge.{NodeEdge}
 use Rattle.heap_formula.specs.declared.proof_rules.RuleFault.{RuleFault}
 use Rattle.heap_formula.proofs.JudgementLaws.{holds-at_all}
-use Rattle.rule_table.specs.Nodes.{Node, Edge, edges_of, node_fault}
+use Rattle.rule_table.specs.Nodes.{Node, edges_of, node_fault, HoldsAtNode}
 use Rattle.rule_table.specs.Soundness.{IsCommand}
 use Rattle.trace_pairs.specs.Graph.{Edge as GraphEdge}
-use Rattle.trace_pairs.specs.System.{HasPositions, HasEdges, NoneFaulty, IsLeastFaulty}
+use Rattle.trace_pairs.specs.System.{HasPositions, HasEdges, NoneFaulty, IsLeastFaulty, is_untested}
 use Rattle.trace_pairs.specs.Walk.{Walk}
+use Rattle.trace_pairs.proofs.Untested.{least_untested}
 use Rattle.buchi_inclusion.specs.Checked.{IsChecked}
 use Rattle.buchi_inclusion.specs.declared.system.Checked.{Checked}
 use Rattle.buchi_inclusion.specs.declared.system.Checked.TheVariants as answers
 use Rattle.goto_lang.specs.Lines.{IsProgram}
 use Rattle.symbolic_exec.proofs.ProgramLines.{program_commands}
-use Rattle.proof_graph.specs.Traces.{positions_of}
+use Rattle.proof_graph.specs.Traces.{positions_of, graph_edge}
 use Rattle.proof_graph.proofs.Joined.{mapped_at}
 use Rattle.proof_file.specs.declared.node.FileNode.{FileNode}
 use Rattle.proof_file.specs.declared.file.ProofFile.{ProofFile}
-use Rattle.proof_check.specs.Files.{graph_edge, graph_node, HoldsAtNode, node_of, nodes_of}
+use Rattle.proof_check.specs.Files.{graph_node, node_of, nodes_of}
 use Rattle.proof_check.specs.Laws.{graph_length}
-use Rattle.proof_check.specs.Tested.{first_rows, HasFields, IsTested, EndsBy, is_untested}
+use Rattle.proof_check.specs.Tested.{first_rows, HasFields, IsTested, EndsBy}
 use Rattle.proof_check.specs.Verdicts.{file_graph, state_limit, HasRightNodes, IsRightBefore, IsLeastFault, IsVerdict}
 use Rattle.proof_check.specs.declared.verdict.Verdict.TheVariants as verdicts
 use Rattle.proof_check.proofs.TestLoops.{node_at}
@@ -43,12 +45,12 @@ positions_at f v n ps within is e =
     let below : v < length f.nodes = omega (arith, within, graph_length f, length-map f.nodes node_of) in
     (node (node_of n), get_map node (nodes_of f.nodes) v (node_of n) (node_at f.nodes v n below is), e)
 
-pub edges_at : (f : ProofFile) (rows : List (Vec Edge Global)) (v : ℕ) (row : Vec Edge Global) (es : List GraphEdge) → lists_of rows ≡ first_rows f (length rows) → is_untested (length rows) v ≡ false → row ≡ get_or rows v row → es ≡ map graph_edge row.items → HasEdges (file_graph f) v es
+pub edges_at : (f : ProofFile) (rows : List (Vec NodeEdge Global)) (v : ℕ) (row : Vec NodeEdge Global) (es : List GraphEdge) → lists_of rows ≡ first_rows f (length rows) → is_untested (length rows) v ≡ false → row ≡ get_or rows v row → es ≡ map graph_edge row.items → HasEdges (file_graph f) v es
 edges_at f rows v row es are tested is e =
     let nodes = nodes_of f.nodes in
     let node = graph_node f.defs.most f.defs.list f.program nodes in
     let edges = edges_of f.defs.most f.defs.list f.program nodes in
-    let there = get_map (λ (r : Vec Edge Global). r.items) rows v row (at_index rows v row row (leb-false (length rows) v tested) (sym is)) in
+    let there = get_map (λ (r : Vec NodeEdge Global). r.items) rows v row (at_index rows v row row (leb-false (length rows) v tested) (sym is)) in
     let m = mapped_at edges (take (length rows) nodes) v row.items (subst (λ rs. slice_get rs v ≡ Some row.items) are there) in
     (node m.from, get_map node nodes v m.from (get_taken nodes (length rows) v m.from m.at), e ∙ ap (map graph_edge) (sym m.is))
 
@@ -58,12 +60,8 @@ pub named_fault : (f : ProofFile) (n v : ℕ) (fault : Option RuleFault) (x : Ru
 named_fault f n v fault x tested ends is least =
     with_node (get_within (nodes_of f.nodes) v (omega (arith, least.node, graph_length f)))
   where
-    by_test : (b : Bool) → nat_lt n v ≡ b → n ≡ v
-    by_test true t = absurd (let l = leb-false n n (least.least n (ltb-true n v t)) in omega arith)
-    by_test false t = let a = ltb-false n v t in let b = leb-true n v least.is_faulty in omega arith
-
     same : n ≡ v
-    same = by_test (nat_lt n v) refl
+    same = least_untested (file_graph f) n v least
 
     with_node : (node : Node) × (slice_get (nodes_of f.nodes) v ≡ Some node) → IsLeastFault f v x
     with_node at = record {

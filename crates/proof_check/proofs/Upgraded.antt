@@ -18,12 +18,12 @@ use Rattle.rule_table.specs.Tests.{same_pure, same_spatial}
 use Rattle.trace_pairs.specs.Lasso.{AllProgress}
 use Rattle.heap_syntax.specs.Versions.{most_spatial}
 use Rattle.heap_reader.proofs.Fitting.{most_fits}
-use Rattle.proof_graph.specs.Traces.{positions_of}
+use Rattle.proof_graph.specs.Traces.{positions_of, graph_edge}
 use Rattle.proof_graph.proofs.Joined.{mapped_at}
 use Rattle.proof_file.specs.declared.file.ProofFile.{ProofFile}
 use Rattle.proof_file.specs.Upgrades.{IsUpgrade}
 use Rattle.proof_file.proofs.Wider.{node_is_few}
-use Rattle.proof_check.specs.Files.{graph_edge, graph_node, graph_of, node_of, nodes_of, AreRight}
+use Rattle.proof_check.specs.Files.{graph_node, graph_of, node_of, nodes_of, AreRight}
 use Rattle.proof_check.specs.Verdicts.{file_graph, IsCorrect}
 use Rattle.proof_check.proofs.WiderRules.{is_few, rule_wide}
 use Rattle.std.proofs.lemmas.Bool.{and_from, and_parts}

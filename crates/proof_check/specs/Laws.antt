@@ -16,16 +16,16 @@ use Rattle.heap_formula.specs.Symbolic.{SymbolicHeap}
 use Rattle.heap_formula.specs.Words.{Each}
 use Rattle.rule_table.specs.Tests.{is_universal, is_universal_pure, is_universal_spatial}
 use Rattle.rule_table.specs.Soundness.{IsCommand}
-use Rattle.rule_table.specs.Nodes.{Node, IsReadable}
+use Rattle.rule_table.specs.Nodes.{Node, IsReadable, HoldsAtNode}
 use Rattle.rule_table.proofs.Reflects.{universal_is, universal_pure_is, universal_spatial_is}
-use Rattle.trace_pairs.specs.System.{AreRight, IsLocalAt}
+use Rattle.trace_pairs.specs.System.{AreRight, IsLocalAt, is_untested}
 use Rattle.proof_graph.proofs.Joined.{mapped_at}
 use Rattle.proof_file.specs.Readable.{is_universal_heap, is_universal_reason, is_readable, are_readable, is_universal_command, has_few_cases, all_have_few_cases}
 use Rattle.proof_file.specs.declared.node.FileNode.{FileNode}
 use Rattle.proof_file.specs.declared.file.ProofFile.{ProofFile}
 use Rattle.node_reasons.proofs.RightGraphs.{graph_right, graph_local}
-use Rattle.proof_check.specs.Files.{AreReadable, HasFewCases, HoldsAtNode, graph_node, node_of, nodes_of}
-use Rattle.proof_check.specs.Tested.{IsTested, HasFields, is_untested}
+use Rattle.proof_check.specs.Files.{AreReadable, HasFewCases, graph_node, node_of, nodes_of}
+use Rattle.proof_check.specs.Tested.{IsTested, HasFields}
 use Rattle.proof_check.specs.Verdicts.{file_graph}
 use Rattle.formula_facts.proofs.AllMembers.{each_at}
 

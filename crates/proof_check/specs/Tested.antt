@@ -1,17 +1,18 @@
 -- A proof file of which the nodes are tested up to the first fault.
-use Rattle.std.specs.Prelude.{◌≡◌, ◌<◌, ◌≤◌, ℕ, Bool, nat_le, List, map, take, length, Option, Some, None, slice_get}
+use Rattle.std.specs.Prelude.{◌≡◌, ◌<◌, ◌≤◌, ℕ, List, map, take, length, Option, Some, None, slice_get}
 use Rattle.cyc_limits.specs.declared.TheConstants.{MOST_SPATIAL}
 use Rattle.heap_formula.specs.declared.commands.Command.{Command}
 use Rattle.heap_formula.specs.declared.commands.Command.TheVariants.{New}
+use Rattle.heap_formula.specs.declared.judgements.NodeEdge.{NodeEdge}
 use Rattle.heap_formula.specs.declared.proof_rules.RuleFault.{RuleFault}
 use Rattle.heap_formula.specs.Judgements.{antecedent}
-use Rattle.rule_table.specs.Nodes.{Node, Edge, edges_of, node_fault}
+use Rattle.rule_table.specs.Nodes.{Node, edges_of, node_fault}
 use Rattle.proof_file.specs.declared.file.ProofFile.{ProofFile}
 use Rattle.proof_check.specs.Files.{nodes_of}
 use Rattle.proof_check.specs.Verdicts.{IsRightBefore}
 
 -- the edges of the first n nodes
-abbrev pub first_rows : ProofFile → ℕ → List (List Edge)
+abbrev pub first_rows : ProofFile → ℕ → List (List NodeEdge)
 first_rows f n = map (edges_of f.defs.most f.defs.list f.program (nodes_of f.nodes)) (take n (nodes_of f.nodes))
 
 -- new cells have fields
@@ -32,7 +33,3 @@ pub record IsTested (f : ProofFile) (n : ℕ) : Type 0 where
 pub record EndsBy (f : ProofFile) (n : ℕ) (fault : Option RuleFault) : Type 0 where
   pub none : fault ≡ None → n ≡ length f.nodes
   pub some : (x : RuleFault) (node : Node) → fault ≡ Some x → slice_get (nodes_of f.nodes) n ≡ Some node → node_fault f.defs.most f.defs.list f.program (nodes_of f.nodes) n node ≡ Some x
-
--- the nodes from n on were not tested, or are faulty
-abbrev pub is_untested : ℕ → ℕ → Bool
-is_untested n v = nat_le n v

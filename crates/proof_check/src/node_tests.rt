@@ -12,27 +12,11 @@ ghost use Rattle.proof_check.specs.Answers.{IsNodeAnswer};
 
 use cyc_memory::OutOfMemory;
 use goto_lang::Program;
-use heap_formula::{Judgement, Pairs, Premise, Reason, RuleError, RuleFault, is_same_judgement};
+use heap_formula::{Judgement, NodeEdge, Premise, Reason, RuleError, RuleFault, is_same_judgement};
 use node_reasons::premises_by_reason;
 use pred_defs::Defs;
 use proof_file::FileNode;
 use std::alloc::Global;
-use std::marker::Model;
-
-/// An edge of a node: the node that proves a premise, or the companion, and the trace pairs to it.
-#[derive(Drop)]
-pub struct NodeEdge {
-    pub target: u32,
-    pub pairs: Pairs,
-}
-
-impl Model for NodeEdge {
-    ghost use Rattle.rule_table.specs.Nodes.{Edge};
-
-    ghost Value = { Edge };
-
-    ghost view = { λ e. record { target = e.target; pairs = e.pairs } };
-}
 
 /// A node that is right with its edges, or its first fault.
 #[derive(Drop)]

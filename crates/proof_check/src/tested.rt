@@ -1,16 +1,15 @@
 // A proof file as a proof system: each node is tested once, up to the first fault.
-ghost use Rattle.std.specs.Prelude.{◌≡◌, length, IfOk, map};
-ghost use Rattle.trace_pairs.specs.System.{IsLeastFaulty};
-ghost use Rattle.proof_check.specs.Files.{graph_edge};
+ghost use Rattle.std.specs.Prelude.{◌≡◌, length, IfOk};
+ghost use Rattle.trace_pairs.specs.System.{IsLeastFaulty, is_untested};
 ghost use Rattle.trace_pairs.specs.Turn.{lists_of};
-ghost use Rattle.proof_check.specs.Tested.{first_rows, IsTested, EndsBy, is_untested};
+ghost use Rattle.proof_check.specs.Tested.{first_rows, IsTested, EndsBy};
 ghost use Rattle.proof_check.specs.Verdicts.{file_graph, IsLeastFault};
 
-use crate::node_tests::{NodeAnswer, NodeEdge, test_node};
+use crate::node_tests::{NodeAnswer, test_node};
 use cyc_memory::OutOfMemory;
-use heap_formula::RuleFault;
+use heap_formula::{NodeEdge, RuleFault};
 use proof_file::ProofFile;
-use proof_graph::{predicate_positions, trace_edge};
+use proof_graph::{predicate_positions, trace_edges};
 use rule_table::antecedent;
 use std::alloc::Global;
 use trace_pairs::{Edge, ProofSystem};
@@ -47,17 +46,6 @@ pub fn test_file(alloc: Global, file: &ProofFile) -> Result<TestedFile<'_>, OutO
     Ok(TestedFile { file, edges, fault })
 }
 
-/// The edges as those of a trace graph.
-fn trace_edges(alloc: Global, edges: &[NodeEdge]) -> Result<Vec<Edge>, OutOfMemory>
-    ensures { IfOk result (λ v. v.items ≡ map graph_edge edges.now) }
-{
-    let mut traced = Vec::new(alloc);
-    for edge in edges {
-        traced.push(trace_edge(alloc, edge.target, edge.pairs.as_slice())?)?;
-    }
-    Ok(traced)
-}
-
 impl TestedFile<'_> {
     /// The first fault of the least faulty node.
     pub fn fault(&self, node: u32) -> RuleFault
@@ -72,7 +60,8 @@ impl TestedFile<'_> {
 }
 
 impl ProofSystem for TestedFile<'_> {
-    ghost use Rattle.proof_check.specs.Files.{HoldsAtNode, nodes_of};
+    ghost use Rattle.rule_table.specs.Nodes.{HoldsAtNode};
+    ghost use Rattle.proof_check.specs.Files.{nodes_of};
     ghost use Rattle.proof_check.specs.Laws.{some_node, in_order, local};
 
     ghost graph_of = { λ t. file_graph t.file.now };

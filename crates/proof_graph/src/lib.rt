@@ -16,4 +16,4 @@ pub use graph_nodes::NodeView;
 pub use heap_views::{DisjunctsView, HeapView, JudgementView};
 pub use nodes::{GraphNode, GraphPremise, GraphPremises, PremisePairs, PremiseView};
 pub use reason_views::{LinkView, ReasonView, RuleView};
-pub use traces::{predicate_positions, trace_edge};
+pub use traces::{predicate_positions, trace_edge, trace_edges};

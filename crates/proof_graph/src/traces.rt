@@ -1,18 +1,18 @@
 //! The trace graph of a list of nodes.
 
-ghost use Rattle.std.specs.Prelude.{◌≡◌, ◌≤◌, length, cond, IfOk};
+ghost use Rattle.std.specs.Prelude.{◌≡◌, ◌≤◌, length, cond, map, IfOk};
 ghost use Rattle.heap_formula.specs.Judgements.{antecedent as antecedent_of_judgement};
 ghost use Rattle.proof_graph.specs.HeapViews.{heap_of, judgement_of};
 ghost use Rattle.trace_pairs.specs.Graph.{IsPositionSet, IsGraph};
 ghost use Rattle.proof_graph.specs.Nodes.{with_reason, changed_at, premises_of};
-ghost use Rattle.proof_graph.specs.Traces.{positions_of, predicate_places as places_from, trace_edge as trace_edge_to, HasJoints, trace_node as trace_node_of, edges_of as edges_of_premises, trace_graph_of};
+ghost use Rattle.proof_graph.specs.Traces.{positions_of, predicate_places as places_from, trace_edge as trace_edge_to, graph_edge, HasJoints, trace_node as trace_node_of, edges_of as edges_of_premises, trace_graph_of};
 
 use crate::graph_nodes::{StoredNode, first_slot};
 use crate::heap_views::{HeapView, JudgementView};
 use crate::nodes::PremiseView;
 use cyc_limits::MOST_SPATIAL;
 use cyc_memory::OutOfMemory;
-use heap_formula::{Heap, Judgement, Pair, Pairs, Reason, Spatial};
+use heap_formula::{Heap, Judgement, NodeEdge, Pair, Pairs, Reason, Spatial};
 use std::alloc::Global;
 use trace_pairs::{Edge, Node, TraceGraph};
 
@@ -80,6 +80,17 @@ pub fn trace_edge(alloc: Global, target: u32, pairs: &[Pair]) -> Result<Edge, Ou
         triples.push((pair.old, pair.new, pair.progress))?;
     }
     Ok(Edge::new(target, triples))
+}
+
+/// The edges of a node as those of a trace graph.
+pub fn trace_edges(alloc: Global, edges: &[NodeEdge]) -> Result<Vec<Edge>, OutOfMemory>
+    ensures { IfOk result (λ v. v.items ≡ map graph_edge edges.now) }
+{
+    let mut traced = Vec::new(alloc);
+    for edge in edges {
+        traced.push(trace_edge(alloc, edge.target, edge.pairs.as_slice())?)?;
+    }
+    Ok(traced)
 }
 
 /// An edge for each filled slot.

@@ -10,9 +10,9 @@ use Rattle.rule_table.specs.Answer.{Answer}
 use Rattle.rule_table.specs.RuleBook.{rule_answer}
 use Rattle.rule_table.specs.Nodes.{Node, answer_edges}
 use Rattle.trace_pairs.specs.Graph.{Node as GraphNode, Edge as GraphEdge, Pair as TracePair}
-use Rattle.proof_graph.specs.Traces.{predicate_places}
+use Rattle.proof_graph.specs.Traces.{predicate_places, graph_edge}
 use Rattle.ring_family.specs.Ring.{emp, is_nil, holds, cell_then, after, ring_definitions, by_rule, ring_block, ring_bud, in_blocks, ring_nodes}
-use Rattle.proof_check.specs.Files.{graph_edge, graph_node, graph_of}
+use Rattle.proof_check.specs.Files.{graph_node, graph_of}
 use Rattle.ring_family.proofs.Answers.{entails, unfolds, rewrites, unfolds_nil, drops_pure, done', unfolds_cell, instantiates, frames}
 use Rattle.ring_family.proofs.Blocks.{blocks_map}
 use Rattle.ring_family.proofs.Right.{cases_at, cases_last, node_at}

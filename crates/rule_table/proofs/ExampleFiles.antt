@@ -17,8 +17,9 @@ use Rattle.heap_formula.specs.Symbolic.{SymbolicHeap}
 use Rattle.heap_formula.specs.Definitions.{Definition}
 use Rattle.std.proofs.Common.{Bool, true, false}
 use Rattle.std.specs.Prelude.{slice_get}
+use Rattle.heap_formula.specs.declared.judgements.NodeEdge.{NodeEdge}
 use Rattle.heap_formula.specs.declared.judgements.Pair.{Pair}
-use Rattle.rule_table.specs.Nodes.{Node, Edge, edges_of}
+use Rattle.rule_table.specs.Nodes.{Node, edges_of}
 use Rattle.rule_table.proofs.ExampleFaults.{faults_from}
 
 abbrev heap : List Pure → List Spatial → SymbolicHeap
@@ -111,11 +112,11 @@ walk_is_right = refl
 abbrev pair : ℕ → ℕ → Bool → Pair
 pair old new progress = record { old = old; new = new; progress = progress }
 
-abbrev edges_at : List Definition → List Command → List Node → Option Node → List Edge
+abbrev edges_at : List Definition → List Command → List Node → Option Node → List NodeEdge
 edges_at ds lines nodes None = []
 edges_at ds lines nodes (Some n) = edges_of 16 ds lines nodes n
 
-abbrev edge : ℕ → List Pair → Edge
+abbrev edge : ℕ → List Pair → NodeEdge
 edge target pairs = record { target = target; pairs = pairs }
 
 -- Unfold: the kept atom, and the children of the unfolded one

@@ -3,7 +3,7 @@ use Rattle.std.specs.Prelude.{◌≡◌, ℕ, suc, List, [], ◌∷◌, length, 
 use Rattle.heap_formula.specs.declared.commands.Command.{Command}
 use Rattle.heap_formula.specs.declared.judgements.Judgement.{Judgement}
 use Rattle.heap_formula.specs.declared.judgements.Judgement.TheVariants.{Entail, Term as Runs}
-use Rattle.heap_formula.specs.declared.judgements.Pair.{Pair}
+use Rattle.heap_formula.specs.declared.judgements.NodeEdge.{NodeEdge}
 use Rattle.heap_formula.specs.declared.judgements.Premise.{Premise}
 use Rattle.heap_formula.specs.declared.proof_rules.Link.{Link}
 use Rattle.heap_formula.specs.declared.proof_rules.Reason.{Reason}
@@ -13,7 +13,8 @@ use Rattle.heap_formula.specs.declared.proof_rules.RuleFault.TheVariants.{Premis
 use Rattle.heap_formula.specs.Symbolic.{SymbolicHeap}
 use Rattle.heap_formula.specs.Definitions.{Definition}
 use Rattle.heap_formula.specs.Closedness.{IsUniversalHeap}
-use Rattle.heap_formula.specs.Judgements.{HoldsAt, Follows, antecedent}
+use Rattle.heap_formula.specs.Judgements.{HoldsAt, antecedent}
+use Rattle.heap_formula.specs.Edges.{edges_along}
 use Rattle.rule_table.specs.Soundness.{AreUniversal}
 use Rattle.heap_formula.specs.Meaning.{Stages}
 use Rattle.rule_table.specs.Answer.{Answer}
@@ -85,40 +86,32 @@ node_fault most ds lines nodes v node = reason_fault most ds lines nodes v node.
 
 -- ---- edges
 
--- an edge of a proof: the node to which it leads, and the trace pairs along it
-pub record Edge : Type 0 where
-  pub target : ℕ
-  pub pairs : List Pair
-
 -- an edge to each premise's node, in order
-abbrev pub edges_to : List Premise → List ℕ → List Edge
-edges_to [] us = []
-edges_to (p ∷ ps) [] = []
-edges_to (p ∷ ps) (u ∷ us) = record { target = u; pairs = p.pairs } ∷ edges_to ps us
+abbrev pub edges_to : List Premise → List ℕ → List NodeEdge
+edges_to ps us = edges_along (λ (p : Premise). p.pairs) ps us
 
 -- the edges of a rule with this answer
-abbrev pub answer_edges : List ℕ → Answer → List Edge
+abbrev pub answer_edges : List ℕ → Answer → List NodeEdge
 answer_edges us (Err f) = []
 answer_edges us (Ok ps) = edges_to ps us
 
 -- the edge of a link to this node
-abbrev pub link_edges : Link → Option Node → List Edge
+abbrev pub link_edges : Link → Option Node → List NodeEdge
 link_edges link None = []
 link_edges link (Some node) = record { target = link.target; pairs = (link_premise node.judgement link).pairs } ∷ []
 
 -- the edges of a node by its reason
-abbrev pub reason_edges : ℕ → List Definition → List Command → List Node → Judgement → List ℕ → Reason → List Edge
+abbrev pub reason_edges : ℕ → List Definition → List Command → List Node → Judgement → List ℕ → Reason → List NodeEdge
 reason_edges most ds lines nodes j us (Step rule) = answer_edges us (rule_answer most ds lines j rule)
 reason_edges most ds lines nodes j us (Back link) = link_edges link (slice_get nodes link.target)
 
 -- the edges of a node
-abbrev pub edges_of : ℕ → List Definition → List Command → List Node → Node → List Edge
+abbrev pub edges_of : ℕ → List Definition → List Command → List Node → Node → List NodeEdge
 edges_of most ds lines nodes node = reason_edges most ds lines nodes node.judgement node.premises node.reason
 
--- the edge's target holds at all stages that follow these
-abbrev pub EdgeHolds : List Definition → List Command → List Node → Stages → Edge → Type 0
-EdgeHolds ds lines nodes stages edge =
-    (below : Stages) → Follows edge.pairs stages below → (node : Node) → slice_get nodes edge.target ≡ Some node → HoldsAt ds lines below node.judgement
+-- the judgement of node v holds at the stages
+abbrev pub HoldsAtNode : List Definition → List Command → List Node → ℕ → Stages → Type 0
+HoldsAtNode ds lines nodes v stages = (node : Node) → slice_get nodes v ≡ Some node → HoldsAt ds lines stages node.judgement
 
 -- what the reader of a file sees to: no existential in an antecedent, nor in a substitution
 abbrev pub IsReadable : Judgement → Reason → Type 0

@@ -2,9 +2,10 @@ use Rattle.std.proofs.Common.{◌≡◌, ◌<◌, List, get_or, [], ◌∷◌, �
 use Rattle.std.specs.Prelude.{slice_get}
 use Rattle.std.specs.declared.alloc.Global.{Global}
 use Rattle.std.proofs.lemmas.List.{map-append}
+use Rattle.heap_formula.specs.declared.judgements.NodeEdge.{NodeEdge}
 use Rattle.heap_formula.specs.Words.{Each}
 use Rattle.fo_formula.specs.declared.nodes.FoNode.{FoNode}
-use Rattle.fo_table.specs.Nodes.{Edge, node_fault, edges_of}
+use Rattle.fo_table.specs.Nodes.{node_fault, edges_of}
 use Rattle.fo_nodes.specs.declared.node_tests.NodeAnswer.{NodeAnswer}
 use Rattle.fo_nodes.specs.Answers.{IsNodeAnswer}
 use Rattle.fo_nodes.specs.Files.{IsSmallSequent, IsReadNode}
@@ -71,7 +72,7 @@ loop-v-preserved c =
     let pushed = c.in_ok-push-in-Right.ensures.items in (
       omega (arith, ap length pushed, length-append c.loop-v.edges.items (c.in-Right.next ∷ []), inv.0),
       ap lists_of pushed
-          ∙ map-append (λ (r : Vec Edge Global). r.items) c.loop-v.edges.items (c.in-Right.next ∷ [])
+          ∙ map-append (λ (r : Vec NodeEdge Global). r.items) c.loop-v.edges.items (c.in-Right.next ∷ [])
           ∙ ap (λ rs. rs ++ c.in-Right.next.items ∷ []) inv.1
           ∙ ap (λ es. first_rows f v ++ es ∷ []) said.1
           ∙ sym (map-append edges (take v f.nodes) (n ∷ []))

@@ -2,10 +2,11 @@ use Rattle.std.proofs.Common.{◌≡◌, ◌≤◌, ◌<◌, List, get_or, [], �
 use Rattle.std.specs.Prelude.{slice_get}
 use Rattle.std.specs.declared.alloc.Global.{Global}
 use Rattle.std.proofs.lemmas.List.{map-append}
+use Rattle.heap_formula.specs.declared.judgements.NodeEdge.{NodeEdge}
 use Rattle.heap_formula.specs.Judgements.{antecedent}
 use Rattle.heap_formula.specs.Symbolic.{SymbolicHeap}
 use Rattle.proof_file.specs.declared.node.FileNode.{FileNode}
-use Rattle.rule_table.specs.Nodes.{Node, Edge, node_fault, edges_of}
+use Rattle.rule_table.specs.Nodes.{Node, node_fault, edges_of}
 use Rattle.proof_check.specs.declared.node_tests.NodeAnswer.{NodeAnswer}
 use Rattle.proof_check.specs.Answers.{IsNodeAnswer}
 use Rattle.proof_check.specs.Files.{node_of, nodes_of}
@@ -61,7 +62,7 @@ loop-v-preserved c =
     let pushed = c.in_ok-push-in-Right.ensures.items in (
       omega (arith, ap length pushed, length-append c.loop-v.edges.items (c.in-Right.next ∷ []), inv.0),
       ap lists_of pushed
-          ∙ map-append (λ (r : Vec Edge Global). r.items) c.loop-v.edges.items (c.in-Right.next ∷ [])
+          ∙ map-append (λ (r : Vec NodeEdge Global). r.items) c.loop-v.edges.items (c.in-Right.next ∷ [])
           ∙ ap (λ rs. rs ++ c.in-Right.next.items ∷ []) inv.1
           ∙ ap (λ es. first_rows f v ++ es ∷ []) said.1
           ∙ sym (map-append edges (take v nodes) (node_of n ∷ []))

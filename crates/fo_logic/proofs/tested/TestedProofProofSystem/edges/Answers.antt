@@ -1,6 +1,6 @@
 use Rattle.std.proofs.Common.{map, ap, ◌∙◌}
 use Rattle.std.proofs.lemmas.Result.{IfOk-weaker}
-use Rattle.fo_nodes.specs.Files.{graph_edge}
+use Rattle.proof_graph.specs.Traces.{graph_edge}
 use Rattle.fo_logic.proofs.Tables.{edges_at}
 use Rattle.fo_logic.proofs.tested.TestedProofProofSystem.edges.Goals as goal
 

@@ -1,5 +1,5 @@
 use Rattle.std.proofs.Common.{map, ap, ◌∙◌}
-use Rattle.proof_check.specs.Files.{graph_edge}
+use Rattle.proof_graph.specs.Traces.{graph_edge}
 use Rattle.proof_check.proofs.Tables.{edges_at}
 use Rattle.proof_check.proofs.tested.TestedFileProofSystem.edges.Goals as goal
 

@@ -1,6 +1,0 @@
-use Rattle.std.proofs.Common.{◌≡◌, ◌++◌, map, drop}
-use Rattle.fo_nodes.specs.Files.{graph_edge}
-use Rattle.fo_logic.proofs.tested.trace_edges.Given as goal
-
-abbrev pub invariant-loop-edge : goal.invariant-loop-edge
-invariant-loop-edge l = l.traced.items ++ map graph_edge (drop l.edge-index l.edges) ≡ map graph_edge l.edges
