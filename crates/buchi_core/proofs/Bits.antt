@@ -11,6 +11,7 @@ use Rattle.std.specs.Int.{w32}
 use Rattle.buchi_core.specs.Forest.{IsPositionSet, has, places, is_filled}
 use Rattle.buchi_core.specs.View.{is_one, members}
 use Rattle.list_facts.proofs.Bits.{bit_and_min, bit_or_max}
+use Rattle.list_facts.proofs.Tests.{or_false}
 
 -- ---- places
 places_agree : (f g : ℕ → Bool) (i n : ℕ) → ((q : ℕ) → i ≤ q → q < i + n → f q ≡ g q) → places f i n ≡ places g i n
@@ -223,10 +224,6 @@ pub or_more : (a b x z w : Bool) → x ≡ (a || b) → (a || (b || z)) ≡ w �
 or_more true b x z w e h = ap (λ y. y || z) e ∙ h
 or_more false b x z w e h = ap (λ y. y || z) e ∙ h
 
-pub or_none : (a : Bool) → (a || false) ≡ a
-or_none true = refl
-or_none false = refl
-
 pub position_more : (ps : List ℕ) (mask bit i q d : ℕ) → i < length ps → is_one bit q ≡ nat_eq (get_or ps i d) q → (is_one mask q || has (drop i ps) q) ≡ has ps q → (is_one (bit_or mask bit) q || has (drop (i + 1) ps) q) ≡ has ps q
 position_more ps mask bit i q d l b h =
     or_more (is_one mask q) (nat_eq (get_or ps i d) q) (is_one (bit_or mask bit) q) (has (drop (i + 1) ps) q) (has ps q)
@@ -235,4 +232,4 @@ position_more ps mask bit i q d l b h =
 
 pub position_end : (ps : List ℕ) (mask i q : ℕ) → length ps ≤ i → (is_one mask q || has (drop i ps) q) ≡ has ps q → is_one mask q ≡ has ps q
 position_end ps mask i q l h =
-    sym (or_none (is_one mask q)) ∙ subst (λ (z : List ℕ). (is_one mask q || has z q) ≡ has ps q) (drop_all i ps l) h
+    sym (or_false (is_one mask q)) ∙ subst (λ (z : List ℕ). (is_one mask q || has z q) ≡ has ps q) (drop_all i ps l) h

@@ -14,15 +14,12 @@ use Rattle.buchi_core.proofs.Lists.{get_append_right}
 use Rattle.buchi_core.proofs.Bits.{has_members, has_members_not, members_filter, one_and, one_not, one_zero, one_all}
 use Rattle.std.proofs.lemmas.Option.{slice_get_past}
 use Rattle.list_facts.proofs.Places.{get_within, get_append_left}
+use Rattle.list_facts.proofs.Tests.{or_false}
 
 -- ---- tests
 and_true : (a : Bool) → a ≡ (a && true)
 and_true true = refl
 and_true false = refl
-
-or_none : (a : Bool) → (a || false) ≡ a
-or_none true = refl
-or_none false = refl
 
 neither : (a s : Bool) → (not a && not s) ≡ not (a || s)
 neither true s = refl
@@ -116,14 +113,14 @@ module _ (made_so_far : List AgeEntry) (parent : Option ℕ) (given kept : ℕ) 
   any_more o q l =
       list_any-append (λ (e : AgeEntry). same_parent e.parent o && has e.set q) made_so_far (record { parent = parent; set = members kept } ∷ []) ∙
       ap (λ b. list_any (λ (e : AgeEntry). same_parent e.parent o && has e.set q) made_so_far || b)
-      (or_none (same_parent parent o && has (members kept) q) ∙ ap (λ b. same_parent parent o && b) (has_members kept q l))
+      (or_false (same_parent parent o && has (members kept) q) ∙ ap (λ b. same_parent parent o && b) (has_members kept q l))
 
   pub childless_more : (p q : ℕ) → length made_so_far ≤ p → list_any (λ e. same_parent e.parent (Some p) && has e.set q) made_so_far ≡ false →
       list_any (λ e. same_parent e.parent (Some p) && has e.set q) (made_so_far ++ (record { parent = parent; set = members kept } ∷ [])) ≡ false
   childless_more p q l none =
       list_any-append (λ (e : AgeEntry). same_parent e.parent (Some p) && has e.set q) made_so_far (record { parent = parent; set = members kept } ∷ []) ∙
       (ap (λ b. b || ((same_parent parent (Some p) && has (members kept) q) || false)) none ∙
-      (or_none (same_parent parent (Some p) && has (members kept) q) ∙
+      (or_false (same_parent parent (Some p) && has (members kept) q) ∙
       elim (cases_lt q 32) [
         | inl k ↦ ap (λ b. same_parent parent (Some p) && b) (has_members kept q k) ∙ no_self parent refl p q l k
         | inr g ↦ and_right (same_parent parent (Some p)) (has (members kept) q) (has_members_not kept q g)

@@ -8,7 +8,8 @@ use Rattle.std.specs.Int.{w32, trailing_zeros}
 use Rattle.buchi_core.specs.Forest.{Pair, has, leads}
 use Rattle.buchi_core.specs.Moves.{AreMoves}
 use Rattle.buchi_core.specs.View.{is_one, members}
-use Rattle.buchi_core.proofs.Bits.{has_members, has_members_not, one_and, one_or, one_not, one_pow, one_zero, or_more, or_none}
+use Rattle.buchi_core.proofs.Bits.{has_members, has_members_not, one_and, one_or, one_not, one_pow, one_zero, or_more}
+use Rattle.list_facts.proofs.Tests.{and_false, and_true, or_false}
 
 zeros_at : (n p : ℕ) → get_or (replicate n zero) p zero ≡ zero
 zeros_at zero p = refl
@@ -25,7 +26,7 @@ added masks old new bit p q l b =
           subst (λ z. is_one (get_or (set masks old (bit_or (get_or masks old 0) bit)) z 0) q ≡ (is_one (get_or masks z 0) q || (nat_eq z old && nat_eq new q))) (sym e)
           (ap (λ z. is_one z q) (get_or-set_same masks old (bit_or (get_or masks old 0) bit) 0 l) ∙ (one_or (get_or masks old 0) bit q ∙ ap (λ z. is_one (get_or masks old 0) q || z) (b ∙ sym (ap (λ z. z && nat_eq new q) (eq-eqb old old refl)))))
       | inr d ↦
-          ap (λ z. is_one z q) (get_or-set_other masks old p (bit_or (get_or masks old 0) bit) 0 d) ∙ (sym (or_none (is_one (get_or masks p 0) q)) ∙ ap (λ z. is_one (get_or masks p 0) q || z) (sym (ap (λ z. z && nat_eq new q) (ne_eqb p old d))))
+          ap (λ z. is_one z q) (get_or-set_other masks old p (bit_or (get_or masks old 0) bit) 0 d) ∙ (sym (or_false (is_one (get_or masks p 0) q)) ∙ ap (λ z. is_one (get_or masks p 0) q || z) (sym (ap (λ z. z && nat_eq new q) (ne_eqb p old d))))
     ]
 
 -- ---- the least position of a mask, and the mask without it
@@ -41,14 +42,6 @@ least_below m z l = (bit_at-trailing_zeros w32 m z l).0
 
 least_one : (m : ℕ) → 0 < m → m < 2 ^ 32 → is_one m (trailing_zeros w32 m) ≡ true
 least_one m z l = ap (λ x. nat_eq x 1) (bit_at-trailing_zeros w32 m z l).1
-
-and_false : (b : Bool) → (b && false) ≡ false
-and_false true = refl
-and_false false = refl
-
-and_true : (b : Bool) → (b && true) ≡ b
-and_true true = refl
-and_true false = refl
 
 pub fewer : (m : ℕ) → 0 < m → m < 2 ^ 32 → cleared m (trailing_zeros w32 m) < m
 fewer m z l =
@@ -116,4 +109,4 @@ none_left rest x e =
 
 pub target_end : (pairs : List Pair) (targets rest q : ℕ) (w : Bool) → rest ≡ 0 → (is_one targets q || leads pairs (members rest) q) ≡ w → is_one targets q ≡ w
 target_end pairs targets rest q w e h =
-    sym (or_none (is_one targets q)) ∙ (sym (ap (λ b. is_one targets q || b) (leads_none pairs (members rest) q (λ x. none_left rest x e))) ∙ h)
+    sym (or_false (is_one targets q)) ∙ (sym (ap (λ b. is_one targets q || b) (leads_none pairs (members rest) q (λ x. none_left rest x e))) ∙ h)

@@ -32,7 +32,8 @@ use Rattle.format_limits.specs.Limits.{IsHeapWithin, IsJudgementWithin, IsDefini
 use Rattle.format_limits.proofs.Gives.{needs_gives, finds_gives, entails_gives, single_gives, runs_gives}
 use Rattle.format_limits.proofs.Heaps.{IsSmall, small}
 use Rattle.format_limits.proofs.Judgements.{first_heap}
-use Rattle.format_limits.proofs.Few.{few_cases, are_few}
+use Rattle.format_limits.proofs.Few.{are_few}
+use Rattle.rule_table.proofs.FewPremises.{few_cases}
 use Rattle.std.proofs.lemmas.Bool.{and_parts}
 
 -- a place in a short list

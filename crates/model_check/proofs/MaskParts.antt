@@ -20,6 +20,7 @@ use Rattle.model_check.specs.Ground.{Apart}
 use Rattle.list_facts.proofs.Bits.{bit_and_min, bit_or_max}
 use Rattle.list_facts.proofs.Options.{option_cases}
 use Rattle.heap_formula.proofs.Insertions.{same_address}
+use Rattle.list_facts.proofs.Tests.{and_true, or_false}
 
 -- ---- bits as tests
 
@@ -145,10 +146,6 @@ module _ (ns : List ℕ) (l r h : Cells) (u : IsUnion l r h) where
     whole = same_masks _ _ (λ i. (mask_bits i).1 ∙ sym (has_or (mask_of ns l) (mask_of ns r) i));
   }
 
-and_true : (b : Bool) → (b && true) ≡ b
-and_true true = refl
-and_true false = refl
-
 true_and : (b : Bool) → (true && b) ≡ b
 true_and true = refl
 true_and false = refl
@@ -231,10 +228,6 @@ mask_zero ns = same_masks _ _ (λ i. bits i ∙ sym (has_zero i))
     ]
 
 -- ---- the mask of the whole heap, a place at a time
-
-or_false : (x : Bool) → (x || false) ≡ x
-or_false true = refl
-or_false false = refl
 
 pub more_bits : (b : ℕ → Bool) (k : ℕ) → b k ≡ true → bit_or (from_bits b k) (2 ^ k) ≡ from_bits b (k + 1)
 more_bits b k t = same_masks _ _ (λ i. has_or (from_bits b k) (2 ^ k) i ∙ ap (λ x. has_bit (from_bits b k) i || x) (has_pow k i) ∙ bits i)

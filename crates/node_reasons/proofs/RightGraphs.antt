@@ -7,7 +7,7 @@ use Rattle.heap_formula.specs.declared.commands.Command.{Command}
 use Rattle.heap_formula.specs.declared.judgements.Judgement.{Judgement}
 use Rattle.heap_formula.specs.declared.judgements.Pair.{Pair}
 use Rattle.heap_formula.specs.declared.judgements.Premise.{Premise}
-use Rattle.heap_formula.specs.Definitions.{Definition}
+use Rattle.heap_formula.specs.Definitions.{Definition, HasFewCases}
 use Rattle.heap_formula.specs.Words.{Each}
 use Rattle.heap_formula.specs.Meaning.{Stages}
 use Rattle.heap_formula.specs.Judgements.{HoldsAt, antecedent}
@@ -22,7 +22,7 @@ use Rattle.proof_graph.specs.Traces.{positions_of, trace_pair}
 use Rattle.node_reasons.proofs.FewEdges.{few_edges}
 use Rattle.node_reasons.proofs.Reasons.{Leads, by_reason}
 use Rattle.node_reasons.specs.Answers.{targets_of}
-use Rattle.node_reasons.specs.Graphs.{graph_edge, graph_node, graph_of, AreReadable, HasFewCases, HoldsAtNode}
+use Rattle.node_reasons.specs.Graphs.{graph_edge, graph_node, graph_of, AreReadable, HoldsAtNode}
 pub use Rattle.proof_graph.proofs.Joined.{Mapped, mapped_at}
 use Rattle.heap_formula.proofs.Members.{each_from}
 use Rattle.proof_graph.proofs.Places.{place_of, places_set}

@@ -3,9 +3,10 @@ use Rattle.std.proofs.Common.{◌≡◌, ◌≢◌, ℕ, zero, suc, ◌+◌, ◌
 use Rattle.std.specs.Prelude.{nat_eq}
 use Rattle.std.proofs.lemmas.Bool.{cases_Bool, cases_lt, or_left, or_right, and_from, eqb-true, eq-eqb}
 use Rattle.std.proofs.lemmas.Bool.Decides.{eqb_tells}
+use Rattle.std.specs.List.{list_any}
 use Rattle.heap_formula.specs.declared.terms.Term.{Term}
 use Rattle.heap_formula.specs.Words.{Each}
-use Rattle.pair_family.specs.Combination.{Two, any, upto, pairs_below, is_between, is_in_class, is_least, kept}
+use Rattle.pair_family.specs.Combination.{Two, upto, pairs_below, is_between, is_in_class, is_least, kept}
 use Rattle.pair_family.proofs.Lists.{In, each_at, in_filter, any_in, in_any, in_map, in_upto, upto_in, in_pairs}
 
 module _ (k : ℕ) (at : ℕ → Term) (f : Term → ℕ) (ds : List Two) (cs : List Term) where
@@ -13,7 +14,7 @@ module _ (k : ℕ) (at : ℕ → Term) (f : Term → ℕ) (ds : List Two) (cs : 
   least_of : (n i : ℕ) → i < n → (c : ℕ) × (c ≤ i) × (f (at c) ≡ f (at i)) × (is_least f at c ≡ true)
   least_of zero i l = absurd (omega arith)
   least_of (suc n) i l =
-      elim (cases_Bool (any (λ j. is_in_class f at i (at j)) (upto i))) [
+      elim (cases_Bool (list_any (λ j. is_in_class f at i (at j)) (upto i))) [
         | inl y ↦
             (let o = any_in (λ j. is_in_class f at i (at j)) (upto i) y in
             let less = upto_in i o.0 o.1 in
@@ -26,7 +27,7 @@ module _ (k : ℕ) (at : ℕ → Term) (f : Term → ℕ) (ds : List Two) (cs : 
   cell_kept t i m l e =
       let c = least_of (suc i) i (omega arith) in
       let same : f t ≡ f (at c.0) = e ∙ sym c.2 in
-      (c.0, in_filter (λ i. is_least f at i && any (is_in_class f at i) cs) c.0 (upto (suc k)) (in_upto (suc k) c.0 (omega arith)) (and_from _ _ c.3 (in_any (is_in_class f at c.0) cs t m (eq-eqb _ _ same))), omega arith, sym same)
+      (c.0, in_filter (λ i. is_least f at i && list_any (is_in_class f at i) cs) c.0 (upto (suc k)) (in_upto (suc k) c.0 (omega arith)) (and_from _ _ c.3 (in_any (is_in_class f at c.0) cs t m (eq-eqb _ _ same))), omega arith, sym same)
 
   module _ (val : ℕ → ℕ) (S : Each (λ q. val q.0 ≡ val q.1) (kept k at f ds cs).same) where
     same_below : (i j : ℕ) → i < j → j ≤ k → f (at i) ≡ f (at j) → val i ≡ val j
@@ -45,7 +46,7 @@ module _ (k : ℕ) (at : ℕ → Term) (f : Term → ℕ) (ds : List Two) (cs : 
 
     differ_below : Each (λ q. val q.0 ≢ val q.1) (kept k at f ds cs).differ → (i j : ℕ) (q : Two) → i < j → j ≤ k → In q ds → is_between f at i j q ≡ true → val i ≢ val j
     differ_below A i j q l m d t =
-        each_at (λ q. val q.0 ≢ val q.1) (kept k at f ds cs).differ (i, j) A (in_filter (λ q. any (is_between f at q.0 q.1) ds) (i, j) (pairs_below (suc k)) (in_pairs (suc k) i j l (omega arith)) (in_any (is_between f at i j) ds q d t))
+        each_at (λ q. val q.0 ≢ val q.1) (kept k at f ds cs).differ (i, j) A (in_filter (λ q. list_any (is_between f at q.0 q.1) ds) (i, j) (pairs_below (suc k)) (in_pairs (suc k) i j l (omega arith)) (in_any (is_between f at i j) ds q d t))
 
     pub differ_kept : Each (λ q. val q.0 ≢ val q.1) (kept k at f ds cs).differ → (i j : ℕ) (q : Two) → i ≤ k → j ≤ k → In q ds → f q.0 ≢ f q.1 → f q.0 ≡ f (at i) → f q.1 ≡ f (at j) → val i ≢ val j
     differ_kept A i j q l m d n a b =

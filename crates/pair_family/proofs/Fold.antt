@@ -2,12 +2,13 @@
 use Rattle.std.proofs.Common.{◌≡◌, ◌≢◌, ℕ, zero, suc, ◌+◌, ◌<◌, ◌≤◌, max, ◌⊎◌, inl, inr, List, [], ◌∷◌, ◌++◌, map, filter, arith, Bool, true, false, ◌||◌, ◌&&◌, not, sym, refl, ap, ◌∙◌, subst}
 use Rattle.std.specs.Prelude.{nat_eq}
 use Rattle.std.proofs.lemmas.Bool.{cases_Bool, cases_lt, or_cases, or_left, or_right, and_parts, and_from, eqb-true, eq-eqb}
+use Rattle.std.specs.List.{list_any}
 use Rattle.heap_formula.specs.declared.terms.Term.{Term}
 use Rattle.heap_formula.specs.declared.terms.Term.TheVariants.{Nil}
 use Rattle.heap_formula.specs.Words.{Each}
 use Rattle.pair_family.specs.BasePairs.{BasePair}
 use Rattle.pair_family.specs.Classes.{class_of}
-use Rattle.pair_family.specs.Combination.{Two, any, upto, pairs_below, each_two, against_nil, cell_differences, is_between, is_in_class, is_least, Facts, all_differ, both, AreConsistent, said}
+use Rattle.pair_family.specs.Combination.{Two, upto, pairs_below, each_two, against_nil, cell_differences, is_between, is_in_class, is_least, Facts, all_differ, both, AreConsistent, said}
 use Rattle.pair_family.specs.Folding.{two_at, stated, IsOneOf}
 use Rattle.pair_family.proofs.Lists.{In, at_each, each_at, in_left, in_right, in_append, in_map, map_in, in_filter, filter_in, any_in, in_any, upto_in, in_pairs, pairs_in}
 use Rattle.pair_family.proofs.Two.{two_append, append_two_left, append_two_right, append_two_cross, map_two}
@@ -110,7 +111,7 @@ filter_same p q (x ∷ xs) e =
       | inr n ↦ (let n' : q x ≡ false = sym here ∙ n in rw (n, n') rest)
     ]
 
-pub any_same : {X : Type 0} (p q : X → Bool) (xs : List X) → ((x : X) → In x xs → p x ≡ q x) → any p xs ≡ any q xs
+pub any_same : {X : Type 0} (p q : X → Bool) (xs : List X) → ((x : X) → In x xs → p x ≡ q x) → list_any p xs ≡ list_any q xs
 any_same p q [] e = refl
 any_same p q (x ∷ xs) e = let rest = any_same p q xs (λ y i. e y (inr i)) in let here = e x (inl refl) in λ i. here i || rest i
 
@@ -282,9 +283,9 @@ module _ (x y : Facts) (n : ℕ) (at : ℕ → Term) (consistent : AreConsistent
   in_differ : (a b : ℕ) (q : Two) → a ≤ n → b ≤ n → In q (all_differ x) → f1 q.0 ≡ f1 (at a) → f1 q.1 ≡ f1 (at b) → In (a, b) one.differ ⊎ In (b, a) one.differ
   in_differ a b q l m i s r =
       elim (cases_lt a b) [
-        | inl z ↦ inl (in_filter (λ q. any (is_between f1 at q.0 q.1) (all_differ x)) (a, b) (pairs_below (suc n)) (in_pairs (suc n) a b z (omega arith)) (in_any (is_between f1 at a b) (all_differ x) q i (links_between f1 at a b q (inl (s, r)))))
+        | inl z ↦ inl (in_filter (λ q. list_any (is_between f1 at q.0 q.1) (all_differ x)) (a, b) (pairs_below (suc n)) (in_pairs (suc n) a b z (omega arith)) (in_any (is_between f1 at a b) (all_differ x) q i (links_between f1 at a b q (inl (s, r)))))
         | inr z ↦ elim (cases_lt b a) [
-          | inl z ↦ inr (in_filter (λ q. any (is_between f1 at q.0 q.1) (all_differ x)) (b, a) (pairs_below (suc n)) (in_pairs (suc n) b a z (omega arith)) (in_any (is_between f1 at b a) (all_differ x) q i (links_between f1 at b a q (inr (s, r)))))
+          | inl z ↦ inr (in_filter (λ q. list_any (is_between f1 at q.0 q.1) (all_differ x)) (b, a) (pairs_below (suc n)) (in_pairs (suc n) b a z (omega arith)) (in_any (is_between f1 at b a) (all_differ x) q i (links_between f1 at b a q (inr (s, r)))))
           | inr z' ↦ (let e : a ≡ b = omega arith in absurd (each_at (λ q. f1 q.0 ≢ f1 q.1) (all_differ x) q consistent i (s ∙ ap (λ z. f1 (at z)) e ∙ sym r)))
         ]
       ]
@@ -321,7 +322,7 @@ module _ (x y : Facts) (n : ℕ) (at : ℕ → Term) (consistent : AreConsistent
         | inl i ↦ elim (in_append q (two_at at one.differ) (cell_differences (map at one.cells)) i) [
           | inl j ↦
               (let r = map_in (λ q. (at q.0, at q.1)) q one.differ j in
-              let g = any_in (is_between f1 at r.0.0 r.0.1) (all_differ x) (filter_in (λ q. any (is_between f1 at q.0 q.1) (all_differ x)) r.0 (pairs_below (suc n)) r.1).1 in
+              let g = any_in (is_between f1 at r.0.0 r.0.1) (all_differ x) (filter_in (λ q. list_any (is_between f1 at q.0 q.1) (all_differ x)) r.0 (pairs_below (suc n)) r.1).1 in
               let l = links_to f1 f2 one_two g.0 (at r.0.0) (at r.0.1) (between_links f1 at r.0.0 r.0.1 g.0 g.2) in
               (g.0, both_first x y g.0 g.1, links_on f2 g.0 (at r.0.0) (at r.0.1) t u (ap (λ z. f2 z.0) r.2 ∙ et) (ap (λ z. f2 z.1) r.2 ∙ eu) l))
           | inr j ↦ elim (in_append q (against_nil (map at one.cells)) (each_two (map at one.cells)) j) [
@@ -350,7 +351,7 @@ module _ (x y : Facts) (n : ℕ) (at : ℕ → Term) (consistent : AreConsistent
     classes_agree : (i j : ℕ) → i ≤ k → j ≤ k → nat_eq (f2 (to i)) (f2 (to j)) ≡ nat_eq (f3 (to i)) (f3 (to j))
     classes_agree i j a b = bool_same _ _ (λ e. eq-eqb _ _ (two_three (to i) (to j) (live i a) (live j b) (eqb-true _ _ e))) (λ e. eq-eqb _ _ (three_two (to i) (to j) (eqb-true _ _ e)))
 
-    differ_agree : (i j : ℕ) → i ≤ k → j ≤ k → any (is_between f2 to i j) (all_differ whole) ≡ any (is_between f3 to i j) (all_differ folded)
+    differ_agree : (i j : ℕ) → i ≤ k → j ≤ k → list_any (is_between f2 to i j) (all_differ whole) ≡ list_any (is_between f3 to i j) (all_differ folded)
     differ_agree i j a b = bool_same _ _
         (λ h. let q = any_in (is_between f2 to i j) (all_differ whole) h in
         elim (between_links f2 to i j q.0 q.2) [
@@ -366,7 +367,7 @@ module _ (x y : Facts) (n : ℕ) (at : ℕ → Term) (consistent : AreConsistent
     least_agrees : (i : ℕ) → i ≤ k → is_least f2 to i ≡ is_least f3 to i
     least_agrees i a = ap not (any_same (λ j. is_in_class f2 to i (to j)) (λ j. is_in_class f3 to i (to j)) (upto i) (λ j m. let l = upto_in i j m in classes_agree j i (omega arith) a))
 
-    cells_agree : (i : ℕ) → i ≤ k → any (is_in_class f2 to i) whole.cells ≡ any (is_in_class f3 to i) folded.cells
+    cells_agree : (i : ℕ) → i ≤ k → list_any (is_in_class f2 to i) whole.cells ≡ list_any (is_in_class f3 to i) folded.cells
     cells_agree i a = bool_same _ _
         (λ h. let t = any_in (is_in_class f2 to i) whole.cells h in
         let e = eqb-true _ _ t.2 in
@@ -388,6 +389,6 @@ module _ (x y : Facts) (n : ℕ) (at : ℕ → Term) (consistent : AreConsistent
     pub said_same : said k to whole ≡ said k to folded
     said_same =
         let s = filter_same (λ q. nat_eq (f2 (to q.0)) (f2 (to q.1))) (λ q. nat_eq (f3 (to q.0)) (f3 (to q.1))) (pairs_below (suc k)) (λ q m. let l = pairs_in (suc k) q m in classes_agree q.0 q.1 (omega arith) (omega arith)) in
-        let d = filter_same (λ q. any (is_between f2 to q.0 q.1) (all_differ whole)) (λ q. any (is_between f3 to q.0 q.1) (all_differ folded)) (pairs_below (suc k)) (λ q m. let l = pairs_in (suc k) q m in differ_agree q.0 q.1 (omega arith) (omega arith)) in
-        let c = filter_same (λ i. is_least f2 to i && any (is_in_class f2 to i) whole.cells) (λ i. is_least f3 to i && any (is_in_class f3 to i) folded.cells) (upto (suc k)) (λ i m. let l = upto_in (suc k) i m in let a = least_agrees i (omega arith) in let b = cells_agree i (omega arith) in λ z. a z && b z) in
+        let d = filter_same (λ q. list_any (is_between f2 to q.0 q.1) (all_differ whole)) (λ q. list_any (is_between f3 to q.0 q.1) (all_differ folded)) (pairs_below (suc k)) (λ q m. let l = pairs_in (suc k) q m in differ_agree q.0 q.1 (omega arith) (omega arith)) in
+        let c = filter_same (λ i. is_least f2 to i && list_any (is_in_class f2 to i) whole.cells) (λ i. is_least f3 to i && list_any (is_in_class f3 to i) folded.cells) (upto (suc k)) (λ i m. let l = upto_in (suc k) i m in let a = least_agrees i (omega arith) in let b = cells_agree i (omega arith) in λ z. a z && b z) in
         λ z. record { same = s z; differ = d z; cells = c z }

@@ -2,8 +2,9 @@
 use Rattle.std.proofs.Common.{◌≡◌, ◌≢◌, ℕ, suc, ◌<◌, ◌⊎◌, inl, inr, List, true, false, ◌&&◌, sym, refl, ap, ◌∙◌}
 use Rattle.std.specs.Prelude.{nat_eq}
 use Rattle.std.proofs.lemmas.Bool.{or_cases, and_parts, both_ways, eqb-true, eq-eqb}
+use Rattle.std.specs.List.{list_any}
 use Rattle.heap_formula.specs.declared.terms.Term.{Term}
-use Rattle.pair_family.specs.Combination.{Two, any, upto, pairs_below, each_two, is_between, is_in_class, is_least, kept}
+use Rattle.pair_family.specs.Combination.{Two, upto, pairs_below, each_two, is_between, is_in_class, is_least, kept}
 use Rattle.pair_family.proofs.Lists.{In, filter_in, any_in, in_any, in_upto}
 use Rattle.pair_family.proofs.Two.{two_in, in_two, two_filter, two_upto}
 
@@ -11,7 +12,7 @@ module _ (k : ℕ) (at : ℕ → Term) (f : Term → ℕ) (ds : List Two) (cs : 
   -- an address for each cell that is kept
   pub cell_class : (c : ℕ) → In c (kept k at f ds cs).cells → (t : Term) × In t cs × (f t ≡ f (at c)) × (is_least f at c ≡ true)
   cell_class c m =
-      let r = filter_in (λ i. is_least f at i && any (is_in_class f at i) cs) c (upto (suc k)) m in
+      let r = filter_in (λ i. is_least f at i && list_any (is_in_class f at i) cs) c (upto (suc k)) m in
       let p = and_parts _ _ r.1 in
       let o = any_in (is_in_class f at c) cs p.1 in
       (o.0, o.1, eqb-true _ _ o.2, p.0)
@@ -25,7 +26,7 @@ module _ (k : ℕ) (at : ℕ → Term) (f : Term → ℕ) (ds : List Two) (cs : 
   pub cells_two : (q : ℕ × ℕ) → In q (each_two (kept k at f ds cs).cells) → (r : Two) × (In r (each_two cs)) × (((f r.0 ≡ f (at q.0)) × (f r.1 ≡ f (at q.1))) ⊎ ((f r.0 ≡ f (at q.1)) × (f r.1 ≡ f (at q.0))))
   cells_two q m =
       let both = two_in q (kept k at f ds cs).cells m in
-      let less = two_upto (suc k) q (two_filter (λ i. is_least f at i && any (is_in_class f at i) cs) q (upto (suc k)) m) in
+      let less = two_upto (suc k) q (two_filter (λ i. is_least f at i && list_any (is_in_class f at i) cs) q (upto (suc k)) m) in
       let a = cell_class q.0 both.0 in
       let b = cell_class q.1 both.1 in
       let two : f a.0 ≢ f b.0 = λ e. not_least q.0 q.1 less (sym a.2 ∙ e ∙ b.2) b.3 in
@@ -50,7 +51,7 @@ module _ (k : ℕ) (at : ℕ → Term) (f : Term → ℕ) (ds : List Two) (cs : 
 
     pub kept_differ : (q : ℕ × ℕ) → In q (kept k at f ds cs).differ → val q.0 ≢ val q.1
     kept_differ q m =
-        let r = filter_in (λ q. any (is_between f at q.0 q.1) ds) q (pairs_below (suc k)) m in
+        let r = filter_in (λ q. list_any (is_between f at q.0 q.1) ds) q (pairs_below (suc k)) m in
         let o = any_in (is_between f at q.0 q.1) ds r.1 in
         elim (or_cases _ _ o.2) [
           | inl a ↦ (let p = and_parts _ _ a in apart_at q.0 q.1 o.0 (D o.0 o.1) (eqb-true _ _ p.0) (eqb-true _ _ p.1))

@@ -1,8 +1,9 @@
 -- Members of lists.
 use Rattle.std.proofs.Common.{◌≡◌, ℕ, zero, suc, ◌<◌, ◌⊎◌, inl, inr, List, [], ◌∷◌, ◌++◌, map, filter, arith, Bool, true, false, sym, refl, ap, subst}
 use Rattle.std.proofs.lemmas.Bool.{cases_lt, cases_Bool, or_cases, or_left, or_right, both_ways}
+use Rattle.std.specs.List.{list_any}
 use Rattle.heap_formula.specs.Words.{Each, OneOf}
-use Rattle.pair_family.specs.Combination.{any, upto, pairs_below}
+use Rattle.pair_family.specs.Combination.{upto, pairs_below}
 
 abbrev pub In : {X : Type 0} → X → List X → Type 0
 In x xs = OneOf (λ y. y ≡ x) xs
@@ -60,12 +61,12 @@ filter_in {X = X} t x (y ∷ xs) i =
       | inr no' ↦ (let i' : In x (filter t xs) = rw no' at i in let r = filter_in t x xs i' in (inr r.0, r.1))
     ]
 
-pub any_in : {X : Type 0} (t : X → Bool) (xs : List X) → any t xs ≡ true → (x : X) × In x xs × (t x ≡ true)
+pub any_in : {X : Type 0} (t : X → Bool) (xs : List X) → list_any t xs ≡ true → (x : X) × In x xs × (t x ≡ true)
 any_in t [] h = absurd (both_ways false refl h)
 any_in t (x ∷ xs) h =
     elim (or_cases _ _ h) [ inl e ↦ (x, inl refl, e) | inr m ↦ (let r = any_in t xs m in (r.0, inr r.1, r.2)) ]
 
-pub in_any : {X : Type 0} (t : X → Bool) (xs : List X) (x : X) → In x xs → t x ≡ true → any t xs ≡ true
+pub in_any : {X : Type 0} (t : X → Bool) (xs : List X) (x : X) → In x xs → t x ≡ true → list_any t xs ≡ true
 in_any t [] x i p = absurd i
 in_any t (y ∷ xs) x (inl s) p = or_left _ _ (subst (λ z. t z ≡ true) (sym s) p)
 in_any t (y ∷ xs) x (inr i) p = or_right _ _ (in_any t xs x i p)

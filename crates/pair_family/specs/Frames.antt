@@ -4,7 +4,7 @@ use Rattle.heap_formula.specs.declared.terms.Term.{Term}
 use Rattle.heap_formula.specs.declared.terms.Term.TheVariants.{Nil, Univ}
 use Rattle.heap_formula.specs.declared.atoms.Spatial.{Spatial}
 use Rattle.pair_family.specs.Classes.{term_number}
-use Rattle.pair_family.specs.Combination.{any}
+use Rattle.std.specs.List.{list_any}
 use Rattle.pair_family.specs.Folding.{Frame, Frames, spoken}
 
 -- the terms by number
@@ -16,7 +16,7 @@ abbrev pub frame_of : List Term → Frame
 frame_of terms = record { count = length terms; at = term_at (Nil ∷ terms) }
 
 abbrev pub has_term : List Term → Term → Bool
-has_term terms t = any (λ u. nat_eq (term_number u) (term_number t)) terms
+has_term terms t = list_any (λ u. nat_eq (term_number u) (term_number t)) terms
 
 -- one more term beside nil and these, unless it is there
 abbrev pub one_more : List Term → Term → List Term

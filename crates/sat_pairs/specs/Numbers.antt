@@ -7,13 +7,13 @@ use Rattle.heap_formula.specs.declared.atoms.Pure.TheVariants.{Eq, Neq}
 use Rattle.heap_formula.specs.declared.atoms.Spatial.{Spatial}
 use Rattle.pair_family.specs.BasePairs.{BasePair}
 use Rattle.pair_family.specs.Classes.{term_number}
-use Rattle.pair_family.specs.Combination.{any}
+use Rattle.std.specs.List.{list_any}
 use Rattle.pair_family.specs.Folding.{spoken}
 use Rattle.pair_family.specs.Frames.{parameters_from}
 
 -- one more number, unless it is there
 abbrev pub numbered : List ℕ → ℕ → List ℕ
-numbered ns n = if any (λ c. nat_eq c n) ns then ns else ns ++ n ∷ []
+numbered ns n = if list_any (λ c. nat_eq c n) ns then ns else ns ++ n ∷ []
 
 abbrev pub with_numbers : List ℕ → List Term → List ℕ
 with_numbers ns [] = ns

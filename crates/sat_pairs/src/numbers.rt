@@ -2,7 +2,7 @@
 ghost use Rattle.std.specs.Prelude.{◌≡◌, ◌<◌, ◌++◌, ◌∷◌, [], if◌then◌else◌, length, map, nat_eq, IfOk};
 ghost use Rattle.heap_formula.specs.declared.terms.Term.TheVariants.{Nil};
 ghost use Rattle.pair_family.specs.Classes.{term_number};
-ghost use Rattle.pair_family.specs.Combination.{any};
+ghost use Rattle.std.specs.List.{list_any};
 ghost use Rattle.pair_family.specs.Folding.{spoken};
 ghost use Rattle.pair_family.specs.Frames.{parameters_from};
 ghost use Rattle.sat_pairs.specs.Numbers.{numbered, with_numbers, with_pure_numbers, kept_numbers as kept_numbers_of, place_in, places_in, sides_of, count_from};
@@ -23,7 +23,7 @@ pub fn number_of(term: Term) -> u64
 }
 
 fn has_number(numbers: &[u64], number: u64) -> bool
-    ensures { result ≡ any (λ c. nat_eq c number) numbers.now }
+    ensures { result ≡ list_any (λ c. nat_eq c number) numbers.now }
 {
     for other in numbers {
         if *other == number {

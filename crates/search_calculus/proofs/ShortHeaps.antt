@@ -26,7 +26,7 @@ use Rattle.heap_formula.specs.Programs.{counted_from_one, program_variables}
 use Rattle.heap_formula.specs.Substitution.{in_heap, apply_spatial}
 use Rattle.heap_formula.specs.Symbolic.{SymbolicHeap}
 use Rattle.heap_formula.specs.Words.{Each}
-use Rattle.rule_table.specs.Answer.{finds, heaps_of, every, each_heap, is_short, limited, one, two}
+use Rattle.rule_table.specs.Answer.{finds, heaps_of, each_heap, is_short, limited, one, two}
 use Rattle.rule_table.specs.ExecTable.{cell_of, renamed, renamed_term, with_atom, variables_from, with_cell, with_field, at_line, command_answer}
 use Rattle.rule_table.specs.Fits.{OnPremises}
 use Rattle.rule_table.specs.RuleBook.{variables_of, rule_answer}
@@ -38,6 +38,7 @@ use Rattle.rule_table.proofs.Fits.{needs_on, finds_on, limited_on, entails_on, s
 use Rattle.format_limits.proofs.Gives.{limited_gives}
 use Rattle.format_limits.proofs.Heaps.{length-without, short_spatials}
 use Rattle.std.proofs.lemmas.Bool.{and_parts}
+use Rattle.std.specs.List.{list_all}
 use Rattle.rule_table.proofs.EmptyPremises.{empty_on}
 
 -- the antecedent has at most so many spatial atoms
@@ -49,14 +50,14 @@ StaysShort most j p = IsShort most j → IsShort most p.judgement
 
 -- ---- rules that add spatial atoms test for it
 
-first_short : (most : ℕ) → (j : Judgement) → every (is_short most) (heaps_of j) ≡ true → IsShort most j
-first_short most (Entail a bs) e = short_spatials most a (and_parts (is_short most a) (every (is_short most) bs) e).0
+first_short : (most : ℕ) → (j : Judgement) → list_all (is_short most) (heaps_of j) ≡ true → IsShort most j
+first_short most (Entail a bs) e = short_spatials most a (and_parts (is_short most a) (list_all (is_short most) bs) e).0
 first_short most (Runs i a) e = short_spatials most a (and_parts (is_short most a) true e).0
 
 tested_short : (most : ℕ) → (j : Judgement) (ps : List Premise) → each_heap (is_short most) ps ≡ true → Each (StaysShort most j) ps
 tested_short most j [] e = tt
 tested_short most j (p ∷ ps) e =
-    let b = and_parts (every (is_short most) (heaps_of p.judgement)) (each_heap (is_short most) ps) e in ((λ h. first_short most p.judgement b.0), tested_short most j ps b.1)
+    let b = and_parts (list_all (is_short most) (heaps_of p.judgement)) (each_heap (is_short most) ps) e in ((λ h. first_short most p.judgement b.0), tested_short most j ps b.1)
 
 limited_short : (most : ℕ) → (j : Judgement) (ps : List Premise) → OnPremises (StaysShort most j) (limited most ps)
 limited_short most j ps = limited_gives (OnPremises (StaysShort most j)) (λ f. tt) most ps (λ s n. tested_short most j ps s)

@@ -12,7 +12,7 @@ use Rattle.heap_formula.specs.Substitution.{in_pure, in_spatial, in_heap}
 use Rattle.heap_formula.specs.Positions.{without}
 use Rattle.heap_formula.proofs.Places.{length-without}
 use Rattle.rule_table.specs.Table.{with_right, unfolded_right, right_term}
-use Rattle.rule_table.specs.Answer.{needs, limited, every, is_short, has_numbers, each_heap, heaps_of, one, number_bound}
+use Rattle.rule_table.specs.Answer.{needs, limited, is_short, has_numbers, each_heap, heaps_of, one, number_bound}
 use Rattle.rule_table.specs.Answered.{IsAnswer}
 use Rattle.rule_table.specs.Changes.{changed}
 use Rattle.rule_table.specs.declared.changes.Change.TheVariants.{Right}
@@ -20,6 +20,7 @@ use Rattle.rule_table.proofs.LimitedPremises.{limited_changed}
 use Rattle.unfold_rule.specs.Unfolding.{right_by, right_fits}
 use Rattle.unfold_rule.proofs.JoinedNumbers.{joined_same, joined_numbers, right_same, right_over}
 use Rattle.std.proofs.lemmas.Bool.{and_parts}
+use Rattle.std.specs.List.{list_all}
 use Rattle.list_facts.proofs.Tests.{le_same}
 
 module _ (a b : SymbolicHeap) (k : ℕ) (case : SymbolicHeap) where
@@ -43,7 +44,7 @@ module _ (a b : SymbolicHeap) (k : ℕ) (case : SymbolicHeap) where
 
     pub right_same_premise : each_heap has_numbers (one (right_by a b k g case)) ≡ true → one (right_by a b k f case) ≡ one (right_by a b k g case)
     right_same_premise e =
-        let c = and_parts (every has_numbers (heaps_of (right_by a b k g case).judgement)) true e in
+        let c = and_parts (list_all has_numbers (heaps_of (right_by a b k g case).judgement)) true e in
         let d = and_parts (has_numbers a) (has_numbers (unfolded_right b k (in_heap g case)) && true) c.0 in
         let n = and_parts (has_numbers (unfolded_right b k (in_heap g case))) true d.1 in
         let body = joined_same b.pure (without k b.spatial) f g same over case (leb-true _ _ n.0) in
