@@ -6,10 +6,12 @@ use Rattle.std.specs.List.{list_all}
 use Rattle.buchi_core.specs.Forest.{has, entry_has, child_has, set_of, is_set, is_filled, is_full, is_kept, losses}
 use Rattle.buchi_core.specs.declared.entry.Entry.{Entry}
 use Rattle.buchi_core.specs.declared.young.Young.{Young}
-use Rattle.buchi_core.specs.View.{is_one, members, entry_of, entries_of}
+use Rattle.buchi_core.specs.View.{members, entry_of, entries_of}
+use Rattle.list_facts.specs.Bits.{is_one}
 use Rattle.buchi_core.specs.Young.{AreLeft, made}
 use Rattle.buchi_core.proofs.Lists.{every_has}
-use Rattle.buchi_core.proofs.Bits.{member_is, filled_mask, no_ones, one_zero}
+use Rattle.buchi_core.proofs.Bits.{member_is, filled_mask, no_ones}
+use Rattle.list_facts.proofs.Bits.{one_zero}
 
 every_from : (t : ℕ → Bool) (xs : List ℕ) → ((q : ℕ) → has xs q ≡ true → t q ≡ true) → list_all t xs ≡ true
 every_from t [] h = refl

@@ -11,7 +11,8 @@ use Rattle.pair_family.specs.Classes.{class_of}
 use Rattle.pair_family.specs.Combination.{Two, Choice, next, each_two, against_nil, cell_differences, upto, pairs_below, is_between, is_in_class, is_least, Facts, all_differ, both, AreConsistent, said, pure_facts, atom_facts, list_facts, combination}
 use Rattle.pair_family.specs.States.{Families, IsChosenBy, GivesBy}
 use Rattle.pair_family.specs.Folding.{spoken, Frame, Frames, next_frames, last_frame, IsKept, AreFrames, said_in, with_atom, FoldsTo}
-use Rattle.pair_family.proofs.Lists.{In, upto_in, pairs_in, at_each, each_at, in_append, map_in}
+use Rattle.pair_family.proofs.Lists.{upto_in, pairs_in, at_each, each_at, in_append, map_in}
+use Rattle.list_facts.specs.Words.{IsMember}
 use Rattle.pair_family.proofs.Two.{two_in}
 use Rattle.pair_family.proofs.Classes.{classes_have, classes_least}
 use Rattle.pair_family.proofs.Scope.{atom_equations_in, atom_differences_in, atom_addresses_in}
@@ -47,7 +48,7 @@ first_consistent x y c =
 
 -- an atom's facts speak of its terms and nil
 module _ (Q : Term → Type 0) (nil : Q Nil) (b : BasePair) (x : Spatial) (inside : Each Q (spoken x)) where
-  all_differ_in : (q : Two) → In q (all_differ (atom_facts b x)) → Q q.0 × Q q.1
+  all_differ_in : (q : Two) → IsMember q (all_differ (atom_facts b x)) → Q q.0 × Q q.1
   all_differ_in q m =
       let cs = (atom_facts b x).cells in
       elim (in_append q (atom_facts b x).differ (cell_differences cs) m) [

@@ -13,7 +13,8 @@ use Rattle.heap_formula.specs.Closedness.{InPure, InSpatial, InHeap}
 use Rattle.pair_family.specs.BasePairs.{BasePair, element}
 use Rattle.pair_family.specs.Combination.{Two, Choice, next, pure_equations, pure_differences, atom_equations, atom_differences, atom_addresses, spatial_equations, spatial_differences, addresses, each_two, cell_differences, against_nil, combination, all_differ}
 use Rattle.pair_family.specs.Folding.{spoken}
-use Rattle.pair_family.proofs.Lists.{In, in_append, map_in}
+use Rattle.pair_family.proofs.Lists.{in_append, map_in}
+use Rattle.list_facts.specs.Words.{IsMember}
 use Rattle.pair_family.proofs.Two.{two_in}
 
 module _ (Q : Term → Type 0) (nil : Q Nil) where
@@ -26,20 +27,20 @@ module _ (Q : Term → Type 0) (nil : Q Nil) where
   abbrev pub BothIn : Two → Type 0
   BothIn q = Q q.0 × Q q.1
 
-  arguments_in : (ts : List Term) → Each Q ts → (qs : List (ℕ × ℕ)) (q : Two) → In q (map (λ q. (element ts q.0, element ts q.1)) qs) → BothIn q
+  arguments_in : (ts : List Term) → Each Q ts → (qs : List (ℕ × ℕ)) (q : Two) → IsMember q (map (λ q. (element ts q.0, element ts q.1)) qs) → BothIn q
   arguments_in ts a qs q m =
       let r = map_in (λ q. (element ts q.0, element ts q.1)) q qs m in
       subst (λ z. Q z.0 × Q z.1) r.2 (element_in ts a r.0.0, element_in ts a r.0.1)
 
-  pub atom_equations_in : (x : Spatial) → Each Q (spoken x) → (b : BasePair) (q : Two) → In q (atom_equations b x) → BothIn q
+  pub atom_equations_in : (x : Spatial) → Each Q (spoken x) → (b : BasePair) (q : Two) → IsMember q (atom_equations b x) → BothIn q
   atom_equations_in (Cell t ts) a b q m = absurd m
   atom_equations_in (Pred p ts) a b q m = arguments_in ts a b.same q m
 
-  pub atom_differences_in : (x : Spatial) → Each Q (spoken x) → (b : BasePair) (q : Two) → In q (atom_differences b x) → BothIn q
+  pub atom_differences_in : (x : Spatial) → Each Q (spoken x) → (b : BasePair) (q : Two) → IsMember q (atom_differences b x) → BothIn q
   atom_differences_in (Cell t ts) a b q m = absurd m
   atom_differences_in (Pred p ts) a b q m = arguments_in ts a b.differ q m
 
-  pub atom_addresses_in : (x : Spatial) → Each Q (spoken x) → (b : BasePair) (t : Term) → In t (atom_addresses b x) → Q t
+  pub atom_addresses_in : (x : Spatial) → Each Q (spoken x) → (b : BasePair) (t : Term) → IsMember t (atom_addresses b x) → Q t
   atom_addresses_in (Cell t ts) a b u (inl r) = subst Q r a.0
   atom_addresses_in (Cell t ts) a b u (inr m) = absurd m
   atom_addresses_in (Pred p ts) a b u m = let r = map_in (element ts) u b.cells m in subst Q r.2 (element_in ts a r.0)
@@ -48,38 +49,38 @@ module _ (Q : Term → Type 0) (nil : Q Nil) where
   spoken_in (Cell t ts) a = (a.0, tt)
   spoken_in (Pred p ts) a = a
 
-  spatial_equations_in : (xs : List Spatial) → Each (InSpatial Q) xs → (bs : Choice) (q : Two) → In q (spatial_equations bs xs) → BothIn q
+  spatial_equations_in : (xs : List Spatial) → Each (InSpatial Q) xs → (bs : Choice) (q : Two) → IsMember q (spatial_equations bs xs) → BothIn q
   spatial_equations_in [] a bs q m = absurd m
   spatial_equations_in (x ∷ xs) a bs q m =
       elim (in_append q (atom_equations (bs 0) x) (spatial_equations (next bs) xs) m) [ inl i ↦ atom_equations_in x (spoken_in x a.0) (bs 0) q i | inr i ↦ spatial_equations_in xs a.1 (next bs) q i ]
 
-  spatial_differences_in : (xs : List Spatial) → Each (InSpatial Q) xs → (bs : Choice) (q : Two) → In q (spatial_differences bs xs) → BothIn q
+  spatial_differences_in : (xs : List Spatial) → Each (InSpatial Q) xs → (bs : Choice) (q : Two) → IsMember q (spatial_differences bs xs) → BothIn q
   spatial_differences_in [] a bs q m = absurd m
   spatial_differences_in (x ∷ xs) a bs q m =
       elim (in_append q (atom_differences (bs 0) x) (spatial_differences (next bs) xs) m) [ inl i ↦ atom_differences_in x (spoken_in x a.0) (bs 0) q i | inr i ↦ spatial_differences_in xs a.1 (next bs) q i ]
 
-  pub addresses_in : (xs : List Spatial) → Each (InSpatial Q) xs → (bs : Choice) (t : Term) → In t (addresses bs xs) → Q t
+  pub addresses_in : (xs : List Spatial) → Each (InSpatial Q) xs → (bs : Choice) (t : Term) → IsMember t (addresses bs xs) → Q t
   addresses_in [] a bs t m = absurd m
   addresses_in (x ∷ xs) a bs t m =
       elim (in_append t (atom_addresses (bs 0) x) (addresses (next bs) xs) m) [ inl i ↦ atom_addresses_in x (spoken_in x a.0) (bs 0) t i | inr i ↦ addresses_in xs a.1 (next bs) t i ]
 
-  pure_equations_in : (ps : List Pure) → Each (InPure Q) ps → (q : Two) → In q (pure_equations ps) → BothIn q
+  pure_equations_in : (ps : List Pure) → Each (InPure Q) ps → (q : Two) → IsMember q (pure_equations ps) → BothIn q
   pure_equations_in [] a q m = absurd m
   pure_equations_in (Eq t u ∷ ps) a q (inl r) = subst (λ z. Q z.0 × Q z.1) r a.0
   pure_equations_in (Eq t u ∷ ps) a q (inr m) = pure_equations_in ps a.1 q m
   pure_equations_in (Neq t u ∷ ps) a q m = pure_equations_in ps a.1 q m
 
-  pure_differences_in : (ps : List Pure) → Each (InPure Q) ps → (q : Two) → In q (pure_differences ps) → BothIn q
+  pure_differences_in : (ps : List Pure) → Each (InPure Q) ps → (q : Two) → IsMember q (pure_differences ps) → BothIn q
   pure_differences_in [] a q m = absurd m
   pure_differences_in (Neq t u ∷ ps) a q (inl r) = subst (λ z. Q z.0 × Q z.1) r a.0
   pure_differences_in (Neq t u ∷ ps) a q (inr m) = pure_differences_in ps a.1 q m
   pure_differences_in (Eq t u ∷ ps) a q m = pure_differences_in ps a.1 q m
 
-  pub equations_in : (a : SymbolicHeap) → InHeap Q a → (bs : Choice) (q : Two) → In q (combination bs a).equal → Q q.0 × Q q.1
+  pub equations_in : (a : SymbolicHeap) → InHeap Q a → (bs : Choice) (q : Two) → IsMember q (combination bs a).equal → Q q.0 × Q q.1
   equations_in a o bs q m =
       elim (in_append q (pure_equations a.pure) (spatial_equations bs a.spatial) m) [ inl i ↦ pure_equations_in a.pure o.0 q i | inr i ↦ spatial_equations_in a.spatial o.1 bs q i ]
 
-  pub differences_in : (a : SymbolicHeap) → InHeap Q a → (bs : Choice) (q : Two) → In q (all_differ (combination bs a)) → Q q.0 × Q q.1
+  pub differences_in : (a : SymbolicHeap) → InHeap Q a → (bs : Choice) (q : Two) → IsMember q (all_differ (combination bs a)) → Q q.0 × Q q.1
   differences_in a o bs q m =
       let cs = addresses bs a.spatial in
       elim (in_append q (combination bs a).differ (cell_differences cs) m) [
@@ -167,7 +168,7 @@ table_at g (suc m) zero l = refl
 table_at g (suc m) (suc n) l = table_at (λ n. g (suc n)) m n (omega arith)
 
 -- a bound of a list's numbers
-pub in_max : (xs : List ℕ) (x : ℕ) → In x xs → x ≤ max_of xs
+pub in_max : (xs : List ℕ) (x : ℕ) → IsMember x xs → x ≤ max_of xs
 in_max [] x m = absurd m
 in_max (y ∷ xs) x (inl r) = omega arith
 in_max (y ∷ xs) x (inr m) = let l = in_max xs x m in omega arith

@@ -6,7 +6,7 @@ use Rattle.heap_formula.specs.Words.{OneOf}
 use Rattle.pair_family.specs.BasePairs.{BasePair}
 use Rattle.pair_family.specs.Combination.{Choice, next, AreConsistent, pure_facts}
 use Rattle.pair_family.specs.Folding.{Frames, next_frames, last_frame, AreFrames, said_in, with_atom, FoldsTo}
-use Rattle.pair_family.specs.Tables.{IsMember}
+use Rattle.list_facts.specs.Words.{IsMember}
 use Rattle.pair_family.specs.States.{Families, next_families, IsChosenBy, GivesBy, Leads, AreStates}
 use Rattle.pair_family.proofs.ByAtom.{IsOfParameters, fold_case, case_fold}
 use Rattle.pair_family.proofs.Complete.{cons_choice}

@@ -28,7 +28,8 @@ use Rattle.rule_table.specs.RuleCut.{cut_left, cut_right}
 use Rattle.rule_table.specs.Table.{rewrite_side, rewrite_atom, named, unnamed, calls, with_pure, with_right, unfolded_right, right_term}
 use Rattle.rule_table.specs.Tests.{same_term, same_spatial, is_universal_pure, is_universal_spatial, follows, address_of, ascend_from, has_number}
 use Rattle.rule_table.specs.RuleBook.{variables_of}
-use Rattle.fold_offers.specs.Places.{each_from, each_of, or_else, first_line, first_that}
+use Rattle.fold_offers.specs.Places.{each_from, each_of, first_line, first_that}
+use Rattle.list_facts.specs.Words.{or_else}
 use Rattle.fold_offers.specs.Kinds.{is_cell, is_predicate}
 use Rattle.search_moves.specs.declared.instances.Instance.{Instance}
 use Rattle.search_moves.specs.Trying.{Theory, goes}
