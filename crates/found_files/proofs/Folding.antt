@@ -15,7 +15,8 @@ use Rattle.heap_formula.specs.Symbolic.{SymbolicHeap}
 use Rattle.heap_formula.specs.Words.{Each}
 use Rattle.pred_defs.specs.declared.faults.DefFault.TheVariants.{Arity}
 use Rattle.pred_defs.specs.Faults.{or_later, arity_fault}
-use Rattle.rule_table.specs.Answer.{number_bound, terms_numbers}
+use Rattle.rule_table.specs.Answer.{number_bound}
+use Rattle.heap_formula.specs.Fresh.{terms_numbers}
 use Rattle.rule_table.specs.Tests.{same_term, has_number}
 use Rattle.fold_offers.specs.Folds.{Binding, bound_in, bind_variable, bind, bind_terms, bind_lists, bind_atom, placed, parameters, can_fold, value_of, bound_term, folded, ascending, case_follows, fold_by, folds_of_case, folds_of, folds}
 use Rattle.format_limits.specs.Limits.{IsHeapWithin, IsDefinitionWithin, IsRuleWithin}

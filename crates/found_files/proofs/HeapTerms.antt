@@ -9,10 +9,10 @@ use Rattle.heap_formula.specs.declared.judgements.Judgement.{Judgement}
 use Rattle.heap_formula.specs.declared.judgements.Judgement.TheVariants.{Entail, Term as Runs}
 use Rattle.heap_formula.specs.Closedness.{InPure, InSpatial, InHeap, IsUniversal, IsUniversalSpatial}
 use Rattle.heap_formula.specs.Definitions.{Definition}
-use Rattle.heap_formula.specs.Fresh.{heap_bound, judgement_bound}
+use Rattle.heap_formula.specs.Fresh.{heap_bound, judgement_bound, pure_numbers, spatial_numbers, heap_numbers}
 use Rattle.heap_formula.specs.Symbolic.{SymbolicHeap}
 use Rattle.heap_formula.specs.Words.{Each, max_of}
-use Rattle.rule_table.specs.Answer.{number_bound, pure_numbers, spatial_numbers, heap_numbers, heaps_of}
+use Rattle.rule_table.specs.Answer.{number_bound, heaps_of}
 use Rattle.format_limits.specs.Limits.{IsHeapWithin, IsTermWithin}
 use Rattle.formula_facts.proofs.Greatest.{each_below}
 use Rattle.formula_facts.proofs.AllMembers.{each_both}

@@ -9,7 +9,7 @@ use Rattle.std.proofs.lemmas.Nat.Bits.{bit_at-lt, bit_at_cat_low, bit_at_cat_hig
 use Rattle.std.specs.Option.{is_some}
 use Rattle.std.specs.Ordering.{nat_cmp, eq_by_cmp}
 use Rattle.std.specs.Cmp.{nat_cmp_total}
-use Rattle.std.specs.FinMap.{empty, get-retain_keys, get-insert, get-empty, nat_cmp-IsAntisymmetric}
+use Rattle.std.specs.FinMap.{get-retain_keys, get-empty, nat_cmp-IsAntisymmetric}
 use Rattle.heap_formula.specs.Cells.{Cells, cell_at, no_cells, one_cell, Joins, IsUnion}
 use Rattle.heap_formula.proofs.Unions.{same_cells}
 use Rattle.std.proofs.Math.Bool.{and-false, and-true, or-false, true-and}
@@ -22,6 +22,7 @@ use Rattle.model_check.specs.Ground.{Apart}
 use Rattle.list_facts.proofs.Bits.{one_and, one_or, one_zero}
 use Rattle.list_facts.proofs.Options.{option_cases}
 use Rattle.heap_formula.proofs.Insertions.{same_address}
+use Rattle.heap_formula.proofs.HeapLaws.{one_cell_at}
 
 -- ---- bits as tests
 
@@ -155,9 +156,6 @@ part_mask ns g h c w = same_cells _ _ (λ a. at_part_of ns h (mask_of ns g) a �
           let b : is_one (mask_of ns g) (place ns a) ≡ is_some (cell_at g a) = has_mask ns g (place ns a) p.0 ∙ ap (λ q. nat_eq (place ns q) (place ns a) && is_some (cell_at g q)) p.1 ∙ ap (λ t. t && is_some (cell_at g a)) (eq-eqb (place ns a) (place ns a) refl) ∙ true-and (is_some (cell_at g a)) in
           rw b (elim (option_cases (cell_at g a)) [ inl e ↦ rw e refl | inr (x, e) ↦ rw e (let s = w.same a x e in s) ])
     ]
-
-pub one_cell_at : (a : ℕ) (vs : List ℕ) (q : ℕ) → cell_at (one_cell a vs) q ≡ cond (eq_by_cmp nat_cmp q a) (Some vs) None
-one_cell_at a vs q = get-insert nat_cmp_total empty a vs q ∙ ap (cond (eq_by_cmp nat_cmp q a) (Some vs)) (get-empty nat_cmp q)
 
 pub one_inside : (h : Cells) (a : ℕ) (vs : List ℕ) → cell_at h a ≡ Some vs → Inside (one_cell a vs) h
 one_inside h a vs e = record { same = λ q us t. found (eq_by_cmp nat_cmp q a) q us refl (sym (one_cell_at a vs q) ∙ t) }

@@ -8,7 +8,8 @@ use Rattle.heap_formula.specs.declared.atoms.Spatial.{Spatial}
 use Rattle.pair_family.specs.BasePairs.{parameter}
 use Rattle.pair_family.specs.Classes.{term_number}
 use Rattle.pair_family.specs.Folding.{last_frame, IsKept, AreFrames, spoken}
-use Rattle.pair_family.specs.Frames.{term_at, frame_of, has_term, one_more, with_terms, parameters_from, kept_terms, frames_of}
+use Rattle.pair_family.specs.Frames.{term_at, frame_of, has_term, one_more, with_terms, kept_terms, frames_of}
+use Rattle.heap_formula.specs.Fresh.{variables_from}
 use Rattle.pair_family.proofs.Lists.{at_each, any_in, in_left, in_right}
 use Rattle.list_facts.specs.Words.{IsMember}
 use Rattle.pair_family.proofs.ByAtom.{IsOfParameters}
@@ -97,11 +98,11 @@ are_frames k (x ∷ xs) =
 
 -- ---- the last frame
 
-long_parameters : (i k : ℕ) → length (parameters_from i k) ≡ k
+long_parameters : (i k : ℕ) → length (variables_from i k) ≡ k
 long_parameters i zero = refl
 long_parameters i (suc k) = let l = long_parameters (suc i) k in omega arith
 
-at_parameters : (i k j : ℕ) → j < k → term_at (parameters_from i k) j ≡ Univ (i + j)
+at_parameters : (i k j : ℕ) → j < k → term_at (variables_from i k) j ≡ Univ (i + j)
 at_parameters i zero j l = absurd (omega arith)
 at_parameters i (suc k) zero l = let e : i ≡ i + 0 = omega arith in ap Univ e
 at_parameters i (suc k) (suc j) l = let e : suc i + j ≡ i + suc j = omega arith in at_parameters (suc i) k j (omega arith) ∙ ap Univ e
@@ -113,6 +114,6 @@ parameters_frame k [] = record {
   at = at_place k;
 }
   where
-    at_place : (k i : ℕ) → i ≤ k → term_at (Nil ∷ parameters_from 0 k) i ≡ parameter i
+    at_place : (k i : ℕ) → i ≤ k → term_at (Nil ∷ variables_from 0 k) i ≡ parameter i
     at_place k zero l = refl
     at_place k (suc i) l = let e : 0 + i ≡ i = omega arith in at_parameters 0 k i (omega arith) ∙ ap Univ e

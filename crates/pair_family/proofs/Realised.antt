@@ -17,10 +17,12 @@ use Rattle.pair_family.specs.Combination.{Two, Choice, pure_equations, pure_diff
 use Rattle.pair_family.specs.Family.{PairFamily, IsChosen, CaseGives, arity_of, family_at, InFamily, IsCombinable}
 use Rattle.pair_family.specs.Closedness.{HasFields, IsParameterBelow, IsCase, AreCases}
 use Rattle.pair_family.proofs.Lists.{each_at, in_left, in_right, in_map, map_in}
-use Rattle.list_facts.specs.Words.{IsMember}
+use Rattle.list_facts.specs.Words.{IsMember, tabulated}
 use Rattle.pair_family.proofs.Classes.{classes_have}
 use Rattle.pair_family.proofs.Assigned.{worth, worth_same, worth_kept, worth_apart, worth_cell}
-use Rattle.pair_family.proofs.Scope.{equations_in, differences_in, addresses_in, heap_go, IsWithin, heap_top, heap_within, table, table_at, in_max, index_max}
+use Rattle.pair_family.proofs.Scope.{equations_in, differences_in, addresses_in, heap_go, IsWithin, heap_within, in_max, index_max}
+use Rattle.list_facts.proofs.Places.{tabulated-at}
+use Rattle.heap_formula.specs.Fresh.{heap_numbers}
 use Rattle.pair_family.proofs.Sound.{Built, IsRealised, build_list}
 
 entry_max : (vs : List ℕ) (i : ℕ) → entry vs i ≤ max_of vs
@@ -101,8 +103,8 @@ module _ (ds : List Definition) (G : PairFamily) (R : (p : ℕ) (b : BasePair) �
       let w' = suc (max w (max_of vs)) in
       let bound : (i : ℕ) → i ≤ k → entry vs i < w' = λ i le. let l = entry_max vs i in omega arith in
       let g = worth k parameter (class_of ((combination bs a).equal)) (all_differ (combination bs a)) (addresses bs a.spatial) (entry vs) respects.equal w' bound in
-      let m = heap_top a in
-      let locals = table (λ n. g (Exist n)) m in
+      let m = heap_numbers a in
+      let locals = tabulated (λ n. g (Exist n)) m in
       let kept = worth_kept k parameter (class_of ((combination bs a).equal)) (all_differ (combination bs a)) (addresses bs a.spatial) (entry vs) respects.equal w' bound in
       let same = heap_go (IsParameterBelow k) (IsWithin m) (λ t. value vs locals t ≡ g t) (terms k vs m g kept) a is.0 (heap_within a) in
       let o = build_worth k a bs c.from_family is.1 c.consistent vs respects w' bound vs locals same in
@@ -118,10 +120,10 @@ module _ (ds : List Definition) (G : PairFamily) (R : (p : ℕ) (b : BasePair) �
         ];
       }
     where
-      terms : (k : ℕ) (vs : List ℕ) (m : ℕ) (g : Term → ℕ) → ((i : ℕ) → i ≤ k → g (parameter i) ≡ entry vs i) → (t : Term) → IsParameterBelow k t → IsWithin m t → value vs (table (λ n. g (Exist n)) m) t ≡ g t
+      terms : (k : ℕ) (vs : List ℕ) (m : ℕ) (g : Term → ℕ) → ((i : ℕ) → i ≤ k → g (parameter i) ≡ entry vs i) → (t : Term) → IsParameterBelow k t → IsWithin m t → value vs (tabulated (λ n. g (Exist n)) m) t ≡ g t
       terms k vs m g kept Nil p q = sym (kept 0 (omega arith))
       terms k vs m g kept (Univ n) p q = sym (kept (suc n) (omega arith))
-      terms k vs m g kept (Exist n) p q = table_at (λ n. g (Exist n)) m n (omega arith)
+      terms k vs m g kept (Exist n) p q = tabulated-at (λ n. g (Exist n)) m n (omega arith)
 
   build_cases : (k : ℕ) (cs : List SymbolicHeap) → Each (IsCase k) cs → (b : BasePair) → OneOf (CaseGives G k b) cs → (vs : List ℕ) (w : ℕ) → Respects b vs → Built (λ n h. OneOf (CaseHolds (at_stage ds n) vs h) cs) w (map (entry vs) b.cells)
   build_cases k [] is b o vs w r = absurd o
@@ -146,9 +148,9 @@ combinable_satisfied ds is a fields c =
     let respects : Respects (projection 0 bs a) [] = record { equal = tt; apart = tt } in
     let bound : (i : ℕ) → i ≤ 0 → entry [] i < 1 = λ i le. none i in
     let g = worth 0 parameter (class_of ((combination bs a).equal)) (all_differ (combination bs a)) (addresses bs a.spatial) (entry []) respects.equal 1 bound in
-    let m = heap_top a in
-    let s = table (λ n. g (Univ n)) m in
-    let e = table (λ n. g (Exist n)) m in
+    let m = heap_numbers a in
+    let s = tabulated (λ n. g (Univ n)) m in
+    let e = tabulated (λ n. g (Exist n)) m in
     let kept = worth_kept 0 parameter (class_of ((combination bs a).equal)) (all_differ (combination bs a)) (addresses bs a.spatial) (entry []) respects.equal 1 bound in
     let same = heap_go (IsWithin m) (IsWithin m) (λ t. value s e t ≡ g t) (terms m g (kept 0 (omega arith))) a (heap_within a) (heap_within a) in
     let o = build_worth ds (InFamily ds) (λ p b i. family_realised ds is i.0 p b i.1) 0 a bs c.from_family fields c.consistent [] respects 1 bound s e same in
@@ -158,7 +160,7 @@ combinable_satisfied ds is a fields c =
     none zero = omega arith
     none (suc i) = omega arith
 
-    terms : (m : ℕ) (g : Term → ℕ) → g Nil ≡ 0 → (t : Term) → IsWithin m t → IsWithin m t → value (table (λ n. g (Univ n)) m) (table (λ n. g (Exist n)) m) t ≡ g t
+    terms : (m : ℕ) (g : Term → ℕ) → g Nil ≡ 0 → (t : Term) → IsWithin m t → IsWithin m t → value (tabulated (λ n. g (Univ n)) m) (tabulated (λ n. g (Exist n)) m) t ≡ g t
     terms m g z Nil p q = sym z
-    terms m g z (Univ n) p q = table_at (λ n. g (Univ n)) m n (omega arith)
-    terms m g z (Exist n) p q = table_at (λ n. g (Exist n)) m n (omega arith)
+    terms m g z (Univ n) p q = tabulated-at (λ n. g (Univ n)) m n (omega arith)
+    terms m g z (Exist n) p q = tabulated-at (λ n. g (Exist n)) m n (omega arith)

@@ -1,8 +1,8 @@
--- Facts of each term of a heap are facts of the terms of its combinations; tables of values.
-use Rattle.std.proofs.Common.{◌≡◌, ℕ, zero, suc, ◌+◌, ◌<◌, ◌≤◌, max, inl, inr, List, [], ◌∷◌, map, arith, refl, subst}
+-- Facts of each term of a heap are facts of the terms of its combinations.
+use Rattle.std.proofs.Common.{ℕ, zero, suc, ◌≤◌, inl, inr, List, [], ◌∷◌, map, arith, subst}
 use Rattle.std.specs.Prelude.{slice_index}
 use Rattle.heap_formula.specs.declared.terms.Term.{Term}
-use Rattle.heap_formula.specs.declared.terms.Term.TheVariants.{Nil, Univ, Exist}
+use Rattle.heap_formula.specs.declared.terms.Term.TheVariants.{Nil}
 use Rattle.heap_formula.specs.declared.atoms.Spatial.{Spatial}
 use Rattle.heap_formula.specs.declared.atoms.Spatial.TheVariants.{Cell, Pred}
 use Rattle.heap_formula.specs.declared.atoms.Pure.{Pure}
@@ -16,6 +16,7 @@ use Rattle.pair_family.specs.Folding.{spoken}
 use Rattle.pair_family.proofs.Lists.{in_append, map_in}
 use Rattle.list_facts.specs.Words.{IsMember}
 use Rattle.pair_family.proofs.Two.{two_in}
+use Rattle.heap_formula.specs.Fresh.{number_bound, terms_numbers, pure_numbers, spatial_numbers, heap_numbers}
 
 module _ (Q : Term → Type 0) (nil : Q Nil) where
   element_in : (ts : List Term) → Each Q ts → (i : ℕ) → Q (element ts i)
@@ -116,56 +117,27 @@ module _ (P Q S : Term → Type 0) (go : (t : Term) → P t → Q t → S t) whe
 
 -- ---- a bound of a heap's variable numbers
 
-abbrev pub number_bound : Term → ℕ
-number_bound Nil = 0
-number_bound (Univ n) = n + 1
-number_bound (Exist n) = n + 1
-
 abbrev pub IsWithin : ℕ → Term → Type 0
 IsWithin m t = number_bound t ≤ m
 
-abbrev terms_top : List Term → ℕ
-terms_top ts = max_of (map number_bound ts)
-
-abbrev pure_top : Pure → ℕ
-pure_top (Eq t u) = max (number_bound t) (number_bound u)
-pure_top (Neq t u) = max (number_bound t) (number_bound u)
-
-abbrev spatial_top : Spatial → ℕ
-spatial_top (Cell t ts) = max (number_bound t) (terms_top ts)
-spatial_top (Pred p ts) = terms_top ts
-
-abbrev pub heap_top : SymbolicHeap → ℕ
-heap_top a = max (max_of (map pure_top a.pure)) (max_of (map spatial_top a.spatial))
-
-terms_within : (m : ℕ) (ts : List Term) → terms_top ts ≤ m → Each (IsWithin m) ts
+terms_within : (m : ℕ) (ts : List Term) → terms_numbers ts ≤ m → Each (IsWithin m) ts
 terms_within m [] h = tt
 terms_within m (t ∷ ts) h = (omega arith, terms_within m ts (omega arith))
 
-pures_within : (m : ℕ) (ps : List Pure) → max_of (map pure_top ps) ≤ m → Each (InPure (IsWithin m)) ps
+pures_within : (m : ℕ) (ps : List Pure) → max_of (map pure_numbers ps) ≤ m → Each (InPure (IsWithin m)) ps
 pures_within m [] h = tt
 pures_within m (Eq t u ∷ ps) h = ((omega arith, omega arith), pures_within m ps (omega arith))
 pures_within m (Neq t u ∷ ps) h = ((omega arith, omega arith), pures_within m ps (omega arith))
 
-spatials_within : (m : ℕ) (xs : List Spatial) → max_of (map spatial_top xs) ≤ m → Each (InSpatial (IsWithin m)) xs
+spatials_within : (m : ℕ) (xs : List Spatial) → max_of (map spatial_numbers xs) ≤ m → Each (InSpatial (IsWithin m)) xs
 spatials_within m [] h = tt
 spatials_within m (Cell t ts ∷ xs) h = ((omega arith, terms_within m ts (omega arith)), spatials_within m xs (omega arith))
 spatials_within m (Pred p ts ∷ xs) h = (terms_within m ts (omega arith), spatials_within m xs (omega arith))
 
-pub heap_within : (a : SymbolicHeap) → InHeap (IsWithin (heap_top a)) a
-heap_within a = (pures_within (heap_top a) a.pure (omega arith), spatials_within (heap_top a) a.spatial (omega arith))
+pub heap_within : (a : SymbolicHeap) → InHeap (IsWithin (heap_numbers a)) a
+heap_within a = (pures_within (heap_numbers a) a.pure (omega arith), spatials_within (heap_numbers a) a.spatial (omega arith))
 
--- ---- tables
-
-pub table : (ℕ → ℕ) → ℕ → List ℕ
-table g zero = []
-table g (suc m) = g 0 ∷ table (λ n. g (suc n)) m
-
-pub table_at : (g : ℕ → ℕ) (m n : ℕ) → n < m → slice_index (table g m) n ≡ g n
-unfolding table
-table_at g zero n l = absurd (omega arith)
-table_at g (suc m) zero l = refl
-table_at g (suc m) (suc n) l = table_at (λ n. g (suc n)) m n (omega arith)
+-- ---- bounds of lists
 
 -- a bound of a list's numbers
 pub in_max : (xs : List ℕ) (x : ℕ) → IsMember x xs → x ≤ max_of xs

@@ -18,7 +18,7 @@ use Rattle.heap_formula.specs.declared.proof_rules.Rule.TheVariants.{Absurd, Rew
 use Rattle.heap_formula.specs.declared.proof_rules.RuleFault.{RuleFault}
 use Rattle.heap_formula.specs.declared.proof_rules.RuleFault.TheVariants.{NoSuchAtom, NoSuchCase, NoCell, TooManyAtoms, NoFreshVariable, WrongJudgement}
 use Rattle.heap_formula.specs.Definitions.{Definition}
-use Rattle.heap_formula.specs.Fresh.{fresh_number, heap_bound, heap_exists}
+use Rattle.heap_formula.specs.Fresh.{fresh_number, heap_bound, heap_exists, variables_from}
 use Rattle.heap_formula.specs.Judgements.{antecedent}
 use Rattle.heap_formula.specs.Meaning.{cases_of}
 use Rattle.heap_formula.specs.Positions.{kept_pairs}
@@ -26,7 +26,7 @@ use Rattle.heap_formula.specs.Programs.{counted_from_one, program_variables}
 use Rattle.heap_formula.specs.Substitution.{in_heap}
 use Rattle.heap_formula.specs.Symbolic.{SymbolicHeap}
 use Rattle.rule_table.specs.Answer.{Answer, needs, finds, entails, one_heap, single, runs, heaps_of, is_short, has_numbers, each_heap, limited, one, two}
-use Rattle.rule_table.specs.ExecTable.{cell_of, at_line, with_atom, with_cell, with_field, renamed, renamed_term, variables_from, command_answer}
+use Rattle.rule_table.specs.ExecTable.{cell_of, at_line, with_atom, with_cell, with_field, renamed, renamed_term, command_answer}
 use Rattle.rule_table.specs.RuleBook.{variables_of, rule_answer}
 use Rattle.rule_table.specs.RuleCut.{cut_left, cut_right}
 use Rattle.rule_table.specs.RuleUnfold.{unfold_premise}

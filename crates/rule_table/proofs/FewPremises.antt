@@ -23,7 +23,7 @@ use Rattle.heap_formula.specs.Programs.{counted_from_one}
 use Rattle.rule_table.specs.Answer.{Answer, needs, finds, entails, one_heap, single, runs, limited, one, two, each_heap, is_short, has_numbers}
 use Rattle.heap_formula.specs.declared.proof_rules.Side.{Side}
 use Rattle.heap_formula.specs.declared.proof_rules.RuleFault.TheVariants.{NoSuchAtom, AtomsDiffer, HasExistential, NotFollowing, NotAbsurd, NoSuchCase, NoCell, WrongJudgement}
-use Rattle.heap_formula.specs.Fresh.{heap_bound, heap_exists, fresh_number}
+use Rattle.heap_formula.specs.Fresh.{heap_bound, heap_exists, fresh_number, variables_from}
 use Rattle.heap_formula.specs.Judgements.{antecedent}
 use Rattle.heap_formula.specs.Positions.{without, kept_pairs}
 use Rattle.heap_formula.specs.Programs.{program_variables}
@@ -31,7 +31,7 @@ use Rattle.heap_formula.specs.Substitution.{in_heap}
 use Rattle.rule_table.specs.RuleUnfold.{unfold_premise}
 use Rattle.rule_table.specs.RuleCut.{cut_left, cut_right}
 use Rattle.rule_table.specs.Tests.{same_term, same_spatial, is_universal_pure, is_universal_spatial, follows, is_absurd, address_of, ascend_from, has_number}
-use Rattle.rule_table.specs.ExecTable.{cell_of, renamed, renamed_term, with_atom, with_cell, with_field, variables_from, at_line, command_answer}
+use Rattle.rule_table.specs.ExecTable.{cell_of, renamed, renamed_term, with_atom, with_cell, with_field, at_line, command_answer}
 use Rattle.rule_table.specs.Table.{with_pures, with_pure, with_right, without_pure, without_spatial, named, unnamed, rewrite_side, rewrite_atom, calls, are_empty, right_term, unfolded_right}
 use Rattle.rule_table.specs.RuleBook.{variables_of, rule_answer}
 use Rattle.heap_formula.specs.declared.proof_rules.RuleFault.{RuleFault}

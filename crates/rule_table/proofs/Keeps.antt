@@ -21,7 +21,7 @@ use Rattle.heap_formula.specs.Symbolic.{SymbolicHeap}
 use Rattle.heap_formula.specs.Definitions.{Definition}
 use Rattle.heap_formula.specs.Words.{Each}
 use Rattle.heap_formula.specs.Meaning.{cases_of}
-use Rattle.heap_formula.specs.Fresh.{heap_bound, fresh_number, heap_exists}
+use Rattle.heap_formula.specs.Fresh.{heap_bound, fresh_number, heap_exists, variables_from}
 use Rattle.heap_formula.specs.Programs.{counted_from_one, program_variables}
 use Rattle.heap_formula.specs.Judgements.{antecedent, with_antecedent}
 use Rattle.heap_formula.specs.Positions.{without, kept_pairs, chosen, chosen_step, others_of}
@@ -31,7 +31,7 @@ use Rattle.rule_table.specs.RuleCut.{cut_left, cut_right}
 use Rattle.rule_table.specs.Answer.{Answer, finds, limited, one, two}
 use Rattle.rule_table.specs.Tests.{same_term, same_spatial, is_universal_pure, is_universal_spatial, follows, is_absurd, address_of, has_number, ascend_from}
 use Rattle.rule_table.specs.Table.{with_pures, with_pure, with_right, without_spatial, rewrite_side, rewrite_atom, named, unnamed, calls, unfolded_right, right_term, drop_answer, done_answer, choose_answer, pure_right_answer, instantiate_answer, frame_answer, unfold_right_answer}
-use Rattle.rule_table.specs.ExecTable.{Found, cell_of, renamed, renamed_term, with_atom, variables_from, with_cell, with_field, at_line, command_answer, exec_answer}
+use Rattle.rule_table.specs.ExecTable.{Found, cell_of, renamed, renamed_term, with_atom, with_cell, with_field, at_line, command_answer, exec_answer}
 use Rattle.rule_table.specs.RuleBook.{variables_of, rule_answer}
 use Rattle.rule_table.specs.Fits.{OnPremises}
 use Rattle.rule_table.specs.Soundness.{IsCommand, HasUniversalTerms, IsUniversalPremise}

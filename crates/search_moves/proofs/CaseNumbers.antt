@@ -17,10 +17,10 @@ use Rattle.heap_formula.specs.Definitions.{Definition}
 use Rattle.heap_formula.specs.Meaning.{cases_of}
 use Rattle.heap_formula.specs.Symbolic.{SymbolicHeap}
 use Rattle.heap_formula.specs.Words.{max_of}
-use Rattle.heap_formula.specs.Fresh.{number_bound, exist_bound, heap_exists, most_in_pure, most_in_spatial}
+use Rattle.heap_formula.specs.Fresh.{number_bound, exist_bound, heap_exists, most_in_pure, most_in_spatial, heap_numbers}
 use Rattle.heap_formula.specs.Positions.{without}
 use Rattle.heap_formula.specs.Substitution.{in_pure, in_spatial, in_heap}
-use Rattle.rule_table.specs.Answer.{needs, finds, limited, one, is_short, has_numbers, heap_numbers}
+use Rattle.rule_table.specs.Answer.{needs, finds, limited, one, is_short, has_numbers}
 use Rattle.rule_table.specs.Table.{calls, right_term, with_right, unfolded_right, unfold_right_answer}
 use Rattle.search_moves.specs.Trying.{has_premises}
 use Rattle.search_moves.specs.Rooms.{has_room_for}

@@ -16,10 +16,10 @@ use Rattle.heap_formula.specs.Judgements.{antecedent, with_antecedent}
 use Rattle.heap_formula.specs.Meaning.{cases_of}
 use Rattle.heap_formula.specs.Symbolic.{SymbolicHeap}
 use Rattle.heap_formula.specs.Words.{max_of}
-use Rattle.heap_formula.specs.Fresh.{number_bound, univ_bound, heap_bound, judgement_bound, fresh_number, most_in_pure, most_in_spatial}
+use Rattle.heap_formula.specs.Fresh.{number_bound, univ_bound, heap_bound, judgement_bound, fresh_number, most_in_pure, most_in_spatial, heap_numbers}
 use Rattle.heap_formula.specs.Positions.{without}
 use Rattle.heap_formula.specs.Substitution.{case_term, in_pure, in_spatial, in_heap}
-use Rattle.rule_table.specs.Answer.{finds, limited, each_heap, is_short, has_numbers, heap_numbers, heaps_of, disjuncts}
+use Rattle.rule_table.specs.Answer.{finds, limited, each_heap, is_short, has_numbers, heaps_of, disjuncts}
 use Rattle.rule_table.specs.RuleUnfold.{unfolded, unfold_premise}
 use Rattle.rule_table.specs.Table.{calls, unfold_answer}
 use Rattle.search_moves.specs.Trying.{has_premises}

@@ -6,7 +6,8 @@ use Rattle.heap_formula.specs.declared.judgements.Judgement.{Judgement}
 use Rattle.heap_formula.specs.Judgements.{antecedent}
 use Rattle.heap_formula.specs.Symbolic.{SymbolicHeap}
 use Rattle.heap_formula.specs.Words.{max_of}
-use Rattle.rule_table.specs.Answer.{disjuncts, heap_numbers, heaps_of, is_short}
+use Rattle.rule_table.specs.Answer.{disjuncts, heaps_of, is_short}
+use Rattle.heap_formula.specs.Fresh.{heap_numbers}
 
 -- a case can stand in the place of an atom of b, beside a, also where each variable of b and of the case has its own number
 abbrev pub has_room_for : ℕ → SymbolicHeap → SymbolicHeap → SymbolicHeap → Bool

@@ -3,7 +3,7 @@ ghost use Rattle.std.specs.Prelude.{◌≡◌, ◌≤◌, ℕ, map, true, MatchO
 ghost use Rattle.std.specs.List.{list_all};
 ghost use Rattle.heap_formula.specs.declared.terms.Term.{Term};
 ghost use Rattle.heap_formula.specs.Words.{max_of};
-ghost use Rattle.rule_table.specs.Answer.{heap_numbers};
+ghost use Rattle.heap_formula.specs.Fresh.{heap_numbers};
 ghost use Rattle.rule_table.specs.RuleBook.{variables_of as program_variables_of};
 ghost use Rattle.rule_table.specs.Table.{choose_answer, done_answer, frame_answer, instantiate_answer, pure_right_answer, unfold_answer, unfold_right_answer};
 ghost use Rattle.search_moves.specs.Rooms.{has_room_for as case_has_room, has_room_from as case_has_room_from, judgement_numbers};
