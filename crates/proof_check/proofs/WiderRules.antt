@@ -29,8 +29,8 @@ use Rattle.rule_table.specs.Answer.{Answer, needs, finds, entails, one_heap, sin
 use Rattle.rule_table.specs.ExecTable.{cell_of, at_line, with_atom, with_cell, with_field, renamed, renamed_term, command_answer}
 use Rattle.rule_table.specs.RuleBook.{variables_of, rule_answer}
 use Rattle.rule_table.specs.RuleCut.{cut_left, cut_right}
-use Rattle.rule_table.specs.RuleUnfold.{unfold_premise}
-use Rattle.rule_table.specs.Table.{calls, right_term, unfolded_right, with_right, without_spatial}
+use Rattle.rule_table.specs.RuleUnfold.{unfold_premise, unfolded}
+use Rattle.rule_table.specs.Table.{calls, right_term, with_right, without_spatial}
 use Rattle.rule_table.specs.Tests.{ascend_from, has_number}
 
 -- at most so many spatial atoms
@@ -152,7 +152,7 @@ module _ (most more : ℕ) (le : most ≤ more) where
   rule_wide ds lines j (Cut places f) = needs_wide (ascend_from 0 (length (antecedent j).spatial) places) NoSuchAtom _ _ (limited_wide (two (cut_left (antecedent j) (has_number places) f) (cut_right j (has_number places) f (max (fresh_number (variables_of lines j) j) (heap_bound f)))))
   rule_wide ds lines j (UnfoldRight k c) =
       single_wide j _ _ (λ a b.
-      finds_wide (slice_get b.spatial k) NoSuchAtom _ _ (λ x. calls_wide x _ _ (λ q ts. finds_wide (slice_get (cases_of ds q) c) NoSuchCase _ _ (λ case. limited_wide (one (with_right a (unfolded_right b k (in_heap (right_term ts (heap_exists b)) case) ∷ [])))))))
+      finds_wide (slice_get b.spatial k) NoSuchAtom _ _ (λ x. calls_wide x _ _ (λ q ts. finds_wide (slice_get (cases_of ds q) c) NoSuchCase _ _ (λ case. limited_wide (one (with_right a (unfolded b k (in_heap (right_term ts (heap_exists b)) case) ∷ [])))))))
   rule_wide ds lines j Exec =
       runs_wide j _ _ (λ i a. finds_wide (counted_from_one lines i) WrongJudgement _ _ (λ c. command_wide i a (fresh_number (program_variables lines) j) c))
   rule_wide ds lines j Absurd = same (rule_answer most ds lines j Absurd)

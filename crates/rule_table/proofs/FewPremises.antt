@@ -28,11 +28,11 @@ use Rattle.heap_formula.specs.Judgements.{antecedent}
 use Rattle.heap_formula.specs.Positions.{without, kept_pairs}
 use Rattle.heap_formula.specs.Programs.{program_variables}
 use Rattle.heap_formula.specs.Substitution.{in_heap}
-use Rattle.rule_table.specs.RuleUnfold.{unfold_premise}
+use Rattle.rule_table.specs.RuleUnfold.{unfold_premise, unfolded}
 use Rattle.rule_table.specs.RuleCut.{cut_left, cut_right}
 use Rattle.rule_table.specs.Tests.{same_term, same_spatial, is_universal_pure, is_universal_spatial, follows, is_absurd, address_of, ascend_from, has_number}
 use Rattle.rule_table.specs.ExecTable.{cell_of, renamed, renamed_term, with_atom, with_cell, with_field, at_line, command_answer}
-use Rattle.rule_table.specs.Table.{with_pures, with_pure, with_right, without_pure, without_spatial, named, unnamed, rewrite_side, rewrite_atom, calls, are_empty, right_term, unfolded_right}
+use Rattle.rule_table.specs.Table.{with_pures, with_pure, with_right, without_pure, without_spatial, named, unnamed, rewrite_side, rewrite_atom, calls, are_empty, right_term}
 use Rattle.rule_table.specs.RuleBook.{variables_of, rule_answer}
 use Rattle.heap_formula.specs.declared.proof_rules.RuleFault.{RuleFault}
 
@@ -156,7 +156,7 @@ rule_few most ds lines h j (UnfoldRight k c) =
     finds_few (slice_get b.spatial k) NoSuchAtom _ (λ x.
     calls_few x _ (λ q ts.
     finds_few (slice_get (cases_of ds q) c) NoSuchCase _ (λ case.
-    limited_few most (one (with_right a (unfolded_right b k (in_heap (right_term ts (heap_exists b)) case) ∷ []))) (omega arith)))))
+    limited_few most (one (with_right a (unfolded b k (in_heap (right_term ts (heap_exists b)) case) ∷ []))) (omega arith)))))
 rule_few most ds lines h j Exec =
     runs_few j _ (λ i a. finds_few (counted_from_one lines i) WrongJudgement _ (λ c. command_few most i a (fresh_number (program_variables lines) j) c))
 rule_few most ds lines h j (Drop k) = runs_few j _ (λ i a. finds_few (slice_get a.spatial k) NoSuchAtom _ (λ x. omega arith))

@@ -31,8 +31,8 @@ use Rattle.rule_table.specs.ExecTable.{cell_of, renamed, renamed_term, with_atom
 use Rattle.rule_table.specs.Fits.{OnPremises}
 use Rattle.rule_table.specs.RuleBook.{variables_of, rule_answer}
 use Rattle.rule_table.specs.RuleCut.{cut_left, cut_right}
-use Rattle.rule_table.specs.RuleUnfold.{unfold_premise}
-use Rattle.rule_table.specs.Table.{with_pures, with_pure, with_right, without_spatial, rewritten, rewrite_side, rewrite_atom, named, unnamed, calls, right_term, unfolded_right}
+use Rattle.rule_table.specs.RuleUnfold.{unfold_premise, unfolded}
+use Rattle.rule_table.specs.Table.{with_pures, with_pure, with_right, without_spatial, rewritten, rewrite_side, rewrite_atom, named, unnamed, calls, right_term}
 use Rattle.rule_table.specs.Tests.{same_term, same_spatial, is_universal_pure, is_universal_spatial, follows, is_absurd, address_of, ascend_from, has_number}
 use Rattle.rule_table.proofs.Fits.{needs_on, finds_on, limited_on, entails_on, single_on, runs_on}
 use Rattle.format_limits.proofs.Gives.{limited_gives}
@@ -92,11 +92,11 @@ unfold_short most ds p j k (Pred q ts) = limited_short most j (map (unfold_premi
 dropped_short : (most : ℕ) → (k : ℕ) (xs : List Spatial) → length xs ≤ most → length (without k xs) ≤ most
 dropped_short most k xs h = let e = length-without xs k in omega (arith, e, h)
 
-right_short : (most : ℕ) → (ds : List Definition) (a b : SymbolicHeap) (k c : ℕ) (x : Spatial) → OnPremises (StaysShort most (Entail a (b ∷ []))) (calls x (λ q ts. finds (slice_get (cases_of ds q) c) NoSuchCase (λ case. limited most (one (with_right a (unfolded_right b k (in_heap (right_term ts (heap_exists b)) case) ∷ []))))))
+right_short : (most : ℕ) → (ds : List Definition) (a b : SymbolicHeap) (k c : ℕ) (x : Spatial) → OnPremises (StaysShort most (Entail a (b ∷ []))) (calls x (λ q ts. finds (slice_get (cases_of ds q) c) NoSuchCase (λ case. limited most (one (with_right a (unfolded b k (in_heap (right_term ts (heap_exists b)) case) ∷ []))))))
 right_short most ds a b k c (Cell t ts) = tt
 right_short most ds a b k c (Pred q ts) =
     finds_on (StaysShort most (Entail a (b ∷ []))) (slice_get (cases_of ds q) c) NoSuchCase _ (λ case at.
-    limited_short most (Entail a (b ∷ [])) (one (with_right a (unfolded_right b k (in_heap (right_term ts (heap_exists b)) case) ∷ []))))
+    limited_short most (Entail a (b ∷ [])) (one (with_right a (unfolded b k (in_heap (right_term ts (heap_exists b)) case) ∷ []))))
 
 command_short : (most : ℕ) → (i : ℕ) (a : SymbolicHeap) (n : ℕ) (c : Command) → OnPremises (StaysShort most (Runs i a)) (command_answer most i a n c)
 command_short most i a n Stop = tt

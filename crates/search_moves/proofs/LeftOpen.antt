@@ -25,7 +25,8 @@ use Rattle.heap_formula.specs.Substitution.{in_heap}
 use Rattle.heap_formula.specs.Words.{Each}
 use Rattle.rule_table.specs.Answer.{Answer, needs, finds, entails, single, runs, each_heap, is_short, has_numbers, limited}
 use Rattle.rule_table.specs.RuleCut.{cut_left, cut_right}
-use Rattle.rule_table.specs.Table.{rewrite_side, rewrite_atom, named, unnamed, calls, with_pure, with_right, unfolded_right, right_term}
+use Rattle.rule_table.specs.Table.{rewrite_side, rewrite_atom, named, unnamed, calls, with_pure, with_right, right_term}
+use Rattle.rule_table.specs.RuleUnfold.{unfolded}
 use Rattle.rule_table.specs.Tests.{same_term, same_spatial, is_universal_pure, is_universal_spatial, follows, address_of, ascend_from, has_number}
 use Rattle.rule_table.specs.RuleBook.{variables_of}
 use Rattle.fold_offers.specs.Places.{each_from, each_of, first_line, first_that}
@@ -109,7 +110,7 @@ module _ (t : Theory) (j : Judgement) where
   left_open (Frame i k) h =
       single_some j _ (λ a b. finds_some (slice_get a.spatial i) _ _ (λ x at. finds_some (slice_get b.spatial k) _ _ (λ y at'. needs_some (is_universal_spatial y) _ _ (needs_some (same_spatial x y) _ _ refl))))
   left_open (UnfoldRight k c) h =
-      single_some j _ (λ a b. finds_some (slice_get b.spatial k) _ _ (λ x at. calls_some x _ (λ q ts is. finds_some (slice_get (cases_of t.definitions q) c) _ _ (λ case at'. limited_some t.most (with_right a (unfolded_right b k (in_heap (right_term ts (heap_exists b)) case) ∷ [])) []))))
+      single_some j _ (λ a b. finds_some (slice_get b.spatial k) _ _ (λ x at. calls_some x _ (λ q ts is. finds_some (slice_get (cases_of t.definitions q) c) _ _ (λ case at'. limited_some t.most (with_right a (unfolded b k (in_heap (right_term ts (heap_exists b)) case) ∷ [])) []))))
   left_open Exec h = absurd (both_ways false refl h)
   left_open (Drop k) h = runs_some j _ (λ i a. finds_some (slice_get a.spatial k) _ _ (λ x at. refl))
 

@@ -11,7 +11,7 @@ use Rattle.heap_formula.specs.Positions.{without, kept_pairs, child_pairs}
 use Rattle.heap_formula.specs.Judgements.{antecedent, with_antecedent}
 use Rattle.rule_table.specs.Answer.{is_short, disjuncts, Answer, limited, one, finds}
 use Rattle.rule_table.specs.RuleUnfold.{unfolded, unfold_premise}
-use Rattle.rule_table.specs.Table.{with_right, unfolded_right, calls, right_term}
+use Rattle.rule_table.specs.Table.{with_right, calls, right_term}
 use Rattle.heap_formula.specs.declared.atoms.Spatial.{Spatial}
 use Rattle.heap_formula.specs.declared.proof_rules.RuleFault.TheVariants.{NoSuchCase}
 use Rattle.heap_formula.specs.Definitions.{Definition}
@@ -33,7 +33,7 @@ case_fits most j case =
 
 -- with a map of terms for the case's
 abbrev pub right_by : SymbolicHeap → SymbolicHeap → ℕ → (Term → Term) → SymbolicHeap → Premise
-right_by a b k f case = with_right a (unfolded_right b k (in_heap f case) ∷ [])
+right_by a b k f case = with_right a (unfolded b k (in_heap f case) ∷ [])
 
 -- the premise is within the limits; one spatial atom of the disjunct goes
 abbrev pub right_fits : ℕ → SymbolicHeap → SymbolicHeap → SymbolicHeap → Bool
