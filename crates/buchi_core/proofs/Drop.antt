@@ -4,7 +4,7 @@ use Rattle.std.proofs.lemmas.Bool.{cases_Bool, cases_eq, and_parts, not-true, or
 use Rattle.std.proofs.lemmas.Option.{slice_get_within, get_or_from_slice_get}
 use Rattle.std.specs.List.{list_all}
 use Rattle.buchi_core.specs.Forest.{Pair}
-use Rattle.buchi_core.proofs.Bounds.{Falls}
+use Rattle.position_sets.specs.Sets.{Falls}
 use Rattle.buchi_core.specs.declared.event.Event.{Event}
 use Rattle.buchi_core.specs.declared.event.Event.TheVariants.{Dies, Green, Nothing}
 use Rattle.buchi_core.specs.Forest.{Entry, has, grown, same_parent, before_drop, is_filled, set_at, set_of, is_full, is_lost, losses, lost_below, is_set, is_kept, is_green, child_has, places, rank, settled, settle, renumbered, parent_of, event_from, next_forest, event_of}

@@ -16,7 +16,7 @@ use Rattle.heap_formula.specs.Meaning.{Family, PureHolds, AtomHolds, SpatialHold
 use Rattle.std.specs.FinMap.{empty, get-insert}
 use Rattle.std.specs.Cmp.{nat_cmp_total, eq_by_cmp_equiv}
 use Rattle.heap_formula.proofs.StageLaws.{holds_within}
-use Rattle.pair_family.specs.BasePairs.{BasePair, element, entry, parameter, Respects}
+use Rattle.pair_family.specs.BasePairs.{BasePair, element, entry, parameter, Respects, no_pair}
 use Rattle.pair_family.specs.Classes.{class_of}
 use Rattle.pair_family.specs.Combination.{Two, Choice, pure_equations, pure_differences, atom_equations, atom_differences, atom_addresses, spatial_equations, spatial_differences, addresses, each_two, cell_differences, against_nil, IsConsistent, projection, combination, all_differ}
 use Rattle.pair_family.specs.Family.{PairFamily, IsChosenAt, IsChosen, CaseGives, arity_of, family_at, InFamily, IsCombinable}
@@ -69,9 +69,6 @@ pub record KnownList (G : PairFamily) (s e : Stack) (xs : List Spatial) (h : Cel
   pub positive : (t : Term) → IsMember t (addresses chosen xs) → 0 < value s e t
   pub apart : (q : Two) → IsMember q (each_two (addresses chosen xs)) → value s e q.0 ≢ value s e q.1
 
-empty_pair : BasePair
-empty_pair = record { same = []; differ = []; cells = [] }
-
 abbrev pub cons_choice : BasePair → Choice → Choice
 cons_choice b bs zero = b
 cons_choice b bs (suc k) = bs k
@@ -84,7 +81,7 @@ one_cell_has a vs h e =
 module _ (F : Family) (G : PairFamily) (K : (p : ℕ) (vs : List ℕ) (h : Cells) → F p vs h → Known (G p) vs h) (s e : Stack) where
   known_atom : (x : Spatial) (h : Cells) → AtomHolds F s e x h → KnownAtom G s e x h
   known_atom (Cell t ts) h a = record {
-    pair = empty_pair;
+    pair = no_pair;
     member = tt;
     equal = λ q m. absurd m;
     differ = λ q m. absurd m;
@@ -112,7 +109,7 @@ module _ (F : Family) (G : PairFamily) (K : (p : ℕ) (vs : List ℕ) (h : Cells
 
   pub known_list : (xs : List Spatial) (h : Cells) → SpatialHolds (λ _. F) s e xs h → KnownList G s e xs h
   known_list [] h a = record {
-    chosen = λ k. empty_pair;
+    chosen = λ k. no_pair;
     member = tt;
     equal = λ q m. absurd m;
     differ = λ q m. absurd m;

@@ -9,7 +9,7 @@ use Rattle.heap_formula.specs.declared.atoms.Pure.TheVariants.{Eq, Neq}
 use Rattle.heap_formula.specs.declared.atoms.Spatial.{Spatial}
 use Rattle.heap_formula.specs.declared.atoms.Spatial.TheVariants.{Pred}
 use Rattle.heap_formula.specs.Words.{Each}
-use Rattle.pair_family.specs.BasePairs.{BasePair, element}
+use Rattle.pair_family.specs.BasePairs.{BasePair, element, no_pair}
 use Rattle.pair_family.specs.Within.{AreWithin, IsWithin}
 use Rattle.pair_family.specs.Classes.{term_number}
 use Rattle.pair_family.specs.Combination.{pure_equations, pure_differences, pure_facts, AreConsistent, said}
@@ -23,9 +23,6 @@ use Rattle.pair_states.proofs.Combined.{ArePlaces, apart_consistent, combined_is
 use Rattle.sat_pairs.specs.Numbers.{with_numbers, kept_numbers, with_pure_numbers, place_in, count_from, equal_places, differ_places}
 use Rattle.sat_pairs.proofs.Placed.{terms_numbered, kept_are, pure_terms, pure_numbered, placed, placed_at, counted_at, at_left, below_each}
 use Rattle.pair_family.proofs.Classes.{same_number}
-
-abbrev pub no_pair : BasePair
-no_pair = record { same = []; differ = []; cells = [] }
 
 -- terms whose places are known
 module _ (all : List Term) where

@@ -7,7 +7,7 @@ use Rattle.heap_formula.specs.declared.atoms.Spatial.{Spatial}
 use Rattle.heap_formula.specs.declared.atoms.Spatial.TheVariants.{Cell, Pred}
 use Rattle.heap_formula.specs.Symbolic.{SymbolicHeap}
 use Rattle.heap_formula.specs.Words.{Each, OneOf}
-use Rattle.pair_family.specs.BasePairs.{BasePair}
+use Rattle.pair_family.specs.BasePairs.{BasePair, no_pair}
 use Rattle.pair_family.specs.Within.{IsWithin}
 use Rattle.pair_family.specs.Classes.{term_number, class_of}
 use Rattle.pair_family.specs.Combination.{Facts, pure_facts, list_facts, AreConsistent, all_differ, said}
@@ -28,7 +28,7 @@ use Rattle.pair_states.proofs.Combined.{ArePlaces, apart_consistent, combined_is
 use Rattle.sat_pairs.specs.Numbers.{kept_numbers, places_in, count_from, cell_pair_alone}
 use Rattle.sat_pairs.specs.Growth.{pairs_for}
 use Rattle.sat_pairs.proofs.Placed.{kept_are, are_places, below_each}
-use Rattle.sat_pairs.proofs.Starts.{no_pair, first_terms, longer, IsStart}
+use Rattle.sat_pairs.proofs.Starts.{first_terms, longer, IsStart}
 use Rattle.pair_family.proofs.Classes.{same_number}
 
 module _ (table : Table) (k : ℕ) (x : Spatial) (xs : List Spatial) where
