@@ -7,6 +7,8 @@ use Rattle.pair_states.specs.Labels.{relabelled, row, has_same, neighbours, has_
 use Rattle.pair_family.proofs.ByAtom.{append_three}
 use Rattle.std.proofs.lemmas.List.{map-append}
 use Rattle.std.specs.List.{list_any}
+use Rattle.std.proofs.lemmas.List.Folds.{list_any-append}
+use Rattle.std.proofs.Math.Bool.{or-false}
 
 filter_append : {X : Type 0} (t : X → Bool) (xs ys : List X) → filter t (xs ++ ys) ≡ filter t xs ++ filter t ys
 filter_append t [] ys = refl
@@ -31,10 +33,6 @@ pub next_row : (t : ℕ × ℕ → Bool) (j : ℕ) (now next : List (ℕ × ℕ)
 next_row t j now next a b =
     let e : suc j ≡ j + 1 = omega arith in
     b ∙ ap (λ z. z ++ filter t (row j j)) a ∙ sym (filter_append t (pairs_below j) (row j j)) ∙ ap (λ n. filter t (pairs_below n)) e
-
-any_joined : {X : Type 0} (t : X → Bool) (xs ys : List X) → list_any t (xs ++ ys) ≡ (list_any t xs || list_any t ys)
-any_joined t [] ys = refl
-any_joined t (x ∷ xs) ys = elim (cases_Bool (t x)) [ inl z ↦ rw z refl | inr z ↦ rw z (any_joined t xs ys) ]
 
 any_if : (t : ℕ → Bool) (b : Bool) (x : ℕ) → list_any t (if b then x ∷ [] else []) ≡ (b && t x)
 any_if t true x = elim (t x) as (λ z. (z || false) ≡ (true && z)) [ true ↦ refl | false ↦ refl ]
@@ -63,7 +61,7 @@ near_is a b (d ∷ ds) =
     let rest = near_is a b ds in
     let x = any_if t (nat_eq d.0 b) d.1 in
     let y = any_if t (nat_eq d.1 b) d.0 in
-    any_joined t one (two ++ neighbours b ds) ∙ ap (λ z. list_any t one || z) (any_joined t two (neighbours b ds)) ∙ (λ i. x i || (y i || rest i)) ∙ four (nat_eq d.0 a) (nat_eq d.1 b) (nat_eq d.0 b) (nat_eq d.1 a) (list_any (is_between_labels a b) ds)
+    list_any-append t one (two ++ neighbours b ds) ∙ ap (λ z. list_any t one || z) (list_any-append t two (neighbours b ds)) ∙ (λ i. x i || (y i || rest i)) ∙ four (nat_eq d.0 a) (nat_eq d.1 b) (nat_eq d.0 b) (nat_eq d.1 a) (list_any (is_between_labels a b) ds)
 
 pub difference_row : (labels : List ℕ) (ds : List (ℕ × ℕ)) (j i : ℕ) (b : Bool) (near : List ℕ) (old now next : List (ℕ × ℕ)) → now ≡ old ++ filter (has_difference labels ds) (row j i) → b ≡ list_any (λ c. nat_eq c (slice_index labels i)) near → near ≡ neighbours (slice_index labels j) ds → next ≡ now ++ (if b then (i, j) ∷ [] else []) → next ≡ old ++ filter (has_difference labels ds) (row j (i + 1))
 difference_row labels ds j i b near old now next a e n c =
@@ -77,9 +75,7 @@ any_next t i found next a b =
     b ∙ ap (λ z. z || t i) a ∙ sym (any_append t (upto i) i) ∙ ap (λ n. list_any t (upto n)) e
   where
     any_append : (t : ℕ → Bool) (xs : List ℕ) (x : ℕ) → list_any t (xs ++ (x ∷ [])) ≡ (list_any t xs || t x)
-    any_append t [] x = elim (t x) as (λ b. (b || false) ≡ (false || b)) [ true ↦ refl | false ↦ refl ]
-    any_append t (y ∷ xs) x =
-        elim (cases_Bool (t y)) [ inl z ↦ rw z refl | inr z ↦ rw z (any_append t xs x) ]
+    any_append t xs x = list_any-append t xs (x ∷ []) ∙ ap (λ b. list_any t xs || b) (or-false (t x))
 
 pub cell_next : (t : ℕ → Bool) (i : ℕ) (b : Bool) (now next : List ℕ) → now ≡ filter t (upto i) → b ≡ t i → next ≡ now ++ (if b then i ∷ [] else []) → next ≡ filter t (upto (i + 1))
 cell_next t i b now next a e c =
