@@ -9,14 +9,9 @@ use Rattle.heap_formula.specs.declared.proof_rules.RuleFault.TheVariants.{LinkPu
 use Rattle.heap_formula.specs.Substitution.{Bindings, apply_pure, apply_spatial}
 use Rattle.heap_formula.specs.declared.atoms.Spatial.{Spatial}
 use Rattle.std.specs.Prelude.{slice_get}
+use Rattle.std.proofs.lemmas.List.{drop_all}
 use Rattle.rule_table.specs.Tests.{follows, has_number}
 use Rattle.rule_table.specs.LinkTable.{all_equated, pure_fault, spatial_fault, matches_some}
-
-drop_all : (i : ℕ) (ts : List Term) → length ts ≤ i → drop i ts ≡ []
-drop_all zero [] h = refl
-drop_all (suc i) [] h = refl
-drop_all zero (t ∷ ts) h = absurd (omega arith)
-drop_all (suc i) (t ∷ ts) h = drop_all i ts (omega arith)
 
 pub second_ends : (pures : List Pure) (ts us : List Term) (i : ℕ) → length us ≤ i → i < length ts → all_equated pures (drop i ts) (drop i us) ≡ false
 second_ends pures ts us i le lt =

@@ -1,16 +1,18 @@
 -- Masks as sets of positions: what they have, and which list they stand for.
-use Rattle.std.proofs.Common.{◌≡◌, ℕ, zero, suc, ◌+◌, ◌-◌, ◌*◌, ◌%◌, ◌^◌, ◌<◌, ◌≤◌, ◌⊎◌, inl, inr, List, [], ◌∷◌, Bool, true, false, not, ◌&&◌, ◌||◌, cond, filter, length, drop, get_or, nat_eq, bit_and, bit_or, arith, sym, refl, ap, ◌∙◌, subst, eqb-true}
+use Rattle.std.proofs.Common.{◌≡◌, ℕ, zero, suc, ◌+◌, ◌-◌, ◌*◌, ◌%◌, ◌^◌, ◌<◌, ◌≤◌, ◌⊎◌, inl, inr, List, [], ◌∷◌, Bool, true, false, not, ◌&&◌, ◌||◌, cond, filter, length, drop, get_or, nat_eq, bit_or, arith, sym, refl, ap, ◌∙◌, subst, eqb-true}
 use Rattle.std.specs.Prelude.{slice_index}
 use Rattle.std.specs.Int.{bit_at}
 use Rattle.std.specs.List.Sorted.{IsStrictlyIncreasing}
 use Rattle.std.proofs.lemmas.Bool.{cases_Bool, cases_eq, cases_lt, both_ways, or_left, or_right, eq-eqb, ne_eqb, false_from_ne_true}
 use Rattle.std.proofs.lemmas.List.{drop_all, drop_more}
 use Rattle.std.proofs.lemmas.Nat.{one_shl}
-use Rattle.std.proofs.lemmas.Nat.Bits.{bit_at-lt, bit_at_and, bit_at_or, bit_at_not, bit_at_ones, bit_at-zero, bit_at-pow_same, bit_at-pow_other, same_from_bits_below}
+use Rattle.std.proofs.lemmas.Nat.Bits.{bit_at-lt, bit_at_not, bit_at_ones, bit_at-pow_same, bit_at-pow_other, same_from_bits_below}
 use Rattle.std.specs.Int.{w32}
 use Rattle.buchi_core.specs.Forest.{IsPositionSet, has, places, is_filled}
-use Rattle.buchi_core.specs.View.{is_one, members}
-use Rattle.list_facts.proofs.Bits.{bit_and_min, bit_or_max}
+use Rattle.buchi_core.specs.View.{members}
+use Rattle.list_facts.specs.Bits.{is_one}
+use Rattle.list_facts.proofs.Bits.{one_or, one_zero}
+use Rattle.std.proofs.Math.Bool.{or-false}
 
 -- ---- places
 places_agree : (f g : ℕ → Bool) (i n : ℕ) → ((q : ℕ) → i ≤ q → q < i + n → f q ≡ g q) → places f i n ≡ places g i n
@@ -148,12 +150,6 @@ small_not zero a = refl
 small_not (suc zero) a = refl
 small_not (suc (suc x)) a = absurd (omega arith)
 
-pub one_and : (a b q : ℕ) → is_one (bit_and a b) q ≡ (is_one a q && is_one b q)
-one_and a b q = ap (λ x. nat_eq x 1) (bit_at_and a b q) ∙ bit_and_min (bit_at a q) (bit_at b q) (bit_at-lt a q) (bit_at-lt b q)
-
-pub one_or : (a b q : ℕ) → is_one (bit_or a b) q ≡ (is_one a q || is_one b q)
-one_or a b q = ap (λ x. nat_eq x 1) (bit_at_or a b q) ∙ bit_or_max (bit_at a q) (bit_at b q) (bit_at-lt a q) (bit_at-lt b q)
-
 pub one_not : (m q : ℕ) → m < 2 ^ 32 → q < 32 → is_one (4294967295 - m) q ≡ not (is_one m q)
 one_not m q f l = ap (λ x. nat_eq x 1) (bit_at_not w32 m q f l) ∙ small_not (bit_at m q) (bit_at-lt m q)
 
@@ -164,9 +160,6 @@ one_pow p q l =
       | inl e ↦ ap (λ x. nat_eq x 1) (ap (bit_at (2 ^ p)) e ∙ bit_at-pow_same p) ∙ sym (eq-eqb p q (sym e))
       | inr d ↦ ap (λ x. nat_eq x 1) (bit_at-pow_other p q d) ∙ sym (ne_eqb p q (λ e. d (sym e)))
     ]
-
-pub one_zero : (q : ℕ) → is_one 0 q ≡ false
-one_zero q = ap (λ x. nat_eq x 1) (bit_at-zero q)
 
 pub one_all : (q : ℕ) → q < 32 → is_one 4294967295 q ≡ true
 one_all q l = ap (λ x. nat_eq x 1) (bit_at_ones 32 q l)
@@ -223,10 +216,6 @@ pub or_more : (a b x z w : Bool) → x ≡ (a || b) → (a || (b || z)) ≡ w �
 or_more true b x z w e h = ap (λ y. y || z) e ∙ h
 or_more false b x z w e h = ap (λ y. y || z) e ∙ h
 
-pub or_none : (a : Bool) → (a || false) ≡ a
-or_none true = refl
-or_none false = refl
-
 pub position_more : (ps : List ℕ) (mask bit i q d : ℕ) → i < length ps → is_one bit q ≡ nat_eq (get_or ps i d) q → (is_one mask q || has (drop i ps) q) ≡ has ps q → (is_one (bit_or mask bit) q || has (drop (i + 1) ps) q) ≡ has ps q
 position_more ps mask bit i q d l b h =
     or_more (is_one mask q) (nat_eq (get_or ps i d) q) (is_one (bit_or mask bit) q) (has (drop (i + 1) ps) q) (has ps q)
@@ -235,4 +224,4 @@ position_more ps mask bit i q d l b h =
 
 pub position_end : (ps : List ℕ) (mask i q : ℕ) → length ps ≤ i → (is_one mask q || has (drop i ps) q) ≡ has ps q → is_one mask q ≡ has ps q
 position_end ps mask i q l h =
-    sym (or_none (is_one mask q)) ∙ subst (λ (z : List ℕ). (is_one mask q || has z q) ≡ has ps q) (drop_all i ps l) h
+    sym (or-false (is_one mask q)) ∙ subst (λ (z : List ℕ). (is_one mask q || has z q) ≡ has ps q) (drop_all i ps l) h

@@ -2,11 +2,12 @@
 use Rattle.std.proofs.Common.{◌≡◌, ℕ, zero, suc, ◌+◌, ◌<◌, ◌≤◌, ◌⊎◌, inl, inr, List, [], arith, Bool, true, false, cond, ◌&&◌, ◌||◌, not, Option, Some, None, slice_get, length, sym, refl, ap, ◌∙◌, subst, eqb-true, ltb, get_or}
 use Rattle.std.proofs.lemmas.Bool.{cases_Bool, cases_eq, and_parts, not-true, or_parts, ltb-true, cond-true, cond-false, not_from_false, and_from, and_left, and_right, lt-ltb, not_from_true}
 use Rattle.std.proofs.lemmas.Option.{slice_get_within, get_or_from_slice_get}
+use Rattle.std.specs.List.{list_all}
 use Rattle.buchi_core.specs.Forest.{Pair}
-use Rattle.buchi_core.proofs.Bounds.{Falls}
+use Rattle.position_sets.specs.Sets.{Falls}
 use Rattle.buchi_core.specs.declared.event.Event.{Event}
 use Rattle.buchi_core.specs.declared.event.Event.TheVariants.{Dies, Green, Nothing}
-use Rattle.buchi_core.specs.Forest.{Entry, every, has, grown, same_parent, before_drop, is_filled, set_at, set_of, is_full, is_lost, losses, lost_below, is_set, is_kept, is_green, child_has, places, rank, settled, settle, renumbered, parent_of, event_from, next_forest, event_of}
+use Rattle.buchi_core.specs.Forest.{Entry, has, grown, same_parent, before_drop, is_filled, set_at, set_of, is_full, is_lost, losses, lost_below, is_set, is_kept, is_green, child_has, places, rank, settled, settle, renumbered, parent_of, event_from, next_forest, event_of}
 use Rattle.buchi_core.proofs.Lists.{any_at, ScanAt, scan_at, every_has}
 use Rattle.buchi_core.proofs.Places.{bad_false, places_pass, places_rank, place_is_rank, rank_all, rank_less}
 use Rattle.buchi_core.proofs.Grown.{get_map, length_moved, length-trim, length-grown}
@@ -42,8 +43,8 @@ kept_from entries i h n = and_from (is_filled (set_at entries i)) (not (is_lost 
 pub green_parts : (entries : List Entry) (i : ℕ) → is_green entries i ≡ true → (is_full entries i ≡ true) × (is_lost entries i ≡ false)
 green_parts entries i h = let r = and_parts (is_full entries i) (not (is_lost entries i)) h in (r.0, not-true _ r.1)
 
-pub full_parts : (entries : List Entry) (i : ℕ) → is_full entries i ≡ true → (is_filled (set_at entries i) ≡ true) × (every (child_has entries i) (set_at entries i) ≡ true)
-full_parts entries i h = and_parts (is_filled (set_at entries i)) (every (child_has entries i) (set_at entries i)) h
+pub full_parts : (entries : List Entry) (i : ℕ) → is_full entries i ≡ true → (is_filled (set_at entries i) ≡ true) × (list_all (child_has entries i) (set_at entries i) ≡ true)
+full_parts entries i h = and_parts (is_filled (set_at entries i)) (list_all (child_has entries i) (set_at entries i)) h
 
 pub same_parent_is : (o : Option ℕ) (p : ℕ) → same_parent o (Some p) ≡ true → o ≡ Some p
 same_parent_is None p h = absurd (bad_false h)

@@ -2,18 +2,21 @@
 use Rattle.std.proofs.Common.{◌≡◌, ℕ, ◌<◌, ◌^◌, List, [], ◌∷◌, Bool, true, false, not, ltb, ◌&&◌, Some, slice_get, get_or, nat_eq, option_map, inl, inr, length, sym, refl, ap, ◌∙◌}
 use Rattle.std.proofs.lemmas.Bool.{cases_Bool, and_from, and_left, both_ways, eq-eqb, eqb-true, ltb-true, or_left, or_right}
 use Rattle.std.proofs.lemmas.Option.{slice_get-map, slice_get_read}
-use Rattle.buchi_core.specs.Forest.{has, every, entry_has, child_has, set_of, is_set, is_filled, is_full, is_kept, losses}
+use Rattle.std.specs.List.{list_all}
+use Rattle.buchi_core.specs.Forest.{has, entry_has, child_has, set_of, is_set, is_filled, is_full, is_kept, losses}
 use Rattle.buchi_core.specs.declared.entry.Entry.{Entry}
 use Rattle.buchi_core.specs.declared.young.Young.{Young}
-use Rattle.buchi_core.specs.View.{is_one, members, entry_of, entries_of}
+use Rattle.buchi_core.specs.View.{members, entry_of, entries_of}
+use Rattle.list_facts.specs.Bits.{is_one}
 use Rattle.buchi_core.specs.Young.{AreLeft, made}
 use Rattle.buchi_core.proofs.Lists.{every_has}
-use Rattle.buchi_core.proofs.Bits.{member_is, filled_mask, no_ones, one_zero}
+use Rattle.buchi_core.proofs.Bits.{member_is, filled_mask, no_ones}
+use Rattle.list_facts.proofs.Bits.{one_zero}
 
-every_from : (t : ℕ → Bool) (xs : List ℕ) → ((q : ℕ) → has xs q ≡ true → t q ≡ true) → every t xs ≡ true
+every_from : (t : ℕ → Bool) (xs : List ℕ) → ((q : ℕ) → has xs q ≡ true → t q ≡ true) → list_all t xs ≡ true
 every_from t [] h = refl
 every_from t (x ∷ xs) h =
-    and_from (t x) (every t xs) (h x (or_left (nat_eq x x) (has xs x) (eq-eqb x x refl))) (every_from t xs (λ q m. h q (or_right (nat_eq x q) (has xs q) m)))
+    and_from (t x) (list_all t xs) (h x (or_left (nat_eq x x) (has xs x) (eq-eqb x x refl))) (every_from t xs (λ q m. h q (or_right (nat_eq x q) (has xs q) m)))
 
 entry_at : (entries : List Entry) (i : ℕ) (e : Entry) → slice_get entries i ≡ Some e → slice_get (entries_of entries) i ≡ Some (entry_of e)
 entry_at entries i e h = slice_get-map entry_of entries i ∙ ap (option_map entry_of) h
@@ -22,10 +25,10 @@ pub get_is : (entries : List Entry) (i : ℕ) (e : Entry) → true ≡ ltb i (le
 get_is entries i e l at = slice_get_read entries (length entries) i e refl (ltb-true i (length entries) (sym l)) at
 
 pub full_parts : (y : Young) (i : ℕ) (e : Entry) → slice_get y.entries.items i ≡ Some e →
-    is_full (made y) i ≡ (not (nat_eq e.set 0) && every (child_has (made y) i) (members e.set))
+    is_full (made y) i ≡ (not (nat_eq e.set 0) && list_all (child_has (made y) i) (members e.set))
 full_parts y i e at =
-    ap (λ o. is_filled (set_of o) && every (child_has (made y) i) (set_of o)) (entry_at y.entries.items i e at) ∙
-    ap (λ b. b && every (child_has (made y) i) (members e.set)) (filled_mask e.set e.fits)
+    ap (λ o. is_filled (set_of o) && list_all (child_has (made y) i) (set_of o)) (entry_at y.entries.items i e at) ∙
+    ap (λ b. b && list_all (child_has (made y) i) (members e.set)) (filled_mask e.set e.fits)
 
 -- with a position of which a flag says that it is left
 left_none : (a b x : Bool) → x ≡ (a && not b) → x ≡ false → a ≡ true → b ≡ true
@@ -39,7 +42,7 @@ module _ (y : Young) (left : AreLeft y) (i : ℕ) (e : Entry) (at : slice_get y.
       left.right (Some i) q l ∙
       ap (λ o. entry_has o q && not (child_has (made y) i q)) (entry_at y.entries.items i e at)
 
-  covered : every (child_has (made y) i) (members e.set) ≡ nat_eq (get_or y.left i 0) 0
+  covered : list_all (child_has (made y) i) (members e.set) ≡ nat_eq (get_or y.left i 0) 0
   covered =
       elim (cases_Bool (nat_eq (get_or y.left i 0) 0)) [
         | inl z ↦
@@ -48,14 +51,14 @@ module _ (y : Young) (left : AreLeft y) (i : ℕ) (e : Entry) (at : slice_get y.
             left_none (has (members e.set) q) (child_has (made y) i q) (is_one (get_or y.left i 0) q) (left_is q o.0)
             (ap (λ k. is_one k q) (eqb-true (get_or y.left i 0) 0 z) ∙ one_zero q) m)) ∙ sym z
         | inr n ↦
-            elim (cases_Bool (every (child_has (made y) i) (members e.set))) [
+            elim (cases_Bool (list_all (child_has (made y) i) (members e.set))) [
               | inl all ↦
                   absurd (both_ways (nat_eq (get_or y.left i 0) 0) n (eq-eqb (get_or y.left i 0) 0 (no_ones (get_or y.left i 0) fits (λ q l. left_is q l ∙ none q all))))
               | inr some' ↦ some' ∙ sym n
             ]
       ]
     where
-      none : (q : ℕ) → every (child_has (made y) i) (members e.set) ≡ true → (has (members e.set) q && not (child_has (made y) i q)) ≡ false
+      none : (q : ℕ) → list_all (child_has (made y) i) (members e.set) ≡ true → (has (members e.set) q && not (child_has (made y) i q)) ≡ false
       none q all =
           elim (cases_Bool (has (members e.set) q)) [
             | inl m ↦ ap (λ b. has (members e.set) q && not b) (every_has (child_has (made y) i) (members e.set) q all m) ∙ ap (λ b. b && false) m

@@ -8,22 +8,17 @@ use Rattle.arrayvec.specs.ArrayVec.{ArrayVec}
 use Rattle.buchi_core.specs.Forest.{Entry as AgeEntry, has, same_parent, entry_has, stays, trimmed, scan_from}
 use Rattle.buchi_core.specs.declared.entry.Entry.{Entry}
 use Rattle.buchi_core.specs.declared.young.Young.{Young}
-use Rattle.buchi_core.specs.View.{is_one, members, entry_of, entries_of}
+use Rattle.buchi_core.specs.View.{members, entry_of, entries_of}
+use Rattle.list_facts.specs.Bits.{is_one}
 use Rattle.buchi_core.specs.Young.{AreLeft, left_of, made}
 use Rattle.buchi_core.proofs.Lists.{get_append_right}
-use Rattle.buchi_core.proofs.Bits.{has_members, has_members_not, members_filter, one_and, one_not, one_zero, one_all}
+use Rattle.buchi_core.proofs.Bits.{has_members, has_members_not, members_filter, one_not, one_all}
+use Rattle.list_facts.proofs.Bits.{one_and, one_zero}
 use Rattle.std.proofs.lemmas.Option.{slice_get_past}
 use Rattle.list_facts.proofs.Places.{get_within, get_append_left}
+use Rattle.std.proofs.Math.Bool.{or-false, and-true}
 
 -- ---- tests
-and_true : (a : Bool) → a ≡ (a && true)
-and_true true = refl
-and_true false = refl
-
-or_none : (a : Bool) → (a || false) ≡ a
-or_none true = refl
-or_none false = refl
-
 neither : (a s : Bool) → (not a && not s) ≡ not (a || s)
 neither true s = refl
 neither false s = refl
@@ -62,11 +57,11 @@ without m k q f l = one_and m (4294967295 - k) q ∙ ap (λ b. is_one m q && b) 
 pub give_none : (old new : Young) (k : ℕ) → k < 2 ^ 32 → new.left ≡ old.left → new.top ≡ bit_and old.top (4294967295 - k) →
     (o : Option ℕ) (q : ℕ) → q < 32 → is_one (left_of new o) q ≡ (is_one (left_of old o) q && not (same_parent None o && is_one k q))
 give_none old new k f left top None q l = ap (λ m. is_one m q) top ∙ without old.top k q f l
-give_none old new k f left top (Some p) q l = ap (λ (xs : List ℕ). is_one (get_or xs p 0) q) left ∙ and_true (is_one (get_or old.left p 0) q)
+give_none old new k f left top (Some p) q l = ap (λ (xs : List ℕ). is_one (get_or xs p 0) q) left ∙ sym (and-true (is_one (get_or old.left p 0) q))
 
 pub give_some : (old new : Young) (r k : ℕ) → k < 2 ^ 32 → r < length old.left → new.top ≡ old.top → new.left ≡ set old.left r (bit_and (get_or old.left r 0) (4294967295 - k)) →
     (o : Option ℕ) (q : ℕ) → q < 32 → is_one (left_of new o) q ≡ (is_one (left_of old o) q && not (same_parent (Some r) o && is_one k q))
-give_some old new r k f w top left None q l = ap (λ m. is_one m q) top ∙ and_true (is_one old.top q)
+give_some old new r k f w top left None q l = ap (λ m. is_one m q) top ∙ sym (and-true (is_one old.top q))
 give_some old new r k f w top left (Some p) q l =
     elim (cases_eq p r) [
       | inl e ↦
@@ -80,18 +75,18 @@ give_some old new r k f w top left (Some p) q l =
           (let no' : nat_eq r p ≡ false = ne_eqb r p (λ e. d (sym e)) in
           ap (λ (xs : List ℕ). is_one (get_or xs p 0) q) left ∙
           (ap (λ m. is_one m q) (get_or-set_other old.left r p (bit_and (get_or old.left r 0) (4294967295 - k)) 0 d) ∙
-          (and_true (is_one (get_or old.left p 0) q) ∙ ap (λ b. is_one (get_or old.left p 0) q && not (b && is_one k q)) (sym no'))))
+          (sym (and-true (is_one (get_or old.left p 0) q)) ∙ ap (λ b. is_one (get_or old.left p 0) q && not (b && is_one k q)) (sym no'))))
     ]
 
 pub give_far : (old : Young) (r k : ℕ) → length old.left ≤ r →
     (o : Option ℕ) (q : ℕ) → q < 32 → is_one (left_of old o) q ≡ (is_one (left_of old o) q && not (same_parent (Some r) o && is_one k q))
-give_far old r k w None q l = and_true (is_one old.top q)
+give_far old r k w None q l = sym (and-true (is_one old.top q))
 give_far old r k w (Some p) q l =
     elim (cases_eq r p) [
       | inl e ↦
           (let no' : is_one (get_or old.left p 0) q ≡ false = ap (λ m. is_one m q) (or_past old.left p (omega (arith, e))) ∙ one_zero q in
           no' ∙ sym (and_left (is_one (get_or old.left p 0) q) (not (nat_eq r p && is_one k q)) no'))
-      | inr d ↦ and_true (is_one (get_or old.left p 0) q) ∙ ap (λ b. is_one (get_or old.left p 0) q && not (b && is_one k q)) (sym (ne_eqb r p d))
+      | inr d ↦ sym (and-true (is_one (get_or old.left p 0) q)) ∙ ap (λ b. is_one (get_or old.left p 0) q && not (b && is_one k q)) (sym (ne_eqb r p d))
     ]
 
 -- ---- one entry more
@@ -116,14 +111,14 @@ module _ (made_so_far : List AgeEntry) (parent : Option ℕ) (given kept : ℕ) 
   any_more o q l =
       list_any-append (λ (e : AgeEntry). same_parent e.parent o && has e.set q) made_so_far (record { parent = parent; set = members kept } ∷ []) ∙
       ap (λ b. list_any (λ (e : AgeEntry). same_parent e.parent o && has e.set q) made_so_far || b)
-      (or_none (same_parent parent o && has (members kept) q) ∙ ap (λ b. same_parent parent o && b) (has_members kept q l))
+      (or-false (same_parent parent o && has (members kept) q) ∙ ap (λ b. same_parent parent o && b) (has_members kept q l))
 
   pub childless_more : (p q : ℕ) → length made_so_far ≤ p → list_any (λ e. same_parent e.parent (Some p) && has e.set q) made_so_far ≡ false →
       list_any (λ e. same_parent e.parent (Some p) && has e.set q) (made_so_far ++ (record { parent = parent; set = members kept } ∷ [])) ≡ false
   childless_more p q l none =
       list_any-append (λ (e : AgeEntry). same_parent e.parent (Some p) && has e.set q) made_so_far (record { parent = parent; set = members kept } ∷ []) ∙
       (ap (λ b. b || ((same_parent parent (Some p) && has (members kept) q) || false)) none ∙
-      (or_none (same_parent parent (Some p) && has (members kept) q) ∙
+      (or-false (same_parent parent (Some p) && has (members kept) q) ∙
       elim (cases_lt q 32) [
         | inl k ↦ ap (λ b. same_parent parent (Some p) && b) (has_members kept q k) ∙ no_self parent refl p q l k
         | inr g ↦ and_right (same_parent parent (Some p)) (has (members kept) q) (has_members_not kept q g)
@@ -147,7 +142,7 @@ module _ (made_so_far : List AgeEntry) (parent : Option ℕ) (given kept : ℕ) 
       let nobody : list_any (λ e. same_parent e.parent (Some p) && has e.set q) (made_so_far ++ (record { parent = parent; set = members kept } ∷ [])) ≡ false =
       childless_more p q (omega (arith, k)) none in
       sym (has_members kept q l) ∙
-      (and_true (has (members kept) q) ∙
+      (sym (and-true (has (members kept) q)) ∙
       (ap (λ b. has (members kept) q && not b) (sym nobody) ∙
       ap (λ (o : Option AgeEntry). entry_has o q && not (list_any (λ (e : AgeEntry). same_parent e.parent (Some p) && has e.set q) (made_so_far ++ (record { parent = parent; set = members kept } ∷ [])))) (sym here)))
 

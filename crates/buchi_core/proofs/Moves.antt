@@ -5,10 +5,13 @@ use Rattle.std.proofs.lemmas.List.{get_or-set_same, get_or-set_other}
 use Rattle.std.proofs.lemmas.Nat.{and_le_l}
 use Rattle.std.proofs.lemmas.Nat.Bits.{bit_at-trailing_zeros}
 use Rattle.std.specs.Int.{w32, trailing_zeros}
+use Rattle.std.proofs.Math.Bool.{and-true, and-false, or-false}
 use Rattle.buchi_core.specs.Forest.{Pair, has, leads}
 use Rattle.buchi_core.specs.Moves.{AreMoves}
-use Rattle.buchi_core.specs.View.{is_one, members}
-use Rattle.buchi_core.proofs.Bits.{has_members, has_members_not, one_and, one_or, one_not, one_pow, one_zero, or_more, or_none}
+use Rattle.buchi_core.specs.View.{members}
+use Rattle.list_facts.specs.Bits.{is_one}
+use Rattle.buchi_core.proofs.Bits.{has_members, has_members_not, one_not, one_pow, or_more}
+use Rattle.list_facts.proofs.Bits.{one_and, one_or, one_zero}
 
 zeros_at : (n p : ℕ) → get_or (replicate n zero) p zero ≡ zero
 zeros_at zero p = refl
@@ -25,7 +28,7 @@ added masks old new bit p q l b =
           subst (λ z. is_one (get_or (set masks old (bit_or (get_or masks old 0) bit)) z 0) q ≡ (is_one (get_or masks z 0) q || (nat_eq z old && nat_eq new q))) (sym e)
           (ap (λ z. is_one z q) (get_or-set_same masks old (bit_or (get_or masks old 0) bit) 0 l) ∙ (one_or (get_or masks old 0) bit q ∙ ap (λ z. is_one (get_or masks old 0) q || z) (b ∙ sym (ap (λ z. z && nat_eq new q) (eq-eqb old old refl)))))
       | inr d ↦
-          ap (λ z. is_one z q) (get_or-set_other masks old p (bit_or (get_or masks old 0) bit) 0 d) ∙ (sym (or_none (is_one (get_or masks p 0) q)) ∙ ap (λ z. is_one (get_or masks p 0) q || z) (sym (ap (λ z. z && nat_eq new q) (ne_eqb p old d))))
+          ap (λ z. is_one z q) (get_or-set_other masks old p (bit_or (get_or masks old 0) bit) 0 d) ∙ (sym (or-false (is_one (get_or masks p 0) q)) ∙ ap (λ z. is_one (get_or masks p 0) q || z) (sym (ap (λ z. z && nat_eq new q) (ne_eqb p old d))))
     ]
 
 -- ---- the least position of a mask, and the mask without it
@@ -42,19 +45,11 @@ least_below m z l = (bit_at-trailing_zeros w32 m z l).0
 least_one : (m : ℕ) → 0 < m → m < 2 ^ 32 → is_one m (trailing_zeros w32 m) ≡ true
 least_one m z l = ap (λ x. nat_eq x 1) (bit_at-trailing_zeros w32 m z l).1
 
-and_false : (b : Bool) → (b && false) ≡ false
-and_false true = refl
-and_false false = refl
-
-and_true : (b : Bool) → (b && true) ≡ b
-and_true true = refl
-and_true false = refl
-
 pub fewer : (m : ℕ) → 0 < m → m < 2 ^ 32 → cleared m (trailing_zeros w32 m) < m
 fewer m z l =
     let p = trailing_zeros w32 m in
     let lp = least_below m z l in
-    let gone : is_one (cleared m p) p ≡ false = one_cleared m p p lp lp ∙ (ap (λ b. is_one m p && not b) (eq-eqb p p refl) ∙ and_false (is_one m p)) in
+    let gone : is_one (cleared m p) p ≡ false = one_cleared m p p lp lp ∙ (ap (λ b. is_one m p && not b) (eq-eqb p p refl) ∙ and-false (is_one m p)) in
     elim (cases_eq (cleared m p) m) [
       | inl e ↦ absurd (both_ways (is_one m p) (ap (λ z. is_one z p) (sym e) ∙ gone) (least_one m z l))
       | inr d ↦ omega (arith, d, and_le_l m (4294967295 - 1 * 2 ^ p % 4294967296))
@@ -66,7 +61,7 @@ rest_at m p x lp lx o =
       | inl e ↦ subst (λ z. is_one m z ≡ true) e o ∙ sym (ap (λ b. (b || false) || is_one (cleared m p) x) (eq-eqb p x e))
       | inr d ↦
           (let n : nat_eq p x ≡ false = ne_eqb p x d in
-          sym (ap (λ b. (b || false) || is_one (cleared m p) x) n ∙ (one_cleared m p x lp lx ∙ (ap (λ b. is_one m x && not b) n ∙ and_true (is_one m x)))))
+          sym (ap (λ b. (b || false) || is_one (cleared m p) x) n ∙ (one_cleared m p x lp lx ∙ (ap (λ b. is_one m x && not b) n ∙ and-true (is_one m x)))))
     ]
 
 rest_has : (m p x : ℕ) → p < 32 → is_one m p ≡ true → has (members m) x ≡ (has (p ∷ []) x || has (members (cleared m p)) x)
@@ -116,4 +111,4 @@ none_left rest x e =
 
 pub target_end : (pairs : List Pair) (targets rest q : ℕ) (w : Bool) → rest ≡ 0 → (is_one targets q || leads pairs (members rest) q) ≡ w → is_one targets q ≡ w
 target_end pairs targets rest q w e h =
-    sym (or_none (is_one targets q)) ∙ (sym (ap (λ b. is_one targets q || b) (leads_none pairs (members rest) q (λ x. none_left rest x e))) ∙ h)
+    sym (or-false (is_one targets q)) ∙ (sym (ap (λ b. is_one targets q || b) (leads_none pairs (members rest) q (λ x. none_left rest x e))) ∙ h)

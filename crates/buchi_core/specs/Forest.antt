@@ -1,7 +1,7 @@
 -- Age forests: the start, the step and its event.
 pub use Rattle.position_sets.specs.Sets.{Pair, has, IsPositionSet}
 use Rattle.std.specs.Prelude.{ℕ, zero, suc, Bool, true, false, cond, not, ◌&&◌, ◌||◌, List, [], ◌∷◌, ◌++◌, map, Option, Some, None, slice_get, length, filter, nat_eq, ltb, leb}
-use Rattle.std.specs.List.{list_any}
+use Rattle.std.specs.List.{list_any, list_all}
 use Rattle.buchi_core.specs.declared.event.Event.{Event}
 use Rattle.buchi_core.specs.declared.event.Event.TheVariants.{Dies, Green, Nothing}
 
@@ -9,11 +9,6 @@ use Rattle.buchi_core.specs.declared.event.Event.TheVariants.{Dies, Green, Nothi
 pub record Entry : Type 0 where
   pub parent : Option ℕ
   pub set : List ℕ
-
--- each element passes
-abbrev pub every : {X : Type 0} → (X → Bool) → List X → Bool
-every t [] = true
-every t (x ∷ xs) = t x && every t xs
 
 -- a pair leads from the set to the position
 abbrev pub leads : List Pair → List ℕ → ℕ → Bool
@@ -102,7 +97,7 @@ set_at entries i = set_of (slice_get entries i)
 
 -- entry i isn't empty, and each of its positions is in a child
 abbrev pub is_full : List Entry → ℕ → Bool
-is_full entries i = is_filled (set_at entries i) && every (child_has entries i) (set_at entries i)
+is_full entries i = is_filled (set_at entries i) && list_all (child_has entries i) (set_at entries i)
 
 -- the flag, if there is one, is true
 abbrev pub is_set : Option Bool → Bool

@@ -1,13 +1,9 @@
 -- The plain data that the code's types stand for.
-use Rattle.std.specs.Prelude.{ℕ, Bool, List, map, take, nat_eq}
-use Rattle.std.specs.Int.{bit_at}
+use Rattle.std.specs.Prelude.{ℕ, List, map, take}
 use Rattle.buchi_core.specs.Forest.{Entry as AgeEntry, places}
 use Rattle.buchi_core.specs.declared.entry.Entry.{Entry}
 use Rattle.buchi_core.specs.declared.age_forest.AgeForest.{AgeForest}
-
--- bit q of the mask is a one
-abbrev pub is_one : ℕ → ℕ → Bool
-is_one mask q = nat_eq (bit_at mask q) 1
+use Rattle.list_facts.specs.Bits.{is_one}
 
 -- the positions that a mask of 32 bits stands for: the places of its ones
 unfoldable pub members : ℕ → List ℕ

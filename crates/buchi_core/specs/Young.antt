@@ -3,7 +3,8 @@ use Rattle.std.specs.Prelude.{ℕ, ◌≡◌, ◌<◌, ◌≤◌, false, ◌&&�
 use Rattle.std.specs.List.{list_any}
 use Rattle.buchi_core.specs.declared.young.Young.{Young}
 use Rattle.buchi_core.specs.Forest.{Entry as AgeEntry, has, same_parent, stays}
-use Rattle.buchi_core.specs.View.{is_one, entries_of}
+use Rattle.buchi_core.specs.View.{entries_of}
+use Rattle.list_facts.specs.Bits.{is_one}
 
 -- the plain data of the entries that are made
 abbrev pub made : Young → List AgeEntry

@@ -3,7 +3,8 @@
 ghost use Rattle.std.specs.Prelude.{ℕ, ◌≡◌, ◌<◌, ◌&&◌, ◌||◌, List, nat_eq, length, get_or};
 ghost use Rattle.buchi_core.specs.Forest.{IsPositionSet, Pair, leads, successors, progressing};
 ghost use Rattle.buchi_core.specs.Moves.{AreMoves};
-ghost use Rattle.buchi_core.specs.View.{is_one, members};
+ghost use Rattle.buchi_core.specs.View.{members};
+ghost use Rattle.list_facts.specs.Bits.{is_one};
 
 /// The mask of one position, empty if it isn't below 32.
 fn bit_of(position: u8) -> u32

@@ -3,7 +3,8 @@
 ghost use Rattle.std.specs.Prelude.{ℕ, ◌≡◌, ◌<◌, ◌+◌, [], ◌∷◌, ◌++◌, ◌&&◌, not, length, Option};
 ghost use Rattle.arrayvec.specs.ArrayVec.{array_vec_len};
 ghost use Rattle.buchi_core.specs.Forest.{same_parent, trimmed};
-ghost use Rattle.buchi_core.specs.View.{is_one, members};
+ghost use Rattle.buchi_core.specs.View.{members};
+ghost use Rattle.list_facts.specs.Bits.{is_one};
 ghost use Rattle.buchi_core.specs.Young.{AreLeft, left_of, made};
 
 use crate::entry::Entry;

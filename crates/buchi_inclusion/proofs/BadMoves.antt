@@ -3,7 +3,7 @@ use Rattle.std.proofs.Common.{◌≡◌, ℕ, ◌<◌, inl, inr, List, [], ◌�
 use Rattle.trace_pairs.specs.Graph.{Node}
 use Rattle.trace_pairs.specs.Lasso.{AllProgress}
 use Rattle.trace_pairs.specs.Graph.{IsGraph}
-use Rattle.trace_pairs.proofs.Grow.{get_end, get_push_cases}
+use Rattle.trace_pairs.proofs.Grow.{get_push_cases}
 use Rattle.trace_pairs.specs.declared.lasso.Step.{Step}
 use Rattle.buchi_core.specs.declared.event.Event.{Event}
 use Rattle.buchi_core.proofs.Lists.{get_one}
@@ -16,7 +16,7 @@ use Rattle.buchi_inclusion.specs.BadMoves.{IsBadMove}
 use Rattle.buchi_inclusion.proofs.Runs.{over_run, each_append}
 use Rattle.buchi_inclusion.proofs.Exact.{exact, run_append}
 use Rattle.buchi_inclusion.proofs.Deciding.{bad_is}
-use Rattle.list_facts.proofs.Places.{get_within, get_append_left}
+use Rattle.list_facts.proofs.Places.{get_within, get_append_left, get_end}
 
 -- there is no way where there is one
 pub way_or_none : (g : List Node) (states : List State) (least : Event) (from to : ℕ) → HasWay g states least from to → IsNoWay g states least from to → ⊥

@@ -1,6 +1,6 @@
 -- The table of the product: it has each move, all reachable states, and what a search over it visits.
-use Rattle.std.proofs.Common.{◌≡◌, ℕ, zero, suc, ◌<◌, ◌≤◌, ◌⊎◌, inl, inr, List, [], ◌∷◌, Bool, true, false, not, arith, Some, slice_get, length, sym, refl, ap, ◌∙◌, subst, Vec, Global, le_refl}
-use Rattle.std.proofs.lemmas.Bool.{both_ways}
+use Rattle.std.proofs.Common.{◌≡◌, ℕ, zero, suc, ◌<◌, ◌≤◌, ◌⊎◌, inl, inr, List, [], ◌∷◌, Bool, true, not, arith, Some, slice_get, length, sym, refl, ap, ◌∙◌, subst, Vec, Global, le_refl}
+use Rattle.std.proofs.lemmas.Bool.{not-true}
 use Rattle.std.proofs.lemmas.Option.{slice_get_within}
 use Rattle.trace_pairs.specs.Graph.{Node, Edge, IsEdge, IsGraph}
 use Rattle.trace_pairs.specs.Visits.{IsAllowed, IsVisited, IsLed, AreVisits, AllTargetsFit}
@@ -49,10 +49,6 @@ module _ (least : Event) (rows : List (Vec Transition Global)) (table : List (Ve
       let m = map_at (λ (m : Transition). (m.target, not (is_earlier m.event least))) q.row.items k (j, ok) (subst (λ xs. slice_get xs k ≡ Some (j, ok)) (sym q.same) e) in
       record { row = q.row; m = m.x; is_row = q.is_row; is_m = m.is_x; target = ap (λ p. p.0) m.value; flag = ap (λ p. p.1) m.value }
 
-  not_true : (b : Bool) → not b ≡ true → b ≡ false
-  not_true true h = absurd (both_ways false refl h)
-  not_true false h = refl
-
   pub record StepOf (i k j : ℕ) : Type 0 where
     pub row : Vec Transition Global
     pub m : Transition
@@ -64,7 +60,7 @@ module _ (least : Event) (rows : List (Vec Transition Global)) (table : List (Ve
   pub step_of : (i k j : ℕ) → IsAllowed table i k j → StepOf i k j
   step_of i k j a =
       let m = item_of i k j true a.row a.is_row a.is_edge in
-      record { row = m.row; m = m.m; is_row = m.is_row; is_m = m.is_m; target = m.target; ok = not_true (is_earlier m.m.event least) m.flag }
+      record { row = m.row; m = m.m; is_row = m.is_row; is_m = m.is_m; target = m.target; ok = not-true (is_earlier m.m.event least) m.flag }
 
   pub item_allowed : (i k : ℕ) (row : Vec Transition Global) (m : Transition) → slice_get rows i ≡ Some row → slice_get row.items k ≡ Some m → IsAtLeast least m.event → IsAllowed table i k m.target
   item_allowed i k row m h e ok =

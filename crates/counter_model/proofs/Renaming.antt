@@ -20,7 +20,7 @@ use Rattle.heap_formula.proofs.Unions.{same_cells}
 use Rattle.heap_formula.proofs.StageLaws.{OneOf-map}
 use Rattle.list_facts.proofs.Tests.{bool_same}
 use Rattle.heap_formula.proofs.Insertions.{same_address}
-use Rattle.model_check.proofs.MaskParts.{one_cell_at}
+use Rattle.heap_formula.proofs.HeapLaws.{one_cell_at}
 
 abbrev pub over : {X Y : Type 0} → (X → Y) → Option X → Option Y
 over f None = None

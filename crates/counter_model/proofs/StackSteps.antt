@@ -4,7 +4,7 @@ use Rattle.std.proofs.lemmas.Bool.{cases_lt}
 use Rattle.heap_formula.specs.Words.{Each, OneOf, max_of}
 use Rattle.heap_formula.specs.Values.{Stack}
 use Rattle.heap_formula.proofs.StageLaws.{OneOf-map}
-use Rattle.model_check.specs.Constructive.{Member}
+use Rattle.list_facts.specs.Words.{IsMember}
 use Rattle.fitting_heaps.proofs.Loops.{pushed}
 use Rattle.fitting_heaps.proofs.LocalLists.{take_next, take_all}
 use Rattle.counter_model.specs.Tightness.{Breaks, IsStack, IsStep}
@@ -12,21 +12,21 @@ use Rattle.formula_facts.proofs.AllMembers.{each_last}
 
 -- ---- adding entries
 
-pub entry_added : (l e : Stack) (v : ℕ) (first old new : List Stack) (more : Stack) → more ≡ l ++ v ∷ [] → new ≡ old ++ more ∷ [] → ((Member e first ⊎ ((u : ℕ) × (u < v) × (e ≡ l ++ u ∷ []))) → Member e old) → (Member e first ⊎ ((u : ℕ) × (u < v + 1) × (e ≡ l ++ u ∷ []))) → Member e new
+pub entry_added : (l e : Stack) (v : ℕ) (first old new : List Stack) (more : Stack) → more ≡ l ++ v ∷ [] → new ≡ old ++ more ∷ [] → ((IsMember e first ⊎ ((u : ℕ) × (u < v) × (e ≡ l ++ u ∷ []))) → IsMember e old) → (IsMember e first ⊎ ((u : ℕ) × (u < v + 1) × (e ≡ l ++ u ∷ []))) → IsMember e new
 entry_added l e v first old new more m n f o =
-    elim o as (λ z. Member e new) [
+    elim o as (λ z. IsMember e new) [
       | inl a ↦ pushed (λ y. y ≡ e) old new more n (inl (f (inl a)))
       | inr k ↦
           let below : k.0 < v + 1 = k.1 in
-          elim (cases_lt k.0 v) as (λ z. Member e new) [
+          elim (cases_lt k.0 v) as (λ z. IsMember e new) [
             | inl lt ↦ pushed (λ y. y ≡ e) old new more n (inl (f (inr (k.0, lt, k.2))))
             | inr ge ↦ let same : v ≡ k.0 = omega arith in pushed (λ y. y ≡ e) old new more n (inr (m ∙ ap (λ u. l ++ u ∷ []) same ∙ sym k.2))
           ]
     ]
 
-pub entries_added : (n most last v : ℕ) (l e : Stack) (first old : List Stack) → n < 2 ^ 32 → last ≡ min (min (most + 1) (2 ^ 64 - 1)) n → most ≡ max_of l → last + 1 ≤ v → ((Member e first ⊎ ((u : ℕ) × (u < v) × (e ≡ l ++ u ∷ []))) → Member e old) → (Member e first ⊎ IsStep n l e) → Member e old
+pub entries_added : (n most last v : ℕ) (l e : Stack) (first old : List Stack) → n < 2 ^ 32 → last ≡ min (min (most + 1) (2 ^ 64 - 1)) n → most ≡ max_of l → last + 1 ≤ v → ((IsMember e first ⊎ ((u : ℕ) × (u < v) × (e ≡ l ++ u ∷ []))) → IsMember e old) → (IsMember e first ⊎ IsStep n l e) → IsMember e old
 entries_added n most last v l e first old w a m h f o =
-    elim o as (λ z. Member e old) [
+    elim o as (λ z. IsMember e old) [
       | inl k ↦ f (inl k)
       | inr k ↦
           let s : k.next ≤ n = k.small in
@@ -66,7 +66,7 @@ entry_small n [] k a = omega arith
 entry_small n (v ∷ s) zero a = a.0
 entry_small n (v ∷ s) (suc k) a = entry_small n s k a.1
 
-pub stack_steps : (n long k : ℕ) (s : Stack) (all : List Stack) → k < long → IsStack n long s → (Breaks 0 s → ⊥) → Member (take k s) all → OneOf (λ l. IsStep n l (take (k + 1) s)) all
+pub stack_steps : (n long k : ℕ) (s : Stack) (all : List Stack) → k < long → IsStack n long s → (Breaks 0 s → ⊥) → IsMember (take k s) all → OneOf (λ l. IsStep n l (take (k + 1) s)) all
 stack_steps n long k s all h i b m =
     let j : k < length s = (let c : length s ≡ long = i.count in omega arith) in
     let one : k + 1 ≡ suc k = omega arith in
@@ -79,8 +79,8 @@ stack_steps n long k s all h i b m =
       whole = ap (λ c. take c s) one ∙ take_next s k j ∙ ap (λ y. y ++ get_or s k 0 ∷ []) (sym same);
     }) all m
 
-pub stack_whole : (n long k : ℕ) (s : Stack) (all : List Stack) → long ≡ k → IsStack n long s → Member (take k s) all → Member s all
-stack_whole n long k s all e i m = subst (λ y. Member y all) (take_all s k (i.count ∙ e)) m
+pub stack_whole : (n long k : ℕ) (s : Stack) (all : List Stack) → long ≡ k → IsStack n long s → IsMember (take k s) all → IsMember s all
+stack_whole n long k s all e i m = subst (λ y. IsMember y all) (take_all s k (i.count ∙ e)) m
 
 pub same_count : (n j k : ℕ) (xs : List Stack) → j ≡ k → Each (IsStack n j) xs → Each (IsStack n k) xs
 same_count n j k xs e a = subst (λ c. Each (IsStack n c) xs) e a

@@ -4,7 +4,7 @@ ghost use Rattle.heap_formula.specs.Words.{Each, OneOf};
 ghost use Rattle.heap_formula.specs.Cells.{Cells as SomeHeap};
 ghost use Rattle.heap_formula.specs.Closedness.{IsUniversalHeap};
 ghost use Rattle.heap_formula.specs.Meaning.{Satisfies, SatisfiesOne};
-ghost use Rattle.model_check.specs.Constructive.{Member, IsConstructive, AreConstructive};
+ghost use Rattle.model_check.specs.Constructive.{IsConstructive, AreConstructive};
 ghost use Rattle.fitting_heaps.specs.Bounds.{AreAtMost, IsWithin};
 ghost use Rattle.counter_model.specs.FirstCounter.{IsCounter};
 ghost use Rattle.counter_model.specs.Leading.{IsHeapFor, IsLed, IsFirstHeap};

@@ -1,7 +1,7 @@
 // The stacks in which each entry is at most one more than the entries before it.
 ghost use Rattle.std.specs.Prelude.{◌≡◌, ◌+◌, ◌++◌, ◌∷◌, [], ◌⊎◌, ◌≤◌, ℕ, List, IfOk, length, max};
 ghost use Rattle.heap_formula.specs.Words.{Each, OneOf, max_of};
-ghost use Rattle.model_check.specs.Constructive.{Member};
+ghost use Rattle.list_facts.specs.Words.{IsMember};
 ghost use Rattle.counter_model.specs.Tightness.{Breaks, IsStack, IsStep};
 
 use cyc_memory::OutOfMemory;
@@ -34,8 +34,8 @@ fn add_steps(
     stack: &[u64],
 ) -> Result<(), OutOfMemory>
     requires { IsStack greatest (length stack.now) stack.now }
-    ensures complete { IfOk result (λ _. (e : List ℕ) → (Member e out.old.items ⊎ IsStep greatest stack.now e)
-        → Member e out.new.items) }
+    ensures complete { IfOk result (λ _. (e : List ℕ) → (IsMember e out.old.items ⊎ IsStep greatest stack.now e)
+        → IsMember e out.new.items) }
     ensures sound { IfOk result (λ _. Each (IsStack greatest (length stack.now + 1)) out.old.items
         → Each (IsStack greatest (length stack.now + 1)) out.new.items) }
 {
@@ -54,7 +54,7 @@ fn all_steps(
 ) -> Result<Vec<Stack>, OutOfMemory>
     requires { Each (IsStack greatest count) shorter.now }
     ensures complete { IfOk result (λ v. (e : List ℕ) → OneOf (λ l. IsStep greatest l e) shorter.now
-        → Member e v.items) }
+        → IsMember e v.items) }
     ensures sound { IfOk result (λ v. Each (IsStack greatest (count + 1)) v.items) }
 {
     let mut out = Vec::new(alloc);
@@ -66,7 +66,7 @@ fn all_steps(
 
 /// The stacks of so many entries from 0 to the greatest in which each entry is at most one more than all before it.
 pub fn tight_stacks(alloc: Global, greatest: u32, count: u32) -> Result<Vec<Stack>, OutOfMemory>
-    ensures complete { IfOk result (λ v. (s : List ℕ) → IsStack greatest count s → (¬ Breaks 0 s) → Member s v.items) }
+    ensures complete { IfOk result (λ v. (s : List ℕ) → IsStack greatest count s → (¬ Breaks 0 s) → IsMember s v.items) }
     ensures sound { IfOk result (λ v. Each (IsStack greatest count) v.items) }
 {
     let mut all = Vec::new(alloc);

@@ -9,7 +9,8 @@ use Rattle.buchi_inclusion.specs.Answers.{state_limit}
 use Rattle.trace_decision.specs.Decide.{progresses, number_of}
 use Rattle.derivation_search.specs.System.{after}
 use Rattle.derivation_search.specs.Firsts.{IsIn}
-use Rattle.derivation_search.specs.Engine.{FaresSo, AllAre}
+use Rattle.derivation_search.specs.Engine.{FaresSo}
+use Rattle.list_facts.specs.Words.{Each}
 use Rattle.derivation_search.specs.declared.Tried.{Tried}
 use Rattle.derivation_search.specs.declared.Tried.TheVariants.{Admitted, Refused, TooManyStates}
 use Rattle.tableaux.specs.Tableau.{Premise, Goal, Made, Calculus, grown, linked, step, at_next, with_premises, begin, replay}
@@ -173,12 +174,12 @@ module _ {L J R : Type 0} (calculus : L → Calculus J R) (Occurs : L → J → 
 
   -- ---- what is offered
 
-  all_in : (P : R → Type 0) (xs : List R) → ((r : R) → IsIn xs r → P r) → AllAre P xs
+  all_in : (P : R → Type 0) (xs : List R) → ((r : R) → IsIn xs r → P r) → Each P xs
   all_in P [] each = tt
   all_in P (x ∷ xs) each = (each x (record { place = 0; at = refl }), all_in P xs (λ r is. each r (record { place = suc is.place; at = is.at })))
 
   -- what is offered may be given
-  pub offered_allowed : (g : Goal J) (rest : List (Goal J)) → goals_in s ≡ g ∷ rest → AllAre (Allows s.logic) (c.links s.made.items g) × AllAre (Allows s.logic) (c.rules s.made.items g)
+  pub offered_allowed : (g : Goal J) (rest : List (Goal J)) → goals_in s ≡ g ∷ rest → Each (Allows s.logic) (c.links s.made.items g) × Each (Allows s.logic) (c.rules s.made.items g)
   offered_allowed g rest next =
       let occur = next_occurs g rest next in (
         all_in (Allows s.logic) (c.links s.made.items g) (λ r is. order.fair.offers s.made.items g r occur (inl is)),

@@ -17,7 +17,8 @@ use Rattle.heap_formula.specs.Closedness.{InPure, InSpatial, IsUniversal, IsUniv
 use Rattle.heap_formula.specs.Cells.{Cells, cell_at}
 use Rattle.heap_formula.specs.Meaning.{Family, PureHolds, IsCell, AtomHolds, SpatialHolds, CaseHolds, cases_of, at_stage, least, Satisfies}
 use Rattle.heap_formula.proofs.StageLaws.{least_in_closed}
-use Rattle.model_check.specs.Constructive.{Member, Known, nil, universal, right_side, left_side, field, IsConstructive, AreConstructive, CellFits, Fits, Inside}
+use Rattle.model_check.specs.Constructive.{Known, nil, universal, right_side, left_side, field, IsConstructive, AreConstructive, CellFits, Fits, Inside}
+use Rattle.list_facts.specs.Words.{IsMember}
 use Rattle.model_check.proofs.OnlyLocals.{member_each, left_inside, right_inside, inside_all, holds_fits}
 use Rattle.model_check.proofs.CaseLists.{constructive_cases}
 use Rattle.fitting_heaps.specs.Bounds.{AreAtMost, IsWithin, IsAmong}
@@ -36,7 +37,7 @@ index_small n [] k a = omega arith
 index_small n (v ∷ s) zero a = a.0
 index_small n (v ∷ s) (suc k) a = index_small n s k a.1
 
-member_small : (n : ℕ) (f : Term → ℕ) (u : Term) (ts : List Term) → Member u ts → AreAtMost n (map f ts) → f u ≤ n
+member_small : (n : ℕ) (f : Term → ℕ) (u : Term) (ts : List Term) → IsMember u ts → AreAtMost n (map f ts) → f u ≤ n
 member_small n f u [] m a = absurd m
 member_small n f u (t ∷ ts) (inl e) a = subst (λ y. f y ≤ n) e a.0
 member_small n f u (t ∷ ts) (inr m) a = member_small n f u ts m a.1

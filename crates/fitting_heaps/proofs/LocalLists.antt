@@ -7,19 +7,19 @@ use Rattle.heap_formula.specs.Words.{Each, OneOf}
 use Rattle.heap_formula.specs.Values.{Stack}
 use Rattle.heap_formula.specs.Meaning.{PureHolds}
 use Rattle.heap_formula.proofs.StageLaws.{OneOf-map}
-use Rattle.model_check.specs.Constructive.{Member}
+use Rattle.list_facts.specs.Words.{IsMember}
 use Rattle.fitting_heaps.specs.Bounds.{AreAtMost}
 use Rattle.fitting_heaps.specs.LocalValues.{IsChoice, IsNext, IsLonger}
 use Rattle.fitting_heaps.proofs.Loops.{pushed}
 
-pub next_added : (s : Stack) (pure : List Pure) (l more e : Stack) (v : ℕ) (old new : List Stack) → more ≡ l ++ v ∷ [] → new ≡ old ++ more ∷ [] → (Member e old ⊎ IsNext s pure l v e) → Member e new
+pub next_added : (s : Stack) (pure : List Pure) (l more e : Stack) (v : ℕ) (old new : List Stack) → more ≡ l ++ v ∷ [] → new ≡ old ++ more ∷ [] → (IsMember e old ⊎ IsNext s pure l v e) → IsMember e new
 next_added s pure l more e v old new m n o =
-    pushed (λ y. y ≡ e) old new more n (elim o as (λ z. Member e old ⊎ (more ≡ e)) [ inl a ↦ inl a | inr k ↦ inr (m ∙ sym k.whole) ])
+    pushed (λ y. y ≡ e) old new more n (elim o as (λ z. IsMember e old ⊎ (more ≡ e)) [ inl a ↦ inl a | inr k ↦ inr (m ∙ sym k.whole) ])
 
-pub next_fails : (s : Stack) (pure : List Pure) (l more e : Stack) (v : ℕ) (old new : List Stack) (b : Bool) → more ≡ l ++ v ∷ [] → b ≡ false → ((behind : List ℕ) → Each (PureHolds s (more ++ behind)) pure → IsTrue b) → new ≡ old → (Member e old ⊎ IsNext s pure l v e) → Member e new
+pub next_fails : (s : Stack) (pure : List Pure) (l more e : Stack) (v : ℕ) (old new : List Stack) (b : Bool) → more ≡ l ++ v ∷ [] → b ≡ false → ((behind : List ℕ) → Each (PureHolds s (more ++ behind)) pure → IsTrue b) → new ≡ old → (IsMember e old ⊎ IsNext s pure l v e) → IsMember e new
 next_fails s pure l more e v old new b m z f n o =
-    elim o as (λ x. Member e new) [
-      | inl a ↦ subst (Member e) (sym n) a
+    elim o as (λ x. IsMember e new) [
+      | inl a ↦ subst (IsMember e) (sym n) a
       | inr k ↦
           let w : e ≡ more = k.whole ∙ sym m in
           let h : Each (PureHolds s (more ++ k.behind)) pure = subst (λ y. Each (PureHolds s (y ++ k.behind)) pure) w k.holds in
@@ -27,13 +27,13 @@ next_fails s pure l more e v old new b m z f n o =
     ]
 
 -- one more value is tried
-pub value_tried : (s : Stack) (pure : List Pure) (l e : Stack) (v : ℕ) (first old new : List Stack) → ((Member e first ⊎ ((u : ℕ) × (u < v) × IsNext s pure l u e)) → Member e old) → ((Member e old ⊎ IsNext s pure l v e) → Member e new) → (Member e first ⊎ ((u : ℕ) × (u < v + 1) × IsNext s pure l u e)) → Member e new
+pub value_tried : (s : Stack) (pure : List Pure) (l e : Stack) (v : ℕ) (first old new : List Stack) → ((IsMember e first ⊎ ((u : ℕ) × (u < v) × IsNext s pure l u e)) → IsMember e old) → ((IsMember e old ⊎ IsNext s pure l v e) → IsMember e new) → (IsMember e first ⊎ ((u : ℕ) × (u < v + 1) × IsNext s pure l u e)) → IsMember e new
 value_tried s pure l e v first old new f g o =
-    elim o as (λ z. Member e new) [
+    elim o as (λ z. IsMember e new) [
       | inl a ↦ g (inl (f (inl a)))
       | inr k ↦
           let below : k.0 < v + 1 = k.1 in
-          elim (cases_lt k.0 v) as (λ z. Member e new) [
+          elim (cases_lt k.0 v) as (λ z. IsMember e new) [
             | inl lt ↦ g (inl (f (inr (k.0, lt, k.2))))
             | inr ge ↦ let same : k.0 ≡ v = omega arith in g (inr (subst (λ u. IsNext s pure l u e) same k.2))
           ]
@@ -56,7 +56,7 @@ at_most n (x ∷ e) zero a = a.0
 at_most n (x ∷ e) (suc k) a = at_most n e k a.1
 
 -- a choice whose first values are there is still there with one more
-pub choice_longer : (n count k : ℕ) (s : Stack) (pure : List Pure) (old : List Stack) (e : Stack) → k < count → IsChoice n count s pure e → Member (take k e) old → OneOf (λ l. IsLonger n s pure l (take (k + 1) e)) old
+pub choice_longer : (n count k : ℕ) (s : Stack) (pure : List Pure) (old : List Stack) (e : Stack) → k < count → IsChoice n count s pure e → IsMember (take k e) old → OneOf (λ l. IsLonger n s pure l (take (k + 1) e)) old
 choice_longer n count k s pure old e h c m =
     let j : k < length e = (let l : length e ≡ count = c.long in omega arith) in
     let one : k + 1 ≡ suc k = omega arith in
@@ -76,12 +76,12 @@ take_all [] (suc k) h = refl
 take_all (x ∷ e) zero h = absurd (omega arith)
 take_all (x ∷ e) (suc k) h = ap (λ y. x ∷ y) (take_all e k (omega arith))
 
-pub choice_whole : (n count k : ℕ) (s : Stack) (pure : List Pure) (all : List Stack) (e : Stack) → count ≡ k → IsChoice n count s pure e → Member (take k e) all → Member e all
-choice_whole n count k s pure all e h c m = subst (λ y. Member y all) (take_all e k (c.long ∙ h)) m
+pub choice_whole : (n count k : ℕ) (s : Stack) (pure : List Pure) (all : List Stack) (e : Stack) → count ≡ k → IsChoice n count s pure e → IsMember (take k e) all → IsMember e all
+choice_whole n count k s pure all e h c m = subst (λ y. IsMember y all) (take_all e k (c.long ∙ h)) m
 
-pub all_tried : (n v : ℕ) (s : Stack) (pure : List Pure) (l e : Stack) (first old : List Stack) → n + 1 ≤ v → ((Member e first ⊎ ((u : ℕ) × (u < v) × IsNext s pure l u e)) → Member e old) → (Member e first ⊎ IsLonger n s pure l e) → Member e old
+pub all_tried : (n v : ℕ) (s : Stack) (pure : List Pure) (l e : Stack) (first old : List Stack) → n + 1 ≤ v → ((IsMember e first ⊎ ((u : ℕ) × (u < v) × IsNext s pure l u e)) → IsMember e old) → (IsMember e first ⊎ IsLonger n s pure l e) → IsMember e old
 all_tried n v s pure l e first old h f o =
-    elim o as (λ z. Member e old) [
+    elim o as (λ z. IsMember e old) [
       | inl a ↦ f (inl a)
       | inr k ↦ let below : k.0 ≤ n = k.1 in f (inr (k.0, (let lt : k.0 < v = omega arith in lt), k.2))
     ]

@@ -11,7 +11,7 @@ use Rattle.heap_formula.specs.Values.{Stack}
 use Rattle.heap_formula.specs.Cells.{Cells}
 use Rattle.heap_formula.specs.Meaning.{SpatialHolds, cases_of}
 use Rattle.heap_formula.proofs.StageLaws.{OneOf-map}
-use Rattle.model_check.specs.Constructive.{Member}
+use Rattle.list_facts.specs.Words.{IsMember}
 use Rattle.model_check.specs.Questions.{Question}
 use Rattle.model_check.specs.Grounding.{IsQuestion}
 use Rattle.fitting_heaps.specs.LocalValues.{IsChoice}
@@ -20,12 +20,12 @@ use Rattle.fitting_heaps.proofs.Turns.{both_steps}
 use Rattle.std.proofs.lemmas.Option.{same_Some, slice_get_past}
 
 -- all choices of locals are done
-pub case_taken : (n : ℕ) (t0 t1 : Findings) (grown : Bool) (q count : ℕ) (vs : List ℕ) (b : SymbolicHeap) (pure : List Pure) (all view : List Stack) → count ≡ heap_exists b → pure ≡ b.pure → ((e : Stack) → IsChoice n count vs pure e → Member e all) → view ≡ all → UnlessGrown grown t0 t1 ((h : Cells) → OneOf (λ e. SpatialHolds (λ _. found_if_asked n t0) vs e b.spatial h) view → IsFound n t0 q h) → UnlessGrown grown t0 t1 ((h : Cells) → FitsCase n (found_if_asked n t0) vs h b → IsFound n t0 q h)
+pub case_taken : (n : ℕ) (t0 t1 : Findings) (grown : Bool) (q count : ℕ) (vs : List ℕ) (b : SymbolicHeap) (pure : List Pure) (all view : List Stack) → count ≡ heap_exists b → pure ≡ b.pure → ((e : Stack) → IsChoice n count vs pure e → IsMember e all) → view ≡ all → UnlessGrown grown t0 t1 ((h : Cells) → OneOf (λ e. SpatialHolds (λ _. found_if_asked n t0) vs e b.spatial h) view → IsFound n t0 q h) → UnlessGrown grown t0 t1 ((h : Cells) → FitsCase n (found_if_asked n t0) vs h b → IsFound n t0 q h)
 case_taken n t0 t1 grown q count vs b pure all view ce pe f ve g = λ z.
     let r = g z in (
       r.0,
       λ h k.
-          let m : Member k.locals all = f k.locals (subst (λ ps. IsChoice n count vs ps k.locals) (sym pe) (record { long = k.long ∙ sym ce; small = k.small; holds = k.holds.0 })) in
+          let m : IsMember k.locals all = f k.locals (subst (λ ps. IsChoice n count vs ps k.locals) (sym pe) (record { long = k.long ∙ sym ce; small = k.small; holds = k.holds.0 })) in
           r.1 h (subst (OneOf (λ e. SpatialHolds (λ _. found_if_asked n t0) vs e b.spatial h)) (sym ve) (OneOf-map (λ e. e ≡ k.locals) (λ e. SpatialHolds (λ _. found_if_asked n t0) vs e b.spatial h) (λ e same. subst (λ y. SpatialHolds (λ _. found_if_asked n t0) vs y b.spatial h) (sym same) k.holds.1) all m)),
     )
 

@@ -6,7 +6,7 @@ use Rattle.std.specs.Cmp.{nat_cmp_total, eq_by_cmp_equiv}
 use Rattle.std.specs.FinMap.{insert, get-insert, get-empty}
 use Rattle.std.proofs.lemmas.Bool.{cases_lt}
 use Rattle.heap_formula.proofs.Unions.{same_cells}
-use Rattle.model_check.specs.Constructive.{Member}
+use Rattle.list_facts.specs.Words.{IsMember}
 use Rattle.heap_formula.proofs.StageLaws.{OneOf-map}
 use Rattle.heap_formula.specs.Words.{Each, OneOf}
 use Rattle.heap_formula.specs.Cells.{Cells, cell_at, no_cells, Joins, IsUnion, Star, IsHeap}
@@ -93,15 +93,15 @@ cut_same n none x w h z below above k s = same_cells w h at
       | inr le ↦ let l : a ≤ n = omega arith in below a l ∙ ap (option_or (cell_at x a)) (nothing a) ∙ either_none (cell_at x a) ∙ s.same a l
     ]
 
-pub cut_added : (n : ℕ) (none x w h : Cells) (old new : List Cells) → none ≡ no_cells → ((a : ℕ) → a ≤ n → cell_at w a ≡ option_or (cell_at x a) (cell_at none a)) → ((a : ℕ) → n < a → cell_at w a ≡ cell_at none a) → new ≡ old ++ w ∷ [] → IsWithin n h → (Member h old ⊎ SameUpTo n x h) → Member h new
+pub cut_added : (n : ℕ) (none x w h : Cells) (old new : List Cells) → none ≡ no_cells → ((a : ℕ) → a ≤ n → cell_at w a ≡ option_or (cell_at x a) (cell_at none a)) → ((a : ℕ) → n < a → cell_at w a ≡ cell_at none a) → new ≡ old ++ w ∷ [] → IsWithin n h → (IsMember h old ⊎ SameUpTo n x h) → IsMember h new
 cut_added n none x w h old new z below above e k o =
-    pushed (λ g. g ≡ h) old new w e (elim o as (λ y. Member h old ⊎ (w ≡ h)) [ inl m ↦ inl m | inr s ↦ inr (cut_same n none x w h z below above k s) ])
+    pushed (λ g. g ≡ h) old new w e (elim o as (λ y. IsMember h old ⊎ (w ≡ h)) [ inl m ↦ inl m | inr s ↦ inr (cut_same n none x w h z below above k s) ])
 
 -- ---- heaps that are kept if their fields are small
 
-pub small_missing : (n : ℕ) (none x w h : Cells) (old : List Cells) (b : Bool) → none ≡ no_cells → ((a : ℕ) → a ≤ n → cell_at w a ≡ option_or (cell_at x a) (cell_at none a)) → ((a : ℕ) → n < a → cell_at w a ≡ cell_at none a) → b ≡ false → (((a : ℕ) (vs : List ℕ) → a ≤ n → cell_at w a ≡ Some vs → AreAtMost n vs) → IsTrue b) → IsWithin n h → (Member h old ⊎ SameUpTo n x h) → Member h old
+pub small_missing : (n : ℕ) (none x w h : Cells) (old : List Cells) (b : Bool) → none ≡ no_cells → ((a : ℕ) → a ≤ n → cell_at w a ≡ option_or (cell_at x a) (cell_at none a)) → ((a : ℕ) → n < a → cell_at w a ≡ cell_at none a) → b ≡ false → (((a : ℕ) (vs : List ℕ) → a ≤ n → cell_at w a ≡ Some vs → AreAtMost n vs) → IsTrue b) → IsWithin n h → (IsMember h old ⊎ SameUpTo n x h) → IsMember h old
 small_missing n none x w h old b z below above e f k o =
-    elim o as (λ y. Member h old) [
+    elim o as (λ y. IsMember h old) [
       | inl m ↦ m
       | inr s ↦
           let same : w ≡ h = cut_same n none x w h z below above k s in

@@ -1,7 +1,7 @@
 // The values that the locals of a formula may have.
 ghost use Rattle.std.specs.Prelude.{◌≡◌, ◌++◌, ◌∷◌, [], ◌⊎◌, ℕ, List, IfOk, length};
 ghost use Rattle.heap_formula.specs.Words.{OneOf};
-ghost use Rattle.model_check.specs.Constructive.{Member};
+ghost use Rattle.list_facts.specs.Words.{IsMember};
 ghost use Rattle.fitting_heaps.specs.LocalValues.{IsNext, IsChoice, IsLonger};
 
 use crate::values::may_all_hold;
@@ -28,7 +28,7 @@ fn add_longer(
     value: u64,
 ) -> Result<(), OutOfMemory>
     ensures { IfOk result (λ _. (e : List ℕ)
-        → (Member e out.old.items ⊎ IsNext stack.now pure.now locals.now value e) → Member e out.new.items) }
+        → (IsMember e out.old.items ⊎ IsNext stack.now pure.now locals.now value e) → IsMember e out.new.items) }
 {
     let longer = extended(alloc, locals, value)?;
     if may_all_hold(stack, &longer, pure) {
@@ -47,7 +47,7 @@ fn add_all_longer(
     locals: &[u64],
 ) -> Result<(), OutOfMemory>
     ensures { IfOk result (λ _. (e : List ℕ)
-        → (Member e out.old.items ⊎ IsLonger greatest stack.now pure.now locals.now e) → Member e out.new.items) }
+        → (IsMember e out.old.items ⊎ IsLonger greatest stack.now pure.now locals.now e) → IsMember e out.new.items) }
 {
     for value in 0..greatest as u64 + 1 {
         add_longer(alloc, out, stack, pure, locals, value)?;
@@ -63,7 +63,7 @@ fn all_longer(
     shorter: &[Stack],
 ) -> Result<Vec<Stack>, OutOfMemory>
     ensures { IfOk result (λ v. (e : List ℕ) → OneOf (λ l. IsLonger greatest stack.now pure.now l e) shorter.now
-        → Member e v.items) }
+        → IsMember e v.items) }
 {
     let mut out = Vec::new(alloc);
     for locals in shorter {
@@ -80,7 +80,7 @@ pub fn choices(
     stack: &[u64],
     pure: &[Pure],
 ) -> Result<Vec<Stack>, OutOfMemory>
-    ensures { IfOk result (λ v. (e : List ℕ) → IsChoice greatest count stack.now pure.now e → Member e v.items) }
+    ensures { IfOk result (λ v. (e : List ℕ) → IsChoice greatest count stack.now pure.now e → IsMember e v.items) }
 {
     if !may_all_hold(stack, &[], pure) {
         return Ok(Vec::new(alloc));

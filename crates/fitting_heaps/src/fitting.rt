@@ -4,7 +4,8 @@ ghost use Rattle.heap_formula.specs.Words.{Each};
 ghost use Rattle.heap_formula.specs.Cells.{Cells as SomeHeap};
 ghost use Rattle.heap_formula.specs.Closedness.{IsUniversalHeap};
 ghost use Rattle.heap_formula.specs.Meaning.{Satisfies};
-ghost use Rattle.model_check.specs.Constructive.{Member, AreConstructive};
+ghost use Rattle.model_check.specs.Constructive.{AreConstructive};
+ghost use Rattle.list_facts.specs.Words.{IsMember};
 ghost use Rattle.fitting_heaps.specs.Bounds.{AreAtMost, IsWithin, SameUpTo, IsAmong};
 
 use crate::asking::unions;
@@ -62,7 +63,7 @@ fn push_small(
     heap: &Cells,
 ) -> Result<(), OutOfMemory>
     ensures complete { IfOk result (λ _. (h : SomeHeap) → IsWithin greatest h
-        → (Member h out.old.items ⊎ SameUpTo greatest heap.now h) → Member h out.new.items) }
+        → (IsMember h out.old.items ⊎ SameUpTo greatest heap.now h) → IsMember h out.new.items) }
     ensures within { IfOk result (λ _. Each (IsWithin greatest) out.old.items
         → Each (IsWithin greatest) out.new.items) }
 {
@@ -88,7 +89,7 @@ pub fn fitting_heaps(
     requires universal { IsUniversalHeap ask.now }
     requires stack { AreAtMost greatest stack.now }
     ensures complete { IfOk result (λ v. (h : SomeHeap) → IsWithin greatest h
-        → Satisfies defs.now.list stack.now h ask.now → Member h v.items) }
+        → Satisfies defs.now.list stack.now h ask.now → IsMember h v.items) }
     ensures within { IfOk result (λ v. Each (IsWithin greatest) v.items) }
 {
     let heaps = fitting(alloc, defs, stack.as_slice(), ask, greatest)?;

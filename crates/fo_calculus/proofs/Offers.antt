@@ -17,7 +17,7 @@ use Rattle.fo_moves.specs.After.{rules_after}
 use Rattle.fo_moves.proofs.Offered.{before_within, links_within, after_within}
 use Rattle.proof_graph.proofs.Joined.{mapped_at}
 use Rattle.derivation_search.specs.Firsts.{IsIn}
-use Rattle.derivation_search.specs.System.{or_else}
+use Rattle.list_facts.specs.Words.{or_else}
 use Rattle.tableaux.specs.Room.{is_nil}
 use Rattle.tableaux.specs.Fair.{AllOccur}
 use Rattle.fo_calculus.specs.Calculus.{OpenGoal, MadeNode, sequent_of, back, links_by_reason, links_to_node, links_at, rules_at}

@@ -19,7 +19,8 @@ use Rattle.fo_moves.specs.Links.{links_to}
 use Rattle.fo_moves.specs.After.{rules_after}
 use Rattle.trace_pairs.specs.Graph.{Edge}
 use Rattle.proof_graph.specs.Traces.{trace_edge, trace_pairs_of}
-use Rattle.derivation_search.specs.System.{System, or_else}
+use Rattle.derivation_search.specs.System.{System}
+use Rattle.list_facts.specs.Words.{or_else}
 use Rattle.buchi_inclusion.specs.Answers.{state_limit}
 use Rattle.tableaux.specs.Tableau.{Premise, Goal, Made, Calculus}
 use Rattle.tableaux.specs.Room.{is_nil}

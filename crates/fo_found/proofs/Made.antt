@@ -14,7 +14,7 @@ use Rattle.trace_pairs.specs.Graph.{Node, Edge}
 use Rattle.proof_graph.specs.Traces.{trace_edge}
 use Rattle.tableaux.specs.Tableau.{Premise, Tableau}
 use Rattle.tableaux.specs.Nodes.{LeadToAll, AreEdges}
-use Rattle.tableaux.proofs.Waiting.{get_take}
+use Rattle.list_facts.proofs.Places.{get_taken}
 use Rattle.tableaux.proofs.Made.{AllLead, all_lead, IsMade}
 use Rattle.fo_calculus.specs.Calculus.{OpenGoal, MadeNode, sequent_of, positions_of, traced, back, premises, calculus_of}
 use Rattle.fo_calculus.proofs.Answers.{rule_premises, link_premises}
@@ -60,7 +60,7 @@ by_reason t nodes v g (Link link) ps es h edges =
     let c = link_premises t (take v nodes) g link ps h in
     record {
       companion = c.companion;
-      is_companion = get_take v nodes link.to c.companion c.is_companion;
+      is_companion = get_taken nodes v link.to c.companion c.is_companion;
       no_fault = c.no_fault;
       edge = subst (λ o. AreEdges nodes v ps o es) c.edge edges;
     }

@@ -5,7 +5,8 @@ use Rattle.std.specs.List.{filter, flat_map, zip}
 use Rattle.heap_formula.specs.Words.{Each, OneOf}
 use Rattle.back_links.specs.Listing.{selections}
 use Rattle.back_links.proofs.Selecting.{IsSelection, each_selection}
-use Rattle.fold_offers.specs.Places.{each_from, each_place, first_line, first_that, or_else}
+use Rattle.fold_offers.specs.Places.{each_from, each_place, first_line, first_that}
+use Rattle.list_facts.specs.Words.{or_else}
 use Rattle.formula_facts.proofs.AllMembers.{each_append}
 
 pub each_kept : {X : Type 0} (p : X → Bool) (xs : List X) → Each (λ x. p x ≡ true) (filter p xs)

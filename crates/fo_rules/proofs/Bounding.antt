@@ -48,10 +48,6 @@ within_large s n ps rest a b = by (all_short ps) (nat_le (sequent_size s + n) 40
     by false q r a b = absurd cc
     by true true true a b = absurd cc
 
-pub alone : (b : Bool) → (b && true) ≡ b
-alone true = refl
-alone false = refl
-
 pub short_is : (s : FoSequent) → length s.left ≤ 32 → length s.right ≤ 16 → is_short s ≡ true
 short_is s a b =
     and_from (nat_le (length s.left) 32) (nat_le (length s.right) 16) (le-leb (length s.left) 32 a) (le-leb (length s.right) 16 b)

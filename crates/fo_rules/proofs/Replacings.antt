@@ -20,7 +20,8 @@ use Rattle.fo_table.specs.Table.{image_sign, with_term, named, unnamed, replace_
 use Rattle.fo_parts.specs.Putting.{put}
 use Rattle.fo_parts.specs.declared.changes.Change.{Change}
 use Rattle.fo_parts.specs.declared.changes.Change.TheVariants.{Substitution}
-use Rattle.fo_rules.proofs.Bounding.{all_short, all_small, alone, short_is}
+use Rattle.fo_rules.proofs.Bounding.{all_short, all_small, short_is}
+use Rattle.std.proofs.Math.Bool.{and-true}
 
 module _ (s : FoSequent) (i n : ℕ) (w : Word) (change : Change) (kept right : List FoAtom) (kept_is : kept ≡ without i s.left) (right_is : right ≡ s.right) (change_is : change ≡ Substitution ((n, w) ∷ [])) where
   left_made : map (in_atom (put change)) kept ≡ map (in_atom (image_sign ((n, w) ∷ []))) (without i s.left)
@@ -38,14 +39,14 @@ module _ (s : FoSequent) (i n : ℕ) (w : Word) (change : Change) (kept right : 
 
   pub premise_small : (small : Bool) → small ≡ nat_le (atoms_size (map (in_atom (put change)) kept) + atoms_size (map (in_atom (put change)) right)) 4096 → all_small (with_term s i n w ∷ []) ≡ small
   premise_small small e =
-      alone (is_small (with_term s i n w).sequent) ∙ sym (e ∙ (λ j. nat_le (atoms_size (left_made j) + atoms_size (right_made j)) 4096))
+      and-true (is_small (with_term s i n w).sequent) ∙ sym (e ∙ (λ j. nat_le (atoms_size (left_made j) + atoms_size (right_made j)) 4096))
 
 pub premise_short : (s : FoSequent) (i n : ℕ) (w : Word) → i < length s.left → length s.left ≤ 32 → length s.right ≤ 16 → all_short (with_term s i n w ∷ []) ≡ true
 premise_short s i n w at l r =
     let a = length-map (without i s.left) (in_atom (image_sign ((n, w) ∷ []))) in
     let b = length-map s.right (in_atom (image_sign ((n, w) ∷ []))) in
     let c = length-without s.left i at in
-    alone (is_short (with_term s i n w).sequent) ∙ short_is (with_term s i n w).sequent (omega arith) (omega arith)
+    and-true (is_short (with_term s i n w).sequent) ∙ short_is (with_term s i n w).sequent (omega arith) (omega arith)
 
 pub replace_is : (s : FoSequent) (i : ℕ) (side : Side) (xs : List FoAtom) (x : FoAtom) (l r : Word) → xs ≡ s.left → slice_get xs i ≡ Some x → x ≡ Equation l r → replace_answer s i side ≡ finds (only_variable (named side l r)) NotVariable (λ n. limited s 0 (with_term s i n (unnamed side l r) ∷ []))
 replace_is s i side xs x l r e at is =

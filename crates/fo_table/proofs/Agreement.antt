@@ -13,6 +13,7 @@ use Rattle.fo_formula.specs.Meaning.{Family, AtomHolds}
 use Rattle.fo_formula.specs.Bounds.{sign_bound, word_bound, words_bound, atom_bound, atoms_bound}
 use Rattle.fo_formula.proofs.Replacing.{InAtom, replaced-same}
 use Rattle.formula_facts.proofs.AllMembers.{each_imply}
+use Rattle.list_facts.specs.Words.{tabulated}
 
 -- ---- bounds of the signs
 
@@ -82,11 +83,6 @@ atom_agrees n v w g P (Predicate p ts) h =
     let a = values_agree n v w [] g ts h in (λ o. subst (P p) (sym a) o, λ o. subst (P p) a o)
 
 -- ---- valuations from functions
-
--- the first n values of a function
-abbrev pub tabulated : (ℕ → Word) → ℕ → List Word
-tabulated f zero = []
-tabulated f (suc n) = f 0 ∷ tabulated (λ k. f (suc k)) n
 
 pub tabulated-at : (f : ℕ → Word) (n : ℕ) (e : List Word) (k : ℕ) → k < n → entry (tabulated f n ++ e) k ≡ f k
 tabulated-at f zero e k h = absurd (omega arith)

@@ -26,7 +26,8 @@ use Rattle.fo_table.specs.LinkTable.{first_of, is_atom, place_unless, map_place,
 use Rattle.fo_table.specs.Soundness.{IsLocallySound, HasOpenValues}
 use Rattle.fo_table.proofs.Lefts.{left_at, pairs_follow}
 use Rattle.fo_table.proofs.Reflects.{atom_is}
-use Rattle.fo_table.proofs.Agreement.{IsBelow, atoms_below, in_atom_map, tabulated, tabulated-at, tabulated_each}
+use Rattle.fo_table.proofs.Agreement.{IsBelow, atoms_below, in_atom_map, tabulated-at, tabulated_each}
+use Rattle.list_facts.specs.Words.{tabulated}
 use Rattle.formula_facts.proofs.AllMembers.{each_append}
 use Rattle.formula_facts.proofs.SomeMember.{one_at}
 

@@ -24,7 +24,8 @@ use Rattle.fo_table.specs.Table.{variables_from, case_body, fresh_locals, unfold
 use Rattle.fo_table.specs.Soundness.{PremiseHolds, IsLocallySound}
 use Rattle.fo_table.proofs.Lefts.{then_stages, then_stages-first, then_stages-others, left_without, left_at, left_append, left_each, pairs_follow_if, children_follow}
 use Rattle.fo_table.proofs.RuleLemmas.{pairs_append}
-use Rattle.fo_table.proofs.Agreement.{IsBelow, atoms_below, in_atom_map, Agrees, value_agrees, atom_agrees, tabulated, tabulated-at, tabulated-after, tabulated_each}
+use Rattle.fo_table.proofs.Agreement.{IsBelow, atoms_below, in_atom_map, Agrees, value_agrees, atom_agrees, tabulated-at, tabulated-after, tabulated_each}
+use Rattle.list_facts.specs.Words.{tabulated}
 use Rattle.formula_facts.proofs.AllMembers.{each_append, each_at, each_or, each_without}
 
 -- a list of variables at a place

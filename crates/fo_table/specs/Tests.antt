@@ -1,18 +1,12 @@
 -- Tests on terms and atoms.
-use Rattle.std.specs.Prelude.{ℕ, List, [], ◌∷◌, Bool, true, false, ◌&&◌, ◌||◌, not, nat_eq, nat_lt, length, Option, Some, None}
+use Rattle.std.specs.Prelude.{ℕ, [], ◌∷◌, Bool, false, ◌&&◌, ◌||◌, not, nat_eq, nat_lt, length, Option, Some, None}
+use Rattle.std.specs.Cmp.Lexicographic.{pointwise}
 use Rattle.fo_formula.specs.declared.terms.Sign.{Sign}
 use Rattle.fo_formula.specs.declared.terms.Sign.TheVariants.{Universal, Local, Constructor}
 use Rattle.fo_formula.specs.declared.atoms.FoAtom.{FoAtom}
 use Rattle.fo_formula.specs.declared.atoms.FoAtom.TheVariants.{Equation, Predicate}
 use Rattle.fo_formula.specs.declared.sequents.FoSequent.{FoSequent}
 use Rattle.fo_formula.specs.Words.{Word}
-
--- two lists have one length, and the test holds of each two members in one place
-abbrev pub all_same : {X : Type 0} → (X → X → Bool) → List X → List X → Bool
-all_same same [] [] = true
-all_same same [] (y ∷ ys) = false
-all_same same (x ∷ xs) [] = false
-all_same same (x ∷ xs) (y ∷ ys) = same x y && all_same same xs ys
 
 -- two signs, words, atoms, sequents are one as they stand
 abbrev pub same_sign : Sign → Sign → Bool
@@ -27,16 +21,16 @@ same_sign (Constructor c k) (Local n) = false
 same_sign (Constructor c k) (Constructor d m) = nat_eq c d && nat_eq k m
 
 abbrev pub same_word : Word → Word → Bool
-same_word a b = all_same same_sign a b
+same_word a b = pointwise same_sign a b
 
 abbrev pub same_atom : FoAtom → FoAtom → Bool
 same_atom (Equation a b) (Equation c d) = same_word a c && same_word b d
 same_atom (Equation a b) (Predicate q us) = false
 same_atom (Predicate p ts) (Equation c d) = false
-same_atom (Predicate p ts) (Predicate q us) = nat_eq p q && all_same same_word ts us
+same_atom (Predicate p ts) (Predicate q us) = nat_eq p q && pointwise same_word ts us
 
 abbrev pub same_sequent : FoSequent → FoSequent → Bool
-same_sequent s u = all_same same_atom s.left u.left && all_same same_atom s.right u.right
+same_sequent s u = pointwise same_atom s.left u.left && pointwise same_atom s.right u.right
 
 -- the signs are constructors, and differ
 abbrev pub are_different : Sign → Sign → Bool

@@ -1,5 +1,6 @@
 -- What a list offers, place by place.
 use Rattle.std.specs.Prelude.{ℕ, suc, List, [], ◌∷◌, ◌++◌, Bool, if◌then◌else◌, Option, Some, None}
+use Rattle.list_facts.specs.Words.{or_else}
 
 -- what f gives of each member and its place, in order, the first member standing at place k
 abbrev pub each_from : {X Y : Type 0} → (ℕ → X → List Y) → ℕ → List X → List Y
@@ -17,11 +18,6 @@ each_of f (x ∷ xs) = f x ++ each_of f xs
 abbrev pub if_some : {X : Type 0} → Option X → List X
 if_some None = []
 if_some (Some x) = x ∷ []
-
--- the first list, unless it is empty
-abbrev pub or_else : {X : Type 0} → List X → List X → List X
-or_else [] ys = ys
-or_else (x ∷ xs) ys = x ∷ xs
 
 -- the first line that applies
 abbrev pub first_line : {X : Type 0} → List (List X) → List X

@@ -15,7 +15,8 @@ use Rattle.heap_formula.specs.Symbolic.{SymbolicHeap}
 use Rattle.heap_formula.specs.Words.{Each}
 use Rattle.pred_defs.specs.Faults.{or_later, first_fault, use_fault, arity_fault}
 use Rattle.pred_defs.specs.declared.faults.DefFault.{DefFault}
-use Rattle.rule_table.specs.Answer.{number_bound, pure_numbers, spatial_numbers, heap_numbers, is_short, has_numbers}
+use Rattle.rule_table.specs.Answer.{number_bound, is_short, has_numbers}
+use Rattle.heap_formula.specs.Fresh.{pure_numbers, spatial_numbers, heap_numbers}
 use Rattle.format_limits.specs.Limits.{HasFields, IsHeapWithin}
 use Rattle.formula_facts.proofs.AllMembers.{each_imply}
 use Rattle.formula_facts.proofs.Greatest.{each_below, below_each}

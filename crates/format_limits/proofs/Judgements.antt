@@ -9,12 +9,13 @@ use Rattle.heap_formula.specs.Judgements.{antecedent, with_antecedent}
 use Rattle.heap_formula.specs.Substitution.{Bindings, apply_heap, apply_judgement}
 use Rattle.heap_formula.specs.Symbolic.{SymbolicHeap}
 use Rattle.heap_formula.specs.Words.{Each}
-use Rattle.rule_table.specs.Answer.{heaps_of, every, each_heap, is_short, has_numbers, limited}
+use Rattle.rule_table.specs.Answer.{heaps_of, each_heap, is_short, has_numbers, limited}
 use Rattle.rule_table.specs.Fits.{OnPremises}
 use Rattle.format_limits.specs.Limits.{IsHeapWithin, IsFormWithin}
 use Rattle.format_limits.proofs.Heaps.{Each-map, IsShaped, small, within_tested}
 use Rattle.format_limits.proofs.Gives.{limited_gives}
 use Rattle.std.proofs.lemmas.Bool.{and_parts}
+use Rattle.std.specs.List.{list_all}
 
 -- the antecedent and the other heaps
 pub heaps_with : (P : SymbolicHeap → Type 0) (j : Judgement) (a : SymbolicHeap) → P a → Each P (heaps_of j) → Each P (heaps_of (with_antecedent j a))
@@ -59,18 +60,18 @@ module _ (most : ℕ) (ds : List Definition) (n : ℕ) where
   all_ready tested [] e = tt
   all_ready tested (a ∷ xs) e = (ready tested a e.0, all_ready tested xs e.1)
 
-  heaps_tested : (tested : ℕ) (xs : List SymbolicHeap) → every (is_short tested) xs ≡ true → every has_numbers xs ≡ true → Each (IsReadyHeap tested) xs → Each (IsHeapWithin most ds) xs
+  heaps_tested : (tested : ℕ) (xs : List SymbolicHeap) → list_all (is_short tested) xs ≡ true → list_all has_numbers xs ≡ true → Each (IsReadyHeap tested) xs → Each (IsHeapWithin most ds) xs
   heaps_tested tested [] s l e = tt
   heaps_tested tested (a ∷ xs) s l e =
-      let s' = and_parts (is_short tested a) (every (is_short tested) xs) s in
-      let l' = and_parts (has_numbers a) (every has_numbers xs) l in
+      let s' = and_parts (is_short tested a) (list_all (is_short tested) xs) s in
+      let l' = and_parts (has_numbers a) (list_all has_numbers xs) l in
       (within_tested most ds tested a s'.0 l'.0 e.0.0 e.0.1, heaps_tested tested xs s'.1 l'.1 e.1)
 
   premises_tested : (tested : ℕ) (ps : List Premise) → each_heap (is_short tested) ps ≡ true → each_heap has_numbers ps ≡ true → Each (IsReady tested) ps → Each IsNearly ps
   premises_tested tested [] s l e = tt
   premises_tested tested (p ∷ ps) s l e =
-      let s' = and_parts (every (is_short tested) (heaps_of p.judgement)) (each_heap (is_short tested) ps) s in
-      let l' = and_parts (every has_numbers (heaps_of p.judgement)) (each_heap has_numbers ps) l in
+      let s' = and_parts (list_all (is_short tested) (heaps_of p.judgement)) (each_heap (is_short tested) ps) s in
+      let l' = and_parts (list_all has_numbers (heaps_of p.judgement)) (each_heap has_numbers ps) l in
       ((heaps_tested tested (heaps_of p.judgement) s'.0 l'.0 e.0.0, e.0.1), premises_tested tested ps s'.1 l'.1 e.1)
 
   -- the last tests of a rule that adds atoms

@@ -25,14 +25,16 @@ use Rattle.rule_table.specs.Answer.{Answer, finds, limited, one}
 use Rattle.rule_table.specs.LinkTable.{fault_unless, keeps_below, parts_fault, link_fault}
 use Rattle.rule_table.specs.RuleBook.{rule_answer}
 use Rattle.rule_table.specs.RuleLink.{MapsInto, DisjunctsCover}
-use Rattle.rule_table.specs.Table.{with_right, calls, right_term, unfolded_right}
+use Rattle.rule_table.specs.Table.{with_right, calls, right_term}
+use Rattle.rule_table.specs.RuleUnfold.{unfolded}
 use Rattle.rule_table.specs.Tests.{ascend_from}
 use Rattle.rule_table.proofs.LinkRule.{none_of_two, parts_are}
 use Rattle.format_limits.specs.Limits.{IsHeapWithin, IsJudgementWithin, IsDefinitionWithin, IsShortNumber, HasShortRule, HasShortLink}
 use Rattle.format_limits.proofs.Gives.{needs_gives, finds_gives, entails_gives, single_gives, runs_gives}
 use Rattle.format_limits.proofs.Heaps.{IsSmall, small}
 use Rattle.format_limits.proofs.Judgements.{first_heap}
-use Rattle.format_limits.proofs.Few.{few_cases, are_few}
+use Rattle.format_limits.proofs.Few.{are_few}
+use Rattle.rule_table.proofs.FewPremises.{few_cases}
 use Rattle.std.proofs.lemmas.Bool.{and_parts}
 
 -- a place in a short list
@@ -55,7 +57,7 @@ Gives X ps answer = answer ≡ Ok ps → X
 no_answer : (X : Type 0) (ps : List Premise) (f : RuleFault) → Gives X ps (Err f)
 no_answer X ps f e = cc
 
-right_short : (most : ℕ) (ds : List Definition) (ps : List Premise) (a b : SymbolicHeap) (k c : ℕ) (x : Spatial) → Each (IsDefinitionWithin most ds) ds → Gives (IsShortNumber c) ps (calls x (λ q ts. finds (slice_get (cases_of ds q) c) NoSuchCase (λ case. limited most (one (with_right a (unfolded_right b k (in_heap (right_term ts (heap_exists b)) case) ∷ []))))))
+right_short : (most : ℕ) (ds : List Definition) (ps : List Premise) (a b : SymbolicHeap) (k c : ℕ) (x : Spatial) → Each (IsDefinitionWithin most ds) ds → Gives (IsShortNumber c) ps (calls x (λ q ts. finds (slice_get (cases_of ds q) c) NoSuchCase (λ case. limited most (one (with_right a (unfolded b k (in_heap (right_term ts (heap_exists b)) case) ∷ []))))))
 right_short most ds ps a b k c (Cell t ts) d = no_answer (IsShortNumber c) ps NoSuchAtom
 right_short most ds ps a b k c (Pred q ts) d =
     finds_gives (Gives (IsShortNumber c) ps) (no_answer (IsShortNumber c) ps) (slice_get (cases_of ds q) c) NoSuchCase _ (λ case at e. let few = few_cases ds (are_few most ds ds d) q in short_at (cases_of ds q) c case at (omega arith))

@@ -21,7 +21,7 @@ use Rattle.heap_formula.specs.declared.proof_rules.Side.{Side}
 use Rattle.heap_formula.specs.declared.proof_rules.Side.TheVariants.{Left, Right}
 use Rattle.heap_formula.specs.Closedness.{InPure, InSpatial}
 use Rattle.heap_formula.specs.Definitions.{Definition}
-use Rattle.heap_formula.specs.Fresh.{fresh_number, heap_bound, heap_exists}
+use Rattle.heap_formula.specs.Fresh.{fresh_number, heap_bound, heap_exists, variables_from}
 use Rattle.heap_formula.specs.Judgements.{antecedent}
 use Rattle.heap_formula.specs.Meaning.{cases_of}
 use Rattle.heap_formula.specs.Positions.{without, kept_pairs, chosen, others_of}
@@ -31,12 +31,12 @@ use Rattle.heap_formula.specs.Symbolic.{SymbolicHeap}
 use Rattle.heap_formula.specs.Words.{Each}
 use Rattle.goto_lang.specs.Lines.{IsLineOf, MayStandAt, IsProgram}
 use Rattle.rule_table.specs.Answer.{Answer, finds, heaps_of, limited, one, two}
-use Rattle.rule_table.specs.ExecTable.{Found, cell_of, renamed, renamed_term, with_atom, variables_from, with_cell, with_field, at_line, command_answer}
+use Rattle.rule_table.specs.ExecTable.{Found, cell_of, renamed, renamed_term, with_atom, with_cell, with_field, at_line, command_answer}
 use Rattle.rule_table.specs.Fits.{OnPremises}
 use Rattle.rule_table.specs.RuleBook.{variables_of, rule_answer}
 use Rattle.rule_table.specs.RuleCut.{cut_left, cut_right}
 use Rattle.rule_table.specs.RuleUnfold.{unfolded, unfold_premise}
-use Rattle.rule_table.specs.Table.{with_pures, with_pure, with_right, without_pure, without_spatial, rewritten, rewrite_side, rewrite_atom, named, unnamed, calls, instance_term, right_term, unfolded_right}
+use Rattle.rule_table.specs.Table.{with_pures, with_pure, with_right, without_pure, without_spatial, rewritten, rewrite_side, rewrite_atom, named, unnamed, calls, instance_term, right_term}
 use Rattle.rule_table.specs.Tests.{same_term, same_spatial, is_universal_pure, is_universal_spatial, follows, is_absurd, address_of, ascend_from, has_number}
 use Rattle.rule_table.proofs.Commands.{found_is}
 use Rattle.rule_table.proofs.Rewrites.{Each-without}
@@ -202,18 +202,18 @@ module _ (most : ℕ) (ds : List Definition) (n : ℕ) where
       let m = s.spatials in
       within most ds (without_spatial k a) (record { pures = s.pures; spatials = omega arith; low = (s.low.0, Each-without (InSpatial IsLow) a.spatial k s.low.1); shaped = Each-without Shaped a.spatial k s.shaped })
 
-  unfolded_ready : (a b : SymbolicHeap) (k : ℕ) (f : Term → Term) (case : SymbolicHeap) → H a → H b → Each Shaped case.spatial → IsReady most ds n most (with_right a (unfolded_right b k (in_heap f case) ∷ []))
+  unfolded_ready : (a b : SymbolicHeap) (k : ℕ) (f : Term → Term) (case : SymbolicHeap) → H a → H b → Each Shaped case.spatial → IsReady most ds n most (with_right a (unfolded b k (in_heap f case) ∷ []))
   unfolded_ready a b k f case h g c =
       let s = small most ds b g in
       let shaped = each_append Shaped (without k b.spatial) (in_heap f case).spatial (Each-without Shaped b.spatial k s.shaped) (shapes_after ds f case.spatial c) in
       ((ready most ds n most a h, (((λ few. few), shaped), tt)), (omega arith, omega arith))
 
-  unfold_right_nearly : (a b : SymbolicHeap) (k c : ℕ) (x : Spatial) → Each (IsDefinitionWithin most ds) ds → H a → H b → OnPremises P (calls x (λ q ts. finds (slice_get (cases_of ds q) c) NoSuchCase (λ case. limited most (one (with_right a (unfolded_right b k (in_heap (right_term ts (heap_exists b)) case) ∷ []))))))
+  unfold_right_nearly : (a b : SymbolicHeap) (k c : ℕ) (x : Spatial) → Each (IsDefinitionWithin most ds) ds → H a → H b → OnPremises P (calls x (λ q ts. finds (slice_get (cases_of ds q) c) NoSuchCase (λ case. limited most (one (with_right a (unfolded b k (in_heap (right_term ts (heap_exists b)) case) ∷ []))))))
   unfold_right_nearly a b k c (Cell t ts) d h g = tt
   unfold_right_nearly a b k c (Pred q ts) d h g =
       finds_gives (OnPremises P) bad (slice_get (cases_of ds q) c) NoSuchCase _ (λ case at.
       let shaped = each_at (λ (c : SymbolicHeap). Each Shaped c.spatial) (cases_of ds q) c case at (case_shapes most ds ds d q) in
-      limited_nearly most ds n most (one (with_right a (unfolded_right b k (in_heap (right_term ts (heap_exists b)) case) ∷ []))) (unfolded_ready a b k (right_term ts (heap_exists b)) case h g shaped, tt))
+      limited_nearly most ds n most (one (with_right a (unfolded b k (in_heap (right_term ts (heap_exists b)) case) ∷ []))) (unfolded_ready a b k (right_term ts (heap_exists b)) case h g shaped, tt))
 
   -- ---- Exec
 

@@ -20,7 +20,8 @@ use Rattle.search_moves.specs.Trying.{Theory, goes}
 use Rattle.search_moves.specs.Entailments.{side_of, rewrite_at, rewrites, choice_at, choices, unfold_at, unfolds, pure_right_at, pure_rights, frame_at, frames_from, frames_if, cell_frames, predicate_frames, apart, is_or_mirrors, distinct_at, distincts_with, distincts_for, distincts_if, distincts, equation_instances, field_instances, argument_instances, instance_rule, may_unfold, right_unfold_at, right_unfolds_of, right_unfolds, entailment_before, last_line, single_lines, entailment_after}
 use Rattle.format_limits.specs.Limits.{IsHeapWithin, IsRuleWithin}
 use Rattle.found_files.proofs.Members.{each_append, each_if, each_filter, each_first_that, each_first_line, each_of_any, each_anywhere, each_first_place}
-use Rattle.found_files.proofs.HeapTerms.{HasNumber, HasTerms, heap_has, spatials_within}
+use Rattle.found_files.proofs.HeapTerms.{HasTerms, heap_has, spatials_within}
+use Rattle.format_limits.proofs.Heaps.{IsLow}
 use Rattle.found_files.proofs.Instances.{instance_rules, equations_within, fields_within, arguments_within}
 
 -- ---- rules without terms and formulas
@@ -73,7 +74,7 @@ module _ (most : ℕ) (ds : List Definition) where
   before_within t j a =
       each_first_line (IsRuleWithin most ds) (filter (goes t j) (Absurd ∷ []) ∷ rewrites a.pure ∷ []) (each_filter (IsRuleWithin most ds) (goes t j) (Absurd ∷ []) (tt, tt), (rewrites_within a.pure, tt))
 
-  module _ (t : Theory) (j : Judgement) (a : SymbolicHeap) (b : SymbolicHeap) (left : Each HasTerms a.spatial) (right : InHeap HasNumber b) where
+  module _ (t : Theory) (j : Judgement) (a : SymbolicHeap) (b : SymbolicHeap) (left : Each HasTerms a.spatial) (right : InHeap IsLow b) where
     last_within : Each (IsRuleWithin most ds) (last_line t j a b)
     last_within =
         let instances = map instance_rule (argument_instances a.spatial b.spatial) in

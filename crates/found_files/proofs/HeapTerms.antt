@@ -1,6 +1,5 @@
 -- The terms of a heap within the limits.
 use Rattle.std.proofs.Common.{ℕ, ◌≤◌, List, [], ◌∷◌, map, arith, leb-true}
-use Rattle.heap_formula.specs.declared.terms.Term.{Term}
 use Rattle.heap_formula.specs.declared.atoms.Pure.{Pure}
 use Rattle.heap_formula.specs.declared.atoms.Pure.TheVariants.{Eq, Neq}
 use Rattle.heap_formula.specs.declared.atoms.Spatial.{Spatial}
@@ -9,39 +8,36 @@ use Rattle.heap_formula.specs.declared.judgements.Judgement.{Judgement}
 use Rattle.heap_formula.specs.declared.judgements.Judgement.TheVariants.{Entail, Term as Runs}
 use Rattle.heap_formula.specs.Closedness.{InPure, InSpatial, InHeap, IsUniversal, IsUniversalSpatial}
 use Rattle.heap_formula.specs.Definitions.{Definition}
-use Rattle.heap_formula.specs.Fresh.{heap_bound, judgement_bound}
+use Rattle.heap_formula.specs.Fresh.{heap_bound, judgement_bound, pure_numbers, spatial_numbers, heap_numbers}
 use Rattle.heap_formula.specs.Symbolic.{SymbolicHeap}
 use Rattle.heap_formula.specs.Words.{Each, max_of}
-use Rattle.rule_table.specs.Answer.{number_bound, pure_numbers, spatial_numbers, heap_numbers, heaps_of}
+use Rattle.rule_table.specs.Answer.{number_bound, heaps_of}
 use Rattle.format_limits.specs.Limits.{IsHeapWithin, IsTermWithin}
 use Rattle.formula_facts.proofs.Greatest.{each_below}
 use Rattle.formula_facts.proofs.AllMembers.{each_both}
 use Rattle.search_moves.proofs.LeftNumbers.{heap_below as heap_le}
+use Rattle.format_limits.proofs.Heaps.{IsLow}
 
--- a variable up to number 65,534, or nil
-abbrev pub HasNumber : Term → Type 0
-HasNumber t = number_bound t ≤ 65535
-
-pure_has : (x : Pure) → pure_numbers x ≤ 65535 → InPure HasNumber x
+pure_has : (x : Pure) → pure_numbers x ≤ 65535 → InPure IsLow x
 pure_has (Eq t u) h = (omega arith, omega arith)
 pure_has (Neq t u) h = (omega arith, omega arith)
 
-spatial_has : (x : Spatial) → spatial_numbers x ≤ 65535 → InSpatial HasNumber x
+spatial_has : (x : Spatial) → spatial_numbers x ≤ 65535 → InSpatial IsLow x
 spatial_has (Cell t ts) h = (omega arith, each_below number_bound 65535 ts (omega arith))
 spatial_has (Pred p ts) h = each_below number_bound 65535 ts h
 
-pures_have : (xs : List Pure) → Each (λ x. pure_numbers x ≤ 65535) xs → Each (InPure HasNumber) xs
+pures_have : (xs : List Pure) → Each (λ x. pure_numbers x ≤ 65535) xs → Each (InPure IsLow) xs
 pures_have [] a = tt
 pures_have (x ∷ xs) a = (pure_has x a.0, pures_have xs a.1)
 
-spatials_have : (xs : List Spatial) → Each (λ x. spatial_numbers x ≤ 65535) xs → Each (InSpatial HasNumber) xs
+spatials_have : (xs : List Spatial) → Each (λ x. spatial_numbers x ≤ 65535) xs → Each (InSpatial IsLow) xs
 spatials_have [] a = tt
 spatials_have (x ∷ xs) a = (spatial_has x a.0, spatials_have xs a.1)
 
 heap_below : (most : ℕ) (ds : List Definition) (a : SymbolicHeap) → IsHeapWithin most ds a → heap_numbers a ≤ 65535
 heap_below most ds a w = leb-true (heap_numbers a) 65535 w.numbers
 
-pub heap_has : (most : ℕ) (ds : List Definition) (a : SymbolicHeap) → IsHeapWithin most ds a → InHeap HasNumber a
+pub heap_has : (most : ℕ) (ds : List Definition) (a : SymbolicHeap) → IsHeapWithin most ds a → InHeap IsLow a
 heap_has most ds a w =
     let h = heap_below most ds a w in
     (pures_have a.pure (each_below pure_numbers 65535 a.pure (omega arith)), spatials_have a.spatial (each_below spatial_numbers 65535 a.spatial (omega arith)))
@@ -51,11 +47,11 @@ heap_has most ds a w =
 abbrev pub HasTerms : Spatial → Type 0
 HasTerms = InSpatial IsTermWithin
 
-spatial_within : (x : Spatial) → IsUniversalSpatial x → InSpatial HasNumber x → HasTerms x
-spatial_within (Cell t ts) u n = ((u.0, n.0), each_both IsUniversal HasNumber ts u.1 n.1)
-spatial_within (Pred p ts) u n = each_both IsUniversal HasNumber ts u n
+spatial_within : (x : Spatial) → IsUniversalSpatial x → InSpatial IsLow x → HasTerms x
+spatial_within (Cell t ts) u n = ((u.0, n.0), each_both IsUniversal IsLow ts u.1 n.1)
+spatial_within (Pred p ts) u n = each_both IsUniversal IsLow ts u n
 
-pub spatials_within : (xs : List Spatial) → Each IsUniversalSpatial xs → Each (InSpatial HasNumber) xs → Each HasTerms xs
+pub spatials_within : (xs : List Spatial) → Each IsUniversalSpatial xs → Each (InSpatial IsLow) xs → Each HasTerms xs
 spatials_within [] u n = tt
 spatials_within (x ∷ xs) u n = (spatial_within x u.0 n.0, spatials_within xs u.1 n.1)
 

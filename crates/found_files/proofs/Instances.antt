@@ -17,7 +17,8 @@ use Rattle.search_moves.specs.Entailments.{equation_instance, equation_instances
 use Rattle.fold_offers.specs.Places.{each_of, if_some}
 use Rattle.format_limits.specs.Limits.{IsTermWithin, IsRuleWithin}
 use Rattle.found_files.proofs.Members.{each_append, each_map, each_each_of, each_if_some}
-use Rattle.found_files.proofs.HeapTerms.{HasNumber, HasTerms}
+use Rattle.found_files.proofs.HeapTerms.{HasTerms}
+use Rattle.format_limits.proofs.Heaps.{IsLow}
 use Rattle.std.specs.Option.{option_or}
 
 abbrev pub IsInstanceWithin : Instance → Type 0
@@ -28,7 +29,7 @@ instance_rules most ds is a = each_map (IsRuleWithin most ds) instance_rule is a
 
 -- ---- by equations
 
-equation_within : (x : Pure) → InPure HasNumber x → IfSome (equation_instance x) IsInstanceWithin
+equation_within : (x : Pure) → InPure IsLow x → IfSome (equation_instance x) IsInstanceWithin
 equation_within (Neq t u) h = tt
 equation_within (Eq Nil Nil) h = tt
 equation_within (Eq Nil (Univ m)) h = tt
@@ -40,13 +41,13 @@ equation_within (Eq (Exist v) Nil) h = (omega arith, (tt, h.1))
 equation_within (Eq (Exist v) (Univ m)) h = (omega arith, (tt, h.1))
 equation_within (Eq (Exist v) (Exist w)) h = tt
 
-pub equations_within : (xs : List Pure) → Each (InPure HasNumber) xs → Each IsInstanceWithin (equation_instances xs)
+pub equations_within : (xs : List Pure) → Each (InPure IsLow) xs → Each IsInstanceWithin (equation_instances xs)
 equations_within xs h =
-    each_each_of IsInstanceWithin (InPure HasNumber) (λ x. if_some (equation_instance x)) xs h (λ x p. each_if_some IsInstanceWithin (equation_instance x) (equation_within x p))
+    each_each_of IsInstanceWithin (InPure IsLow) (λ x. if_some (equation_instance x)) xs h (λ x p. each_if_some IsInstanceWithin (equation_instance x) (equation_within x p))
 
 -- ---- by terms of the antecedent
 
-at_within : (t u : Term) → IsTermWithin t → HasNumber u → IfSome (instance_at t u) IsInstanceWithin
+at_within : (t u : Term) → IsTermWithin t → IsLow u → IfSome (instance_at t u) IsInstanceWithin
 at_within t Nil p q = tt
 at_within t (Univ n) p q = tt
 at_within t (Exist v) p q = (omega arith, p)
@@ -55,7 +56,7 @@ or_within : (a b : Option Instance) → IfSome a IsInstanceWithin → IfSome b I
 or_within None b p q = q
 or_within (Some x) b p q = p
 
-first_within : (ts us : List Term) → Each IsTermWithin ts → Each HasNumber us → IfSome (first_instance ts us) IsInstanceWithin
+first_within : (ts us : List Term) → Each IsTermWithin ts → Each IsLow us → IfSome (first_instance ts us) IsInstanceWithin
 first_within [] us p q = tt
 first_within (t ∷ ts) [] p q = tt
 first_within (t ∷ ts) (u ∷ us) p q = or_within (instance_at t u) (first_instance ts us) (at_within t u p.0 q.0) (first_within ts us p.1 q.1)
@@ -64,17 +65,17 @@ if_within : (b : Bool) (o : Option Instance) → IfSome o IsInstanceWithin → I
 if_within true o p = p
 if_within false o p = tt
 
-field_within : (x y : Spatial) → HasTerms x → InSpatial HasNumber y → IfSome (field_instance x y) IsInstanceWithin
+field_within : (x y : Spatial) → HasTerms x → InSpatial IsLow y → IfSome (field_instance x y) IsInstanceWithin
 field_within (Cell t ts) (Cell u us) p q = if_within (same_term t u && nat_eq (length ts) (length us)) (first_instance ts us) (first_within ts us p.1 q.1)
 field_within (Cell t ts) (Pred q us) p r = tt
 field_within (Pred p ts) (Cell u us) h q = tt
 field_within (Pred p ts) (Pred q us) h r = tt
 
-pub fields_within : (xs ys : List Spatial) → Each HasTerms xs → Each (InSpatial HasNumber) ys → Each IsInstanceWithin (field_instances xs ys)
+pub fields_within : (xs ys : List Spatial) → Each HasTerms xs → Each (InSpatial IsLow) ys → Each IsInstanceWithin (field_instances xs ys)
 fields_within xs ys p q =
-    each_each_of IsInstanceWithin HasTerms (fields_with ys) xs p (λ x h. each_each_of IsInstanceWithin (InSpatial HasNumber) (λ y. if_some (field_instance x y)) ys q (λ y r. each_if_some IsInstanceWithin (field_instance x y) (field_within x y h r)))
+    each_each_of IsInstanceWithin HasTerms (fields_with ys) xs p (λ x h. each_each_of IsInstanceWithin (InSpatial IsLow) (λ y. if_some (field_instance x y)) ys q (λ y r. each_if_some IsInstanceWithin (field_instance x y) (field_within x y h r)))
 
-argument_within : (x y : Spatial) → HasTerms x → InSpatial HasNumber y → IfSome (argument_instance x y) IsInstanceWithin
+argument_within : (x y : Spatial) → HasTerms x → InSpatial IsLow y → IfSome (argument_instance x y) IsInstanceWithin
 argument_within (Pred p ts) (Pred q us) h r = if_within (nat_eq p q && agree ts us) (first_instance ts us) (first_within ts us h r)
 argument_within (Pred p ts) (Cell u us) h r = tt
 argument_within (Cell t ts) (Cell u us) h r = tt
@@ -89,7 +90,7 @@ once_within done (i ∷ is) d a =
     step true xs ys p q = p
     step false xs ys p q = q
 
-pub arguments_within : (xs ys : List Spatial) → Each HasTerms xs → Each (InSpatial HasNumber) ys → Each IsInstanceWithin (argument_instances xs ys)
+pub arguments_within : (xs ys : List Spatial) → Each HasTerms xs → Each (InSpatial IsLow) ys → Each IsInstanceWithin (argument_instances xs ys)
 arguments_within xs ys p q =
     once_within [] (each_of (arguments_with xs) ys) tt
-    (each_each_of IsInstanceWithin (InSpatial HasNumber) (arguments_with xs) ys q (λ y r. each_each_of IsInstanceWithin HasTerms (λ x. if_some (argument_instance x y)) xs p (λ x h. each_if_some IsInstanceWithin (argument_instance x y) (argument_within x y h r))))
+    (each_each_of IsInstanceWithin (InSpatial IsLow) (arguments_with xs) ys q (λ y r. each_each_of IsInstanceWithin HasTerms (λ x. if_some (argument_instance x y)) xs p (λ x h. each_if_some IsInstanceWithin (argument_instance x y) (argument_within x y h r))))

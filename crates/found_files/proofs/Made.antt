@@ -15,7 +15,7 @@ use Rattle.proof_graph.specs.Traces.{positions_of, trace_edge}
 use Rattle.search_moves.specs.Trying.{Theory}
 use Rattle.tableaux.specs.Tableau.{Premise as TracedPremise}
 use Rattle.tableaux.specs.Nodes.{LeadToAll, AreEdges}
-use Rattle.tableaux.proofs.Waiting.{get_take}
+use Rattle.list_facts.proofs.Places.{get_taken}
 use Rattle.tableaux.proofs.Made.{AllLead, all_lead}
 use Rattle.search_calculus.specs.Calculus.{OpenGoal, MadeNode, judgement_of, traced, answered, edge_unless, edge_to, back, none_beside, premises}
 use Rattle.search_calculus.specs.Graphs.{traces_of}
@@ -67,7 +67,7 @@ by_link t nodes v j link ps es h edges = by (slice_get (take v nodes) link.targe
         none_beside (edge_unless f (judgement_of m) link) ≡ Some ps →
         AreEdges nodes v ps (edge_unless f (judgement_of m) link) es → IsByLink t nodes j link es
     at m (Some f) is fault h edges = absurd (let e : None ≡ Some ps = h in cc)
-    at m None is fault h edges = record { companion = m; is_companion = get_take v nodes link.target m is; no_fault = fault; edge = edges }
+    at m None is fault h edges = record { companion = m; is_companion = get_taken nodes v link.target m is; no_fault = fault; edge = edges }
 
     by : (o : Option MadeNode) → slice_get (take v nodes) link.target ≡ o → none_beside (edge_to t j link o) ≡ Some ps →
         AreEdges nodes v ps (edge_to t j link o) es → IsByLink t nodes j link es

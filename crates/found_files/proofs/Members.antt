@@ -3,7 +3,8 @@ use Rattle.std.proofs.Common.{◌≡◌, ℕ, zero, suc, ◌+◌, ◌<◌, Bool,
 use Rattle.std.specs.Prelude.{IfSome, slice_get, if◌then◌else◌}
 use Rattle.std.specs.List.{filter, flat_map}
 use Rattle.heap_formula.specs.Words.{Each}
-use Rattle.fold_offers.specs.Places.{each_from, each_place, each_of, if_some, or_else, first_line, first_from, first_place, first_that}
+use Rattle.fold_offers.specs.Places.{each_from, each_place, each_of, if_some, first_line, first_from, first_place, first_that}
+use Rattle.list_facts.specs.Words.{or_else}
 use Rattle.search_moves.specs.Offering.{unless_some}
 
 pub each_any : {X : Type 0} (P : X → Type 0) (xs : List X) → ((x : X) → P x) → Each P xs

@@ -8,7 +8,8 @@ use Rattle.heap_formula.specs.declared.terms.Term.TheVariants.{Nil, Univ, Exist}
 use Rattle.heap_formula.specs.declared.commands.Command.{Command}
 use Rattle.heap_formula.specs.declared.commands.Command.TheVariants.{Assign, Load, Store, New, Free, IfEq, IfNeq, IfAny, Goto, Stop}
 use Rattle.heap_formula.specs.Words.{Each, max_of}
-use Rattle.heap_formula.specs.Programs.{counted_from_one, command_bound, term_bound}
+use Rattle.heap_formula.specs.Programs.{counted_from_one, command_bound}
+use Rattle.heap_formula.specs.Fresh.{univ_bound}
 use Rattle.goto_lang.specs.Faults.{variable_fault, term_fault, field_fault, jump_fault, command_fault, goes_on, line_fault, lines_fault, program_fault}
 use Rattle.goto_lang.specs.Lines.{IsUniversalCommand, commands_of, IsFieldNumber, IsLineOf, MayStandAt, IsProgram}
 use Rattle.std.proofs.lemmas.Bool.{or_parts}
@@ -27,7 +28,7 @@ not_equal m n e = grind (arith, nat_tests)
 variable_within : (x : ℕ) → variable_fault x ≡ None → x + 1 ≤ 64
 variable_within x e = let r = not_less 63 x (no_choice (nat_lt 63 x) _ None e).0 in omega arith
 
-term_within : (t : Term) → term_fault t ≡ None → term_bound t ≤ 64
+term_within : (t : Term) → term_fault t ≡ None → univ_bound t ≤ 64
 term_within Nil e = omega arith
 term_within (Univ x) e = variable_within x e
 term_within (Exist x) e = omega arith

@@ -1,10 +1,11 @@
 -- The member at a place of a list.
-use Rattle.std.proofs.Common.{◌≡◌, ℕ, zero, suc, ◌+◌, ◌<◌, List, [], ◌∷◌, ◌++◌, length, get_or, take, drop, Bool, true, false, cond, Some, None, slice_get, refl, sym, ap, ◌∙◌, add-one, map, arith, Option}
+use Rattle.std.proofs.Common.{◌≡◌, ℕ, zero, suc, ◌+◌, ◌<◌, List, [], ◌∷◌, ◌++◌, length, get_or, take, drop, Bool, true, false, cond, Some, None, slice_get, slice_index, refl, sym, ap, ◌∙◌, add-one, map, arith, Option}
 use Rattle.std.specs.Prelude.{position, nat_lt}
 use Rattle.std.specs.List.{position_or_len}
 use Rattle.std.proofs.lemmas.List.{drop_more}
 use Rattle.std.proofs.lemmas.Option.{slice_get-get_or, slice_get_within}
 use Rattle.std.proofs.lemmas.Bool.{true≢false}
+use Rattle.list_facts.specs.Words.{tabulated}
 
 pub at_index : {X : Type 0} (xs : List X) (k : ℕ) (d x : X) → k < length xs → get_or xs k d ≡ x → slice_get xs k ≡ Some x
 at_index xs k d x h e = slice_get-get_or xs k d h ∙ ap Some e
@@ -66,3 +67,8 @@ tested_within {X = X} test xs i fails passes = by (slice_get xs i) refl passes
     by : (o : Option X) → slice_get xs i ≡ o → test o ≡ true → i < length xs
     by None at p = absurd (true≢false (sym p ∙ fails))
     by (Some x) at p = slice_get_within xs i x at
+
+pub tabulated-at : (f : ℕ → ℕ) (n i : ℕ) → i < n → slice_index (tabulated f n) i ≡ f i
+tabulated-at f zero i h = absurd (omega arith)
+tabulated-at f (suc n) zero h = refl
+tabulated-at f (suc n) (suc i) h = tabulated-at (λ k. f (suc k)) n i (omega arith)

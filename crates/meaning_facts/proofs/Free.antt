@@ -7,9 +7,10 @@ use Rattle.heap_formula.specs.Cells.{cell_at, no_cells, one_cell}
 use Rattle.heap_formula.specs.Meaning.{at_stage, Satisfies, EntailmentHolds}
 use Rattle.heap_formula.proofs.Unions.{union_empty}
 use Rattle.heap_formula.proofs.Insertions.{one_cell_has}
-use Rattle.meaning_facts.specs.Samples.{two_locals, two_of_them, nothing}
+use Rattle.meaning_facts.specs.Samples.{two_locals, two_of_them}
+use Rattle.heap_formula.specs.Symbolic.{emp}
 
-pub empty_entails : (ds : List Definition) → EntailmentHolds ds nothing (nothing ∷ [])
+pub empty_entails : (ds : List Definition) → EntailmentHolds ds emp (emp ∷ [])
 empty_entails ds s h a = inl (a.0, ([], a.1.1))
 
 none_at_nil : at_stage two_locals 1 0 (0 ∷ []) no_cells
@@ -59,9 +60,9 @@ cell_is_not_empty e =
     let none : cell_at no_cells 1 ≡ None = get-empty nat_cmp 1 in
     cc
 
-pub not_empty : ¬ EntailmentHolds two_locals two_of_them (nothing ∷ [])
+pub not_empty : ¬ EntailmentHolds two_locals two_of_them (emp ∷ [])
 not_empty t = refuted (t (1 ∷ 0 ∷ []) (one_cell 1 (0 ∷ [])) antecedent_holds)
   where
-    refuted : (Satisfies two_locals (1 ∷ 0 ∷ []) (one_cell 1 (0 ∷ [])) nothing ⊎ ⊥) → ⊥
+    refuted : (Satisfies two_locals (1 ∷ 0 ∷ []) (one_cell 1 (0 ∷ [])) emp ⊎ ⊥) → ⊥
     refuted (inl a) = cell_is_not_empty a.1.1.1
     refuted (inr o) = o

@@ -39,10 +39,6 @@ two_locals = record {
 abbrev pub two_of_them : SymbolicHeap
 two_of_them = record { pure = []; spatial = Pred 0 (Univ 0 ∷ []) ∷ Pred 0 (Univ 1 ∷ []) ∷ [] }
 
--- emp
-abbrev pub nothing : SymbolicHeap
-nothing = record { pure = []; spatial = [] }
-
 -- an atom of predicate p
 abbrev pub IsUse : ℕ → Spatial → Type 0
 IsUse p (Cell t ts) = ⊥

@@ -9,7 +9,8 @@ ghost use Rattle.heap_formula.specs.Definitions.{Definition};
 ghost use Rattle.heap_formula.specs.Cells.{Cells};
 ghost use Rattle.heap_formula.specs.Meaning.{least, EntailmentHolds};
 ghost use Rattle.heap_formula.specs.Programs.{Config, Halts};
-ghost use Rattle.meaning_facts.specs.Samples.{acyclic_segments, two_segments, one_segment, two_locals, two_of_them, nothing, allocating, stopping, UsesItself};
+ghost use Rattle.meaning_facts.specs.Samples.{acyclic_segments, two_segments, one_segment, two_locals, two_of_them, allocating, stopping, UsesItself};
+ghost use Rattle.heap_formula.specs.Symbolic.{emp};
 
 pub use first_order::{a_link_needs_its_substitution, nodes_of_a_proof_are_right, terms_clash};
 
@@ -26,12 +27,12 @@ pub fn endless_predicates_are_empty()
 
 /// Two lists whose tails are free do not entail the empty heap: with the stack 1, 0 the heap may be 1 -> (0).
 pub fn two_lists_are_not_empty()
-    ensures { ¬ EntailmentHolds two_locals two_of_them (nothing ∷ []) }
+    ensures { ¬ EntailmentHolds two_locals two_of_them (emp ∷ []) }
 {}
 
 /// The empty heap entails itself, whatever the definitions.
 pub fn empty_entails_empty()
-    ensures { (ds : List Definition) → EntailmentHolds ds nothing (nothing ∷ []) }
+    ensures { (ds : List Definition) → EntailmentHolds ds emp (emp ∷ []) }
 {}
 
 /// A program that allocates for ever halts from no state, whatever the headroom and the number of steps.

@@ -17,18 +17,15 @@ use Rattle.heap_formula.specs.Meaning.{PureHolds}
 use Rattle.model_check.specs.declared.locals.Local.{Local}
 use Rattle.model_check.specs.Constructive.{Known, IsConstructive, CellFits, Fits, IsOnly}
 use Rattle.model_check.specs.Steps.{pures_steps, field_steps, spatials_steps, steps_of}
-use Rattle.model_check.specs.ForcedLocals.{local_value, term_value, or_zero, first_of, stack_of, field_of, StepHolds, StepsHold, AreForced, IsValued, AllPassed, IsEvaluated}
+use Rattle.model_check.specs.ForcedLocals.{local_value, term_value, or_zero, stack_of, field_of, StepHolds, StepsHold, AreForced, IsValued, AllPassed, IsEvaluated}
+use Rattle.list_facts.specs.Words.{tabulated}
 use Rattle.model_check.proofs.KnownTerms.{known_in, in_heap_map}
 use Rattle.model_check.proofs.OnlyLocals.{only_fit}
 use Rattle.model_check.proofs.Forcing.{term_is}
 use Rattle.formula_facts.proofs.AllMembers.{each_append}
+use Rattle.list_facts.proofs.Places.{tabulated-at}
 
-first_at : (f : ℕ → ℕ) (k n : ℕ) → n < k → slice_index (first_of f k) n ≡ f n
-first_at f zero n l = absurd (omega arith)
-first_at f (suc k) zero l = refl
-first_at f (suc k) (suc n) l = first_at (λ i. f (suc i)) k n (omega arith)
-
-first_end : (f : ℕ → ℕ) (k n : ℕ) → k ≤ n → slice_index (first_of f k) n ≡ 0
+first_end : (f : ℕ → ℕ) (k n : ℕ) → k ≤ n → slice_index (tabulated f k) n ≡ 0
 first_end f zero n l = refl
 first_end f (suc k) zero l = absurd (omega arith)
 first_end f (suc k) (suc n) l = first_end (λ i. f (suc i)) k n (omega arith)
@@ -42,7 +39,7 @@ no_local (x ∷ xs) n h = elim (cases_Bool (nat_eq n x.number)) [
 
 stack_at : (ls : List Local) (n : ℕ) → slice_index (stack_of ls) n ≡ or_zero (local_value ls n)
 stack_at ls n = elim (cases_lt n (max_of (map (λ l. l.number) ls) + 1)) [
-  | inl l ↦ first_at (λ i. or_zero (local_value ls i)) (max_of (map (λ l. l.number) ls) + 1) n l
+  | inl l ↦ tabulated-at (λ i. or_zero (local_value ls i)) (max_of (map (λ l. l.number) ls) + 1) n l
   | inr h ↦ first_end (λ i. or_zero (local_value ls i)) (max_of (map (λ l. l.number) ls) + 1) n h ∙ ap or_zero (sym (no_local ls n (omega arith)))
 ]
 

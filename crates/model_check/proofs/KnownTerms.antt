@@ -12,7 +12,8 @@ use Rattle.heap_formula.specs.Closedness.{IsUniversal, InPure, InSpatial, InHeap
 use Rattle.heap_formula.specs.Words.{Each}
 use Rattle.model_check.specs.declared.known.Step.{Step}
 use Rattle.model_check.specs.declared.known.Step.TheVariants.{Same, Field}
-use Rattle.model_check.specs.Constructive.{Member, Known, nil, universal, right_side, left_side, field, IsConstructive}
+use Rattle.model_check.specs.Constructive.{Known, nil, universal, right_side, left_side, field, IsConstructive}
+use Rattle.list_facts.specs.Words.{IsMember}
 use Rattle.model_check.specs.Steps.{source, target, IsKnownIn, Learned, start, taken, AreLearned, IsTaken, AllTaken, Learns, pure_steps, pures_steps, field_steps, spatial_steps, spatials_steps, steps_of}
 use Rattle.model_check.proofs.OnlyLocals.{member_each, universal_known}
 use Rattle.formula_facts.proofs.AllMembers.{each_imply, each_last, each_append}
@@ -22,12 +23,12 @@ learned_in steps ks Nil a k = start Nil tt
 learned_in steps ks (Univ n) a k = start (Univ n) tt
 learned_in steps ks (Exist n) a k = member_each (Learned steps) (Exist n) ks k a
 
-pub still_learned : (steps : List Step) (old new : List Term) (step : Step) → Member step steps → AreLearned steps old → Learns old new (source step) (target step) → AreLearned steps new
+pub still_learned : (steps : List Step) (old new : List Term) (step : Step) → IsMember step steps → AreLearned steps old → Learns old new (source step) (target step) → AreLearned steps new
 still_learned steps old new step m a (inl k) = subst (AreLearned steps) (sym k.0) a
 still_learned steps old new step m a (inr k) =
     subst (AreLearned steps) (sym k.0) (each_last (Learned steps) old (target step) a (taken step m (learned_in steps old (source step) a k.1)))
 
-pub member_at : {X : Type 0} (xs : List X) (i : ℕ) (d : X) → i < length xs → Member (get_or xs i d) xs
+pub member_at : {X : Type 0} (xs : List X) (i : ℕ) (d : X) → i < length xs → IsMember (get_or xs i d) xs
 member_at [] i d h = absurd (omega arith)
 member_at (x ∷ xs) zero d h = inl refl
 member_at (x ∷ xs) (suc i) d h = inr (member_at xs i d (omega arith))
@@ -62,26 +63,26 @@ round_step_at steps i d init m n old new lo ln h a l f k =
 
 -- ---- known terms are those that the steps lead to
 
-in_left : {X : Type 0} (xs ys : List X) (x : X) → Member x xs → Member x (xs ++ ys)
+in_left : {X : Type 0} (xs ys : List X) (x : X) → IsMember x xs → IsMember x (xs ++ ys)
 in_left [] ys x m = absurd m
 in_left (z ∷ xs) ys x (inl e) = inl e
 in_left (z ∷ xs) ys x (inr m) = inr (in_left xs ys x m)
 
-in_right : {X : Type 0} (xs ys : List X) (x : X) → Member x ys → Member x (xs ++ ys)
+in_right : {X : Type 0} (xs ys : List X) (x : X) → IsMember x ys → IsMember x (xs ++ ys)
 in_right [] ys x m = m
 in_right (z ∷ xs) ys x m = inr (in_right xs ys x m)
 
-pures_member : (a : Pure) (xs : List Pure) (st : Step) → Member a xs → Member st (pure_steps a) → Member st (pures_steps xs)
+pures_member : (a : Pure) (xs : List Pure) (st : Step) → IsMember a xs → IsMember st (pure_steps a) → IsMember st (pures_steps xs)
 pures_member a [] st m k = absurd m
-pures_member a (x ∷ xs) st (inl e) k = in_left (pure_steps x) (pures_steps xs) st (subst (λ y. Member st (pure_steps y)) (sym e) k)
+pures_member a (x ∷ xs) st (inl e) k = in_left (pure_steps x) (pures_steps xs) st (subst (λ y. IsMember st (pure_steps y)) (sym e) k)
 pures_member a (x ∷ xs) st (inr m) k = in_right (pure_steps x) (pures_steps xs) st (pures_member a xs st m k)
 
-spatials_member : (a : Spatial) (xs : List Spatial) (st : Step) → Member a xs → Member st (spatial_steps a) → Member st (spatials_steps xs)
+spatials_member : (a : Spatial) (xs : List Spatial) (st : Step) → IsMember a xs → IsMember st (spatial_steps a) → IsMember st (spatials_steps xs)
 spatials_member a [] st m k = absurd m
-spatials_member a (x ∷ xs) st (inl e) k = in_left (spatial_steps x) (spatials_steps xs) st (subst (λ y. Member st (spatial_steps y)) (sym e) k)
+spatials_member a (x ∷ xs) st (inl e) k = in_left (spatial_steps x) (spatials_steps xs) st (subst (λ y. IsMember st (spatial_steps y)) (sym e) k)
 spatials_member a (x ∷ xs) st (inr m) k = in_right (spatial_steps x) (spatials_steps xs) st (spatials_member a xs st m k)
 
-field_member : (t u : Term) (k : ℕ) (ts : List Term) → Member u ts → (j : ℕ) × Member (Field t j u) (field_steps t k ts)
+field_member : (t u : Term) (k : ℕ) (ts : List Term) → IsMember u ts → (j : ℕ) × IsMember (Field t j u) (field_steps t k ts)
 field_member t u k [] m = absurd m
 field_member t u k (x ∷ xs) (inl e) = (k, inl (ap (λ y. Field t k y) e))
 field_member t u k (x ∷ xs) (inr m) = let r = field_member t u (suc k) xs m in (r.0, inr r.1)
@@ -115,23 +116,23 @@ module _ (a : SymbolicHeap) where
   abbrev IsGood : Step → Type 0
   IsGood st = Known a (source st) → Known a (target st)
 
-  good_pure : (x : Pure) → Member x a.pure → Each IsGood (pure_steps x)
+  good_pure : (x : Pure) → IsMember x a.pure → Each IsGood (pure_steps x)
   good_pure (Eq t u) m = (right_side t u m, (left_side t u m, tt))
   good_pure (Neq t u) m = tt
 
-  good_pures : (xs : List Pure) → ((x : Pure) → Member x xs → Member x a.pure) → Each IsGood (pures_steps xs)
+  good_pures : (xs : List Pure) → ((x : Pure) → IsMember x xs → IsMember x a.pure) → Each IsGood (pures_steps xs)
   good_pures [] w = tt
   good_pures (x ∷ xs) w = each_append IsGood (pure_steps x) (pures_steps xs) (good_pure x (w x (inl refl))) (good_pures xs (λ y m. w y (inr m)))
 
-  good_fields : (t : Term) (ts : List Term) → Member (Cell t ts) a.spatial → (k : ℕ) (us : List Term) → ((u : Term) → Member u us → Member u ts) → Each IsGood (field_steps t k us)
+  good_fields : (t : Term) (ts : List Term) → IsMember (Cell t ts) a.spatial → (k : ℕ) (us : List Term) → ((u : Term) → IsMember u us → IsMember u ts) → Each IsGood (field_steps t k us)
   good_fields t ts m k [] w = tt
   good_fields t ts m k (u ∷ us) w = (field t u ts m (w u (inl refl)), good_fields t ts m (suc k) us (λ v n. w v (inr n)))
 
-  good_spatial : (x : Spatial) → Member x a.spatial → Each IsGood (spatial_steps x)
+  good_spatial : (x : Spatial) → IsMember x a.spatial → Each IsGood (spatial_steps x)
   good_spatial (Cell t ts) m = good_fields t ts m 0 ts (λ u n. n)
   good_spatial (Pred p ts) m = tt
 
-  good_spatials : (xs : List Spatial) → ((x : Spatial) → Member x xs → Member x a.spatial) → Each IsGood (spatials_steps xs)
+  good_spatials : (xs : List Spatial) → ((x : Spatial) → IsMember x xs → IsMember x a.spatial) → Each IsGood (spatials_steps xs)
   good_spatials [] w = tt
   good_spatials (x ∷ xs) w = each_append IsGood (spatial_steps x) (spatials_steps xs) (good_spatial x (w x (inl refl))) (good_spatials xs (λ y m. w y (inr m)))
 

@@ -4,22 +4,25 @@ use Rattle.std.specs.Prelude.{nat_eq, ◌&&◌, ◌||◌, slice_index}
 use Rattle.std.proofs.lemmas.Bool.{eqb-true, eqb-false, eq-eqb, cases_Bool, cases_lt, ne_eqb}
 use Rattle.std.proofs.Math.Nat.{pow-suc}
 use Rattle.std.specs.Int.{bit_at}
-use Rattle.std.specs.Int.Bits.{bit_and, bit_or}
-use Rattle.std.proofs.lemmas.Nat.Bits.{bit_at-zero, bit_at-lt, bit_at_and, bit_at_or, bit_at_cat_low, bit_at_cat_high, same_from_bits, bit_at_above, bit_at-pow_same, bit_at-pow_other}
+use Rattle.std.specs.Int.Bits.{bit_or}
+use Rattle.std.proofs.lemmas.Nat.Bits.{bit_at-lt, bit_at_cat_low, bit_at_cat_high, same_from_bits, bit_at_above, bit_at-pow_same, bit_at-pow_other}
 use Rattle.std.specs.Option.{is_some}
 use Rattle.std.specs.Ordering.{nat_cmp, eq_by_cmp}
 use Rattle.std.specs.Cmp.{nat_cmp_total}
-use Rattle.std.specs.FinMap.{empty, get-retain_keys, get-insert, get-empty, nat_cmp-IsAntisymmetric}
+use Rattle.std.specs.FinMap.{get-retain_keys, get-empty, nat_cmp-IsAntisymmetric}
 use Rattle.heap_formula.specs.Cells.{Cells, cell_at, no_cells, one_cell, Joins, IsUnion}
 use Rattle.heap_formula.proofs.Unions.{same_cells}
-use Rattle.std.proofs.Math.Bool.{and-false}
+use Rattle.std.proofs.Math.Bool.{and-false, and-true, or-false, true-and}
 use Rattle.std.specs.Cmp.{eq_by_cmp_equiv}
-use Rattle.model_check.specs.Constructive.{Member, Inside}
-use Rattle.model_check.specs.MaskParts.{place, has_bit, part_of, from_bits, stands, mask_of, Covers}
+use Rattle.model_check.specs.Constructive.{Inside}
+use Rattle.list_facts.specs.Words.{IsMember}
+use Rattle.model_check.specs.MaskParts.{place, part_of, from_bits, stands, mask_of, Covers}
+use Rattle.list_facts.specs.Bits.{is_one}
 use Rattle.model_check.specs.Ground.{Apart}
-use Rattle.list_facts.proofs.Bits.{bit_and_min, bit_or_max}
+use Rattle.list_facts.proofs.Bits.{one_and, one_or, one_zero}
 use Rattle.list_facts.proofs.Options.{option_cases}
 use Rattle.heap_formula.proofs.Insertions.{same_address}
+use Rattle.heap_formula.proofs.HeapLaws.{one_cell_at}
 
 -- ---- bits as tests
 
@@ -31,19 +34,10 @@ bit_same (suc zero) (suc zero) h k e = refl
 bit_same (suc (suc x)) y h k e = absurd (omega arith)
 bit_same x (suc (suc y)) h k e = absurd (omega arith)
 
-pub same_masks : (a b : ℕ) → ((i : ℕ) → has_bit a i ≡ has_bit b i) → a ≡ b
+pub same_masks : (a b : ℕ) → ((i : ℕ) → is_one a i ≡ is_one b i) → a ≡ b
 same_masks a b h = same_from_bits a b (λ i. bit_same (bit_at a i) (bit_at b i) (bit_at-lt a i) (bit_at-lt b i) (h i))
 
-pub has_and : (a b i : ℕ) → has_bit (bit_and a b) i ≡ (has_bit a i && has_bit b i)
-has_and a b i = ap (λ x. nat_eq x 1) (bit_at_and a b i) ∙ bit_and_min (bit_at a i) (bit_at b i) (bit_at-lt a i) (bit_at-lt b i)
-
-pub has_or : (a b i : ℕ) → has_bit (bit_or a b) i ≡ (has_bit a i || has_bit b i)
-has_or a b i = ap (λ x. nat_eq x 1) (bit_at_or a b i) ∙ bit_or_max (bit_at a i) (bit_at b i) (bit_at-lt a i) (bit_at-lt b i)
-
-pub has_zero : (i : ℕ) → has_bit 0 i ≡ false
-has_zero i = ap (λ x. nat_eq x 1) (bit_at-zero i)
-
-pub has_pow : (k i : ℕ) → has_bit (2 ^ k) i ≡ nat_eq i k
+pub has_pow : (k i : ℕ) → is_one (2 ^ k) i ≡ nat_eq i k
 has_pow k i = elim (cases_Bool (nat_eq i k)) [
   | inl yes' ↦ let e : i ≡ k = eqb-true i k yes' in ap (λ j. nat_eq (bit_at (2 ^ k) j) 1) e ∙ ap (λ x. nat_eq x 1) (bit_at-pow_same k) ∙ sym yes'
   | inr no' ↦ ap (λ x. nat_eq x 1) (bit_at-pow_other k i (eqb-false i k no')) ∙ sym no'
@@ -63,7 +57,7 @@ cond_bit : (c : Bool) → nat_eq (bit_at (cond c 1 0) 0) 1 ≡ c
 cond_bit true = refl
 cond_bit false = refl
 
-pub has_from_bits : (b : ℕ → Bool) (k i : ℕ) → i < k → has_bit (from_bits b k) i ≡ b i
+pub has_from_bits : (b : ℕ → Bool) (k i : ℕ) → i < k → is_one (from_bits b k) i ≡ b i
 has_from_bits b zero i h = absurd (omega arith)
 has_from_bits b (suc k) i h = elim (cases_Bool (nat_eq i k)) [
   | inl yes' ↦
@@ -76,14 +70,14 @@ has_from_bits b (suc k) i h = elim (cases_Bool (nat_eq i k)) [
       ap (λ x. nat_eq x 1) (bit_at_cat_low (cond (b k) 1 0) k (from_bits b k) i l) ∙ has_from_bits b k i l
 ]
 
-pub no_from_bits : (b : ℕ → Bool) (k i : ℕ) → k ≤ i → has_bit (from_bits b k) i ≡ false
+pub no_from_bits : (b : ℕ → Bool) (k i : ℕ) → k ≤ i → is_one (from_bits b k) i ≡ false
 no_from_bits b k i h = ap (λ x. nat_eq x 1) (bit_at_above (from_bits b k) k i (from_bits-lt b k) h)
 
 -- ---- parts and masks
 
-pub at_part_of : (addresses : List ℕ) (h : Cells) (m a : ℕ) → cell_at (part_of addresses h m) a ≡ cond (has_bit m (place addresses a)) (cell_at h a) None
+pub at_part_of : (addresses : List ℕ) (h : Cells) (m a : ℕ) → cell_at (part_of addresses h m) a ≡ cond (is_one m (place addresses a)) (cell_at h a) None
 at_part_of addresses h m a =
-    get-retain_keys h (λ k. has_bit m (place addresses k)) a (λ x t. ap (λ k. has_bit m (place addresses k)) (sym (nat_cmp-IsAntisymmetric a x t)))
+    get-retain_keys h (λ k. is_one m (place addresses k)) a (λ x t. ap (λ k. is_one m (place addresses k)) (sym (nat_cmp-IsAntisymmetric a x t)))
 
 joins_bits : {X : Type 0} (b c : Bool) (x : Option X) → (b && c) ≡ false → Joins (cond b x None) (cond c x None) (cond (b || c) x None)
 joins_bits false false x h = refl
@@ -96,15 +90,15 @@ pub part_union : (addresses : List ℕ) (h : Cells) (f r m : ℕ) → Apart f r 
 part_union addresses h f r m u = record {
   joins = λ a.
       let i = place addresses a in
-      let none : (has_bit f i && has_bit r i) ≡ false = sym (has_and f r i) ∙ ap (λ x. has_bit x i) u.apart ∙ has_zero i in
-      let some : has_bit m i ≡ (has_bit f i || has_bit r i) = ap (λ x. has_bit x i) u.whole ∙ has_or f r i in
-      let j : Joins (cond (has_bit f i) (cell_at h a) None) (cond (has_bit r i) (cell_at h a) None) (cond (has_bit m i) (cell_at h a) None) = subst (λ d. Joins (cond (has_bit f i) (cell_at h a) None) (cond (has_bit r i) (cell_at h a) None) (cond d (cell_at h a) None)) (sym some) (joins_bits (has_bit f i) (has_bit r i) (cell_at h a) none) in
+      let none : (is_one f i && is_one r i) ≡ false = sym (one_and f r i) ∙ ap (λ x. is_one x i) u.apart ∙ one_zero i in
+      let some : is_one m i ≡ (is_one f i || is_one r i) = ap (λ x. is_one x i) u.whole ∙ one_or f r i in
+      let j : Joins (cond (is_one f i) (cell_at h a) None) (cond (is_one r i) (cell_at h a) None) (cond (is_one m i) (cell_at h a) None) = subst (λ d. Joins (cond (is_one f i) (cell_at h a) None) (cond (is_one r i) (cell_at h a) None) (cond d (cell_at h a) None)) (sym some) (joins_bits (is_one f i) (is_one r i) (cell_at h a) none) in
       rw (at_part_of addresses h f a, at_part_of addresses h r a, at_part_of addresses h m a) j;
 }
 
 -- ---- addresses and places
 
-pub place_in : (ns : List ℕ) (a : ℕ) → Member a ns → (place ns a < length ns) × (slice_index ns (place ns a) ≡ a)
+pub place_in : (ns : List ℕ) (a : ℕ) → IsMember a ns → (place ns a < length ns) × (slice_index ns (place ns a) ≡ a)
 place_in [] a m = absurd m
 place_in (x ∷ xs) a m =
     elim (cases_Bool (nat_eq x a)) [
@@ -118,10 +112,10 @@ place_in (x ∷ xs) a m =
 
 -- ---- the mask of a part
 
-pub has_mask : (ns : List ℕ) (g : Cells) (i : ℕ) → i < length ns → has_bit (mask_of ns g) i ≡ stands ns g i
+pub has_mask : (ns : List ℕ) (g : Cells) (i : ℕ) → i < length ns → is_one (mask_of ns g) i ≡ stands ns g i
 has_mask ns g i h = has_from_bits (stands ns g) (length ns) i h
 
-pub no_mask : (ns : List ℕ) (g : Cells) (i : ℕ) → length ns ≤ i → has_bit (mask_of ns g) i ≡ false
+pub no_mask : (ns : List ℕ) (g : Cells) (i : ℕ) → length ns ≤ i → is_one (mask_of ns g) i ≡ false
 no_mask ns g i h = no_from_bits (stands ns g) (length ns) i h
 
 joined_some : {X : Type 0} (p : Bool) (x y r : Option X) → Joins x y r → (((p && is_some x) && (p && is_some y)) ≡ false) × ((p && is_some r) ≡ ((p && is_some x) || (p && is_some y)))
@@ -131,7 +125,7 @@ joined_some true (Some x) None r j = (refl, ap is_some j)
 joined_some true (Some x) (Some y) r j = absurd j
 
 module _ (ns : List ℕ) (l r h : Cells) (u : IsUnion l r h) where
-  mask_bits : (i : ℕ) → ((has_bit (mask_of ns l) i && has_bit (mask_of ns r) i) ≡ false) × (has_bit (mask_of ns h) i ≡ (has_bit (mask_of ns l) i || has_bit (mask_of ns r) i))
+  mask_bits : (i : ℕ) → ((is_one (mask_of ns l) i && is_one (mask_of ns r) i) ≡ false) × (is_one (mask_of ns h) i ≡ (is_one (mask_of ns l) i || is_one (mask_of ns r) i))
   mask_bits i = elim (cases_lt i (length ns)) [
     | inl lt ↦
         let a = slice_index ns i in
@@ -141,17 +135,9 @@ module _ (ns : List ℕ) (l r h : Cells) (u : IsUnion l r h) where
 
   pub mask_union : Apart (mask_of ns l) (mask_of ns r) (mask_of ns h)
   mask_union = record {
-    apart = same_masks _ _ (λ i. has_and (mask_of ns l) (mask_of ns r) i ∙ (mask_bits i).0 ∙ sym (has_zero i));
-    whole = same_masks _ _ (λ i. (mask_bits i).1 ∙ sym (has_or (mask_of ns l) (mask_of ns r) i));
+    apart = same_masks _ _ (λ i. one_and (mask_of ns l) (mask_of ns r) i ∙ (mask_bits i).0 ∙ sym (one_zero i));
+    whole = same_masks _ _ (λ i. (mask_bits i).1 ∙ sym (one_or (mask_of ns l) (mask_of ns r) i));
   }
-
-and_true : (b : Bool) → (b && true) ≡ b
-and_true true = refl
-and_true false = refl
-
-true_and : (b : Bool) → (true && b) ≡ b
-true_and true = refl
-true_and false = refl
 
 both_none : {X : Type 0} (b : Bool) → ◌≡◌ {A = Option X} (cond b None None) None
 both_none true = refl
@@ -160,19 +146,16 @@ both_none false = refl
 pub part_mask : (ns : List ℕ) (g h : Cells) → Covers ns h → Inside g h → part_of ns h (mask_of ns g) ≡ g
 part_mask ns g h c w = same_cells _ _ (λ a. at_part_of ns h (mask_of ns g) a ∙ at_mask a)
   where
-    at_mask : (a : ℕ) → cond (has_bit (mask_of ns g) (place ns a)) (cell_at h a) None ≡ cell_at g a
+    at_mask : (a : ℕ) → cond (is_one (mask_of ns g) (place ns a)) (cell_at h a) None ≡ cell_at g a
     at_mask a = elim (option_cases (cell_at h a)) [
       | inl none ↦
           let out : cell_at g a ≡ None = elim (option_cases (cell_at g a)) [ inl e ↦ e | inr (v, e) ↦ let s = w.same a v e in absurd (let b : None ≡ Some v = sym none ∙ s in cc) ] in
-          rw none (both_none (has_bit (mask_of ns g) (place ns a)) ∙ sym out)
+          rw none (both_none (is_one (mask_of ns g) (place ns a)) ∙ sym out)
       | inr (v, some) ↦
           let p = place_in ns a (c.listed a v some) in
-          let b : has_bit (mask_of ns g) (place ns a) ≡ is_some (cell_at g a) = has_mask ns g (place ns a) p.0 ∙ ap (λ q. nat_eq (place ns q) (place ns a) && is_some (cell_at g q)) p.1 ∙ ap (λ t. t && is_some (cell_at g a)) (eq-eqb (place ns a) (place ns a) refl) ∙ true_and (is_some (cell_at g a)) in
+          let b : is_one (mask_of ns g) (place ns a) ≡ is_some (cell_at g a) = has_mask ns g (place ns a) p.0 ∙ ap (λ q. nat_eq (place ns q) (place ns a) && is_some (cell_at g q)) p.1 ∙ ap (λ t. t && is_some (cell_at g a)) (eq-eqb (place ns a) (place ns a) refl) ∙ true-and (is_some (cell_at g a)) in
           rw b (elim (option_cases (cell_at g a)) [ inl e ↦ rw e refl | inr (x, e) ↦ rw e (let s = w.same a x e in s) ])
     ]
-
-pub one_cell_at : (a : ℕ) (vs : List ℕ) (q : ℕ) → cell_at (one_cell a vs) q ≡ cond (eq_by_cmp nat_cmp q a) (Some vs) None
-one_cell_at a vs q = get-insert nat_cmp_total empty a vs q ∙ ap (cond (eq_by_cmp nat_cmp q a) (Some vs)) (get-empty nat_cmp q)
 
 pub one_inside : (h : Cells) (a : ℕ) (vs : List ℕ) → cell_at h a ≡ Some vs → Inside (one_cell a vs) h
 one_inside h a vs e = record { same = λ q us t. found (eq_by_cmp nat_cmp q a) q us refl (sym (one_cell_at a vs q) ∙ t) }
@@ -188,7 +171,7 @@ turned_eq m n = elim (cases_Bool (nat_eq m n)) [
 ]
 
 -- the mask of one cell is its bit
-pub mask_one : (ns : List ℕ) (a : ℕ) (vs : List ℕ) → Member a ns → mask_of ns (one_cell a vs) ≡ 2 ^ place ns a
+pub mask_one : (ns : List ℕ) (a : ℕ) (vs : List ℕ) → IsMember a ns → mask_of ns (one_cell a vs) ≡ 2 ^ place ns a
 mask_one ns a vs m = same_masks _ _ (λ i. bits i ∙ sym (has_pow (place ns a) i))
   where
     standing : (i : ℕ) → stands ns (one_cell a vs) i ≡ nat_eq i (place ns a)
@@ -198,7 +181,7 @@ mask_one ns a vs m = same_masks _ _ (λ i. bits i ∙ sym (has_pow (place ns a) 
         elim (cases_Bool (eq_by_cmp nat_cmp q a)) [
           | inl yes' ↦
               let s : is_some (cell_at (one_cell a vs) q) ≡ true = ap is_some (at_q ∙ ap (λ b. cond b (Some vs) None) yes') in
-              ap (λ b. nat_eq (place ns q) i && b) s ∙ and_true (nat_eq (place ns q) i) ∙ ap (λ x. nat_eq (place ns x) i) (same_address q a yes') ∙ turned_eq (place ns a) i
+              ap (λ b. nat_eq (place ns q) i && b) s ∙ and-true (nat_eq (place ns q) i) ∙ ap (λ x. nat_eq (place ns x) i) (same_address q a yes') ∙ turned_eq (place ns a) i
           | inr no' ↦
               let s : is_some (cell_at (one_cell a vs) q) ≡ false = ap is_some (at_q ∙ ap (λ b. cond b (Some vs) None) no') in
               ap (λ b. nat_eq (place ns q) i && b) s ∙ and-false (nat_eq (place ns q) i) ∙ sym (ne_eqb i (place ns a) (λ e.
@@ -207,7 +190,7 @@ mask_one ns a vs m = same_masks _ _ (λ i. bits i ∙ sym (has_pow (place ns a) 
               let bad : true ≡ false = sym yes' ∙ no' in cc))
         ]
 
-    bits : (i : ℕ) → has_bit (mask_of ns (one_cell a vs)) i ≡ nat_eq i (place ns a)
+    bits : (i : ℕ) → is_one (mask_of ns (one_cell a vs)) i ≡ nat_eq i (place ns a)
     bits i = elim (cases_lt i (length ns)) [
       | inl lt ↦ has_mask ns (one_cell a vs) i lt ∙ standing i
       | inr le ↦ let p = place_in ns a m in no_mask ns (one_cell a vs) i le ∙ sym (ne_eqb i (place ns a) (λ e. let l : place ns a < length ns = p.0 in omega arith))
@@ -219,12 +202,12 @@ part_one ns h a vs c e =
     ap (part_of ns h) (sym (mask_one ns a vs (c.listed a vs e))) ∙ part_mask ns (one_cell a vs) h c (one_inside h a vs e)
 
 pub part_zero : (ns : List ℕ) (h : Cells) → part_of ns h 0 ≡ no_cells
-part_zero ns h = same_cells _ _ (λ a. at_part_of ns h 0 a ∙ ap (λ b. cond b (cell_at h a) None) (has_zero (place ns a)) ∙ sym (get-empty nat_cmp a))
+part_zero ns h = same_cells _ _ (λ a. at_part_of ns h 0 a ∙ ap (λ b. cond b (cell_at h a) None) (one_zero (place ns a)) ∙ sym (get-empty nat_cmp a))
 
 pub mask_zero : (ns : List ℕ) → mask_of ns no_cells ≡ 0
-mask_zero ns = same_masks _ _ (λ i. bits i ∙ sym (has_zero i))
+mask_zero ns = same_masks _ _ (λ i. bits i ∙ sym (one_zero i))
   where
-    bits : (i : ℕ) → has_bit (mask_of ns no_cells) i ≡ false
+    bits : (i : ℕ) → is_one (mask_of ns no_cells) i ≡ false
     bits i = elim (cases_lt i (length ns)) [
       | inl lt ↦ has_mask ns no_cells i lt ∙ ap (λ o. nat_eq (place ns (slice_index ns i)) i && is_some o) (get-empty nat_cmp (slice_index ns i)) ∙ and-false (nat_eq (place ns (slice_index ns i)) i)
       | inr le ↦ no_mask ns no_cells i le
@@ -232,16 +215,12 @@ mask_zero ns = same_masks _ _ (λ i. bits i ∙ sym (has_zero i))
 
 -- ---- the mask of the whole heap, a place at a time
 
-or_false : (x : Bool) → (x || false) ≡ x
-or_false true = refl
-or_false false = refl
-
 pub more_bits : (b : ℕ → Bool) (k : ℕ) → b k ≡ true → bit_or (from_bits b k) (2 ^ k) ≡ from_bits b (k + 1)
-more_bits b k t = same_masks _ _ (λ i. has_or (from_bits b k) (2 ^ k) i ∙ ap (λ x. has_bit (from_bits b k) i || x) (has_pow k i) ∙ bits i)
+more_bits b k t = same_masks _ _ (λ i. one_or (from_bits b k) (2 ^ k) i ∙ ap (λ x. is_one (from_bits b k) i || x) (has_pow k i) ∙ bits i)
   where
-    bits : (i : ℕ) → (has_bit (from_bits b k) i || nat_eq i k) ≡ has_bit (from_bits b (k + 1)) i
+    bits : (i : ℕ) → (is_one (from_bits b k) i || nat_eq i k) ≡ is_one (from_bits b (k + 1)) i
     bits i = elim (cases_lt i k) [
-      | inl l ↦ rw (has_from_bits b k i l, ne_eqb i k (λ e. omega arith)) (or_false (b i) ∙ sym (has_from_bits b (k + 1) i (omega arith)))
+      | inl l ↦ rw (has_from_bits b k i l, ne_eqb i k (λ e. omega arith)) (or-false (b i) ∙ sym (has_from_bits b (k + 1) i (omega arith)))
       | inr g ↦ elim (cases_lt k i) [
         | inl m ↦ rw (no_from_bits b k i g, ne_eqb i k (λ e. omega arith)) (sym (no_from_bits b (k + 1) i (omega arith)))
         | inr n ↦ let e : i ≡ k = omega arith in rw (no_from_bits b k i g, eq-eqb i k e) (sym (has_from_bits b (k + 1) i (omega arith) ∙ ap b e ∙ t))
@@ -251,7 +230,7 @@ more_bits b k t = same_masks _ _ (λ i. has_or (from_bits b k) (2 ^ k) i ∙ ap 
 pub same_bits : (b : ℕ → Bool) (k : ℕ) → b k ≡ false → from_bits b k ≡ from_bits b (k + 1)
 same_bits b k t = same_masks _ _ bits
   where
-    bits : (i : ℕ) → has_bit (from_bits b k) i ≡ has_bit (from_bits b (k + 1)) i
+    bits : (i : ℕ) → is_one (from_bits b k) i ≡ is_one (from_bits b (k + 1)) i
     bits i = elim (cases_lt i k) [
       | inl l ↦ has_from_bits b k i l ∙ sym (has_from_bits b (k + 1) i (omega arith))
       | inr g ↦ elim (cases_lt k i) [

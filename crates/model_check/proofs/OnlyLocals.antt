@@ -13,16 +13,17 @@ use Rattle.heap_formula.specs.Cells.{Cells, cell_at, Joins, IsUnion}
 use Rattle.heap_formula.specs.Meaning.{Family, PureHolds, SpatialHolds, Holds}
 use Rattle.heap_formula.specs.Closedness.{InPure, InSpatial, IsUniversal, IsUniversalHeap}
 use Rattle.heap_formula.proofs.Unions.{union_comm}
-use Rattle.model_check.specs.Constructive.{Member, Known, nil, universal, right_side, left_side, field, IsConstructive, CellFits, Fits, IsOnly, Inside}
+use Rattle.model_check.specs.Constructive.{Known, nil, universal, right_side, left_side, field, IsConstructive, CellFits, Fits, IsOnly, Inside}
+use Rattle.list_facts.specs.Words.{IsMember}
 use Rattle.formula_facts.proofs.AllMembers.{each_imply}
 use Rattle.heap_formula.proofs.Insertions.{one_cell_has}
 
-pub member_each : {X : Type 0} (P : X → Type 0) (x : X) (xs : List X) → Member x xs → Each P xs → P x
+pub member_each : {X : Type 0} (P : X → Type 0) (x : X) (xs : List X) → IsMember x xs → Each P xs → P x
 member_each P x [] m a = absurd m
 member_each P x (y ∷ ys) (inl e) a = subst P e a.0
 member_each P x (y ∷ ys) (inr m) a = member_each P x ys m a.1
 
-same_member : (f g : Term → ℕ) (u : Term) (ts : List Term) → Member u ts → map f ts ≡ map g ts → f u ≡ g u
+same_member : (f g : Term → ℕ) (u : Term) (ts : List Term) → IsMember u ts → map f ts ≡ map g ts → f u ≡ g u
 same_member f g u [] m e = absurd m
 same_member f g u (t ∷ ts) (inl h) e = let k : f t ≡ g t = cc in subst (λ v. f v ≡ g v) h k
 same_member f g u (t ∷ ts) (inr m) e = let k : map f ts ≡ map g ts = cc in same_member f g u ts m k

@@ -9,7 +9,7 @@ use Rattle.std.specs.FinMap.{entries, find, get-entries}
 use Rattle.std.proofs.lemmas.Bool.{lt-ltb, cases_Bool, cases_lt, eqb-true, or_cases, both_ways}
 use Rattle.heap_formula.specs.Cells.{Cells, cell_at}
 use Rattle.heap_formula.proofs.Insertions.{same_address}
-use Rattle.model_check.specs.Constructive.{Member}
+use Rattle.list_facts.specs.Words.{IsMember}
 use Rattle.model_check.specs.MaskParts.{place, from_bits, stands, Covers}
 use Rattle.model_check.proofs.MaskParts.{turned_eq, more_bits, same_bits}
 use Rattle.list_facts.proofs.Places.{position_at}
@@ -51,36 +51,36 @@ place_missing ns a n e h =
 
 -- ---- the set of addresses
 
-member_last : (a x : ℕ) (ks : List ℕ) → Member a (ks ++ x ∷ []) ↔ (Member a ks ⊎ (x ≡ a))
+member_last : (a x : ℕ) (ks : List ℕ) → IsMember a (ks ++ x ∷ []) ↔ (IsMember a ks ⊎ (x ≡ a))
 member_last a x [] = (λ o. elim o as (λ z. ⊥ ⊎ (x ≡ a)) [ inl e ↦ inr e | inr b ↦ absurd b ], λ o. elim o as (λ z. (x ≡ a) ⊎ ⊥) [ inl b ↦ absurd b | inr e ↦ inl e ])
 member_last a x (k ∷ ks) =
     let r = member_last a x ks in (
-      λ o. elim o as (λ z. ((k ≡ a) ⊎ Member a ks) ⊎ (x ≡ a)) [ inl e ↦ inl (inl e) | inr m ↦ elim (r.0 m) as (λ z. ((k ≡ a) ⊎ Member a ks) ⊎ (x ≡ a)) [ inl m' ↦ inl (inr m') | inr e ↦ inr e ] ],
-      λ o. elim o as (λ z. (k ≡ a) ⊎ Member a (ks ++ x ∷ [])) [ inl m ↦ elim m as (λ z. (k ≡ a) ⊎ Member a (ks ++ x ∷ [])) [ inl e ↦ inl e | inr m' ↦ inr (r.1 (inl m')) ] | inr e ↦ inr (r.1 (inr e)) ],
+      λ o. elim o as (λ z. ((k ≡ a) ⊎ IsMember a ks) ⊎ (x ≡ a)) [ inl e ↦ inl (inl e) | inr m ↦ elim (r.0 m) as (λ z. ((k ≡ a) ⊎ IsMember a ks) ⊎ (x ≡ a)) [ inl m' ↦ inl (inr m') | inr e ↦ inr e ] ],
+      λ o. elim o as (λ z. (k ≡ a) ⊎ IsMember a (ks ++ x ∷ [])) [ inl m ↦ elim m as (λ z. (k ≡ a) ⊎ IsMember a (ks ++ x ∷ [])) [ inl e ↦ inl e | inr m' ↦ inr (r.1 (inl m')) ] | inr e ↦ inr (r.1 (inr e)) ],
     )
 
-any_member : (x : ℕ) (ks : List ℕ) → list_any (nat_eq x) ks ≡ true → Member x ks
+any_member : (x : ℕ) (ks : List ℕ) → list_any (nat_eq x) ks ≡ true → IsMember x ks
 any_member x [] h = absurd (both_ways false refl h)
 any_member x (k ∷ ks) h = elim (or_cases (nat_eq x k) (list_any (nat_eq x) ks) h) [ inl e ↦ inl (sym (eqb-true x k e)) | inr r ↦ inr (any_member x ks r) ]
 
 -- after an address is put in, it and those before stand there
-inserted : (x : ℕ) (old new : List ℕ) → new ≡ (if list_any (nat_eq x) old then old else old ++ x ∷ []) → (a : ℕ) → (Member a old ⊎ (x ≡ a)) → Member a new
+inserted : (x : ℕ) (old new : List ℕ) → new ≡ (if list_any (nat_eq x) old then old else old ++ x ∷ []) → (a : ℕ) → (IsMember a old ⊎ (x ≡ a)) → IsMember a new
 inserted x old new e a o = by (list_any (nat_eq x) old) refl e
   where
-    by : (b : Bool) → list_any (nat_eq x) old ≡ b → new ≡ (if b then old else old ++ x ∷ []) → Member a new
-    by true h e = subst (Member a) (sym e) (elim o as (λ z. Member a old) [ inl m ↦ m | inr k ↦ subst (λ y. Member y old) k (any_member x old h) ])
-    by false h e = subst (Member a) (sym e) ((member_last a x old).1 o)
+    by : (b : Bool) → list_any (nat_eq x) old ≡ b → new ≡ (if b then old else old ++ x ∷ []) → IsMember a new
+    by true h e = subst (IsMember a) (sym e) (elim o as (λ z. IsMember a old) [ inl m ↦ m | inr k ↦ subst (λ y. IsMember y old) k (any_member x old h) ])
+    by false h e = subst (IsMember a) (sym e) ((member_last a x old).1 o)
 
-pub insert_step : (addresses : List ℕ) (i : ℕ) (old new : List ℕ) → i < length addresses → new ≡ (if list_any (nat_eq (get_or addresses i 0)) old then old else old ++ get_or addresses i 0 ∷ []) → ((a : ℕ) → Member a addresses → Member a old ⊎ Member a (drop i addresses)) → (a : ℕ) → Member a addresses → Member a new ⊎ Member a (drop (i + 1) addresses)
+pub insert_step : (addresses : List ℕ) (i : ℕ) (old new : List ℕ) → i < length addresses → new ≡ (if list_any (nat_eq (get_or addresses i 0)) old then old else old ++ get_or addresses i 0 ∷ []) → ((a : ℕ) → IsMember a addresses → IsMember a old ⊎ IsMember a (drop i addresses)) → (a : ℕ) → IsMember a addresses → IsMember a new ⊎ IsMember a (drop (i + 1) addresses)
 insert_step addresses i old new h e k a m =
     let x = get_or addresses i 0 in
     let s : drop i addresses ≡ x ∷ drop (i + 1) addresses = rw (add-one, drop-cons addresses i 0) refl in
-    elim (k a m) as (λ z. Member a new ⊎ Member a (drop (i + 1) addresses)) [
+    elim (k a m) as (λ z. IsMember a new ⊎ IsMember a (drop (i + 1) addresses)) [
       | inl o ↦ inl (inserted x old new e a (inl o))
-      | inr d ↦ elim (subst (Member a) s d) as (λ z. Member a new ⊎ Member a (drop (i + 1) addresses)) [ inl y ↦ inl (inserted x old new e a (inr y)) | inr r ↦ inr r ]
+      | inr d ↦ elim (subst (IsMember a) s d) as (λ z. IsMember a new ⊎ IsMember a (drop (i + 1) addresses)) [ inl y ↦ inl (inserted x old new e a (inr y)) | inr r ↦ inr r ]
     ]
 
-found_key : (es : List (ℕ × List ℕ)) (a : ℕ) (vs : List ℕ) → find nat_cmp a es ≡ Some vs → Member a (map (λ c. c.0) es)
+found_key : (es : List (ℕ × List ℕ)) (a : ℕ) (vs : List ℕ) → find nat_cmp a es ≡ Some vs → IsMember a (map (λ c. c.0) es)
 found_key [] a vs f = absurd (let z : None ≡ Some vs = f in cc)
 found_key (e ∷ es) a vs f = elim (cases_Bool (eq_by_cmp nat_cmp a e.0)) [
   | inl yes' ↦ inl (sym (same_address a e.0 yes'))
@@ -88,17 +88,17 @@ found_key (e ∷ es) a vs f = elim (cases_Bool (eq_by_cmp nat_cmp a e.0)) [
 ]
 
 -- a set with the heap's addresses covers it
-pub covers_all : (h : Cells) (addresses keys : List ℕ) → addresses ≡ map (λ c. c.0) (entries h) → ((a : ℕ) → Member a addresses → Member a keys) → Covers keys h
-covers_all h addresses keys e k = record { listed = λ a vs f. k a (subst (Member a) (sym e) (found_key (entries h) a vs (sym (get-entries h a) ∙ f))) }
+pub covers_all : (h : Cells) (addresses keys : List ℕ) → addresses ≡ map (λ c. c.0) (entries h) → ((a : ℕ) → IsMember a addresses → IsMember a keys) → Covers keys h
+covers_all h addresses keys e k = record { listed = λ a vs f. k a (subst (IsMember a) (sym e) (found_key (entries h) a vs (sym (get-entries h a) ∙ f))) }
 
-pub covers_result : {V E : Type 0} (keys : V → List ℕ) (h : Cells) (addresses : List ℕ) → addresses ≡ map (λ c. c.0) (entries h) → (r : Result V E) → IfOk r (λ p. (a : ℕ) → Member a addresses → Member a (keys p)) → IfOk r (λ p. Covers (keys p) h)
+pub covers_result : {V E : Type 0} (keys : V → List ℕ) (h : Cells) (addresses : List ℕ) → addresses ≡ map (λ c. c.0) (entries h) → (r : Result V E) → IfOk r (λ p. (a : ℕ) → IsMember a addresses → IsMember a (keys p)) → IfOk r (λ p. Covers (keys p) h)
 covers_result keys h addresses e (Ok p) k = covers_all h addresses (keys p) e k
 covers_result keys h addresses e (Err x) k = tt
 
-pub insert_end : (addresses : List ℕ) (i : ℕ) (keys : List ℕ) → length addresses ≤ i → ((a : ℕ) → Member a addresses → Member a keys ⊎ Member a (drop i addresses)) → (a : ℕ) → Member a addresses → Member a keys
-insert_end addresses i keys h k a m = elim (k a m) as (λ z. Member a keys) [ inl o ↦ o | inr d ↦ absurd (none addresses i h d) ]
+pub insert_end : (addresses : List ℕ) (i : ℕ) (keys : List ℕ) → length addresses ≤ i → ((a : ℕ) → IsMember a addresses → IsMember a keys ⊎ IsMember a (drop i addresses)) → (a : ℕ) → IsMember a addresses → IsMember a keys
+insert_end addresses i keys h k a m = elim (k a m) as (λ z. IsMember a keys) [ inl o ↦ o | inr d ↦ absurd (none addresses i h d) ]
   where
-    none : (xs : List ℕ) (i : ℕ) → length xs ≤ i → ¬ Member a (drop i xs)
+    none : (xs : List ℕ) (i : ℕ) → length xs ≤ i → ¬ IsMember a (drop i xs)
     none [] zero h d = d
     none [] (suc i) h d = d
     none (x ∷ xs) zero h d = omega arith

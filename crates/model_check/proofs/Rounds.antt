@@ -15,7 +15,8 @@ use Rattle.model_check.specs.declared.ground.Piece.{Piece}
 use Rattle.model_check.specs.declared.ground.Piece.TheVariants.{Here, Of}
 use Rattle.model_check.specs.declared.ground.GroundRule.{GroundRule}
 use Rattle.model_check.specs.Questions.{Question}
-use Rattle.model_check.specs.Constructive.{Member, CellFits, Fits, IsOnly, Inside}
+use Rattle.model_check.specs.Constructive.{CellFits, Fits, IsOnly, Inside}
+use Rattle.list_facts.specs.Words.{IsMember}
 use Rattle.model_check.specs.MaskParts.{place, part_of, mask_of, Covers}
 use Rattle.model_check.specs.Ground.{Table, PieceIs, Unions, Gives, round, derived, IsSolved}
 use Rattle.model_check.specs.Grounding.{IsQuestion, IsPiece, PieceFits, PiecesFit, IsRule, HasRule, Grounds}
@@ -202,7 +203,7 @@ one_round rules (Of q ∷ ys) m u =
     )
 
 -- what a rule gives from derived masks is derived
-pub gives_derived : (rules : List GroundRule) (r : GroundRule) (m : ℕ) → Member r rules → Unions (derived rules) r.pieces m → derived rules r.head m
+pub gives_derived : (rules : List GroundRule) (r : GroundRule) (m : ℕ) → IsMember r rules → Unions (derived rules) r.pieces m → derived rules r.head m
 gives_derived rules r m i u =
     let w = one_round rules r.pieces m u in
     (suc w.0, OneOf-map (λ y. y ≡ r) (Gives (round rules w.0) r.head m) (λ y e. (ap (λ z. z.head) e, subst (λ z. Unions (round rules w.0) z.pieces m) (sym e) w.1)) rules i)

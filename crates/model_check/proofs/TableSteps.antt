@@ -6,7 +6,7 @@ use Rattle.heap_formula.specs.Words.{Each, OneOf}
 use Rattle.model_check.specs.declared.ground.Piece.{Piece}
 use Rattle.model_check.specs.declared.ground.Piece.TheVariants.{Here, Of}
 use Rattle.model_check.specs.declared.ground.GroundRule.{GroundRule}
-use Rattle.model_check.specs.Constructive.{Member}
+use Rattle.list_facts.specs.Words.{IsMember}
 use Rattle.model_check.specs.Ground.{Unions, derived}
 use Rattle.model_check.specs.WideMasks.{HoldsMask}
 use Rattle.model_check.specs.Tables.{Row, Added, HasMask, AddsMask, AddsRule, IsDerived, IsClosed, AreClosed, HeadsFit, IsOld, IsFresh, AreSettled, AreBefore}
@@ -50,7 +50,7 @@ cases_eq : (a b : ℕ) → (a ≡ b) ⊎ ¬ (a ≡ b)
 cases_eq a b = elim (cases_Bool (nat_eq a b)) [ inl e ↦ inl (eqb-true a b e) | inr n ↦ inr (eqb-false a b n) ]
 
 -- a rule that stands at a place is one of the rules
-rule_member : (rules : List GroundRule) (i : ℕ) (r : GroundRule) → slice_get rules i ≡ Some r → Member r rules
+rule_member : (rules : List GroundRule) (i : ℕ) (r : GroundRule) → slice_get rules i ≡ Some r → IsMember r rules
 rule_member [] i r e = absurd (let z : None ≡ Some r = e in cc)
 rule_member (x ∷ rules) zero r e = let z : Some x ≡ Some r = e in inl cc
 rule_member (x ∷ rules) (suc i) r e = inr (rule_member rules i r e)

@@ -8,64 +8,65 @@ use Rattle.std.proofs.lemmas.Nat.{or_lt, pow_pos, pow_below, le_or_l, le_or_r, p
 use Rattle.std.proofs.lemmas.Nat.Bits.{bit_at_cat_low, bit_at_cat_high}
 use Rattle.model_check.specs.Questions.{lists_decide}
 use Rattle.model_check.specs.WideMasks.{number, IsNormal, AreApart, or_words}
-use Rattle.model_check.specs.MaskParts.{has_bit}
-use Rattle.model_check.proofs.MaskParts.{same_masks, has_and, has_or, has_zero}
+use Rattle.list_facts.specs.Bits.{is_one}
+use Rattle.model_check.proofs.MaskParts.{same_masks}
+use Rattle.list_facts.proofs.Bits.{one_and, one_or, one_zero}
 
 -- ---- a word before the others
 
-low_bit : (n w i : ℕ) → i < 64 → has_bit (n * 2 ^ 64 + w) i ≡ has_bit w i
+low_bit : (n w i : ℕ) → i < 64 → is_one (n * 2 ^ 64 + w) i ≡ is_one w i
 low_bit n w i l = ap (λ x. nat_eq x 1) (bit_at_cat_low n 64 w i l)
 
-high_bit : (n w i : ℕ) → w < 2 ^ 64 → 64 ≤ i → has_bit (n * 2 ^ 64 + w) i ≡ has_bit n (i - 64)
+high_bit : (n w i : ℕ) → w < 2 ^ 64 → 64 ≤ i → is_one (n * 2 ^ 64 + w) i ≡ is_one n (i - 64)
 high_bit n w i h l = ap (λ x. nat_eq x 1) (bit_at_cat_high n 64 w i h l)
 
 or_cat : (n w m v : ℕ) → w < 2 ^ 64 → v < 2 ^ 64 → bit_or (n * 2 ^ 64 + w) (m * 2 ^ 64 + v) ≡ bit_or n m * 2 ^ 64 + bit_or w v
 or_cat n w m v h k = same_masks _ _ bits
   where
-    bits : (i : ℕ) → has_bit (bit_or (n * 2 ^ 64 + w) (m * 2 ^ 64 + v)) i ≡ has_bit (bit_or n m * 2 ^ 64 + bit_or w v) i
+    bits : (i : ℕ) → is_one (bit_or (n * 2 ^ 64 + w) (m * 2 ^ 64 + v)) i ≡ is_one (bit_or n m * 2 ^ 64 + bit_or w v) i
     bits i = elim (cases_lt i 64) [
-      | inl l ↦ has_or (n * 2 ^ 64 + w) (m * 2 ^ 64 + v) i ∙ ap (λ b. b || has_bit (m * 2 ^ 64 + v) i) (low_bit n w i l) ∙ ap (λ b. has_bit w i || b) (low_bit m v i l) ∙ sym (has_or w v i) ∙ sym (low_bit (bit_or n m) (bit_or w v) i l)
+      | inl l ↦ one_or (n * 2 ^ 64 + w) (m * 2 ^ 64 + v) i ∙ ap (λ b. b || is_one (m * 2 ^ 64 + v) i) (low_bit n w i l) ∙ ap (λ b. is_one w i || b) (low_bit m v i l) ∙ sym (one_or w v i) ∙ sym (low_bit (bit_or n m) (bit_or w v) i l)
       | inr g ↦
-          has_or (n * 2 ^ 64 + w) (m * 2 ^ 64 + v) i ∙ ap (λ b. b || has_bit (m * 2 ^ 64 + v) i) (high_bit n w i h g) ∙ ap (λ b. has_bit n (i - 64) || b) (high_bit m v i k g) ∙ sym (has_or n m (i - 64)) ∙ sym (high_bit (bit_or n m) (bit_or w v) i (or_lt 64 w v h k) g)
+          one_or (n * 2 ^ 64 + w) (m * 2 ^ 64 + v) i ∙ ap (λ b. b || is_one (m * 2 ^ 64 + v) i) (high_bit n w i h g) ∙ ap (λ b. is_one n (i - 64) || b) (high_bit m v i k g) ∙ sym (one_or n m (i - 64)) ∙ sym (high_bit (bit_or n m) (bit_or w v) i (or_lt 64 w v h k) g)
     ]
 
 -- no bit in common, word by word
 and_cat_zero : (n w m v : ℕ) → w < 2 ^ 64 → v < 2 ^ 64 → bit_and w v ≡ 0 → bit_and n m ≡ 0 → bit_and (n * 2 ^ 64 + w) (m * 2 ^ 64 + v) ≡ 0
 and_cat_zero n w m v h k low high = same_masks _ _ bits
   where
-    bits : (i : ℕ) → has_bit (bit_and (n * 2 ^ 64 + w) (m * 2 ^ 64 + v)) i ≡ has_bit 0 i
+    bits : (i : ℕ) → is_one (bit_and (n * 2 ^ 64 + w) (m * 2 ^ 64 + v)) i ≡ is_one 0 i
     bits i = elim (cases_lt i 64) [
-      | inl l ↦ has_and (n * 2 ^ 64 + w) (m * 2 ^ 64 + v) i ∙ ap (λ b. b && has_bit (m * 2 ^ 64 + v) i) (low_bit n w i l) ∙ ap (λ b. has_bit w i && b) (low_bit m v i l) ∙ sym (has_and w v i) ∙ ap (λ x. has_bit x i) low
+      | inl l ↦ one_and (n * 2 ^ 64 + w) (m * 2 ^ 64 + v) i ∙ ap (λ b. b && is_one (m * 2 ^ 64 + v) i) (low_bit n w i l) ∙ ap (λ b. is_one w i && b) (low_bit m v i l) ∙ sym (one_and w v i) ∙ ap (λ x. is_one x i) low
       | inr g ↦
-          has_and (n * 2 ^ 64 + w) (m * 2 ^ 64 + v) i ∙ ap (λ b. b && has_bit (m * 2 ^ 64 + v) i) (high_bit n w i h g) ∙ ap (λ b. has_bit n (i - 64) && b) (high_bit m v i k g) ∙ sym (has_and n m (i - 64)) ∙ ap (λ x. has_bit x (i - 64)) high ∙ has_zero (i - 64) ∙ sym (has_zero i)
+          one_and (n * 2 ^ 64 + w) (m * 2 ^ 64 + v) i ∙ ap (λ b. b && is_one (m * 2 ^ 64 + v) i) (high_bit n w i h g) ∙ ap (λ b. is_one n (i - 64) && b) (high_bit m v i k g) ∙ sym (one_and n m (i - 64)) ∙ ap (λ x. is_one x (i - 64)) high ∙ one_zero (i - 64) ∙ sym (one_zero i)
     ]
 
 low_zero : (n w m v : ℕ) → w < 2 ^ 64 → v < 2 ^ 64 → bit_and (n * 2 ^ 64 + w) (m * 2 ^ 64 + v) ≡ 0 → bit_and w v ≡ 0
 low_zero n w m v h k z = same_masks _ _ bits
   where
-    none : (x y : ℕ) (i : ℕ) → x < 2 ^ 64 → 64 ≤ i → (has_bit x i && has_bit y i) ≡ false
-    none x y i l g = ap (λ b. b && has_bit y i) (no_bit x i l g)
+    none : (x y : ℕ) (i : ℕ) → x < 2 ^ 64 → 64 ≤ i → (is_one x i && is_one y i) ≡ false
+    none x y i l g = ap (λ b. b && is_one y i) (no_bit x i l g)
       where
-        no_bit : (x i : ℕ) → x < 2 ^ 64 → 64 ≤ i → has_bit x i ≡ false
-        no_bit x i l g = ap (λ b. has_bit b i) (let e : x ≡ 0 * 2 ^ 64 + x = omega arith in e) ∙ high_bit 0 x i l g ∙ has_zero (i - 64)
+        no_bit : (x i : ℕ) → x < 2 ^ 64 → 64 ≤ i → is_one x i ≡ false
+        no_bit x i l g = ap (λ b. is_one b i) (let e : x ≡ 0 * 2 ^ 64 + x = omega arith in e) ∙ high_bit 0 x i l g ∙ one_zero (i - 64)
 
-    bits : (i : ℕ) → has_bit (bit_and w v) i ≡ has_bit 0 i
+    bits : (i : ℕ) → is_one (bit_and w v) i ≡ is_one 0 i
     bits i = elim (cases_lt i 64) [
-      | inl l ↦ has_and w v i ∙ ap (λ b. b && has_bit v i) (sym (low_bit n w i l)) ∙ ap (λ b. has_bit (n * 2 ^ 64 + w) i && b) (sym (low_bit m v i l)) ∙ sym (has_and (n * 2 ^ 64 + w) (m * 2 ^ 64 + v) i) ∙ ap (λ x. has_bit x i) z
-      | inr g ↦ has_and w v i ∙ none w v i h g ∙ sym (has_zero i)
+      | inl l ↦ one_and w v i ∙ ap (λ b. b && is_one v i) (sym (low_bit n w i l)) ∙ ap (λ b. is_one (n * 2 ^ 64 + w) i && b) (sym (low_bit m v i l)) ∙ sym (one_and (n * 2 ^ 64 + w) (m * 2 ^ 64 + v) i) ∙ ap (λ x. is_one x i) z
+      | inr g ↦ one_and w v i ∙ none w v i h g ∙ sym (one_zero i)
     ]
 
 high_zero : (n w m v : ℕ) → w < 2 ^ 64 → v < 2 ^ 64 → bit_and (n * 2 ^ 64 + w) (m * 2 ^ 64 + v) ≡ 0 → bit_and n m ≡ 0
 high_zero n w m v h k z = same_masks _ _ bits
   where
-    bits : (i : ℕ) → has_bit (bit_and n m) i ≡ has_bit 0 i
+    bits : (i : ℕ) → is_one (bit_and n m) i ≡ is_one 0 i
     bits i =
         let j : ℕ = i + 64 in
         let g : 64 ≤ j = omega arith in
         let e : j - 64 ≡ i = omega arith in
-        let a : has_bit (n * 2 ^ 64 + w) j ≡ has_bit n i = high_bit n w j h g ∙ ap (has_bit n) e in
-        let b : has_bit (m * 2 ^ 64 + v) j ≡ has_bit m i = high_bit m v j k g ∙ ap (has_bit m) e in
-        has_and n m i ∙ ap (λ x. x && has_bit m i) (sym a) ∙ ap (λ x. has_bit (n * 2 ^ 64 + w) j && x) (sym b) ∙ sym (has_and (n * 2 ^ 64 + w) (m * 2 ^ 64 + v) j) ∙ ap (λ x. has_bit x j) z ∙ has_zero j ∙ sym (has_zero i)
+        let a : is_one (n * 2 ^ 64 + w) j ≡ is_one n i = high_bit n w j h g ∙ ap (is_one n) e in
+        let b : is_one (m * 2 ^ 64 + v) j ≡ is_one m i = high_bit m v j k g ∙ ap (is_one m) e in
+        one_and n m i ∙ ap (λ x. x && is_one m i) (sym a) ∙ ap (λ x. is_one (n * 2 ^ 64 + w) j && x) (sym b) ∙ sym (one_and (n * 2 ^ 64 + w) (m * 2 ^ 64 + v) j) ∙ ap (λ x. is_one x j) z ∙ one_zero j ∙ sym (one_zero i)
 
 -- ---- words
 
@@ -121,7 +122,7 @@ pub apart_number : (xs ys : List ℕ) → IsNormal xs → IsNormal ys → AreApa
 apart_number [] ys n m = (λ a. zero_and (number ys), λ z. tt)
   where
     zero_and : (b : ℕ) → bit_and 0 b ≡ 0
-    zero_and b = same_masks _ _ (λ i. has_and 0 b i ∙ ap (λ x. x && has_bit b i) (has_zero i) ∙ sym (has_zero i))
+    zero_and b = same_masks _ _ (λ i. one_and 0 b i ∙ ap (λ x. x && is_one b i) (one_zero i) ∙ sym (one_zero i))
 apart_number (x ∷ xs) ys n m =
     let r = apart_number xs (drop 1 ys) n.2 (rest_normal ys m) in
     let s = split_number ys in

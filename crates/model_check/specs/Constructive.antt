@@ -7,23 +7,20 @@ use Rattle.heap_formula.specs.declared.atoms.Spatial.{Spatial}
 use Rattle.heap_formula.specs.declared.atoms.Spatial.TheVariants.{Cell, Pred}
 use Rattle.heap_formula.specs.Symbolic.{SymbolicHeap}
 use Rattle.heap_formula.specs.Definitions.{Definition}
-use Rattle.heap_formula.specs.Words.{Each, OneOf}
+use Rattle.heap_formula.specs.Words.{Each}
 use Rattle.heap_formula.specs.Values.{Stack, value, values}
 use Rattle.heap_formula.specs.Cells.{Cells, cell_at}
 use Rattle.heap_formula.specs.Meaning.{PureHolds}
 use Rattle.heap_formula.specs.Closedness.{InHeap}
-
--- x stands in the list
-abbrev pub Member : {X : Type 0} → X → List X → Type 0
-Member x xs = OneOf (λ y. y ≡ x) xs
+use Rattle.list_facts.specs.Words.{IsMember}
 
 -- the known terms of a formula: nil and the universals, the other side of an equation with a known side, and the fields of a cell with a known address
 pub data Known (a : SymbolicHeap) : Term → Type 0 where
   nil : Known a Nil
   universal : (n : ℕ) → Known a (Univ n)
-  right_side : (t u : Term) → Member (Eq t u) a.pure → Known a t → Known a u
-  left_side : (t u : Term) → Member (Eq t u) a.pure → Known a u → Known a t
-  field : (t u : Term) (ts : List Term) → Member (Cell t ts) a.spatial → Member u ts → Known a t → Known a u
+  right_side : (t u : Term) → IsMember (Eq t u) a.pure → Known a t → Known a u
+  left_side : (t u : Term) → IsMember (Eq t u) a.pure → Known a u → Known a t
+  field : (t u : Term) (ts : List Term) → IsMember (Cell t ts) a.spatial → IsMember u ts → Known a t → Known a u
 
 -- each term of the formula is known
 abbrev pub IsConstructive : SymbolicHeap → Type 0

@@ -1,5 +1,5 @@
 -- The values that a heap forces on the locals of a formula.
-use Rattle.std.specs.Prelude.{◌≡◌, ℕ, zero, suc, ◌+◌, List, [], ◌∷◌, ◌++◌, ◌⊎◌, ◌≤◌, length, Bool, true, false, map, Option, Some, None, slice_get, slice_index, nat_eq, if◌then◌else◌, MatchOption, Vec}
+use Rattle.std.specs.Prelude.{◌≡◌, ℕ, ◌+◌, List, [], ◌∷◌, ◌++◌, ◌⊎◌, ◌≤◌, length, Bool, true, false, map, Option, Some, None, slice_get, slice_index, nat_eq, if◌then◌else◌, MatchOption, Vec}
 use Rattle.heap_formula.specs.declared.terms.Term.{Term}
 use Rattle.heap_formula.specs.declared.terms.Term.TheVariants.{Nil, Univ, Exist}
 use Rattle.heap_formula.specs.Words.{Each, max_of}
@@ -12,6 +12,7 @@ use Rattle.model_check.specs.declared.locals.Forced.{Forced}
 use Rattle.model_check.specs.declared.locals.Forced.TheVariants.{Unknown, Value, Absent}
 use Rattle.model_check.specs.Steps.{source, target}
 use Rattle.std.specs.declared.alloc.Global.{Global}
+use Rattle.list_facts.specs.Words.{tabulated}
 
 -- the value of a local, if it has one
 abbrev pub local_value : List Local → ℕ → Option ℕ
@@ -27,13 +28,9 @@ abbrev pub or_zero : Option ℕ → ℕ
 or_zero None = 0
 or_zero (Some v) = v
 
-abbrev pub first_of : (ℕ → ℕ) → ℕ → List ℕ
-first_of f zero = []
-first_of f (suc k) = f zero ∷ first_of (λ i. f (suc i)) k
-
 -- the locals' values as a stack
 abbrev pub stack_of : List Local → Stack
-stack_of ls = first_of (λ n. or_zero (local_value ls n)) (max_of (map (λ l. l.number) ls) + 1)
+stack_of ls = tabulated (λ n. or_zero (local_value ls n)) (max_of (map (λ l. l.number) ls) + 1)
 
 -- a field of what stands at an address
 abbrev pub field_of : Option (List ℕ) → ℕ → Option ℕ

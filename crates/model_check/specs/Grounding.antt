@@ -12,7 +12,8 @@ use Rattle.model_check.specs.declared.ground.Piece.{Piece}
 use Rattle.model_check.specs.declared.ground.Piece.TheVariants.{Here, Of}
 use Rattle.model_check.specs.declared.ground.GroundRule.{GroundRule}
 use Rattle.model_check.specs.Questions.{Question}
-use Rattle.model_check.specs.Constructive.{Member, Fits}
+use Rattle.model_check.specs.Constructive.{Fits}
+use Rattle.list_facts.specs.Words.{IsMember}
 use Rattle.model_check.specs.MaskParts.{place, Covers}
 
 -- the question has this number
@@ -79,7 +80,7 @@ pub record AskedPieces (ns : List ℕ) (old new : List Question) (s e : Stack) (
 
 -- a cell atom's address is in the list
 abbrev pub IsListed : List ℕ → Stack → Stack → Spatial → Type 0
-IsListed ns s e (Cell t ts) = Member (value s e t) ns
+IsListed ns s e (Cell t ts) = IsMember (value s e t) ns
 IsListed ns s e (Pred p ts) = Unit {0}
 
 -- after a case at given values: each choice of locals that fits has its rule, and what was added is such a rule

@@ -1,22 +1,19 @@
 -- Parts of a heap as sets of bits.
 use Rattle.std.specs.Prelude.{◌≡◌, ℕ, zero, suc, ◌+◌, ◌*◌, ◌^◌, List, [], ◌∷◌, Bool, cond, if◌then◌else◌, nat_eq, ◌&&◌, slice_index, length, Some}
-use Rattle.std.specs.Int.{bit_at}
 use Rattle.std.specs.Option.{is_some}
 use Rattle.std.specs.FinMap.{retain_keys}
 use Rattle.heap_formula.specs.Cells.{Cells, cell_at}
-use Rattle.model_check.specs.Constructive.{Member}
+use Rattle.list_facts.specs.Words.{IsMember}
+use Rattle.list_facts.specs.Bits.{is_one}
 
 -- the first place of an address, the length where it does not stand
 abbrev pub place : List ℕ → ℕ → ℕ
 place [] a = 0
 place (x ∷ xs) a = if nat_eq x a then 0 else suc (place xs a)
 
-abbrev pub has_bit : ℕ → ℕ → Bool
-has_bit m i = nat_eq (bit_at m i) 1
-
 -- the part of the heap at the places of the mask's bits
 abbrev pub part_of : List ℕ → Cells → ℕ → Cells
-part_of addresses h m = retain_keys h (λ a. has_bit m (place addresses a))
+part_of addresses h m = retain_keys h (λ a. is_one m (place addresses a))
 
 -- the number below 2 ^ k with these bits
 abbrev pub from_bits : (ℕ → Bool) → ℕ → ℕ
@@ -32,4 +29,4 @@ mask_of addresses h = from_bits (stands addresses h) (length addresses)
 
 -- each address of the heap stands in the list
 pub record Covers (addresses : List ℕ) (h : Cells) : Type 0 where
-  pub listed : (a : ℕ) (vs : List ℕ) → cell_at h a ≡ Some vs → Member a addresses
+  pub listed : (a : ℕ) (vs : List ℕ) → cell_at h a ≡ Some vs → IsMember a addresses

@@ -11,7 +11,7 @@ use Rattle.heap_formula.specs.Words.{Each}
 use Rattle.heap_formula.specs.Closedness.{IsUniversal}
 use Rattle.model_check.specs.declared.known.Step.{Step}
 use Rattle.model_check.specs.declared.known.Step.TheVariants.{Same, Field}
-use Rattle.model_check.specs.Constructive.{Member}
+use Rattle.list_facts.specs.Words.{IsMember}
 
 abbrev pub source : Step → Term
 source (Same t u) = t
@@ -25,12 +25,12 @@ target (Field t k u) = u
 abbrev pub IsKnownIn : List Term → Term → Type 0
 IsKnownIn ks Nil = Unit {0}
 IsKnownIn ks (Univ n) = Unit {0}
-IsKnownIn ks (Exist n) = Member (Exist n) ks
+IsKnownIn ks (Exist n) = IsMember (Exist n) ks
 
 -- what steps lead to from nil and the universals
 pub data Learned (steps : List Step) : Term → Type 0 where
   start : (t : Term) → IsUniversal t → Learned steps t
-  taken : (step : Step) → Member step steps → Learned steps (source step) → Learned steps (target step)
+  taken : (step : Step) → IsMember step steps → Learned steps (source step) → Learned steps (target step)
 
 abbrev pub AreLearned : List Step → List Term → Type 0
 AreLearned steps ks = Each (Learned steps) ks

@@ -2,7 +2,8 @@
 ghost use Rattle.std.specs.Prelude.{◌≡◌, ◌<◌, ◌≤◌, ◌++◌, ◌↔◌, IsTrue, IfOk, OnOk, vec_len};
 ghost use Rattle.heap_formula.specs.Words.{Each};
 ghost use Rattle.heap_formula.specs.Closedness.{InPure, InSpatial, InHeap};
-ghost use Rattle.model_check.specs.Constructive.{Member, IsConstructive};
+ghost use Rattle.model_check.specs.Constructive.{IsConstructive};
+ghost use Rattle.list_facts.specs.Words.{IsMember};
 ghost use Rattle.model_check.specs.Steps.{source, target, IsKnownIn, Learned, AreLearned, IsTaken, Learns, AllTaken, pure_steps, pures_steps, field_steps, spatial_steps, spatials_steps, steps_of};
 
 use cyc_memory::OutOfMemory;
@@ -17,7 +18,7 @@ pub enum Step {
 }
 
 fn contains_term(terms: &[Term], term: Term) -> bool
-    ensures { IsTrue result ↔ Member term terms.now }
+    ensures { IsTrue result ↔ IsMember term terms.now }
 {
     for other in terms {
         if *other == term {

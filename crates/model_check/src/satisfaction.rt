@@ -3,7 +3,8 @@ ghost use Rattle.std.specs.Prelude.{◌≡◌, ℕ, ◌↔◌, IsTrue, IfOk, Boo
 ghost use Rattle.std.specs.Option.{is_some};
 ghost use Rattle.heap_formula.specs.Cells.{IsHeap, cell_at};
 ghost use Rattle.heap_formula.specs.Meaning.{Satisfies};
-ghost use Rattle.model_check.specs.Constructive.{Member, IsConstructive, AreConstructive, IsOnly};
+ghost use Rattle.model_check.specs.Constructive.{IsConstructive, AreConstructive, IsOnly};
+ghost use Rattle.list_facts.specs.Words.{IsMember};
 ghost use Rattle.model_check.specs.ForcedLocals.{stack_of};
 ghost use Rattle.model_check.specs.WideMasks.{number, HoldsMask};
 ghost use Rattle.model_check.specs.MaskParts.{place, from_bits, stands, mask_of, Covers};
@@ -22,7 +23,7 @@ use std::alloc::Global;
 
 /// The addresses, each with its place in this order.
 fn places_of(alloc: Global, addresses: &[u64]) -> Result<IndexSet<u64>, OutOfMemory>
-    ensures { IfOk result (λ p. (a : ℕ) → Member a addresses.now → Member a p.keys) }
+    ensures { IfOk result (λ p. (a : ℕ) → IsMember a addresses.now → IsMember a p.keys) }
 {
     let mut places = IndexSet::new(alloc);
     for address in addresses {

@@ -8,7 +8,7 @@ use Rattle.heap_formula.specs.declared.judgements.Judgement.{Judgement}
 use Rattle.heap_formula.specs.declared.judgements.NodeEdge.{NodeEdge}
 use Rattle.heap_formula.specs.declared.judgements.Pair.{Pair}
 use Rattle.heap_formula.specs.declared.judgements.Premise.{Premise}
-use Rattle.heap_formula.specs.Definitions.{Definition}
+use Rattle.heap_formula.specs.Definitions.{Definition, HasFewCases}
 use Rattle.heap_formula.specs.Words.{Each}
 use Rattle.heap_formula.specs.Meaning.{Stages}
 use Rattle.heap_formula.specs.Judgements.{HoldsAt, antecedent}
@@ -24,7 +24,7 @@ use Rattle.proof_graph.specs.Traces.{positions_of, trace_pair, graph_edge}
 use Rattle.node_reasons.proofs.FewEdges.{few_edges}
 use Rattle.node_reasons.proofs.Reasons.{Leads, by_reason}
 use Rattle.node_reasons.specs.Answers.{targets_of}
-use Rattle.node_reasons.specs.Graphs.{graph_node, graph_of, AreReadable, HasFewCases}
+use Rattle.node_reasons.specs.Graphs.{graph_node, graph_of, AreReadable}
 pub use Rattle.proof_graph.proofs.Joined.{Mapped, mapped_at}
 use Rattle.heap_formula.proofs.Members.{each_from}
 use Rattle.proof_graph.proofs.Places.{place_of, places_set}

@@ -1,6 +1,6 @@
 -- The nodes of a proof as a trace graph.
 use Rattle.std.specs.Prelude.{◌≡◌, ◌≤◌, ℕ, length, List, map, Some, None, slice_get}
-use Rattle.cyc_limits.specs.declared.TheConstants.{MOST_CASES, MOST_SPATIAL}
+use Rattle.cyc_limits.specs.declared.TheConstants.{MOST_SPATIAL}
 use Rattle.heap_formula.specs.declared.commands.Command.{Command}
 use Rattle.heap_formula.specs.Definitions.{Definition}
 use Rattle.heap_formula.specs.Judgements.{antecedent}
@@ -24,10 +24,6 @@ AreRight most ds lines nodes = (v : ℕ) (node : Node) → slice_get nodes v ≡
 -- no existential stands in an antecedent, nor in a link's substitution
 abbrev pub AreReadable : List Node → Type 0
 AreReadable nodes = (v : ℕ) (node : Node) → slice_get nodes v ≡ Some node → IsReadable node.judgement node.reason
-
--- a predicate has at most sixteen cases
-abbrev pub HasFewCases : Definition → Type 0
-HasFewCases d = length d.cases ≤ MOST_CASES
 
 -- the antecedents have at most 32 spatial atoms
 abbrev pub HasSmallHeaps : List Node → Type 0

@@ -8,16 +8,18 @@ use Rattle.heap_formula.specs.Symbolic.{SymbolicHeap}
 use Rattle.heap_formula.specs.Words.{Each}
 use Rattle.pair_family.specs.BasePairs.{BasePair, parameter}
 use Rattle.pair_family.specs.Classes.{class_of}
-use Rattle.pair_family.specs.Combination.{Two, Choice, next, each_two, against_nil, cell_differences, any, upto, pairs_below, is_between, is_in_class, is_least, Facts, all_differ, both, AreConsistent, said, pure_facts, atom_facts, list_facts, combination}
+use Rattle.pair_family.specs.Combination.{Two, Choice, next, each_two, against_nil, cell_differences, upto, pairs_below, is_between, is_in_class, is_least, Facts, all_differ, both, AreConsistent, said, pure_facts, atom_facts, list_facts, combination}
 use Rattle.pair_family.specs.States.{Families, IsChosenBy, GivesBy}
 use Rattle.pair_family.specs.Folding.{spoken, Frame, Frames, next_frames, last_frame, IsKept, AreFrames, said_in, with_atom, FoldsTo}
-use Rattle.pair_family.proofs.Lists.{In, upto_in, pairs_in, at_each, each_at, in_append, map_in}
+use Rattle.pair_family.proofs.Lists.{upto_in, pairs_in, at_each, each_at, in_append, map_in}
+use Rattle.list_facts.specs.Words.{IsMember}
 use Rattle.pair_family.proofs.Two.{two_in}
 use Rattle.pair_family.proofs.Classes.{classes_have, classes_least}
 use Rattle.pair_family.proofs.Scope.{atom_equations_in, atom_differences_in, atom_addresses_in}
 use Rattle.pair_family.proofs.Fold.{filter_same, any_same, both_first, whole_folded, folded_whole, said_same}
 use Rattle.formula_facts.proofs.AllMembers.{each_front}
 use Rattle.std.proofs.lemmas.List.{append-nil}
+use Rattle.std.specs.List.{list_any}
 
 pub append_three : {X : Type 0} (xs ys zs : List X) → xs ++ (ys ++ zs) ≡ (xs ++ ys) ++ zs
 append_three [] ys zs = refl
@@ -46,7 +48,7 @@ first_consistent x y c =
 
 -- an atom's facts speak of its terms and nil
 module _ (Q : Term → Type 0) (nil : Q Nil) (b : BasePair) (x : Spatial) (inside : Each Q (spoken x)) where
-  all_differ_in : (q : Two) → In q (all_differ (atom_facts b x)) → Q q.0 × Q q.1
+  all_differ_in : (q : Two) → IsMember q (all_differ (atom_facts b x)) → Q q.0 × Q q.1
   all_differ_in q m =
       let cs = (atom_facts b x).cells in
       elim (in_append q (atom_facts b x).differ (cell_differences cs) m) [
@@ -108,12 +110,12 @@ pub said_at : (k : ℕ) (at to : ℕ → Term) (x : Facts) → ((i : ℕ) → i 
 said_at k at to x e =
     let f = class_of x.equal in
     let s = filter_same (λ q. nat_eq (f (at q.0)) (f (at q.1))) (λ q. nat_eq (f (to q.0)) (f (to q.1))) (pairs_below (suc k)) (λ q m. let l = pairs_in (suc k) q m in let a = e q.0 (omega arith) in let b = e q.1 (omega arith) in λ z. nat_eq (f (a z)) (f (b z))) in
-    let d = filter_same (λ q. any (is_between f at q.0 q.1) (all_differ x)) (λ q. any (is_between f to q.0 q.1) (all_differ x)) (pairs_below (suc k)) (λ q m. let l = pairs_in (suc k) q m in let a = e q.0 (omega arith) in let b = e q.1 (omega arith) in λ z. any (λ p. (nat_eq (f p.0) (f (a z)) && nat_eq (f p.1) (f (b z))) || (nat_eq (f p.0) (f (b z)) && nat_eq (f p.1) (f (a z)))) (all_differ x)) in
-    let c = filter_same (λ i. is_least f at i && any (is_in_class f at i) x.cells) (λ i. is_least f to i && any (is_in_class f to i) x.cells) (upto (suc k)) (λ i m.
+    let d = filter_same (λ q. list_any (is_between f at q.0 q.1) (all_differ x)) (λ q. list_any (is_between f to q.0 q.1) (all_differ x)) (pairs_below (suc k)) (λ q m. let l = pairs_in (suc k) q m in let a = e q.0 (omega arith) in let b = e q.1 (omega arith) in λ z. list_any (λ p. (nat_eq (f p.0) (f (a z)) && nat_eq (f p.1) (f (b z))) || (nat_eq (f p.0) (f (b z)) && nat_eq (f p.1) (f (a z)))) (all_differ x)) in
+    let c = filter_same (λ i. is_least f at i && list_any (is_in_class f at i) x.cells) (λ i. is_least f to i && list_any (is_in_class f to i) x.cells) (upto (suc k)) (λ i m.
     let l = upto_in (suc k) i m in
     let a = e i (omega arith) in
     let least = any_same (λ j. is_in_class f at i (at j)) (λ j. is_in_class f to i (to j)) (upto i) (λ j n. let l' = upto_in i j n in let b = e j (omega arith) in λ z. nat_eq (f (b z)) (f (a z))) in
-    λ z. not (least z) && any (λ t. nat_eq (f t) (f (a z))) x.cells) in
+    λ z. not (least z) && list_any (λ t. nat_eq (f t) (f (a z))) x.cells) in
     λ z. record { same = s z; differ = d z; cells = c z }
 
 -- a frame of nil and the first k parameters

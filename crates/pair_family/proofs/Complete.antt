@@ -16,11 +16,12 @@ use Rattle.heap_formula.specs.Meaning.{Family, PureHolds, AtomHolds, SpatialHold
 use Rattle.std.specs.FinMap.{empty, get-insert}
 use Rattle.std.specs.Cmp.{nat_cmp_total, eq_by_cmp_equiv}
 use Rattle.heap_formula.proofs.StageLaws.{holds_within}
-use Rattle.pair_family.specs.BasePairs.{BasePair, element, entry, parameter, Respects}
+use Rattle.pair_family.specs.BasePairs.{BasePair, element, entry, parameter, Respects, no_pair}
 use Rattle.pair_family.specs.Classes.{class_of}
 use Rattle.pair_family.specs.Combination.{Two, Choice, pure_equations, pure_differences, atom_equations, atom_differences, atom_addresses, spatial_equations, spatial_differences, addresses, each_two, cell_differences, against_nil, IsConsistent, projection, combination, all_differ}
 use Rattle.pair_family.specs.Family.{PairFamily, IsChosenAt, IsChosen, CaseGives, arity_of, family_at, InFamily, IsCombinable}
-use Rattle.pair_family.proofs.Lists.{In, at_each, each_at, in_left, in_right, in_append, in_map, map_in}
+use Rattle.pair_family.proofs.Lists.{at_each, each_at, in_left, in_right, in_append, in_map, map_in}
+use Rattle.list_facts.specs.Words.{IsMember}
 use Rattle.pair_family.proofs.Two.{two_append, map_two}
 use Rattle.pair_family.proofs.Classes.{classes_least}
 use Rattle.pair_family.proofs.Joining.{Has, both_has, joins_both, joins_left, joins_right}
@@ -41,9 +42,9 @@ pub record Known (M : BasePair → Type 0) (vs : List ℕ) (h : Cells) : Type 0 
   pub pair : BasePair
   pub member : M pair
   pub respects : Respects pair vs
-  pub has : (c : ℕ) → In c pair.cells → Has (cell_at h (entry vs c))
-  pub positive : (c : ℕ) → In c pair.cells → 0 < entry vs c
-  pub apart : (q : ℕ × ℕ) → In q (each_two pair.cells) → entry vs q.0 ≢ entry vs q.1
+  pub has : (c : ℕ) → IsMember c pair.cells → Has (cell_at h (entry vs c))
+  pub positive : (c : ℕ) → IsMember c pair.cells → 0 < entry vs c
+  pub apart : (q : ℕ × ℕ) → IsMember q (each_two pair.cells) → entry vs q.0 ≢ entry vs q.1
 
 known_map : {M N : BasePair → Type 0} {vs : List ℕ} {h : Cells} → ((b : BasePair) → M b → N b) → Known M vs h → Known N vs h
 known_map f a = record { pair = a.pair; member = f a.pair a.member; respects = a.respects; has = a.has; positive = a.positive; apart = a.apart }
@@ -52,24 +53,21 @@ known_map f a = record { pair = a.pair; member = f a.pair a.member; respects = a
 record KnownAtom (G : PairFamily) (s e : Stack) (x : Spatial) (h : Cells) : Type 0 where
   pair : BasePair
   member : IsChosenAt G pair x
-  equal : (q : Two) → In q (atom_equations pair x) → value s e q.0 ≡ value s e q.1
-  differ : (q : Two) → In q (atom_differences pair x) → value s e q.0 ≢ value s e q.1
-  has : (t : Term) → In t (atom_addresses pair x) → Has (cell_at h (value s e t))
-  positive : (t : Term) → In t (atom_addresses pair x) → 0 < value s e t
-  apart : (q : Two) → In q (each_two (atom_addresses pair x)) → value s e q.0 ≢ value s e q.1
+  equal : (q : Two) → IsMember q (atom_equations pair x) → value s e q.0 ≡ value s e q.1
+  differ : (q : Two) → IsMember q (atom_differences pair x) → value s e q.0 ≢ value s e q.1
+  has : (t : Term) → IsMember t (atom_addresses pair x) → Has (cell_at h (value s e t))
+  positive : (t : Term) → IsMember t (atom_addresses pair x) → 0 < value s e t
+  apart : (q : Two) → IsMember q (each_two (atom_addresses pair x)) → value s e q.0 ≢ value s e q.1
 
 -- and of a spatial list
 pub record KnownList (G : PairFamily) (s e : Stack) (xs : List Spatial) (h : Cells) : Type 0 where
   pub chosen : Choice
   pub member : IsChosen G chosen xs
-  pub equal : (q : Two) → In q (spatial_equations chosen xs) → value s e q.0 ≡ value s e q.1
-  pub differ : (q : Two) → In q (spatial_differences chosen xs) → value s e q.0 ≢ value s e q.1
-  pub has : (t : Term) → In t (addresses chosen xs) → Has (cell_at h (value s e t))
-  pub positive : (t : Term) → In t (addresses chosen xs) → 0 < value s e t
-  pub apart : (q : Two) → In q (each_two (addresses chosen xs)) → value s e q.0 ≢ value s e q.1
-
-empty_pair : BasePair
-empty_pair = record { same = []; differ = []; cells = [] }
+  pub equal : (q : Two) → IsMember q (spatial_equations chosen xs) → value s e q.0 ≡ value s e q.1
+  pub differ : (q : Two) → IsMember q (spatial_differences chosen xs) → value s e q.0 ≢ value s e q.1
+  pub has : (t : Term) → IsMember t (addresses chosen xs) → Has (cell_at h (value s e t))
+  pub positive : (t : Term) → IsMember t (addresses chosen xs) → 0 < value s e t
+  pub apart : (q : Two) → IsMember q (each_two (addresses chosen xs)) → value s e q.0 ≢ value s e q.1
 
 abbrev pub cons_choice : BasePair → Choice → Choice
 cons_choice b bs zero = b
@@ -83,7 +81,7 @@ one_cell_has a vs h e =
 module _ (F : Family) (G : PairFamily) (K : (p : ℕ) (vs : List ℕ) (h : Cells) → F p vs h → Known (G p) vs h) (s e : Stack) where
   known_atom : (x : Spatial) (h : Cells) → AtomHolds F s e x h → KnownAtom G s e x h
   known_atom (Cell t ts) h a = record {
-    pair = empty_pair;
+    pair = no_pair;
     member = tt;
     equal = λ q m. absurd m;
     differ = λ q m. absurd m;
@@ -111,7 +109,7 @@ module _ (F : Family) (G : PairFamily) (K : (p : ℕ) (vs : List ℕ) (h : Cells
 
   pub known_list : (xs : List Spatial) (h : Cells) → SpatialHolds (λ _. F) s e xs h → KnownList G s e xs h
   known_list [] h a = record {
-    chosen = λ k. empty_pair;
+    chosen = λ k. no_pair;
     member = tt;
     equal = λ q m. absurd m;
     differ = λ q m. absurd m;
@@ -141,13 +139,13 @@ module _ (F : Family) (G : PairFamily) (K : (p : ℕ) (vs : List ℕ) (h : Cells
         ];
       }
 
-  pure_equal : (ps : List Pure) → Each (PureHolds s e) ps → (q : Two) → In q (pure_equations ps) → value s e q.0 ≡ value s e q.1
+  pure_equal : (ps : List Pure) → Each (PureHolds s e) ps → (q : Two) → IsMember q (pure_equations ps) → value s e q.0 ≡ value s e q.1
   pure_equal [] a q m = absurd m
   pure_equal (Eq t u ∷ ps) a q (inl r) = subst (λ z. value s e z.0 ≡ value s e z.1) r a.0
   pure_equal (Eq t u ∷ ps) a q (inr m) = pure_equal ps a.1 q m
   pure_equal (Neq t u ∷ ps) a q m = pure_equal ps a.1 q m
 
-  pure_differ : (ps : List Pure) → Each (PureHolds s e) ps → (q : Two) → In q (pure_differences ps) → value s e q.0 ≢ value s e q.1
+  pure_differ : (ps : List Pure) → Each (PureHolds s e) ps → (q : Two) → IsMember q (pure_differences ps) → value s e q.0 ≢ value s e q.1
   pure_differ [] a q m = absurd m
   pure_differ (Eq t u ∷ ps) a q m = pure_differ ps a.1 q m
   pure_differ (Neq t u ∷ ps) a q (inl r) = subst (λ z. value s e z.0 ≢ value s e z.1) r a.0
@@ -157,9 +155,9 @@ module _ (F : Family) (G : PairFamily) (K : (p : ℕ) (vs : List ℕ) (h : Cells
   record KnownHeap (a : SymbolicHeap) (h : Cells) : Type 0 where
     chosen : Choice
     member : IsChosen G chosen a.spatial
-    equal : (q : Two) → In q ((combination chosen a).equal) → value s e q.0 ≡ value s e q.1
-    differ : (q : Two) → In q (all_differ (combination chosen a)) → value s e q.0 ≢ value s e q.1
-    has : (t : Term) → In t (addresses chosen a.spatial) → Has (cell_at h (value s e t))
+    equal : (q : Two) → IsMember q ((combination chosen a).equal) → value s e q.0 ≡ value s e q.1
+    differ : (q : Two) → IsMember q (all_differ (combination chosen a)) → value s e q.0 ≢ value s e q.1
+    has : (t : Term) → IsMember t (addresses chosen a.spatial) → Has (cell_at h (value s e t))
 
   known_heap : (a : SymbolicHeap) (h : Cells) → Holds (λ _. F) s e a h → KnownHeap a h
   known_heap a h o =
@@ -200,8 +198,8 @@ known_case F G K n vs h a o =
     let cs = addresses k.chosen a.spatial in
     let v = value vs o.0 in
     let J = joined F G K vs o.0 a h k in
-    let against = λ (t : Term) (m : In t cs). in_right (t, Nil) (combination k.chosen a).differ (cell_differences cs) (in_left (t, Nil) (against_nil cs) (each_two cs) (in_map (λ t. (t, Nil)) t cs m)) in
-    let two = λ (q : Two) (m : In q (each_two cs)). k.differ q (in_right q (combination k.chosen a).differ (cell_differences cs) (in_right q (against_nil cs) (each_two cs) m)) in
+    let against = λ (t : Term) (m : IsMember t cs). in_right (t, Nil) (combination k.chosen a).differ (cell_differences cs) (in_left (t, Nil) (against_nil cs) (each_two cs) (in_map (λ t. (t, Nil)) t cs m)) in
+    let two = λ (q : Two) (m : IsMember q (each_two cs)). k.differ q (in_right q (combination k.chosen a).differ (cell_differences cs) (in_right q (against_nil cs) (each_two cs) m)) in
     let is = parameter_value vs o.0 in
     record {
       pair = projection n k.chosen a;

@@ -2,14 +2,16 @@
 use Rattle.std.proofs.Common.{◌≡◌, ◌≢◌, ℕ, zero, suc, ◌+◌, ◌<◌, ◌≤◌, max, ◌⊎◌, inl, inr, List, [], ◌∷◌, ◌++◌, map, filter, arith, Bool, true, false, ◌||◌, ◌&&◌, not, sym, refl, ap, ◌∙◌, subst}
 use Rattle.std.specs.Prelude.{nat_eq}
 use Rattle.std.proofs.lemmas.Bool.{cases_Bool, cases_lt, or_cases, or_left, or_right, and_parts, and_from, eqb-true, eq-eqb}
+use Rattle.std.specs.List.{list_any}
 use Rattle.heap_formula.specs.declared.terms.Term.{Term}
 use Rattle.heap_formula.specs.declared.terms.Term.TheVariants.{Nil}
 use Rattle.heap_formula.specs.Words.{Each}
 use Rattle.pair_family.specs.BasePairs.{BasePair}
 use Rattle.pair_family.specs.Classes.{class_of}
-use Rattle.pair_family.specs.Combination.{Two, any, upto, pairs_below, each_two, against_nil, cell_differences, is_between, is_in_class, is_least, Facts, all_differ, both, AreConsistent, said}
+use Rattle.pair_family.specs.Combination.{Two, upto, pairs_below, each_two, against_nil, cell_differences, is_between, is_in_class, is_least, Facts, all_differ, both, AreConsistent, said}
 use Rattle.pair_family.specs.Folding.{two_at, stated, IsOneOf}
-use Rattle.pair_family.proofs.Lists.{In, at_each, each_at, in_left, in_right, in_append, in_map, map_in, in_filter, filter_in, any_in, in_any, upto_in, in_pairs, pairs_in}
+use Rattle.pair_family.proofs.Lists.{at_each, each_at, in_left, in_right, in_append, in_map, map_in, in_filter, filter_in, any_in, in_any, upto_in, in_pairs, pairs_in}
+use Rattle.list_facts.specs.Words.{IsMember}
 use Rattle.pair_family.proofs.Two.{two_append, append_two_left, append_two_right, append_two_cross, map_two}
 use Rattle.pair_family.proofs.Classes.{classes_have, classes_least}
 use Rattle.pair_family.proofs.Kept.{kept_differ, kept_cells_apart, cell_class, cells_two}
@@ -20,7 +22,7 @@ use Rattle.list_facts.proofs.Tests.{bool_same}
 -- ---- the differences of two parts together
 
 module _ (x y : Facts) where
-  pub both_split : (q : Two) → In q (all_differ (both x y)) → In q (all_differ x) ⊎ (In q (all_differ y) ⊎ (In q.0 x.cells × In q.1 y.cells))
+  pub both_split : (q : Two) → IsMember q (all_differ (both x y)) → IsMember q (all_differ x) ⊎ (IsMember q (all_differ y) ⊎ (IsMember q.0 x.cells × IsMember q.1 y.cells))
   both_split q m =
       elim (in_append q (x.differ ++ y.differ) (cell_differences (x.cells ++ y.cells)) m) [
         | inl i ↦ elim (in_append q x.differ y.differ i) [
@@ -31,8 +33,8 @@ module _ (x y : Facts) where
           | inl j ↦
               (let r = map_in (λ t. (t, Nil)) q (x.cells ++ y.cells) j in
               elim (in_append r.0 x.cells y.cells r.1) [
-                | inl n ↦ inl (in_right q x.differ (cell_differences x.cells) (in_left q (against_nil x.cells) (each_two x.cells) (subst (λ z. In z (against_nil x.cells)) r.2 (in_map (λ t. (t, Nil)) r.0 x.cells n))))
-                | inr n ↦ inr (inl (in_right q y.differ (cell_differences y.cells) (in_left q (against_nil y.cells) (each_two y.cells) (subst (λ z. In z (against_nil y.cells)) r.2 (in_map (λ t. (t, Nil)) r.0 y.cells n)))))
+                | inl n ↦ inl (in_right q x.differ (cell_differences x.cells) (in_left q (against_nil x.cells) (each_two x.cells) (subst (λ z. IsMember z (against_nil x.cells)) r.2 (in_map (λ t. (t, Nil)) r.0 x.cells n))))
+                | inr n ↦ inr (inl (in_right q y.differ (cell_differences y.cells) (in_left q (against_nil y.cells) (each_two y.cells) (subst (λ z. IsMember z (against_nil y.cells)) r.2 (in_map (λ t. (t, Nil)) r.0 y.cells n)))))
               ])
           | inr j ↦ elim (two_append q x.cells y.cells j) [
             | inl n ↦ inl (in_right q x.differ (cell_differences x.cells) (in_right q (against_nil x.cells) (each_two x.cells) n))
@@ -44,43 +46,43 @@ module _ (x y : Facts) where
         ]
       ]
 
-  in_cells : (q : Two) → In q (cell_differences (x.cells ++ y.cells)) → In q (all_differ (both x y))
+  in_cells : (q : Two) → IsMember q (cell_differences (x.cells ++ y.cells)) → IsMember q (all_differ (both x y))
   in_cells q m = in_right q (x.differ ++ y.differ) (cell_differences (x.cells ++ y.cells)) m
 
-  in_twos : (q : Two) → In q (each_two (x.cells ++ y.cells)) → In q (all_differ (both x y))
+  in_twos : (q : Two) → IsMember q (each_two (x.cells ++ y.cells)) → IsMember q (all_differ (both x y))
   in_twos q m = in_cells q (in_right q (against_nil (x.cells ++ y.cells)) (each_two (x.cells ++ y.cells)) m)
 
-  in_nils : (t : Term) → In t (x.cells ++ y.cells) → In (t, Nil) (all_differ (both x y))
+  in_nils : (t : Term) → IsMember t (x.cells ++ y.cells) → IsMember (t, Nil) (all_differ (both x y))
   in_nils t m = in_cells (t, Nil) (in_left (t, Nil) (against_nil (x.cells ++ y.cells)) (each_two (x.cells ++ y.cells)) (in_map (λ t. (t, Nil)) t (x.cells ++ y.cells) m))
 
-  pub both_first : (q : Two) → In q (all_differ x) → In q (all_differ (both x y))
+  pub both_first : (q : Two) → IsMember q (all_differ x) → IsMember q (all_differ (both x y))
   both_first q m =
       elim (in_append q x.differ (cell_differences x.cells) m) [
         | inl i ↦ in_left q (x.differ ++ y.differ) (cell_differences (x.cells ++ y.cells)) (in_left q x.differ y.differ i)
         | inr i ↦ elim (in_append q (against_nil x.cells) (each_two x.cells) i) [
-          | inl j ↦ (let r = map_in (λ t. (t, Nil)) q x.cells j in subst (λ z. In z (all_differ (both x y))) r.2 (in_nils r.0 (in_left r.0 x.cells y.cells r.1)))
+          | inl j ↦ (let r = map_in (λ t. (t, Nil)) q x.cells j in subst (λ z. IsMember z (all_differ (both x y))) r.2 (in_nils r.0 (in_left r.0 x.cells y.cells r.1)))
           | inr j ↦ in_twos q (append_two_left q x.cells y.cells j)
         ]
       ]
 
-  pub both_second : (q : Two) → In q (all_differ y) → In q (all_differ (both x y))
+  pub both_second : (q : Two) → IsMember q (all_differ y) → IsMember q (all_differ (both x y))
   both_second q m =
       elim (in_append q y.differ (cell_differences y.cells) m) [
         | inl i ↦ in_left q (x.differ ++ y.differ) (cell_differences (x.cells ++ y.cells)) (in_right q x.differ y.differ i)
         | inr i ↦ elim (in_append q (against_nil y.cells) (each_two y.cells) i) [
-          | inl j ↦ (let r = map_in (λ t. (t, Nil)) q y.cells j in subst (λ z. In z (all_differ (both x y))) r.2 (in_nils r.0 (in_right r.0 x.cells y.cells r.1)))
+          | inl j ↦ (let r = map_in (λ t. (t, Nil)) q y.cells j in subst (λ z. IsMember z (all_differ (both x y))) r.2 (in_nils r.0 (in_right r.0 x.cells y.cells r.1)))
           | inr j ↦ in_twos q (append_two_right q x.cells y.cells j)
         ]
       ]
 
-  pub both_cross : (t u : Term) → In t x.cells → In u y.cells → In (t, u) (all_differ (both x y))
+  pub both_cross : (t u : Term) → IsMember t x.cells → IsMember u y.cells → IsMember (t, u) (all_differ (both x y))
   both_cross t u i j = in_twos (t, u) (append_two_cross t u x.cells y.cells i j)
 
 -- a difference with a cell at one side: nil, or each two cells
-pub nil_in : (x : Facts) (t : Term) → In t x.cells → In (t, Nil) (all_differ x)
+pub nil_in : (x : Facts) (t : Term) → IsMember t x.cells → IsMember (t, Nil) (all_differ x)
 nil_in x t m = in_right (t, Nil) x.differ (cell_differences x.cells) (in_left (t, Nil) (against_nil x.cells) (each_two x.cells) (in_map (λ t. (t, Nil)) t x.cells m))
 
-pub twos_in : (x : Facts) (q : Two) → In q (each_two x.cells) → In q (all_differ x)
+pub twos_in : (x : Facts) (q : Two) → IsMember q (each_two x.cells) → IsMember q (all_differ x)
 twos_in x q m = in_right q x.differ (cell_differences x.cells) (in_right q (against_nil x.cells) (each_two x.cells) m)
 
 -- ---- a bound of some values
@@ -100,7 +102,7 @@ upper_is g (suc k) i l =
 
 -- ---- tests that agree
 
-pub filter_same : {X : Type 0} (p q : X → Bool) (xs : List X) → ((x : X) → In x xs → p x ≡ q x) → filter p xs ≡ filter q xs
+pub filter_same : {X : Type 0} (p q : X → Bool) (xs : List X) → ((x : X) → IsMember x xs → p x ≡ q x) → filter p xs ≡ filter q xs
 filter_same p q [] e = refl
 filter_same p q (x ∷ xs) e =
     let rest = filter_same p q xs (λ y i. e y (inr i)) in
@@ -110,7 +112,7 @@ filter_same p q (x ∷ xs) e =
       | inr n ↦ (let n' : q x ≡ false = sym here ∙ n in rw (n, n') rest)
     ]
 
-pub any_same : {X : Type 0} (p q : X → Bool) (xs : List X) → ((x : X) → In x xs → p x ≡ q x) → any p xs ≡ any q xs
+pub any_same : {X : Type 0} (p q : X → Bool) (xs : List X) → ((x : X) → IsMember x xs → p x ≡ q x) → list_any p xs ≡ list_any q xs
 any_same p q [] e = refl
 any_same p q (x ∷ xs) e = let rest = any_same p q xs (λ y i. e y (inr i)) in let here = e x (inl refl) in λ i. here i || rest i
 
@@ -143,7 +145,7 @@ links_to f g go r t u (inr l) = inr (go r.0 u l.0, go r.1 t l.1)
 
 -- ---- x is told by what it says of n + 1 terms; y, and what is asked, speak of these terms alone
 
-module _ (x y : Facts) (n : ℕ) (at : ℕ → Term) (consistent : AreConsistent x) (nil : IsOneOf n at Nil) (live_equal : (q : Two) → In q y.equal → IsOneOf n at q.0 × IsOneOf n at q.1) (live_differ : (q : Two) → In q (all_differ y) → IsOneOf n at q.0 × IsOneOf n at q.1) (live_cells : (t : Term) → In t y.cells → IsOneOf n at t) where
+module _ (x y : Facts) (n : ℕ) (at : ℕ → Term) (consistent : AreConsistent x) (nil : IsOneOf n at Nil) (live_equal : (q : Two) → IsMember q y.equal → IsOneOf n at q.0 × IsOneOf n at q.1) (live_differ : (q : Two) → IsMember q (all_differ y) → IsOneOf n at q.0 × IsOneOf n at q.1) (live_cells : (t : Term) → IsMember t y.cells → IsOneOf n at t) where
   abbrev one : BasePair
   one = said n at x
 
@@ -220,10 +222,10 @@ module _ (x y : Facts) (n : ℕ) (at : ℕ → Term) (consistent : AreConsistent
 
   -- ---- consistency
 
-  module _ (D : (q : Two) → In q (all_differ x) → f2 q.0 ≢ f2 q.1) where
-    two_of_one : (q : Two) → In q (all_differ (stated at one)) → f2 q.0 ≢ f2 q.1
+  module _ (D : (q : Two) → IsMember q (all_differ x) → f2 q.0 ≢ f2 q.1) where
+    two_of_one : (q : Two) → IsMember q (all_differ (stated at one)) → f2 q.0 ≢ f2 q.1
     two_of_one q m e =
-        let C = λ (q : Two) (i : In q (each_two x.cells)). D q (twos_in x q i) in
+        let C = λ (q : Two) (i : IsMember q (each_two x.cells)). D q (twos_in x q i) in
         elim (in_append q (two_at at one.differ) (cell_differences (map at one.cells)) m) [
           | inl i ↦
               (let r = map_in (λ q. (at q.0, at q.1)) q one.differ i in
@@ -242,7 +244,7 @@ module _ (x y : Facts) (n : ℕ) (at : ℕ → Term) (consistent : AreConsistent
 
   pub whole_folded : AreConsistent whole → AreConsistent folded
   whole_folded c = at_each (λ q. f3 q.0 ≢ f3 q.1) (all_differ folded) (λ q m e3.
-      let D = λ (q : Two) (i : In q (all_differ whole)). each_at (λ q. f2 q.0 ≢ f2 q.1) (all_differ whole) q c i in
+      let D = λ (q : Two) (i : IsMember q (all_differ whole)). each_at (λ q. f2 q.0 ≢ f2 q.1) (all_differ whole) q c i in
       let e = three_two q.0 q.1 e3 in
       elim (both_split (stated at one) y q m) [
         | inl i ↦ two_of_one (λ q i. D q (both_first x y q i)) q i e
@@ -256,7 +258,7 @@ module _ (x y : Facts) (n : ℕ) (at : ℕ → Term) (consistent : AreConsistent
       ])
 
   -- a kept cell for a cell that is with a live term
-  reached_cell : (t u : Term) → In t x.cells → IsOneOf n at u → f2 t ≡ f2 u → (c : ℕ) × (In c one.cells) × (f3 (at c) ≡ f3 u)
+  reached_cell : (t u : Term) → IsMember t x.cells → IsOneOf n at u → f2 t ≡ f2 u → (c : ℕ) × (IsMember c one.cells) × (f3 (at c) ≡ f3 u)
   reached_cell t u m l e =
       let a = reaches t u l e in
       let c = cell_kept n at f1 (all_differ x) x.cells t a.0 m a.1 a.2 in
@@ -264,7 +266,7 @@ module _ (x y : Facts) (n : ℕ) (at : ℕ → Term) (consistent : AreConsistent
 
   pub folded_whole : AreConsistent folded → AreConsistent whole
   folded_whole c = at_each (λ q. f2 q.0 ≢ f2 q.1) (all_differ whole) (λ q m e.
-      let D = λ (q : Two) (i : In q (all_differ folded)). each_at (λ q. f3 q.0 ≢ f3 q.1) (all_differ folded) q c i in
+      let D = λ (q : Two) (i : IsMember q (all_differ folded)). each_at (λ q. f3 q.0 ≢ f3 q.1) (all_differ folded) q c i in
       elim (both_split x y q m) [
         | inl i ↦
             (let A = at_each (λ q. val q.0 ≢ val q.1) one.differ (λ q j. D (at q.0, at q.1) (both_first (stated at one) y (at q.0, at q.1) (in_left (at q.0, at q.1) (two_at at one.differ) (cell_differences (map at one.cells)) (in_map (λ q. (at q.0, at q.1)) q one.differ j)))) in
@@ -279,23 +281,23 @@ module _ (x y : Facts) (n : ℕ) (at : ℕ → Term) (consistent : AreConsistent
 
   -- ---- what both say of live terms
 
-  in_differ : (a b : ℕ) (q : Two) → a ≤ n → b ≤ n → In q (all_differ x) → f1 q.0 ≡ f1 (at a) → f1 q.1 ≡ f1 (at b) → In (a, b) one.differ ⊎ In (b, a) one.differ
+  in_differ : (a b : ℕ) (q : Two) → a ≤ n → b ≤ n → IsMember q (all_differ x) → f1 q.0 ≡ f1 (at a) → f1 q.1 ≡ f1 (at b) → IsMember (a, b) one.differ ⊎ IsMember (b, a) one.differ
   in_differ a b q l m i s r =
       elim (cases_lt a b) [
-        | inl z ↦ inl (in_filter (λ q. any (is_between f1 at q.0 q.1) (all_differ x)) (a, b) (pairs_below (suc n)) (in_pairs (suc n) a b z (omega arith)) (in_any (is_between f1 at a b) (all_differ x) q i (links_between f1 at a b q (inl (s, r)))))
+        | inl z ↦ inl (in_filter (λ q. list_any (is_between f1 at q.0 q.1) (all_differ x)) (a, b) (pairs_below (suc n)) (in_pairs (suc n) a b z (omega arith)) (in_any (is_between f1 at a b) (all_differ x) q i (links_between f1 at a b q (inl (s, r)))))
         | inr z ↦ elim (cases_lt b a) [
-          | inl z ↦ inr (in_filter (λ q. any (is_between f1 at q.0 q.1) (all_differ x)) (b, a) (pairs_below (suc n)) (in_pairs (suc n) b a z (omega arith)) (in_any (is_between f1 at b a) (all_differ x) q i (links_between f1 at b a q (inr (s, r)))))
+          | inl z ↦ inr (in_filter (λ q. list_any (is_between f1 at q.0 q.1) (all_differ x)) (b, a) (pairs_below (suc n)) (in_pairs (suc n) b a z (omega arith)) (in_any (is_between f1 at b a) (all_differ x) q i (links_between f1 at b a q (inr (s, r)))))
           | inr z' ↦ (let e : a ≡ b = omega arith in absurd (each_at (λ q. f1 q.0 ≢ f1 q.1) (all_differ x) q consistent i (s ∙ ap (λ z. f1 (at z)) e ∙ sym r)))
         ]
       ]
 
   abbrev Found : (Term → ℕ) → List Two → Term → Term → Type 0
-  Found f ds t u = (r : Two) × In r ds × Links f r t u
+  Found f ds t u = (r : Two) × IsMember r ds × Links f r t u
 
-  in_stated : (a b : ℕ) → In (a, b) one.differ → In (at a, at b) (all_differ folded)
+  in_stated : (a b : ℕ) → IsMember (a, b) one.differ → IsMember (at a, at b) (all_differ folded)
   in_stated a b i = both_first (stated at one) y (at a, at b) (in_left (at a, at b) (two_at at one.differ) (cell_differences (map at one.cells)) (in_map (λ q. (at q.0, at q.1)) (a, b) one.differ i))
 
-  forward : (q : Two) → In q (all_differ whole) → (t u : Term) → IsOneOf n at t → IsOneOf n at u → f2 q.0 ≡ f2 t → f2 q.1 ≡ f2 u → Found f3 (all_differ folded) t u
+  forward : (q : Two) → IsMember q (all_differ whole) → (t u : Term) → IsOneOf n at t → IsOneOf n at u → f2 q.0 ≡ f2 t → f2 q.1 ≡ f2 u → Found f3 (all_differ folded) t u
   forward q m t u lt lu et eu =
       elim (both_split x y q m) [
         | inl i ↦
@@ -313,7 +315,7 @@ module _ (x y : Facts) (n : ℕ) (at : ℕ → Term) (consistent : AreConsistent
         ]
       ]
 
-  backward : (q : Two) → In q (all_differ folded) → (t u : Term) → f3 q.0 ≡ f3 t → f3 q.1 ≡ f3 u → Found f2 (all_differ whole) t u
+  backward : (q : Two) → IsMember q (all_differ folded) → (t u : Term) → f3 q.0 ≡ f3 t → f3 q.1 ≡ f3 u → Found f2 (all_differ whole) t u
   backward q m t u et3 eu3 =
       let et = three_two q.0 t et3 in
       let eu = three_two q.1 u eu3 in
@@ -321,7 +323,7 @@ module _ (x y : Facts) (n : ℕ) (at : ℕ → Term) (consistent : AreConsistent
         | inl i ↦ elim (in_append q (two_at at one.differ) (cell_differences (map at one.cells)) i) [
           | inl j ↦
               (let r = map_in (λ q. (at q.0, at q.1)) q one.differ j in
-              let g = any_in (is_between f1 at r.0.0 r.0.1) (all_differ x) (filter_in (λ q. any (is_between f1 at q.0 q.1) (all_differ x)) r.0 (pairs_below (suc n)) r.1).1 in
+              let g = any_in (is_between f1 at r.0.0 r.0.1) (all_differ x) (filter_in (λ q. list_any (is_between f1 at q.0 q.1) (all_differ x)) r.0 (pairs_below (suc n)) r.1).1 in
               let l = links_to f1 f2 one_two g.0 (at r.0.0) (at r.0.1) (between_links f1 at r.0.0 r.0.1 g.0 g.2) in
               (g.0, both_first x y g.0 g.1, links_on f2 g.0 (at r.0.0) (at r.0.1) t u (ap (λ z. f2 z.0) r.2 ∙ et) (ap (λ z. f2 z.1) r.2 ∙ eu) l))
           | inr j ↦ elim (in_append q (against_nil (map at one.cells)) (each_two (map at one.cells)) j) [
@@ -350,7 +352,7 @@ module _ (x y : Facts) (n : ℕ) (at : ℕ → Term) (consistent : AreConsistent
     classes_agree : (i j : ℕ) → i ≤ k → j ≤ k → nat_eq (f2 (to i)) (f2 (to j)) ≡ nat_eq (f3 (to i)) (f3 (to j))
     classes_agree i j a b = bool_same _ _ (λ e. eq-eqb _ _ (two_three (to i) (to j) (live i a) (live j b) (eqb-true _ _ e))) (λ e. eq-eqb _ _ (three_two (to i) (to j) (eqb-true _ _ e)))
 
-    differ_agree : (i j : ℕ) → i ≤ k → j ≤ k → any (is_between f2 to i j) (all_differ whole) ≡ any (is_between f3 to i j) (all_differ folded)
+    differ_agree : (i j : ℕ) → i ≤ k → j ≤ k → list_any (is_between f2 to i j) (all_differ whole) ≡ list_any (is_between f3 to i j) (all_differ folded)
     differ_agree i j a b = bool_same _ _
         (λ h. let q = any_in (is_between f2 to i j) (all_differ whole) h in
         elim (between_links f2 to i j q.0 q.2) [
@@ -366,7 +368,7 @@ module _ (x y : Facts) (n : ℕ) (at : ℕ → Term) (consistent : AreConsistent
     least_agrees : (i : ℕ) → i ≤ k → is_least f2 to i ≡ is_least f3 to i
     least_agrees i a = ap not (any_same (λ j. is_in_class f2 to i (to j)) (λ j. is_in_class f3 to i (to j)) (upto i) (λ j m. let l = upto_in i j m in classes_agree j i (omega arith) a))
 
-    cells_agree : (i : ℕ) → i ≤ k → any (is_in_class f2 to i) whole.cells ≡ any (is_in_class f3 to i) folded.cells
+    cells_agree : (i : ℕ) → i ≤ k → list_any (is_in_class f2 to i) whole.cells ≡ list_any (is_in_class f3 to i) folded.cells
     cells_agree i a = bool_same _ _
         (λ h. let t = any_in (is_in_class f2 to i) whole.cells h in
         let e = eqb-true _ _ t.2 in
@@ -388,6 +390,6 @@ module _ (x y : Facts) (n : ℕ) (at : ℕ → Term) (consistent : AreConsistent
     pub said_same : said k to whole ≡ said k to folded
     said_same =
         let s = filter_same (λ q. nat_eq (f2 (to q.0)) (f2 (to q.1))) (λ q. nat_eq (f3 (to q.0)) (f3 (to q.1))) (pairs_below (suc k)) (λ q m. let l = pairs_in (suc k) q m in classes_agree q.0 q.1 (omega arith) (omega arith)) in
-        let d = filter_same (λ q. any (is_between f2 to q.0 q.1) (all_differ whole)) (λ q. any (is_between f3 to q.0 q.1) (all_differ folded)) (pairs_below (suc k)) (λ q m. let l = pairs_in (suc k) q m in differ_agree q.0 q.1 (omega arith) (omega arith)) in
-        let c = filter_same (λ i. is_least f2 to i && any (is_in_class f2 to i) whole.cells) (λ i. is_least f3 to i && any (is_in_class f3 to i) folded.cells) (upto (suc k)) (λ i m. let l = upto_in (suc k) i m in let a = least_agrees i (omega arith) in let b = cells_agree i (omega arith) in λ z. a z && b z) in
+        let d = filter_same (λ q. list_any (is_between f2 to q.0 q.1) (all_differ whole)) (λ q. list_any (is_between f3 to q.0 q.1) (all_differ folded)) (pairs_below (suc k)) (λ q m. let l = pairs_in (suc k) q m in differ_agree q.0 q.1 (omega arith) (omega arith)) in
+        let c = filter_same (λ i. is_least f2 to i && list_any (is_in_class f2 to i) whole.cells) (λ i. is_least f3 to i && list_any (is_in_class f3 to i) folded.cells) (upto (suc k)) (λ i m. let l = upto_in (suc k) i m in let a = least_agrees i (omega arith) in let b = cells_agree i (omega arith) in λ z. a z && b z) in
         λ z. record { same = s z; differ = d z; cells = c z }

@@ -9,7 +9,8 @@ use Rattle.heap_formula.specs.Meaning.{cases_of}
 use Rattle.pair_family.specs.BasePairs.{BasePair}
 use Rattle.pair_family.specs.Combination.{Choice, next}
 use Rattle.pair_family.specs.Family.{PairFamily, IsChosen, CaseGives, arity_of, family_at, InFamily}
-use Rattle.pair_family.specs.Tables.{in_table, IsMember, IsDistinct, Table, IsTable, HasMoreThan, HasAtMost}
+use Rattle.pair_family.specs.Tables.{in_table, IsDistinct, Table, IsTable, HasMoreThan, HasAtMost}
+use Rattle.list_facts.specs.Words.{IsMember}
 use Rattle.formula_facts.proofs.AllMembers.{each_imply}
 use Rattle.heap_formula.proofs.StageLaws.{OneOf-map}
 

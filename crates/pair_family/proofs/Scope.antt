@@ -1,8 +1,8 @@
--- Facts of each term of a heap are facts of the terms of its combinations; tables of values.
-use Rattle.std.proofs.Common.{◌≡◌, ℕ, zero, suc, ◌+◌, ◌<◌, ◌≤◌, max, inl, inr, List, [], ◌∷◌, map, arith, refl, subst}
+-- Facts of each term of a heap are facts of the terms of its combinations.
+use Rattle.std.proofs.Common.{ℕ, zero, suc, ◌≤◌, inl, inr, List, [], ◌∷◌, map, arith, subst}
 use Rattle.std.specs.Prelude.{slice_index}
 use Rattle.heap_formula.specs.declared.terms.Term.{Term}
-use Rattle.heap_formula.specs.declared.terms.Term.TheVariants.{Nil, Univ, Exist}
+use Rattle.heap_formula.specs.declared.terms.Term.TheVariants.{Nil}
 use Rattle.heap_formula.specs.declared.atoms.Spatial.{Spatial}
 use Rattle.heap_formula.specs.declared.atoms.Spatial.TheVariants.{Cell, Pred}
 use Rattle.heap_formula.specs.declared.atoms.Pure.{Pure}
@@ -13,8 +13,10 @@ use Rattle.heap_formula.specs.Closedness.{InPure, InSpatial, InHeap}
 use Rattle.pair_family.specs.BasePairs.{BasePair, element}
 use Rattle.pair_family.specs.Combination.{Two, Choice, next, pure_equations, pure_differences, atom_equations, atom_differences, atom_addresses, spatial_equations, spatial_differences, addresses, each_two, cell_differences, against_nil, combination, all_differ}
 use Rattle.pair_family.specs.Folding.{spoken}
-use Rattle.pair_family.proofs.Lists.{In, in_append, map_in}
+use Rattle.pair_family.proofs.Lists.{in_append, map_in}
+use Rattle.list_facts.specs.Words.{IsMember}
 use Rattle.pair_family.proofs.Two.{two_in}
+use Rattle.heap_formula.specs.Fresh.{number_bound, terms_numbers, pure_numbers, spatial_numbers, heap_numbers}
 
 module _ (Q : Term → Type 0) (nil : Q Nil) where
   element_in : (ts : List Term) → Each Q ts → (i : ℕ) → Q (element ts i)
@@ -26,20 +28,20 @@ module _ (Q : Term → Type 0) (nil : Q Nil) where
   abbrev pub BothIn : Two → Type 0
   BothIn q = Q q.0 × Q q.1
 
-  arguments_in : (ts : List Term) → Each Q ts → (qs : List (ℕ × ℕ)) (q : Two) → In q (map (λ q. (element ts q.0, element ts q.1)) qs) → BothIn q
+  arguments_in : (ts : List Term) → Each Q ts → (qs : List (ℕ × ℕ)) (q : Two) → IsMember q (map (λ q. (element ts q.0, element ts q.1)) qs) → BothIn q
   arguments_in ts a qs q m =
       let r = map_in (λ q. (element ts q.0, element ts q.1)) q qs m in
       subst (λ z. Q z.0 × Q z.1) r.2 (element_in ts a r.0.0, element_in ts a r.0.1)
 
-  pub atom_equations_in : (x : Spatial) → Each Q (spoken x) → (b : BasePair) (q : Two) → In q (atom_equations b x) → BothIn q
+  pub atom_equations_in : (x : Spatial) → Each Q (spoken x) → (b : BasePair) (q : Two) → IsMember q (atom_equations b x) → BothIn q
   atom_equations_in (Cell t ts) a b q m = absurd m
   atom_equations_in (Pred p ts) a b q m = arguments_in ts a b.same q m
 
-  pub atom_differences_in : (x : Spatial) → Each Q (spoken x) → (b : BasePair) (q : Two) → In q (atom_differences b x) → BothIn q
+  pub atom_differences_in : (x : Spatial) → Each Q (spoken x) → (b : BasePair) (q : Two) → IsMember q (atom_differences b x) → BothIn q
   atom_differences_in (Cell t ts) a b q m = absurd m
   atom_differences_in (Pred p ts) a b q m = arguments_in ts a b.differ q m
 
-  pub atom_addresses_in : (x : Spatial) → Each Q (spoken x) → (b : BasePair) (t : Term) → In t (atom_addresses b x) → Q t
+  pub atom_addresses_in : (x : Spatial) → Each Q (spoken x) → (b : BasePair) (t : Term) → IsMember t (atom_addresses b x) → Q t
   atom_addresses_in (Cell t ts) a b u (inl r) = subst Q r a.0
   atom_addresses_in (Cell t ts) a b u (inr m) = absurd m
   atom_addresses_in (Pred p ts) a b u m = let r = map_in (element ts) u b.cells m in subst Q r.2 (element_in ts a r.0)
@@ -48,38 +50,38 @@ module _ (Q : Term → Type 0) (nil : Q Nil) where
   spoken_in (Cell t ts) a = (a.0, tt)
   spoken_in (Pred p ts) a = a
 
-  spatial_equations_in : (xs : List Spatial) → Each (InSpatial Q) xs → (bs : Choice) (q : Two) → In q (spatial_equations bs xs) → BothIn q
+  spatial_equations_in : (xs : List Spatial) → Each (InSpatial Q) xs → (bs : Choice) (q : Two) → IsMember q (spatial_equations bs xs) → BothIn q
   spatial_equations_in [] a bs q m = absurd m
   spatial_equations_in (x ∷ xs) a bs q m =
       elim (in_append q (atom_equations (bs 0) x) (spatial_equations (next bs) xs) m) [ inl i ↦ atom_equations_in x (spoken_in x a.0) (bs 0) q i | inr i ↦ spatial_equations_in xs a.1 (next bs) q i ]
 
-  spatial_differences_in : (xs : List Spatial) → Each (InSpatial Q) xs → (bs : Choice) (q : Two) → In q (spatial_differences bs xs) → BothIn q
+  spatial_differences_in : (xs : List Spatial) → Each (InSpatial Q) xs → (bs : Choice) (q : Two) → IsMember q (spatial_differences bs xs) → BothIn q
   spatial_differences_in [] a bs q m = absurd m
   spatial_differences_in (x ∷ xs) a bs q m =
       elim (in_append q (atom_differences (bs 0) x) (spatial_differences (next bs) xs) m) [ inl i ↦ atom_differences_in x (spoken_in x a.0) (bs 0) q i | inr i ↦ spatial_differences_in xs a.1 (next bs) q i ]
 
-  pub addresses_in : (xs : List Spatial) → Each (InSpatial Q) xs → (bs : Choice) (t : Term) → In t (addresses bs xs) → Q t
+  pub addresses_in : (xs : List Spatial) → Each (InSpatial Q) xs → (bs : Choice) (t : Term) → IsMember t (addresses bs xs) → Q t
   addresses_in [] a bs t m = absurd m
   addresses_in (x ∷ xs) a bs t m =
       elim (in_append t (atom_addresses (bs 0) x) (addresses (next bs) xs) m) [ inl i ↦ atom_addresses_in x (spoken_in x a.0) (bs 0) t i | inr i ↦ addresses_in xs a.1 (next bs) t i ]
 
-  pure_equations_in : (ps : List Pure) → Each (InPure Q) ps → (q : Two) → In q (pure_equations ps) → BothIn q
+  pure_equations_in : (ps : List Pure) → Each (InPure Q) ps → (q : Two) → IsMember q (pure_equations ps) → BothIn q
   pure_equations_in [] a q m = absurd m
   pure_equations_in (Eq t u ∷ ps) a q (inl r) = subst (λ z. Q z.0 × Q z.1) r a.0
   pure_equations_in (Eq t u ∷ ps) a q (inr m) = pure_equations_in ps a.1 q m
   pure_equations_in (Neq t u ∷ ps) a q m = pure_equations_in ps a.1 q m
 
-  pure_differences_in : (ps : List Pure) → Each (InPure Q) ps → (q : Two) → In q (pure_differences ps) → BothIn q
+  pure_differences_in : (ps : List Pure) → Each (InPure Q) ps → (q : Two) → IsMember q (pure_differences ps) → BothIn q
   pure_differences_in [] a q m = absurd m
   pure_differences_in (Neq t u ∷ ps) a q (inl r) = subst (λ z. Q z.0 × Q z.1) r a.0
   pure_differences_in (Neq t u ∷ ps) a q (inr m) = pure_differences_in ps a.1 q m
   pure_differences_in (Eq t u ∷ ps) a q m = pure_differences_in ps a.1 q m
 
-  pub equations_in : (a : SymbolicHeap) → InHeap Q a → (bs : Choice) (q : Two) → In q (combination bs a).equal → Q q.0 × Q q.1
+  pub equations_in : (a : SymbolicHeap) → InHeap Q a → (bs : Choice) (q : Two) → IsMember q (combination bs a).equal → Q q.0 × Q q.1
   equations_in a o bs q m =
       elim (in_append q (pure_equations a.pure) (spatial_equations bs a.spatial) m) [ inl i ↦ pure_equations_in a.pure o.0 q i | inr i ↦ spatial_equations_in a.spatial o.1 bs q i ]
 
-  pub differences_in : (a : SymbolicHeap) → InHeap Q a → (bs : Choice) (q : Two) → In q (all_differ (combination bs a)) → Q q.0 × Q q.1
+  pub differences_in : (a : SymbolicHeap) → InHeap Q a → (bs : Choice) (q : Two) → IsMember q (all_differ (combination bs a)) → Q q.0 × Q q.1
   differences_in a o bs q m =
       let cs = addresses bs a.spatial in
       elim (in_append q (combination bs a).differ (cell_differences cs) m) [
@@ -115,59 +117,30 @@ module _ (P Q S : Term → Type 0) (go : (t : Term) → P t → Q t → S t) whe
 
 -- ---- a bound of a heap's variable numbers
 
-abbrev pub number_bound : Term → ℕ
-number_bound Nil = 0
-number_bound (Univ n) = n + 1
-number_bound (Exist n) = n + 1
-
 abbrev pub IsWithin : ℕ → Term → Type 0
 IsWithin m t = number_bound t ≤ m
 
-abbrev terms_top : List Term → ℕ
-terms_top ts = max_of (map number_bound ts)
-
-abbrev pure_top : Pure → ℕ
-pure_top (Eq t u) = max (number_bound t) (number_bound u)
-pure_top (Neq t u) = max (number_bound t) (number_bound u)
-
-abbrev spatial_top : Spatial → ℕ
-spatial_top (Cell t ts) = max (number_bound t) (terms_top ts)
-spatial_top (Pred p ts) = terms_top ts
-
-abbrev pub heap_top : SymbolicHeap → ℕ
-heap_top a = max (max_of (map pure_top a.pure)) (max_of (map spatial_top a.spatial))
-
-terms_within : (m : ℕ) (ts : List Term) → terms_top ts ≤ m → Each (IsWithin m) ts
+terms_within : (m : ℕ) (ts : List Term) → terms_numbers ts ≤ m → Each (IsWithin m) ts
 terms_within m [] h = tt
 terms_within m (t ∷ ts) h = (omega arith, terms_within m ts (omega arith))
 
-pures_within : (m : ℕ) (ps : List Pure) → max_of (map pure_top ps) ≤ m → Each (InPure (IsWithin m)) ps
+pures_within : (m : ℕ) (ps : List Pure) → max_of (map pure_numbers ps) ≤ m → Each (InPure (IsWithin m)) ps
 pures_within m [] h = tt
 pures_within m (Eq t u ∷ ps) h = ((omega arith, omega arith), pures_within m ps (omega arith))
 pures_within m (Neq t u ∷ ps) h = ((omega arith, omega arith), pures_within m ps (omega arith))
 
-spatials_within : (m : ℕ) (xs : List Spatial) → max_of (map spatial_top xs) ≤ m → Each (InSpatial (IsWithin m)) xs
+spatials_within : (m : ℕ) (xs : List Spatial) → max_of (map spatial_numbers xs) ≤ m → Each (InSpatial (IsWithin m)) xs
 spatials_within m [] h = tt
 spatials_within m (Cell t ts ∷ xs) h = ((omega arith, terms_within m ts (omega arith)), spatials_within m xs (omega arith))
 spatials_within m (Pred p ts ∷ xs) h = (terms_within m ts (omega arith), spatials_within m xs (omega arith))
 
-pub heap_within : (a : SymbolicHeap) → InHeap (IsWithin (heap_top a)) a
-heap_within a = (pures_within (heap_top a) a.pure (omega arith), spatials_within (heap_top a) a.spatial (omega arith))
+pub heap_within : (a : SymbolicHeap) → InHeap (IsWithin (heap_numbers a)) a
+heap_within a = (pures_within (heap_numbers a) a.pure (omega arith), spatials_within (heap_numbers a) a.spatial (omega arith))
 
--- ---- tables
-
-pub table : (ℕ → ℕ) → ℕ → List ℕ
-table g zero = []
-table g (suc m) = g 0 ∷ table (λ n. g (suc n)) m
-
-pub table_at : (g : ℕ → ℕ) (m n : ℕ) → n < m → slice_index (table g m) n ≡ g n
-unfolding table
-table_at g zero n l = absurd (omega arith)
-table_at g (suc m) zero l = refl
-table_at g (suc m) (suc n) l = table_at (λ n. g (suc n)) m n (omega arith)
+-- ---- bounds of lists
 
 -- a bound of a list's numbers
-pub in_max : (xs : List ℕ) (x : ℕ) → In x xs → x ≤ max_of xs
+pub in_max : (xs : List ℕ) (x : ℕ) → IsMember x xs → x ≤ max_of xs
 in_max [] x m = absurd m
 in_max (y ∷ xs) x (inl r) = omega arith
 in_max (y ∷ xs) x (inr m) = let l = in_max xs x m in omega arith

@@ -17,7 +17,8 @@ use Rattle.pair_family.specs.BasePairs.{BasePair, element, entry, Respects}
 use Rattle.pair_family.specs.Combination.{Two, Choice, next, atom_equations, atom_differences, atom_addresses, spatial_equations, spatial_differences, addresses, each_two}
 use Rattle.pair_family.specs.Family.{PairFamily, IsChosenAt, IsChosen}
 use Rattle.pair_family.specs.Closedness.{HasFields}
-use Rattle.pair_family.proofs.Lists.{In, at_each, in_left, in_right, in_map, map_in}
+use Rattle.pair_family.proofs.Lists.{at_each, in_left, in_right, in_map, map_in}
+use Rattle.list_facts.specs.Words.{IsMember}
 use Rattle.pair_family.proofs.Two.{append_two_cross, append_two_right}
 use Rattle.pair_family.proofs.Joining.{Has, Both, has_both, joins_from, union_of}
 use Rattle.pair_family.proofs.Complete.{entry_value}
@@ -30,7 +31,7 @@ pub record Built (M : ℕ → Cells → Type 0) (w : ℕ) (among : List ℕ) : T
   pub top : ℕ
   pub holds : M stage heap
   pub below : (a : ℕ) → Has (cell_at heap a) → a < top
-  pub found : (a : ℕ) → Has (cell_at heap a) → In a among ⊎ (w ≤ a)
+  pub found : (a : ℕ) → Has (cell_at heap a) → IsMember a among ⊎ (w ≤ a)
 
 -- the base pair is realised over all values that respect it
 abbrev pub IsRealised : List Definition → ℕ → BasePair → Type 0
@@ -49,7 +50,7 @@ no_cell_at : (q : ℕ) → Has (cell_at no_cells q) → ⊥
 no_cell_at q h = subst Has (get-empty nat_cmp q) h
 
 module _ (ds : List Definition) (G : PairFamily) (R : (p : ℕ) (b : BasePair) → G p b → IsRealised ds p b) (s e : Stack) where
-  build_atom : (x : Spatial) (b : BasePair) → IsChosenAt G b x → HasFields x → ((q : Two) → In q (atom_equations b x) → value s e q.0 ≡ value s e q.1) → ((q : Two) → In q (atom_differences b x) → value s e q.0 ≢ value s e q.1) → ((t : Term) → In t (atom_addresses b x) → 0 < value s e t) → (w : ℕ) → Built (λ n. AtomHolds (at_stage ds n) s e x) w (map (value s e) (atom_addresses b x))
+  build_atom : (x : Spatial) (b : BasePair) → IsChosenAt G b x → HasFields x → ((q : Two) → IsMember q (atom_equations b x) → value s e q.0 ≡ value s e q.1) → ((q : Two) → IsMember q (atom_differences b x) → value s e q.0 ≢ value s e q.1) → ((t : Term) → IsMember t (atom_addresses b x) → 0 < value s e t) → (w : ℕ) → Built (λ n. AtomHolds (at_stage ds n) s e x) w (map (value s e) (atom_addresses b x))
   build_atom (Cell t ts) b m fields equal differ positive w = record {
     stage = 0;
     heap = one_cell (value s e t) (values s e ts);
@@ -74,12 +75,12 @@ module _ (ds : List Definition) (G : PairFamily) (R : (p : ℕ) (b : BasePair) �
         found = λ a h. elim (r.found a h) [
           | inl i ↦
               (let c = map_in (entry (values s e ts)) a b.cells i in
-              inl (subst (λ z. In z (map (value s e) (map (element ts) b.cells))) (sym (at c.0) ∙ c.2) (in_map (value s e) (element ts c.0) (map (element ts) b.cells) (in_map (element ts) c.0 b.cells c.1))))
+              inl (subst (λ z. IsMember z (map (value s e) (map (element ts) b.cells))) (sym (at c.0) ∙ c.2) (in_map (value s e) (element ts c.0) (map (element ts) b.cells) (in_map (element ts) c.0 b.cells c.1))))
           | inr l ↦ inr l
         ];
       }
 
-  pub build_list : (xs : List Spatial) (bs : Choice) → IsChosen G bs xs → Each HasFields xs → ((q : Two) → In q (spatial_equations bs xs) → value s e q.0 ≡ value s e q.1) → ((q : Two) → In q (spatial_differences bs xs) → value s e q.0 ≢ value s e q.1) → ((t : Term) → In t (addresses bs xs) → 0 < value s e t) → ((q : Two) → In q (each_two (addresses bs xs)) → value s e q.0 ≢ value s e q.1) → (w : ℕ) → ((t : Term) → In t (addresses bs xs) → value s e t < w) → Built (λ n. SpatialHolds (λ _. at_stage ds n) s e xs) w (map (value s e) (addresses bs xs))
+  pub build_list : (xs : List Spatial) (bs : Choice) → IsChosen G bs xs → Each HasFields xs → ((q : Two) → IsMember q (spatial_equations bs xs) → value s e q.0 ≡ value s e q.1) → ((q : Two) → IsMember q (spatial_differences bs xs) → value s e q.0 ≢ value s e q.1) → ((t : Term) → IsMember t (addresses bs xs) → 0 < value s e t) → ((q : Two) → IsMember q (each_two (addresses bs xs)) → value s e q.0 ≢ value s e q.1) → (w : ℕ) → ((t : Term) → IsMember t (addresses bs xs) → value s e t < w) → Built (λ n. SpatialHolds (λ _. at_stage ds n) s e xs) w (map (value s e) (addresses bs xs))
   build_list [] bs m fields equal differ positive apart w less = record {
     stage = 0;
     heap = no_cells;
@@ -124,11 +125,11 @@ module _ (ds : List Definition) (G : PairFamily) (R : (p : ℕ) (b : BasePair) �
         ];
         found = λ a h. elim (joins_from (cell_at l.heap a) (cell_at r.heap a) (cell_at whole.0 a) (whole.1.joins a) h) [
           | inl i ↦ elim (l.found a i) [
-            | inl j ↦ (let t = map_in (value s e) a cs j in inl (subst (λ z. In z (map (value s e) (cs ++ ds'))) t.2 (in_map (value s e) t.0 (cs ++ ds') (in_left t.0 cs ds' t.1))))
+            | inl j ↦ (let t = map_in (value s e) a cs j in inl (subst (λ z. IsMember z (map (value s e) (cs ++ ds'))) t.2 (in_map (value s e) t.0 (cs ++ ds') (in_left t.0 cs ds' t.1))))
             | inr past ↦ inr past
           ]
           | inr i ↦ elim (r.found a i) [
-            | inl j ↦ (let t = map_in (value s e) a ds' j in inl (subst (λ z. In z (map (value s e) (cs ++ ds'))) t.2 (in_map (value s e) t.0 (cs ++ ds') (in_right t.0 cs ds' t.1))))
+            | inl j ↦ (let t = map_in (value s e) a ds' j in inl (subst (λ z. IsMember z (map (value s e) (cs ++ ds'))) t.2 (in_map (value s e) t.0 (cs ++ ds') (in_right t.0 cs ds' t.1))))
             | inr past ↦ inr (omega arith)
           ]
         ];

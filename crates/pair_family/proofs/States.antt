@@ -3,10 +3,10 @@ use Rattle.std.proofs.Common.{◌≡◌, ◌↔◌, inl, inr, ℕ, List, [], ◌
 use Rattle.heap_formula.specs.declared.atoms.Spatial.{Spatial}
 use Rattle.heap_formula.specs.Symbolic.{SymbolicHeap}
 use Rattle.heap_formula.specs.Words.{OneOf}
-use Rattle.pair_family.specs.BasePairs.{BasePair}
+use Rattle.pair_family.specs.BasePairs.{BasePair, no_pair}
 use Rattle.pair_family.specs.Combination.{Choice, next, AreConsistent, pure_facts}
 use Rattle.pair_family.specs.Folding.{Frames, next_frames, last_frame, AreFrames, said_in, with_atom, FoldsTo}
-use Rattle.pair_family.specs.Tables.{IsMember}
+use Rattle.list_facts.specs.Words.{IsMember}
 use Rattle.pair_family.specs.States.{Families, next_families, IsChosenBy, GivesBy, Leads, AreStates}
 use Rattle.pair_family.proofs.ByAtom.{IsOfParameters, fold_case, case_fold}
 use Rattle.pair_family.proofs.Complete.{cons_choice}
@@ -24,11 +24,8 @@ one_in P (y ∷ xs) x (inr m) p = inr (one_in P xs x m p)
 abbrev pub IsFolded : Families → Frames → List BasePair → List Spatial → BasePair → Type 0
 IsFolded Fs frames states xs d = (b : BasePair) × IsMember b states × ((bs : Choice) × IsChosenBy Fs bs xs × FoldsTo frames b bs xs d)
 
-some_pair : BasePair
-some_pair = record { same = []; differ = []; cells = [] }
-
 pub states_folded : (Fs : Families) (frames : Frames) (states : List BasePair) (xs : List Spatial) (out : List BasePair) → AreStates Fs frames states xs out → (d : BasePair) → IsMember d out → IsFolded Fs frames states xs d
-states_folded Fs frames states [] out are d m = (d, (are d).0 m, ((λ k. some_pair), tt, refl))
+states_folded Fs frames states [] out are d m = (d, (are d).0 m, ((λ k. no_pair), tt, refl))
 states_folded Fs frames states (x ∷ xs) out are d m =
     let r = states_folded (next_families Fs) (next_frames frames) are.0 xs out are.2 d m in
     let o = one_out (Leads (Fs 0) (frames 0) (frames 1) x r.0) states ((are.1 r.0).0 r.1) in

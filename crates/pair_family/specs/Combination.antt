@@ -1,5 +1,6 @@
 -- The combination of a symbolic heap with one base pair for each of its predicate atoms.
-use Rattle.std.specs.Prelude.{◌≢◌, ℕ, zero, suc, List, [], ◌∷◌, ◌++◌, map, filter, not, ◌&&◌, ◌||◌, Bool, false, nat_eq}
+use Rattle.std.specs.Prelude.{◌≢◌, ℕ, zero, suc, List, [], ◌∷◌, ◌++◌, map, filter, not, ◌&&◌, ◌||◌, Bool, nat_eq}
+use Rattle.std.specs.List.{list_any}
 use Rattle.heap_formula.specs.declared.terms.Term.{Term}
 use Rattle.heap_formula.specs.declared.terms.Term.TheVariants.{Nil}
 use Rattle.heap_formula.specs.declared.atoms.Pure.{Pure}
@@ -118,10 +119,6 @@ abbrev pub pairs_below : ℕ → List (ℕ × ℕ)
 pairs_below zero = []
 pairs_below (suc j) = pairs_below j ++ map (λ i. (i, j)) (upto j)
 
-abbrev pub any : {X : Type 0} → (X → Bool) → List X → Bool
-any t [] = false
-any t (x ∷ xs) = t x || any t xs
-
 -- Below, the numbers 0 to k stand for the terms `at 0` to `at k`.
 
 -- the difference joins the classes of i and j, in one order or the other
@@ -133,14 +130,14 @@ is_in_class f at i t = nat_eq (f t) (f (at i))
 
 -- no lesser number is in the class of i
 abbrev pub is_least : (Term → ℕ) → (ℕ → Term) → ℕ → Bool
-is_least f at i = not (any (λ j. is_in_class f at i (at j)) (upto i))
+is_least f at i = not (list_any (λ j. is_in_class f at i (at j)) (upto i))
 
 -- what classes, differences and addresses say of these terms
 abbrev pub kept : ℕ → (ℕ → Term) → (Term → ℕ) → List Two → List Term → BasePair
 kept k at f ds cs = record {
   same = filter (λ q. nat_eq (f (at q.0)) (f (at q.1))) (pairs_below (suc k));
-  differ = filter (λ q. any (is_between f at q.0 q.1) ds) (pairs_below (suc k));
-  cells = filter (λ i. is_least f at i && any (is_in_class f at i) cs) (upto (suc k));
+  differ = filter (λ q. list_any (is_between f at q.0 q.1) ds) (pairs_below (suc k));
+  cells = filter (λ i. is_least f at i && list_any (is_in_class f at i) cs) (upto (suc k));
 }
 
 -- what facts say of the terms `at 0` to `at k`

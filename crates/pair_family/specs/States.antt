@@ -7,7 +7,7 @@ use Rattle.pair_family.specs.BasePairs.{BasePair}
 use Rattle.pair_family.specs.Combination.{Choice, next, AreConsistent, IsConsistent, projection}
 use Rattle.pair_family.specs.Family.{PairFamily, IsChosenAt}
 use Rattle.pair_family.specs.Folding.{Frame, Frames, next_frames, said_in, with_atom}
-use Rattle.pair_family.specs.Tables.{IsMember}
+use Rattle.list_facts.specs.Words.{IsMember}
 
 -- a family for each place of a spatial list
 abbrev pub Families : Type 1

@@ -1,13 +1,10 @@
 -- Tables of base pairs, and the number of a family's members.
-use Rattle.std.specs.Prelude.{◌≡◌, ◌↔◌, ℕ, ◌≤◌, ◌<◌, List, [], ◌∷◌, length, slice_index_or}
+use Rattle.std.specs.Prelude.{◌↔◌, ℕ, ◌≤◌, ◌<◌, List, [], ◌∷◌, length, slice_index_or}
 use Rattle.heap_formula.specs.Definitions.{Definition}
-use Rattle.heap_formula.specs.Words.{Each, OneOf}
+use Rattle.heap_formula.specs.Words.{Each}
 use Rattle.pair_family.specs.BasePairs.{BasePair}
 use Rattle.pair_family.specs.Family.{PairFamily, InFamily}
-
--- x is a member
-abbrev pub IsMember : {X : Type 0} → X → List X → Type 0
-IsMember x xs = OneOf (λ y. y ≡ x) xs
+use Rattle.list_facts.specs.Words.{IsMember}
 
 -- no member stands twice
 abbrev pub IsDistinct : {X : Type 0} → List X → Type 0

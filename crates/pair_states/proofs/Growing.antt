@@ -2,7 +2,7 @@
 use Rattle.std.proofs.Common.{◌≡◌, ◌↔◌, ◌⊎◌, inl, inr, Bool, true, false, List, [], ◌∷◌, ◌++◌, sym, ◌∙◌, subst}
 use Rattle.heap_formula.specs.Words.{OneOf}
 use Rattle.pair_family.specs.BasePairs.{BasePair}
-use Rattle.pair_family.specs.Tables.{IsMember}
+use Rattle.list_facts.specs.Words.{IsMember}
 use Rattle.pair_states.specs.Labels.{Grows, IsAdded}
 use Rattle.pair_family.proofs.Lists.{in_left, in_right, in_append}
 

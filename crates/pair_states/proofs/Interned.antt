@@ -3,7 +3,7 @@ use Rattle.std.proofs.Common.{◌≡◌, inl, inr, List, [], ◌∷◌, ◌++◌
 use Rattle.std.specs.List.{list_any}
 use Rattle.std.proofs.lemmas.Bool.{or_cases, or_left, or_right, both_ways}
 use Rattle.pair_family.specs.BasePairs.{BasePair}
-use Rattle.pair_family.specs.Tables.{IsMember}
+use Rattle.list_facts.specs.Words.{IsMember}
 use Rattle.pair_states.specs.Equality.{base_pair_eq, pair_same, pair_refl}
 use Rattle.pair_states.specs.Labels.{IsAdded}
 

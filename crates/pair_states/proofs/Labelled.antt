@@ -2,9 +2,10 @@
 use Rattle.std.proofs.Common.{◌≡◌, ℕ, zero, suc, ◌<◌, List, [], ◌∷◌, map, filter, length, Bool, ◌||◌, ◌&&◌, not, arith, refl, ap, ◌∙◌}
 use Rattle.std.specs.Prelude.{nat_eq, slice_index}
 use Rattle.std.proofs.lemmas.List.{length-map}
+use Rattle.std.specs.List.{list_any}
 use Rattle.heap_formula.specs.declared.terms.Term.{Term}
 use Rattle.pair_family.specs.Classes.{merged, class_from}
-use Rattle.pair_family.specs.Combination.{Two, any, upto, pairs_below, is_between, is_in_class, is_least, kept}
+use Rattle.pair_family.specs.Combination.{Two, upto, pairs_below, is_between, is_in_class, is_least, kept}
 use Rattle.pair_family.specs.Folding.{two_at}
 use Rattle.pair_states.specs.Labels.{has_same, is_between_labels, has_difference, is_cell_label, said_by, relabelled, joined_labels}
 use Rattle.pair_family.specs.Frames.{term_at}
@@ -32,7 +33,7 @@ labels_are f terms (q ∷ qs) within =
     map_again (relabelled (slice_index (map f terms) q.1) (slice_index (map f terms) q.0)) f g (λ t i. relabelled (old i) (new i) (f t)) terms in
     ap (λ ls. joined_labels ls qs) step ∙ labels_are g terms qs within.1
 
-pub any_map : {X Y : Type 0} (t : Y → Bool) (f : X → Y) (xs : List X) → any t (map f xs) ≡ any (λ x. t (f x)) xs
+pub any_map : {X Y : Type 0} (t : Y → Bool) (f : X → Y) (xs : List X) → list_any t (map f xs) ≡ list_any (λ x. t (f x)) xs
 any_map t f [] = refl
 any_map t f (x ∷ xs) = ap (λ b. t (f x) || b) (any_map t f xs)
 
@@ -44,14 +45,14 @@ said_by_is k f terms ds cs long =
     let s = ap (λ m. filter (has_same (map f terms)) (pairs_below m)) n ∙ filter_same (has_same (map f terms)) (λ q. nat_eq (f (term_at terms q.0)) (f (term_at terms q.1))) (pairs_below (suc k)) (λ q m.
     let l = pairs_in (suc k) q m in
     let a = at q.0 (omega arith) in let b = at q.1 (omega arith) in λ i. nat_eq (a i) (b i)) in
-    let d = ap (λ m. filter (has_difference (map f terms) (map (λ q. (f q.0, f q.1)) ds)) (pairs_below m)) n ∙ filter_same (has_difference (map f terms) (map (λ q. (f q.0, f q.1)) ds)) (λ q. any (is_between f (term_at terms) q.0 q.1) ds) (pairs_below (suc k)) (λ q m.
+    let d = ap (λ m. filter (has_difference (map f terms) (map (λ q. (f q.0, f q.1)) ds)) (pairs_below m)) n ∙ filter_same (has_difference (map f terms) (map (λ q. (f q.0, f q.1)) ds)) (λ q. list_any (is_between f (term_at terms) q.0 q.1) ds) (pairs_below (suc k)) (λ q m.
     let l = pairs_in (suc k) q m in
     let a = at q.0 (omega arith) in let b = at q.1 (omega arith) in
-    any_map (is_between_labels (slice_index (map f terms) q.0) (slice_index (map f terms) q.1)) (λ q. (f q.0, f q.1)) ds ∙ (λ i. any (λ p. (nat_eq (f p.0) (a i) && nat_eq (f p.1) (b i)) || (nat_eq (f p.0) (b i) && nat_eq (f p.1) (a i))) ds)) in
-    let c = ap (λ m. filter (is_cell_label (map f terms) (map f cs)) (upto m)) n ∙ filter_same (is_cell_label (map f terms) (map f cs)) (λ i. is_least f (term_at terms) i && any (is_in_class f (term_at terms) i) cs) (upto (suc k)) (λ i m.
+    any_map (is_between_labels (slice_index (map f terms) q.0) (slice_index (map f terms) q.1)) (λ q. (f q.0, f q.1)) ds ∙ (λ i. list_any (λ p. (nat_eq (f p.0) (a i) && nat_eq (f p.1) (b i)) || (nat_eq (f p.0) (b i) && nat_eq (f p.1) (a i))) ds)) in
+    let c = ap (λ m. filter (is_cell_label (map f terms) (map f cs)) (upto m)) n ∙ filter_same (is_cell_label (map f terms) (map f cs)) (λ i. is_least f (term_at terms) i && list_any (is_in_class f (term_at terms) i) cs) (upto (suc k)) (λ i m.
     let l = upto_in (suc k) i m in
     let a = at i l in
     let least = any_same (λ j. nat_eq (slice_index (map f terms) j) (slice_index (map f terms) i)) (λ j. is_in_class f (term_at terms) i (term_at terms j)) (upto i) (λ j m. let l' = upto_in i j m in let b = at j (omega arith) in λ z. nat_eq (b z) (a z)) in
-    let some = any_map (λ c. nat_eq c (slice_index (map f terms) i)) f cs ∙ (λ z. any (λ t. nat_eq (f t) (a z)) cs) in
+    let some = any_map (λ c. nat_eq c (slice_index (map f terms) i)) f cs ∙ (λ z. list_any (λ t. nat_eq (f t) (a z)) cs) in
     λ z. not (least z) && some z) in
     λ i. record { same = s i; differ = d i; cells = c i }

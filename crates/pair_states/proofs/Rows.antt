@@ -2,10 +2,13 @@
 use Rattle.std.proofs.Common.{◌≡◌, inl, inr, ℕ, suc, ◌+◌, List, [], ◌∷◌, ◌++◌, map, filter, Bool, true, false, ◌||◌, ◌&&◌, arith, sym, refl, ap, ◌∙◌}
 use Rattle.std.specs.Prelude.{if◌then◌else◌, nat_eq, slice_index}
 use Rattle.std.proofs.lemmas.Bool.{cases_Bool, eqb-true}
-use Rattle.pair_family.specs.Combination.{any, upto, pairs_below}
+use Rattle.pair_family.specs.Combination.{upto, pairs_below}
 use Rattle.pair_states.specs.Labels.{relabelled, row, has_same, neighbours, has_difference, is_between_labels}
 use Rattle.pair_family.proofs.ByAtom.{append_three}
 use Rattle.std.proofs.lemmas.List.{map-append}
+use Rattle.std.specs.List.{list_any}
+use Rattle.std.proofs.lemmas.List.Folds.{list_any-append}
+use Rattle.std.proofs.Math.Bool.{or-false}
 
 filter_append : {X : Type 0} (t : X → Bool) (xs ys : List X) → filter t (xs ++ ys) ≡ filter t xs ++ filter t ys
 filter_append t [] ys = refl
@@ -31,11 +34,7 @@ next_row t j now next a b =
     let e : suc j ≡ j + 1 = omega arith in
     b ∙ ap (λ z. z ++ filter t (row j j)) a ∙ sym (filter_append t (pairs_below j) (row j j)) ∙ ap (λ n. filter t (pairs_below n)) e
 
-any_joined : {X : Type 0} (t : X → Bool) (xs ys : List X) → any t (xs ++ ys) ≡ (any t xs || any t ys)
-any_joined t [] ys = refl
-any_joined t (x ∷ xs) ys = elim (cases_Bool (t x)) [ inl z ↦ rw z refl | inr z ↦ rw z (any_joined t xs ys) ]
-
-any_if : (t : ℕ → Bool) (b : Bool) (x : ℕ) → any t (if b then x ∷ [] else []) ≡ (b && t x)
+any_if : (t : ℕ → Bool) (b : Bool) (x : ℕ) → list_any t (if b then x ∷ [] else []) ≡ (b && t x)
 any_if t true x = elim (t x) as (λ z. (z || false) ≡ (true && z)) [ true ↦ refl | false ↦ refl ]
 any_if t false x = refl
 
@@ -53,7 +52,7 @@ four false true false s z = refl
 four false false false s z = refl
 
 -- a label is a neighbour where a difference joins the two
-pub near_is : (a b : ℕ) (ds : List (ℕ × ℕ)) → any (λ c. nat_eq c a) (neighbours b ds) ≡ any (is_between_labels a b) ds
+pub near_is : (a b : ℕ) (ds : List (ℕ × ℕ)) → list_any (λ c. nat_eq c a) (neighbours b ds) ≡ list_any (is_between_labels a b) ds
 near_is a b [] = refl
 near_is a b (d ∷ ds) =
     let t : ℕ → Bool = λ c. nat_eq c a in
@@ -62,23 +61,21 @@ near_is a b (d ∷ ds) =
     let rest = near_is a b ds in
     let x = any_if t (nat_eq d.0 b) d.1 in
     let y = any_if t (nat_eq d.1 b) d.0 in
-    any_joined t one (two ++ neighbours b ds) ∙ ap (λ z. any t one || z) (any_joined t two (neighbours b ds)) ∙ (λ i. x i || (y i || rest i)) ∙ four (nat_eq d.0 a) (nat_eq d.1 b) (nat_eq d.0 b) (nat_eq d.1 a) (any (is_between_labels a b) ds)
+    list_any-append t one (two ++ neighbours b ds) ∙ ap (λ z. list_any t one || z) (list_any-append t two (neighbours b ds)) ∙ (λ i. x i || (y i || rest i)) ∙ four (nat_eq d.0 a) (nat_eq d.1 b) (nat_eq d.0 b) (nat_eq d.1 a) (list_any (is_between_labels a b) ds)
 
-pub difference_row : (labels : List ℕ) (ds : List (ℕ × ℕ)) (j i : ℕ) (b : Bool) (near : List ℕ) (old now next : List (ℕ × ℕ)) → now ≡ old ++ filter (has_difference labels ds) (row j i) → b ≡ any (λ c. nat_eq c (slice_index labels i)) near → near ≡ neighbours (slice_index labels j) ds → next ≡ now ++ (if b then (i, j) ∷ [] else []) → next ≡ old ++ filter (has_difference labels ds) (row j (i + 1))
+pub difference_row : (labels : List ℕ) (ds : List (ℕ × ℕ)) (j i : ℕ) (b : Bool) (near : List ℕ) (old now next : List (ℕ × ℕ)) → now ≡ old ++ filter (has_difference labels ds) (row j i) → b ≡ list_any (λ c. nat_eq c (slice_index labels i)) near → near ≡ neighbours (slice_index labels j) ds → next ≡ now ++ (if b then (i, j) ∷ [] else []) → next ≡ old ++ filter (has_difference labels ds) (row j (i + 1))
 difference_row labels ds j i b near old now next a e n c =
-    let here : List (ℕ × ℕ) = if any (is_between_labels (slice_index labels i) (slice_index labels j)) ds then (i, j) ∷ [] else [] in
-    let e' : b ≡ any (is_between_labels (slice_index labels i) (slice_index labels j)) ds = e ∙ ap (any (λ c. nat_eq c (slice_index labels i))) n ∙ near_is (slice_index labels i) (slice_index labels j) ds in
+    let here : List (ℕ × ℕ) = if list_any (is_between_labels (slice_index labels i) (slice_index labels j)) ds then (i, j) ∷ [] else [] in
+    let e' : b ≡ list_any (is_between_labels (slice_index labels i) (slice_index labels j)) ds = e ∙ ap (list_any (λ c. nat_eq c (slice_index labels i))) n ∙ near_is (slice_index labels i) (slice_index labels j) ds in
     c ∙ ap (λ x. now ++ (if x then (i, j) ∷ [] else [])) e' ∙ ap (λ z. z ++ here) a ∙ sym (append_three old (filter (has_difference labels ds) (row j i)) here) ∙ ap (λ z. old ++ z) (sym (row_next (has_difference labels ds) j i))
 
-pub any_next : (t : ℕ → Bool) (i : ℕ) (found next : Bool) → found ≡ any t (upto i) → next ≡ (found || t i) → next ≡ any t (upto (i + 1))
+pub any_next : (t : ℕ → Bool) (i : ℕ) (found next : Bool) → found ≡ list_any t (upto i) → next ≡ (found || t i) → next ≡ list_any t (upto (i + 1))
 any_next t i found next a b =
     let e : suc i ≡ i + 1 = omega arith in
-    b ∙ ap (λ z. z || t i) a ∙ sym (any_append t (upto i) i) ∙ ap (λ n. any t (upto n)) e
+    b ∙ ap (λ z. z || t i) a ∙ sym (any_append t (upto i) i) ∙ ap (λ n. list_any t (upto n)) e
   where
-    any_append : (t : ℕ → Bool) (xs : List ℕ) (x : ℕ) → any t (xs ++ (x ∷ [])) ≡ (any t xs || t x)
-    any_append t [] x = elim (t x) as (λ b. (b || false) ≡ (false || b)) [ true ↦ refl | false ↦ refl ]
-    any_append t (y ∷ xs) x =
-        elim (cases_Bool (t y)) [ inl z ↦ rw z refl | inr z ↦ rw z (any_append t xs x) ]
+    any_append : (t : ℕ → Bool) (xs : List ℕ) (x : ℕ) → list_any t (xs ++ (x ∷ [])) ≡ (list_any t xs || t x)
+    any_append t xs x = list_any-append t xs (x ∷ []) ∙ ap (λ b. list_any t xs || b) (or-false (t x))
 
 pub cell_next : (t : ℕ → Bool) (i : ℕ) (b : Bool) (now next : List ℕ) → now ≡ filter t (upto i) → b ≡ t i → next ≡ now ++ (if b then i ∷ [] else []) → next ≡ filter t (upto (i + 1))
 cell_next t i b now next a e c =

@@ -1,8 +1,9 @@
 -- What labels say: each kept term's class is told by a label, equal for terms of one class.
 use Rattle.std.specs.Prelude.{◌≡◌, ◌≢◌, ◌↔◌, ◌⊎◌, ℕ, List, [], ◌∷◌, ◌++◌, map, filter, not, ◌&&◌, ◌||◌, Bool, true, false, nat_eq, slice_index, if◌then◌else◌, length, Option, MatchOption}
+use Rattle.std.specs.List.{list_any}
 use Rattle.heap_formula.specs.Words.{Each, OneOf}
 use Rattle.pair_family.specs.BasePairs.{BasePair}
-use Rattle.pair_family.specs.Combination.{any, upto, pairs_below, each_two}
+use Rattle.pair_family.specs.Combination.{upto, pairs_below, each_two}
 
 -- the pairs (0, j), (1, j), .. whose first is below n
 abbrev pub row : ℕ → ℕ → List (ℕ × ℕ)
@@ -15,7 +16,7 @@ abbrev pub is_between_labels : ℕ → ℕ → ℕ × ℕ → Bool
 is_between_labels a b d = (nat_eq d.0 a && nat_eq d.1 b) || (nat_eq d.0 b && nat_eq d.1 a)
 
 abbrev pub has_difference : List ℕ → List (ℕ × ℕ) → ℕ × ℕ → Bool
-has_difference labels ds q = any (is_between_labels (slice_index labels q.0) (slice_index labels q.1)) ds
+has_difference labels ds q = list_any (is_between_labels (slice_index labels q.0) (slice_index labels q.1)) ds
 
 -- the labels that differences join with a label
 abbrev pub neighbours : ℕ → List (ℕ × ℕ) → List ℕ
@@ -23,10 +24,10 @@ neighbours b [] = []
 neighbours b (d ∷ ds) = (if nat_eq d.0 b then d.1 ∷ [] else []) ++ ((if nat_eq d.1 b then d.0 ∷ [] else []) ++ neighbours b ds)
 
 abbrev pub is_first_label : List ℕ → ℕ → Bool
-is_first_label labels i = not (any (λ j. nat_eq (slice_index labels j) (slice_index labels i)) (upto i))
+is_first_label labels i = not (list_any (λ j. nat_eq (slice_index labels j) (slice_index labels i)) (upto i))
 
 abbrev pub is_cell_label : List ℕ → List ℕ → ℕ → Bool
-is_cell_label labels cs i = is_first_label labels i && any (λ c. nat_eq c (slice_index labels i)) cs
+is_cell_label labels cs i = is_first_label labels i && list_any (λ c. nat_eq c (slice_index labels i)) cs
 
 -- the pairs of numbers whose labels a difference joins
 abbrev pub different_pairs : List ℕ → List (ℕ × ℕ) → List (ℕ × ℕ)

@@ -6,6 +6,8 @@ use Rattle.std.specs.Str.{encode_utf8_all}
 use Rattle.std.specs.Char.{is_ascii_digit}
 use Rattle.std.specs.List.{prefix_len}
 use Rattle.std.proofs.lemmas.Bool.Decides.{nat_tests}
+use Rattle.std.proofs.lemmas.Bool.{both_ways, false_from_ne_true}
+use Rattle.std.proofs.Math.Bool.{and-false}
 use Rattle.cyc_lex.specs.declared.token.Kind.TheVariants.{Name, Number, Symbol, End}
 use Rattle.cyc_lex.specs.declared.place.Place.{Place}
 use Rattle.cyc_lex.specs.declared.place.Run.TheVariants as runs
@@ -62,20 +64,12 @@ chosen P false false false true one kc kn kd a b e f g i = f refl refl refl refl
 chosen P false false false false true kc kn kd a b e f g i = g refl refl refl refl refl
 chosen P false false false false false kc kn kd a b e f g i = i refl refl refl refl refl
 
-and-none : (a : Bool) → (a && false) ≡ false
-and-none true = refl
-and-none false = refl
-
 double-zero : (c : ℕ) → is_double c 0 ≡ false
-double-zero c = rw (and-none (c == 124), and-none (c == 45), and-none (c == 58), and-none (c == 33)) refl
-
-not-true : (b : Bool) → (b ≡ true → ⊥) → b ≡ false
-not-true true h = absurd (h refl)
-not-true false h = refl
+double-zero c = rw (and-false (c == 124), and-false (c == 45), and-false (c == 58), and-false (c == 33)) refl
 
 -- a character that may not grow begins no symbol of two
 double-none : (c d : ℕ) → is_single c ≡ false → ((c == 33) || (c == 45)) ≡ false → is_double c d ≡ false
-double-none c d single other = not-true (is_double c d) (λ h. double-cases (λ c d. is_single c ≡ false → ((c == 33) || (c == 45)) ≡ false → ⊥) (λ a b. cc) (λ a b. cc) (λ a b. cc) (λ a b. cc) c d h single other)
+double-none c d single other = false_from_ne_true (is_double c d) (λ h. double-cases (λ c d. is_single c ≡ false → ((c == 33) || (c == 45)) ≡ false → ⊥) (λ a b. cc) (λ a b. cc) (λ a b. cc) (λ a b. cc) c d h single other)
 
 free-token : (n k : ℕ) → (nat_le n k && true) ≡ false → k < n
 free-token n k h = grind (arith, nat_tests)
@@ -253,7 +247,7 @@ ten c h = eqb-true c 10 (by_test (c == 10) h)
 
 line-feed-free : (c : ℕ) (cs : List ℕ) → goes_on runs.Comment c ≡ false → is_held c cs ≡ false
 unfolding is_held
-line-feed-free c cs h = rw (ten c h) (and-none (nat_le (length cs) 0))
+line-feed-free c cs h = rw (ten c h) (and-false (nat_le (length cs) 0))
 
 no-skip : (b : Bool) (j c : ℕ) (cs z : List ℕ) → IsSkip b 0 j (c ∷ cs) z → j ≡ 0
 no-skip false j c cs z h = h.1
@@ -286,11 +280,7 @@ piece-le c cs = any-choice (λ m. m.1 ≤ length cs) (is_space c) (c == 35) (sta
     (omega arith) (prefix-le (goes_on runs.Comment) cs) (λ n. prefix-le (goes_on runs.Name) cs) (λ d. prefix-le (goes_on runs.Number) cs) (λ two. by_list cs two) (λ one. omega arith) (omega arith)
   where
     by_list : (cs : List ℕ) → is_double c (slice_index cs 0) ≡ true → 1 ≤ length cs
-    by_list [] h = absurd (differ (is_double c 0) (double-zero c) h)
-      where
-        differ : (b : Bool) → b ≡ false → b ≡ true → ⊥
-        differ true e f = cc
-        differ false e f = cc
+    by_list [] h = absurd (both_ways (is_double c 0) (double-zero c) h)
     by_list (d ∷ ds) h = omega arith
 
 -- a comment goes up to the line feed

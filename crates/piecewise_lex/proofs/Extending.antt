@@ -3,7 +3,7 @@ use Rattle.std.proofs.Common.{◌≡◌, ℕ, zero, suc, ◌+◌, ◌-◌, ◌<�
 use Rattle.std.specs.Prelude.{◌==◌, is_none}
 use Rattle.std.specs.Str.{chars, encode_utf8_all, all_scalars, IsUtf8}
 use Rattle.std.specs.Str.Lossy.{utf8_valid_len, utf8_error_len}
-use Rattle.std.proofs.lemmas.Bool.{cases_Bool, eq-eqb, ne_eqb}
+use Rattle.std.proofs.lemmas.Bool.{cases_Bool, eq-eqb, ne_eqb, both_ways}
 use Rattle.std.proofs.lemmas.List.{take_at, take_all, take-append-drop, append-nil}
 use Rattle.std.proofs.lemmas.Str.{chars-encodes, chars-append, encodes-append, encodes-chars, scalars-chars, utf8_valid_len-IsUtf8}
 use Rattle.cyc_lex.specs.declared.place.Place.{Place}
@@ -22,12 +22,8 @@ use Rattle.std.proofs.str.Laws.{order}
 shift-test : (n a b : ℕ) → (n + a == n + b) ≡ (a == b)
 shift-test n a b = ⊎_elim
     (λ (yes : (a == b) ≡ true). eq-eqb (n + a) (n + b) (ap (λ k. n + k) (eqb-true a b yes)) ∙ sym yes)
-    (λ (no : (a == b) ≡ false). ne_eqb (n + a) (n + b) (λ e. differ (a == b) (eq-eqb a b (omega (arith, e))) no) ∙ sym no)
+    (λ (no : (a == b) ≡ false). ne_eqb (n + a) (n + b) (λ e. both_ways (a == b) no (eq-eqb a b (omega (arith, e)))) ∙ sym no)
     (cases_Bool (a == b))
-  where
-    differ : (b : Bool) → b ≡ true → b ≡ false → ⊥
-    differ true e f = cc
-    differ false e f = cc
 
 -- whether all of the bytes are characters
 abbrev is_whole : List ℕ → Bool
@@ -220,11 +216,7 @@ module _ (bytes rest : List ℕ) (bad : is_cut bytes ≡ false) where
       drop-all (suc n) (x ∷ xs) h = let less : length xs ≤ n = omega (arith, h) in drop-all n xs less
 
       by_nil : (tail : List ℕ) → tail ≡ [] → is_none (utf8_error_len tail) ≡ false → ⊥
-      by_nil tail e f = differ (is_none (utf8_error_len tail)) (ap (λ (t : List ℕ). is_none (utf8_error_len t)) e ∙ ap is_none error-nil) f
-        where
-          differ : (b : Bool) → b ≡ true → b ≡ false → ⊥
-          differ true e f = cc
-          differ false e f = cc
+      by_nil tail e f = both_ways (is_none (utf8_error_len tail)) f (ap (λ (t : List ℕ). is_none (utf8_error_len t)) e ∙ ap is_none error-nil)
 
   not-whole : is_whole bytes ≡ false
   not-whole = ne_eqb _ _ (λ e. omega (arith, e, short))

@@ -1,6 +1,7 @@
 -- Why definitions are refused: the first cause in a written order.
 use Rattle.std.specs.Prelude.{◌≡◌, ℕ, List, [], ◌∷◌, length, Bool, true, false, ◌||◌, nat_eq, nat_lt, nat_le, if◌then◌else◌, Option, Some, None, slice_get, Result, Ok, Err}
 use Rattle.std.specs.Str.{bytes_eq}
+use Rattle.std.specs.List.{list_any}
 use Rattle.cyc_limits.specs.declared.TheConstants.{MOST_ARGUMENTS, MOST_CASES, MOST_LOCALS, MOST_PREDICATES}
 use Rattle.heap_formula.specs.declared.atoms.Spatial.{Spatial}
 use Rattle.heap_formula.specs.declared.atoms.Spatial.TheVariants.{Cell, Pred}
@@ -16,11 +17,6 @@ use Rattle.pred_defs.specs.Book.{DefinitionBook}
 abbrev pub has_name : List Definition → List ℕ → Bool
 has_name [] name = false
 has_name (d ∷ ds) name = bytes_eq d.name name || has_name ds name
-
--- the test holds of some member
-abbrev pub some_member : {X : Type 0} → (X → Bool) → List X → Bool
-some_member p [] = false
-some_member p (x ∷ xs) = p x || some_member p xs
 
 -- a case has more than this many spatial atoms
 abbrev pub is_long : ℕ → SymbolicHeap → Bool
@@ -41,9 +37,9 @@ push_fault book name arity cases =
     else if nat_le MOST_PREDICATES (length book.list) then Some (Limit Predicates)
     else if nat_lt MOST_ARGUMENTS arity then Some (Limit Arguments)
     else if nat_lt MOST_CASES (length cases) then Some (Limit Cases)
-    else if some_member (is_long book.most) cases then Some (Limit SpatialAtoms)
-    else if some_member has_far_local cases then Some (Limit Locals)
-    else if some_member (has_stranger arity) cases then Some Parameter
+    else if list_any (is_long book.most) cases then Some (Limit SpatialAtoms)
+    else if list_any has_far_local cases then Some (Limit Locals)
+    else if list_any (has_stranger arity) cases then Some Parameter
     else None
 
 -- ---- uses of predicates

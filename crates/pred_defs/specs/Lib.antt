@@ -1,4 +1,3 @@
 pub mod Book
 pub mod Faults
 pub mod Bodies
-pub mod Families

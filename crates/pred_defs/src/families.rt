@@ -2,8 +2,7 @@
 ghost use Rattle.std.specs.Prelude.{ℕ, List, ◌≡◌, length};
 ghost use Rattle.heap_formula.specs.Definitions.{Definition};
 ghost use Rattle.heap_formula.specs.Cells.{Cells};
-ghost use Rattle.heap_formula.specs.Meaning.{least};
-ghost use Rattle.pred_defs.specs.Families.{IsClosed};
+ghost use Rattle.heap_formula.specs.Meaning.{least, IsClosed};
 
 /// A meaning of the predicates of some definitions that is closed under every case.
 pub trait ClosedFamily {

@@ -3,7 +3,7 @@ ghost use Rattle.std.specs.Prelude.{◌≡◌, ◌≢◌, ◌≤◌, ◌<◌, �
 ghost use Rattle.heap_formula.specs.Definitions.{Definition};
 ghost use Rattle.heap_formula.specs.Meaning.{cases_of};
 ghost use Rattle.heap_formula.specs.Fresh.{heap_bound, heap_exists};
-ghost use Rattle.pred_defs.specs.Faults.{first_fault, has_name as list_has_name, some_member, is_long, has_far_local, has_stranger, push_fault, use_fault, case_fault, definition_fault, closed_fault, IsRefusal};
+ghost use Rattle.pred_defs.specs.Faults.{first_fault, has_name as list_has_name, is_long, has_far_local, has_stranger, push_fault, use_fault, case_fault, definition_fault, closed_fault, IsRefusal};
 
 use crate::faults::DefFault;
 use cyc_limits::{MOST_ARGUMENTS, MOST_CASES, MOST_LOCALS, MOST_PREDICATES, MOST_SPATIAL};
@@ -23,6 +23,7 @@ pub struct Defs {
 impl Model for Defs {
     ghost use Rattle.pred_defs.specs.Book.{DefinitionBook};
     ghost use Rattle.std.specs.Prelude.{length, ◌≤◌};
+ghost use Rattle.std.specs.List.{list_any};
     ghost use Rattle.cyc_limits.specs.declared.TheConstants.{MOST_PREDICATES, MOST_SPATIAL};
 
     ghost Value = { DefinitionBook };
@@ -162,7 +163,7 @@ fn has_name(defs: &[Def], name: &str) -> bool
 }
 
 fn some_is_long(most: usize, cases: &[Heap]) -> bool
-    ensures { result ≡ some_member (is_long most) cases.now }
+    ensures { result ≡ list_any (is_long most) cases.now }
 {
     for case in cases {
         if case.spatial().len() > most {
@@ -173,7 +174,7 @@ fn some_is_long(most: usize, cases: &[Heap]) -> bool
 }
 
 fn some_has_far_local(cases: &[Heap]) -> bool
-    ensures { result ≡ some_member has_far_local cases.now }
+    ensures { result ≡ list_any has_far_local cases.now }
 {
     for case in cases {
         if exists_in_heap(case) > MOST_LOCALS {
@@ -184,7 +185,7 @@ fn some_has_far_local(cases: &[Heap]) -> bool
 }
 
 fn some_has_stranger(arity: u32, cases: &[Heap]) -> bool
-    ensures { result ≡ some_member (has_stranger arity) cases.now }
+    ensures { result ≡ list_any (has_stranger arity) cases.now }
 {
     for case in cases {
         if bound_of_heap(case) > arity {

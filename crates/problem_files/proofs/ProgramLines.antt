@@ -7,7 +7,8 @@ use Rattle.heap_formula.specs.declared.terms.Term.TheVariants as terms
 use Rattle.heap_formula.specs.declared.commands.Command.{Command}
 use Rattle.heap_formula.specs.declared.commands.Command.TheVariants as commands
 use Rattle.heap_formula.specs.Closedness.{IsUniversal}
-use Rattle.heap_formula.specs.Programs.{term_bound, command_bound}
+use Rattle.heap_formula.specs.Programs.{command_bound}
+use Rattle.heap_formula.specs.Fresh.{univ_bound}
 use Rattle.heap_formula.specs.Words.{Each}
 use Rattle.goto_lang.specs.Lines.{IsUniversalCommand, IsFieldNumber, IsLineOf, MayStandAt, IsProgram}
 use Rattle.rule_table.specs.Tests.{is_universal}
@@ -73,13 +74,13 @@ unfolding shared.sign
 sign_fits true = (tt, tt)
 sign_fits false = (tt, tt)
 
-operand_fits : (t : Term) → IsUniversal t → term_bound t ≤ 64 → (syntax.operand variable).fits (operand_tree t)
+operand_fits : (t : Term) → IsUniversal t → univ_bound t ≤ 64 → (syntax.operand variable).fits (operand_tree t)
 unfolding syntax.operand variable
 operand_fits terms.Nil u b = (tt, tt)
 operand_fits (terms.Univ n) u b = (tt, omega arith)
 operand_fits (terms.Exist n) u b = absurd u
 
-store_fits : (version : Version) (t : Term) (k : ℕ) (u : Term) → k ≤ 8 → IsUniversal t → IsUniversal u → term_bound t ≤ 64 → term_bound u ≤ 64 → (syntax.command version variable).fits (command_tree (commands.Store t k u))
+store_fits : (version : Version) (t : Term) (k : ℕ) (u : Term) → k ≤ 8 → IsUniversal t → IsUniversal u → univ_bound t ≤ 64 → univ_bound u ≤ 64 → (syntax.command version variable).fits (command_tree (commands.Store t k u))
 unfolding syntax.command syntax.update syntax.store syntax.change variable
 store_fits version terms.Nil k u h p q b c = (tt, (omega arith, operand_fits u q c))
 store_fits version (terms.Univ x) k u h p q b c = (tt, (omega arith, (tt, (omega arith, operand_fits u q c))))
@@ -95,7 +96,7 @@ unfolding syntax.behind_if syntax.free_branch syntax.last_number
 free_fits true j known h = h
 free_fits false j known h = cc
 
-branch_fits : (t u : Term) (equal : Bool) (j : ℕ) → IsUniversal t → IsUniversal u → term_bound t ≤ 64 → term_bound u ≤ 64 → j < 10 ^ 9 → (syntax.branch variable).fits (operand_tree t, (equal, (operand_tree u, j)))
+branch_fits : (t u : Term) (equal : Bool) (j : ℕ) → IsUniversal t → IsUniversal u → univ_bound t ≤ 64 → univ_bound u ≤ 64 → j < 10 ^ 9 → (syntax.branch variable).fits (operand_tree t, (equal, (operand_tree u, j)))
 unfolding syntax.branch syntax.last_number
 branch_fits t u equal j p q b c h = (operand_fits t p b, (sign_fits equal, (operand_fits u q c, h)))
 
@@ -148,7 +149,7 @@ no_over b what k e = ap (λ (c : Bool). over_if c what k) e
 variable_good : (n : ℕ) → n ≤ 63 → (k : ℕ) → variable_flaw k n ≡ None
 variable_good n h k = no_over (nat_lt 63 n) ProgramVariables (k + 1) (le-ltb 63 n h)
 
-operand_good : (t : Term) → IsUniversal t → term_bound t ≤ 64 → (k : ℕ) → operand_flaw variable_flaw variable_span k (operand_tree t) ≡ None
+operand_good : (t : Term) → IsUniversal t → univ_bound t ≤ 64 → (k : ℕ) → operand_flaw variable_flaw variable_span k (operand_tree t) ≡ None
 operand_good terms.Nil u b k = refl
 operand_good (terms.Univ n) u b k = variable_good n (omega arith) k
 operand_good (terms.Exist n) u b k = absurd u
@@ -159,7 +160,7 @@ field_good n h k =
     let most = h.1 in
     no_over (nat_eq n 0 || nat_lt 8 n) Fields k (or_from (nat_eq n 0) (nat_lt 8 n) (ne_eqb n 0 (λ e. omega arith)) (le-ltb 8 n most))
 
-store_good : (count : ℕ) (t : Term) (n : ℕ) (u : Term) → IsFieldNumber n → IsUniversal t → IsUniversal u → term_bound t ≤ 64 → term_bound u ≤ 64 → (k : ℕ) → command_flaw variable_flaw variable_span count k (command_tree (commands.Store t n u)) ≡ None
+store_good : (count : ℕ) (t : Term) (n : ℕ) (u : Term) → IsFieldNumber n → IsUniversal t → IsUniversal u → univ_bound t ≤ 64 → univ_bound u ≤ 64 → (k : ℕ) → command_flaw variable_flaw variable_span count k (command_tree (commands.Store t n u)) ≡ None
 store_good count terms.Nil n u h p q b c k =
     none_later (field_flaw (k + 2) n) (operand_flaw variable_flaw variable_span (k + 4) (operand_tree u)) (field_good n h (k + 2)) (operand_good u q c (k + 4))
 store_good count (terms.Univ x) n u h p q b c k =
@@ -178,7 +179,7 @@ module _ (count : ℕ) (most : count ≤ 4096) where
       let last = line.1 in
       no_ill (nat_eq j 0 || nat_lt count j) Jump k (or_from (nat_eq j 0) (nat_lt count j) (ne_eqb j 0 (λ e. omega arith)) (le-ltb count j last))
 
-  branch_good : (t u : Term) (j : ℕ) → IsUniversal t → IsUniversal u → term_bound t ≤ 64 → term_bound u ≤ 64 → IsLineOf count j → (k : ℕ) →
+  branch_good : (t u : Term) (j : ℕ) → IsUniversal t → IsUniversal u → univ_bound t ≤ 64 → univ_bound u ≤ 64 → IsLineOf count j → (k : ℕ) →
       or_later (operand_flaw variable_flaw variable_span k (operand_tree t)) (or_later (operand_flaw variable_flaw variable_span (k + operand_span variable_span (operand_tree t)) (operand_tree u)) (jump_flaw count (k + operand_span variable_span (operand_tree t) + operand_span variable_span (operand_tree u)) j)) ≡ None
   branch_good t u j p q b c line k =
       let at = k + operand_span variable_span (operand_tree t) in

@@ -3,7 +3,7 @@ use Rattle.std.proofs.Common.{◌≡◌, ℕ, Bool, false, List, Some, refl}
 use Rattle.std.specs.Prelude.{slice_get}
 use Rattle.std.proofs.lemmas.Option.{slice_get_within}
 use Rattle.heap_formula.specs.declared.commands.Command.{Command}
-use Rattle.heap_formula.specs.Definitions.{Definition}
+use Rattle.heap_formula.specs.Definitions.{Definition, HasFewCases}
 use Rattle.heap_formula.specs.Words.{Each}
 use Rattle.heap_formula.specs.Judgements.{JudgementHolds}
 use Rattle.heap_formula.proofs.JudgementLaws.{holds-at_all}
@@ -13,7 +13,7 @@ use Rattle.trace_pairs.specs.Graph.{Node as GraphNode}
 use Rattle.trace_pairs.specs.Lasso.{AllProgress}
 use Rattle.trace_pairs.proofs.Orders.{right_graph}
 use Rattle.buchi_inclusion.proofs.Exact.{descends_by_lassos}
-use Rattle.node_reasons.specs.Graphs.{graph_node, graph_of, AreRight, AreReadable, HasFewCases, HasSmallHeaps}
+use Rattle.node_reasons.specs.Graphs.{graph_node, graph_of, AreRight, AreReadable, HasSmallHeaps}
 use Rattle.node_reasons.proofs.RightGraphs.{graph_right, graph_local}
 use Rattle.list_facts.proofs.Places.{get_map}
 

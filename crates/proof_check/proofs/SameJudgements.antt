@@ -1,5 +1,5 @@
 -- Two judgements are one as data exactly where the table's test says so.
-use Rattle.std.proofs.Common.{◌≡◌, ◌↔◌, Bool, true, List, [], ◌∷◌, refl, subst}
+use Rattle.std.proofs.Common.{◌≡◌, ◌↔◌, Bool, true, refl, subst}
 use Rattle.std.specs.Prelude.{nat_eq}
 use Rattle.std.proofs.lemmas.Bool.Decides.{Decides-eqb}
 use Rattle.heap_formula.specs.declared.atoms.Pure.{Pure}
@@ -8,27 +8,24 @@ use Rattle.heap_formula.specs.declared.judgements.Judgement.{Judgement}
 use Rattle.heap_formula.specs.declared.judgements.Judgement.TheVariants.{Entail, Term as Runs}
 use Rattle.heap_formula.specs.Symbolic.{SymbolicHeap}
 use Rattle.rule_table.specs.Tests.{same_term, same_pure, same_spatial}
-use Rattle.rule_table.specs.Nodes.{all_same, same_heap, same_judgement}
+use Rattle.rule_table.specs.Nodes.{same_heap, same_judgement}
 use Rattle.rule_table.proofs.Reflects.{same_term_self, same_spatial_self}
 use Rattle.rule_table.proofs.RightNodes.{same_judgement_is}
 use Rattle.std.proofs.lemmas.Bool.{and_from as both_true}
-use Rattle.list_facts.proofs.Tests.{bool_same}
+use Rattle.std.specs.Cmp.Lexicographic.{pointwise}
+use Rattle.list_facts.proofs.Tests.{bool_same, pointwise_self}
 
 same_pure_self : (x : Pure) → same_pure x x ≡ true
 same_pure_self (Eq t u) = both_true (same_term t t) (same_term u u) (same_term_self t) (same_term_self u)
 same_pure_self (Neq t u) = both_true (same_term t t) (same_term u u) (same_term_self t) (same_term_self u)
 
-pub all_same_self : {X : Type 0} (same : X → X → Bool) → ((x : X) → same x x ≡ true) → (xs : List X) → all_same same xs xs ≡ true
-all_same_self same f [] = refl
-all_same_self same f (x ∷ xs) = both_true (same x x) (all_same same xs xs) (f x) (all_same_self same f xs)
-
 pub same_heap_self : (a : SymbolicHeap) → same_heap a a ≡ true
 same_heap_self a =
-    both_true (all_same same_pure a.pure a.pure) (all_same same_spatial a.spatial a.spatial) (all_same_self same_pure same_pure_self a.pure) (all_same_self same_spatial same_spatial_self a.spatial)
+    both_true (pointwise same_pure a.pure a.pure) (pointwise same_spatial a.spatial a.spatial) (pointwise_self same_pure same_pure_self a.pure) (pointwise_self same_spatial same_spatial_self a.spatial)
 
 pub same_judgement_self : (j : Judgement) → same_judgement j j ≡ true
 same_judgement_self (Entail a bs) =
-    both_true (same_heap a a) (all_same same_heap bs bs) (same_heap_self a) (all_same_self same_heap same_heap_self bs)
+    both_true (same_heap a a) (pointwise same_heap bs bs) (same_heap_self a) (pointwise_self same_heap same_heap_self bs)
 same_judgement_self (Runs i a) = both_true (nat_eq i i) (same_heap a a) ((Decides-eqb i i).1 refl) (same_heap_self a)
 
 pub decided_judgement : (r : Bool) (j k : Judgement) → ((r ≡ true) ↔ (j ≡ k)) → r ≡ same_judgement j k

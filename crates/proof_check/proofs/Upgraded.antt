@@ -1,5 +1,5 @@
 -- A file and its upgrade are correct together, and have one trace graph then.
-use Rattle.std.proofs.Common.{◌≡◌, ℕ, suc, ◌≤◌, Bool, true, List, [], ◌∷◌, map, length, Option, Some, None, refl, sym, ap, subst, ◌∙◌}
+use Rattle.std.proofs.Common.{◌≡◌, ℕ, suc, ◌≤◌, true, List, [], ◌∷◌, map, length, Option, Some, None, refl, sym, ap, subst, ◌∙◌}
 use Rattle.std.specs.Prelude.{Ok, Err, nat_eq, nat_lt, nat_le, slice_get}
 use Rattle.heap_formula.specs.declared.commands.Command.{Command}
 use Rattle.heap_formula.specs.declared.judgements.Judgement.{Judgement}
@@ -10,9 +10,9 @@ use Rattle.heap_formula.specs.declared.proof_rules.Reason.TheVariants.{Step, Bac
 use Rattle.heap_formula.specs.declared.proof_rules.RuleFault.TheVariants.{NoSuchNode, PremiseCount, PremiseDiffers}
 use Rattle.heap_formula.specs.Definitions.{Definition}
 use Rattle.heap_formula.specs.Symbolic.{SymbolicHeap}
-use Rattle.rule_table.specs.Answer.{Answer, every, heaps_of, each_heap}
+use Rattle.rule_table.specs.Answer.{Answer, heaps_of, each_heap}
 use Rattle.rule_table.specs.LinkTable.{first_of, fault_unless}
-use Rattle.rule_table.specs.Nodes.{Node, all_same, same_heap, same_judgement, differs, premises_fault, answer_fault, reason_fault, node_fault, answer_edges, edges_of}
+use Rattle.rule_table.specs.Nodes.{Node, same_heap, same_judgement, differs, premises_fault, answer_fault, reason_fault, node_fault, answer_edges, edges_of}
 use Rattle.rule_table.specs.RuleBook.{rule_answer}
 use Rattle.rule_table.specs.Tests.{same_pure, same_spatial}
 use Rattle.trace_pairs.specs.Lasso.{AllProgress}
@@ -27,31 +27,27 @@ use Rattle.proof_check.specs.Files.{graph_node, graph_of, node_of, nodes_of, Are
 use Rattle.proof_check.specs.Verdicts.{file_graph, IsCorrect}
 use Rattle.proof_check.proofs.WiderRules.{is_few, rule_wide}
 use Rattle.std.proofs.lemmas.Bool.{and_from, and_parts}
+use Rattle.std.specs.List.{list_all}
+use Rattle.std.specs.Cmp.Lexicographic.{pointwise, as_long}
 use Rattle.rule_table.proofs.LinkRule.{none_of_two, no_fault}
 
 -- ---- judgements that are one have as many spatial atoms
 
-same_length : {X : Type 0} (same : X → X → Bool) (xs ys : List X) → all_same same xs ys ≡ true → length xs ≡ length ys
-same_length same [] [] e = refl
-same_length same [] (y ∷ ys) e = absurd cc
-same_length same (x ∷ xs) [] e = absurd cc
-same_length same (x ∷ xs) (y ∷ ys) e = ap suc (same_length same xs ys (and_parts (same x y) (all_same same xs ys) e).1)
-
 heap_few : (most : ℕ) (a b : SymbolicHeap) → same_heap a b ≡ true → is_few most b ≡ true → is_few most a ≡ true
 heap_few most a b e few =
-    let spatial = same_length same_spatial a.spatial b.spatial (and_parts (all_same same_pure a.pure b.pure) (all_same same_spatial a.spatial b.spatial) e).1 in
+    let spatial = as_long same_spatial a.spatial b.spatial (and_parts (pointwise same_pure a.pure b.pure) (pointwise same_spatial a.spatial b.spatial) e).1 in
     ap (λ n. nat_le n most) spatial ∙ few
 
-heaps_few : (most : ℕ) (xs ys : List SymbolicHeap) → all_same same_heap xs ys ≡ true → every (is_few most) ys ≡ true → every (is_few most) xs ≡ true
+heaps_few : (most : ℕ) (xs ys : List SymbolicHeap) → pointwise same_heap xs ys ≡ true → list_all (is_few most) ys ≡ true → list_all (is_few most) xs ≡ true
 heaps_few most [] [] e few = refl
 heaps_few most [] (b ∷ ys) e few = absurd cc
 heaps_few most (a ∷ xs) [] e few = absurd cc
 heaps_few most (a ∷ xs) (b ∷ ys) e few =
-    let h = and_parts (same_heap a b) (all_same same_heap xs ys) e in
-    let f = and_parts (is_few most b) (every (is_few most) ys) few in
-    and_from (is_few most a) (every (is_few most) xs) (heap_few most a b h.0 f.0) (heaps_few most xs ys h.1 f.1)
+    let h = and_parts (same_heap a b) (pointwise same_heap xs ys) e in
+    let f = and_parts (is_few most b) (list_all (is_few most) ys) few in
+    and_from (is_few most a) (list_all (is_few most) xs) (heap_few most a b h.0 f.0) (heaps_few most xs ys h.1 f.1)
 
-judgement_few : (most : ℕ) (i j : Judgement) → same_judgement i j ≡ true → every (is_few most) (heaps_of j) ≡ true → every (is_few most) (heaps_of i) ≡ true
+judgement_few : (most : ℕ) (i j : Judgement) → same_judgement i j ≡ true → list_all (is_few most) (heaps_of j) ≡ true → list_all (is_few most) (heaps_of i) ≡ true
 judgement_few most (Entail a bs) (Entail b cs) e few = heaps_few most (a ∷ bs) (b ∷ cs) e few
 judgement_few most (Runs i a) (Runs k b) e few =
     heaps_few most (a ∷ []) (b ∷ []) (and_from (same_heap a b) true (and_parts (nat_eq i k) (same_heap a b) e).1 refl) few
@@ -71,8 +67,8 @@ premises_of nodes v us (Ok ps) e =
     record { ps = ps; is = refl; fine = (none_of_two (fault_unless (nat_eq (length ps) (length us)) PremiseCount) (premises_fault nodes v 0 ps us) e).1 }
 premises_of nodes v us (Err f) e = absurd cc
 
-module _ (most : ℕ) (nodes : List Node) (few : (u : ℕ) (node : Node) → slice_get nodes u ≡ Some node → every (is_few most) (heaps_of node.judgement) ≡ true) where
-  premise_few : (i u : ℕ) (p : Premise) (o : Option Node) → slice_get nodes u ≡ o → differs nodes i u p o ≡ None → every (is_few most) (heaps_of p.judgement) ≡ true
+module _ (most : ℕ) (nodes : List Node) (few : (u : ℕ) (node : Node) → slice_get nodes u ≡ Some node → list_all (is_few most) (heaps_of node.judgement) ≡ true) where
+  premise_few : (i u : ℕ) (p : Premise) (o : Option Node) → slice_get nodes u ≡ o → differs nodes i u p o ≡ None → list_all (is_few most) (heaps_of p.judgement) ≡ true
   premise_few i u p None at e = absurd cc
   premise_few i u p (Some node) at e =
       judgement_few most p.judgement node.judgement (no_fault (same_judgement p.judgement node.judgement) (PremiseDiffers i) e) (few u node at)
@@ -84,7 +80,7 @@ module _ (most : ℕ) (nodes : List Node) (few : (u : ℕ) (node : Node) → sli
   premises_few v i (p ∷ ps) (u ∷ us) e =
       let a = none_of_two (fault_unless (nat_lt v u) NoSuchNode) (first_of (differs nodes i u p (slice_get nodes u)) (premises_fault nodes v (suc i) ps us)) e in
       let b = none_of_two (differs nodes i u p (slice_get nodes u)) (premises_fault nodes v (suc i) ps us) a.1 in
-      and_from (every (is_few most) (heaps_of p.judgement)) (each_heap (is_few most) ps) (premise_few i u p (slice_get nodes u) refl b.0) (premises_few v (suc i) ps us b.1)
+      and_from (list_all (is_few most) (heaps_of p.judgement)) (each_heap (is_few most) ps) (premise_few i u p (slice_get nodes u) refl b.0) (premises_few v (suc i) ps us b.1)
 
   module _ (more : ℕ) (le : most ≤ more) (ds : List Definition) (lines : List Command) where
     reason_rises : (v : ℕ) (j : Judgement) (us : List ℕ) (r : Reason) → reason_fault most ds lines nodes v j us r ≡ None → reason_fault more ds lines nodes v j us r ≡ None
@@ -129,11 +125,11 @@ module _ (most : ℕ) (nodes : List Node) (few : (u : ℕ) (node : Node) → sli
 
 -- ---- files
 
-few_nodes : (f : ProofFile) (u : ℕ) (node : Node) → slice_get (nodes_of f.nodes) u ≡ Some node → every (is_few f.defs.most) (heaps_of node.judgement) ≡ true
+few_nodes : (f : ProofFile) (u : ℕ) (node : Node) → slice_get (nodes_of f.nodes) u ≡ Some node → list_all (is_few f.defs.most) (heaps_of node.judgement) ≡ true
 few_nodes f u node at =
     let m = mapped_at node_of f.nodes u node at in
     let here = node_is_few f u m.from m.at in
-    subst (λ (n : ℕ). every (is_few n) (heaps_of node.judgement) ≡ true) (sym f.limit) (subst (λ (n : Node). every (is_few (most_spatial f.version)) (heaps_of n.judgement) ≡ true) m.is here)
+    subst (λ (n : ℕ). list_all (is_few n) (heaps_of node.judgement) ≡ true) (sym f.limit) (subst (λ (n : Node). list_all (is_few (most_spatial f.version)) (heaps_of n.judgement) ≡ true) m.is here)
 
 module _ (f g : ProofFile) (up : IsUpgrade f g) where
   limit : g.defs.most ≡ 32

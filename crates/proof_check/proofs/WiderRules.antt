@@ -2,6 +2,7 @@
 use Rattle.std.proofs.Common.{◌≡◌, ℕ, ◌≤◌, Bool, true, false, List, [], ◌∷◌, map, length, Option, Some, None, refl, sym, subst, ◌∙◌, arith}
 use Rattle.std.specs.Prelude.{Ok, Err, ◌+◌, max, nat_le, slice_get}
 use Rattle.std.proofs.lemmas.Bool.{leb-true, le-leb, and_from, and_parts}
+use Rattle.std.specs.List.{list_all}
 use Rattle.heap_formula.specs.declared.atoms.Pure.TheVariants.{Eq, Neq}
 use Rattle.heap_formula.specs.declared.atoms.Spatial.{Spatial}
 use Rattle.heap_formula.specs.declared.atoms.Spatial.TheVariants.{Cell, Pred}
@@ -17,19 +18,19 @@ use Rattle.heap_formula.specs.declared.proof_rules.Rule.TheVariants.{Absurd, Rew
 use Rattle.heap_formula.specs.declared.proof_rules.RuleFault.{RuleFault}
 use Rattle.heap_formula.specs.declared.proof_rules.RuleFault.TheVariants.{NoSuchAtom, NoSuchCase, NoCell, TooManyAtoms, NoFreshVariable, WrongJudgement}
 use Rattle.heap_formula.specs.Definitions.{Definition}
-use Rattle.heap_formula.specs.Fresh.{fresh_number, heap_bound, heap_exists}
+use Rattle.heap_formula.specs.Fresh.{fresh_number, heap_bound, heap_exists, variables_from}
 use Rattle.heap_formula.specs.Judgements.{antecedent}
 use Rattle.heap_formula.specs.Meaning.{cases_of}
 use Rattle.heap_formula.specs.Positions.{kept_pairs}
 use Rattle.heap_formula.specs.Programs.{counted_from_one, program_variables}
 use Rattle.heap_formula.specs.Substitution.{in_heap}
 use Rattle.heap_formula.specs.Symbolic.{SymbolicHeap}
-use Rattle.rule_table.specs.Answer.{Answer, needs, finds, entails, one_heap, single, runs, every, heaps_of, is_short, has_numbers, each_heap, limited, one, two}
-use Rattle.rule_table.specs.ExecTable.{cell_of, at_line, with_atom, with_cell, with_field, renamed, renamed_term, variables_from, command_answer}
+use Rattle.rule_table.specs.Answer.{Answer, needs, finds, entails, one_heap, single, runs, heaps_of, is_short, has_numbers, each_heap, limited, one, two}
+use Rattle.rule_table.specs.ExecTable.{cell_of, at_line, with_atom, with_cell, with_field, renamed, renamed_term, command_answer}
 use Rattle.rule_table.specs.RuleBook.{variables_of, rule_answer}
 use Rattle.rule_table.specs.RuleCut.{cut_left, cut_right}
-use Rattle.rule_table.specs.RuleUnfold.{unfold_premise}
-use Rattle.rule_table.specs.Table.{calls, right_term, unfolded_right, with_right, without_spatial}
+use Rattle.rule_table.specs.RuleUnfold.{unfold_premise, unfolded}
+use Rattle.rule_table.specs.Table.{calls, right_term, with_right, without_spatial}
 use Rattle.rule_table.specs.Tests.{ascend_from, has_number}
 
 -- at most so many spatial atoms
@@ -38,16 +39,16 @@ is_few most a = nat_le (length a.spatial) most
 
 -- ---- tests
 
-every_weaker : {X : Type 0} (p q : X → Bool) → ((x : X) → p x ≡ true → q x ≡ true) → (xs : List X) → every p xs ≡ true → every q xs ≡ true
+every_weaker : {X : Type 0} (p q : X → Bool) → ((x : X) → p x ≡ true → q x ≡ true) → (xs : List X) → list_all p xs ≡ true → list_all q xs ≡ true
 every_weaker p q step [] e = refl
 every_weaker p q step (x ∷ xs) e =
-    let b = and_parts (p x) (every p xs) e in and_from (q x) (every q xs) (step x b.0) (every_weaker p q step xs b.1)
+    let b = and_parts (p x) (list_all p xs) e in and_from (q x) (list_all q xs) (step x b.0) (every_weaker p q step xs b.1)
 
-every_both : {X : Type 0} (p q r : X → Bool) → ((x : X) → p x ≡ true → q x ≡ true → r x ≡ true) → (xs : List X) → every p xs ≡ true → every q xs ≡ true → every r xs ≡ true
+every_both : {X : Type 0} (p q r : X → Bool) → ((x : X) → p x ≡ true → q x ≡ true → r x ≡ true) → (xs : List X) → list_all p xs ≡ true → list_all q xs ≡ true → list_all r xs ≡ true
 every_both p q r step [] e f = refl
 every_both p q r step (x ∷ xs) e f =
-    let b = and_parts (p x) (every p xs) e in
-    let c = and_parts (q x) (every q xs) f in and_from (r x) (every r xs) (step x b.0 c.0) (every_both p q r step xs b.1 c.1)
+    let b = and_parts (p x) (list_all p xs) e in
+    let c = and_parts (q x) (list_all q xs) f in and_from (r x) (list_all r xs) (step x b.0 c.0) (every_both p q r step xs b.1 c.1)
 
 short_wider : (most more : ℕ) → most ≤ more → (a : SymbolicHeap) → is_short most a ≡ true → is_short more a ≡ true
 short_wider most more le a e =
@@ -116,7 +117,7 @@ module _ (most more : ℕ) (le : most ≤ more) where
       rise : (qs : List Premise) → limited most ps ≡ Ok qs → limited more ps ≡ Ok qs
       rise qs e =
           let b = needs_ok (each_heap (is_short most) ps) TooManyAtoms numbers qs e in
-          let short = every_weaker (λ (p : Premise). every (is_short most) (heaps_of p.judgement)) (λ (p : Premise). every (is_short more) (heaps_of p.judgement)) (λ p h. every_weaker (is_short most) (is_short more) (short_wider most more le) (heaps_of p.judgement) h) ps b.0 in
+          let short = every_weaker (λ (p : Premise). list_all (is_short most) (heaps_of p.judgement)) (λ (p : Premise). list_all (is_short more) (heaps_of p.judgement)) (λ p h. every_weaker (is_short most) (is_short more) (short_wider most more le) (heaps_of p.judgement) h) ps b.0 in
           needs_from (each_heap (is_short more) ps) TooManyAtoms numbers short ∙ b.1
 
       fall : (qs : List Premise) → limited more ps ≡ Ok qs → each_heap (is_few most) qs ≡ true → limited most ps ≡ Ok qs
@@ -126,7 +127,7 @@ module _ (most more : ℕ) (le : most ≤ more) where
           let ok : Ok ps ≡ Ok qs = n.1 in
           let is : ps ≡ qs = cc in
           let few_here : each_heap (is_few most) ps ≡ true = subst (λ (xs : List Premise). each_heap (is_few most) xs ≡ true) (sym is) few in
-          let short = every_both (λ (p : Premise). every (is_short more) (heaps_of p.judgement)) (λ (p : Premise). every (is_few most) (heaps_of p.judgement)) (λ (p : Premise). every (is_short most) (heaps_of p.judgement)) (λ p h g. every_both (is_short more) (is_few most) (is_short most) (short_again most more) (heaps_of p.judgement) h g) ps b.0 few_here in
+          let short = every_both (λ (p : Premise). list_all (is_short more) (heaps_of p.judgement)) (λ (p : Premise). list_all (is_few most) (heaps_of p.judgement)) (λ (p : Premise). list_all (is_short most) (heaps_of p.judgement)) (λ p h g. every_both (is_short more) (is_few most) (is_short most) (short_again most more) (heaps_of p.judgement) h g) ps b.0 few_here in
           needs_from (each_heap (is_short most) ps) TooManyAtoms numbers short ∙ b.1
 
   -- ---- rules
@@ -151,7 +152,7 @@ module _ (most more : ℕ) (le : most ≤ more) where
   rule_wide ds lines j (Cut places f) = needs_wide (ascend_from 0 (length (antecedent j).spatial) places) NoSuchAtom _ _ (limited_wide (two (cut_left (antecedent j) (has_number places) f) (cut_right j (has_number places) f (max (fresh_number (variables_of lines j) j) (heap_bound f)))))
   rule_wide ds lines j (UnfoldRight k c) =
       single_wide j _ _ (λ a b.
-      finds_wide (slice_get b.spatial k) NoSuchAtom _ _ (λ x. calls_wide x _ _ (λ q ts. finds_wide (slice_get (cases_of ds q) c) NoSuchCase _ _ (λ case. limited_wide (one (with_right a (unfolded_right b k (in_heap (right_term ts (heap_exists b)) case) ∷ [])))))))
+      finds_wide (slice_get b.spatial k) NoSuchAtom _ _ (λ x. calls_wide x _ _ (λ q ts. finds_wide (slice_get (cases_of ds q) c) NoSuchCase _ _ (λ case. limited_wide (one (with_right a (unfolded b k (in_heap (right_term ts (heap_exists b)) case) ∷ [])))))))
   rule_wide ds lines j Exec =
       runs_wide j _ _ (λ i a. finds_wide (counted_from_one lines i) WrongJudgement _ _ (λ c. command_wide i a (fresh_number (program_variables lines) j) c))
   rule_wide ds lines j Absurd = same (rule_answer most ds lines j Absurd)

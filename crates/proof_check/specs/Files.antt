@@ -2,7 +2,7 @@
 use Rattle.std.specs.Prelude.{List, map}
 use Rattle.rule_table.specs.Nodes.{Node}
 use Rattle.proof_file.specs.declared.node.FileNode.{FileNode}
-pub use Rattle.node_reasons.specs.Graphs.{graph_node, graph_of, AreRight, AreReadable, HasFewCases, HasSmallHeaps}
+pub use Rattle.node_reasons.specs.Graphs.{graph_node, graph_of, AreRight, AreReadable, HasSmallHeaps}
 
 -- a file's nodes, as the rule table has them
 abbrev pub node_of : FileNode → Node

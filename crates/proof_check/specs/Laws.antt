@@ -10,7 +10,7 @@ use Rattle.heap_formula.specs.declared.commands.Command.TheVariants.{Assign, Loa
 use Rattle.heap_formula.specs.declared.proof_rules.Reason.{Reason}
 use Rattle.heap_formula.specs.declared.proof_rules.Reason.TheVariants.{Step, Back}
 use Rattle.heap_formula.specs.Closedness.{IsUniversal, IsUniversalHeap, InPure, InSpatial}
-use Rattle.heap_formula.specs.Definitions.{Definition}
+use Rattle.heap_formula.specs.Definitions.{Definition, HasFewCases}
 use Rattle.heap_formula.specs.Judgements.{antecedent}
 use Rattle.heap_formula.specs.Symbolic.{SymbolicHeap}
 use Rattle.heap_formula.specs.Words.{Each}
@@ -24,7 +24,7 @@ use Rattle.proof_file.specs.Readable.{is_universal_heap, is_universal_reason, is
 use Rattle.proof_file.specs.declared.node.FileNode.{FileNode}
 use Rattle.proof_file.specs.declared.file.ProofFile.{ProofFile}
 use Rattle.node_reasons.proofs.RightGraphs.{graph_right, graph_local}
-use Rattle.proof_check.specs.Files.{AreReadable, HasFewCases, graph_node, node_of, nodes_of}
+use Rattle.proof_check.specs.Files.{AreReadable, graph_node, node_of, nodes_of}
 use Rattle.proof_check.specs.Tested.{IsTested, HasFields}
 use Rattle.proof_check.specs.Verdicts.{file_graph}
 use Rattle.formula_facts.proofs.AllMembers.{each_at}

@@ -1,6 +1,6 @@
 // The laws of correct files. The functions do nothing.
 ghost use Rattle.std.specs.Prelude.{◌≡◌, ◌≤◌, ℕ, List, Some, slice_get, length};
-ghost use Rattle.heap_formula.specs.Definitions.{Definition};
+ghost use Rattle.heap_formula.specs.Definitions.{Definition, HasFewCases};
 ghost use Rattle.heap_formula.specs.Judgements.{JudgementHolds};
 ghost use Rattle.heap_formula.specs.declared.commands.Command.{Command};
 ghost use Rattle.rule_table.specs.Nodes.{Node};
@@ -12,7 +12,7 @@ ghost use Rattle.proof_file.specs.declared.file.ProofFile.{ProofFile};
 ghost use Rattle.proof_file.specs.Upgrades.{IsUpgrade};
 ghost use Rattle.proof_check.specs.declared.verdict.Verdict.{Verdict};
 ghost use Rattle.proof_check.specs.declared.verdict.Verdict.TheVariants.{Accepted};
-ghost use Rattle.proof_check.specs.Files.{graph_of, AreReadable, AreRight, HasFewCases, HasSmallHeaps};
+ghost use Rattle.proof_check.specs.Files.{graph_of, AreReadable, AreRight, HasSmallHeaps};
 ghost use Rattle.proof_check.specs.Verdicts.{file_graph, state_limit, IsCorrect, IsVerdict};
 
 /// Where every node is right and every lasso progresses, the judgement of node 0 holds.

@@ -6,7 +6,8 @@ ghost use Rattle.heap_formula.specs.declared.judgements.Premise.{Premise as Prem
 ghost use Rattle.heap_formula.specs.declared.proof_rules.RuleFault.TheVariants.{NoSuchNode};
 ghost use Rattle.rule_table.specs.LinkTable.{first_of, fault_unless};
 ghost use Rattle.rule_table.specs.Nodes.{Node, same_judgement as judgements_agree, differs as premise_differs, premises_fault as first_premises_fault, node_fault as first_node_fault, edges_to, edges_of};
-ghost use Rattle.proof_check.specs.Files.{HasFewCases, node_of, nodes_of};
+ghost use Rattle.proof_check.specs.Files.{node_of, nodes_of};
+ghost use Rattle.heap_formula.specs.Definitions.{HasFewCases};
 ghost use Rattle.node_reasons.specs.Answers.{companion_in, targets_of, numbers_fault as first_numbers_fault};
 ghost use Rattle.proof_check.specs.Answers.{IsNodeAnswer};
 

@@ -3,13 +3,14 @@ use Rattle.std.proofs.Common.{◌≡◌, ℕ, ◌+◌, ◌≤◌, Bool, true, fa
 use Rattle.std.specs.Prelude.{◌||◌, nat_eq, nat_lt, nat_le, slice_get}
 use Rattle.std.proofs.lemmas.Bool.{le-leb, and_from as both_true}
 use Rattle.std.proofs.lemmas.List.{length-map}
+use Rattle.std.specs.List.{list_all}
 use Rattle.heap_formula.specs.declared.commands.Command.{Command}
 use Rattle.heap_formula.specs.declared.judgements.Judgement.{Judgement as JudgementValue}
 use Rattle.heap_formula.specs.declared.judgements.Judgement.TheVariants.{Entail, Term as Halting}
 use Rattle.heap_formula.specs.Definitions.{Definition as DefinitionValue}
 use Rattle.heap_formula.specs.Symbolic.{SymbolicHeap}
 use Rattle.heap_formula.specs.Words.{Each}
-use Rattle.rule_table.specs.Answer.{every, heaps_of}
+use Rattle.rule_table.specs.Answer.{heaps_of}
 use Rattle.cyc_lex.specs.declared.fault.IllFault.TheVariants.{NoLine}
 use Rattle.cyc_lex.specs.declared.fault.What.TheVariants.{Cases, Disjuncts, Nodes}
 use Rattle.heap_syntax.specs.declared.version.Version.{Version}
@@ -122,14 +123,14 @@ fits_wider version ds cs ns e =
 
 -- ---- how many stand in the heaps of a file's judgements
 
-heaps_are_few : (most : ℕ) (ds : List DefinitionValue) (bs : List SymbolicHeap) → Each (λ (h : Heap). length h.spatial ≤ most) (map (heap_tree ds) bs) → every (λ (a : SymbolicHeap). nat_le (length a.spatial) most) bs ≡ true
+heaps_are_few : (most : ℕ) (ds : List DefinitionValue) (bs : List SymbolicHeap) → Each (λ (h : Heap). length h.spatial ≤ most) (map (heap_tree ds) bs) → list_all (λ (a : SymbolicHeap). nat_le (length a.spatial) most) bs ≡ true
 heaps_are_few most ds [] e = refl
 heaps_are_few most ds (b ∷ bs) e =
     let few = e.0 in
     let l = length-map b.spatial (spatial_tree ds) in
-    both_true (nat_le (length b.spatial) most) (every (λ (a : SymbolicHeap). nat_le (length a.spatial) most) bs) (le-leb (length b.spatial) most (omega arith)) (heaps_are_few most ds bs e.1)
+    both_true (nat_le (length b.spatial) most) (list_all (λ (a : SymbolicHeap). nat_le (length a.spatial) most) bs) (le-leb (length b.spatial) most (omega arith)) (heaps_are_few most ds bs e.1)
 
-judgement_is_few : (most : ℕ) (ds : List DefinitionValue) (hs : List Heading) (count k : ℕ) (j : JudgementValue) → judgement_flaw most hs count k (judgement_tree ds j) ≡ None → every (λ (a : SymbolicHeap). nat_le (length a.spatial) most) (heaps_of j) ≡ true
+judgement_is_few : (most : ℕ) (ds : List DefinitionValue) (hs : List Heading) (count k : ℕ) (j : JudgementValue) → judgement_flaw most hs count k (judgement_tree ds j) ≡ None → list_all (λ (a : SymbolicHeap). nat_le (length a.spatial) most) (heaps_of j) ≡ true
 judgement_is_few most ds hs count k (Entail a bs) e =
     let p = k + heap_span term_span (heap_tree ds a) in
     let both = neither (heap_flaw (term_flaw InNode) term_span most hs k (heap_tree ds a)) (heaps_flaw (term_flaw InNode) term_span most hs Disjuncts p (map (heap_tree ds) bs)) e in
@@ -139,7 +140,7 @@ judgement_is_few most ds hs count k (Halting n a) e =
     heaps_are_few most ds (a ∷ []) (heap_few (term_flaw InNode) term_span most hs (k + 3) (heap_tree ds a) both.1, tt)
 
 -- the heaps of a node's judgement are within the limit of the file's version
-pub node_is_few : (f : ProofFile) (v : ℕ) (n : FileNode) → slice_get f.nodes v ≡ Some n → every (λ (a : SymbolicHeap). nat_le (length a.spatial) (most_spatial f.version)) (heaps_of n.judgement) ≡ true
+pub node_is_few : (f : ProofFile) (v : ℕ) (n : FileNode) → slice_get f.nodes v ≡ Some n → list_all (λ (a : SymbolicHeap). nat_le (length a.spatial) (most_spatial f.version)) (heaps_of n.judgement) ≡ true
 node_is_few f v n at =
     let ds = f.defs.list in
     let most = most_spatial f.version in

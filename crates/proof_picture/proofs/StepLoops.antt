@@ -2,20 +2,13 @@
 use Rattle.std.proofs.Common.{◌≡◌, ℕ, Bool, true, false, cond, List, [], ◌∷◌, ◌++◌, refl, ap, sym, ◌∙◌}
 use Rattle.std.specs.Prelude.{◌&&◌, ◌||◌, nat_eq}
 use Rattle.std.specs.List.{list_any}
+use Rattle.std.proofs.lemmas.List.Folds.{list_any-append}
+use Rattle.std.proofs.Math.Bool.{or-false}
 use Rattle.trace_pairs.specs.declared.lasso.Step.{Step}
 use Rattle.proof_picture.specs.Red.{has_step}
 
 any_more : (test : Step → Bool) (xs : List Step) (s : Step) → list_any test (xs ++ s ∷ []) ≡ (list_any test xs || test s)
-any_more test [] s = last (test s)
-  where
-    last : (t : Bool) → (t || false) ≡ t
-    last true = refl
-    last false = refl
-any_more test (x ∷ xs) s = next (test x) (list_any test xs) (test s) (list_any test (xs ++ s ∷ [])) (any_more test xs s)
-  where
-    next : (t a b c : Bool) → c ≡ (a || b) → (t || c) ≡ ((t || a) || b)
-    next true a b c e = refl
-    next false a b c e = e
+any_more test xs s = list_any-append test xs (s ∷ []) ∙ ap (λ b. list_any test xs || b) (or-false (test s))
 
 either : (t old a : Bool) → cond t true (old || a) ≡ (old || (a || t))
 either true true a = refl

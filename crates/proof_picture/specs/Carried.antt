@@ -1,5 +1,5 @@
 -- Which atoms stand out: those from which a trace leads on over a link, as the traces of a cycle do.
-use Rattle.std.specs.Prelude.{ℕ, zero, suc, ◌-◌, Bool, false, ◌&&◌, ◌||◌, nat_eq, nat_le, List, [], ◌∷◌, ◌++◌, Option, Some, None, slice_get, if◌then◌else◌, Vec}
+use Rattle.std.specs.Prelude.{ℕ, zero, suc, ◌-◌, Bool, false, ◌&&◌, ◌||◌, nat_eq, nat_le, List, [], ◌∷◌, ◌++◌, Option, Some, None, slice_get, unwrap_or, if◌then◌else◌, Vec}
 use Rattle.std.specs.declared.alloc.Global.{Global}
 use Rattle.std.specs.List.{list_any}
 use Rattle.proof_picture.specs.Arrows.{Drawn, DrawnRow}
@@ -9,11 +9,7 @@ flags_of flags = flags.items
 
 abbrev pub flag_in : Option (List Bool) → ℕ → Bool
 flag_in None k = false
-flag_in (Some flags) k = in_case (slice_get flags k)
-  where
-    in_case : Option Bool → Bool
-    in_case None = false
-    in_case (Some flag) = flag
+flag_in (Some flags) k = unwrap_or (slice_get flags k) false
 
 -- whether atom k of node u stands out, where the flags of the nodes after v are known; no other is asked for in a proof
 -- in order, whose premises have greater numbers

@@ -32,8 +32,8 @@ use Rattle.rule_table.specs.ExecTable.{exec_answer}
 use Rattle.rule_table.specs.Fits.{OnPremises}
 use Rattle.rule_table.specs.RuleBook.{variables_of, rule_answer}
 use Rattle.rule_table.specs.RuleCut.{cut_left, cut_right}
-use Rattle.rule_table.specs.RuleUnfold.{unfold_premise}
-use Rattle.rule_table.specs.Table.{with_pures, with_pure, with_right, named, unnamed, rewrite_side, rewrite_atom, drop_answer, calls, right_term, unfolded_right}
+use Rattle.rule_table.specs.RuleUnfold.{unfold_premise, unfolded}
+use Rattle.rule_table.specs.Table.{with_pures, with_pure, with_right, named, unnamed, rewrite_side, rewrite_atom, drop_answer, calls, right_term}
 use Rattle.rule_table.specs.Tests.{same_term, same_spatial, is_universal_pure, is_universal_spatial, follows, is_absurd, address_of, ascend_from, has_number}
 use Rattle.rule_table.proofs.Fits.{needs_on, finds_on, limited_on, entails_on, single_on}
 use Rattle.symbolic_exec.specs.Lines.{IsAtLine, IsPremiseAtLine}
@@ -76,10 +76,10 @@ module _ (n : ℕ) where
   unfold_lines most ds p j k (Pred q ts) h =
       limited_on P most (map (unfold_premise j k ts (fresh_number p j)) (cases_of ds q)) (case_lines j k ts (fresh_number p j) (cases_of ds q) h)
 
-  right_lines : (most : ℕ) (ds : List Definition) (a b : SymbolicHeap) (k c : ℕ) (x : Spatial) → OnPremises P (calls x (λ q ts. finds (slice_get (cases_of ds q) c) NoSuchCase (λ case. limited most (one (with_right a (unfolded_right b k (in_heap (right_term ts (heap_exists b)) case) ∷ []))))))
+  right_lines : (most : ℕ) (ds : List Definition) (a b : SymbolicHeap) (k c : ℕ) (x : Spatial) → OnPremises P (calls x (λ q ts. finds (slice_get (cases_of ds q) c) NoSuchCase (λ case. limited most (one (with_right a (unfolded b k (in_heap (right_term ts (heap_exists b)) case) ∷ []))))))
   right_lines most ds a b k c (Cell t ts) = tt
   right_lines most ds a b k c (Pred q ts) =
-      finds_on P (slice_get (cases_of ds q) c) NoSuchCase _ (λ case at. limited_on P most (one (with_right a (unfolded_right b k (in_heap (right_term ts (heap_exists b)) case) ∷ []))) (tt, tt))
+      finds_on P (slice_get (cases_of ds q) c) NoSuchCase _ (λ case at. limited_on P most (one (with_right a (unfolded b k (in_heap (right_term ts (heap_exists b)) case) ∷ []))) (tt, tt))
 
   drop_lines : (j : Judgement) (k : ℕ) → IsWithinLines n j → OnPremises P (drop_answer j k)
   drop_lines (Entail a bs) k h = tt

@@ -21,7 +21,7 @@ use Rattle.heap_formula.specs.Symbolic.{SymbolicHeap}
 use Rattle.heap_formula.specs.Definitions.{Definition}
 use Rattle.heap_formula.specs.Words.{Each}
 use Rattle.heap_formula.specs.Meaning.{cases_of}
-use Rattle.heap_formula.specs.Fresh.{heap_bound, fresh_number}
+use Rattle.heap_formula.specs.Fresh.{heap_bound, fresh_number, variables_from}
 use Rattle.heap_formula.specs.Programs.{counted_from_one, program_variables}
 use Rattle.heap_formula.specs.Judgements.{antecedent, with_antecedent}
 use Rattle.heap_formula.specs.Positions.{without, same_pairs, kept_pairs, child_pairs, chosen, others_of}
@@ -32,8 +32,8 @@ use Rattle.rule_table.specs.RuleLink.{MapsInto, IsMatch}
 use Rattle.rule_table.specs.Answer.{finds, limited, one, two}
 use Rattle.rule_table.specs.Tests.{same_term, same_spatial, is_universal_pure, is_universal_spatial, follows, is_absurd, address_of, has_number, ascend_from}
 use Rattle.heap_formula.specs.Fresh.{heap_exists}
-use Rattle.rule_table.specs.Table.{with_pures, with_pure, with_right, without_pure, without_spatial, rewritten, rewrite_side, rewrite_atom, named, unnamed, calls, unfolded_right, right_term, instance_term}
-use Rattle.rule_table.specs.ExecTable.{cell_of, renamed, renamed_term, with_atom, variables_from, with_cell, with_field, at_line, command_answer}
+use Rattle.rule_table.specs.Table.{with_pures, with_pure, with_right, without_pure, without_spatial, rewritten, rewrite_side, rewrite_atom, named, unnamed, calls, right_term, instance_term}
+use Rattle.rule_table.specs.ExecTable.{cell_of, renamed, renamed_term, with_atom, with_cell, with_field, at_line, command_answer}
 use Rattle.rule_table.specs.LinkTable.{link_fault, link_premise}
 use Rattle.rule_table.specs.RuleBook.{variables_of, rule_answer}
 use Rattle.rule_table.specs.Fits.{IsPredAt, PairsFit, PremiseFits, OnPremises}
@@ -101,11 +101,11 @@ cut_right_fits : (j : Judgement) (p : ℕ → Bool) (f : SymbolicHeap) (n : ℕ)
 cut_right_fits (Entail a bs) p f n = chosen_fit (others_of p) a.spatial _ (λ i q. pred_front (chosen (others_of p) a.spatial) _ i q)
 cut_right_fits (Runs m a) p f n = chosen_fit (others_of p) a.spatial _ (λ i q. pred_front (chosen (others_of p) a.spatial) _ i q)
 
-unfold_right_fits : (most : ℕ) (ds : List Definition) (a b : SymbolicHeap) (k c : ℕ) (x : Spatial) → OnPremises (PremiseFits (Entail a (b ∷ []))) (calls x (λ q ts. finds (slice_get (cases_of ds q) c) NoSuchCase (λ case. limited most (one (with_right a (unfolded_right b k (in_heap (right_term ts (heap_exists b)) case) ∷ []))))))
+unfold_right_fits : (most : ℕ) (ds : List Definition) (a b : SymbolicHeap) (k c : ℕ) (x : Spatial) → OnPremises (PremiseFits (Entail a (b ∷ []))) (calls x (λ q ts. finds (slice_get (cases_of ds q) c) NoSuchCase (λ case. limited most (one (with_right a (unfolded b k (in_heap (right_term ts (heap_exists b)) case) ∷ []))))))
 unfold_right_fits most ds a b k c (Cell t ts) = tt
 unfold_right_fits most ds a b k c (Pred q ts) =
     finds_on (PremiseFits (Entail a (b ∷ []))) (slice_get (cases_of ds q) c) NoSuchCase _ (λ case at.
-    limited_on (PremiseFits (Entail a (b ∷ []))) most (one (with_right a (unfolded_right b k (in_heap (right_term ts (heap_exists b)) case) ∷ []))) (right_fits a (b ∷ []) (unfolded_right b k (in_heap (right_term ts (heap_exists b)) case) ∷ []), tt))
+    limited_on (PremiseFits (Entail a (b ∷ []))) most (one (with_right a (unfolded b k (in_heap (right_term ts (heap_exists b)) case) ∷ []))) (right_fits a (b ∷ []) (unfolded b k (in_heap (right_term ts (heap_exists b)) case) ∷ []), tt))
 
 renamed_pred : (x n : ℕ) (a : SymbolicHeap) (i : ℕ) → IsPredAt a.spatial i → IsPredAt (renamed x n a).spatial i
 renamed_pred x n a i p = get_mapped (apply_term ((x, Univ n) ∷ [])) a.spatial i p

@@ -1,8 +1,6 @@
 -- The cells of a spatial list stand in each heap of which it holds, and no two at one address.
 use Rattle.std.proofs.Common.{◌≡◌, ◌≢◌, ℕ, zero, suc, ◌<◌, true, ◌||◌, List, [], ◌∷◌, Option, Some, None, refl, sym, ap, ◌∙◌, subst, inl, inr, arith}
 use Rattle.std.specs.Prelude.{slice_get}
-use Rattle.std.specs.Ordering.{nat_cmp, eq_by_cmp}
-use Rattle.std.specs.Cmp.{nat_cmp_total, eq_by_cmp_equiv}
 use Rattle.heap_formula.specs.declared.terms.Term.{Term}
 use Rattle.heap_formula.specs.declared.terms.Term.TheVariants.{Nil}
 use Rattle.heap_formula.specs.declared.atoms.Pure.{Pure}
@@ -44,9 +42,6 @@ right_has {l = l} {r = r} {h = h} a vs u e = joins_right (cell_at l a) (cell_at 
 pub not_both_have : {l r h : Cells} (a : ℕ) (vs ws : List ℕ) → IsUnion l r h → cell_at l a ≡ Some vs → cell_at r a ≡ Some ws → ⊥
 not_both_have {l = l} {r = r} {h = h} a vs ws u e f =
     joins_not_both (cell_at l a) (cell_at r a) (cell_at h a) vs ws (u.joins a) e f
-
-pub itself : (a : ℕ) → eq_by_cmp nat_cmp a a ≡ true
-itself a = (eq_by_cmp_equiv nat_cmp_total).refl a
 
 -- ---- the cells of a list
 

@@ -23,8 +23,8 @@ use Rattle.heap_formula.specs.Words.{Each}
 use Rattle.heap_formula.specs.Values.{Stack, value, values}
 use Rattle.heap_formula.specs.Cells.{Cells, cell_at, one_cell, Joins, IsUnion, IsPart}
 use Rattle.heap_formula.specs.Meaning.{Family, PureHolds, IsCell, AtomHolds, SpatialHolds, Holds, Stages, SatisfiesAt, at_stage}
-use Rattle.heap_formula.specs.Fresh.{heap_bound, fresh_number}
-use Rattle.heap_formula.specs.Programs.{Config, Halts, Goes, next_line, jump, value_in, field_at, field_of, counted_from_one, first_values, program_variables, term_bound, start_at}
+use Rattle.heap_formula.specs.Fresh.{heap_bound, fresh_number, univ_bound, variables_from}
+use Rattle.heap_formula.specs.Programs.{Config, Halts, Goes, next_line, jump, value_in, field_at, field_of, counted_from_one, first_values, program_variables, start_at}
 use Rattle.heap_formula.specs.Judgements.{PremiseHolds, IsLocallySound}
 use Rattle.heap_formula.specs.Positions.{without, before, kept_pairs}
 use Rattle.heap_formula.specs.Closedness.{InSpatial, IsUniversal}
@@ -39,7 +39,7 @@ use Rattle.rule_table.proofs.ExecNew.{after_new, after_at_x, renamed as renamed_
 use Rattle.rule_table.specs.Answer.{one, two}
 use Rattle.rule_table.specs.Tests.{equated}
 use Rattle.rule_table.specs.Table.{without_spatial}
-use Rattle.rule_table.specs.ExecTable.{Found, later, cell_of, renamed, renamed_term, with_atom, variables_from, with_cell, with_field, at_line, command_answer, exec_answer}
+use Rattle.rule_table.specs.ExecTable.{Found, later, cell_of, renamed, renamed_term, with_atom, with_cell, with_field, at_line, command_answer, exec_answer}
 use Rattle.rule_table.specs.Soundness.{IsSound, IsCommand}
 use Rattle.rule_table.proofs.Steps.{finds_sound, limited_sound}
 use Rattle.rule_table.proofs.Reflects.{equated_is}
@@ -54,12 +54,12 @@ command_is lines zero c all at = cc
 command_is lines (suc i) c all at = each_at IsCommand lines i c at all
 
 -- a command's term has the value that it has in the formula
-start_value : (p : ℕ) (s e : Stack) (t : Term) → IsUniversal t → term_bound t ≤ p → value (first_values p s) [] t ≡ value s e t
+start_value : (p : ℕ) (s e : Stack) (t : Term) → IsUniversal t → univ_bound t ≤ p → value (first_values p s) [] t ≡ value s e t
 start_value p s e Nil u b = refl
 start_value p s e (Univ m) u b = first_at p s m (omega arith)
 start_value p s e (Exist m) u b = absurd u
 
-below_of_bound : (n : ℕ) (t : Term) → term_bound t ≤ n → IsBelow n t
+below_of_bound : (n : ℕ) (t : Term) → univ_bound t ≤ n → IsBelow n t
 below_of_bound n Nil b = b
 below_of_bound n (Univ m) b = b
 below_of_bound n (Exist m) b = b
@@ -209,18 +209,18 @@ module _ (ds : List Definition) (lines : List Command) (i : ℕ) (a : SymbolicHe
       let r = premise stages (pairs_follow (λ k. k) stages 0 a.spatial) s' part (e, (each_append (PureHolds s' e) b.pure (Eq (Univ x) (renamed_term x n f) ∷ []) holds.0 (equal, tt), holds.1)) w pos h is in
       (r.0, subst (λ st. Halts lines w r.0 (record { line = i + 1; stack = st; heap = h })) (first_set p n x v s (slice_index s x ∷ []) p_below) r.1)
 
-  test_value : (t u : Term) → IsUniversal t → IsUniversal u → term_bound t ≤ p → term_bound u ≤ p → (b : Bool) → nat_eq (value_in here t) (value_in here u) ≡ b → (cond b (value s e t ≡ value s e u) (value s e t ≢ value s e u))
+  test_value : (t u : Term) → IsUniversal t → IsUniversal u → univ_bound t ≤ p → univ_bound u ≤ p → (b : Bool) → nat_eq (value_in here t) (value_in here u) ≡ b → (cond b (value s e t ≡ value s e u) (value s e t ≢ value s e u))
   test_value t u ut uu bt bu true q =
       sym (start_value p s e t ut bt) ∙ (Decides-eqb _ _).0 q ∙ start_value p s e u uu bu
   test_value t u ut uu bt bu false q = λ same.
       let bad = (Decides-eqb (value_in here t) (value_in here u)).1 (start_value p s e t ut bt ∙ same ∙ sym (start_value p s e u uu bu)) in cc
 
-  branch : (t u : Term) (j k : ℕ) → IsUniversal t → IsUniversal u → term_bound t ≤ p → term_bound u ≤ p → PremiseHolds ds lines stages (at_line j a (with_atom a (Eq t u))) → PremiseHolds ds lines stages (at_line k a (with_atom a (Neq t u))) → (b : Bool) → nat_eq (value_in here t) (value_in here u) ≡ b → (n : ℕ) × Halts lines w n (jump here (cond b j k))
+  branch : (t u : Term) (j k : ℕ) → IsUniversal t → IsUniversal u → univ_bound t ≤ p → univ_bound u ≤ p → PremiseHolds ds lines stages (at_line j a (with_atom a (Eq t u))) → PremiseHolds ds lines stages (at_line k a (with_atom a (Neq t u))) → (b : Bool) → nat_eq (value_in here t) (value_in here u) ≡ b → (n : ℕ) × Halts lines w n (jump here (cond b j k))
   branch t u j k ut uu bt bu equal different true q = go_on j (Eq t u) equal (test_value t u ut uu bt bu true q)
   branch t u j k ut uu bt bu equal different false q = go_on k (Neq t u) different (test_value t u ut uu bt bu false q)
 
   -- what stands at a command's term
-  cell_here : (t : Term) (c : Found) → IsUniversal t → term_bound t ≤ p → cell_of a.pure t a.spatial ≡ Some c → (value s e c.address ≡ value_in here t) × HasCell s e c.address c.fields part × (cell_at h (value_in here t) ≡ Some (values s e c.fields))
+  cell_here : (t : Term) (c : Found) → IsUniversal t → univ_bound t ≤ p → cell_of a.pure t a.spatial ≡ Some c → (value s e c.address ≡ value_in here t) × HasCell s e c.address c.fields part × (cell_at h (value_in here t) ≡ Some (values s e c.fields))
   cell_here t c ut bt found =
       let f = found_is a.pure t a.spatial c found in
       let same = equated_value a.pure s e o.1.0 c.address t (equated_is a.pure c.address t f.same) ∙ sym (start_value p s e t ut bt) in
@@ -294,10 +294,10 @@ module _ (ds : List Definition) (lines : List Command) (i : ℕ) (a : SymbolicHe
       us : List Term
       us = slice_set c.fields (k - 1) u
 
-      t_below : term_bound t ≤ program_variables lines
+      t_below : univ_bound t ≤ program_variables lines
       t_below = let b = bound_at lines i (Store t k u) at in omega arith
 
-      u_below : term_bound u ≤ program_variables lines
+      u_below : univ_bound u ≤ program_variables lines
       u_below = let b = bound_at lines i (Store t k u) at in omega arith
 
       cell : (value s o.0 c.address ≡ value_in (start_at lines i s h) t) × HasCell s o.0 c.address c.fields part × (cell_at h (value_in (start_at lines i s h) t) ≡ Some (values s o.0 c.fields))

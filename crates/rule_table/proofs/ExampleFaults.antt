@@ -19,10 +19,10 @@ use Rattle.heap_formula.specs.Symbolic.{SymbolicHeap}
 use Rattle.heap_formula.specs.Definitions.{Definition}
 use Rattle.rule_table.specs.Nodes.{Node, node_fault}
 
-abbrev heap : List Pure → List Spatial → SymbolicHeap
+abbrev pub heap : List Pure → List Spatial → SymbolicHeap
 heap ps xs = record { pure = ps; spatial = xs }
 
-abbrev node : Judgement → Reason → List ℕ → Node
+abbrev pub node : Judgement → Reason → List ℕ → Node
 node j r us = record { judgement = j; reason = r; premises = us }
 
 abbrev pub faults_from : List Definition → List Command → List Node → ℕ → List Node → List (Option RuleFault)

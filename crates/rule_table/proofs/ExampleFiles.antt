@@ -1,32 +1,21 @@
 -- Examples of files whose every node is right, with some of their trace pairs.
 use Rattle.std.proofs.Common.{◌≡◌, ℕ, List, [], ◌∷◌, Option, Some, None, refl}
 use Rattle.heap_formula.specs.declared.terms.Term.TheVariants.{Nil, Univ, Exist}
-use Rattle.heap_formula.specs.declared.atoms.Pure.{Pure}
 use Rattle.heap_formula.specs.declared.atoms.Pure.TheVariants.{Eq, Neq}
-use Rattle.heap_formula.specs.declared.atoms.Spatial.{Spatial}
 use Rattle.heap_formula.specs.declared.atoms.Spatial.TheVariants.{Cell, Pred}
 use Rattle.heap_formula.specs.declared.commands.Command.{Command}
 use Rattle.heap_formula.specs.declared.commands.Command.TheVariants.{Load, IfEq, Goto, Stop}
-use Rattle.heap_formula.specs.declared.judgements.Judgement.{Judgement}
 use Rattle.heap_formula.specs.declared.judgements.Judgement.TheVariants.{Entail, Term as Runs}
 use Rattle.heap_formula.specs.declared.proof_rules.Side.TheVariants.{Left, Right}
 use Rattle.heap_formula.specs.declared.proof_rules.Rule.TheVariants.{Absurd, Rewrite, Unfold, Cut, Done, PureRight, Instantiate, Frame, UnfoldRight, Exec}
-use Rattle.heap_formula.specs.declared.proof_rules.Reason.{Reason}
 use Rattle.heap_formula.specs.declared.proof_rules.Reason.TheVariants.{Step, Back}
-use Rattle.heap_formula.specs.Symbolic.{SymbolicHeap}
 use Rattle.heap_formula.specs.Definitions.{Definition}
 use Rattle.std.proofs.Common.{Bool, true, false}
 use Rattle.std.specs.Prelude.{slice_get}
 use Rattle.heap_formula.specs.declared.judgements.NodeEdge.{NodeEdge}
 use Rattle.heap_formula.specs.declared.judgements.Pair.{Pair}
 use Rattle.rule_table.specs.Nodes.{Node, edges_of}
-use Rattle.rule_table.proofs.ExampleFaults.{faults_from}
-
-abbrev heap : List Pure → List Spatial → SymbolicHeap
-heap ps xs = record { pure = ps; spatial = xs }
-
-abbrev node : Judgement → Reason → List ℕ → Node
-node j r us = record { judgement = j; reason = r; premises = us }
+use Rattle.rule_table.proofs.ExampleFaults.{faults_from, heap, node}
 
 -- two list segments, one after the other, are one segment
 abbrev segments_defs : List Definition

@@ -21,7 +21,7 @@ use Rattle.heap_formula.specs.Programs.{Halts, counted_from_one, first_values, p
 use Rattle.heap_formula.specs.Judgements.{IsLocallySound}
 use Rattle.heap_formula.specs.Positions.{same_pairs}
 use Rattle.heap_formula.specs.Substitution.{in_spatial, apply_term, apply_heap}
-use Rattle.heap_formula.specs.Fresh.{heap_bound}
+use Rattle.heap_formula.specs.Fresh.{heap_bound, variables_from}
 use Rattle.heap_formula.proofs.Unions.{union_comm, union_empty, empty_union}
 use Rattle.rule_table.proofs.Substitutes.{holds_same, back_along}
 use Rattle.rule_table.proofs.Agreement.{IsBelow, heap_below, length-first_values, first_at}
@@ -79,11 +79,6 @@ pub renamed : (n x : ℕ) (s e : Stack) (a : ℕ) (vs : List ℕ) → (t : Term)
 renamed n x s e a vs Nil q = refl
 renamed n x s e a vs (Exist j) q = refl
 renamed n x s e a vs (Univ i) q = renamed_value (nat_eq i x) n x s e a vs i refl (omega arith)
-
--- the variables from n on, k of them
-abbrev pub variables_from : ℕ → ℕ → List Term
-variables_from n zero = []
-variables_from n (suc k) = Univ n ∷ variables_from (suc n) k
 
 variables_value : (pre vs : List ℕ) (e : Stack) → values (pre ++ vs) e (variables_from (length pre) (length vs)) ≡ vs
 variables_value pre [] e = refl

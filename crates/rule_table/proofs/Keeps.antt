@@ -21,17 +21,17 @@ use Rattle.heap_formula.specs.Symbolic.{SymbolicHeap}
 use Rattle.heap_formula.specs.Definitions.{Definition}
 use Rattle.heap_formula.specs.Words.{Each}
 use Rattle.heap_formula.specs.Meaning.{cases_of}
-use Rattle.heap_formula.specs.Fresh.{heap_bound, fresh_number, heap_exists}
+use Rattle.heap_formula.specs.Fresh.{heap_bound, fresh_number, heap_exists, variables_from}
 use Rattle.heap_formula.specs.Programs.{counted_from_one, program_variables}
 use Rattle.heap_formula.specs.Judgements.{antecedent, with_antecedent}
 use Rattle.heap_formula.specs.Positions.{without, kept_pairs, chosen, chosen_step, others_of}
 use Rattle.heap_formula.specs.Substitution.{in_heap, in_spatial, apply_term, apply_judgement, case_body, in_pure, opened_term, case_term, apply_pure}
-use Rattle.rule_table.specs.RuleUnfold.{unfold_premise}
+use Rattle.rule_table.specs.RuleUnfold.{unfold_premise, unfolded}
 use Rattle.rule_table.specs.RuleCut.{cut_left, cut_right}
 use Rattle.rule_table.specs.Answer.{Answer, finds, limited, one, two}
 use Rattle.rule_table.specs.Tests.{same_term, same_spatial, is_universal_pure, is_universal_spatial, follows, is_absurd, address_of, has_number, ascend_from}
-use Rattle.rule_table.specs.Table.{with_pures, with_pure, with_right, without_spatial, rewrite_side, rewrite_atom, named, unnamed, calls, unfolded_right, right_term, drop_answer, done_answer, choose_answer, pure_right_answer, instantiate_answer, frame_answer, unfold_right_answer}
-use Rattle.rule_table.specs.ExecTable.{Found, cell_of, renamed, renamed_term, with_atom, variables_from, with_cell, with_field, at_line, command_answer, exec_answer}
+use Rattle.rule_table.specs.Table.{with_pures, with_pure, with_right, without_spatial, rewrite_side, rewrite_atom, named, unnamed, calls, right_term, drop_answer, done_answer, choose_answer, pure_right_answer, instantiate_answer, frame_answer, unfold_right_answer}
+use Rattle.rule_table.specs.ExecTable.{Found, cell_of, renamed, renamed_term, with_atom, with_cell, with_field, at_line, command_answer, exec_answer}
 use Rattle.rule_table.specs.RuleBook.{variables_of, rule_answer}
 use Rattle.rule_table.specs.Fits.{OnPremises}
 use Rattle.rule_table.specs.Soundness.{IsCommand, HasUniversalTerms, IsUniversalPremise}
@@ -202,11 +202,11 @@ exec_keeps most lines (Entail a bs) h c = tt
 exec_keeps most lines (Runs i a) h c =
     finds_on IsUniversalPremise (counted_from_one lines i) WrongJudgement _ (λ x at. command_universal i a (fresh_number (program_variables lines) (Runs i a)) h most x (counted_each IsCommand lines i x at c))
 
-right_universal : (most : ℕ) (ds : List Definition) (a b : SymbolicHeap) (k c : ℕ) (x : Spatial) → OnPremises (P (Entail a (b ∷ []))) (calls x (λ q ts. finds (slice_get (cases_of ds q) c) NoSuchCase (λ case. limited most (one (with_right a (unfolded_right b k (in_heap (right_term ts (heap_exists b)) case) ∷ []))))))
+right_universal : (most : ℕ) (ds : List Definition) (a b : SymbolicHeap) (k c : ℕ) (x : Spatial) → OnPremises (P (Entail a (b ∷ []))) (calls x (λ q ts. finds (slice_get (cases_of ds q) c) NoSuchCase (λ case. limited most (one (with_right a (unfolded b k (in_heap (right_term ts (heap_exists b)) case) ∷ []))))))
 right_universal most ds a b k c (Cell t ts) = tt
 right_universal most ds a b k c (Pred q ts) =
     finds_on (P (Entail a (b ∷ []))) (slice_get (cases_of ds q) c) NoSuchCase _ (λ case at.
-    limited_on (P (Entail a (b ∷ []))) most (one (with_right a (unfolded_right b k (in_heap (right_term ts (heap_exists b)) case) ∷ []))) (λ u. u, tt))
+    limited_on (P (Entail a (b ∷ []))) most (one (with_right a (unfolded b k (in_heap (right_term ts (heap_exists b)) case) ∷ []))) (λ u. u, tt))
 
 pub rule_keeps : (most : ℕ) (ds : List Definition) (lines : List Command) (j : Judgement) (rule : Rule) → IsUniversalHeap (antecedent j) → Each IsCommand lines → HasUniversalTerms rule → OnPremises IsUniversalPremise (rule_answer most ds lines j rule)
 rule_keeps most ds lines j Absurd h c r = needs_on IsUniversalPremise (is_absurd (antecedent j)) NotAbsurd (Ok []) (λ _. tt)

@@ -35,4 +35,5 @@ pub mod Multisets
 pub mod LinkEntails
 pub mod Conclusions
 pub mod PureRules
+pub mod FewPremises
 pub mod EmptyPremises

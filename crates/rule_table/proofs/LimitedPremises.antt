@@ -9,25 +9,26 @@ use Rattle.heap_formula.specs.declared.proof_rules.RuleError.{RuleError}
 use Rattle.heap_formula.specs.declared.proof_rules.RuleFault.TheVariants.{TooManyAtoms, NoFreshVariable}
 use Rattle.heap_formula.specs.Symbolic.{SymbolicHeap}
 use Rattle.heap_formula.specs.Judgements.{with_antecedent}
-use Rattle.rule_table.specs.Answer.{needs, limited, every, is_short, has_numbers, each_heap, heaps_of, disjuncts}
+use Rattle.rule_table.specs.Answer.{needs, limited, is_short, has_numbers, each_heap, heaps_of, disjuncts}
 use Rattle.rule_table.specs.Answered.{IsAnswer}
 use Rattle.std.proofs.lemmas.Bool.{and_parts}
+use Rattle.std.specs.List.{list_all}
 
 pub and_assoc : (p q r : Bool) → (p && q) && r ≡ p && (q && r)
 and_assoc true q r = refl
 and_assoc false q r = refl
 
 -- the heaps of a judgement with another antecedent
-pub heaps_short : (most : ℕ) (j : Judgement) (a : SymbolicHeap) → every (is_short most) (heaps_of (with_antecedent j a)) ≡ is_short most a && every (is_short most) (disjuncts j)
+pub heaps_short : (most : ℕ) (j : Judgement) (a : SymbolicHeap) → list_all (is_short most) (heaps_of (with_antecedent j a)) ≡ is_short most a && list_all (is_short most) (disjuncts j)
 heaps_short most (Entail b bs) a = refl
 heaps_short most (Runs i b) a = refl
 
-pub any_numbers : (i : Judgement) (b c : SymbolicHeap) → has_numbers b ≡ has_numbers c → every has_numbers (heaps_of (with_antecedent i b)) ≡ every has_numbers (heaps_of (with_antecedent i c))
-any_numbers (Entail d bs) b c e = λ i. e i && every has_numbers bs
+pub any_numbers : (i : Judgement) (b c : SymbolicHeap) → has_numbers b ≡ has_numbers c → list_all has_numbers (heaps_of (with_antecedent i b)) ≡ list_all has_numbers (heaps_of (with_antecedent i c))
+any_numbers (Entail d bs) b c e = λ i. e i && list_all has_numbers bs
 any_numbers (Runs n d) b c e = λ i. e i && true
 
-pub any_first : (i : Judgement) (b : SymbolicHeap) → every has_numbers (heaps_of (with_antecedent i b)) ≡ true → has_numbers b ≡ true
-any_first (Entail d bs) b e = (and_parts (has_numbers b) (every has_numbers bs) e).0
+pub any_first : (i : Judgement) (b : SymbolicHeap) → list_all has_numbers (heaps_of (with_antecedent i b)) ≡ true → has_numbers b ≡ true
+any_first (Entail d bs) b e = (and_parts (has_numbers b) (list_all has_numbers bs) e).0
 any_first (Runs n d) b e = (and_parts (has_numbers b) true e).0
 
 -- the answer from premises as the program makes them

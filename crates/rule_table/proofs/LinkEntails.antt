@@ -24,7 +24,8 @@ use Rattle.rule_table.proofs.Agreement.{IsBelow, heap_below}
 use Rattle.rule_table.proofs.Frames.{value_universal}
 use Rattle.rule_table.proofs.Appends.{pairs_follow_if}
 use Rattle.rule_table.proofs.Links.{mapped_hold, Chosen, left_over, length_left, none_left}
-use Rattle.rule_table.proofs.LinkRuns.{image_stack, image_value, tabulated-at, all_chosen, all_places, each_follows, map_length, mapped-at, link_pairs}
+use Rattle.rule_table.proofs.LinkRuns.{image_stack, image_value, all_chosen, all_places, each_follows, map_length, mapped-at, link_pairs}
+use Rattle.list_facts.proofs.Places.{tabulated-at}
 use Rattle.rule_table.proofs.Multisets.{covered_holds}
 use Rattle.formula_facts.proofs.SomeMember.{one_at}
 

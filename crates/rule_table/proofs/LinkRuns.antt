@@ -26,17 +26,10 @@ use Rattle.rule_table.proofs.Substitutes.{holds_same, along, back_along}
 use Rattle.rule_table.proofs.Agreement.{IsBelow, heap_below}
 use Rattle.rule_table.proofs.Appends.{pairs_follow_if}
 use Rattle.rule_table.proofs.Links.{follows_holds, mapped_hold, Chosen}
+use Rattle.list_facts.proofs.Places.{tabulated-at}
+use Rattle.list_facts.specs.Words.{tabulated}
 
 -- ---- the stack on which the companion is used
-
-abbrev pub tabulated : (ℕ → ℕ) → ℕ → List ℕ
-tabulated f zero = []
-tabulated f (suc n) = f zero ∷ tabulated (λ k. f (suc k)) n
-
-pub tabulated-at : (f : ℕ → ℕ) (n i : ℕ) → i < n → slice_index (tabulated f n) i ≡ f i
-tabulated-at f zero i h = absurd (omega arith)
-tabulated-at f (suc n) zero h = refl
-tabulated-at f (suc n) (suc i) h = tabulated-at (λ k. f (suc k)) n i (omega arith)
 
 -- the values of the substitution's terms
 abbrev pub image_stack : Bindings → Stack → Stack → ℕ → Stack

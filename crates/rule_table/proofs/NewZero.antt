@@ -7,7 +7,7 @@ use Rattle.heap_formula.specs.declared.commands.Command.{Command}
 use Rattle.heap_formula.specs.declared.commands.Command.TheVariants.{New, Load}
 use Rattle.heap_formula.specs.declared.judgements.Judgement.TheVariants.{Term as Runs}
 use Rattle.heap_formula.specs.declared.judgements.Premise.{Premise}
-use Rattle.heap_formula.specs.Symbolic.{SymbolicHeap}
+use Rattle.heap_formula.specs.Symbolic.{emp}
 use Rattle.heap_formula.specs.Cells.{no_cells, one_cell}
 use Rattle.heap_formula.specs.Programs.{Config, Halts, MayPick, Goes, Faults, field_of, start_at}
 use Rattle.heap_formula.specs.Judgements.{IsLocallySound}
@@ -20,12 +20,9 @@ use Rattle.rule_table.proofs.CellsIn.{one_cell_has}
 abbrev lines : List Command
 lines = New 0 0 ∷ Load 0 (Univ 0) 1 ∷ []
 
-abbrev nothing : SymbolicHeap
-nothing = record { pure = []; spatial = [] }
-
 -- what the table would give: from 2 given true : $0 -> ()
 abbrev premise : Premise
-premise = at_line 2 nothing (with_cell (renamed 0 1 nothing) 0 [])
+premise = at_line 2 emp (with_cell (renamed 0 1 emp) 0 [])
 
 abbrev picked : Config
 picked = record { line = 2; stack = 1 ∷ []; heap = one_cell 1 [] }
@@ -49,7 +46,7 @@ runs_on (suc n) (inr r) =
     let way : Goes (New 0 0) 1 (start_at lines 1 [] no_cells) picked = (1, [], pick, refl) in
     stuck n (r.3 picked (subst (λ (x : Command). Goes x 1 (start_at lines 1 [] no_cells) picked) is way))
 
-pub new_zero_is_unsound : IsLocallySound [] lines (Runs 1 nothing) (one premise) → ⊥
+pub new_zero_is_unsound : IsLocallySound [] lines (Runs 1 emp) (one premise) → ⊥
 new_zero_is_unsound sound =
     let r = sound (λ _. 0) ((λ below follows s h o w pos g part. absurd (let c : 0 < 0 = o.1.1.first.1 in omega arith)), tt) [] no_cells ([], (tt, refl)) 1 (omega arith) no_cells (no_cells, empty_union no_cells) in
     runs_on r.0 r.1

@@ -8,7 +8,6 @@ use Rattle.heap_formula.specs.declared.atoms.Pure.TheVariants.{Eq, Neq}
 use Rattle.heap_formula.specs.declared.commands.Command.{Command}
 use Rattle.heap_formula.specs.declared.judgements.Judgement.{Judgement}
 use Rattle.heap_formula.specs.declared.judgements.Judgement.TheVariants.{Entail, Term as Runs}
-use Rattle.heap_formula.specs.declared.judgements.Premise.{Premise}
 use Rattle.heap_formula.specs.Symbolic.{SymbolicHeap}
 use Rattle.heap_formula.specs.Definitions.{Definition}
 use Rattle.heap_formula.specs.Words.{Each}
@@ -16,24 +15,17 @@ use Rattle.heap_formula.specs.Values.{Stack, value}
 use Rattle.heap_formula.specs.Cells.{Cells}
 use Rattle.heap_formula.specs.Meaning.{PureHolds, Stages, SatisfiesAt}
 use Rattle.heap_formula.specs.Judgements.{Concludes, PremiseHolds, IsLocallySound, antecedent, with_antecedent}
-use Rattle.heap_formula.specs.Positions.{without, same_pairs}
+use Rattle.heap_formula.specs.Positions.{without}
 use Rattle.rule_table.proofs.Frames.{pairs_follow}
 use Rattle.rule_table.proofs.Rewrites.{Each-without}
 use Rattle.rule_table.proofs.Conclusions.{use_premise}
 use Rattle.formula_facts.proofs.AllMembers.{each_append, each_at}
+use Rattle.rule_table.specs.Table.{with_pures}
 
 -- the conclusion does not speak of the antecedent
 pub same_conclusion : (ds : List Definition) (lines : List Command) (j : Judgement) (a : SymbolicHeap) (s : Stack) (h : Cells) → Concludes ds lines (with_antecedent j a) s h → Concludes ds lines j s h
 same_conclusion ds lines (Entail b bs) a s h c = c
 same_conclusion ds lines (Runs i b) a s h c = c
-
--- the antecedent with other pure atoms
-abbrev pub with_pures : Judgement → List Pure → Premise
-with_pures j xs =
-    record {
-      judgement = with_antecedent j (record { pure = xs; spatial = (antecedent j).spatial });
-      pairs = same_pairs (antecedent j).spatial;
-    }
 
 -- a state that satisfies the antecedent and the new pure atoms is claimed by the premise
 pub by_pures : (ds : List Definition) (lines : List Command) (j : Judgement) (xs : List Pure) (stages : Stages) → PremiseHolds ds lines stages (with_pures j xs) → (s : Stack) (h : Cells) (o : SatisfiesAt ds stages s h (antecedent j)) → Each (PureHolds s o.0) xs → Concludes ds lines j s h

@@ -1,5 +1,5 @@
 -- A node without a fault holds where the nodes that its edges lead to do.
-use Rattle.std.proofs.Common.{◌≡◌, ℕ, suc, Bool, true, List, [], ◌∷◌, length, Option, Some, None, refl, sym, subst}
+use Rattle.std.proofs.Common.{◌≡◌, ℕ, suc, true, List, [], ◌∷◌, length, Option, Some, None, refl, sym, subst}
 use Rattle.std.specs.Prelude.{Ok, Err, slice_get, nat_eq, nat_lt}
 use Rattle.std.proofs.lemmas.Bool.Decides.{Decides-eqb}
 use Rattle.heap_formula.specs.declared.commands.Command.{Command}
@@ -21,29 +21,24 @@ use Rattle.rule_table.specs.Tests.{same_pure, same_spatial}
 use Rattle.rule_table.specs.LinkTable.{first_of, fault_unless}
 use Rattle.rule_table.specs.RuleBook.{variables_of, rule_answer}
 use Rattle.rule_table.specs.Soundness.{IsSound, IsCommand, AreUniversal}
-use Rattle.rule_table.specs.Nodes.{Node, all_same, same_heap, same_judgement, differs, premises_fault, answer_fault, target_fault, reason_fault, node_fault, edges_to, answer_edges, link_edges, reason_edges, edges_of, HoldsAtNode, IsReadable}
+use Rattle.rule_table.specs.Nodes.{Node, same_heap, same_judgement, differs, premises_fault, answer_fault, target_fault, reason_fault, node_fault, edges_to, answer_edges, link_edges, reason_edges, edges_of, HoldsAtNode, IsReadable}
 use Rattle.rule_table.proofs.Reflects.{same_pure_is, same_spatial_is}
 use Rattle.rule_table.proofs.LinkRule.{none_of_two, no_fault, link_is_sound}
 use Rattle.rule_table.proofs.AllRules.{has_variables, rule_is_sound}
 use Rattle.std.proofs.lemmas.Bool.{and_parts}
-
-all_same_are : {X : Type 0} (same : X → X → Bool) → ((x y : X) → same x y ≡ true → x ≡ y) → (xs ys : List X) → all_same same xs ys ≡ true → xs ≡ ys
-all_same_are same f [] [] e = refl
-all_same_are same f [] (y ∷ ys) e = cc
-all_same_are same f (x ∷ xs) [] e = cc
-all_same_are same f (x ∷ xs) (y ∷ ys) e =
-    let b = and_parts (same x y) (all_same same xs ys) e in λ i. f x y b.0 i ∷ all_same_are same f xs ys b.1 i
+use Rattle.std.specs.Cmp.Lexicographic.{pointwise}
+use Rattle.list_facts.proofs.Tests.{pointwise_is}
 
 same_heap_is : (a b : SymbolicHeap) → same_heap a b ≡ true → a ≡ b
 same_heap_is a b e =
-    let t = and_parts (all_same same_pure a.pure b.pure) (all_same same_spatial a.spatial b.spatial) e in
-    let p = all_same_are same_pure same_pure_is a.pure b.pure t.0 in
-    let s = all_same_are same_spatial same_spatial_is a.spatial b.spatial t.1 in λ i. record { pure = p i; spatial = s i }
+    let t = and_parts (pointwise same_pure a.pure b.pure) (pointwise same_spatial a.spatial b.spatial) e in
+    let p = pointwise_is same_pure same_pure_is a.pure b.pure t.0 in
+    let s = pointwise_is same_spatial same_spatial_is a.spatial b.spatial t.1 in λ i. record { pure = p i; spatial = s i }
 
 pub same_judgement_is : (j k : Judgement) → same_judgement j k ≡ true → j ≡ k
 same_judgement_is (Entail a bs) (Entail b cs) e =
-    let t = and_parts (same_heap a b) (all_same same_heap bs cs) e in
-    λ i. Entail (same_heap_is a b t.0 i) (all_same_are same_heap same_heap_is bs cs t.1 i)
+    let t = and_parts (same_heap a b) (pointwise same_heap bs cs) e in
+    λ i. Entail (same_heap_is a b t.0 i) (pointwise_is same_heap same_heap_is bs cs t.1 i)
 same_judgement_is (Runs m a) (Runs n b) e =
     let t = and_parts (nat_eq m n) (same_heap a b) e in λ i. Runs ((Decides-eqb m n).0 t.0 i) (same_heap_is a b t.1 i)
 same_judgement_is (Entail a bs) (Runs n b) e = cc

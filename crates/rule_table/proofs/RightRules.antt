@@ -32,7 +32,8 @@ use Rattle.rule_table.proofs.Links.{follows_holds}
 use Rattle.rule_table.specs.Answer.{finds, limited, one}
 use Rattle.rule_table.specs.Tests.{same_spatial, is_universal_pure, is_universal_spatial, follows}
 use Rattle.heap_formula.specs.Fresh.{heap_exists}
-use Rattle.rule_table.specs.Table.{with_right, without_pure, calls, are_empty, instance_term, right_term, unfolded_right, done_answer, choose_answer, pure_right_answer, instantiate_answer, frame_answer, unfold_right_answer}
+use Rattle.rule_table.specs.Table.{with_right, without_pure, calls, are_empty, instance_term, right_term, done_answer, choose_answer, pure_right_answer, instantiate_answer, frame_answer, unfold_right_answer}
+use Rattle.rule_table.specs.RuleUnfold.{unfolded}
 use Rattle.rule_table.specs.Soundness.{IsSound}
 use Rattle.rule_table.proofs.Steps.{needs_sound, finds_sound, limited_sound, entails_sound, single_sound}
 use Rattle.rule_table.proofs.Reflects.{universal_pure_is, universal_spatial_is, same_spatial_is, follows_is}
@@ -153,11 +154,11 @@ module _ (ds : List Definition) (lines : List Command) where
   right_value s e args n (Univ i) q = sym (get_or-map (value s e) args i Nil)
   right_value s e args n (Exist i) q = sym (get_or-drop n e i 0)
 
-  unfold_right_sound : (a b : SymbolicHeap) (k c q : ℕ) (ts : List Term) (case : SymbolicHeap) (n : ℕ) → slice_get b.spatial k ≡ Some (Pred q ts) → slice_get (cases_of ds q) c ≡ Some case → IsLocallySound ds lines (Entail a (b ∷ [])) (one (with_right a (unfolded_right b k (in_heap (right_term ts n) case) ∷ [])))
+  unfold_right_sound : (a b : SymbolicHeap) (k c q : ℕ) (ts : List Term) (case : SymbolicHeap) (n : ℕ) → slice_get b.spatial k ≡ Some (Pred q ts) → slice_get (cases_of ds q) c ≡ Some case → IsLocallySound ds lines (Entail a (b ∷ [])) (one (with_right a (unfolded b k (in_heap (right_term ts n) case) ∷ [])))
   unfold_right_sound a b k c q ts case n at_k at_c =
-      by_right a (b ∷ []) (unfolded_right b k (in_heap (right_term ts n) case) ∷ []) (λ stages s h o r.
+      by_right a (b ∷ []) (unfolded b k (in_heap (right_term ts n) case) ∷ []) (λ stages s h o r.
       let body = in_heap (right_term ts n) case in
-      let w = one_only s h (unfolded_right b k body) r in
+      let w = one_only s h (unfolded b k body) r in
       let e = w.1.0 in
       let all = spatial_within (λ m. at_stage ds (w.0 m)) (λ _. least ds) (λ m p vs g x. (w.0 m, x)) s e (without k b.spatial ++ body.spatial) h w.1.1.1 in
       let parts = split_holds (least ds) s e (without k b.spatial) body.spatial h all in
@@ -170,11 +171,11 @@ module _ (ds : List Definition) (lines : List Command) where
       let m = one_stage ds s e b.spatial h whole in
       inl (λ _. m.0, (e, (each_front (PureHolds s e) b.pure body.pure w.1.1.0, m.1))))
 
-  unfold_right_call_sound : (most : ℕ) (a b : SymbolicHeap) (k c : ℕ) (x : Spatial) → slice_get b.spatial k ≡ Some x → IsSound ds lines (Entail a (b ∷ [])) (calls x (λ q ts. finds (slice_get (cases_of ds q) c) NoSuchCase (λ case. limited most (one (with_right a (unfolded_right b k (in_heap (right_term ts (heap_exists b)) case) ∷ []))))))
+  unfold_right_call_sound : (most : ℕ) (a b : SymbolicHeap) (k c : ℕ) (x : Spatial) → slice_get b.spatial k ≡ Some x → IsSound ds lines (Entail a (b ∷ [])) (calls x (λ q ts. finds (slice_get (cases_of ds q) c) NoSuchCase (λ case. limited most (one (with_right a (unfolded b k (in_heap (right_term ts (heap_exists b)) case) ∷ []))))))
   unfold_right_call_sound most a b k c (Cell t ts) at = tt
   unfold_right_call_sound most a b k c (Pred q ts) at =
       finds_sound ds lines (Entail a (b ∷ [])) (slice_get (cases_of ds q) c) NoSuchCase _ (λ case at_c.
-      limited_sound ds lines most (Entail a (b ∷ [])) (one (with_right a (unfolded_right b k (in_heap (right_term ts (heap_exists b)) case) ∷ []))) (unfold_right_sound a b k c q ts case (heap_exists b) at at_c))
+      limited_sound ds lines most (Entail a (b ∷ [])) (one (with_right a (unfolded b k (in_heap (right_term ts (heap_exists b)) case) ∷ []))) (unfold_right_sound a b k c q ts case (heap_exists b) at at_c))
 
   pub unfold_right_is_sound : (most : ℕ) (j : Judgement) (k c : ℕ) → IsSound ds lines j (unfold_right_answer most ds j k c)
   unfold_right_is_sound most j k c =

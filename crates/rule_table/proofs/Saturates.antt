@@ -7,7 +7,8 @@ use Rattle.heap_formula.specs.declared.atoms.Spatial.{Spatial}
 use Rattle.heap_formula.specs.declared.atoms.Spatial.TheVariants.{Cell, Pred}
 use Rattle.heap_formula.specs.Words.{max_of}
 use Rattle.heap_formula.specs.Substitution.{in_pure, in_spatial}
-use Rattle.rule_table.specs.Answer.{number_bound, terms_numbers, pure_numbers, spatial_numbers}
+use Rattle.rule_table.specs.Answer.{number_bound}
+use Rattle.heap_formula.specs.Fresh.{terms_numbers, pure_numbers, spatial_numbers}
 
 module _ (f g : Term → Term) (same : (t : Term) → number_bound (g t) ≤ 65535 → f t ≡ g t) (over : (t : Term) → number_bound (f t) ≤ 65535 → number_bound (g t) ≤ 65535) where
   terms_same : (ts : List Term) → terms_numbers (map g ts) ≤ 65535 → map f ts ≡ map g ts

@@ -1,5 +1,5 @@
 -- Exec: the first fault, or the premises with their trace pairs.
-use Rattle.std.specs.Prelude.{ℕ, zero, suc, ◌+◌, ◌-◌, List, [], ◌∷◌, ◌++◌, cond, Option, Some, None, Ok, slice_set}
+use Rattle.std.specs.Prelude.{ℕ, suc, ◌+◌, ◌-◌, List, [], ◌∷◌, ◌++◌, cond, Option, Some, None, Ok, slice_set}
 use Rattle.heap_formula.specs.declared.terms.Term.{Term}
 use Rattle.heap_formula.specs.declared.terms.Term.TheVariants.{Univ}
 use Rattle.heap_formula.specs.declared.atoms.Pure.{Pure}
@@ -13,7 +13,7 @@ use Rattle.heap_formula.specs.declared.judgements.Judgement.TheVariants.{Term as
 use Rattle.heap_formula.specs.declared.judgements.Premise.{Premise}
 use Rattle.heap_formula.specs.declared.proof_rules.RuleFault.TheVariants.{NoCell, WrongJudgement}
 use Rattle.heap_formula.specs.Symbolic.{SymbolicHeap}
-use Rattle.heap_formula.specs.Fresh.{fresh_number}
+use Rattle.heap_formula.specs.Fresh.{fresh_number, variables_from}
 use Rattle.heap_formula.specs.Programs.{counted_from_one, program_variables}
 use Rattle.heap_formula.specs.Positions.{same_pairs, kept_pairs}
 use Rattle.heap_formula.specs.Substitution.{apply_term, apply_heap}
@@ -50,11 +50,6 @@ renamed_term x n t = apply_term ((x, Univ n) ∷ []) t
 -- with one more pure atom
 abbrev pub with_atom : SymbolicHeap → Pure → SymbolicHeap
 with_atom a x = record { pure = a.pure ++ x ∷ []; spatial = a.spatial }
-
--- the variables from n on, k of them
-abbrev pub variables_from : ℕ → ℕ → List Term
-variables_from n zero = []
-variables_from n (suc k) = Univ n ∷ variables_from (suc n) k
 
 -- with one more cell
 abbrev pub with_cell : SymbolicHeap → ℕ → List Term → SymbolicHeap

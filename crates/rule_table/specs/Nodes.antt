@@ -1,5 +1,6 @@
 -- The faults of a node of a proof, and its edges.
-use Rattle.std.specs.Prelude.{◌≡◌, ℕ, suc, List, [], ◌∷◌, length, Bool, true, false, ◌&&◌, nat_eq, nat_lt, Option, Some, None, Ok, Err, slice_get}
+use Rattle.std.specs.Prelude.{◌≡◌, ℕ, suc, List, [], ◌∷◌, length, Bool, false, ◌&&◌, nat_eq, nat_lt, Option, Some, None, Ok, Err, slice_get}
+use Rattle.std.specs.Cmp.Lexicographic.{pointwise}
 use Rattle.heap_formula.specs.declared.commands.Command.{Command}
 use Rattle.heap_formula.specs.declared.judgements.Judgement.{Judgement}
 use Rattle.heap_formula.specs.declared.judgements.Judgement.TheVariants.{Entail, Term as Runs}
@@ -30,20 +31,13 @@ pub record Node : Type 0 where
 
 -- ---- judgements that are one as they stand
 
--- two lists have one length, and the test holds of each two members in one place
-abbrev pub all_same : {X : Type 0} → (X → X → Bool) → List X → List X → Bool
-all_same same [] [] = true
-all_same same [] (y ∷ ys) = false
-all_same same (x ∷ xs) [] = false
-all_same same (x ∷ xs) (y ∷ ys) = same x y && all_same same xs ys
-
 -- two heaps are one as they stand
 abbrev pub same_heap : SymbolicHeap → SymbolicHeap → Bool
-same_heap a b = all_same same_pure a.pure b.pure && all_same same_spatial a.spatial b.spatial
+same_heap a b = pointwise same_pure a.pure b.pure && pointwise same_spatial a.spatial b.spatial
 
 -- two judgements are one as they stand
 abbrev pub same_judgement : Judgement → Judgement → Bool
-same_judgement (Entail a bs) (Entail b cs) = same_heap a b && all_same same_heap bs cs
+same_judgement (Entail a bs) (Entail b cs) = same_heap a b && pointwise same_heap bs cs
 same_judgement (Runs i a) (Runs k b) = nat_eq i k && same_heap a b
 same_judgement (Entail a bs) (Runs k b) = false
 same_judgement (Runs i a) (Entail b cs) = false

@@ -20,7 +20,7 @@ use Rattle.heap_formula.specs.Fresh.{heap_bound, heap_exists, fresh_number}
 use Rattle.heap_formula.specs.Judgements.{antecedent, with_antecedent}
 use Rattle.heap_formula.specs.Positions.{without, same_pairs, kept_pairs}
 use Rattle.heap_formula.specs.Substitution.{in_heap, apply_pure, apply_spatial, apply_judgement}
-use Rattle.rule_table.specs.RuleUnfold.{unfold_premise}
+use Rattle.rule_table.specs.RuleUnfold.{unfold_premise, unfolded}
 use Rattle.rule_table.specs.RuleCut.{cut_left, cut_right}
 use Rattle.rule_table.specs.Answer.{Answer, needs, finds, entails, single, runs, limited, one, two}
 use Rattle.rule_table.specs.Tests.{same_term, same_spatial, is_universal_pure, is_universal_spatial, follows, is_absurd, address_of, ascend_from, has_number}
@@ -185,10 +185,6 @@ right_term args e Nil = Nil
 right_term args e (Univ i) = slice_index_or args i Nil
 right_term args e (Exist i) = Exist (e + i)
 
--- a case's atoms at the end in the place of spatial atom k
-abbrev pub unfolded_right : SymbolicHeap → ℕ → SymbolicHeap → SymbolicHeap
-unfolded_right b k body = record { pure = b.pure ++ body.pure; spatial = without k b.spatial ++ body.spatial }
-
 -- UnfoldRight k c: case c of the predicate at spatial atom k of the right side, with fresh existentials
 abbrev pub unfold_right_answer : ℕ → List Definition → Judgement → ℕ → ℕ → Answer
 unfold_right_answer most ds j k c =
@@ -196,4 +192,4 @@ unfold_right_answer most ds j k c =
     finds (slice_get b.spatial k) NoSuchAtom (λ x.
     calls x (λ q ts.
     finds (slice_get (cases_of ds q) c) NoSuchCase (λ case.
-    limited most (one (with_right a (unfolded_right b k (in_heap (right_term ts (heap_exists b)) case) ∷ [])))))))
+    limited most (one (with_right a (unfolded b k (in_heap (right_term ts (heap_exists b)) case) ∷ [])))))))

@@ -1,8 +1,9 @@
 // The limits that premises keep.
 ghost use Rattle.std.specs.Prelude.{◌≡◌, ◌≤◌, ◌<◌, true, ◌+◌, ◌&&◌, length, nat_le};
+ghost use Rattle.std.specs.List.{list_all};
 ghost use Rattle.heap_formula.specs.Fresh.{fresh_number};
 ghost use Rattle.heap_formula.specs.declared.proof_rules.RuleFault.TheVariants.{NoFreshVariable};
-ghost use Rattle.rule_table.specs.Answer.{needs, every, is_short as short, has_numbers, each_heap, heaps_of, disjuncts};
+ghost use Rattle.rule_table.specs.Answer.{needs, is_short as short, has_numbers, each_heap, heaps_of, disjuncts};
 ghost use Rattle.rule_table.specs.Answered.{IsAnswer};
 ghost use Rattle.rule_table.specs.Table.{with_pure};
 ghost use Rattle.heap_formula.specs.Judgements.{antecedent};
@@ -20,7 +21,7 @@ fn are_small(heap: &Heap) -> bool
 }
 
 fn all_small(heaps: &[Heap]) -> bool
-    ensures { result ≡ every has_numbers heaps.now }
+    ensures { result ≡ list_all has_numbers heaps.now }
 {
     for heap in heaps {
         if !are_small(heap) {
@@ -31,7 +32,7 @@ fn all_small(heaps: &[Heap]) -> bool
 }
 
 fn judgement_small(judgement: &Judgement) -> bool
-    ensures { result ≡ every has_numbers (heaps_of judgement.now) }
+    ensures { result ≡ list_all has_numbers (heaps_of judgement.now) }
 {
     match judgement {
         Judgement::Entail(a, bs) => are_small(a) && all_small(bs.heaps()),
@@ -70,7 +71,7 @@ pub fn is_short(most: u8, heap: &Heap) -> bool
 
 /// Whether each heap has at most `most` spatial atoms, and at most 64 pure ones.
 pub fn are_short(most: u8, heaps: &[Heap]) -> bool
-    ensures { result ≡ every (short most) heaps.now }
+    ensures { result ≡ list_all (short most) heaps.now }
 {
     for heap in heaps {
         if !is_short(most, heap) {
@@ -82,7 +83,7 @@ pub fn are_short(most: u8, heaps: &[Heap]) -> bool
 
 /// Whether each disjunct has at most `most` spatial atoms.
 pub fn are_disjuncts_short(most: u8, judgement: &Judgement) -> bool
-    ensures { result ≡ every (short most) (disjuncts judgement.now) }
+    ensures { result ≡ list_all (short most) (disjuncts judgement.now) }
 {
     match judgement {
         Judgement::Entail(_, bs) => are_short(most, bs.heaps()),
@@ -92,7 +93,7 @@ pub fn are_disjuncts_short(most: u8, judgement: &Judgement) -> bool
 
 /// Whether one more pure atom on the left keeps the limits.
 pub fn has_room(judgement: &Judgement) -> bool
-    ensures each { (x : Pure) → result ≡ every (short MOST_SPATIAL) (heaps_of (with_pure judgement.now x).judgement) }
+    ensures each { (x : Pure) → result ≡ list_all (short MOST_SPATIAL) (heaps_of (with_pure judgement.now x).judgement) }
     ensures room { result ≡ true → length (antecedent judgement.now).pure < MOST_PURE }
 {
     match judgement {

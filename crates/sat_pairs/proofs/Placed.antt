@@ -11,7 +11,7 @@ use Rattle.pair_family.specs.BasePairs.{element}
 use Rattle.pair_family.specs.Classes.{term_number}
 use Rattle.pair_family.specs.Folding.{spoken}
 use Rattle.pair_family.specs.Frames.{term_at, has_term, one_more, with_terms, kept_terms}
-use Rattle.pair_family.proofs.Lists.{In}
+use Rattle.list_facts.specs.Words.{IsMember}
 use Rattle.pair_states.proofs.Combined.{ArePlaces}
 use Rattle.sat_pairs.specs.Numbers.{numbered, with_numbers, kept_numbers, sides_of, with_pure_numbers, place_in, places_in, count_from}
 use Rattle.pair_states.proofs.Labelled.{any_map}
@@ -47,7 +47,7 @@ pure_numbered ns (p ∷ ps) = pure_numbered (numbered (numbered ns (term_number 
 
 -- ---- places
 
-pub placed : (t : Term) (terms : List Term) → In t terms → place_in (term_number t) (map term_number terms) < length terms
+pub placed : (t : Term) (terms : List Term) → IsMember t terms → place_in (term_number t) (map term_number terms) < length terms
 placed t [] m = absurd m
 placed t (u ∷ terms) (inl s) =
     elim (cases_Bool (nat_eq (term_number u) (term_number t))) [
@@ -58,7 +58,7 @@ placed t (u ∷ terms) (inr m) =
     let l = placed t terms m in
     elim (cases_Bool (nat_eq (term_number u) (term_number t))) [ inl y ↦ rw y (omega arith) | inr n ↦ rw n (omega arith) ]
 
-pub placed_at : (same : (t u : Term) → term_number t ≡ term_number u → t ≡ u) (t : Term) (terms : List Term) → In t terms → term_at terms (place_in (term_number t) (map term_number terms)) ≡ t
+pub placed_at : (same : (t u : Term) → term_number t ≡ term_number u → t ≡ u) (t : Term) (terms : List Term) → IsMember t terms → term_at terms (place_in (term_number t) (map term_number terms)) ≡ t
 placed_at same t [] m = absurd m
 placed_at same t (u ∷ terms) (inl s) =
     elim (cases_Bool (nat_eq (term_number u) (term_number t))) [
@@ -73,17 +73,17 @@ placed_at same t (u ∷ terms) (inr m) =
     ]
 
 module _ (same : (t u : Term) → term_number t ≡ term_number u → t ≡ u) (rest : List Term) where
-  place_within : (ts : List Term) → Each (λ t. In t (Nil ∷ rest)) ts → (i : ℕ) → slice_index (map (λ t. place_in (term_number t) (map term_number (Nil ∷ rest))) ts) i < length (Nil ∷ rest)
+  place_within : (ts : List Term) → Each (λ t. IsMember t (Nil ∷ rest)) ts → (i : ℕ) → slice_index (map (λ t. place_in (term_number t) (map term_number (Nil ∷ rest))) ts) i < length (Nil ∷ rest)
   place_within [] a i = omega arith
   place_within (t ∷ ts) a zero = placed t (Nil ∷ rest) a.0
   place_within (t ∷ ts) a (suc i) = place_within ts a.1 i
 
-  place_is : (ts : List Term) → Each (λ t. In t (Nil ∷ rest)) ts → (i : ℕ) → term_at (Nil ∷ rest) (slice_index (map (λ t. place_in (term_number t) (map term_number (Nil ∷ rest))) ts) i) ≡ slice_index_or ts i Nil
+  place_is : (ts : List Term) → Each (λ t. IsMember t (Nil ∷ rest)) ts → (i : ℕ) → term_at (Nil ∷ rest) (slice_index (map (λ t. place_in (term_number t) (map term_number (Nil ∷ rest))) ts) i) ≡ slice_index_or ts i Nil
   place_is [] a i = refl
   place_is (t ∷ ts) a zero = placed_at same t (Nil ∷ rest) a.0
   place_is (t ∷ ts) a (suc i) = place_is ts a.1 i
 
-  pub are_places : (ts : List Term) → Each (λ t. In t (Nil ∷ rest)) ts → ArePlaces (Nil ∷ rest) ts (places_in (map term_number (Nil ∷ rest)) ts)
+  pub are_places : (ts : List Term) → Each (λ t. IsMember t (Nil ∷ rest)) ts → ArePlaces (Nil ∷ rest) ts (places_in (map term_number (Nil ∷ rest)) ts)
   are_places ts a = record { within = within; is = is }
     where
       within : (i : ℕ) → slice_index (places_in (map term_number (Nil ∷ rest)) ts) i < length (Nil ∷ rest)

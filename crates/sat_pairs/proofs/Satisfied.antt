@@ -10,7 +10,8 @@ use Rattle.pair_family.specs.Closedness.{HasFields, AreCases}
 use Rattle.pair_family.specs.Combination.{projection}
 use Rattle.pair_family.specs.Family.{CaseGives, InFamily, IsCombinable}
 use Rattle.pair_family.specs.Statements.{IsSatisfiable}
-use Rattle.pair_family.specs.Tables.{IsMember, Table, in_table, IsTable}
+use Rattle.pair_family.specs.Tables.{Table, in_table, IsTable}
+use Rattle.list_facts.specs.Words.{IsMember}
 use Rattle.pair_family.proofs.Rounds.{gives_within}
 use Rattle.pair_family.proofs.Exact.{combinable_is_satisfiable}
 

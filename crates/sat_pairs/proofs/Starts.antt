@@ -9,22 +9,20 @@ use Rattle.heap_formula.specs.declared.atoms.Pure.TheVariants.{Eq, Neq}
 use Rattle.heap_formula.specs.declared.atoms.Spatial.{Spatial}
 use Rattle.heap_formula.specs.declared.atoms.Spatial.TheVariants.{Pred}
 use Rattle.heap_formula.specs.Words.{Each}
-use Rattle.pair_family.specs.BasePairs.{BasePair, element}
+use Rattle.pair_family.specs.BasePairs.{BasePair, element, no_pair}
 use Rattle.pair_family.specs.Within.{AreWithin, IsWithin}
 use Rattle.pair_family.specs.Classes.{term_number}
 use Rattle.pair_family.specs.Combination.{pure_equations, pure_differences, pure_facts, AreConsistent, said}
 use Rattle.pair_family.specs.Folding.{Frame, two_at, said_in, with_atom}
 use Rattle.pair_family.specs.Frames.{term_at, with_terms, kept_terms, frames_of}
-use Rattle.pair_family.proofs.Lists.{In, at_each}
+use Rattle.pair_family.proofs.Lists.{at_each}
+use Rattle.list_facts.specs.Words.{IsMember}
 use Rattle.pair_family.proofs.ListFrames.{terms_there, terms_after}
 use Rattle.pair_states.specs.Labels.{AreApartLabels, combined_pairs, combined}
 use Rattle.pair_states.proofs.Combined.{ArePlaces, apart_consistent, combined_is}
 use Rattle.sat_pairs.specs.Numbers.{with_numbers, kept_numbers, with_pure_numbers, place_in, count_from, equal_places, differ_places}
 use Rattle.sat_pairs.proofs.Placed.{terms_numbered, kept_are, pure_terms, pure_numbered, placed, placed_at, counted_at, at_left, below_each}
 use Rattle.pair_family.proofs.Classes.{same_number}
-
-abbrev pub no_pair : BasePair
-no_pair = record { same = []; differ = []; cells = [] }
 
 -- terms whose places are known
 module _ (all : List Term) where
@@ -34,25 +32,25 @@ module _ (all : List Term) where
   abbrev at : ℕ → Term
   at = term_at (Nil ∷ all)
 
-  here : (t : Term) → In t (Nil ∷ all) → at (place_in (term_number t) ns) ≡ t
+  here : (t : Term) → IsMember t (Nil ∷ all) → at (place_in (term_number t) ns) ≡ t
   here t m = placed_at same_number t (Nil ∷ all) m
 
-  equal_at : (ps : List Pure) → Each (λ t. In t (Nil ∷ all)) (pure_terms ps) → two_at at (equal_places ns ps) ≡ pure_equations ps
+  equal_at : (ps : List Pure) → Each (λ t. IsMember t (Nil ∷ all)) (pure_terms ps) → two_at at (equal_places ns ps) ≡ pure_equations ps
   equal_at [] a = refl
   equal_at (Eq t u ∷ ps) a = let x = here t a.0 in let y = here u a.1.0 in let rest = equal_at ps a.1.1 in λ i. (x i, y i) ∷ rest i
   equal_at (Neq t u ∷ ps) a = equal_at ps a.1.1
 
-  differ_at : (ps : List Pure) → Each (λ t. In t (Nil ∷ all)) (pure_terms ps) → two_at at (differ_places ns ps) ≡ pure_differences ps
+  differ_at : (ps : List Pure) → Each (λ t. IsMember t (Nil ∷ all)) (pure_terms ps) → two_at at (differ_places ns ps) ≡ pure_differences ps
   differ_at [] a = refl
   differ_at (Eq t u ∷ ps) a = differ_at ps a.1.1
   differ_at (Neq t u ∷ ps) a = let x = here t a.0 in let y = here u a.1.0 in let rest = differ_at ps a.1.1 in λ i. (x i, y i) ∷ rest i
 
-  equal_below : (ps : List Pure) → Each (λ t. In t (Nil ∷ all)) (pure_terms ps) → AreWithin (length (Nil ∷ all)) (equal_places ns ps)
+  equal_below : (ps : List Pure) → Each (λ t. IsMember t (Nil ∷ all)) (pure_terms ps) → AreWithin (length (Nil ∷ all)) (equal_places ns ps)
   equal_below [] a = tt
   equal_below (Eq t u ∷ ps) a = ((placed t (Nil ∷ all) a.0, placed u (Nil ∷ all) a.1.0), equal_below ps a.1.1)
   equal_below (Neq t u ∷ ps) a = equal_below ps a.1.1
 
-  differ_below : (ps : List Pure) → Each (λ t. In t (Nil ∷ all)) (pure_terms ps) → AreWithin (length (Nil ∷ all)) (differ_places ns ps)
+  differ_below : (ps : List Pure) → Each (λ t. IsMember t (Nil ∷ all)) (pure_terms ps) → AreWithin (length (Nil ∷ all)) (differ_places ns ps)
   differ_below [] a = tt
   differ_below (Eq t u ∷ ps) a = differ_below ps a.1.1
   differ_below (Neq t u ∷ ps) a = ((placed t (Nil ∷ all) a.0, placed u (Nil ∷ all) a.1.0), differ_below ps a.1.1)
@@ -63,7 +61,7 @@ module _ (all : List Term) where
   abbrev frame : Frame
   frame = record { count = length all; at = at }
 
-  facts_are : (ps : List Pure) → Each (λ t. In t (Nil ∷ all)) (pure_terms ps) → with_atom frame (pure_pair ps) no_pair (Pred 0 []) ≡ pure_facts ps
+  facts_are : (ps : List Pure) → Each (λ t. IsMember t (Nil ∷ all)) (pure_terms ps) → with_atom frame (pure_pair ps) no_pair (Pred 0 []) ≡ pure_facts ps
   facts_are ps a =
       let e = append-nil (two_at at (equal_places ns ps)) ∙ equal_at ps a in
       let d = append-nil (two_at at (differ_places ns ps)) ∙ differ_at ps a in
@@ -84,8 +82,8 @@ pub longer : {X : Type 0} (xs ys : List X) → length xs < suc (length (xs ++ ys
 longer [] ys = omega arith
 longer (x ∷ xs) ys = let l = longer xs ys in omega arith
 
-each_in : (terms ts : List Term) → Each (λ t. In t (Nil ∷ with_terms terms ts)) ts
-each_in terms ts = at_each (λ t. In t (Nil ∷ with_terms terms ts)) ts (λ t m. terms_there terms ts t m)
+each_in : (terms ts : List Term) → Each (λ t. IsMember t (Nil ∷ with_terms terms ts)) ts
+each_in terms ts = at_each (λ t. IsMember t (Nil ∷ with_terms terms ts)) ts (λ t m. terms_there terms ts t m)
 
 abbrev pub IsStart : ℕ → List Spatial → List Pure → BasePair → Type 0
 IsStart k xs ps s = AreConsistent (pure_facts ps) × (s ≡ said_in (frames_of k xs 0) (pure_facts ps))

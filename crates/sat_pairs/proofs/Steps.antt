@@ -7,7 +7,7 @@ use Rattle.heap_formula.specs.declared.atoms.Spatial.{Spatial}
 use Rattle.heap_formula.specs.declared.atoms.Spatial.TheVariants.{Cell, Pred}
 use Rattle.heap_formula.specs.Symbolic.{SymbolicHeap}
 use Rattle.heap_formula.specs.Words.{Each, OneOf}
-use Rattle.pair_family.specs.BasePairs.{BasePair}
+use Rattle.pair_family.specs.BasePairs.{BasePair, no_pair}
 use Rattle.pair_family.specs.Within.{IsWithin}
 use Rattle.pair_family.specs.Classes.{term_number, class_of}
 use Rattle.pair_family.specs.Combination.{Facts, pure_facts, list_facts, AreConsistent, all_differ, said}
@@ -15,8 +15,9 @@ use Rattle.pair_family.specs.Family.{CaseGives}
 use Rattle.pair_family.specs.Folding.{said_in, with_atom, spoken}
 use Rattle.pair_family.specs.Frames.{term_at, frame_of, with_terms, kept_terms, frames_of}
 use Rattle.pair_family.specs.States.{Leads, AreStates}
-use Rattle.pair_family.specs.Tables.{IsMember, Table, in_table, pairs_of}
-use Rattle.pair_family.proofs.Lists.{In, at_each, each_at}
+use Rattle.pair_family.specs.Tables.{Table, in_table, pairs_of}
+use Rattle.pair_family.proofs.Lists.{at_each, each_at}
+use Rattle.list_facts.specs.Words.{IsMember}
 use Rattle.pair_family.proofs.Kernel.{kept_within}
 use Rattle.pair_family.proofs.ListFrames.{terms_there, terms_after, are_frames, parameters_frame}
 use Rattle.pair_family.proofs.SemiNaive.{by_case, case_by}
@@ -27,7 +28,7 @@ use Rattle.pair_states.proofs.Combined.{ArePlaces, apart_consistent, combined_is
 use Rattle.sat_pairs.specs.Numbers.{kept_numbers, places_in, count_from, cell_pair_alone}
 use Rattle.sat_pairs.specs.Growth.{pairs_for}
 use Rattle.sat_pairs.proofs.Placed.{kept_are, are_places, below_each}
-use Rattle.sat_pairs.proofs.Starts.{no_pair, first_terms, longer, IsStart}
+use Rattle.sat_pairs.proofs.Starts.{first_terms, longer, IsStart}
 use Rattle.pair_family.proofs.Classes.{same_number}
 
 module _ (table : Table) (k : ℕ) (x : Spatial) (xs : List Spatial) where
@@ -44,7 +45,7 @@ module _ (table : Table) (k : ℕ) (x : Spatial) (xs : List Spatial) where
   facts b c = with_atom (frame_of all) b c (Pred 0 (spoken x))
 
   places : ArePlaces (Nil ∷ all) (spoken x) (places_in numbers (spoken x))
-  places = are_places same_number all (spoken x) (at_each (λ t. In t (Nil ∷ all)) (spoken x) (λ t m. terms_there kept (spoken x) t m))
+  places = are_places same_number all (spoken x) (at_each (λ t. IsMember t (Nil ∷ all)) (spoken x) (λ t m. terms_there kept (spoken x) t m))
 
   said_is : (b c : BasePair) → IsWithin (suc (length all)) b → combined numbers b (places_in numbers (spoken x)) c (count_from 0 (length (Nil ∷ kept))) ≡ said_in (frame_of kept) (facts b c)
   said_is b c w =

@@ -9,7 +9,8 @@ use Rattle.heap_formula.specs.Definitions.{Definition}
 use Rattle.heap_formula.specs.Words.{OneOf}
 use Rattle.pair_family.specs.BasePairs.{BasePair}
 use Rattle.pair_family.specs.Family.{CaseGives, InFamily, arity_of}
-use Rattle.pair_family.specs.Tables.{IsTable, in_table, IsMember, IsDistinct, Table, pairs_of, HasMoreThan, HasAtMost}
+use Rattle.pair_family.specs.Tables.{IsTable, in_table, IsDistinct, Table, pairs_of, HasMoreThan, HasAtMost}
+use Rattle.list_facts.specs.Words.{IsMember}
 use Rattle.pair_family.proofs.Lists.{in_left, in_right, in_append, in_map, map_in, at_each}
 use Rattle.pair_family.proofs.Rounds.{at_most, closed_table, gives_within, family_closed}
 use Rattle.sat_pairs.specs.Growth.{total, with_pair, IsAddedTo, IsPartOf, IsGrown, HasAllGiven}

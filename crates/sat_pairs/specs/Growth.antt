@@ -7,7 +7,8 @@ use Rattle.heap_formula.specs.Words.{OneOf}
 use Rattle.heap_formula.specs.Definitions.{Definition}
 use Rattle.pair_family.specs.BasePairs.{BasePair}
 use Rattle.pair_family.specs.Family.{CaseGives, InFamily}
-use Rattle.pair_family.specs.Tables.{IsMember, IsDistinct, Table, in_table, pairs_of}
+use Rattle.pair_family.specs.Tables.{IsDistinct, Table, in_table, pairs_of}
+use Rattle.list_facts.specs.Words.{IsMember}
 
 -- how many base pairs a table has
 abbrev pub total : Table → ℕ

@@ -7,13 +7,13 @@ use Rattle.heap_formula.specs.declared.atoms.Pure.TheVariants.{Eq, Neq}
 use Rattle.heap_formula.specs.declared.atoms.Spatial.{Spatial}
 use Rattle.pair_family.specs.BasePairs.{BasePair}
 use Rattle.pair_family.specs.Classes.{term_number}
-use Rattle.pair_family.specs.Combination.{any}
+use Rattle.std.specs.List.{list_any}
 use Rattle.pair_family.specs.Folding.{spoken}
-use Rattle.pair_family.specs.Frames.{parameters_from}
+use Rattle.heap_formula.specs.Fresh.{variables_from}
 
 -- one more number, unless it is there
 abbrev pub numbered : List ℕ → ℕ → List ℕ
-numbered ns n = if any (λ c. nat_eq c n) ns then ns else ns ++ n ∷ []
+numbered ns n = if list_any (λ c. nat_eq c n) ns then ns else ns ++ n ∷ []
 
 abbrev pub with_numbers : List ℕ → List Term → List ℕ
 with_numbers ns [] = ns
@@ -21,7 +21,7 @@ with_numbers ns (t ∷ ts) = with_numbers (numbered ns (term_number t)) ts
 
 -- the numbers of nil, the k parameters and the terms of some atoms
 abbrev pub kept_numbers : ℕ → List Spatial → List ℕ
-kept_numbers k [] = map term_number (Nil ∷ parameters_from 0 k)
+kept_numbers k [] = map term_number (Nil ∷ variables_from 0 k)
 kept_numbers k (x ∷ xs) = with_numbers (kept_numbers k xs) (spoken x)
 
 abbrev pub sides_of : Pure → Term × Term

@@ -2,9 +2,9 @@
 ghost use Rattle.std.specs.Prelude.{◌≡◌, ◌<◌, ◌++◌, ◌∷◌, [], if◌then◌else◌, length, map, nat_eq, IfOk};
 ghost use Rattle.heap_formula.specs.declared.terms.Term.TheVariants.{Nil};
 ghost use Rattle.pair_family.specs.Classes.{term_number};
-ghost use Rattle.pair_family.specs.Combination.{any};
+ghost use Rattle.std.specs.List.{list_any};
 ghost use Rattle.pair_family.specs.Folding.{spoken};
-ghost use Rattle.pair_family.specs.Frames.{parameters_from};
+ghost use Rattle.heap_formula.specs.Fresh.{variables_from};
 ghost use Rattle.sat_pairs.specs.Numbers.{numbered, with_numbers, with_pure_numbers, kept_numbers as kept_numbers_of, place_in, places_in, sides_of, count_from};
 
 use cyc_memory::OutOfMemory;
@@ -23,7 +23,7 @@ pub fn number_of(term: Term) -> u64
 }
 
 fn has_number(numbers: &[u64], number: u64) -> bool
-    ensures { result ≡ any (λ c. nat_eq c number) numbers.now }
+    ensures { result ≡ list_any (λ c. nat_eq c number) numbers.now }
 {
     for other in numbers {
         if *other == number {
@@ -62,7 +62,7 @@ fn push_spoken(numbers: &mut Vec<u64>, atom: &Spatial) -> Result<(), OutOfMemory
 }
 
 fn parameter_numbers(alloc: Global, k: u32) -> Result<Vec<u64>, OutOfMemory>
-    ensures { IfOk result (λ v. v.items ≡ map term_number (Nil ∷ parameters_from 0 k)) }
+    ensures { IfOk result (λ v. v.items ≡ map term_number (Nil ∷ variables_from 0 k)) }
 {
     let mut numbers = Vec::new(alloc);
     numbers.push(0)?;

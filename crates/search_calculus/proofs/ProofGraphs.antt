@@ -18,7 +18,7 @@ use Rattle.proof_graph.specs.Traces.{positions_of}
 use Rattle.search_moves.specs.Trying.{Theory}
 use Rattle.tableaux.specs.Tableau.{Premise as TracedPremise, linked}
 use Rattle.tableaux.proofs.Grown.{length-add, link_edges}
-use Rattle.tableaux.proofs.Waiting.{get_end}
+use Rattle.tableaux.proofs.Waiting.{get_end_at}
 use Rattle.search_calculus.specs.Calculus.{OpenGoal, MadeNode, judgement_of, edge_unless, edge_to, back, none_beside, premises, link_pairs, pairs_of}
 use Rattle.search_calculus.specs.Graphs.{traces_of, filled, graph_node, nodes_from, made_graph, goal_graph, ShowsMade}
 use Rattle.search_calculus.proofs.TraceGraphs.{traces_end, length-traces_of}
@@ -120,7 +120,7 @@ goal_graph_is t nodes g =
 pub goal_last : (t : Theory) (nodes : List MadeNode) (g : OpenGoal) → slice_get (goal_graph t nodes g) (length nodes) ≡ Some (open_node g.premise.judgement)
 goal_last t nodes g =
     ap (λ (xs : List GraphNode). slice_get xs (length nodes)) (goal_graph_is t nodes g)
-    ∙ get_end (shown t nodes g) (open_node g.premise.judgement) (length nodes) (sym (length-shown t nodes g))
+    ∙ get_end_at (shown t nodes g) (open_node g.premise.judgement) (length nodes) (sym (length-shown t nodes g))
 
 -- ---- each node made
 

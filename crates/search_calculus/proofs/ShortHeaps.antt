@@ -18,7 +18,7 @@ use Rattle.heap_formula.specs.declared.proof_rules.Rule.TheVariants.{Absurd, Rew
 use Rattle.heap_formula.specs.declared.proof_rules.RuleFault.TheVariants.{NoSuchAtom, AtomsDiffer, HasExistential, NotFollowing, NotAbsurd, NoSuchCase, NoCell, WrongJudgement}
 use Rattle.heap_formula.specs.declared.proof_rules.Side.{Side}
 use Rattle.heap_formula.specs.Definitions.{Definition}
-use Rattle.heap_formula.specs.Fresh.{fresh_number, heap_bound, heap_exists}
+use Rattle.heap_formula.specs.Fresh.{fresh_number, heap_bound, heap_exists, variables_from}
 use Rattle.heap_formula.specs.Judgements.{antecedent}
 use Rattle.heap_formula.specs.Meaning.{cases_of}
 use Rattle.heap_formula.specs.Positions.{without, kept_pairs}
@@ -26,18 +26,19 @@ use Rattle.heap_formula.specs.Programs.{counted_from_one, program_variables}
 use Rattle.heap_formula.specs.Substitution.{in_heap, apply_spatial}
 use Rattle.heap_formula.specs.Symbolic.{SymbolicHeap}
 use Rattle.heap_formula.specs.Words.{Each}
-use Rattle.rule_table.specs.Answer.{finds, heaps_of, every, each_heap, is_short, limited, one, two}
-use Rattle.rule_table.specs.ExecTable.{cell_of, renamed, renamed_term, with_atom, variables_from, with_cell, with_field, at_line, command_answer}
+use Rattle.rule_table.specs.Answer.{finds, heaps_of, each_heap, is_short, limited, one, two}
+use Rattle.rule_table.specs.ExecTable.{cell_of, renamed, renamed_term, with_atom, with_cell, with_field, at_line, command_answer}
 use Rattle.rule_table.specs.Fits.{OnPremises}
 use Rattle.rule_table.specs.RuleBook.{variables_of, rule_answer}
 use Rattle.rule_table.specs.RuleCut.{cut_left, cut_right}
-use Rattle.rule_table.specs.RuleUnfold.{unfold_premise}
-use Rattle.rule_table.specs.Table.{with_pures, with_pure, with_right, without_spatial, rewritten, rewrite_side, rewrite_atom, named, unnamed, calls, right_term, unfolded_right}
+use Rattle.rule_table.specs.RuleUnfold.{unfold_premise, unfolded}
+use Rattle.rule_table.specs.Table.{with_pures, with_pure, with_right, without_spatial, rewritten, rewrite_side, rewrite_atom, named, unnamed, calls, right_term}
 use Rattle.rule_table.specs.Tests.{same_term, same_spatial, is_universal_pure, is_universal_spatial, follows, is_absurd, address_of, ascend_from, has_number}
 use Rattle.rule_table.proofs.Fits.{needs_on, finds_on, limited_on, entails_on, single_on, runs_on}
 use Rattle.format_limits.proofs.Gives.{limited_gives}
 use Rattle.format_limits.proofs.Heaps.{length-without, short_spatials}
 use Rattle.std.proofs.lemmas.Bool.{and_parts}
+use Rattle.std.specs.List.{list_all}
 use Rattle.rule_table.proofs.EmptyPremises.{empty_on}
 
 -- the antecedent has at most so many spatial atoms
@@ -49,14 +50,14 @@ StaysShort most j p = IsShort most j → IsShort most p.judgement
 
 -- ---- rules that add spatial atoms test for it
 
-first_short : (most : ℕ) → (j : Judgement) → every (is_short most) (heaps_of j) ≡ true → IsShort most j
-first_short most (Entail a bs) e = short_spatials most a (and_parts (is_short most a) (every (is_short most) bs) e).0
+first_short : (most : ℕ) → (j : Judgement) → list_all (is_short most) (heaps_of j) ≡ true → IsShort most j
+first_short most (Entail a bs) e = short_spatials most a (and_parts (is_short most a) (list_all (is_short most) bs) e).0
 first_short most (Runs i a) e = short_spatials most a (and_parts (is_short most a) true e).0
 
 tested_short : (most : ℕ) → (j : Judgement) (ps : List Premise) → each_heap (is_short most) ps ≡ true → Each (StaysShort most j) ps
 tested_short most j [] e = tt
 tested_short most j (p ∷ ps) e =
-    let b = and_parts (every (is_short most) (heaps_of p.judgement)) (each_heap (is_short most) ps) e in ((λ h. first_short most p.judgement b.0), tested_short most j ps b.1)
+    let b = and_parts (list_all (is_short most) (heaps_of p.judgement)) (each_heap (is_short most) ps) e in ((λ h. first_short most p.judgement b.0), tested_short most j ps b.1)
 
 limited_short : (most : ℕ) → (j : Judgement) (ps : List Premise) → OnPremises (StaysShort most j) (limited most ps)
 limited_short most j ps = limited_gives (OnPremises (StaysShort most j)) (λ f. tt) most ps (λ s n. tested_short most j ps s)
@@ -91,11 +92,11 @@ unfold_short most ds p j k (Pred q ts) = limited_short most j (map (unfold_premi
 dropped_short : (most : ℕ) → (k : ℕ) (xs : List Spatial) → length xs ≤ most → length (without k xs) ≤ most
 dropped_short most k xs h = let e = length-without xs k in omega (arith, e, h)
 
-right_short : (most : ℕ) → (ds : List Definition) (a b : SymbolicHeap) (k c : ℕ) (x : Spatial) → OnPremises (StaysShort most (Entail a (b ∷ []))) (calls x (λ q ts. finds (slice_get (cases_of ds q) c) NoSuchCase (λ case. limited most (one (with_right a (unfolded_right b k (in_heap (right_term ts (heap_exists b)) case) ∷ []))))))
+right_short : (most : ℕ) → (ds : List Definition) (a b : SymbolicHeap) (k c : ℕ) (x : Spatial) → OnPremises (StaysShort most (Entail a (b ∷ []))) (calls x (λ q ts. finds (slice_get (cases_of ds q) c) NoSuchCase (λ case. limited most (one (with_right a (unfolded b k (in_heap (right_term ts (heap_exists b)) case) ∷ []))))))
 right_short most ds a b k c (Cell t ts) = tt
 right_short most ds a b k c (Pred q ts) =
     finds_on (StaysShort most (Entail a (b ∷ []))) (slice_get (cases_of ds q) c) NoSuchCase _ (λ case at.
-    limited_short most (Entail a (b ∷ [])) (one (with_right a (unfolded_right b k (in_heap (right_term ts (heap_exists b)) case) ∷ []))))
+    limited_short most (Entail a (b ∷ [])) (one (with_right a (unfolded b k (in_heap (right_term ts (heap_exists b)) case) ∷ []))))
 
 command_short : (most : ℕ) → (i : ℕ) (a : SymbolicHeap) (n : ℕ) (c : Command) → OnPremises (StaysShort most (Runs i a)) (command_answer most i a n c)
 command_short most i a n Stop = tt

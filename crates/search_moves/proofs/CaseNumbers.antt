@@ -17,11 +17,12 @@ use Rattle.heap_formula.specs.Definitions.{Definition}
 use Rattle.heap_formula.specs.Meaning.{cases_of}
 use Rattle.heap_formula.specs.Symbolic.{SymbolicHeap}
 use Rattle.heap_formula.specs.Words.{max_of}
-use Rattle.heap_formula.specs.Fresh.{number_bound, exist_bound, heap_exists, most_in_pure, most_in_spatial}
+use Rattle.heap_formula.specs.Fresh.{number_bound, exist_bound, heap_exists, most_in_pure, most_in_spatial, heap_numbers}
 use Rattle.heap_formula.specs.Positions.{without}
 use Rattle.heap_formula.specs.Substitution.{in_pure, in_spatial, in_heap}
-use Rattle.rule_table.specs.Answer.{needs, finds, limited, one, is_short, has_numbers, heap_numbers}
-use Rattle.rule_table.specs.Table.{calls, right_term, with_right, unfolded_right, unfold_right_answer}
+use Rattle.rule_table.specs.Answer.{needs, finds, limited, one, is_short, has_numbers}
+use Rattle.rule_table.specs.Table.{calls, right_term, with_right, unfold_right_answer}
+use Rattle.rule_table.specs.RuleUnfold.{unfolded}
 use Rattle.search_moves.specs.Trying.{has_premises}
 use Rattle.search_moves.specs.Rooms.{has_room_for}
 use Rattle.formula_facts.proofs.Greatest.{greatest_le}
@@ -108,7 +109,7 @@ four true true a b = refl
 four true false a b = cc
 four false q a b = cc
 
-pub case_goes : (most : ℕ) (a b case : SymbolicHeap) (k q : ℕ) (ts : List Term) → slice_get b.spatial k ≡ Some (Pred q ts) → has_room_for most a b case ≡ true → has_premises (limited most (one (with_right a (unfolded_right b k (in_heap (right_term ts (heap_exists b)) case) ∷ [])))) ≡ true
+pub case_goes : (most : ℕ) (a b case : SymbolicHeap) (k q : ℕ) (ts : List Term) → slice_get b.spatial k ≡ Some (Pred q ts) → has_room_for most a b case ≡ true → has_premises (limited most (one (with_right a (unfolded b k (in_heap (right_term ts (heap_exists b)) case) ∷ [])))) ≡ true
 case_goes most a b case k q ts at room =
     let r0 = and_parts (is_short most a) (nat_le (length b.pure + length case.pure) 64 && (nat_le (length b.spatial + length case.spatial) (most + 1) && (nat_le (heap_numbers a) 65535 && nat_le (heap_numbers b + heap_numbers case) 65535))) room in
     let r1 = and_parts (nat_le (length b.pure + length case.pure) 64) (nat_le (length b.spatial + length case.spatial) (most + 1) && (nat_le (heap_numbers a) 65535 && nat_le (heap_numbers b + heap_numbers case) 65535)) r0.1 in
@@ -121,7 +122,7 @@ case_goes most a b case k q ts at room =
     g = right_term ts (heap_exists b)
 
     h : SymbolicHeap
-    h = unfolded_right b k (in_heap g case)
+    h = unfolded b k (in_heap g case)
 
     pures : length b.pure + length case.pure ≤ 64 → length (b.pure ++ map (in_pure g) case.pure) ≤ 64
     pures le = let l = length-append b.pure (map (in_pure g) case.pure) in let n = length-map case.pure (in_pure g) in omega arith
@@ -145,8 +146,8 @@ case_goes most a b case k q ts at room =
 pub room_goes : (most : ℕ) (ds : List Definition) (j : Judgement) (a : SymbolicHeap) (bs : List SymbolicHeap) (b case : SymbolicHeap) (k q c : ℕ) (ts : List Term) → j ≡ Entail a bs → bs ≡ b ∷ [] → slice_get b.spatial k ≡ Some (Pred q ts) → slice_get (cases_of ds q) c ≡ Some case → has_room_for most a b case ≡ true → has_premises (unfold_right_answer most ds j k c) ≡ true
 room_goes most ds j a bs b case k q c ts is single at found room =
     ap (λ (i : Judgement). has_premises (unfold_right_answer most ds i k c)) (is ∙ ap (Entail a) single)
-    ∙ ap (λ (o : Option Spatial). has_premises (finds o NoSuchAtom (λ x. calls x (λ p us. finds (slice_get (cases_of ds p) c) NoSuchCase (λ d. limited most (one (with_right a (unfolded_right b k (in_heap (right_term us (heap_exists b)) d) ∷ [])))))))) at
-    ∙ ap (λ (o : Option SymbolicHeap). has_premises (finds o NoSuchCase (λ d. limited most (one (with_right a (unfolded_right b k (in_heap (right_term ts (heap_exists b)) d) ∷ [])))))) found
+    ∙ ap (λ (o : Option Spatial). has_premises (finds o NoSuchAtom (λ x. calls x (λ p us. finds (slice_get (cases_of ds p) c) NoSuchCase (λ d. limited most (one (with_right a (unfolded b k (in_heap (right_term us (heap_exists b)) d) ∷ [])))))))) at
+    ∙ ap (λ (o : Option SymbolicHeap). has_premises (finds o NoSuchCase (λ d. limited most (one (with_right a (unfolded b k (in_heap (right_term ts (heap_exists b)) d) ∷ [])))))) found
     ∙ case_goes most a b case k q ts at room
 
 pub only_item : {X : Type 0} (xs : List X) (x : X) → get_or xs 0 x ≡ x → length xs ≡ 1 → xs ≡ x ∷ []

@@ -1,7 +1,7 @@
 -- Rules that leave premises, and lists of such rules.
 use Rattle.std.proofs.Common.{◌≡◌, ℕ, zero, suc, ◌+◌, Bool, true, false, List, [], ◌∷◌, ◌++◌, map, length, Option, Some, None, slice_get, refl, sym, ap, subst, ◌∙◌, arith}
 use Rattle.std.specs.Prelude.{nat_lt, nat_eq, max, if◌then◌else◌, Ok}
-use Rattle.std.specs.List.{filter}
+use Rattle.std.specs.List.{filter, list_all}
 use Rattle.std.proofs.lemmas.Bool.{both_ways, and_parts}
 use Rattle.heap_formula.specs.declared.terms.Term.{Term}
 use Rattle.heap_formula.specs.declared.terms.Term.TheVariants.{Nil, Univ, Exist}
@@ -23,12 +23,14 @@ use Rattle.heap_formula.specs.Meaning.{cases_of}
 use Rattle.heap_formula.specs.Fresh.{heap_bound, heap_exists, fresh_number}
 use Rattle.heap_formula.specs.Substitution.{in_heap}
 use Rattle.heap_formula.specs.Words.{Each}
-use Rattle.rule_table.specs.Answer.{Answer, needs, finds, entails, single, runs, each_heap, is_short, has_numbers, limited, every}
+use Rattle.rule_table.specs.Answer.{Answer, needs, finds, entails, single, runs, each_heap, is_short, has_numbers, limited}
 use Rattle.rule_table.specs.RuleCut.{cut_left, cut_right}
-use Rattle.rule_table.specs.Table.{rewrite_side, rewrite_atom, named, unnamed, calls, with_pure, with_right, unfolded_right, right_term}
+use Rattle.rule_table.specs.Table.{rewrite_side, rewrite_atom, named, unnamed, calls, with_pure, with_right, right_term}
+use Rattle.rule_table.specs.RuleUnfold.{unfolded}
 use Rattle.rule_table.specs.Tests.{same_term, same_spatial, is_universal_pure, is_universal_spatial, follows, address_of, ascend_from, has_number}
 use Rattle.rule_table.specs.RuleBook.{variables_of}
-use Rattle.fold_offers.specs.Places.{each_from, each_of, or_else, first_line, first_that}
+use Rattle.fold_offers.specs.Places.{each_from, each_of, first_line, first_that}
+use Rattle.list_facts.specs.Words.{or_else}
 use Rattle.fold_offers.specs.Kinds.{is_cell, is_predicate}
 use Rattle.search_moves.specs.declared.instances.Instance.{Instance}
 use Rattle.search_moves.specs.Trying.{Theory, goes}
@@ -108,7 +110,7 @@ module _ (t : Theory) (j : Judgement) where
   left_open (Frame i k) h =
       single_some j _ (λ a b. finds_some (slice_get a.spatial i) _ _ (λ x at. finds_some (slice_get b.spatial k) _ _ (λ y at'. needs_some (is_universal_spatial y) _ _ (needs_some (same_spatial x y) _ _ refl))))
   left_open (UnfoldRight k c) h =
-      single_some j _ (λ a b. finds_some (slice_get b.spatial k) _ _ (λ x at. calls_some x _ (λ q ts is. finds_some (slice_get (cases_of t.definitions q) c) _ _ (λ case at'. limited_some t.most (with_right a (unfolded_right b k (in_heap (right_term ts (heap_exists b)) case) ∷ [])) []))))
+      single_some j _ (λ a b. finds_some (slice_get b.spatial k) _ _ (λ x at. calls_some x _ (λ q ts is. finds_some (slice_get (cases_of t.definitions q) c) _ _ (λ case at'. limited_some t.most (with_right a (unfolded b k (in_heap (right_term ts (heap_exists b)) case) ∷ [])) []))))
   left_open Exec h = absurd (both_ways false refl h)
   left_open (Drop k) h = runs_some j _ (λ i a. finds_some (slice_get a.spatial k) _ _ (λ x at. refl))
 
@@ -166,10 +168,10 @@ none_pass : (q : Rule → Bool) (xs : List Rule) → Each (λ r. q r ≡ false) 
 none_pass q [] h = refl
 none_pass q (x ∷ xs) h = rw h.0 (none_pass q xs h.1)
 
-every_at : {X : Type 0} (q : X → Bool) (xs : List X) (i : ℕ) (x : X) → every q xs ≡ true → slice_get xs i ≡ Some x → q x ≡ true
+every_at : {X : Type 0} (q : X → Bool) (xs : List X) (i : ℕ) (x : X) → list_all q xs ≡ true → slice_get xs i ≡ Some x → q x ≡ true
 every_at q [] i x h at = absurd (let e : None ≡ Some x = at in cc)
-every_at q (y ∷ xs) zero x h at = let e : Some y ≡ Some x = at in let same : y ≡ x = cc in ap q (sym same) ∙ (and_parts (q y) (every q xs) h).0
-every_at q (y ∷ xs) (suc i) x h at = every_at q xs i x (and_parts (q y) (every q xs) h).1 at
+every_at q (y ∷ xs) zero x h at = let e : Some y ≡ Some x = at in let same : y ≡ x = cc in ap q (sym same) ∙ (and_parts (q y) (list_all q xs) h).0
+every_at q (y ∷ xs) (suc i) x h at = every_at q xs i x (and_parts (q y) (list_all q xs) h).1 at
 
 module _ (t : Theory) (j : Judgement) where
   abbrev Open : Rule → Type 0
@@ -197,7 +199,7 @@ module _ (t : Theory) (j : Judgement) where
   choices_open : (bs : List SymbolicHeap) → Each Open (choices bs)
   choices_open bs = each_from_all Open choice_at 0 bs (λ k b. (left_open t j (Choose k) refl, tt))
 
-  module _ (a : SymbolicHeap) (same : antecedent j ≡ a) (cases : every (has_case t.definitions) a.spatial ≡ true) where
+  module _ (a : SymbolicHeap) (same : antecedent j ≡ a) (cases : list_all (has_case t.definitions) a.spatial ≡ true) where
     unfold_open : (k : ℕ) (x : Spatial) → slice_get a.spatial k ≡ Some x → Each Open (unfold_at k x)
     unfold_open k x at =
         if_all Open (is_predicate x) (Unfold k ∷ [])

@@ -8,7 +8,8 @@ use Rattle.heap_formula.specs.declared.proof_rules.Rule.{Rule}
 use Rattle.rule_table.specs.RuleBook.{variables_of}
 use Rattle.back_links.specs.Listing.{links}
 use Rattle.proof_graph.specs.declared.nodes.GraphNode.{GraphNode}
-use Rattle.fold_offers.specs.Places.{each_place, or_else}
+use Rattle.fold_offers.specs.Places.{each_place}
+use Rattle.list_facts.specs.Words.{or_else}
 use Rattle.search_moves.specs.Trying.{Theory}
 use Rattle.search_moves.specs.Entailments.{entailment_before, entailment_after}
 use Rattle.search_moves.specs.States.{has_rule, is_unfold, works_on, state_before, state_after}

@@ -1,11 +1,13 @@
 -- Room for a case of a predicate on the right side, and for the cases of one on the left.
 use Rattle.std.specs.Prelude.{ℕ, ◌+◌, max, map, List, length, Bool, ◌&&◌, nat_le}
+use Rattle.std.specs.List.{list_all}
 use Rattle.cyc_limits.specs.declared.TheConstants.{MOST_PURE, VARIABLE_NUMBERS}
 use Rattle.heap_formula.specs.declared.judgements.Judgement.{Judgement}
 use Rattle.heap_formula.specs.Judgements.{antecedent}
 use Rattle.heap_formula.specs.Symbolic.{SymbolicHeap}
 use Rattle.heap_formula.specs.Words.{max_of}
-use Rattle.rule_table.specs.Answer.{disjuncts, every, heap_numbers, heaps_of, is_short}
+use Rattle.rule_table.specs.Answer.{disjuncts, heaps_of, is_short}
+use Rattle.heap_formula.specs.Fresh.{heap_numbers}
 
 -- a case can stand in the place of an atom of b, beside a, also where each variable of b and of the case has its own number
 abbrev pub has_room_for : ℕ → SymbolicHeap → SymbolicHeap → SymbolicHeap → Bool
@@ -30,5 +32,5 @@ has_room_from most n a case =
 -- each case can stand in the place of an atom of the antecedent, its locals having numbers above all of the judgement
 abbrev pub has_room_left : ℕ → ℕ → Judgement → List SymbolicHeap → Bool
 has_room_left most p j cases =
-    every (is_short most) (disjuncts j)
-    && every (has_room_from most (max p (judgement_numbers j)) (antecedent j)) cases
+    list_all (is_short most) (disjuncts j)
+    && list_all (has_room_from most (max p (judgement_numbers j)) (antecedent j)) cases

@@ -2,7 +2,7 @@
 ghost use Rattle.std.specs.Prelude.{◌≡◌, List, true, false, IfOk};
 ghost use Rattle.heap_formula.specs.declared.commands.Command.{Command};
 ghost use Rattle.heap_formula.specs.Judgements.{antecedent as antecedent_of};
-ghost use Rattle.rule_table.specs.Answer.{every};
+ghost use Rattle.std.specs.List.{list_all};
 ghost use Rattle.search_moves.specs.Settings.{theory, theory_of};
 ghost use Rattle.search_moves.specs.Entailments.{entailment_after};
 ghost use Rattle.search_moves.specs.Closing.{has_case as has_some_case, leaves as leaves_some, closes, CloseAlike};
@@ -27,7 +27,7 @@ fn has_case(defs: &Defs, atom: &Spatial) -> bool
 
 /// Whether each atom is a cell, or a predicate with a case.
 pub fn have_cases(defs: &Defs, atoms: &[Spatial]) -> bool
-    ensures { result ≡ every (has_some_case defs.now.list) atoms.now }
+    ensures { result ≡ list_all (has_some_case defs.now.list) atoms.now }
 {
     for atom in atoms {
         if !has_case(defs, atom) {
@@ -66,7 +66,7 @@ pub fn closing_rules(
     heaps: &[Heap],
 ) -> Result<Vec<Rule>, OutOfMemory>
     requires judgement { antecedent_of at.now.judgement.now ≡ left.now }
-    requires cases { every (has_some_case at.now.defs.now.list) left.now.spatial ≡ true }
+    requires cases { list_all (has_some_case at.now.defs.now.list) left.now.spatial ≡ true }
     ensures { IfOk result (λ v. CloseAlike (theory_of at.now) at.now.judgement.now v.items
         (entailment_after (theory_of at.now) at.now.judgement.now left.now heaps.now)) }
 {

@@ -1,8 +1,9 @@
 // Whether a rule that no limit stops has a fault, told without its premises.
 ghost use Rattle.std.specs.Prelude.{◌≡◌, ◌≤◌, ℕ, map, true, MatchOption, slice_get, None, Some};
+ghost use Rattle.std.specs.List.{list_all};
 ghost use Rattle.heap_formula.specs.declared.terms.Term.{Term};
 ghost use Rattle.heap_formula.specs.Words.{max_of};
-ghost use Rattle.rule_table.specs.Answer.{every, heap_numbers};
+ghost use Rattle.heap_formula.specs.Fresh.{heap_numbers};
 ghost use Rattle.rule_table.specs.RuleBook.{variables_of as program_variables_of};
 ghost use Rattle.rule_table.specs.Table.{choose_answer, done_answer, frame_answer, instantiate_answer, pure_right_answer, unfold_answer, unfold_right_answer};
 ghost use Rattle.search_moves.specs.Rooms.{has_room_for as case_has_room, has_room_from as case_has_room_from, judgement_numbers};
@@ -157,7 +158,7 @@ fn has_room_from(most: u8, number: u32, a: &Heap, case: &Heap) -> bool
 
 fn have_room_from(most: u8, number: u32, a: &Heap, cases: &[Heap]) -> bool
     requires { number ≤ 65536 }
-    ensures { result ≡ every (case_has_room_from most number a.now) cases.now }
+    ensures { result ≡ list_all (case_has_room_from most number a.now) cases.now }
 {
     for case in cases {
         if !has_room_from(most, number, a, case) {

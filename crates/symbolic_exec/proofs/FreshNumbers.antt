@@ -7,8 +7,9 @@ use Rattle.heap_formula.specs.declared.atoms.Pure.TheVariants.{Eq}
 use Rattle.heap_formula.specs.declared.atoms.Spatial.TheVariants.{Cell}
 use Rattle.heap_formula.specs.Symbolic.{SymbolicHeap}
 use Rattle.heap_formula.specs.Substitution.{in_pure, in_spatial}
-use Rattle.rule_table.specs.Answer.{number_bound, terms_numbers, pure_numbers, spatial_numbers, heap_numbers}
-use Rattle.rule_table.specs.ExecTable.{renamed, renamed_term, with_atom, with_cell, variables_from}
+use Rattle.rule_table.specs.Answer.{number_bound}
+use Rattle.heap_formula.specs.Fresh.{terms_numbers, pure_numbers, spatial_numbers, heap_numbers, variables_from}
+use Rattle.rule_table.specs.ExecTable.{renamed, renamed_term, with_atom, with_cell}
 use Rattle.rule_table.proofs.Saturates.{pures_stop, spatials_stop, pures_pass, spatials_pass, max_of-append}
 use Rattle.symbolic_exec.specs.States.{variables_up_to}
 

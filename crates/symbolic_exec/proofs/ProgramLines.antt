@@ -18,13 +18,13 @@ use Rattle.heap_formula.specs.Definitions.{Definition}
 use Rattle.heap_formula.specs.Judgements.{IsLocallySound, antecedent}
 use Rattle.heap_formula.specs.Positions.{kept_pairs}
 use Rattle.heap_formula.specs.Programs.{counted_from_one, program_variables}
-use Rattle.heap_formula.specs.Fresh.{fresh_number}
+use Rattle.heap_formula.specs.Fresh.{fresh_number, variables_from}
 use Rattle.heap_formula.specs.Symbolic.{SymbolicHeap}
 use Rattle.heap_formula.specs.Words.{Each}
 use Rattle.goto_lang.specs.Lines.{IsUniversalCommand, MayStandAt, IsLineOf, IsProgram}
 use Rattle.rule_table.specs.Answer.{Answer, one, two}
 use Rattle.rule_table.specs.Answered.{IsAnswer}
-use Rattle.rule_table.specs.ExecTable.{cell_of, renamed, renamed_term, with_atom, with_cell, with_field, variables_from, at_line, command_answer, exec_answer}
+use Rattle.rule_table.specs.ExecTable.{cell_of, renamed, renamed_term, with_atom, with_cell, with_field, at_line, command_answer, exec_answer}
 use Rattle.rule_table.specs.Fits.{OnPremises}
 use Rattle.rule_table.specs.Soundness.{IsSound, IsCommand, IsUniversalPremise}
 use Rattle.rule_table.specs.Table.{without_spatial}

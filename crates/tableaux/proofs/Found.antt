@@ -10,7 +10,8 @@ use Rattle.trace_pairs.specs.declared.lasso.Step.{Step}
 use Rattle.trace_decision.specs.Decide.{progresses, number_of}
 use Rattle.trace_decision.proofs.Leaf.{leaf_progresses}
 use Rattle.trace_decision.proofs.Decide.{progress_decided}
-use Rattle.derivation_search.specs.System.{System, after, or_else, chosen, search_of, IsFound}
+use Rattle.derivation_search.specs.System.{System, after, chosen, search_of, IsFound}
+use Rattle.list_facts.specs.Words.{or_else}
 use Rattle.derivation_search.specs.Firsts.{IsIn}
 use Rattle.derivation_search.proofs.Induction.{IsOffered, found_has}
 use Rattle.derivation_search.proofs.Firsts.{first_found}

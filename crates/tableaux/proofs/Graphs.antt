@@ -7,9 +7,8 @@ use Rattle.tableaux.specs.Tableau.{Premise, Goal, Made, Tableau, Calculus}
 use Rattle.tableaux.specs.Fair.{AllOccur, IsFair}
 use Rattle.tableaux.specs.Nodes.{HasRoot, MayStand, LeadsTo}
 use Rattle.tableaux.proofs.Grown.{link_edges}
-use Rattle.tableaux.proofs.Waiting.{get_take}
 use Rattle.tableaux.proofs.Rows.{Row}
-use Rattle.list_facts.proofs.Places.{get_within, get_append_left}
+use Rattle.list_facts.proofs.Places.{get_within, get_append_left, get_taken}
 
 -- no node is made, and the next goal is the judgement
 pub record IsBegun {J R : Type 0} (j : J) (t : Tableau J R) : Type 0 where
@@ -60,7 +59,7 @@ row_occurs : {J R : Type 0} (c : Calculus J R) (Occurs : J → Type 0) (Allows :
     AllOccur Occurs row.before m.goal
 row_occurs {J} {R} c Occurs Allows j t ok i m h row = record {
   goal = (ok.made i m h).0;
-  made = λ k x at. (ok.made k x (get_take i t.nodes k x (subst (λ (xs : List (Made J R)). slice_get xs k ≡ Some x) (sym row.is_before) at))).0;
+  made = λ k x at. (ok.made k x (get_taken t.nodes i k x (subst (λ (xs : List (Made J R)). slice_get xs k ≡ Some x) (sym row.is_before) at))).0;
 }
 
 edge_fits : {J R : Type 0} (c : Calculus J R) (Occurs : J → Type 0) (Allows : R → Type 0) → IsFair c Occurs Allows → (j : J) (t : Tableau J R) → InOrder c Occurs Allows j t → (i : ℕ) (m : Made J R) → slice_get t.nodes i ≡ Some m → (row : Row c t.nodes t.goals t.graph i m) (k : ℕ) (e : Edge) →
@@ -77,7 +76,7 @@ edge_fits {J} {R} c Occurs Allows fair j t ok i m h row k e at =
     by_link : c.back row.before m.goal m.reason ≡ Some e → Fits c t.nodes m e
     by_link b =
         let x = fair.links_back row.before m.goal m.reason e occur allowed b in
-        record { node = x.node; is_node = get_take i t.nodes e.target x.node (subst (λ (xs : List (Made J R)). slice_get xs e.target ≡ Some x.node) (sym row.is_before) x.is_node); fit = x.fit }
+        record { node = x.node; is_node = get_taken t.nodes i e.target x.node (subst (λ (xs : List (Made J R)). slice_get xs e.target ≡ Some x.node) (sym row.is_before) x.is_node); fit = x.fit }
 
     by_premise : AtPremise t.nodes i row.done row.edges e → Fits c t.nodes m e
     by_premise x =

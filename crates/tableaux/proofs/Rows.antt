@@ -5,7 +5,7 @@ use Rattle.trace_pairs.specs.Graph.{Node, Edge, Pair}
 use Rattle.tableaux.specs.Tableau.{Premise, Goal, Made, Calculus, goals_of, grown, linked}
 use Rattle.tableaux.specs.Nodes.{StandsAt, IsMadeFor, LeadsTo}
 use Rattle.tableaux.proofs.Grown.{with_edges, link_edges, leaf_at, leaf_other, leaf_new, linked_other, linked_new}
-use Rattle.tableaux.proofs.Waiting.{get_end_cases, get_end, waiting, waiting_here, waiting_not, waiting_own, waiting_other, first_waits, FirstWaits}
+use Rattle.tableaux.proofs.Waiting.{get_end_cases, waiting, waiting_here, waiting_not, waiting_own, waiting_other, first_waits, FirstWaits, get_end_at}
 use Rattle.list_facts.proofs.Places.{get_append_left}
 
 -- node i has been made, as m: the nodes before it, its premises that are made and those that are left, and its edges
@@ -67,8 +67,8 @@ leads_new : {J R : Type 0} (nodes : List (Made J R)) (n : Made J R) (i k : ℕ) 
     LeadsTo (nodes ++ (n ∷ [])) i k p (edges ++ (record { target = length nodes; pairs = p.pairs } ∷ []))
 leads_new nodes n i k p edges less kk stands = record {
   q = length nodes;
-  made = record { later = less; node = n; is_node = get_end nodes n (length nodes) refl; stands = stands };
-  is_edge = get_end edges (record { target = length nodes; pairs = p.pairs }) k kk;
+  made = record { later = less; node = n; is_node = get_end_at nodes n (length nodes) refl; stands = stands };
+  is_edge = get_end_at edges (record { target = length nodes; pairs = p.pairs }) k kk;
 }
 
 -- the next goal's parent has an edge to the new node
@@ -133,7 +133,7 @@ row_parent {J} {R} c nodes graph g rest r ps depth o i m less size here row =
               let number : length nodes ≡ q = sym new'.0 in
               let pairs : w.p.pairs ≡ x.goal.premise.pairs = sym (ap (λ (y : Goal J). y.premise.pairs) w.goal) ∙ ap (λ (y : Made J R). y.goal.premise.pairs) new'.1 in
               let edge : record { target = length nodes; pairs = w.p.pairs } ≡ record { target = q; pairs = x.goal.premise.pairs } = cc in
-              get_end row.edges (record { target = length nodes; pairs = w.p.pairs }) x.goal.place place ∙ ap (λ (e : Edge). Some e) edge)
+              get_end_at row.edges (record { target = length nodes; pairs = w.p.pairs }) x.goal.place place ∙ ap (λ (e : Edge). Some e) edge)
         ]
 
 pub take_all : {X : Type 0} (xs ys : List X) (n : ℕ) → n ≡ length xs → take n (xs ++ ys) ≡ xs

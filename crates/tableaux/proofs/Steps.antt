@@ -11,7 +11,7 @@ use Rattle.tableaux.specs.Room.{has_room, fits_at, fits_in}
 use Rattle.tableaux.specs.Fair.{AllOccur, IsFair}
 use Rattle.tableaux.specs.Nodes.{HasRoot}
 use Rattle.tableaux.proofs.Grown.{length-leaf, length-linked}
-use Rattle.tableaux.proofs.Waiting.{get_end_cases, get_end, waiting_none, goal_of}
+use Rattle.tableaux.proofs.Waiting.{get_end_cases, waiting_none, goal_of, get_end_at}
 use Rattle.tableaux.proofs.Rows.{Row, row_other, row_parent, row_new}
 use Rattle.tableaux.proofs.Graphs.{InOrder, IsBegun}
 use Rattle.list_facts.proofs.Places.{get_append_left}
@@ -137,7 +137,7 @@ next_root {J} {R} j nodes graph graph' goals g rest r begun =
           (let e : Some g ≡ Some b.goal = b.is_goal in
           let e' : g ≡ b.goal = cc in
           let n : length nodes ≡ 0 = ap length b.none in
-          record { root = record { goal = g; reason = r }; is_root = get_end nodes (record { goal = g; reason = r }) 0 (sym n); judgement = ap (λ (x : Goal J). x.premise.judgement) e' ∙ b.judgement })
+          record { root = record { goal = g; reason = r }; is_root = get_end_at nodes (record { goal = g; reason = r }) 0 (sym n); judgement = ap (λ (x : Goal J). x.premise.judgement) e' ∙ b.judgement })
       | inr h ↦ record { root = h.root; is_root = get_append_left nodes (record { goal = g; reason = r } ∷ []) 0 h.root h.is_root; judgement = h.judgement }
     ]
 

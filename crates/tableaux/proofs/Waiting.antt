@@ -1,21 +1,12 @@
 -- The open goals of one node; and look-ups in lists with a member more.
-use Rattle.std.proofs.Common.{◌≡◌, ◌≢◌, ℕ, zero, suc, ◌+◌, inl, inr, arith, false, List, [], ◌∷◌, ◌++◌, Some, None, slice_get, length, filter, take, nat_eq, sym, refl, ap, ◌∙◌, eqb-true, eq-eqb}
+use Rattle.std.proofs.Common.{◌≡◌, ◌≢◌, ℕ, zero, suc, ◌+◌, inl, inr, false, List, [], ◌∷◌, ◌++◌, Some, None, slice_get, length, filter, nat_eq, sym, refl, ap, ◌∙◌, eqb-true, eq-eqb}
 use Rattle.std.proofs.lemmas.Bool.{cases_Bool}
 use Rattle.tableaux.specs.Tableau.{Premise, Goal, goals_of}
 pub use Rattle.trace_pairs.proofs.Grow.{get_push_cases as get_end_cases}
+use Rattle.list_facts.proofs.Places.{get_end}
 
-pub get_end : {X : Type 0} (xs : List X) (x : X) (i : ℕ) → i ≡ length xs → slice_get (xs ++ (x ∷ [])) i ≡ Some x
-get_end [] x zero e = refl
-get_end [] x (suc i) e = absurd (omega arith)
-get_end (z ∷ xs) x zero e = absurd (omega arith)
-get_end (z ∷ xs) x (suc i) e = get_end xs x i (omega arith)
-
--- what stands among the first n stands in the list
-pub get_take : {X : Type 0} (n : ℕ) (xs : List X) (i : ℕ) (x : X) → slice_get (take n xs) i ≡ Some x → slice_get xs i ≡ Some x
-get_take zero xs i x h = absurd (let e : None ≡ Some x = h in cc)
-get_take (suc n) [] i x h = h
-get_take (suc n) (y ∷ xs) zero x h = h
-get_take (suc n) (y ∷ xs) (suc i) x h = get_take n xs i x h
+pub get_end_at : {X : Type 0} (xs : List X) (x : X) (i : ℕ) → i ≡ length xs → slice_get (xs ++ (x ∷ [])) i ≡ Some x
+get_end_at xs x i e = ap (slice_get (xs ++ (x ∷ []))) e ∙ get_end xs x
 
 -- the goals of node i
 abbrev pub waiting : {J : Type 0} → ℕ → List (Goal J) → List (Goal J)

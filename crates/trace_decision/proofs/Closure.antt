@@ -1,8 +1,7 @@
 -- The closure is exact.
 use Rattle.std.proofs.Common.{◌≡◌, ℕ, zero, suc, ◌<◌, inl, inr, arith, Bool, true, false, ◌&&◌, nat_eq, refl, subst, eqb-true, eq-eqb}
-use Rattle.std.proofs.lemmas.Bool.{cases_eq, and_parts, or_cases, or_left, or_right, both_ways}
+use Rattle.std.proofs.lemmas.Bool.{cases_eq, and_parts, or_cases, or_left, or_right, both_ways, and_from}
 use Rattle.trace_decision.specs.Closure.{closure, some_below}
-use Rattle.trace_decision.proofs.Equal.{both}
 
 -- what the closure tells is so of each relation that has the edges and is reflexive and transitive
 pub closure_sound : (edge : ℕ → ℕ → Bool) (R : ℕ → ℕ → Type 0) → ((i : ℕ) → R i i) → ((i j : ℕ) → edge i j ≡ true → R i j) → ((i j k : ℕ) → R i j → R j k → R i k) → (k i j : ℕ) → closure edge k i j ≡ true → R i j
@@ -20,7 +19,7 @@ closure_more : (edge : ℕ → ℕ → Bool) (k i j : ℕ) → closure edge k i 
 closure_more edge k i j h = or_left (closure edge k i j) (closure edge k i k && closure edge k k j) h
 
 closure_over : (edge : ℕ → ℕ → Bool) (k i j : ℕ) → closure edge k i k ≡ true → closure edge k k j ≡ true → closure edge (suc k) i j ≡ true
-closure_over edge k i j a b = or_right (closure edge k i j) (closure edge k i k && closure edge k k j) (both (closure edge k i k) (closure edge k k j) a b)
+closure_over edge k i j a b = or_right (closure edge k i j) (closure edge k i k && closure edge k k j) (and_from (closure edge k i k) (closure edge k k j) a b)
 
 -- a path to k, and one from k, over vertices below k
 to_k : (edge : ℕ → ℕ → Bool) (k i : ℕ) → closure edge (suc k) i k ≡ true → closure edge k i k ≡ true

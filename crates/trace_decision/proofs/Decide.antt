@@ -1,6 +1,6 @@
 -- The tests on a product say what they are meant to.
 use Rattle.std.proofs.Common.{◌≡◌, ℕ, zero, suc, ◌+◌, le_refl, ◌⊎◌, ◌↔◌, inl, inr, Bool, true, false, not, ◌&&◌, List, [], ◌∷◌, ◌++◌, Option, Some, None, slice_get, length, sym, refl, ap, subst, ◌∙◌}
-use Rattle.std.proofs.lemmas.Bool.{cases_Bool, and_parts, both_ways, leb-true, le-leb}
+use Rattle.std.proofs.lemmas.Bool.{cases_Bool, and_parts, both_ways, leb-true, le-leb, and_from, not-true}
 use Rattle.std.proofs.lemmas.Option.{slice_get_within}
 use Rattle.trace_pairs.specs.Graph.{Node, Edge, IsGraph}
 use Rattle.buchi_core.specs.declared.event.Event.{Event}
@@ -16,7 +16,7 @@ use Rattle.buchi_inclusion.proofs.Exact.{exact, run_append, least_first}
 use Rattle.trace_decision.specs.Equal.{same_state}
 use Rattle.trace_decision.specs.Closure.{closure, some_below}
 use Rattle.trace_decision.specs.Decide.{Move, over_edge, over_edges, from_node, moves_of, is_nothing, is_from, always, leads_to, step, walks, is_start, is_reached, is_at, returns_to, leads_back, turns_bad, has_bad_cycle, progresses}
-use Rattle.trace_decision.proofs.Equal.{both, state_tells, state_reflects}
+use Rattle.trace_decision.proofs.Equal.{state_tells, state_reflects}
 use Rattle.trace_decision.proofs.Closure.{closure_sound, closure_joins, closure_id, closure_one, below_some, some_is_below}
 use Rattle.list_facts.proofs.Places.{get_within as get_some}
 
@@ -118,7 +118,7 @@ step_sound g states test i j h = leads_stepped g states test i j (slice_get stat
 step_complete : (g : List Node) (states : List State) (test : Event → Bool) (i j : ℕ) (s t : State) (event : Event) → slice_get states i ≡ Some s → slice_get states j ≡ Some t → Moves g s t event → test event ≡ true → step g states test i j ≡ true
 step_complete g states test i j s t event x y m pass =
     let l = move_listed g s t event m in
-    rw (x, y) (at_any (λ (m' : Move). test m'.event && same_state m'.to t) (moves_of g s) l.place (record { event = event; to = t }) l.is_x (both (test event) (same_state t t) pass (state_reflects t)))
+    rw (x, y) (at_any (λ (m' : Move). test m'.event && same_state m'.to t) (moves_of g s) l.place (record { event = event; to = t }) l.is_x (and_from (test event) (same_state t t) pass (state_reflects t)))
 
 -- a walk between places is a run of events that pass
 abbrev Passes : (Event → Bool) → Event → Type 0
@@ -228,7 +228,7 @@ reached_complete g states closed s r =
       at = w.to;
       reached = some_is_below (λ j. is_start g (slice_get g 0) (slice_get states j) && walks g states always j w.j) (length states) closed.begin
           (slice_get_within states closed.begin _ closed.begins)
-          (both (is_start g (slice_get g 0) (slice_get states closed.begin)) (walks g states always closed.begin w.j)
+          (and_from (is_start g (slice_get g 0) (slice_get states closed.begin)) (walks g states always closed.begin w.j)
           (rw (closed.is_root, closed.begins) (state_reflects (record { node = 0; forest = start closed.root.positions }))) w.walks);
     }
 
@@ -257,7 +257,7 @@ returns_complete : (g : List Node) (states : List State) → IsClosed g states �
 returns_complete g states closed test j t s events at run each =
     let w = walk_complete g states closed test events j t s at run each in
     some_is_below (λ i. is_at (slice_get states i) s && walks g states test j i) (length states) w.j (slice_get_within states w.j s w.to)
-    (both (is_at (slice_get states w.j) s) (walks g states test j w.j) (is_at_passes (slice_get states w.j) s w.to) w.walks)
+    (and_from (is_at (slice_get states w.j) s) (walks g states test j w.j) (is_at_passes (slice_get states w.j) s w.to) w.walks)
 
 record BackFrom (g : List Node) (event : Event) (t s : State) : Type 0 where
   events : List Event
@@ -313,20 +313,16 @@ bad_complete g states closed l =
     let m = move_listed g l.s l.t l.event l.move in
     let inner : some_below (λ j. is_at (slice_get states j) l.t && leads_back g states l.event j l.s) (length states) ≡ true =
     some_is_below (λ j. is_at (slice_get states j) l.t && leads_back g states l.event j l.s) (length states) n.0 (slice_get_within states n.0 l.t n.1)
-    (both (is_at (slice_get states n.0) l.t) (leads_back g states l.event n.0 l.s) (is_at_passes (slice_get states n.0) l.t n.1) (back_complete g states closed n.0 l.event l.t l.s l.events n.1 l.back l.least)) in
+    (and_from (is_at (slice_get states n.0) l.t) (leads_back g states l.event n.0 l.s) (is_at_passes (slice_get states n.0) l.t n.1) (back_complete g states closed n.0 l.event l.t l.s l.events n.1 l.back l.least)) in
     let turn : turns_bad g states (Some l.s) ≡ true =
     at_any (λ (m' : Move). some_below (λ j. is_at (slice_get states j) m'.to && leads_back g states m'.event j l.s) (length states)) (moves_of g l.s) m.place (record { event = l.event; to = l.t }) m.is_x inner in
     some_is_below (λ i. is_reached g states i && turns_bad g states (slice_get states i)) (length states) r.i (slice_get_within states r.i l.s r.at)
-    (both (is_reached g states r.i) (turns_bad g states (slice_get states r.i)) r.reached (ap (turns_bad g states) r.at ∙ turn))
-
-not_true : (b : Bool) → not b ≡ true → b ≡ false
-not_true true h = absurd (both_ways false refl h)
-not_true false h = refl
+    (and_from (is_reached g states r.i) (turns_bad g states (slice_get states r.i)) r.reached (ap (turns_bad g states) r.at ∙ turn))
 
 -- the test says whether every lasso progresses
 pub progress_decided : (g : List Node) → IsGraph g → (progresses g ≡ true) ↔ AllProgress g
 progress_decided g is = (
-  λ h. (exact g is).1 (λ bad. both_ways (has_bad_cycle g (states_from 0 g)) (not_true (has_bad_cycle g (states_from 0 g)) h) (bad_complete g (states_from 0 g) (closed_universe g is.root is.is_root) (least_first g bad))),
+  λ h. (exact g is).1 (λ bad. both_ways (has_bad_cycle g (states_from 0 g)) (not-true (has_bad_cycle g (states_from 0 g)) h) (bad_complete g (states_from 0 g) (closed_universe g is.root is.is_root) (least_first g bad))),
   λ all. elim (cases_Bool (has_bad_cycle g (states_from 0 g))) [
     | inl yes' ↦ absurd ((exact g is).0 all (bad_from_least g (bad_sound g (states_from 0 g) yes')))
     | inr no' ↦ ap not no'

@@ -13,6 +13,7 @@ use Rattle.trace_decision.specs.Equal.{same_state}
 use Rattle.trace_decision.specs.Decide.{is_reached, reached_from, once, product_states, number_of}
 use Rattle.trace_decision.proofs.Equal.{state_tells, state_reflects}
 use Rattle.trace_decision.proofs.Decide.{reached_sound, reached_complete}
+use Rattle.buchi_inclusion.specs.Table.{AreApart}
 
 record Listed (xs : List State) (s : State) : Type 0 where
   place : ℕ
@@ -58,19 +59,16 @@ once_has (x ∷ xs) s h =
           rw new' (elim (listed_cases x s xs h) [ inl e ↦ record { place = 0; at = ap Some e } | inr m ↦ listed_more x s (once xs) (once_has xs s m) ])
     ]
 
-abbrev Apart : List State → Type 0
-Apart xs = (i j : ℕ) (s : State) → slice_get xs i ≡ Some s → slice_get xs j ≡ Some s → i ≡ j
-
-apart_more : (x : State) (xs : List State) → (Listed xs x → ⊥) → Apart xs → Apart (x ∷ xs)
+apart_more : (x : State) (xs : List State) → (Listed xs x → ⊥) → AreApart xs → AreApart (x ∷ xs)
 apart_more x xs new' apart zero zero s a b = refl
 apart_more x xs new' apart zero (suc j) s a b = absurd (let e : Some x ≡ Some s = a in let f : s ≡ x = cc in new' (record { place = j; at = b ∙ ap Some f }))
 apart_more x xs new' apart (suc i) zero s a b = absurd (let e : Some x ≡ Some s = b in let f : s ≡ x = cc in new' (record { place = i; at = a ∙ ap Some f }))
 apart_more x xs new' apart (suc i) (suc j) s a b = ap suc (apart i j s a b)
 
-once_apart : (xs : List State) → Apart (once xs)
+once_apart : (xs : List State) → AreApart (once xs)
 once_apart [] = λ i j s a b. absurd (let e : None ≡ Some s = a in cc)
 once_apart (x ∷ xs) =
-    elim (cases_Bool (list_any (same_state x) xs)) as (λ _. Apart (once (x ∷ xs))) [
+    elim (cases_Bool (list_any (same_state x) xs)) as (λ _. AreApart (once (x ∷ xs))) [
       | inl there ↦ rw there (once_apart xs)
       | inr new' ↦
           rw new' (apart_more x (once xs)

@@ -7,7 +7,8 @@ use Rattle.heap_formula.specs.declared.atoms.Spatial.{Spatial}
 use Rattle.heap_formula.specs.Symbolic.{SymbolicHeap}
 use Rattle.heap_formula.specs.Substitution.{in_pure, in_spatial, in_heap, case_term, opened_term}
 use Rattle.rule_table.specs.Table.{right_term}
-use Rattle.rule_table.specs.Answer.{has_numbers, number_bound, heap_numbers, pure_numbers, spatial_numbers}
+use Rattle.rule_table.specs.Answer.{has_numbers, number_bound}
+use Rattle.heap_formula.specs.Fresh.{pure_numbers, spatial_numbers, heap_numbers}
 use Rattle.rule_table.specs.Changes.{changed}
 use Rattle.rule_table.specs.declared.changes.Change.TheVariants.{Left, Right, Opened}
 use Rattle.rule_table.proofs.Saturates.{pures_stop, spatials_stop, pures_pass, spatials_pass, max_of-append}

@@ -11,8 +11,9 @@ use Rattle.heap_formula.specs.Symbolic.{SymbolicHeap}
 use Rattle.heap_formula.specs.Substitution.{in_pure, in_spatial, in_heap}
 use Rattle.heap_formula.specs.Positions.{without}
 use Rattle.heap_formula.proofs.Places.{length-without}
-use Rattle.rule_table.specs.Table.{with_right, unfolded_right, right_term}
-use Rattle.rule_table.specs.Answer.{needs, limited, every, is_short, has_numbers, each_heap, heaps_of, one, number_bound}
+use Rattle.rule_table.specs.Table.{with_right, right_term}
+use Rattle.rule_table.specs.RuleUnfold.{unfolded}
+use Rattle.rule_table.specs.Answer.{needs, limited, is_short, has_numbers, each_heap, heaps_of, one, number_bound}
 use Rattle.rule_table.specs.Answered.{IsAnswer}
 use Rattle.rule_table.specs.Changes.{changed}
 use Rattle.rule_table.specs.declared.changes.Change.TheVariants.{Right}
@@ -20,6 +21,7 @@ use Rattle.rule_table.proofs.LimitedPremises.{limited_changed}
 use Rattle.unfold_rule.specs.Unfolding.{right_by, right_fits}
 use Rattle.unfold_rule.proofs.JoinedNumbers.{joined_same, joined_numbers, right_same, right_over}
 use Rattle.std.proofs.lemmas.Bool.{and_parts}
+use Rattle.std.specs.List.{list_all}
 use Rattle.list_facts.proofs.Tests.{le_same}
 
 module _ (a b : SymbolicHeap) (k : ℕ) (case : SymbolicHeap) where
@@ -29,7 +31,7 @@ module _ (a b : SymbolicHeap) (k : ℕ) (case : SymbolicHeap) where
       (let l = length-append b.pure (map (in_pure f) case.pure) in let m = length-map case.pure (in_pure f) in le_same _ _ _ _ (λ h. omega arith) (λ h. omega arith)) in
       let spatial : nat_le (length (without k b.spatial ++ map (in_spatial f) case.spatial)) most ≡ nat_le (length b.spatial + length case.spatial) (most + 1) =
       (let l = length-append (without k b.spatial) (map (in_spatial f) case.spatial) in let m = length-map case.spatial (in_spatial f) in let w = length-without b.spatial k k_in in le_same _ _ _ _ (λ h. omega arith) (λ h. omega arith)) in
-      ends (is_short most a) (is_short most (unfolded_right b k (in_heap f case))) ∙ (λ i. is_short most a && (pure i && spatial i))
+      ends (is_short most a) (is_short most (unfolded b k (in_heap f case))) ∙ (λ i. is_short most a && (pure i && spatial i))
     where
       ends : (p q : Bool) → (p && (q && true)) && true ≡ p && q
       ends true true = refl
@@ -43,11 +45,11 @@ module _ (a b : SymbolicHeap) (k : ℕ) (case : SymbolicHeap) where
 
     pub right_same_premise : each_heap has_numbers (one (right_by a b k g case)) ≡ true → one (right_by a b k f case) ≡ one (right_by a b k g case)
     right_same_premise e =
-        let c = and_parts (every has_numbers (heaps_of (right_by a b k g case).judgement)) true e in
-        let d = and_parts (has_numbers a) (has_numbers (unfolded_right b k (in_heap g case)) && true) c.0 in
-        let n = and_parts (has_numbers (unfolded_right b k (in_heap g case))) true d.1 in
+        let c = and_parts (list_all has_numbers (heaps_of (right_by a b k g case).judgement)) true e in
+        let d = and_parts (has_numbers a) (has_numbers (unfolded b k (in_heap g case)) && true) c.0 in
+        let n = and_parts (has_numbers (unfolded b k (in_heap g case))) true d.1 in
         let body = joined_same b.pure (without k b.spatial) f g same over case (leb-true _ _ n.0) in
-        λ i. one (with_right a (unfolded_right b k (body i) ∷ []))
+        λ i. one (with_right a (unfolded b k (body i) ∷ []))
 
 pub right_made : (most : ℕ) (a b : SymbolicHeap) (k : ℕ) (args : List Term) (n : ℕ) (case : SymbolicHeap) (r : Result (Vec Premise Global) RuleError) (xs : List Premise) → k < length b.spatial → right_fits most a b case ≡ true → xs ≡ one (right_by a b k (changed (Right args n)) case) → IsAnswer r (needs (each_heap has_numbers xs) NoFreshVariable (Ok xs)) → IsAnswer r (limited most (one (right_by a b k (right_term args n) case)))
 right_made most a b k args n case r xs k_in fit made is =

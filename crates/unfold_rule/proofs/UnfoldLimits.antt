@@ -18,7 +18,7 @@ use Rattle.heap_formula.specs.Positions.{without, before, kept_pairs, child_pair
 use Rattle.heap_formula.specs.Judgements.{antecedent, with_antecedent}
 use Rattle.heap_formula.proofs.Places.{length-without}
 use Rattle.rule_table.specs.RuleUnfold.{unfolded}
-use Rattle.rule_table.specs.Answer.{needs, limited, every, is_short, has_numbers, each_heap, heaps_of, disjuncts, number_bound}
+use Rattle.rule_table.specs.Answer.{needs, limited, is_short, has_numbers, each_heap, heaps_of, disjuncts, number_bound}
 use Rattle.rule_table.specs.Answered.{IsAnswer}
 use Rattle.rule_table.specs.Changes.{changed}
 use Rattle.rule_table.specs.declared.changes.Change.TheVariants.{Left}
@@ -27,19 +27,20 @@ use Rattle.unfold_rule.specs.Joining.{joined}
 use Rattle.unfold_rule.specs.Unfolding.{unfolded_by, case_fits}
 use Rattle.unfold_rule.proofs.JoinedNumbers.{joined_same, joined_numbers, left_same, left_over}
 use Rattle.std.proofs.lemmas.Bool.{and_parts}
+use Rattle.std.specs.List.{list_all}
 use Rattle.list_facts.proofs.Tests.{le_same}
 
 module _ (j : Judgement) (k : ℕ) (k_in : k < length (antecedent j).spatial) where
-  case_short : (most : ℕ) (f : Term → Term) (case : SymbolicHeap) → every (is_short most) (heaps_of (unfolded_by j k f case).judgement) ≡ case_fits most j case
+  case_short : (most : ℕ) (f : Term → Term) (case : SymbolicHeap) → list_all (is_short most) (heaps_of (unfolded_by j k f case).judgement) ≡ case_fits most j case
   case_short most f case =
       let a = antecedent j in
       let pure : nat_le (length (a.pure ++ map (in_pure f) case.pure)) 64 ≡ nat_le (length a.pure + length case.pure) 64 =
       (let l = length-append a.pure (map (in_pure f) case.pure) in let m = length-map case.pure (in_pure f) in le_same _ _ _ _ (λ h. omega arith) (λ h. omega arith)) in
       let spatial : nat_le (length (without k a.spatial ++ map (in_spatial f) case.spatial)) most ≡ nat_le (length a.spatial + length case.spatial) (most + 1) =
       (let l = length-append (without k a.spatial) (map (in_spatial f) case.spatial) in let m = length-map case.spatial (in_spatial f) in let w = length-without a.spatial k k_in in le_same _ _ _ _ (λ h. omega arith) (λ h. omega arith)) in
-      heaps_short most j (unfolded a k (in_heap f case)) ∙ and_assoc (nat_le (length (a.pure ++ map (in_pure f) case.pure)) 64) (nat_le (length (without k a.spatial ++ map (in_spatial f) case.spatial)) most) (every (is_short most) (disjuncts j)) ∙ (λ i. pure i && (spatial i && every (is_short most) (disjuncts j)))
+      heaps_short most j (unfolded a k (in_heap f case)) ∙ and_assoc (nat_le (length (a.pure ++ map (in_pure f) case.pure)) 64) (nat_le (length (without k a.spatial ++ map (in_spatial f) case.spatial)) most) (list_all (is_short most) (disjuncts j)) ∙ (λ i. pure i && (spatial i && list_all (is_short most) (disjuncts j)))
 
-  pub cases_short : (most : ℕ) (f : Term → Term) (cases : List SymbolicHeap) → each_heap (is_short most) (map (unfolded_by j k f) cases) ≡ every (case_fits most j) cases
+  pub cases_short : (most : ℕ) (f : Term → Term) (cases : List SymbolicHeap) → each_heap (is_short most) (map (unfolded_by j k f) cases) ≡ list_all (case_fits most j) cases
   cases_short most f [] = refl
   cases_short most f (c ∷ cs) = λ i. case_short most f c i && cases_short most f cs i
 
@@ -52,7 +53,7 @@ module _ (j : Judgement) (k : ℕ) (k_in : k < length (antecedent j).spatial) wh
     pub cases_same : (cases : List SymbolicHeap) → each_heap has_numbers (map (unfolded_by j k g) cases) ≡ true → map (unfolded_by j k f) cases ≡ map (unfolded_by j k g) cases
     cases_same [] e = refl
     cases_same (c ∷ cs) e =
-        let b = and_parts (every has_numbers (heaps_of (unfolded_by j k g c).judgement)) (each_heap has_numbers (map (unfolded_by j k g) cs)) e in
+        let b = and_parts (list_all has_numbers (heaps_of (unfolded_by j k g c).judgement)) (each_heap has_numbers (map (unfolded_by j k g) cs)) e in
         let n = any_first j (unfolded (antecedent j) k (in_heap g c)) b.0 in
         let body = joined_same (antecedent j).pure (without k (antecedent j).spatial) f g same over c (leb-true _ _ n) in
         λ i. record {
@@ -60,7 +61,7 @@ module _ (j : Judgement) (k : ℕ) (k_in : k < length (antecedent j).spatial) wh
           pairs = kept_pairs k (antecedent j).spatial ++ child_pairs k (length (without k (antecedent j).spatial)) (body i).spatial;
         } ∷ cases_same cs b.1 i
 
-pub unfold_made : (most : ℕ) (j : Judgement) (k : ℕ) (args : List Term) (n : ℕ) (cases : List SymbolicHeap) (r : Result (Vec Premise Global) RuleError) (xs : List Premise) → k < length (antecedent j).spatial → every (case_fits most j) cases ≡ true → xs ≡ map (unfolded_by j k (changed (Left args n))) cases → IsAnswer r (needs (each_heap has_numbers xs) NoFreshVariable (Ok xs)) → IsAnswer r (limited most (map (unfolded_by j k (case_term args n)) cases))
+pub unfold_made : (most : ℕ) (j : Judgement) (k : ℕ) (args : List Term) (n : ℕ) (cases : List SymbolicHeap) (r : Result (Vec Premise Global) RuleError) (xs : List Premise) → k < length (antecedent j).spatial → list_all (case_fits most j) cases ≡ true → xs ≡ map (unfolded_by j k (changed (Left args n))) cases → IsAnswer r (needs (each_heap has_numbers xs) NoFreshVariable (Ok xs)) → IsAnswer r (limited most (map (unfolded_by j k (case_term args n)) cases))
 unfold_made most j k args n cases r xs k_in fit made is =
     limited_changed most r (map (unfolded_by j k (case_term args n)) cases) (map (unfolded_by j k (changed (Left args n))) cases) xs made (cases_short j k k_in most (case_term args n) cases ∙ fit) (cases_numbers j k k_in (changed (Left args n)) (case_term args n) (left_same args n) (left_over args n) cases) (cases_same j k k_in (changed (Left args n)) (case_term args n) (left_same args n) (left_over args n) cases) is
 

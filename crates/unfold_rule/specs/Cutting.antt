@@ -1,5 +1,6 @@
 -- The premises of Cut, as the program makes them, and their sizes.
 use Rattle.std.specs.Prelude.{ℕ, ◌+◌, length, Bool, ◌&&◌, nat_le, List, max}
+use Rattle.std.specs.List.{list_all}
 use Rattle.cyc_limits.specs.declared.TheConstants.{MOST_PURE}
 use Rattle.heap_formula.specs.declared.terms.Term.{Term}
 use Rattle.heap_formula.specs.declared.judgements.Judgement.{Judgement}
@@ -8,7 +9,7 @@ use Rattle.heap_formula.specs.Symbolic.{SymbolicHeap}
 use Rattle.heap_formula.specs.Substitution.{in_heap}
 use Rattle.heap_formula.specs.Positions.{chosen, chosen_place, others_of, pairs_from}
 use Rattle.heap_formula.specs.Judgements.{antecedent, with_antecedent}
-use Rattle.rule_table.specs.Answer.{every, is_short, disjuncts, Answer, limited, two}
+use Rattle.rule_table.specs.Answer.{is_short, disjuncts, Answer, limited, two}
 use Rattle.unfold_rule.specs.Joining.{joined}
 use Rattle.heap_formula.specs.Fresh.{fresh_number, heap_bound}
 use Rattle.rule_table.specs.RuleCut.{cut_left, cut_right}
@@ -38,4 +39,4 @@ placed_cut_answer most p j places formula =
 -- both premises are within the limits, where n spatial atoms stay: the first has the others, the second these and the formula's
 abbrev pub cut_fits : ℕ → Judgement → ℕ → SymbolicHeap → Bool
 cut_fits most j n formula =
-    nat_le (length (antecedent j).spatial) (n + most) && (nat_le (length (antecedent j).pure + length formula.pure) MOST_PURE && (nat_le (n + length formula.spatial) most && every (is_short most) (disjuncts j)))
+    nat_le (length (antecedent j).spatial) (n + most) && (nat_le (length (antecedent j).pure + length formula.pure) MOST_PURE && (nat_le (n + length formula.spatial) most && list_all (is_short most) (disjuncts j)))

@@ -1,5 +1,6 @@
 -- The premises of Unfold and UnfoldRight, as the program makes them, and their sizes.
 use Rattle.std.specs.Prelude.{ℕ, ◌+◌, [], ◌∷◌, ◌++◌, length, Bool, ◌&&◌, nat_le, List, map, slice_get}
+use Rattle.std.specs.List.{list_all}
 use Rattle.cyc_limits.specs.declared.TheConstants.{MOST_PURE}
 use Rattle.heap_formula.specs.declared.terms.Term.{Term}
 use Rattle.heap_formula.specs.declared.judgements.Judgement.{Judgement}
@@ -8,9 +9,9 @@ use Rattle.heap_formula.specs.Symbolic.{SymbolicHeap}
 use Rattle.heap_formula.specs.Substitution.{in_heap}
 use Rattle.heap_formula.specs.Positions.{without, kept_pairs, child_pairs}
 use Rattle.heap_formula.specs.Judgements.{antecedent, with_antecedent}
-use Rattle.rule_table.specs.Answer.{every, is_short, disjuncts, Answer, limited, one, finds}
+use Rattle.rule_table.specs.Answer.{is_short, disjuncts, Answer, limited, one, finds}
 use Rattle.rule_table.specs.RuleUnfold.{unfolded, unfold_premise}
-use Rattle.rule_table.specs.Table.{with_right, unfolded_right, calls, right_term}
+use Rattle.rule_table.specs.Table.{with_right, calls, right_term}
 use Rattle.heap_formula.specs.declared.atoms.Spatial.{Spatial}
 use Rattle.heap_formula.specs.declared.proof_rules.RuleFault.TheVariants.{NoSuchCase}
 use Rattle.heap_formula.specs.Definitions.{Definition}
@@ -28,11 +29,11 @@ unfolded_by j k f case =
 -- the premise of this case is within the limits; one spatial atom goes
 abbrev pub case_fits : ℕ → Judgement → SymbolicHeap → Bool
 case_fits most j case =
-    nat_le (length (antecedent j).pure + length case.pure) MOST_PURE && (nat_le (length (antecedent j).spatial + length case.spatial) (most + 1) && every (is_short most) (disjuncts j))
+    nat_le (length (antecedent j).pure + length case.pure) MOST_PURE && (nat_le (length (antecedent j).spatial + length case.spatial) (most + 1) && list_all (is_short most) (disjuncts j))
 
 -- with a map of terms for the case's
 abbrev pub right_by : SymbolicHeap → SymbolicHeap → ℕ → (Term → Term) → SymbolicHeap → Premise
-right_by a b k f case = with_right a (unfolded_right b k (in_heap f case) ∷ [])
+right_by a b k f case = with_right a (unfolded b k (in_heap f case) ∷ [])
 
 -- the premise is within the limits; one spatial atom of the disjunct goes
 abbrev pub right_fits : ℕ → SymbolicHeap → SymbolicHeap → SymbolicHeap → Bool

@@ -3,7 +3,7 @@ ghost use Rattle.std.specs.Prelude.{◌≡◌, ◌<◌, ◌≤◌, ◌+◌, ◌+
 ghost use Rattle.heap_formula.specs.declared.commands.Command.{Command};
 ghost use Rattle.heap_formula.specs.Judgements.{IsLocallySound, antecedent as antecedent_of};
 ghost use Rattle.heap_formula.specs.Positions.{before, pairs_from, child_pairs};
-ghost use Rattle.rule_table.specs.Answer.{every};
+ghost use Rattle.std.specs.List.{list_all};
 ghost use Rattle.rule_table.specs.Answered.{IsAnswer};
 ghost use Rattle.rule_table.specs.Changes.{changed, IsSmall};
 ghost use Rattle.rule_table.specs.Soundness.{HasVariables};
@@ -97,7 +97,7 @@ fn fits(most: u8, judgement: &Judgement, case: &Heap) -> bool
 }
 
 fn all_fit(most: u8, judgement: &Judgement, cases: &[Heap]) -> bool
-    ensures { result ≡ every (case_fits most judgement.now) cases.now }
+    ensures { result ≡ list_all (case_fits most judgement.now) cases.now }
 {
     for case in cases {
         if !fits(most, judgement, case) {
@@ -118,7 +118,7 @@ fn unfolded_premises(
     requires most_fits { most ≤ MOST_SPATIAL }
     requires small { IsSmall change.now }
     requires k_in { k < length (antecedent_of judgement.now).spatial }
-    requires fit { every (case_fits most judgement.now) cases.now ≡ true }
+    requires fit { list_all (case_fits most judgement.now) cases.now ≡ true }
     ensures { IfOk result (λ v. v.items ≡ map (unfolded_by judgement.now k (changed change.now)) cases.now) }
 {
     let mut premises = Vec::with_capacity(alloc, cases.len())?;

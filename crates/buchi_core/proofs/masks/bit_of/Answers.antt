@@ -1,7 +1,8 @@
 -- One bit, or none.
 use Rattle.std.proofs.Common.{arith, sym, ◌∙◌}
 use Rattle.std.proofs.lemmas.Bool.{ne_eqb}
-use Rattle.buchi_core.proofs.Bits.{one_pow, one_zero}
+use Rattle.buchi_core.proofs.Bits.{one_pow}
+use Rattle.list_facts.proofs.Bits.{one_zero}
 use Rattle.buchi_core.proofs.masks.bit_of.Goals as goal
 
 pub returns-then-position-lt32 : goal.returns-then-position-lt32

@@ -1,6 +1,6 @@
 use Rattle.std.proofs.Common.{ℕ, ◌≡◌, ◌<◌, ◌||◌, drop}
 use Rattle.buchi_core.specs.Forest.{has}
-use Rattle.buchi_core.specs.View.{is_one}
+use Rattle.list_facts.specs.Bits.{is_one}
 use Rattle.buchi_core.proofs.masks.mask_of.Given as goal
 
 abbrev pub invariant-loop-position : goal.invariant-loop-position

@@ -1,6 +1,6 @@
 use Rattle.std.proofs.Common.{ℕ, ◌≡◌, ◌<◌, ◌||◌, [], ◌∷◌, drop, length, get_or}
 use Rattle.buchi_core.specs.Forest.{leads, progressing}
-use Rattle.buchi_core.specs.View.{is_one}
+use Rattle.list_facts.specs.Bits.{is_one}
 use Rattle.buchi_core.proofs.masks.set_moves.Given as goal
 
 abbrev pub invariant-loop-pair : goal.invariant-loop-pair

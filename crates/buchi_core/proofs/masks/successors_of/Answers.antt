@@ -1,8 +1,10 @@
 -- The positions that pairs lead to.
 use Rattle.std.proofs.Common.{◌∙◌, ap, ◌&&◌}
 use Rattle.buchi_core.specs.Forest.{leads}
-use Rattle.buchi_core.specs.View.{is_one, members}
-use Rattle.buchi_core.proofs.Bits.{members_filter, one_and}
+use Rattle.buchi_core.specs.View.{members}
+use Rattle.list_facts.specs.Bits.{is_one}
+use Rattle.buchi_core.proofs.Bits.{members_filter}
+use Rattle.list_facts.proofs.Bits.{one_and}
 use Rattle.buchi_core.proofs.masks.successors_of.Goals as goal
 
 pub returns : goal.returns

@@ -1,7 +1,8 @@
 use Rattle.std.proofs.Common.{ℕ, ◌≡◌, ◌<◌, ◌||◌, List}
 use Rattle.buchi_core.specs.Forest.{Pair, leads}
 use Rattle.buchi_core.specs.Moves.{AreMoves}
-use Rattle.buchi_core.specs.View.{is_one, members}
+use Rattle.buchi_core.specs.View.{members}
+use Rattle.list_facts.specs.Bits.{is_one}
 use Rattle.buchi_core.proofs.masks.targets_of.Given as goal
 
 abbrev pub invariant-loop-rest : goal.invariant-loop-rest

@@ -1,7 +1,8 @@
 -- The entry has positions, and leaves none.
 use Rattle.std.proofs.Common.{◌≡◌, ◌<◌, ◌^◌, List, Some, nat_eq, get_or, slice_get, arith, ap, subst, ◌∙◌}
 use Rattle.std.proofs.lemmas.Bool.{eq-eqb, ne_eqb}
-use Rattle.buchi_core.specs.Forest.{every, child_has}
+use Rattle.std.specs.List.{list_all}
+use Rattle.buchi_core.specs.Forest.{child_has}
 use Rattle.buchi_core.specs.declared.entry.Entry.{Entry}
 use Rattle.buchi_core.specs.View.{members}
 use Rattle.buchi_core.specs.Young.{made}
@@ -21,5 +22,5 @@ pub returns-else-entry-ne0 : goal.returns-else-entry-ne0
 returns-else-entry-ne0 c =
     let at : slice_get c.args.young.now.entries.items c.args.place ≡ Some c.in-Some.entry.now =
     subst (λ (z : List Entry). slice_get z c.args.place ≡ Some c.in-Some.entry.now) c.deref.ensures.0 (get_is c.deref.result.now c.args.place c.in-Some.entry.now c.in-Some.ensures.lookup.0 c.in-Some.ensures.lookup.1) in
-    test_else (nat_eq c.in-Some.entry.now.set 0) (every (child_has (made c.args.young.now) c.args.place) (members c.in-Some.entry.now.set)) _ (full_parts c.args.young.now c.args.place c.in-Some.entry.now at)
+    test_else (nat_eq c.in-Some.entry.now.set 0) (list_all (child_has (made c.args.young.now) c.args.place) (members c.in-Some.entry.now.set)) _ (full_parts c.args.young.now c.args.place c.in-Some.entry.now at)
     (eq-eqb c.in-Some.entry.now.set 0 c.if-entry-ne0.false)

@@ -2,7 +2,7 @@
 use Rattle.std.proofs.Common.{ℕ, ◌≡◌, ◌-◌, ◌&&◌, not, Option, refl, sym, subst, arith, set, get_or, bit_and}
 use Rattle.buchi_core.specs.Forest.{same_parent}
 use Rattle.buchi_core.specs.declared.young.Young.{Young}
-use Rattle.buchi_core.specs.View.{is_one}
+use Rattle.list_facts.specs.Bits.{is_one}
 use Rattle.buchi_core.specs.Young.{left_of}
 use Rattle.buchi_core.proofs.Left.{give_none, give_some}
 use Rattle.buchi_core.proofs.young.give.Goals as goal

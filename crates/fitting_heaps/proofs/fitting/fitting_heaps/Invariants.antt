@@ -1,12 +1,12 @@
 use Rattle.std.proofs.Common.{◌⊎◌, drop}
 use Rattle.heap_formula.specs.Words.{Each}
 use Rattle.heap_formula.specs.Cells.{Cells}
-use Rattle.model_check.specs.Constructive.{Member}
+use Rattle.list_facts.specs.Words.{IsMember}
 use Rattle.fitting_heaps.specs.Bounds.{IsWithin, IsAmong}
 use Rattle.fitting_heaps.proofs.fitting.fitting_heaps.Given as goal
 
 abbrev pub invariant-loop-heap : goal.invariant-loop-heap
 invariant-loop-heap l = record {
-  complete : (h : Cells) → IsWithin l.greatest h → IsAmong l.greatest l.heap-items h → Member h l.out.items ⊎ IsAmong l.greatest (drop l.heap-index l.heap-items) h;
+  complete : (h : Cells) → IsWithin l.greatest h → IsAmong l.greatest l.heap-items h → IsMember h l.out.items ⊎ IsAmong l.greatest (drop l.heap-index l.heap-items) h;
   within : Each (IsWithin l.greatest) l.out.items;
 }

@@ -4,7 +4,7 @@ use Rattle.std.proofs.lemmas.List.{drop_more}
 use Rattle.std.proofs.Math.ListN.{drop_of_length-le}
 use Rattle.heap_formula.specs.Words.{OneOf}
 use Rattle.pair_family.specs.BasePairs.{BasePair}
-use Rattle.pair_family.specs.Tables.{IsMember}
+use Rattle.list_facts.specs.Words.{IsMember}
 use Rattle.pair_states.specs.Labels.{Gives}
 use Rattle.pair_states.proofs.Growing.{grows_step, grows_end}
 use Rattle.pair_states.proofs.states.grow_by_all.Goals as goal

@@ -1,7 +1,7 @@
 use Rattle.std.proofs.Common.{◌↔◌, ◌⊎◌, drop}
 use Rattle.heap_formula.specs.Words.{OneOf}
 use Rattle.pair_family.specs.BasePairs.{BasePair}
-use Rattle.pair_family.specs.Tables.{IsMember}
+use Rattle.list_facts.specs.Words.{IsMember}
 use Rattle.pair_states.specs.Labels.{Gives}
 use Rattle.pair_states.proofs.states.grow_by_each.Given as goal
 

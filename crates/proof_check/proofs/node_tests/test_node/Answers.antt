@@ -4,7 +4,8 @@ use Rattle.heap_formula.specs.declared.proof_rules.RuleError.{RuleError}
 use Rattle.rule_table.specs.Answered.{IsAnswer}
 use Rattle.node_reasons.specs.Answers.{reason_answer, numbers_fault, targets_of}
 use Rattle.proof_check.specs.Files.{nodes_of}
-use Rattle.node_reasons.proofs.FewEdges.{reason_few, premises_few}
+use Rattle.node_reasons.proofs.FewEdges.{reason_few}
+use Rattle.rule_table.proofs.FewPremises.{premises_few}
 use Rattle.node_reasons.proofs.Reasons.{fault_of_reason, fault_of_numbers, by_answer, leads_length}
 use Rattle.proof_check.proofs.node_tests.test_node.Goals as goal
 

@@ -4,7 +4,8 @@ use Rattle.heap_formula.specs.Words.{Each}
 use Rattle.pair_family.specs.Combination.{pure_facts, AreConsistent}
 use Rattle.pair_family.specs.Frames.{kept_terms, frames_of}
 use Rattle.pair_family.specs.States.{AreStates}
-use Rattle.pair_family.specs.Tables.{IsMember, in_table}
+use Rattle.pair_family.specs.Tables.{in_table}
+use Rattle.list_facts.specs.Words.{IsMember}
 use Rattle.pair_family.specs.Within.{IsWithin}
 use Rattle.sat_pairs.proofs.Starts.{IsStart}
 use Rattle.sat_pairs.proofs.Steps.{case_none, case_states, start_within, added_alone}

@@ -1,6 +1,7 @@
 use Rattle.std.proofs.Common.{◌≡◌, ◌∙◌, [], ap, sym, length}
 use Rattle.sat_pairs.specs.Numbers.{kept_numbers, with_pure_numbers, equal_places, differ_places, count_from}
-use Rattle.sat_pairs.proofs.Starts.{start_is, no_pair}
+use Rattle.sat_pairs.proofs.Starts.{start_is}
+use Rattle.pair_family.specs.BasePairs.{no_pair}
 use Rattle.sat_pairs.proofs.cases.start.Goals as goal
 
 pub returns : goal.returns

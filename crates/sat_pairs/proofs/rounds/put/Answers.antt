@@ -1,5 +1,6 @@
 use Rattle.std.proofs.Common.{◌≡◌, ◌+◌, ◌≤◌, sym, subst, arith}
-use Rattle.pair_family.specs.Tables.{IsMember, pairs_of}
+use Rattle.pair_family.specs.Tables.{pairs_of}
+use Rattle.list_facts.specs.Words.{IsMember}
 use Rattle.sat_pairs.specs.Growth.{total, IsPartOf, IsGrown}
 use Rattle.sat_pairs.proofs.Taken.{part_more, grown_more, count_more, with_there, too_many, added_new}
 use Rattle.sat_pairs.proofs.rounds.put.Goals as goal

@@ -1,6 +1,7 @@
 use Rattle.std.proofs.Common.{◌≡◌, inl, inr, ◌++◌, ◌∷◌, [], subst}
 use Rattle.pair_family.specs.Family.{InFamily}
-use Rattle.pair_family.specs.Tables.{IsMember, in_table}
+use Rattle.pair_family.specs.Tables.{in_table}
+use Rattle.list_facts.specs.Words.{IsMember}
 use Rattle.pair_family.proofs.Rounds.{gives_within}
 use Rattle.sat_pairs.proofs.Taken.{grown_then, popped_member, popped_rest, popped_done, popped_none}
 use Rattle.sat_pairs.proofs.rounds.put_case.Goals as goal

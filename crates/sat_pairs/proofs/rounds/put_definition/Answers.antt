@@ -4,7 +4,8 @@ use Rattle.std.proofs.lemmas.List.{drop_more}
 use Rattle.std.proofs.Math.ListN.{drop_of_length-le}
 use Rattle.heap_formula.specs.Words.{OneOf}
 use Rattle.pair_family.specs.Family.{CaseGives, arity_of}
-use Rattle.pair_family.specs.Tables.{IsMember, pairs_of, in_table}
+use Rattle.pair_family.specs.Tables.{pairs_of, in_table}
+use Rattle.list_facts.specs.Words.{IsMember}
 use Rattle.sat_pairs.specs.Growth.{HasGiven}
 use Rattle.sat_pairs.proofs.Taken.{grown_then, at_member, case_sound, given_more}
 use Rattle.sat_pairs.proofs.rounds.put_definition.Goals as goal

@@ -3,7 +3,8 @@ use Rattle.heap_formula.specs.Words.{OneOf}
 use Rattle.heap_formula.specs.Meaning.{cases_of}
 use Rattle.pair_family.specs.BasePairs.{BasePair}
 use Rattle.pair_family.specs.Family.{CaseGives, arity_of}
-use Rattle.pair_family.specs.Tables.{IsMember, pairs_of, in_table}
+use Rattle.pair_family.specs.Tables.{pairs_of, in_table}
+use Rattle.list_facts.specs.Words.{IsMember}
 use Rattle.sat_pairs.specs.Growth.{total, IsPartOf, IsGrown}
 use Rattle.sat_pairs.proofs.rounds.put_definition.Given as goal
 

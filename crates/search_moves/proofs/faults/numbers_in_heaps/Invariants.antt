@@ -1,7 +1,7 @@
 use Rattle.std.proofs.Common.{◌≡◌, ◌≤◌, map, drop}
 use Rattle.std.specs.Prelude.{max}
 use Rattle.heap_formula.specs.Words.{max_of}
-use Rattle.rule_table.specs.Answer.{heap_numbers}
+use Rattle.heap_formula.specs.Fresh.{heap_numbers}
 use Rattle.search_moves.proofs.faults.numbers_in_heaps.Given as goal
 
 abbrev pub invariant-loop-heap : goal.invariant-loop-heap

@@ -1,7 +1,8 @@
 use Rattle.std.proofs.Common.{◌+◌, min, sym, ap, ◌∙◌}
 use Rattle.heap_formula.specs.Symbolic.{SymbolicHeap}
 use Rattle.rule_table.specs.Answer.{one}
-use Rattle.rule_table.specs.ExecTable.{at_line, variables_from}
+use Rattle.rule_table.specs.ExecTable.{at_line}
+use Rattle.heap_formula.specs.Fresh.{variables_from}
 use Rattle.symbolic_exec.specs.States.{variables_up_to}
 use Rattle.symbolic_exec.proofs.FreshNumbers.{new_with, new_same, new_over}
 use Rattle.symbolic_exec.proofs.Limits.{new_short, as_numbered}

@@ -1,6 +1,6 @@
 use Rattle.std.proofs.Common.{◌<◌, length, arith, sym, subst, ap, ◌∙◌}
 use Rattle.tableaux.specs.Fair.{AllOccur}
-use Rattle.derivation_search.specs.Engine.{AllAre}
+use Rattle.list_facts.specs.Words.{Each}
 use Rattle.tableaux.proofs.Stack.{top_next}
 use Rattle.derivations.proofs.Nexts.{next_occurs, offered_allowed, if_both}
 use Rattle.derivations.proofs.moves.DerivationJudgementReasonMoves.offers.Goals as goal
@@ -23,7 +23,7 @@ returns-in-Some-clause-offered g c =
     let allowed = offered_allowed g.L.Rules.calculus g.L.Rules.occurs g.L.Rules.allows c.args.self.now c.requires c.in-Some.goal.now next.0 next.1 in
     if_both c.offers.result _ _ _
     (λ o links rules. (
-      subst (AllAre (g.L.Rules.allows c.args.self.now.logic)) (sym (links ∙ ap (λ (ms : _). (g.L.Rules.calculus c.args.self.now.logic).links ms c.in-Some.goal.now) c.deref-in-Some.ensures.value)) allowed.0,
-      subst (AllAre (g.L.Rules.allows c.args.self.now.logic)) (sym (rules ∙ ap (λ (ms : _). (g.L.Rules.calculus c.args.self.now.logic).rules ms c.in-Some.goal.now) c.deref-in-Some.ensures.value)) allowed.1,
+      subst (Each (g.L.Rules.allows c.args.self.now.logic)) (sym (links ∙ ap (λ (ms : _). (g.L.Rules.calculus c.args.self.now.logic).links ms c.in-Some.goal.now) c.deref-in-Some.ensures.value)) allowed.0,
+      subst (Each (g.L.Rules.allows c.args.self.now.logic)) (sym (rules ∙ ap (λ (ms : _). (g.L.Rules.calculus c.args.self.now.logic).rules ms c.in-Some.goal.now) c.deref-in-Some.ensures.value)) allowed.1,
     ))
     c.offers.ensures.links c.offers.ensures.rules
