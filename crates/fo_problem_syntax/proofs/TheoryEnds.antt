@@ -8,13 +8,13 @@ use Rattle.cyc_grammar.specs.Classes.{number, keyword}
 use Rattle.cyc_grammar.proofs.ClassLaws.{number-lexeme}
 use Rattle.cyc_grammar.proofs.Ends.{Inner, EndsLast, one-inner, seq-inner, after-inner, before-inner, many-inner, shaped-inner, or_empty-inner, end-once}
 use Rattle.heap_syntax.specs.Grammar.{Any, cons, IsSome}
-use Rattle.heap_syntax.specs.Words.{cyclist_word, pred_word, last_word, comma, semicolon, bar, turnstile, opening, closing, opening_brace, closing_brace}
+use Rattle.heap_syntax.specs.Words.{cyclist_word, pred_word, last_word, comma, semicolon, bar, turnstile, opening, closing, opening_brace, closing_brace, goal_word}
 use Rattle.heap_syntax.proofs.WordTexts.{true-word, pred-word, last-word, cyclist-word, syms}
 use Rattle.fo_term_syntax.specs.Words.{free_name}
 use Rattle.fo_term_syntax.specs.Trees.{Atom}
 use Rattle.fo_term_syntax.specs.Grammar.{atom}
 use Rattle.fo_term_syntax.proofs.TermEnds.{free_name-inner, atom-inner}
-use Rattle.fo_problem_syntax.specs.Words.{con_word, goal_word, problem_word, first_version}
+use Rattle.fo_problem_syntax.specs.Words.{con_word, problem_word, first_version}
 use Rattle.fo_problem_syntax.specs.Lists.{list_of}
 use Rattle.fo_problem_syntax.specs.Trees.{Constructor, Definition, Sequent}
 use Rattle.fo_problem_syntax.specs.Grammar.{atoms, atoms_or, left, right, to_constructor, from_constructor, con, cases, to_definition, from_definition, definition, to_sequent, from_sequent, sequent, some_constructor, constructors, definitions, to_problem, from_problem, goal, problem_body, problem}

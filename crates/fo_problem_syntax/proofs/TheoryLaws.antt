@@ -10,12 +10,12 @@ use Rattle.cyc_grammar.proofs.Laws.{Lawful, Stops, Begins, BeginsNot, ClassLaw, 
 use Rattle.cyc_grammar.proofs.ClassLaws.{symbol-law, keyword-law, the_end-law, number-law, numeral_of-law}
 use Rattle.std.proofs.lemmas.Slice.Eq.{bytes_eq-Decides}
 use Rattle.heap_syntax.specs.Grammar.{Any, cons, IsSome}
-use Rattle.heap_syntax.specs.Words.{pred_word, last_word, comma, semicolon, bar, turnstile, equal, opening, closing, opening_brace, closing_brace}
+use Rattle.heap_syntax.specs.Words.{pred_word, last_word, comma, semicolon, bar, turnstile, equal, opening, closing, opening_brace, closing_brace, goal_word}
 use Rattle.fo_term_syntax.specs.Words.{reserved, free_name}
 use Rattle.fo_term_syntax.specs.Trees.{Atom}
 use Rattle.fo_term_syntax.specs.Grammar.{atom}
 use Rattle.fo_term_syntax.proofs.TermLaws.{free_name-law, atom-law, atom-end, atom-not}
-use Rattle.fo_problem_syntax.specs.Words.{con_word, goal_word, first_text, first_version}
+use Rattle.fo_problem_syntax.specs.Words.{con_word, first_text, first_version}
 use Rattle.fo_problem_syntax.specs.Lists.{list_of}
 use Rattle.fo_problem_syntax.specs.Trees.{Constructor, Definition, Sequent}
 use Rattle.fo_problem_syntax.specs.Grammar.{atoms, atoms_or, left, right, to_constructor, from_constructor, con, cases, to_definition, from_definition, definition, to_sequent, from_sequent, sequent, some_constructor, constructors, definitions, to_problem, from_problem, goal, problem_body, problem}

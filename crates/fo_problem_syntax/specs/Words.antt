@@ -6,9 +6,6 @@ use Rattle.cyc_grammar.specs.Classes.{keyword, numeral_of}
 abbrev pub con_word : Class (Unit {0})
 con_word = keyword (codes "con")
 
-abbrev pub goal_word : Class (Unit {0})
-goal_word = keyword (codes "goal")
-
 abbrev pub problem_word : Class (Unit {0})
 problem_word = keyword (codes "foproblem")
 

@@ -7,9 +7,8 @@ use Rattle.cyc_grammar.specs.Syntax.{one, is_one, uncons}
 use Rattle.cyc_grammar.specs.Classes.{number}
 use Rattle.cyc_grammar.proofs.Ends.{Inner, EndsLast, one-inner, seq-inner, after-inner, before-inner, alt-inner, many-inner, shaped-inner, headed-inner, or_empty-inner, end-once}
 use Rattle.heap_syntax.specs.Grammar.{Any, cons, IsSome}
-use Rattle.heap_syntax.specs.Words.{last_word, cyclist_word, comma, semicolon, assign, opening_brace, closing_brace}
+use Rattle.heap_syntax.specs.Words.{last_word, cyclist_word, comma, semicolon, assign, opening_brace, closing_brace, dollar, node_word, by_word, to_word, opening_bracket, closing_bracket}
 use Rattle.heap_syntax.proofs.WordTexts.{last-word, cyclist-word, syms}
-use Rattle.fo_term_syntax.specs.Words.{dollar}
 use Rattle.fo_term_syntax.specs.Trees.{Sign}
 use Rattle.fo_term_syntax.specs.Grammar.{term}
 use Rattle.fo_term_syntax.proofs.TermEnds.{term-inner, atom-inner}
@@ -23,7 +22,7 @@ use Rattle.fo_proof_syntax.specs.declared.tree.SideTree.{SideTree}
 use Rattle.fo_proof_syntax.specs.declared.tree.SideTree.TheVariants as sided
 use Rattle.fo_proof_syntax.specs.declared.reason_word.ReasonWord.{ReasonWord}
 use Rattle.fo_proof_syntax.specs.declared.reason_word.ReasonWord.TheVariants as words
-use Rattle.fo_proof_syntax.specs.Words.{node_word, by_word, to_word, fo_word, opening_bracket, closing_bracket, side_word, reason_word}
+use Rattle.fo_proof_syntax.specs.Words.{fo_word, side_word, reason_word}
 use Rattle.fo_proof_syntax.specs.Trees.{Entry, Reason, Node}
 use Rattle.fo_proof_syntax.specs.Grammar.{numbers, bracketed, two_numbers, replace, terms, right_rule, to_entry, from_entry, entry, entries, to_link, from_link, link, Parts, parts, to_reason, from_reason, reason, to_premises, from_premises, premises, to_node, from_node, node, some_node, nodes, to_file, from_file, body, file}
 

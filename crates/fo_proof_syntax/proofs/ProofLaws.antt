@@ -6,8 +6,7 @@ use Rattle.cyc_grammar.specs.Classes.{the_end, number, find_text}
 use Rattle.cyc_grammar.proofs.Laws.{Lawful, Stops, Begins, BeginsNot, BeginsNot-append, ClassLaw, one-law, seq-law, shaped-law, alt-law, many-law, after-law, before-law, headed-law, or_empty-law, uncons-cons, Stops-never}
 use Rattle.cyc_grammar.proofs.ClassLaws.{symbol-law, keyword-law, the_end-law, number-law, keyword_of-law}
 use Rattle.heap_syntax.specs.Grammar.{Any, cons, IsSome}
-use Rattle.heap_syntax.specs.Words.{pred_word, last_word, comma, semicolon, assign, equal, opening_brace, closing_brace}
-use Rattle.fo_term_syntax.specs.Words.{dollar}
+use Rattle.heap_syntax.specs.Words.{pred_word, last_word, comma, semicolon, assign, equal, opening_brace, closing_brace, dollar, node_word, by_word, to_word, opening_bracket, closing_bracket}
 use Rattle.fo_term_syntax.specs.Trees.{Sign}
 use Rattle.fo_term_syntax.specs.Grammar.{term}
 use Rattle.fo_term_syntax.proofs.TermLaws.{term-law, term-closed, term-not, atom-law, atom-end}
@@ -16,7 +15,7 @@ use Rattle.fo_proof_syntax.specs.declared.tree.SideTree.TheVariants as sided
 use Rattle.fo_proof_syntax.specs.declared.reason_word.ReasonWord.{ReasonWord}
 use Rattle.fo_proof_syntax.specs.declared.reason_word.ReasonWord.TheVariants as words
 use Rattle.fo_problem_syntax.specs.Words.{first_version}
-use Rattle.fo_proof_syntax.specs.Words.{node_word, by_word, to_word, opening_bracket, closing_bracket, side_text, sides, side_word, reason_text, reason_words, reason_word}
+use Rattle.fo_proof_syntax.specs.Words.{side_text, sides, side_word, reason_text, reason_words, reason_word}
 use Rattle.fo_problem_syntax.specs.Lists.{list_of}
 use Rattle.fo_problem_syntax.specs.Trees.{Constructor, Definition, Sequent}
 use Rattle.fo_proof_syntax.specs.Trees.{Entry, Reason, Axiom, Refl, Clash, Decompose, Replace, WeakenLeft, WeakenRight, Contract, Unfold, Cut, Right, Link, Node}

@@ -4,11 +4,11 @@ use Rattle.cyc_lex.specs.Word.{Word}
 use Rattle.cyc_lex.specs.Writing.{Written, write, write_all}
 use Rattle.cyc_grammar.specs.Classes.{number}
 use Rattle.cyc_grammar.proofs.WrittenTexts.{wrote-behind, wrote-both, wrote-ended}
-use Rattle.heap_syntax.specs.Words.{cyclist_word, semicolon}
+use Rattle.heap_syntax.specs.Words.{cyclist_word, semicolon, to_word}
 use Rattle.fo_problem_syntax.specs.Words.{first_version}
 use Rattle.fo_problem_syntax.specs.Trees.{Constructor, Definition}
 use Rattle.fo_problem_syntax.specs.Grammar.{constructors, definitions}
-use Rattle.fo_proof_syntax.specs.Words.{to_word, fo_word}
+use Rattle.fo_proof_syntax.specs.Words.{fo_word}
 use Rattle.fo_proof_syntax.specs.Trees.{Node}
 use Rattle.fo_proof_syntax.specs.Grammar.{numbers, premises, nodes, body}
 

@@ -6,8 +6,7 @@ use Rattle.cyc_grammar.specs.Syntax.{Reading, ◌>>=◌, Syntax, one, seq, alt, 
 use Rattle.cyc_grammar.specs.Classes.{the_end, number}
 unfoldable pub use Rattle.heap_syntax.specs.Numbers.{numbers}
 use Rattle.heap_syntax.specs.Grammar.{Any, cons, IsSome}
-use Rattle.heap_syntax.specs.Words.{last_word, cyclist_word, comma, semicolon, assign, opening_brace, closing_brace}
-use Rattle.fo_term_syntax.specs.Words.{dollar}
+use Rattle.heap_syntax.specs.Words.{last_word, cyclist_word, comma, semicolon, assign, opening_brace, closing_brace, dollar, node_word, by_word, to_word, opening_bracket, closing_bracket}
 use Rattle.fo_term_syntax.specs.Trees.{Sign, Atom}
 use Rattle.fo_term_syntax.specs.Grammar.{term, atom}
 use Rattle.fo_problem_syntax.specs.Words.{first_version}
@@ -17,7 +16,7 @@ use Rattle.fo_problem_syntax.specs.Grammar.{sequent, constructors, definitions}
 use Rattle.fo_proof_syntax.specs.declared.tree.SideTree.{SideTree}
 use Rattle.fo_proof_syntax.specs.declared.reason_word.ReasonWord.{ReasonWord}
 use Rattle.fo_proof_syntax.specs.declared.reason_word.ReasonWord.TheVariants as words
-use Rattle.fo_proof_syntax.specs.Words.{node_word, by_word, to_word, fo_word, opening_bracket, closing_bracket, side_word, reason_word}
+use Rattle.fo_proof_syntax.specs.Words.{fo_word, side_word, reason_word}
 use Rattle.fo_proof_syntax.specs.Trees.{Entry, LinkData, Reason, Axiom, Refl, Clash, Decompose, Replace, WeakenLeft, WeakenRight, Contract, Unfold, Cut, Right, Link, Node, File}
 
 -- ---- the parts of a reason

@@ -6,11 +6,11 @@ use Rattle.cyc_grammar.specs.Classes.{number}
 use Rattle.cyc_grammar.proofs.ClassLaws.{name-lexeme, number-lexeme}
 use Rattle.cyc_grammar.proofs.Ends.{Inner, one-inner, seq-inner, after-inner, before-inner, alt-inner, shaped-inner, lexemes-append}
 use Rattle.heap_syntax.specs.Grammar.{Any}
-use Rattle.heap_syntax.specs.Words.{equal, comma, opening, closing}
+use Rattle.heap_syntax.specs.Words.{equal, comma, opening, closing, dollar, query}
 use Rattle.heap_syntax.proofs.WordTexts.{syms}
 use Rattle.fo_term_syntax.specs.declared.bracket.Awaited.{Awaited}
 use Rattle.fo_term_syntax.specs.declared.bracket.Awaited.TheVariants.{First, Next, Nothing}
-use Rattle.fo_term_syntax.specs.Words.{dollar, query, reserved, free_name}
+use Rattle.fo_term_syntax.specs.Words.{reserved, free_name}
 use Rattle.fo_term_syntax.specs.Steps.{Steps, words_steps, fits_steps, steps, words_option, fits_option, option}
 use Rattle.fo_term_syntax.specs.Trees.{Sign}
 use Rattle.fo_term_syntax.specs.Brackets.{Mark}

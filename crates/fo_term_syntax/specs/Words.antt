@@ -7,12 +7,6 @@ use Rattle.heap_syntax.specs.Words as shared
 abbrev pub false_word : Class (Unit {0})
 false_word = keyword (codes "false")
 
-abbrev pub dollar : Class (Unit {0})
-dollar = symbol (codes "$")
-
-abbrev pub query : Class (Unit {0})
-query = symbol (codes "?")
-
 -- the words that are no names
 abbrev pub reserved : List (List ℕ)
 reserved = codes "con" ∷ codes "false" ∷ shared.reserved

@@ -2,7 +2,7 @@
 use Rattle.std.proofs.Common.{◌≡◌, ℕ, ◌+◌, Bool, true, false, List, [], ◌∷◌, ◌++◌, length, length-append, suc, refl, ap, arith}
 use Rattle.cyc_grammar.specs.Syntax.{Syntax, Class, is_one, before, or_empty, words_many}
 use Rattle.cyc_grammar.specs.Classes.{the_end}
-use Rattle.heap_syntax.specs.Words.{true_word, pred_word, last_word, comma, equal, semicolon, bar, turnstile, closing_brace}
+use Rattle.heap_syntax.specs.Words.{true_word, pred_word, last_word, comma, equal, semicolon, bar, turnstile, closing_brace, node_word, by_word, closing_bracket}
 use Rattle.heap_reader.specs.Spans.{total, total_or}
 use Rattle.heap_reader.proofs.SpanLaws.{between, alone}
 use Rattle.fo_term_syntax.specs.Words.{false_word}
@@ -13,7 +13,6 @@ use Rattle.fo_problem_syntax.specs.Lists.{list_of}
 use Rattle.fo_problem_syntax.specs.Trees.{Constructor, Definition, Sequent, Problem}
 use Rattle.fo_problem_syntax.specs.Words.{con_word}
 use Rattle.fo_problem_syntax.specs.Grammar.{atoms, atoms_or, left, right, con, cases, definition, constructors, definitions, sequent, goal, problem_body, problem}
-use Rattle.fo_proof_syntax.specs.Words.{node_word, by_word, closing_bracket}
 use Rattle.fo_proof_syntax.specs.Trees.{Entry, LinkData, Reason, Axiom, Refl, Clash, Decompose, Replace, WeakenLeft, WeakenRight, Contract, Unfold, Cut, Right, Link, Node, File}
 use Rattle.fo_proof_syntax.specs.Grammar.{numbers, bracketed, two_numbers, replace, terms, right_rule, entry, entries, link, parts, reason, premises, node, nodes, body, file}
 use Rattle.fo_walk.specs.AtomSpans.{atom_span, atoms_span}

@@ -12,12 +12,6 @@ use Rattle.pred_syntax.specs.declared.tree.TermTree.{TermTree}
 use Rattle.pred_syntax.specs.declared.tree.TermTree.TheVariants.{Nil, Univ, Exist}
 use Rattle.pred_syntax.specs.Trees.{PureTree, Spatial, Heap, Definition}
 
-abbrev pub dollar : Class (Unit {0})
-dollar = symbol (codes "$")
-
-abbrev pub query : Class (Unit {0})
-query = symbol (codes "?")
-
 -- ---- term = "nil" | "$" number | "?" number
 
 abbrev pub to_term : Unit {0} ⊎ (ℕ ⊎ ℕ) → TermTree

@@ -7,7 +7,7 @@ use Rattle.cyc_grammar.specs.Syntax.{one, is_one}
 use Rattle.cyc_grammar.specs.Classes.{number}
 use Rattle.cyc_grammar.proofs.ClassLaws.{number-lexeme}
 use Rattle.cyc_grammar.proofs.Ends.{Inner, EndsLast, one-inner, seq-inner, after-inner, before-inner, alt-inner, many-inner, shaped-inner, nothing-inner, headed-inner, or_empty-inner, end-once}
-use Rattle.heap_syntax.specs.Words.{nil, pred_word, or_word, last_word, cyclist_word, comma, semicolon, bar, arrow, turnstile, opening, closing, opening_brace, closing_brace, prime, free_name}
+use Rattle.heap_syntax.specs.Words.{nil, pred_word, or_word, last_word, cyclist_word, comma, semicolon, bar, arrow, turnstile, opening, closing, opening_brace, closing_brace, prime, free_name, goal_word, from_word, given_word}
 use Rattle.heap_syntax.specs.declared.version.Version.{Version}
 use Rattle.heap_syntax.specs.Versions.{version}
 use Rattle.heap_syntax.specs.Grammar.{Any}
@@ -15,7 +15,7 @@ use Rattle.heap_syntax.proofs.WordTexts.{nil-word, pred-word, or-word, last-word
 use Rattle.heap_syntax.proofs.HeapEnds.{listed-inner, fields-inner, arguments-inner, free_name-inner, heap-inner, heaps-inner}
 use Rattle.command_syntax.proofs.CommandLaws.{lines-inner}
 use Rattle.problem_syntax.specs.Trees.{Heap, Line, Definition, Goal}
-use Rattle.problem_syntax.specs.Grammar.{problem_word, goal_word, from_word, given_word, option_words, option, is_false, no_prime, forget, primes, to_named, from_named, term, terms, Atoms, to_spatial, from_spatial, behind_address, behind_name, spatial, heap, parameters, cases, to_definition, from_definition, definition, to_goal, from_goal, disjuncts, state, entailment, goal, definitions, lines, to_problem, from_problem, last_part, contents, body, problem}
+use Rattle.problem_syntax.specs.Grammar.{problem_word, option_words, option, is_false, no_prime, forget, primes, to_named, from_named, term, terms, Atoms, to_spatial, from_spatial, behind_address, behind_name, spatial, heap, parameters, cases, to_definition, from_definition, definition, to_goal, from_goal, disjuncts, state, entailment, goal, definitions, lines, to_problem, from_problem, last_part, contents, body, problem}
 
 -- ---- terms and spatial atoms
 

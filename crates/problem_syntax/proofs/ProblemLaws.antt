@@ -7,7 +7,7 @@ use Rattle.cyc_grammar.specs.Syntax.{◌>>=◌, read_one, Class, one, seq, after
 use Rattle.cyc_grammar.specs.Classes.{the_end, number, is_free_name}
 use Rattle.cyc_grammar.proofs.Laws.{Lawful, Faults, Stops, Begins, BeginsNot, BeginsNot-append, ClassLaw, ok_is, differ, one-law, seq-law, shaped-law, alt-law, many-law, after-law, before-law, nothing-law, headed-law, or_empty-law, Stops-never}
 use Rattle.cyc_grammar.proofs.ClassLaws.{symbol-law, keyword-law, the_end-law, number-law}
-use Rattle.heap_syntax.specs.Words.{nil, true_word, emp, pred_word, or_word, last_word, comma, semicolon, bar, arrow, turnstile, opening, closing, opening_brace, closing_brace, prime, reserved, free_name}
+use Rattle.heap_syntax.specs.Words.{nil, true_word, emp, pred_word, or_word, last_word, comma, semicolon, bar, arrow, turnstile, opening, closing, opening_brace, closing_brace, prime, reserved, free_name, goal_word, from_word, given_word}
 use Rattle.heap_syntax.specs.Grammar.{Any, listed, fields, arguments, some_heap}
 use Rattle.heap_syntax.specs.Trees.{Cell, Predicate}
 use Rattle.heap_syntax.proofs.HeapLaws.{TermLaw, AtomLaw, closed-stops, listed-law, listed-closed, listed-some, listed-not, fields-law, fields-closed, arguments-law, arguments-closed, free_name-law, nil-no-name, free-no, emp-reserved, heap-law, heap-end, heap-not, heaps-law}
@@ -17,7 +17,7 @@ use Rattle.problem_syntax.specs.Trees.{Named, Nil, Plain, Primed, Spatial, Heap,
 use Rattle.heap_syntax.specs.declared.version.Version.{Version}
 use Rattle.heap_syntax.specs.Versions.{version}
 use Rattle.heap_syntax.proofs.WordTexts.{version-law}
-use Rattle.problem_syntax.specs.Grammar.{goal_word, from_word, given_word, option_words, option_more, option, is_false, no_prime, forget, primes, to_named, from_named, term, terms, Atoms, to_spatial, from_spatial, behind_address, behind_name, spatial, heap, parameters, cases, to_definition, from_definition, definition, to_goal, from_goal, disjuncts, state, entailment, goal, definitions, lines, to_problem, from_problem, last_part, contents, body, problem}
+use Rattle.problem_syntax.specs.Grammar.{option_words, option_more, option, is_false, no_prime, forget, primes, to_named, from_named, term, terms, Atoms, to_spatial, from_spatial, behind_address, behind_name, spatial, heap, parameters, cases, to_definition, from_definition, definition, to_goal, from_goal, disjuncts, state, entailment, goal, definitions, lines, to_problem, from_problem, last_part, contents, body, problem}
 
 -- ---- a word or nothing
 

@@ -18,15 +18,6 @@ use Rattle.problem_syntax.specs.Trees.{Named, Nil, Plain, Primed, Spatial, Heap,
 abbrev pub problem_word : Class (Unit {0})
 problem_word = keyword (codes "problem")
 
-abbrev pub goal_word : Class (Unit {0})
-goal_word = keyword (codes "goal")
-
-abbrev pub from_word : Class (Unit {0})
-from_word = keyword (codes "from")
-
-abbrev pub given_word : Class (Unit {0})
-given_word = keyword (codes "given")
-
 -- ---- a word or nothing
 
 abbrev pub option_words : Class (Unit {0}) → Bool → List Word
