@@ -7,15 +7,17 @@ use Rattle.std.specs.Str.{bytes_eq}
 use Rattle.cyc_grammar.specs.Syntax.{Syntax, Class, one, seq, many, more_many, after, before, is_one, uncons}
 use Rattle.cyc_grammar.specs.Classes.{the_end, number, keyword, is_free_name}
 use Rattle.cyc_grammar.proofs.Laws.{Lawful, Stops, Begins, BeginsNot, ClassLaw, one-law, seq-law, shaped-law, many-law, after-law, before-law, or_empty-law, uncons-cons, Stops-never}
-use Rattle.cyc_grammar.proofs.ClassLaws.{symbol-law, keyword-law, the_end-law, number-law, numeral_of-law}
+use Rattle.cyc_grammar.proofs.ClassLaws.{symbol-law, keyword-law, the_end-law, number-law}
 use Rattle.std.proofs.lemmas.Slice.Eq.{bytes_eq-Decides}
 use Rattle.heap_syntax.specs.Grammar.{Any, cons, IsSome}
 use Rattle.heap_syntax.specs.Words.{pred_word, last_word, comma, semicolon, bar, turnstile, equal, opening, closing, opening_brace, closing_brace, goal_word}
+use Rattle.heap_syntax.proofs.WordTexts.{first_version-law}
 use Rattle.fo_term_syntax.specs.Words.{reserved, free_name}
 use Rattle.fo_term_syntax.specs.Trees.{Atom}
 use Rattle.fo_term_syntax.specs.Grammar.{atom}
 use Rattle.fo_term_syntax.proofs.TermLaws.{free_name-law, atom-law, atom-end, atom-not}
-use Rattle.fo_problem_syntax.specs.Words.{con_word, first_text, first_version}
+use Rattle.heap_syntax.specs.Versions.{first_version}
+use Rattle.fo_problem_syntax.specs.Words.{con_word}
 use Rattle.fo_problem_syntax.specs.Lists.{list_of}
 use Rattle.fo_problem_syntax.specs.Trees.{Constructor, Definition, Sequent}
 use Rattle.fo_problem_syntax.specs.Grammar.{atoms, atoms_or, left, right, to_constructor, from_constructor, con, cases, to_definition, from_definition, definition, to_sequent, from_sequent, sequent, some_constructor, constructors, definitions, to_problem, from_problem, goal, problem_body, problem}
@@ -184,9 +186,6 @@ unfolding definitions
 definitions-end d h ds = statements-end pred_word definition definition-statements d h ds
 
 -- ---- problem files
-
-pub first_version-law : ClassLaw first_version
-first_version-law = numeral_of-law first_text (tt ∷ []) tt (λ u. refl)
 
 goal-law : Lawful goal
 unfolding goal

@@ -7,7 +7,8 @@ use Rattle.heap_syntax.specs.Words.{true_word, pred_word, last_word, cyclist_wor
 use Rattle.fo_term_syntax.specs.Words.{false_word, free_name}
 use Rattle.fo_term_syntax.specs.Trees.{Atom}
 use Rattle.fo_term_syntax.specs.Grammar.{atom}
-use Rattle.fo_problem_syntax.specs.Words.{con_word, problem_word, first_version}
+use Rattle.heap_syntax.specs.Versions.{first_version}
+use Rattle.fo_problem_syntax.specs.Words.{con_word, problem_word}
 use Rattle.fo_problem_syntax.specs.Lists.{list_of}
 use Rattle.fo_problem_syntax.specs.Trees.{Constructor, Definition, Sequent, Problem}
 

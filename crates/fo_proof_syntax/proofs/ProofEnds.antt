@@ -8,16 +8,16 @@ use Rattle.cyc_grammar.specs.Classes.{number}
 use Rattle.cyc_grammar.proofs.Ends.{Inner, EndsLast, one-inner, seq-inner, after-inner, before-inner, alt-inner, many-inner, shaped-inner, headed-inner, or_empty-inner, end-once}
 use Rattle.heap_syntax.specs.Grammar.{Any, cons, IsSome}
 use Rattle.heap_syntax.specs.Words.{last_word, cyclist_word, comma, semicolon, assign, opening_brace, closing_brace, dollar, node_word, by_word, to_word, opening_bracket, closing_bracket}
-use Rattle.heap_syntax.proofs.WordTexts.{last-word, cyclist-word, syms}
+use Rattle.heap_syntax.proofs.WordTexts.{last-word, cyclist-word, first_version-word, syms}
 use Rattle.fo_term_syntax.specs.Trees.{Sign}
 use Rattle.fo_term_syntax.specs.Grammar.{term}
 use Rattle.fo_term_syntax.proofs.TermEnds.{term-inner, atom-inner}
-use Rattle.fo_problem_syntax.specs.Words.{first_version}
+use Rattle.heap_syntax.specs.Versions.{first_version}
 use Rattle.fo_problem_syntax.specs.Lists.{list_of}
 use Rattle.fo_problem_syntax.specs.Trees.{Constructor, Definition, Sequent}
 use Rattle.fo_problem_syntax.specs.Grammar.{sequent, constructors, definitions}
 use Rattle.fo_problem_syntax.proofs.ListLaws.{list-inner}
-use Rattle.fo_problem_syntax.proofs.TheoryEnds.{number-inner, version-word, sequent-inner, constructors-inner, definitions-inner}
+use Rattle.fo_problem_syntax.proofs.TheoryEnds.{number-inner, sequent-inner, constructors-inner, definitions-inner}
 use Rattle.fo_proof_syntax.specs.declared.tree.SideTree.{SideTree}
 use Rattle.fo_proof_syntax.specs.declared.tree.SideTree.TheVariants as sided
 use Rattle.fo_proof_syntax.specs.declared.reason_word.ReasonWord.{ReasonWord}
@@ -120,7 +120,7 @@ nodes-inner = shaped-inner {A = Node × List Node} cons (uncons some_node) IsSom
 
 pub body-inner : Inner body
 unfolding body
-body-inner = shaped-inner {A = List Constructor × (List Definition × List Node)} to_file from_file Any _ (after-inner cyclist_word _ cyclist-word (after-inner fo_word _ fo-word (after-inner first_version _ version-word (after-inner semicolon _ syms.semicolon_word
+body-inner = shaped-inner {A = List Constructor × (List Definition × List Node)} to_file from_file Any _ (after-inner cyclist_word _ cyclist-word (after-inner fo_word _ fo-word (after-inner first_version _ first_version-word (after-inner semicolon _ syms.semicolon_word
     (seq-inner constructors _ constructors-inner (seq-inner definitions _ definitions-inner (before-inner nodes semicolon syms.semicolon_word nodes-inner)))))))
 
 pub file-last : EndsLast file

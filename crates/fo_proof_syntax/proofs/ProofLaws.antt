@@ -7,6 +7,7 @@ use Rattle.cyc_grammar.proofs.Laws.{Lawful, Stops, Begins, BeginsNot, BeginsNot-
 use Rattle.cyc_grammar.proofs.ClassLaws.{symbol-law, keyword-law, the_end-law, number-law, keyword_of-law}
 use Rattle.heap_syntax.specs.Grammar.{Any, cons, IsSome}
 use Rattle.heap_syntax.specs.Words.{pred_word, last_word, comma, semicolon, assign, equal, opening_brace, closing_brace, dollar, node_word, by_word, to_word, opening_bracket, closing_bracket}
+use Rattle.heap_syntax.proofs.WordTexts.{first_version-law}
 use Rattle.fo_term_syntax.specs.Trees.{Sign}
 use Rattle.fo_term_syntax.specs.Grammar.{term}
 use Rattle.fo_term_syntax.proofs.TermLaws.{term-law, term-closed, term-not, atom-law, atom-end}
@@ -14,7 +15,7 @@ use Rattle.fo_proof_syntax.specs.declared.tree.SideTree.{SideTree}
 use Rattle.fo_proof_syntax.specs.declared.tree.SideTree.TheVariants as sided
 use Rattle.fo_proof_syntax.specs.declared.reason_word.ReasonWord.{ReasonWord}
 use Rattle.fo_proof_syntax.specs.declared.reason_word.ReasonWord.TheVariants as words
-use Rattle.fo_problem_syntax.specs.Words.{first_version}
+use Rattle.heap_syntax.specs.Versions.{first_version}
 use Rattle.fo_proof_syntax.specs.Words.{side_text, sides, side_word, reason_text, reason_words, reason_word}
 use Rattle.fo_problem_syntax.specs.Lists.{list_of}
 use Rattle.fo_problem_syntax.specs.Trees.{Constructor, Definition, Sequent}
@@ -22,7 +23,7 @@ use Rattle.fo_proof_syntax.specs.Trees.{Entry, Reason, Axiom, Refl, Clash, Decom
 use Rattle.fo_problem_syntax.specs.Grammar.{sequent, definition, constructors, definitions}
 use Rattle.fo_proof_syntax.specs.Grammar.{numbers, bracketed, two_numbers, replace, terms, right_rule, to_entry, from_entry, entry, entries, to_link, from_link, link, Parts, parts, made_of, to_reason, from_reason, reason, to_premises, from_premises, premises, to_node, from_node, node, some_node, nodes, to_file, from_file, body, file}
 use Rattle.fo_problem_syntax.proofs.ListLaws.{Parted, list-law, list-end, list-not}
-use Rattle.fo_problem_syntax.proofs.TheoryLaws.{closed-stops, sequent-law, sequent-end, constructors-law, constructors-end, definitions-law, definitions-end, first_version-law, Statements, statements-law, statements-end}
+use Rattle.fo_problem_syntax.proofs.TheoryLaws.{closed-stops, sequent-law, sequent-end, constructors-law, constructors-end, definitions-law, definitions-end, Statements, statements-law, statements-end}
 
 term-close : (b : Bool) (t : List Sign) (d : Word) → (term b).more t d ≡ false
 term-close b t d = term-closed b t (d ∷ [])

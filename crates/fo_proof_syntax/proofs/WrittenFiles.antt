@@ -5,7 +5,7 @@ use Rattle.cyc_lex.specs.Writing.{Written, write, write_all}
 use Rattle.cyc_grammar.specs.Classes.{number}
 use Rattle.cyc_grammar.proofs.WrittenTexts.{wrote-behind, wrote-both, wrote-ended}
 use Rattle.heap_syntax.specs.Words.{cyclist_word, semicolon, to_word}
-use Rattle.fo_problem_syntax.specs.Words.{first_version}
+use Rattle.heap_syntax.specs.Versions.{first_version}
 use Rattle.fo_problem_syntax.specs.Trees.{Constructor, Definition}
 use Rattle.fo_problem_syntax.specs.Grammar.{constructors, definitions}
 use Rattle.fo_proof_syntax.specs.Words.{fo_word}

@@ -9,7 +9,7 @@ use Rattle.heap_syntax.specs.Grammar.{Any, cons, IsSome}
 use Rattle.heap_syntax.specs.Words.{last_word, cyclist_word, comma, semicolon, assign, opening_brace, closing_brace, dollar, node_word, by_word, to_word, opening_bracket, closing_bracket}
 use Rattle.fo_term_syntax.specs.Trees.{Sign, Atom}
 use Rattle.fo_term_syntax.specs.Grammar.{term, atom}
-use Rattle.fo_problem_syntax.specs.Words.{first_version}
+use Rattle.heap_syntax.specs.Versions.{first_version}
 use Rattle.fo_problem_syntax.specs.Lists.{list_of}
 use Rattle.fo_problem_syntax.specs.Trees.{Constructor, Definition, Sequent}
 use Rattle.fo_problem_syntax.specs.Grammar.{sequent, constructors, definitions}

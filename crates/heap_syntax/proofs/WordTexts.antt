@@ -1,5 +1,5 @@
 -- The shared words are words that the lexer gives.
-use Rattle.std.proofs.Common.{◌≡◌, true, Some, refl}
+use Rattle.std.proofs.Common.{◌≡◌, true, [], ◌∷◌, Some, refl}
 use Rattle.std.specs.Prelude.{codes}
 use Rattle.cyc_lex.specs.Word.{is_number_text, is_symbol_text, is_lexeme}
 use Rattle.cyc_lex.proofs.Letters.{letters-name}
@@ -9,7 +9,7 @@ use Rattle.cyc_grammar.proofs.ClassLaws.{numeral_of-law}
 use Rattle.heap_syntax.specs.Words.{nil, true_word, emp, pred_word, or_word, last_word, cyclist_word}
 use Rattle.heap_syntax.specs.declared.version.Version.{Version}
 use Rattle.heap_syntax.specs.declared.version.Version.TheVariants.{One, Two}
-use Rattle.heap_syntax.specs.Versions.{version_text, versions, version}
+use Rattle.heap_syntax.specs.Versions.{version_text, versions, version, first_text, first_version}
 
 pub nil-word : is_lexeme (nil.word tt) ≡ true
 nil-word = letters-name (codes "nil") refl
@@ -44,6 +44,13 @@ version-law = numeral_of-law version_text versions One found
     found : (v : Version) → find_text version_text versions (version_text v) ≡ Some v
     found One = refl
     found Two = refl
+
+pub first_version-word : is_lexeme (first_version.word tt) ≡ true
+unfolding is_number_text
+first_version-word = refl
+
+pub first_version-law : ClassLaw first_version
+first_version-law = numeral_of-law first_text (tt ∷ []) tt (λ u. refl)
 
 -- symbols are told from the list of all of them
 pub record AllSymbols : Type 0 where

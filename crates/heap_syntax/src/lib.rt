@@ -21,5 +21,5 @@ pub use number_list::{more_numbers, write_numbers};
 pub use read_atoms::{arguments, fields, sign, spatial};
 pub use read_heaps::{heap, heaps, kept_heap, kept_heaps};
 pub use tree::{HeapTree, PureTree, SpatialTree};
-pub use version::{Version, read_version, write_version};
+pub use version::{Version, first_version, read_version, write_first_version, write_version};
 pub use word::{free_name, reserved_words};
