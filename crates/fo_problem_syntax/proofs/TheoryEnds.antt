@@ -5,11 +5,10 @@ use Rattle.cyc_lex.specs.Word.{is_lexeme}
 use Rattle.cyc_lex.proofs.Letters.{letters-name}
 use Rattle.cyc_grammar.specs.Syntax.{one, is_one, uncons}
 use Rattle.cyc_grammar.specs.Classes.{number, keyword}
-use Rattle.cyc_grammar.proofs.ClassLaws.{number-lexeme}
-use Rattle.cyc_grammar.proofs.Ends.{Inner, EndsLast, one-inner, seq-inner, after-inner, before-inner, many-inner, shaped-inner, or_empty-inner, end-once}
+use Rattle.cyc_grammar.proofs.Ends.{Inner, EndsLast, one-inner, seq-inner, after-inner, before-inner, many-inner, shaped-inner, or_empty-inner, end-once, number-inner}
 use Rattle.heap_syntax.specs.Grammar.{Any, cons, IsSome}
 use Rattle.heap_syntax.specs.Words.{cyclist_word, pred_word, last_word, comma, semicolon, bar, turnstile, opening, closing, opening_brace, closing_brace, goal_word}
-use Rattle.heap_syntax.proofs.WordTexts.{true-word, pred-word, last-word, cyclist-word, first_version-word, syms}
+use Rattle.heap_syntax.proofs.WordTexts.{true-word, pred-word, last-word, cyclist-word, first_version-word, syms, goal-word}
 use Rattle.fo_term_syntax.specs.Words.{free_name}
 use Rattle.fo_term_syntax.specs.Trees.{Atom}
 use Rattle.fo_term_syntax.specs.Grammar.{atom}
@@ -24,14 +23,8 @@ use Rattle.fo_problem_syntax.proofs.ListLaws.{list-inner}
 con-word : is_lexeme (con_word.word tt) ≡ true
 con-word = letters-name (codes "con") refl
 
-goal-word : is_lexeme (goal_word.word tt) ≡ true
-goal-word = letters-name (codes "goal") refl
-
 problem-word : is_lexeme (problem_word.word tt) ≡ true
 problem-word = letters-name (codes "foproblem") refl
-
-pub number-inner : Inner (one number)
-number-inner = one-inner number number-lexeme
 
 atoms_or-inner : (w : List ℕ) → is_lexeme ((keyword w).word tt) ≡ true → (b : Bool) → Inner (atoms_or (keyword w) b)
 unfolding atoms_or atoms

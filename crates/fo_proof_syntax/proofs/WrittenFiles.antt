@@ -1,4 +1,4 @@
--- What is written for premises and for a whole file.
+-- What is written for a whole file.
 use Rattle.std.proofs.Common.{◌≡◌, ℕ, List, [], ◌∷◌, ◌++◌}
 use Rattle.cyc_lex.specs.Word.{Word}
 use Rattle.cyc_lex.specs.Writing.{Written, write, write_all}
@@ -11,12 +11,6 @@ use Rattle.fo_problem_syntax.specs.Grammar.{constructors, definitions}
 use Rattle.fo_proof_syntax.specs.Words.{fo_word}
 use Rattle.fo_proof_syntax.specs.Trees.{Node}
 use Rattle.fo_proof_syntax.specs.Grammar.{numbers, premises, nodes, body}
-
-pub premises-wrote : (old a b c d : Written) (n : ℕ) (ns : List ℕ) → a ≡ write old (to_word.word tt) → b ≡ write a (number.word n) → c ≡ write_all b (numbers.words ns) → d ≡ write c (semicolon.word tt) → d ≡ write_all old (premises.words (n ∷ ns))
-unfolding premises write_all
-premises-wrote old a b c d n ns ha hb hc hd =
-    let rest : List Word = numbers.words ns ++ semicolon.word tt ∷ [] in
-    wrote-behind old a d (to_word.word tt) (number.word n ∷ rest) ha (wrote-behind a b d (number.word n) rest hb (wrote-both b c d (numbers.words ns) (semicolon.word tt ∷ []) hc hd))
 
 pub body-wrote : (old a b c d e f g h : Written) (cs : List Constructor) (ds : List Definition) (ns : List Node) → a ≡ write old (cyclist_word.word tt) → b ≡ write a (fo_word.word tt) → c ≡ write b (first_version.word tt) → d ≡ write c (semicolon.word tt)
     → e ≡ write_all d (constructors.words cs) → f ≡ write_all e (definitions.words ds) → g ≡ write_all f (nodes.words ns) → h ≡ write g (semicolon.word tt) → h ≡ write_all old (body.words (record { constructors = cs; definitions = ds; nodes = ns }))

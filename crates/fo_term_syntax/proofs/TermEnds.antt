@@ -3,8 +3,8 @@ use Rattle.std.proofs.Common.{◌≡◌, ℕ, Bool, true, false, List, [], ◌�
 use Rattle.cyc_lex.specs.Word.{is_lexeme, are_lexemes}
 use Rattle.cyc_grammar.specs.Syntax.{Syntax, Class, one, after, is_one}
 use Rattle.cyc_grammar.specs.Classes.{number}
-use Rattle.cyc_grammar.proofs.ClassLaws.{name-lexeme, number-lexeme}
-use Rattle.cyc_grammar.proofs.Ends.{Inner, one-inner, seq-inner, after-inner, before-inner, alt-inner, shaped-inner, lexemes-append}
+use Rattle.cyc_grammar.proofs.ClassLaws.{name-lexeme}
+use Rattle.cyc_grammar.proofs.Ends.{Inner, one-inner, seq-inner, after-inner, before-inner, alt-inner, shaped-inner, lexemes-append, number-inner}
 use Rattle.heap_syntax.specs.Grammar.{Any}
 use Rattle.heap_syntax.specs.Words.{equal, comma, opening, closing, dollar, query}
 use Rattle.heap_syntax.proofs.WordTexts.{syms}
@@ -32,9 +32,6 @@ option-inner {A = A} c a h ia = record { inner = both }
 
 pub free_name-inner : Inner (one free_name)
 free_name-inner = one-inner free_name (name-lexeme reserved)
-
-number-inner : Inner (one number)
-number-inner = one-inner number number-lexeme
 
 leaf-inner : (b : Bool) → Inner (leaf b)
 unfolding leaf

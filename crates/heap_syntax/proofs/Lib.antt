@@ -4,3 +4,4 @@ pub mod Fronts
 pub mod HeapLaws
 pub mod WordTexts
 pub mod HeapEnds
+pub mod NumberLaws

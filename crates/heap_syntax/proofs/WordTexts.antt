@@ -6,7 +6,7 @@ use Rattle.cyc_lex.proofs.Letters.{letters-name}
 use Rattle.cyc_grammar.specs.Classes.{find_text}
 use Rattle.cyc_grammar.proofs.Laws.{ClassLaw}
 use Rattle.cyc_grammar.proofs.ClassLaws.{numeral_of-law}
-use Rattle.heap_syntax.specs.Words.{nil, true_word, emp, pred_word, or_word, last_word, cyclist_word}
+use Rattle.heap_syntax.specs.Words.{nil, true_word, emp, pred_word, or_word, last_word, cyclist_word, node_word, from_word, given_word, by_word, to_word, goal_word}
 use Rattle.heap_syntax.specs.declared.version.Version.{Version}
 use Rattle.heap_syntax.specs.declared.version.Version.TheVariants.{One, Two}
 use Rattle.heap_syntax.specs.Versions.{version_text, versions, version, first_text, first_version}
@@ -31,6 +31,24 @@ last-word = letters-name (codes "end") refl
 
 pub cyclist-word : is_lexeme (cyclist_word.word tt) ≡ true
 cyclist-word = letters-name (codes "cyclist") refl
+
+pub node-word : is_lexeme (node_word.word tt) ≡ true
+node-word = letters-name (codes "node") refl
+
+pub from-word : is_lexeme (from_word.word tt) ≡ true
+from-word = letters-name (codes "from") refl
+
+pub given-word : is_lexeme (given_word.word tt) ≡ true
+given-word = letters-name (codes "given") refl
+
+pub by-word : is_lexeme (by_word.word tt) ≡ true
+by-word = letters-name (codes "by") refl
+
+pub to-word : is_lexeme (to_word.word tt) ≡ true
+to-word = letters-name (codes "to") refl
+
+pub goal-word : is_lexeme (goal_word.word tt) ≡ true
+goal-word = letters-name (codes "goal") refl
 
 -- the number of each version is a number that the lexer gives, and is read as that version
 pub version-word : (v : Version) → version.fits v → is_lexeme (version.word v) ≡ true

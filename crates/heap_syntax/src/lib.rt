@@ -17,7 +17,7 @@ pub use form::{AtomForm, TermForm, WrittenForm};
 pub use heap_writing::{write_heap, write_heaps};
 pub use keep::Keep;
 pub use mark::Mark;
-pub use number_list::{more_numbers, write_numbers};
+pub use number_list::{bracketed, premises, two_numbers, write_bracketed, write_premises};
 pub use read_atoms::{arguments, fields, sign, spatial};
 pub use read_heaps::{heap, heaps, kept_heap, kept_heaps};
 pub use tree::{HeapTree, PureTree, SpatialTree};

@@ -5,14 +5,14 @@ use Rattle.cyc_lex.specs.Word.{is_lexeme}
 use Rattle.cyc_lex.proofs.Letters.{letters-name}
 use Rattle.cyc_grammar.specs.Syntax.{Class, one}
 use Rattle.cyc_grammar.specs.Classes.{number}
-use Rattle.cyc_grammar.proofs.Ends.{Inner, EndsLast, seq-inner, after-inner, before-inner, shaped-inner, or_empty-inner, end-once}
+use Rattle.cyc_grammar.proofs.Ends.{Inner, EndsLast, seq-inner, after-inner, before-inner, shaped-inner, or_empty-inner, end-once, number-inner}
 use Rattle.heap_syntax.specs.Words.{comma, semicolon, arrow, opening, closing, last_word, cyclist_word}
 use Rattle.heap_syntax.specs.Grammar.{Any}
 use Rattle.heap_syntax.proofs.WordTexts.{last-word, cyclist-word, first_version-word, syms}
 use Rattle.heap_syntax.proofs.HeapEnds.{listed-inner}
 use Rattle.pred_syntax.specs.Trees.{Heap, Definition}
 use Rattle.pred_syntax.specs.Grammar.{terms, heap, definitions}
-use Rattle.pred_syntax.proofs.DefinitionEnds.{number-inner, heap-of, definitions-inner}
+use Rattle.pred_syntax.proofs.DefinitionEnds.{heap-of, definitions-inner}
 use Rattle.model_syntax.specs.Trees.{Cell}
 use Rattle.heap_syntax.specs.Versions.{first_version}
 use Rattle.model_syntax.specs.Grammar.{model_word, stack_word, heap_word, ask_word, numbers, values, to_cell, from_cell, cell, some_cell, cells1, cells, question, state, to_model, from_model, body, model}

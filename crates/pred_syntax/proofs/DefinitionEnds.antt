@@ -3,17 +3,13 @@ use Rattle.std.proofs.Common.{◌≡◌, ℕ, Bool, true, false, List, ◌⊎◌
 use Rattle.cyc_lex.specs.Word.{is_lexeme}
 use Rattle.cyc_grammar.specs.Syntax.{Class, one, is_one}
 use Rattle.cyc_grammar.specs.Classes.{number}
-use Rattle.cyc_grammar.proofs.ClassLaws.{number-lexeme}
-use Rattle.cyc_grammar.proofs.Ends.{Inner, one-inner, seq-inner, after-inner, before-inner, alt-inner, many-inner, shaped-inner}
+use Rattle.cyc_grammar.proofs.Ends.{Inner, one-inner, seq-inner, after-inner, before-inner, alt-inner, many-inner, shaped-inner, number-inner}
 use Rattle.heap_syntax.specs.Words.{nil, pred_word, semicolon, bar, opening, closing, opening_brace, closing_brace, free_name, dollar, query}
 use Rattle.heap_syntax.specs.Grammar.{Any}
 use Rattle.heap_syntax.proofs.WordTexts.{nil-word, pred-word, syms}
 use Rattle.heap_syntax.proofs.HeapEnds.{free_name-inner, spatial-inner, heap-inner, heaps-inner}
 use Rattle.pred_syntax.specs.Trees.{Heap}
 use Rattle.pred_syntax.specs.Grammar.{to_term, from_term, term, to_uterm, from_uterm, IsUniversal, uterm, terms, terms_of, spatial, heap, heaps, to_definition, from_definition, cases, definition, definitions}
-
-pub number-inner : Inner (one number)
-number-inner = one-inner number number-lexeme
 
 term-inner : Inner term
 unfolding term

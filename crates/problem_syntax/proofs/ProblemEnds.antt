@@ -5,13 +5,12 @@ use Rattle.cyc_lex.specs.Word.{are_lexemes}
 use Rattle.cyc_lex.proofs.Letters.{letters-name}
 use Rattle.cyc_grammar.specs.Syntax.{one, is_one}
 use Rattle.cyc_grammar.specs.Classes.{number}
-use Rattle.cyc_grammar.proofs.ClassLaws.{number-lexeme}
-use Rattle.cyc_grammar.proofs.Ends.{Inner, EndsLast, one-inner, seq-inner, after-inner, before-inner, alt-inner, many-inner, shaped-inner, nothing-inner, headed-inner, or_empty-inner, end-once}
+use Rattle.cyc_grammar.proofs.Ends.{Inner, EndsLast, one-inner, seq-inner, after-inner, before-inner, alt-inner, many-inner, shaped-inner, nothing-inner, headed-inner, or_empty-inner, end-once, number-inner}
 use Rattle.heap_syntax.specs.Words.{nil, pred_word, or_word, last_word, cyclist_word, comma, semicolon, bar, arrow, turnstile, opening, closing, opening_brace, closing_brace, prime, free_name, goal_word, from_word, given_word}
 use Rattle.heap_syntax.specs.declared.version.Version.{Version}
 use Rattle.heap_syntax.specs.Versions.{version}
 use Rattle.heap_syntax.specs.Grammar.{Any}
-use Rattle.heap_syntax.proofs.WordTexts.{nil-word, pred-word, or-word, last-word, cyclist-word, version-word, syms}
+use Rattle.heap_syntax.proofs.WordTexts.{nil-word, pred-word, or-word, last-word, cyclist-word, version-word, syms, from-word, given-word, goal-word}
 use Rattle.heap_syntax.proofs.HeapEnds.{listed-inner, fields-inner, arguments-inner, free_name-inner, heap-inner, heaps-inner}
 use Rattle.command_syntax.proofs.CommandLaws.{lines-inner}
 use Rattle.problem_syntax.specs.Trees.{Heap, Line, Definition, Goal}
@@ -58,14 +57,14 @@ definition-inner = shaped-inner {A = List ℕ × (List (List ℕ) × List Heap)}
 goal-inner : Inner goal
 unfolding goal state entailment disjuncts
 goal-inner = shaped-inner {A = (ℕ × Heap) ⊎ (Heap × List Heap)} to_goal from_goal Any _ (alt-inner (is_one from_word) _ _
-    (after-inner from_word _ (letters-name (codes "from") refl) (seq-inner (one number) _ (one-inner number number-lexeme) (after-inner given_word _ (letters-name (codes "given") refl) (before-inner (heap true) semicolon syms.semicolon_word (heap-of true)))))
+    (after-inner from_word _ from-word (seq-inner (one number) _ number-inner (after-inner given_word _ given-word (before-inner (heap true) semicolon syms.semicolon_word (heap-of true)))))
     (seq-inner (heap true) _ (heap-of true) (after-inner turnstile _ syms.turnstile_word (heaps-inner or_word semicolon (terms true) (spatial true) or-word syms.semicolon_word (term-inner true) (spatial-inner true)))))
 
 -- ---- problems
 
 last_part-inner : Inner last_part
 unfolding last_part
-last_part-inner = after-inner goal_word _ (letters-name (codes "goal") refl) (before-inner _ semicolon syms.semicolon_word (before-inner goal last_word last-word goal-inner))
+last_part-inner = after-inner goal_word _ goal-word (before-inner _ semicolon syms.semicolon_word (before-inner goal last_word last-word goal-inner))
 
 contents-inner : (v : Version) → Inner (contents v)
 unfolding definitions

@@ -4,7 +4,7 @@ use Rattle.std.proofs.Common.{inl, inr}
 use Rattle.cyc_lex.specs.Word.{Word}
 use Rattle.cyc_grammar.specs.Syntax.{Reading, ◌>>=◌, Syntax, Class, one, seq, alt, many, shaped, after, before, headed, nothing, is_one, uncons, list1, or_empty}
 use Rattle.cyc_grammar.specs.Classes.{symbol, keyword, the_end, number, keyword_of}
-unfoldable pub use Rattle.heap_syntax.specs.Numbers.{numbers}
+unfoldable pub use Rattle.heap_syntax.specs.Numbers.{numbers, bracketed, two_numbers, premises}
 pub use Rattle.heap_syntax.specs.Words.{nil, true_word, emp, pred_word, or_word, last_word, cyclist_word, node_word, from_word, given_word, by_word, to_word, equal, unequal, comma, colon, semicolon, star, bar, arrow, assign, turnstile, opening, closing, opening_brace, closing_brace, opening_bracket, closing_bracket, dollar, query, reserved, free_name}
 pub use Rattle.heap_syntax.specs.Versions.{version}
 pub use Rattle.heap_syntax.specs.Grammar.{Any, cons, IsSome, some_heap}
@@ -87,13 +87,6 @@ unfoldable pub kept_judgement : Keep → Syntax Judgement
 kept_judgement k = judgement_over (kept_state k) (kept_entailment k)
 
 -- ---- the parts of a reason
-
--- "[" { number } "]"
-unfoldable pub bracketed : Syntax (List ℕ)
-bracketed = after opening_bracket (before numbers closing_bracket)
-
-unfoldable pub two_numbers : Syntax (ℕ × ℕ)
-two_numbers = seq (one number) (one number)
 
 unfoldable pub side : Syntax SideTree
 side = one (keyword_of side_text sides)
@@ -286,19 +279,6 @@ FitsBehind (UnfoldRight j c) = two_numbers.fits (j, c)
 FitsBehind Exec = Unit {0}
 FitsBehind (Drop k) = (one number).fits k
 FitsBehind (Link l) = link.fits l
-
--- ---- [ "to" number { number } ] ";"
-
-abbrev pub to_premises : (ℕ × List ℕ) ⊎ Unit {0} → List ℕ
-to_premises (inl p) = p.0 ∷ p.1
-to_premises (inr u) = []
-
-abbrev pub from_premises : List ℕ → (ℕ × List ℕ) ⊎ Unit {0}
-from_premises [] = inr tt
-from_premises (n ∷ ns) = inl (n, ns)
-
-unfoldable pub premises : Syntax (List ℕ)
-premises = shaped {A = (ℕ × List ℕ) ⊎ Unit {0}} to_premises from_premises Any (alt (is_one to_word) (after to_word (seq (one number) (before numbers semicolon))) (one semicolon))
 
 -- ---- node = "node" judgement "by" reason premises
 
