@@ -5,7 +5,7 @@ use Rattle.cyc_lex.specs.Word.{is_lexeme}
 use Rattle.cyc_lex.proofs.Letters.{letters-name}
 use Rattle.cyc_grammar.specs.Syntax.{one, is_one, uncons}
 use Rattle.cyc_grammar.specs.Classes.{number, keyword}
-use Rattle.cyc_grammar.proofs.Ends.{Inner, EndsLast, one-inner, seq-inner, after-inner, before-inner, many-inner, shaped-inner, or_empty-inner, end-once, number-inner}
+use Rattle.cyc_grammar.proofs.Ends.{Inner, EndsLast, seq-inner, after-inner, before-inner, many-inner, shaped-inner, or_empty-inner, end-once, number-inner}
 use Rattle.heap_syntax.specs.Grammar.{Any, cons, IsSome}
 use Rattle.heap_syntax.specs.Words.{cyclist_word, pred_word, last_word, comma, semicolon, bar, turnstile, opening, closing, opening_brace, closing_brace, goal_word}
 use Rattle.heap_syntax.proofs.WordTexts.{true-word, pred-word, last-word, cyclist-word, first_version-word, syms, goal-word}

@@ -6,7 +6,7 @@ use Rattle.cyc_lex.proofs.Letters.{letters-name}
 use Rattle.std.specs.Str.{bytes_eq}
 use Rattle.cyc_grammar.specs.Syntax.{Syntax, Class, one, seq, many, more_many, after, before, is_one, uncons}
 use Rattle.cyc_grammar.specs.Classes.{the_end, number, keyword, is_free_name}
-use Rattle.cyc_grammar.proofs.Laws.{Lawful, Stops, Begins, BeginsNot, ClassLaw, one-law, seq-law, shaped-law, many-law, after-law, before-law, or_empty-law, uncons-cons, Stops-never}
+use Rattle.cyc_grammar.proofs.Laws.{Lawful, Stops, Begins, BeginsNot, one-law, seq-law, shaped-law, many-law, after-law, before-law, or_empty-law, uncons-cons, Stops-never}
 use Rattle.cyc_grammar.proofs.ClassLaws.{symbol-law, keyword-law, the_end-law, number-law}
 use Rattle.std.proofs.lemmas.Slice.Eq.{bytes_eq-Decides}
 use Rattle.heap_syntax.specs.Grammar.{Any, cons, IsSome}

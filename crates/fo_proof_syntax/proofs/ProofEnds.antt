@@ -1,13 +1,13 @@
 -- The texts of proof files are of lexemes, and the end word stands last.
-use Rattle.std.proofs.Common.{◌≡◌, ℕ, true, false, List, refl, ◌⊎◌}
+use Rattle.std.proofs.Common.{◌≡◌, ℕ, true, false, List, refl}
 use Rattle.std.specs.Prelude.{codes}
 use Rattle.cyc_lex.specs.Word.{is_lexeme}
 use Rattle.cyc_lex.proofs.Letters.{letters-name}
 use Rattle.cyc_grammar.specs.Syntax.{one, is_one, uncons}
 use Rattle.cyc_grammar.specs.Classes.{number}
-use Rattle.cyc_grammar.proofs.Ends.{Inner, EndsLast, one-inner, seq-inner, after-inner, before-inner, alt-inner, many-inner, shaped-inner, headed-inner, or_empty-inner, end-once, number-inner}
+use Rattle.cyc_grammar.proofs.Ends.{Inner, EndsLast, one-inner, seq-inner, after-inner, before-inner, many-inner, shaped-inner, headed-inner, or_empty-inner, end-once, number-inner}
 use Rattle.heap_syntax.specs.Grammar.{Any, cons, IsSome}
-use Rattle.heap_syntax.specs.Words.{last_word, cyclist_word, comma, semicolon, assign, opening_brace, closing_brace, dollar, node_word, by_word, to_word, opening_bracket, closing_bracket}
+use Rattle.heap_syntax.specs.Words.{last_word, cyclist_word, comma, semicolon, assign, opening_brace, closing_brace, dollar, node_word, by_word, opening_bracket, closing_bracket}
 use Rattle.heap_syntax.proofs.WordTexts.{last-word, cyclist-word, first_version-word, syms, node-word, by-word}
 use Rattle.fo_term_syntax.specs.Trees.{Sign}
 use Rattle.fo_term_syntax.specs.Grammar.{term}
@@ -25,7 +25,7 @@ use Rattle.fo_proof_syntax.specs.declared.reason_word.ReasonWord.{ReasonWord}
 use Rattle.fo_proof_syntax.specs.declared.reason_word.ReasonWord.TheVariants as words
 use Rattle.fo_proof_syntax.specs.Words.{fo_word, side_word, reason_word}
 use Rattle.fo_proof_syntax.specs.Trees.{Entry, Reason, Node}
-use Rattle.fo_proof_syntax.specs.Grammar.{numbers, bracketed, two_numbers, replace, terms, right_rule, to_entry, from_entry, entry, entries, to_link, from_link, link, Parts, parts, to_reason, from_reason, reason, premises, to_node, from_node, node, some_node, nodes, to_file, from_file, body, file}
+use Rattle.fo_proof_syntax.specs.Grammar.{bracketed, replace, terms, right_rule, to_entry, from_entry, entry, entries, to_link, from_link, link, Parts, parts, to_reason, from_reason, reason, premises, to_node, from_node, node, some_node, nodes, to_file, from_file, body, file}
 
 fo-word : is_lexeme (fo_word.word tt) ≡ true
 fo-word = letters-name (codes "fo") refl

@@ -1,9 +1,9 @@
 -- The grammar is lawful: what is read is spelled so, what is spelled is read, and a fault is exact.
-use Rattle.std.proofs.Common.{◌≡◌, ℕ, Bool, false, List, [], ◌∷◌, ◌++◌, Some, refl, arith, inl, inr, ◌⊎◌}
+use Rattle.std.proofs.Common.{◌≡◌, ℕ, Bool, false, List, [], ◌∷◌, ◌++◌, Some, refl, arith}
 use Rattle.cyc_lex.specs.Word.{Word}
 use Rattle.cyc_grammar.specs.Syntax.{one, seq, many, after, before, headed, is_one, uncons}
 use Rattle.cyc_grammar.specs.Classes.{the_end, number, find_text}
-use Rattle.cyc_grammar.proofs.Laws.{Lawful, Stops, Begins, BeginsNot, BeginsNot-append, ClassLaw, one-law, seq-law, shaped-law, alt-law, many-law, after-law, before-law, headed-law, or_empty-law, uncons-cons, Stops-never}
+use Rattle.cyc_grammar.proofs.Laws.{Lawful, Stops, Begins, BeginsNot, BeginsNot-append, ClassLaw, one-law, seq-law, shaped-law, after-law, before-law, headed-law, or_empty-law, uncons-cons, Stops-never}
 use Rattle.cyc_grammar.proofs.ClassLaws.{symbol-law, keyword-law, the_end-law, number-law, keyword_of-law}
 use Rattle.heap_syntax.specs.Grammar.{Any, cons, IsSome}
 use Rattle.heap_syntax.specs.Words.{pred_word, last_word, comma, semicolon, assign, equal, opening_brace, closing_brace, dollar, node_word, by_word, to_word, opening_bracket, closing_bracket}
@@ -22,7 +22,7 @@ use Rattle.fo_problem_syntax.specs.Lists.{list_of}
 use Rattle.fo_problem_syntax.specs.Trees.{Constructor, Definition, Sequent}
 use Rattle.fo_proof_syntax.specs.Trees.{Entry, Reason, Axiom, Refl, Clash, Decompose, Replace, WeakenLeft, WeakenRight, Contract, Unfold, Cut, Right, Link, Node}
 use Rattle.fo_problem_syntax.specs.Grammar.{sequent, definition, constructors, definitions}
-use Rattle.fo_proof_syntax.specs.Grammar.{numbers, bracketed, two_numbers, replace, terms, right_rule, to_entry, from_entry, entry, entries, to_link, from_link, link, Parts, parts, made_of, to_reason, from_reason, reason, premises, to_node, from_node, node, some_node, nodes, to_file, from_file, body, file}
+use Rattle.fo_proof_syntax.specs.Grammar.{bracketed, two_numbers, replace, terms, right_rule, to_entry, from_entry, entry, entries, to_link, from_link, link, Parts, parts, made_of, to_reason, from_reason, reason, premises, to_node, from_node, node, some_node, nodes, to_file, from_file, body, file}
 use Rattle.fo_problem_syntax.proofs.ListLaws.{Parted, list-law, list-end, list-not}
 use Rattle.fo_problem_syntax.proofs.TheoryLaws.{closed-stops, sequent-law, sequent-end, constructors-law, constructors-end, definitions-law, definitions-end, Statements, statements-law, statements-end}
 

@@ -1,16 +1,15 @@
 -- What is written for a whole file.
-use Rattle.std.proofs.Common.{◌≡◌, ℕ, List, [], ◌∷◌, ◌++◌}
+use Rattle.std.proofs.Common.{◌≡◌, List, [], ◌∷◌, ◌++◌}
 use Rattle.cyc_lex.specs.Word.{Word}
 use Rattle.cyc_lex.specs.Writing.{Written, write, write_all}
-use Rattle.cyc_grammar.specs.Classes.{number}
 use Rattle.cyc_grammar.proofs.WrittenTexts.{wrote-behind, wrote-both, wrote-ended}
-use Rattle.heap_syntax.specs.Words.{cyclist_word, semicolon, to_word}
+use Rattle.heap_syntax.specs.Words.{cyclist_word, semicolon}
 use Rattle.heap_syntax.specs.Versions.{first_version}
 use Rattle.fo_problem_syntax.specs.Trees.{Constructor, Definition}
 use Rattle.fo_problem_syntax.specs.Grammar.{constructors, definitions}
 use Rattle.fo_proof_syntax.specs.Words.{fo_word}
 use Rattle.fo_proof_syntax.specs.Trees.{Node}
-use Rattle.fo_proof_syntax.specs.Grammar.{numbers, premises, nodes, body}
+use Rattle.fo_proof_syntax.specs.Grammar.{nodes, body}
 
 pub body-wrote : (old a b c d e f g h : Written) (cs : List Constructor) (ds : List Definition) (ns : List Node) → a ≡ write old (cyclist_word.word tt) → b ≡ write a (fo_word.word tt) → c ≡ write b (first_version.word tt) → d ≡ write c (semicolon.word tt)
     → e ≡ write_all d (constructors.words cs) → f ≡ write_all e (definitions.words ds) → g ≡ write_all f (nodes.words ns) → h ≡ write g (semicolon.word tt) → h ≡ write_all old (body.words (record { constructors = cs; definitions = ds; nodes = ns }))

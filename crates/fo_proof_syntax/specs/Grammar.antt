@@ -1,12 +1,11 @@
 -- The grammar of proof files of first-order logic.
-use Rattle.std.specs.Prelude.{ℕ, false, List, [], ◌∷◌, ◌⊎◌, Ok}
-use Rattle.std.proofs.Common.{inl, inr}
+use Rattle.std.specs.Prelude.{ℕ, false, List, [], Ok}
 use Rattle.cyc_lex.specs.Word.{Word}
-use Rattle.cyc_grammar.specs.Syntax.{Reading, ◌>>=◌, Syntax, one, seq, alt, many, shaped, after, before, headed, is_one, uncons, or_empty}
+use Rattle.cyc_grammar.specs.Syntax.{Reading, ◌>>=◌, Syntax, one, seq, many, shaped, after, before, headed, is_one, uncons, or_empty}
 use Rattle.cyc_grammar.specs.Classes.{the_end, number}
 unfoldable pub use Rattle.heap_syntax.specs.Numbers.{numbers, bracketed, two_numbers, premises}
 use Rattle.heap_syntax.specs.Grammar.{Any, cons, IsSome}
-use Rattle.heap_syntax.specs.Words.{last_word, cyclist_word, comma, semicolon, assign, opening_brace, closing_brace, dollar, node_word, by_word, to_word, opening_bracket, closing_bracket}
+use Rattle.heap_syntax.specs.Words.{last_word, cyclist_word, comma, semicolon, assign, opening_brace, closing_brace, dollar, node_word, by_word, opening_bracket, closing_bracket}
 use Rattle.fo_term_syntax.specs.Trees.{Sign, Atom}
 use Rattle.fo_term_syntax.specs.Grammar.{term, atom}
 use Rattle.heap_syntax.specs.Versions.{first_version}

@@ -1,7 +1,7 @@
 -- The words of proof files of first-order logic that are not those of theories.
 use Rattle.std.specs.Prelude.{ℕ, List, [], ◌∷◌, codes}
 use Rattle.cyc_grammar.specs.Syntax.{Class}
-use Rattle.cyc_grammar.specs.Classes.{symbol, keyword, keyword_of}
+use Rattle.cyc_grammar.specs.Classes.{keyword, keyword_of}
 use Rattle.fo_proof_syntax.specs.declared.tree.SideTree.{SideTree}
 use Rattle.fo_proof_syntax.specs.declared.tree.SideTree.TheVariants as sided
 use Rattle.fo_proof_syntax.specs.declared.reason_word.ReasonWord.{ReasonWord}

@@ -1,8 +1,8 @@
 -- The grammar of heaps and of predicates' definitions with numbered variables.
-use Rattle.std.specs.Prelude.{ℕ, Bool, true, false, List, ◌⊎◌, codes}
+use Rattle.std.specs.Prelude.{ℕ, Bool, true, false, List, ◌⊎◌}
 use Rattle.std.proofs.Common.{inl, inr}
 use Rattle.cyc_grammar.specs.Syntax.{Syntax, Class, one, seq, alt, many, shaped, after, before, is_one}
-use Rattle.cyc_grammar.specs.Classes.{symbol, number}
+use Rattle.cyc_grammar.specs.Classes.{number}
 use Rattle.heap_syntax.specs.declared.keep.Keep.{Keep}
 use Rattle.heap_syntax.specs.Grammar as shared
 use Rattle.heap_syntax.specs.Grammar.{Terms}

@@ -15,7 +15,7 @@ use Rattle.proof_syntax.specs.declared.reason_word.ReasonWord.{ReasonWord}
 use Rattle.proof_syntax.specs.declared.reason_word.ReasonWord.TheVariants as words
 use Rattle.proof_syntax.specs.ReasonWords.{reason_text, reason_words, side_text, sides}
 use Rattle.proof_syntax.specs.Trees.{Heap, Line, Definition, Entailment, Judgement, Entails, From, Reason, Absurd, Rewrite, Split, Distinct, Weaken, Unfold, Cut, Done, Choose, PureRight, Instantiate, Frame, UnfoldRight, Exec, Drop, Link, Node}
-use Rattle.proof_syntax.specs.Grammar.{Any, node_word, from_word, given_word, or_word, by_word, to_word, last_word, dollar, query, comma, semicolon, star, assign, turnstile, opening_brace, closing_brace, opening_bracket, closing_bracket, uterm, terms, terms_of, spatial, heap, some_heap, cons, IsSome, variable, lines, to_entailment, from_entailment, disjuncts, entailment, state, to_judgement, from_judgement, judgement, numbers, bracketed, two_numbers, side, rewrite, split, cut, instantiate, to_pair, from_pair, pair, some_pair, pairs1, pairs, to_link, from_link, link, Parts, parts, made_of, to_reason, from_reason, reason_word, reason, premises, to_node, from_node, node, some_node, definitions, more_nodes, nodes, to_file, from_file, version, contents, body, file}
+use Rattle.proof_syntax.specs.Grammar.{Any, node_word, from_word, given_word, or_word, by_word, to_word, last_word, dollar, query, comma, semicolon, star, assign, turnstile, opening_brace, closing_brace, uterm, terms, terms_of, spatial, heap, some_heap, cons, IsSome, variable, lines, to_entailment, from_entailment, disjuncts, entailment, state, to_judgement, from_judgement, judgement, bracketed, two_numbers, side, rewrite, split, cut, instantiate, to_pair, from_pair, pair, some_pair, pairs1, pairs, to_link, from_link, link, Parts, parts, made_of, to_reason, from_reason, reason_word, reason, premises, to_node, from_node, node, some_node, definitions, more_nodes, nodes, to_file, from_file, version, contents, body, file}
 use Rattle.heap_syntax.specs.declared.version.Version.{Version}
 use Rattle.heap_syntax.proofs.WordTexts.{version-law}
 use Rattle.command_syntax.specs.Grammar as commands

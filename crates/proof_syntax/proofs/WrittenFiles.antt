@@ -1,12 +1,11 @@
 -- What is written for a whole file.
-use Rattle.std.proofs.Common.{◌≡◌, ℕ, List, [], ◌∷◌, ◌++◌}
+use Rattle.std.proofs.Common.{◌≡◌, List, [], ◌∷◌, ◌++◌}
 use Rattle.cyc_lex.specs.Word.{Word}
 use Rattle.cyc_lex.specs.Writing.{Written, write, write_all}
-use Rattle.cyc_grammar.specs.Classes.{number}
 use Rattle.cyc_grammar.proofs.WrittenTexts.{wrote-behind, wrote-both, wrote-ended}
 use Rattle.heap_syntax.specs.declared.version.Version.{Version}
 use Rattle.proof_syntax.specs.Trees.{Definition, Line, Node}
-use Rattle.proof_syntax.specs.Grammar.{to_word, cyclist_word, proof_word, version, semicolon, numbers, premises, definitions, lines, nodes, body}
+use Rattle.proof_syntax.specs.Grammar.{cyclist_word, proof_word, version, semicolon, definitions, lines, nodes, body}
 
 pub body-wrote : (old a b c d e l f g : Written) (v : Version) (ds : List Definition) (ls : List Line) (ns : List Node) → a ≡ write old (cyclist_word.word tt) → b ≡ write a (proof_word.word tt) → c ≡ write b (version.word v) → d ≡ write c (semicolon.word tt)
     → e ≡ write_all d (definitions.words ds) → l ≡ write_all e ((lines v).words ls) → f ≡ write_all l (nodes.words ns) → g ≡ write f (semicolon.word tt) → g ≡ write_all old (body.words (record { version = v; definitions = ds; lines = ls; nodes = ns }))

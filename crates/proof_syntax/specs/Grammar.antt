@@ -3,7 +3,7 @@ use Rattle.std.specs.Prelude.{ℕ, true, false, List, [], ◌∷◌, ◌⊎◌, 
 use Rattle.std.proofs.Common.{inl, inr}
 use Rattle.cyc_lex.specs.Word.{Word}
 use Rattle.cyc_grammar.specs.Syntax.{Reading, ◌>>=◌, Syntax, Class, one, seq, alt, many, shaped, after, before, headed, nothing, is_one, uncons, list1, or_empty}
-use Rattle.cyc_grammar.specs.Classes.{symbol, keyword, the_end, number, keyword_of}
+use Rattle.cyc_grammar.specs.Classes.{keyword, the_end, number, keyword_of}
 unfoldable pub use Rattle.heap_syntax.specs.Numbers.{numbers, bracketed, two_numbers, premises}
 pub use Rattle.heap_syntax.specs.Words.{nil, true_word, emp, pred_word, or_word, last_word, cyclist_word, node_word, from_word, given_word, by_word, to_word, equal, unequal, comma, colon, semicolon, star, bar, arrow, assign, turnstile, opening, closing, opening_brace, closing_brace, opening_bracket, closing_bracket, dollar, query, reserved, free_name}
 pub use Rattle.heap_syntax.specs.Versions.{version}
