@@ -16,7 +16,8 @@ use Rattle.problem_syntax.specs.Trees as named
 use Rattle.name_numbers.specs.Numbered as numbers
 use Rattle.name_numbers.specs.Numbering.{numbered}
 use Rattle.formula_reader.specs.Flaws.{headings, problem_flaw}
-use Rattle.formula_reader.specs.Values.{definition_value, program_value, goal_value}
+use Rattle.heap_reader.specs.Values.{program_value}
+use Rattle.formula_reader.specs.Values.{definition_value, goal_value}
 
 -- the numbers are those of a tree with names that the grammar has
 abbrev pub IsOfText : numbers.Problem → Type 0

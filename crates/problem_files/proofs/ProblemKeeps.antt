@@ -39,7 +39,7 @@ use Rattle.heap_reader.specs.Spans.{heap_span}
 use Rattle.heap_reader.specs.Flaws.{ill_if, over_if, or_later, heap_flaw, counted_flaw, heaps_flaw}
 use Rattle.heap_reader.specs.LineFlaws.{lines_flaw}
 use Rattle.heap_reader.specs.Small.{IsSmallHeap}
-use Rattle.heap_reader.specs.Values.{heap_value, line_value}
+use Rattle.heap_reader.specs.Values.{heap_value, line_value, variable_value, program_value}
 use Rattle.heap_reader.proofs.Programs.{lines_universal}
 use Rattle.heap_syntax.specs.declared.version.Version.{Version}
 use Rattle.heap_syntax.specs.Versions.{most_spatial}
@@ -57,7 +57,7 @@ use Rattle.formula_reader.specs.declared.terms.Scope.TheVariants.{Goal as InGoal
 use Rattle.formula_reader.specs.Spans.{term_span, variable_span, lines_span, parameters_span, definition_span, definitions_span}
 use Rattle.formula_reader.specs.Flaws.{headings, term_flaw, variable_flaw, head_flaw, cases_flaw, definition_flaw, definitions_flaw, goal_flaw, problem_flaw}
 use Rattle.formula_reader.specs.Small.{IsSmallDefinition, IsSmallGoal}
-use Rattle.formula_reader.specs.Values.{term_value, variable_value, definition_value, program_value, goal_value}
+use Rattle.formula_reader.specs.Values.{term_value, definition_value, goal_value}
 use Rattle.formula_reader.specs.WellFormed.{IsOfText, IsWellFormed, goal_fault, is_universal_heap, has_line}
 use Rattle.formula_reader.proofs.Fitting.{definition_small}
 use Rattle.formula_reader.proofs.Keeping.{small_of, is_closed, is_known, has_universal_antecedent, has_its_line}
