@@ -1,6 +1,7 @@
 pub mod Loops
 pub mod KeepingLaws
 pub mod Fronts
+pub mod FrontFits
 pub mod HeapLaws
 pub mod WordTexts
 pub mod HeapEnds

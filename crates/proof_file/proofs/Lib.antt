@@ -7,3 +7,4 @@ pub mod ValuesAgain
 pub mod Readings
 pub mod Wider
 pub mod NodeFlaws
+pub mod FrontSpans
