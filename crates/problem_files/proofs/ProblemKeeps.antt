@@ -58,6 +58,7 @@ use Rattle.formula_reader.specs.Spans.{term_span, variable_span, lines_span, par
 use Rattle.formula_reader.specs.Flaws.{headings, term_flaw, variable_flaw, head_flaw, cases_flaw, definition_flaw, definitions_flaw, goal_flaw, problem_flaw}
 use Rattle.formula_reader.specs.Small.{IsSmallDefinition, IsSmallGoal}
 use Rattle.formula_reader.specs.Values.{term_value, definition_value, goal_value}
+use Rattle.proof_file.proofs.Universal.{universal_heap}
 use Rattle.formula_reader.specs.WellFormed.{IsOfText, IsWellFormed, goal_fault, is_universal_heap, has_line}
 use Rattle.formula_reader.proofs.Fitting.{definition_small}
 use Rattle.formula_reader.proofs.Keeping.{small_of, is_closed, is_known, has_universal_antecedent, has_its_line}
@@ -180,22 +181,6 @@ module _ (limit : ℕ) (bounded : limit ≤ 32) (hs : List Heading) where
   definitions_free (x ∷ xs) fits = (definition_free x fits.0, definitions_free xs fits.1)
 
 -- ---- goals
-
-universal_pures : (xs : List Pure) → list_all is_universal_pure xs ≡ true → Each (InPure IsUniversal) xs
-universal_pures [] e = tt
-universal_pures (x ∷ xs) e =
-    let b = and_parts (is_universal_pure x) (list_all is_universal_pure xs) e in (universal_pure_is x b.0, universal_pures xs b.1)
-
-universal_spatials : (xs : List Spatial) → list_all is_universal_spatial xs ≡ true → Each (InSpatial IsUniversal) xs
-universal_spatials [] e = tt
-universal_spatials (x ∷ xs) e =
-    let b = and_parts (is_universal_spatial x) (list_all is_universal_spatial xs) e in
-    (universal_spatial_is x b.0, universal_spatials xs b.1)
-
-universal_heap : (a : SymbolicHeap) → is_universal_heap a ≡ true → IsUniversalHeap a
-universal_heap a e =
-    let b = and_parts (list_all is_universal_pure a.pure) (list_all is_universal_spatial a.spatial) e in
-    (universal_pures a.pure b.0, universal_spatials a.spatial b.1)
 
 line_of : (count i : ℕ) → not (nat_eq i 0 || nat_lt count i) ≡ true → IsLineOf count i
 line_of count i e =

@@ -8,3 +8,4 @@ pub mod Readings
 pub mod Wider
 pub mod NodeFlaws
 pub mod FrontSpans
+pub mod Universal
