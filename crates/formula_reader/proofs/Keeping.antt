@@ -36,7 +36,8 @@ use Rattle.formula_reader.specs.Spans.{term_span, variable_span, lines_span, par
 use Rattle.formula_reader.specs.Flaws.{headings, term_flaw, variable_flaw, head_flaw, cases_flaw, definition_flaw, definitions_flaw, goal_flaw, problem_flaw}
 use Rattle.formula_reader.specs.Values.{term_value, definition_value, goal_value}
 use Rattle.formula_reader.specs.Small.{IsSmallProblem}
-use Rattle.formula_reader.specs.WellFormed.{IsOfText, goal_heaps, goal_fault, is_universal_heap, is_short_heap, has_line}
+use Rattle.heap_reader.specs.Small.{is_short_heap}
+use Rattle.formula_reader.specs.WellFormed.{IsOfText, goal_heaps, goal_fault, is_universal_heap, has_line}
 use Rattle.formula_reader.proofs.Fitting.{problem_small}
 use Rattle.formula_reader.proofs.SpanLaws.{text_some}
 use Rattle.std.proofs.lemmas.Option.{same_Some}

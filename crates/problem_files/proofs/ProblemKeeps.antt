@@ -2,27 +2,21 @@
 -- have names of their own.
 use Rattle.std.proofs.Common.{◌≡◌, ℕ, ◌+◌, ◌<◌, ◌≤◌, Bool, true, false, List, [], ◌∷◌, length, map, Option, Some, None, refl, sym, subst, arith}
 use Rattle.std.specs.Prelude.{not, ◌||◌, nat_eq, nat_lt, nat_le}
-use Rattle.std.specs.List.{list_all}
 use Rattle.std.proofs.Math.Logic.{∥∥₁_elim}
-use Rattle.std.proofs.lemmas.Bool.{ltb-false, or_parts, eqb-false, and_parts}
+use Rattle.std.proofs.lemmas.Bool.{ltb-false, or_parts, eqb-false}
 use Rattle.std.proofs.lemmas.List.{length-map}
 use Rattle.heap_formula.specs.declared.terms.Term.{Term}
-use Rattle.heap_formula.specs.declared.atoms.Pure.{Pure}
-use Rattle.heap_formula.specs.declared.atoms.Spatial.{Spatial}
 use Rattle.heap_formula.specs.declared.commands.Command.{Command}
 use Rattle.heap_formula.specs.declared.judgements.Judgement.{Judgement}
-use Rattle.heap_formula.specs.Closedness.{InPure, InSpatial, InHeap, IsUniversal, IsUniversalHeap}
+use Rattle.heap_formula.specs.Closedness.{InHeap}
 use Rattle.heap_formula.specs.Definitions.{Definition as DefinitionValue}
 use Rattle.heap_formula.specs.Fresh.{univ_bound, exist_bound}
 use Rattle.heap_formula.specs.Judgements.{antecedent}
-use Rattle.heap_formula.specs.Symbolic.{SymbolicHeap}
 use Rattle.heap_formula.specs.Words.{Each}
 use Rattle.goto_lang.specs.Lines.{IsLineOf}
 use Rattle.goto_lang.proofs.Faultless.{faultless_is_program}
 use Rattle.pred_defs.specs.declared.faults.DefFault.{DefFault}
 use Rattle.pred_defs.specs.Faults.{case_fault, definition_fault, first_fault, or_later as then_fault}
-use Rattle.rule_table.specs.Tests.{is_universal_pure, is_universal_spatial}
-use Rattle.rule_table.proofs.Reflects.{universal_pure_is, universal_spatial_is}
 use Rattle.format_limits.specs.Limits.{IsHeapWithin, IsJudgementWithin, IsCaseWithin, IsDefinitionWithin}
 use Rattle.format_limits.proofs.Heaps.{IsLow}
 use Rattle.cyc_lex.specs.declared.fault.What.TheVariants.{Cases, Disjuncts, Locals, Variable}

@@ -1,5 +1,5 @@
 -- Why a tested file is a proof system: lemmas for the laws of its impl, which can cite no others.
-use Rattle.std.proofs.Common.{◌≡◌, ℕ, suc, ◌<◌, Bool, true, List, [], ◌∷◌, length, refl, subst, arith, Some}
+use Rattle.std.proofs.Common.{◌≡◌, ℕ, suc, ◌<◌, true, List, [], ◌∷◌, length, refl, subst, arith, Some}
 use Rattle.std.specs.List.{list_all}
 use Rattle.std.proofs.lemmas.List.{length-map}
 use Rattle.std.proofs.lemmas.Bool.{leb-true, leb-false, and_parts}
@@ -9,15 +9,14 @@ use Rattle.heap_formula.specs.declared.commands.Command.{Command}
 use Rattle.heap_formula.specs.declared.commands.Command.TheVariants.{Assign, Load, Store, New, Free, IfEq, IfNeq, IfAny, Goto, Stop}
 use Rattle.heap_formula.specs.declared.proof_rules.Reason.{Reason}
 use Rattle.heap_formula.specs.declared.proof_rules.Reason.TheVariants.{Step, Back}
-use Rattle.heap_formula.specs.Closedness.{IsUniversal, IsUniversalHeap, InPure, InSpatial}
+use Rattle.heap_formula.specs.Closedness.{IsUniversal}
 use Rattle.heap_formula.specs.Definitions.{Definition}
 use Rattle.heap_formula.specs.Judgements.{antecedent}
-use Rattle.heap_formula.specs.Symbolic.{SymbolicHeap}
 use Rattle.heap_formula.specs.Words.{Each}
-use Rattle.rule_table.specs.Tests.{is_universal, is_universal_pure, is_universal_spatial}
+use Rattle.rule_table.specs.Tests.{is_universal}
 use Rattle.rule_table.specs.Soundness.{IsCommand}
 use Rattle.rule_table.specs.Nodes.{Node, IsReadable}
-use Rattle.rule_table.proofs.Reflects.{universal_is, universal_pure_is, universal_spatial_is}
+use Rattle.rule_table.proofs.Reflects.{universal_is}
 use Rattle.trace_pairs.specs.System.{AreRight, IsLocalAt}
 use Rattle.proof_graph.proofs.Joined.{mapped_at}
 use Rattle.proof_file.specs.Readable.{is_universal_heap, is_universal_reason, is_readable, are_readable, is_universal_command, has_few_cases, all_have_few_cases}
