@@ -5,14 +5,14 @@ use Rattle.cyc_lex.specs.Word.{is_lexeme}
 use Rattle.cyc_lex.proofs.Letters.{letters-name}
 use Rattle.cyc_grammar.specs.Syntax.{one, is_one, uncons}
 use Rattle.cyc_grammar.specs.Classes.{number, keyword}
-use Rattle.cyc_grammar.proofs.Ends.{Inner, EndsLast, seq-inner, after-inner, before-inner, many-inner, shaped-inner, or_empty-inner, end-once, number-inner}
+use Rattle.cyc_grammar.proofs.Ends.{Inner, EndsLast, seq-inner, after-inner, before-inner, many-inner, shaped-inner, or_empty-inner, end-once, number-inner, name-inner}
 use Rattle.heap_syntax.specs.Grammar.{Any, cons, IsSome}
 use Rattle.heap_syntax.specs.Words.{cyclist_word, pred_word, last_word, comma, semicolon, bar, turnstile, opening, closing, opening_brace, closing_brace, goal_word}
 use Rattle.heap_syntax.proofs.WordTexts.{true-word, pred-word, last-word, cyclist-word, first_version-word, syms, goal-word}
-use Rattle.fo_term_syntax.specs.Words.{free_name}
+use Rattle.fo_term_syntax.specs.Words.{free_name, reserved}
 use Rattle.fo_term_syntax.specs.Trees.{Atom}
 use Rattle.fo_term_syntax.specs.Grammar.{atom}
-use Rattle.fo_term_syntax.proofs.TermEnds.{free_name-inner, atom-inner}
+use Rattle.fo_term_syntax.proofs.TermEnds.{atom-inner}
 use Rattle.heap_syntax.specs.Versions.{first_version}
 use Rattle.fo_problem_syntax.specs.Words.{con_word, problem_word}
 use Rattle.fo_problem_syntax.specs.Lists.{list_of}
@@ -38,11 +38,11 @@ right-inner = atoms_or-inner (codes "false") (letters-name (codes "false") refl)
 
 con-inner : Inner con
 unfolding con
-con-inner = shaped-inner {A = List ℕ × ℕ} to_constructor from_constructor Any _ (after-inner con_word _ con-word (seq-inner (one free_name) _ free_name-inner (before-inner (one number) semicolon syms.semicolon_word number-inner)))
+con-inner = shaped-inner {A = List ℕ × ℕ} to_constructor from_constructor Any _ (after-inner con_word _ con-word (seq-inner (one free_name) _ (name-inner reserved) (before-inner (one number) semicolon syms.semicolon_word number-inner)))
 
 definition-inner : Inner definition
 unfolding definition cases
-definition-inner = shaped-inner {A = List ℕ × (ℕ × List (List Atom))} to_definition from_definition Any _ (after-inner pred_word _ pred-word (seq-inner (one free_name) _ free_name-inner
+definition-inner = shaped-inner {A = List ℕ × (ℕ × List (List Atom))} to_definition from_definition Any _ (after-inner pred_word _ pred-word (seq-inner (one free_name) _ (name-inner reserved)
     (after-inner opening _ syms.opening_word (seq-inner (one number) _ number-inner (after-inner closing _ syms.closing_word (after-inner opening_brace _ syms.opening_brace_word
     (before-inner _ semicolon syms.semicolon_word (before-inner (list_of bar (left true)) closing_brace syms.closing_brace_word (list-inner bar (left true) syms.bar_word (left-inner true))))))))))
 
