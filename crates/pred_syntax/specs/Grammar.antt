@@ -6,7 +6,7 @@ use Rattle.cyc_grammar.specs.Classes.{number}
 use Rattle.heap_syntax.specs.declared.keep.Keep.{Keep}
 use Rattle.heap_syntax.specs.Grammar as shared
 use Rattle.heap_syntax.specs.Grammar.{Terms}
-use Rattle.heap_syntax.specs.Words.{nil, pred_word, semicolon, bar, opening, closing, opening_brace, closing_brace, free_name}
+use Rattle.heap_syntax.specs.Words.{nil, pred_word, semicolon, bar, opening, closing, opening_brace, closing_brace, free_name, dollar, query}
 use Rattle.heap_syntax.specs.Grammar.{Any}
 use Rattle.pred_syntax.specs.declared.tree.TermTree.{TermTree}
 use Rattle.pred_syntax.specs.declared.tree.TermTree.TheVariants.{Nil, Univ, Exist}
