@@ -6,8 +6,8 @@ use Rattle.cyc_lex.proofs.Letters.{letters-name}
 use Rattle.cyc_grammar.specs.Syntax.{Syntax, one, seq, alt, after, before, is_one}
 use Rattle.cyc_grammar.specs.Classes.{number}
 use Rattle.cyc_grammar.proofs.Laws.{Lawful, Begins, BeginsNot, BeginsNot-append, one-law, seq-law, shaped-law, alt-law, many-law, after-law, before-law, Stops-never}
-use Rattle.cyc_grammar.proofs.ClassLaws.{symbol-law, keyword-law, number-law, number-lexeme}
-use Rattle.cyc_grammar.proofs.Ends.{Inner, one-inner, seq-inner, after-inner, before-inner, alt-inner, many-inner, shaped-inner}
+use Rattle.cyc_grammar.proofs.ClassLaws.{symbol-law, keyword-law, number-law}
+use Rattle.cyc_grammar.proofs.Ends.{Inner, one-inner, seq-inner, after-inner, before-inner, alt-inner, many-inner, shaped-inner, number-inner}
 use Rattle.heap_syntax.specs.Words.{nil, colon, semicolon, assign, star}
 use Rattle.heap_syntax.specs.declared.version.Version.{Version}
 use Rattle.heap_syntax.specs.Grammar.{Any, sign}
@@ -262,9 +262,6 @@ lines-end version v d h (l ∷ []) = rw (h, line-closed version v l d) refl
 lines-end version v d h (l ∷ m ∷ ls) = lines-end version v d h (m ∷ ls)
 
 -- ---- the texts are of lexemes
-
-number-inner : Inner (one number)
-number-inner = one-inner number number-lexeme
 
 operand-inner : {V : Type 0} (v : Syntax V) → Inner v → Inner (operand v)
 unfolding operand

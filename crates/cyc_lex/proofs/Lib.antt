@@ -1,4 +1,5 @@
 pub mod BoolParts
+pub mod Members
 pub mod Pieces
 pub mod Lexed
 pub mod LaidOut

@@ -14,7 +14,8 @@ use Rattle.ring_family.specs.Ring.{ring_definitions, ring_nodes, file_nodes}
 use Rattle.ring_family.proofs.Accepted.{ring_is_accepted, ring_links}
 use Rattle.ring_family.proofs.Correct.{nodes_long}
 use Rattle.ring_family.proofs.Readable.{nodes_again}
-use Rattle.cyc_top.specs.Answers.{file_text, is_back, link_count}
+use Rattle.proof_file.specs.Links.{is_link}
+use Rattle.cyc_top.specs.Answers.{file_text, link_count}
 use Rattle.cyc_top.specs.Rings.{IsRing}
 
 -- the ring's file itself
@@ -45,4 +46,4 @@ pub ring_node_count : (k : ℕ) (f : ProofFile) → IsRing k f → length f.node
 ring_node_count k f ring = ap length ring.nodes ∙ nodes_long k
 
 pub ring_link_count : (k : ℕ) (f : ProofFile) → IsRing k f → link_count f.nodes ≡ 1
-ring_link_count k f ring = ap link_count ring.nodes ∙ ring_links is_back (λ rule. refl) (λ link. refl) k
+ring_link_count k f ring = ap link_count ring.nodes ∙ ring_links is_link (λ rule. refl) (λ link. refl) k

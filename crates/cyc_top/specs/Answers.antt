@@ -1,8 +1,6 @@
 -- The answer to a task, and what is written of it.
-use Rattle.std.specs.Prelude.{◌≡◌, ◌+◌, ◌*◌, ◌≤◌, ℕ, List, [], ◌∷◌, length, count_by, Option, Some, None, Result, Ok, Err, Bool, true, false}
+use Rattle.std.specs.Prelude.{◌≡◌, ◌+◌, ◌*◌, ◌≤◌, ℕ, List, [], ◌∷◌, length, count_by, Option, Some, None, Result, Ok, Err, Bool, true}
 use Rattle.std.specs.Io.KnownBytes.{Appends}
-use Rattle.heap_formula.specs.declared.proof_rules.Reason.{Reason}
-use Rattle.heap_formula.specs.declared.proof_rules.Reason.TheVariants.{Step, Back}
 use Rattle.cyc_texts.specs.Texts.{accepted_text, node_refused_text, path_refused_text, states_limit_text, derivations_limit_text, not_found_text, ring_text}
 use Rattle.cyc_lex.specs.declared.fault.ReadFault.{ReadFault}
 use Rattle.proof_file.specs.declared.node.FileNode.{FileNode}
@@ -41,6 +39,7 @@ use Rattle.proof_search.specs.declared.prover.Proved.{Proved}
 use Rattle.proof_search.specs.declared.prover.Proved.TheVariants.{Found, NotFound, TooManyDerivations}
 use Rattle.proof_search.specs.declared.prover.Proved.TheVariants as answers
 use Rattle.proof_search.specs.Outcomes.{outcome_of, search_for, IsProved}
+use Rattle.proof_file.specs.Links.{is_link}
 use Rattle.proof_file.specs.Reading.{IsRead}
 use Rattle.proof_check.specs.Verdicts.{IsCorrect, IsVerdict, RootHolds}
 use Rattle.file_reader.specs.Stages.{Parts, FileFrom}
@@ -48,14 +47,9 @@ use Rattle.file_reader.specs.Pieces.{bytes_fed}
 
 -- ---- the verdicts of a check
 
--- the reason is a link
-abbrev pub is_back : Reason → Bool
-is_back (Step rule) = false
-is_back (Back link) = true
-
 -- the node is a link
 abbrev pub is_link_node : FileNode → Bool
-is_link_node node = is_back node.reason
+is_link_node node = is_link node.reason
 
 -- how many of the nodes are links
 abbrev pub link_count : List FileNode → ℕ

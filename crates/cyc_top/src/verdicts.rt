@@ -2,7 +2,8 @@
 ghost use Rattle.std.specs.Prelude.{◌≡◌, ◌<◌, length, IfOk, true};
 ghost use Rattle.cyc_runs.specs.Endings.{is_answer};
 ghost use Rattle.file_reader.specs.Stages.{fresh};
-ghost use Rattle.cyc_top.specs.Answers.{is_back, link_count, nodes_text, verdict_status, verdict_text};
+ghost use Rattle.proof_file.specs.Links.{is_link as links};
+ghost use Rattle.cyc_top.specs.Answers.{link_count, nodes_text, verdict_status, verdict_text};
 
 use cyc_memory::OutOfMemory;
 use cyc_runs::{Answer, PiecewiseTool, Status, answer_to_fault, fixed_answer};
@@ -14,7 +15,7 @@ use proof_file::{FileNode, ProofFile};
 use std::alloc::Global;
 
 fn is_link(node: &FileNode) -> bool
-    ensures { result ≡ is_back node.now.reason }
+    ensures { result ≡ links node.now.reason }
 {
     match node.reason {
         Reason::Step(_) => false,

@@ -20,22 +20,21 @@ use Rattle.cyc_grammar.specs.Syntax.{Class, one}
 use Rattle.cyc_grammar.specs.Classes.{number}
 use Rattle.heap_syntax.specs.Words.{comma, semicolon, closing}
 use Rattle.heap_reader.specs.Flaws.{over_if}
+use Rattle.heap_reader.proofs.Fitting.{most_fits}
 use Rattle.pred_syntax.specs.Grammar.{definitions}
-use Rattle.model_syntax.specs.Grammar.{numbers, values, cell, some_cell, cells1, cells, question, state, body, model}
+use Rattle.model_syntax.specs.Grammar.{numbers, values, cell, some_cell, cells1, cells, question, state, body, model, to_cell}
 use Rattle.model_file.specs.Flaws.{stack_flaw, cells_flaw, model_flaw, definitions_flaw, ask_flaw, first_value, first_cell, first_atom}
-use Rattle.model_file.specs.Written.{cell_tree, cells_tree, tree_of}
+use Rattle.model_file.specs.Written.{cells_tree, tree_of}
 use Rattle.problem_files.proofs.Lists.{none_later, listed_fits}
 use Rattle.problem_files.proofs.Names.{HaveFreeNames, HaveOwnNames, few_parameters}
 use Rattle.problem_files.proofs.Heaps.{any_heap_fits}
 use Rattle.problem_files.proofs.ProblemKeeps.{problem_keeps}
 use Rattle.formula_reader.specs.declared.problem.Problem.{Problem}
-use Rattle.heap_syntax.specs.declared.version.Version.{Version}
-use Rattle.heap_syntax.specs.declared.version.Version.TheVariants.{One, Two}
 use Rattle.heap_syntax.specs.Versions.{most_spatial}
 use Rattle.problem_files.proofs.Judgements.{node_heap_flawless}
 use Rattle.problem_files.proofs.DefinitionTrees.{definitions_fit, definitions_flawless}
 use Rattle.counter_model.specs.Sizes as sizes
-use Rattle.counter_model.specs.Sizes.{IsWidth, IsWidthIn, IsOfSize}
+use Rattle.counter_model.specs.Sizes.{IsWidth, IsWidthIn}
 use Rattle.counter_model.specs.FirstCounter.{HasSize}
 use Rattle.disprove_answers.proofs.FewCells.{few_cells}
 use Rattle.model_file.proofs.Parts.{IsFine}
@@ -102,16 +101,16 @@ record IsPlain (e : ℕ × List ℕ) : Type 0 where
 short : (n : ℕ) → n ≤ 4 → n < 10 ^ 9
 short n l = omega arith
 
-cell_fit : (e : ℕ × List ℕ) → IsPlain e → cell.fits (cell_tree e)
+cell_fit : (e : ℕ × List ℕ) → IsPlain e → cell.fits (to_cell e)
 unfolding cell
 cell_fit e p = (tt, (short e.0 p.address, numbers_fit closing e.1 p.some (each_imply (λ v. v ≤ 4) (λ v. v < 10 ^ 9) short e.1 p.fields)))
 
-cells_fit : (es : List (ℕ × List ℕ)) → Each IsPlain es → cells.fits (map cell_tree es)
+cells_fit : (es : List (ℕ × List ℕ)) → Each IsPlain es → cells.fits (map to_cell es)
 unfolding cells cells1
 cells_fit [] a = (tt, tt)
-cells_fit (e ∷ es) a = (tt, listed_fits cell cell_tree some_cell comma semicolon (e ∷ es) (omega arith) (each_imply IsPlain (λ x. cell.fits (cell_tree x)) cell_fit (e ∷ es) a))
+cells_fit (e ∷ es) a = (tt, listed_fits cell to_cell some_cell comma semicolon (e ∷ es) (omega arith) (each_imply IsPlain (λ x. cell.fits (to_cell x)) cell_fit (e ∷ es) a))
 
-fine : (e : ℕ × List ℕ) → IsPlain e → IsFine (cell_tree e)
+fine : (e : ℕ × List ℕ) → IsPlain e → IsFine (to_cell e)
 fine e p = record { positive = ne_eqb e.0 0 (λ z. let q : 0 < e.0 = p.positive in omega (arith, z)); few = p.few }
 
 -- ---- the entries of the heap
@@ -159,18 +158,14 @@ module _ (n most count : ℕ) (ds : List Definition) (a : SymbolicHeap) (bs : Li
       let long : length s ≡ judgement_bound (Entail a bs) = z.stack in
       let first : definitions_flaw m ≡ None = definitions_flawless 32 ds count_few own raised in
       let second : stack_flaw (first_value m) s ≡ None = ap (λ (b : Bool). over_if b StackValues (first_value m + 131070)) (lt-leb 65536 (length s) (omega arith)) in
-      let third : cells_flaw (first_cell m) (cells_tree h) ≡ None = cells_right h (first_cell m) (each_imply IsPlain (λ e. IsFine (cell_tree e)) fine (entries h) plain) few_entries in
+      let third : cells_flaw (first_cell m) (cells_tree h) ≡ None = cells_right h (first_cell m) (each_imply IsPlain (λ e. IsFine (to_cell e)) fine (entries h) plain) few_entries in
       let fourth : ask_flaw m ≡ None = node_heap_flawless 32 ds own (few_parameters 32 ds ds raised) a (heap_raised most ds a low j.heaps.0) (first_atom m) in
       none_later (definitions_flaw m) _ first (none_later (stack_flaw (first_value m) s) _ second (none_later (cells_flaw (first_cell m) (cells_tree h)) (ask_flaw m) third fourth))
 
 -- ---- of a problem
 
-version_low : (v : Version) → most_spatial v ≤ 32
-version_low One = omega arith
-version_low Two = omega arith
-
 pub problem_low : (p : Problem) → p.defs.most ≤ 32
-problem_low p = let l : most_spatial p.version ≤ 32 = version_low p.version in let e : p.defs.most ≡ most_spatial p.version = p.limit in omega arith
+problem_low p = let l : most_spatial p.version ≤ 32 = most_fits p.version in let e : p.defs.most ≡ most_spatial p.version = p.limit in omega arith
 
 module _ (n : ℕ) (p : Problem) (a : SymbolicHeap) (bs : List SymbolicHeap) (s : Stack) (h : Cells) (size : n ≤ 4) (goal : p.goal ≡ Entail a bs) (few : judgement_bound (Entail a bs) ≤ 8) (z : HasSize p.defs.list a bs n s h) where
   judged : IsJudgementWithin p.defs.most p.defs.list (length p.program) (Entail a bs)

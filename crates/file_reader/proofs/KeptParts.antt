@@ -1,12 +1,9 @@
 -- What is kept of statements tells their flaws, and is all of them where they have none.
-use Rattle.std.proofs.Common.{◌≡◌, ℕ, ◌≤◌, Bool, true, false, List, [], Some, None, Ok, Err, refl, sym, ap, subst, ◌∙◌, arith, inl, inr, ◌⊎◌}
+use Rattle.std.proofs.Common.{◌≡◌, ℕ, ◌≤◌, Bool, true, false, List, [], Some, None, Ok, refl, sym, ap, subst, ◌∙◌, arith, inl, inr, ◌⊎◌}
 use Rattle.std.specs.Prelude.{map}
 use Rattle.cyc_lex.specs.Word.{Word}
-use Rattle.cyc_grammar.specs.Syntax.{Reading, ◌>>=◌}
-use Rattle.heap_syntax.specs.declared.keep.Keep.{Keep}
 use Rattle.heap_syntax.specs.declared.version.Version.{Version}
 use Rattle.heap_syntax.specs.Versions.{most_spatial}
-use Rattle.heap_syntax.proofs.Fronts.{mapped}
 use Rattle.heap_reader.specs.Trees.{Heading}
 use Rattle.heap_reader.specs.Flaws.{Found, or_later, listed_flaw}
 use Rattle.heap_reader.proofs.Fitting.{most_fits}
@@ -14,8 +11,8 @@ use Rattle.heap_reader.proofs.NoFlaw.{neither}
 use Rattle.pred_reader.proofs.DefinitionFlaws.{definitions_flaw, definitions_whole, same_headings}
 use Rattle.proof_syntax.specs.Trees.{Definition, Line, Node}
 use Rattle.proof_syntax.specs.Keeping.{definition_front, node_front}
-use Rattle.proof_statements.specs.Left.{Part, Preds, Lines, Nodes, Statement, statement_of, kept_statement, line_or_node_front, statement_front}
-use Rattle.proof_statements.proofs.StatementFronts.{kept-front}
+use Rattle.proof_statements.specs.Left.{Preds, Lines, Nodes, statement_of, kept_statement, line_or_node_front, statement_front}
+use Rattle.proof_statements.proofs.StatementFronts.{from-kept}
 use Rattle.proof_file.specs.Flaws.{headings, definition_flaw, program_flaw, node_flaw, first_line, nodes_flaw, file_flaw}
 use Rattle.proof_file.specs.Spans.{definition_span}
 use Rattle.proof_file.specs.Values.{node_value}
@@ -24,31 +21,6 @@ use Rattle.file_reader.specs.Steps.{tree_of}
 use Rattle.file_reader.specs.Wholes.{IsPart, IsKeptPart, kept}
 
 -- ---- statements
-
-abbrev value_in : {A : Type 0} → A → Reading A → A
-value_in d (Ok x) = x.0
-value_in d (Err n) = d
-
-abbrev rest_in : {A : Type 0} → Reading A → List Word
-rest_in (Ok x) = x.1
-rest_in (Err n) = []
-
-not-read : {A : Type 0} (q : Reading A) (n : ℕ) (x : A) (rest : List Word) → q ≡ Err n → q ≡ Ok (x, rest) → ⊥
-not-read q n x rest e f = cc
-
--- what is kept of a statement is kept of one that is read of the same words
-from-kept : (k : Keep) (p : Part) (ws rest : List Word) (s : Statement p) → (kept_statement k p).read ws ≡ Ok (s, rest) → (t : Statement p) × ((statement_of p).read ws ≡ Ok (t, rest)) × (statement_front k p t ≡ s)
-from-kept k p ws rest s e = by ((statement_of p).read ws) refl
-  where
-    got : ((statement_of p).read ws >>= mapped (statement_front k p)) ≡ Ok (s, rest)
-    got = sym ((kept-front k p).reads ws) ∙ e
-
-    by : (q : Reading (Statement p)) → (statement_of p).read ws ≡ q → (t : Statement p) × ((statement_of p).read ws ≡ Ok (t, rest)) × (statement_front k p t ≡ s)
-    by (Ok x) same =
-        let is = sym (ap (λ (q : Reading (Statement p)). q >>= mapped (statement_front k p)) same) ∙ got in
-        (x.0, same ∙ ap (λ (ws : List Word). Ok (x.0, ws)) (ap rest_in is), ap (value_in s) is)
-    by (Err n) same =
-        absurd (not-read ((statement_of p).read ws >>= mapped (statement_front k p)) n s rest (ap (λ (q : Reading (Statement p)). q >>= mapped (statement_front k p)) same) got)
 
 apart : {A B : Type 0} (s : A ⊎ B) (x : A) (y : B) → s ≡ inl x → s ≡ inr y → ⊥
 apart s x y e f = cc

@@ -6,7 +6,6 @@ pub mod Fresh
 pub mod PieceLaws
 pub mod Sizes
 mod ScanLaws
-mod KeptTrees
 mod KeptParts
 mod HeldLaws
 mod EndLaws

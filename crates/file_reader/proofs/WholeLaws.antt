@@ -27,6 +27,7 @@ use Rattle.proof_syntax.specs.Trees.{Definition, Line, Node, File}
 use Rattle.proof_syntax.specs.Grammar.{last_word, semicolon, node, file}
 use Rattle.proof_syntax.specs.Keeping.{definition_front}
 use Rattle.proof_syntax.proofs.GrammarLaws.{file-law}
+use Rattle.proof_syntax.proofs.FrontFits.{node-fits}
 use Rattle.proof_statements.specs.Left.{First, Preds, Lines, Nodes, At, Ended, Left, statement_of, kept_statement, joined, line_or_node, last_statement}
 use Rattle.proof_statements.proofs.LeftLaws.{statement-law}
 use Rattle.proof_file.specs.Flaws.{headings, definition_flaw, program_flaw, node_flaw, nodes_flaw, first_line, first_node, file_flaw}
@@ -52,9 +53,11 @@ use Rattle.heap_reader.proofs.Fitting.{most_fits}
 use Rattle.heap_reader.proofs.NoFlaw.{neither}
 use Rattle.heap_reader.proofs.WithinSpans.{flaw_within}
 use Rattle.pred_reader.proofs.Fitting.{definitions_small}
+use Rattle.pred_reader.proofs.FrontSpans.{definitions-span}
 use Rattle.proof_file.specs.declared.file.ProofFile.{ProofFile}
 use Rattle.proof_file.specs.Reading.{IsRead, Reads, proof_files}
 use Rattle.proof_file.proofs.SpanLaws.{file_words}
+use Rattle.proof_file.proofs.FrontSpans.{node-span}
 use Rattle.proof_file.proofs.WithinSpans.{file_before}
 use Rattle.file_reader.specs.declared.front.Front.{Front}
 use Rattle.proof_syntax.specs.Trees.{node_of}
@@ -65,7 +68,6 @@ use Rattle.file_reader.proofs.EndLaws.{later-tokens, text-tokens}
 use Rattle.file_reader.proofs.Fresh.{tokens-end, tokens-few, from-start}
 use Rattle.file_reader.proofs.ScanLaws.{span-size}
 use Rattle.file_reader.proofs.Sizes.{statement-span}
-use Rattle.file_reader.proofs.KeptTrees.{node-fits, definitions-span, node-span}
 use Rattle.file_reader.proofs.KeptParts.{later-kept, end-kept, pred-kept, line-kept, same-found, same-value, kept-headings, kept-flaw, whole-front}
 
 -- ---- one statement

@@ -11,7 +11,8 @@ use Rattle.proof_syntax.specs.Grammar.{file}
 use Rattle.proof_statements.specs.Left.{Part, First, Preds, Lines, Nodes as Among, Reached, At, Left, left_of, Statement, joined}
 use Rattle.proof_file.specs.Flaws.{headings, node_flaw, first_node, file_flaw}
 use Rattle.proof_file.specs.Spans.{definition_span, variable_span, node_span}
-use Rattle.proof_file.specs.Values.{definition_value, program_value, node_value}
+use Rattle.heap_reader.specs.Values.{program_value}
+use Rattle.proof_file.specs.Values.{definition_value, node_value}
 use Rattle.file_reader.specs.Outcomes.{or_else, told_flaw}
 use Rattle.file_reader.specs.Stages.{Begun, Stage, ahead}
 

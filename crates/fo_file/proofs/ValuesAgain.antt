@@ -11,6 +11,7 @@ use Rattle.heap_reader.specs.Trees.{Heading}
 use Rattle.heap_reader.specs.Values.{place_of}
 use Rattle.heap_reader.proofs.NoFlaw.{neither}
 use Rattle.heap_syntax.specs.Words.{true_word, bar}
+use Rattle.heap_syntax.specs.Grammar.{Any}
 use Rattle.fo_formula.specs.declared.terms.Sign.{Sign as SignValue}
 use Rattle.fo_formula.specs.declared.terms.Sign.TheVariants as signs
 use Rattle.fo_formula.specs.declared.atoms.FoAtom.{FoAtom}
@@ -68,10 +69,7 @@ each-known tree value Q P one (x ∷ xs) f h =
     let rest = each-known tree value Q P one xs f.1 h.1 in
     λ i. first i ∷ rest i
 
-abbrev Anything : {X : Type 0} → X → Type 0
-Anything x = Unit {0}
-
-any-of : {X : Type 0} (xs : List X) → Each Anything xs
+any-of : {X : Type 0} (xs : List X) → Each Any xs
 any-of [] = tt
 any-of (x ∷ xs) = (tt, any-of xs)
 
@@ -165,9 +163,9 @@ module _ (cs : List Heading) (t : FoTheory) (placed : (p : ℕ) → free_name.fi
     reason-known (reasons.Rule (rules.Unfold i)) f h = refl
     reason-known (reasons.Rule (rules.Cut x)) f h = ap (λ (y : FoAtom). reasons.Rule (rules.Cut y)) (atom-known false x f.1.1 h)
     reason-known (reasons.Rule (rules.Right j c ts)) f h =
-        ap (λ (us : List Word). reasons.Rule (rules.Right j c us)) (each-known (term_tree t) (term_value cs) (term false).fits Anything (λ u g a. term-known false u g) ts (terms-fit (map (term_tree t) ts) f.1.1.1.1) (any-of ts))
+        ap (λ (us : List Word). reasons.Rule (rules.Right j c us)) (each-known (term_tree t) (term_value cs) (term false).fits Any (λ u g a. term-known false u g) ts (terms-fit (map (term_tree t) ts) f.1.1.1.1) (any-of ts))
     reason-known (reasons.Link l) f h =
-        ap (λ (es : List (ℕ × Word)). reasons.Link (record { to = l.to; substitution = es; left_map = l.left_map; right_map = l.right_map })) (each-known (entry_tree t) (entry_value cs) entry.fits Anything (λ e g a. entry-known e g) l.substitution (entries-fit (map (entry_tree t) l.substitution) f.1.1.1.1.0) (any-of l.substitution))
+        ap (λ (es : List (ℕ × Word)). reasons.Link (record { to = l.to; substitution = es; left_map = l.left_map; right_map = l.right_map })) (each-known (entry_tree t) (entry_value cs) entry.fits Any (λ e g a. entry-known e g) l.substitution (entries-fit (map (entry_tree t) l.substitution) f.1.1.1.1.0) (any-of l.substitution))
 
     node-known : (n : FoNode) → node.fits (node_tree t n) → IsNodeOfTerms n → node_value cs ps (node_tree t n) ≡ n
     unfolding node

@@ -1,20 +1,20 @@
 -- The texts of theories, sequents and problem files are of lexemes, and the end word stands last.
 use Rattle.std.proofs.Common.{◌≡◌, ℕ, Bool, true, false, List, refl}
 use Rattle.std.specs.Prelude.{codes}
-use Rattle.cyc_lex.specs.Word.{is_lexeme, is_number_text}
+use Rattle.cyc_lex.specs.Word.{is_lexeme}
 use Rattle.cyc_lex.proofs.Letters.{letters-name}
 use Rattle.cyc_grammar.specs.Syntax.{one, is_one, uncons}
 use Rattle.cyc_grammar.specs.Classes.{number, keyword}
-use Rattle.cyc_grammar.proofs.ClassLaws.{number-lexeme}
-use Rattle.cyc_grammar.proofs.Ends.{Inner, EndsLast, one-inner, seq-inner, after-inner, before-inner, many-inner, shaped-inner, or_empty-inner, end-once}
+use Rattle.cyc_grammar.proofs.Ends.{Inner, EndsLast, seq-inner, after-inner, before-inner, many-inner, shaped-inner, or_empty-inner, end-once, number-inner, name-inner}
 use Rattle.heap_syntax.specs.Grammar.{Any, cons, IsSome}
-use Rattle.heap_syntax.specs.Words.{cyclist_word, pred_word, last_word, comma, semicolon, bar, turnstile, opening, closing, opening_brace, closing_brace}
-use Rattle.heap_syntax.proofs.WordTexts.{true-word, pred-word, last-word, cyclist-word, syms}
-use Rattle.fo_term_syntax.specs.Words.{free_name}
+use Rattle.heap_syntax.specs.Words.{cyclist_word, pred_word, last_word, comma, semicolon, bar, turnstile, opening, closing, opening_brace, closing_brace, goal_word}
+use Rattle.heap_syntax.proofs.WordTexts.{true-word, pred-word, last-word, cyclist-word, first_version-word, syms, goal-word}
+use Rattle.fo_term_syntax.specs.Words.{free_name, reserved}
 use Rattle.fo_term_syntax.specs.Trees.{Atom}
 use Rattle.fo_term_syntax.specs.Grammar.{atom}
-use Rattle.fo_term_syntax.proofs.TermEnds.{free_name-inner, atom-inner}
-use Rattle.fo_problem_syntax.specs.Words.{con_word, goal_word, problem_word, first_version}
+use Rattle.fo_term_syntax.proofs.TermEnds.{atom-inner}
+use Rattle.heap_syntax.specs.Versions.{first_version}
+use Rattle.fo_problem_syntax.specs.Words.{con_word, problem_word}
 use Rattle.fo_problem_syntax.specs.Lists.{list_of}
 use Rattle.fo_problem_syntax.specs.Trees.{Constructor, Definition, Sequent}
 use Rattle.fo_problem_syntax.specs.Grammar.{atoms, atoms_or, left, right, to_constructor, from_constructor, con, cases, to_definition, from_definition, definition, to_sequent, from_sequent, sequent, some_constructor, constructors, definitions, to_problem, from_problem, goal, problem_body, problem}
@@ -23,18 +23,8 @@ use Rattle.fo_problem_syntax.proofs.ListLaws.{list-inner}
 con-word : is_lexeme (con_word.word tt) ≡ true
 con-word = letters-name (codes "con") refl
 
-goal-word : is_lexeme (goal_word.word tt) ≡ true
-goal-word = letters-name (codes "goal") refl
-
 problem-word : is_lexeme (problem_word.word tt) ≡ true
 problem-word = letters-name (codes "foproblem") refl
-
-pub version-word : is_lexeme (first_version.word tt) ≡ true
-unfolding is_number_text
-version-word = refl
-
-pub number-inner : Inner (one number)
-number-inner = one-inner number number-lexeme
 
 atoms_or-inner : (w : List ℕ) → is_lexeme ((keyword w).word tt) ≡ true → (b : Bool) → Inner (atoms_or (keyword w) b)
 unfolding atoms_or atoms
@@ -48,11 +38,11 @@ right-inner = atoms_or-inner (codes "false") (letters-name (codes "false") refl)
 
 con-inner : Inner con
 unfolding con
-con-inner = shaped-inner {A = List ℕ × ℕ} to_constructor from_constructor Any _ (after-inner con_word _ con-word (seq-inner (one free_name) _ free_name-inner (before-inner (one number) semicolon syms.semicolon_word number-inner)))
+con-inner = shaped-inner {A = List ℕ × ℕ} to_constructor from_constructor Any _ (after-inner con_word _ con-word (seq-inner (one free_name) _ (name-inner reserved) (before-inner (one number) semicolon syms.semicolon_word number-inner)))
 
 definition-inner : Inner definition
 unfolding definition cases
-definition-inner = shaped-inner {A = List ℕ × (ℕ × List (List Atom))} to_definition from_definition Any _ (after-inner pred_word _ pred-word (seq-inner (one free_name) _ free_name-inner
+definition-inner = shaped-inner {A = List ℕ × (ℕ × List (List Atom))} to_definition from_definition Any _ (after-inner pred_word _ pred-word (seq-inner (one free_name) _ (name-inner reserved)
     (after-inner opening _ syms.opening_word (seq-inner (one number) _ number-inner (after-inner closing _ syms.closing_word (after-inner opening_brace _ syms.opening_brace_word
     (before-inner _ semicolon syms.semicolon_word (before-inner (list_of bar (left true)) closing_brace syms.closing_brace_word (list-inner bar (left true) syms.bar_word (left-inner true))))))))))
 
@@ -74,7 +64,7 @@ goal-inner = after-inner goal_word _ goal-word (before-inner _ semicolon syms.se
 
 problem_body-inner : Inner problem_body
 unfolding problem_body
-problem_body-inner = shaped-inner {A = List Constructor × (List Definition × Sequent)} to_problem from_problem Any _ (after-inner cyclist_word _ cyclist-word (after-inner problem_word _ problem-word (after-inner first_version _ version-word (after-inner semicolon _ syms.semicolon_word
+problem_body-inner = shaped-inner {A = List Constructor × (List Definition × Sequent)} to_problem from_problem Any _ (after-inner cyclist_word _ cyclist-word (after-inner problem_word _ problem-word (after-inner first_version _ first_version-word (after-inner semicolon _ syms.semicolon_word
     (seq-inner constructors _ constructors-inner (seq-inner definitions goal definitions-inner goal-inner))))))
 
 pub problem-last : EndsLast problem

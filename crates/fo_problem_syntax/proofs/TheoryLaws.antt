@@ -1,21 +1,21 @@
 -- The grammar is lawful: what is read is spelled so, what is spelled is read, and a fault is exact.
-use Rattle.std.proofs.Common.{◌≡◌, ℕ, ◌<◌, Bool, true, false, List, [], ◌∷◌, ◌++◌, length, refl, ap, arith}
+use Rattle.std.proofs.Common.{◌≡◌, ℕ, ◌<◌, Bool, true, false, List, [], ◌∷◌, ◌++◌, length, refl, arith}
 use Rattle.std.specs.Prelude.{codes}
 use Rattle.cyc_lex.specs.Word.{Word}
 use Rattle.cyc_lex.proofs.Letters.{letters-name}
-use Rattle.std.specs.Str.{bytes_eq}
 use Rattle.cyc_grammar.specs.Syntax.{Syntax, Class, one, seq, many, more_many, after, before, is_one, uncons}
 use Rattle.cyc_grammar.specs.Classes.{the_end, number, keyword, is_free_name}
-use Rattle.cyc_grammar.proofs.Laws.{Lawful, Stops, Begins, BeginsNot, ClassLaw, one-law, seq-law, shaped-law, many-law, after-law, before-law, or_empty-law, uncons-cons, Stops-never}
-use Rattle.cyc_grammar.proofs.ClassLaws.{symbol-law, keyword-law, the_end-law, number-law, numeral_of-law}
-use Rattle.std.proofs.lemmas.Slice.Eq.{bytes_eq-Decides}
+use Rattle.cyc_grammar.proofs.Laws.{Lawful, Stops, Begins, BeginsNot, one-law, seq-law, shaped-law, many-law, after-law, before-law, or_empty-law, uncons-cons, Stops-never}
+use Rattle.cyc_grammar.proofs.ClassLaws.{symbol-law, keyword-law, the_end-law, number-law, free-no}
 use Rattle.heap_syntax.specs.Grammar.{Any, cons, IsSome}
-use Rattle.heap_syntax.specs.Words.{pred_word, last_word, comma, semicolon, bar, turnstile, equal, opening, closing, opening_brace, closing_brace}
+use Rattle.heap_syntax.specs.Words.{pred_word, last_word, comma, semicolon, bar, turnstile, equal, opening, closing, opening_brace, closing_brace, goal_word}
+use Rattle.heap_syntax.proofs.WordTexts.{first_version-law}
 use Rattle.fo_term_syntax.specs.Words.{reserved, free_name}
 use Rattle.fo_term_syntax.specs.Trees.{Atom}
 use Rattle.fo_term_syntax.specs.Grammar.{atom}
 use Rattle.fo_term_syntax.proofs.TermLaws.{free_name-law, atom-law, atom-end, atom-not}
-use Rattle.fo_problem_syntax.specs.Words.{con_word, goal_word, first_text, first_version}
+use Rattle.heap_syntax.specs.Versions.{first_version}
+use Rattle.fo_problem_syntax.specs.Words.{con_word}
 use Rattle.fo_problem_syntax.specs.Lists.{list_of}
 use Rattle.fo_problem_syntax.specs.Trees.{Constructor, Definition, Sequent}
 use Rattle.fo_problem_syntax.specs.Grammar.{atoms, atoms_or, left, right, to_constructor, from_constructor, con, cases, to_definition, from_definition, definition, to_sequent, from_sequent, sequent, some_constructor, constructors, definitions, to_problem, from_problem, goal, problem_body, problem}
@@ -47,17 +47,7 @@ atoms-some b xs f = f.0
 -- a word that is no name, no atom begins with
 atoms-not : (b : Bool) (w : List ℕ) → is_free_name reserved w ≡ false → (xs : List Atom) → (atoms b).fits xs → BeginsNot (is_one (keyword w)) ((atoms b).words xs)
 unfolding atoms
-atoms-not b w taken xs f = list-not comma (atom b) (is_one (keyword w)) (atom-not (is_one (keyword w)) refl refl (λ s h. free-no w taken s h) b) xs f
-  where
-    free-not : (w : List ℕ) → is_free_name reserved w ≡ false → (s : List ℕ) → is_free_name reserved s ≡ true → bytes_eq s w ≡ false
-    free-not w taken s h = by_test (bytes_eq s w) refl
-      where
-        by_test : (b : Bool) → bytes_eq s w ≡ b → b ≡ false
-        by_test true e = let same : is_free_name reserved s ≡ is_free_name reserved w = ap (is_free_name reserved) ((bytes_eq-Decides s w).0 e) in absurd cc
-        by_test false e = refl
-
-    free-no : (w : List ℕ) → is_free_name reserved w ≡ false → (s : List ℕ) → is_free_name reserved s ≡ true → is_one (keyword w) (free_name.word s) ≡ false
-    free-no w taken s h = rw (free-not w taken s h) refl
+atoms-not b w taken xs f = list-not comma (atom b) (is_one (keyword w)) (atom-not (is_one (keyword w)) refl refl (λ s h. free-no reserved w taken s h) b) xs f
 
 atoms_or-law : (w : List ℕ) → is_free_name reserved w ≡ false → (b : Bool) → Lawful (atoms_or (keyword w) b)
 unfolding atoms_or
@@ -184,9 +174,6 @@ unfolding definitions
 definitions-end d h ds = statements-end pred_word definition definition-statements d h ds
 
 -- ---- problem files
-
-pub first_version-law : ClassLaw first_version
-first_version-law = numeral_of-law first_text (tt ∷ []) tt (λ u. refl)
 
 goal-law : Lawful goal
 unfolding goal

@@ -3,11 +3,12 @@ use Rattle.std.specs.Prelude.{ℕ, Bool, true, false, List, []}
 use Rattle.cyc_grammar.specs.Syntax.{Syntax, Class, one, seq, many, shaped, after, before, is_one, uncons, or_empty}
 use Rattle.cyc_grammar.specs.Classes.{the_end, number}
 use Rattle.heap_syntax.specs.Grammar.{Any, cons, IsSome}
-use Rattle.heap_syntax.specs.Words.{true_word, pred_word, last_word, cyclist_word, comma, semicolon, bar, turnstile, opening, closing, opening_brace, closing_brace}
+use Rattle.heap_syntax.specs.Words.{true_word, pred_word, last_word, cyclist_word, comma, semicolon, bar, turnstile, opening, closing, opening_brace, closing_brace, goal_word}
 use Rattle.fo_term_syntax.specs.Words.{false_word, free_name}
 use Rattle.fo_term_syntax.specs.Trees.{Atom}
 use Rattle.fo_term_syntax.specs.Grammar.{atom}
-use Rattle.fo_problem_syntax.specs.Words.{con_word, goal_word, problem_word, first_version}
+use Rattle.heap_syntax.specs.Versions.{first_version}
+use Rattle.fo_problem_syntax.specs.Words.{con_word, problem_word}
 use Rattle.fo_problem_syntax.specs.Lists.{list_of}
 use Rattle.fo_problem_syntax.specs.Trees.{Constructor, Definition, Sequent, Problem}
 

@@ -8,11 +8,9 @@ mod problems;
 mod sequents;
 mod theories;
 mod tree;
-mod version;
 
 pub use item::{Item, listed, more_statements, write_listed, write_statements};
 pub use problems::read_problem_tree;
 pub use sequents::{sequent, write_sequent};
 pub use theories::{constructors, definitions, write_constructors, write_definitions};
 pub use tree::{ConstructorTree, DefinitionTree, ProblemTree, SequentTree};
-pub use version::{first_version, write_first_version};

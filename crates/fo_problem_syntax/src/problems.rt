@@ -12,9 +12,9 @@ ghost use Rattle.fo_problem_syntax.specs.Trees.{Problem, sequent_of, problem_of}
 use crate::sequents::sequent;
 use crate::theories::{constructors, definitions};
 use crate::tree::{ProblemTree, SequentTree};
-use crate::version::first_version;
 use cyc_grammar::{Cursor, Refusal, read_fault};
 use cyc_lex::{ReadFault, Token, Tokens};
+use heap_syntax::first_version;
 use std::alloc::Global;
 
 #[tactic(auto, unfolding(crate::specs::Grammar::goal))]

@@ -1,53 +1,36 @@
 -- The texts of proof files are of lexemes, and the end word stands last.
-use Rattle.std.proofs.Common.{◌≡◌, ℕ, true, false, List, refl, ◌⊎◌}
+use Rattle.std.proofs.Common.{◌≡◌, ℕ, true, false, List, refl}
 use Rattle.std.specs.Prelude.{codes}
 use Rattle.cyc_lex.specs.Word.{is_lexeme}
 use Rattle.cyc_lex.proofs.Letters.{letters-name}
 use Rattle.cyc_grammar.specs.Syntax.{one, is_one, uncons}
 use Rattle.cyc_grammar.specs.Classes.{number}
-use Rattle.cyc_grammar.proofs.Ends.{Inner, EndsLast, one-inner, seq-inner, after-inner, before-inner, alt-inner, many-inner, shaped-inner, headed-inner, or_empty-inner, end-once}
+use Rattle.cyc_grammar.proofs.Ends.{Inner, EndsLast, one-inner, seq-inner, after-inner, before-inner, many-inner, shaped-inner, headed-inner, or_empty-inner, end-once, number-inner}
 use Rattle.heap_syntax.specs.Grammar.{Any, cons, IsSome}
-use Rattle.heap_syntax.specs.Words.{last_word, cyclist_word, comma, semicolon, assign, opening_brace, closing_brace}
-use Rattle.heap_syntax.proofs.WordTexts.{last-word, cyclist-word, syms}
-use Rattle.fo_term_syntax.specs.Words.{dollar}
+use Rattle.heap_syntax.specs.Words.{last_word, cyclist_word, comma, semicolon, assign, opening_brace, closing_brace, dollar, node_word, by_word, opening_bracket, closing_bracket}
+use Rattle.heap_syntax.proofs.WordTexts.{last-word, cyclist-word, first_version-word, syms, node-word, by-word}
 use Rattle.fo_term_syntax.specs.Trees.{Sign}
 use Rattle.fo_term_syntax.specs.Grammar.{term}
 use Rattle.fo_term_syntax.proofs.TermEnds.{term-inner, atom-inner}
-use Rattle.fo_problem_syntax.specs.Words.{first_version}
+use Rattle.heap_syntax.specs.Versions.{first_version}
+use Rattle.heap_syntax.proofs.NumberLaws.{bracketed-inner, two_numbers-inner, premises-inner}
 use Rattle.fo_problem_syntax.specs.Lists.{list_of}
 use Rattle.fo_problem_syntax.specs.Trees.{Constructor, Definition, Sequent}
 use Rattle.fo_problem_syntax.specs.Grammar.{sequent, constructors, definitions}
 use Rattle.fo_problem_syntax.proofs.ListLaws.{list-inner}
-use Rattle.fo_problem_syntax.proofs.TheoryEnds.{number-inner, version-word, sequent-inner, constructors-inner, definitions-inner}
+use Rattle.fo_problem_syntax.proofs.TheoryEnds.{sequent-inner, constructors-inner, definitions-inner}
 use Rattle.fo_proof_syntax.specs.declared.tree.SideTree.{SideTree}
 use Rattle.fo_proof_syntax.specs.declared.tree.SideTree.TheVariants as sided
 use Rattle.fo_proof_syntax.specs.declared.reason_word.ReasonWord.{ReasonWord}
 use Rattle.fo_proof_syntax.specs.declared.reason_word.ReasonWord.TheVariants as words
-use Rattle.fo_proof_syntax.specs.Words.{node_word, by_word, to_word, fo_word, opening_bracket, closing_bracket, side_word, reason_word}
+use Rattle.fo_proof_syntax.specs.Words.{fo_word, side_word, reason_word}
 use Rattle.fo_proof_syntax.specs.Trees.{Entry, Reason, Node}
-use Rattle.fo_proof_syntax.specs.Grammar.{numbers, bracketed, two_numbers, replace, terms, right_rule, to_entry, from_entry, entry, entries, to_link, from_link, link, Parts, parts, to_reason, from_reason, reason, to_premises, from_premises, premises, to_node, from_node, node, some_node, nodes, to_file, from_file, body, file}
-
-node-word : is_lexeme (node_word.word tt) ≡ true
-node-word = letters-name (codes "node") refl
-
-by-word : is_lexeme (by_word.word tt) ≡ true
-by-word = letters-name (codes "by") refl
-
-to-word : is_lexeme (to_word.word tt) ≡ true
-to-word = letters-name (codes "to") refl
+use Rattle.fo_proof_syntax.specs.Grammar.{bracketed, replace, terms, right_rule, to_entry, from_entry, entry, entries, to_link, from_link, link, Parts, parts, to_reason, from_reason, reason, premises, to_node, from_node, node, some_node, nodes, to_file, from_file, body, file}
 
 fo-word : is_lexeme (fo_word.word tt) ≡ true
 fo-word = letters-name (codes "fo") refl
 
 -- ---- reasons
-
-numbers-inner : Inner numbers
-unfolding numbers
-numbers-inner = many-inner (is_one number) (one number) number-inner
-
-bracketed-inner : Inner bracketed
-unfolding bracketed
-bracketed-inner = after-inner opening_bracket _ syms.opening_bracket_word (before-inner numbers closing_bracket syms.closing_bracket_word numbers-inner)
 
 side-inner : Inner (one side_word)
 side-inner = one-inner side_word said
@@ -73,8 +56,8 @@ unfolding link
 link-inner = shaped-inner {A = ℕ × (List Entry × (List ℕ × List ℕ))} to_link from_link Any _ (seq-inner (one number) _ number-inner (after-inner opening_brace _ syms.opening_brace_word (seq-inner entries _ entries-inner (seq-inner bracketed bracketed bracketed-inner bracketed-inner))))
 
 parts-inner : (w : ReasonWord) → Inner (parts w)
-unfolding parts two_numbers replace right_rule
-parts-inner words.Axiom = seq-inner (one number) (one number) number-inner number-inner
+unfolding parts replace right_rule
+parts-inner words.Axiom = two_numbers-inner
 parts-inner words.Refl = number-inner
 parts-inner words.Clash = number-inner
 parts-inner words.Decompose = number-inner
@@ -107,10 +90,6 @@ reason-inner = shaped-inner {A = (w : ReasonWord) × Parts w} to_reason from_rea
 
 -- ---- nodes and files
 
-premises-inner : Inner premises
-unfolding premises
-premises-inner = shaped-inner {A = (ℕ × List ℕ) ⊎ Unit {0}} to_premises from_premises Any _ (alt-inner (is_one to_word) _ _ (after-inner to_word _ to-word (seq-inner (one number) _ number-inner (before-inner numbers semicolon syms.semicolon_word numbers-inner))) (one-inner semicolon (λ u f. syms.semicolon_word)))
-
 node-inner : Inner node
 unfolding node
 node-inner = shaped-inner {A = Sequent × (Reason × List ℕ)} to_node from_node Any _ (after-inner node_word _ node-word (seq-inner sequent _ sequent-inner (after-inner by_word _ by-word (seq-inner reason premises reason-inner premises-inner))))
@@ -121,7 +100,7 @@ nodes-inner = shaped-inner {A = Node × List Node} cons (uncons some_node) IsSom
 
 pub body-inner : Inner body
 unfolding body
-body-inner = shaped-inner {A = List Constructor × (List Definition × List Node)} to_file from_file Any _ (after-inner cyclist_word _ cyclist-word (after-inner fo_word _ fo-word (after-inner first_version _ version-word (after-inner semicolon _ syms.semicolon_word
+body-inner = shaped-inner {A = List Constructor × (List Definition × List Node)} to_file from_file Any _ (after-inner cyclist_word _ cyclist-word (after-inner fo_word _ fo-word (after-inner first_version _ first_version-word (after-inner semicolon _ syms.semicolon_word
     (seq-inner constructors _ constructors-inner (seq-inner definitions _ definitions-inner (before-inner nodes semicolon syms.semicolon_word nodes-inner)))))))
 
 pub file-last : EndsLast file

@@ -1,13 +1,13 @@
 -- The grammar is lawful: what is read is spelled so, what is spelled is read, and a fault is exact.
-use Rattle.std.proofs.Common.{◌≡◌, ℕ, Bool, false, List, [], ◌∷◌, ◌++◌, Some, refl, arith, inl, inr, ◌⊎◌}
+use Rattle.std.proofs.Common.{◌≡◌, ℕ, Bool, false, List, [], ◌∷◌, ◌++◌, Some, refl, arith}
 use Rattle.cyc_lex.specs.Word.{Word}
 use Rattle.cyc_grammar.specs.Syntax.{one, seq, many, after, before, headed, is_one, uncons}
 use Rattle.cyc_grammar.specs.Classes.{the_end, number, find_text}
-use Rattle.cyc_grammar.proofs.Laws.{Lawful, Stops, Begins, BeginsNot, BeginsNot-append, ClassLaw, one-law, seq-law, shaped-law, alt-law, many-law, after-law, before-law, headed-law, or_empty-law, uncons-cons, Stops-never}
+use Rattle.cyc_grammar.proofs.Laws.{Lawful, Stops, Begins, BeginsNot, BeginsNot-append, ClassLaw, one-law, seq-law, shaped-law, after-law, before-law, headed-law, or_empty-law, uncons-cons, Stops-never}
 use Rattle.cyc_grammar.proofs.ClassLaws.{symbol-law, keyword-law, the_end-law, number-law, keyword_of-law}
 use Rattle.heap_syntax.specs.Grammar.{Any, cons, IsSome}
-use Rattle.heap_syntax.specs.Words.{pred_word, last_word, comma, semicolon, assign, equal, opening_brace, closing_brace}
-use Rattle.fo_term_syntax.specs.Words.{dollar}
+use Rattle.heap_syntax.specs.Words.{pred_word, last_word, comma, semicolon, assign, equal, opening_brace, closing_brace, dollar, node_word, by_word, to_word, opening_bracket, closing_bracket}
+use Rattle.heap_syntax.proofs.WordTexts.{first_version-law}
 use Rattle.fo_term_syntax.specs.Trees.{Sign}
 use Rattle.fo_term_syntax.specs.Grammar.{term}
 use Rattle.fo_term_syntax.proofs.TermLaws.{term-law, term-closed, term-not, atom-law, atom-end}
@@ -15,42 +15,21 @@ use Rattle.fo_proof_syntax.specs.declared.tree.SideTree.{SideTree}
 use Rattle.fo_proof_syntax.specs.declared.tree.SideTree.TheVariants as sided
 use Rattle.fo_proof_syntax.specs.declared.reason_word.ReasonWord.{ReasonWord}
 use Rattle.fo_proof_syntax.specs.declared.reason_word.ReasonWord.TheVariants as words
-use Rattle.fo_problem_syntax.specs.Words.{first_version}
-use Rattle.fo_proof_syntax.specs.Words.{node_word, by_word, to_word, opening_bracket, closing_bracket, side_text, sides, side_word, reason_text, reason_words, reason_word}
+use Rattle.heap_syntax.specs.Versions.{first_version}
+use Rattle.heap_syntax.proofs.NumberLaws.{bracketed-law, bracketed-closed, two_numbers-law, premises-law, premises-closed}
+use Rattle.fo_proof_syntax.specs.Words.{side_text, sides, side_word, reason_text, reason_words, reason_word}
 use Rattle.fo_problem_syntax.specs.Lists.{list_of}
 use Rattle.fo_problem_syntax.specs.Trees.{Constructor, Definition, Sequent}
 use Rattle.fo_proof_syntax.specs.Trees.{Entry, Reason, Axiom, Refl, Clash, Decompose, Replace, WeakenLeft, WeakenRight, Contract, Unfold, Cut, Right, Link, Node}
 use Rattle.fo_problem_syntax.specs.Grammar.{sequent, definition, constructors, definitions}
-use Rattle.fo_proof_syntax.specs.Grammar.{numbers, bracketed, two_numbers, replace, terms, right_rule, to_entry, from_entry, entry, entries, to_link, from_link, link, Parts, parts, made_of, to_reason, from_reason, reason, to_premises, from_premises, premises, to_node, from_node, node, some_node, nodes, to_file, from_file, body, file}
+use Rattle.fo_proof_syntax.specs.Grammar.{bracketed, two_numbers, replace, terms, right_rule, to_entry, from_entry, entry, entries, to_link, from_link, link, Parts, parts, made_of, to_reason, from_reason, reason, premises, to_node, from_node, node, some_node, nodes, to_file, from_file, body, file}
 use Rattle.fo_problem_syntax.proofs.ListLaws.{Parted, list-law, list-end, list-not}
-use Rattle.fo_problem_syntax.proofs.TheoryLaws.{closed-stops, sequent-law, sequent-end, constructors-law, constructors-end, definitions-law, definitions-end, first_version-law, Statements, statements-law, statements-end}
+use Rattle.fo_problem_syntax.proofs.TheoryLaws.{closed-stops, sequent-law, sequent-end, constructors-law, constructors-end, definitions-law, definitions-end, Statements, statements-law, statements-end}
 
 term-close : (b : Bool) (t : List Sign) (d : Word) → (term b).more t d ≡ false
 term-close b t d = term-closed b t (d ∷ [])
 
 -- ---- the parts of a reason
-
-numbers-law : Lawful numbers
-unfolding numbers
-numbers-law = many-law (is_one number) (one number) (one-law number number-law) (record { starts = λ n f. rw (number-law.value n f) refl; apart = λ n d f h. refl })
-
-numbers-end : (d : Word) → is_one number d ≡ false → (ns : List ℕ) → numbers.fits ns → numbers.more ns d ≡ false
-unfolding numbers
-numbers-end d h [] f = h
-numbers-end d h (n ∷ []) f = rw h refl
-numbers-end d h (n ∷ m ∷ ns) f = numbers-end d h (m ∷ ns) f.1
-
-bracketed-law : Lawful bracketed
-unfolding bracketed
-bracketed-law = after-law opening_bracket _ (symbol-law _) (before-law numbers closing_bracket (symbol-law _) numbers-law (λ ns f. numbers-end (closing_bracket.word tt) refl ns f))
-
-bracketed-closed : (ns : List ℕ) (d : Word) → bracketed.more ns d ≡ false
-unfolding bracketed
-bracketed-closed ns d = refl
-
-two_numbers-law : Lawful two_numbers
-unfolding two_numbers
-two_numbers-law = seq-law (one number) (one number) (one-law number number-law) (one-law number number-law) (λ x y r fx fy h. Stops-never ((one number).words y ++ r))
 
 side-law : ClassLaw side_word
 side-law = keyword_of-law side_text sides sided.Left found
@@ -209,28 +188,6 @@ reason-end d h (Right j k ts) = terms-closed ts d
 reason-end d h (Link l) = bracketed-closed l.right d
 
 -- ---- premises
-
-premises-law : Lawful premises
-unfolding premises
-premises-law =
-    shaped-law {A = (ℕ × List ℕ) ⊎ Unit {0}} to_premises from_premises Any _ (λ x f. (there x, tt)) (λ ns h. here ns)
-    (alt-law (is_one to_word) (after to_word (seq (one number) (before numbers semicolon))) (one semicolon) (λ x f. refl) (λ u f. refl)
-    (after-law to_word (seq (one number) (before numbers semicolon)) (keyword-law _)
-    (seq-law (one number) (before numbers semicolon) (one-law number number-law) (before-law numbers semicolon (symbol-law _) numbers-law (λ ns f. numbers-end (semicolon.word tt) refl ns f)) (λ n ns r fn fns h. Stops-never ((before numbers semicolon).words ns ++ r))))
-    (one-law semicolon (symbol-law _)))
-  where
-    there : (x : (ℕ × List ℕ) ⊎ Unit {0}) → from_premises (to_premises x) ≡ x
-    there (inl p) = refl
-    there (inr u) = refl
-
-    here : (ns : List ℕ) → to_premises (from_premises ns) ≡ ns
-    here [] = refl
-    here (n ∷ ns) = refl
-
-premises-closed : (ns : List ℕ) (d : Word) → premises.more ns d ≡ false
-unfolding premises
-premises-closed [] d = refl
-premises-closed (n ∷ ns) d = refl
 
 premises-apart : (r : Reason) (ns : List ℕ) (rest : List Word) → Stops (reason.more r) (premises.words ns ++ rest)
 unfolding premises

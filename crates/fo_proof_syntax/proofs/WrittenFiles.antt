@@ -1,22 +1,15 @@
--- What is written for premises and for a whole file.
-use Rattle.std.proofs.Common.{◌≡◌, ℕ, List, [], ◌∷◌, ◌++◌}
+-- What is written for a whole file.
+use Rattle.std.proofs.Common.{◌≡◌, List, [], ◌∷◌, ◌++◌}
 use Rattle.cyc_lex.specs.Word.{Word}
 use Rattle.cyc_lex.specs.Writing.{Written, write, write_all}
-use Rattle.cyc_grammar.specs.Classes.{number}
 use Rattle.cyc_grammar.proofs.WrittenTexts.{wrote-behind, wrote-both, wrote-ended}
 use Rattle.heap_syntax.specs.Words.{cyclist_word, semicolon}
-use Rattle.fo_problem_syntax.specs.Words.{first_version}
+use Rattle.heap_syntax.specs.Versions.{first_version}
 use Rattle.fo_problem_syntax.specs.Trees.{Constructor, Definition}
 use Rattle.fo_problem_syntax.specs.Grammar.{constructors, definitions}
-use Rattle.fo_proof_syntax.specs.Words.{to_word, fo_word}
+use Rattle.fo_proof_syntax.specs.Words.{fo_word}
 use Rattle.fo_proof_syntax.specs.Trees.{Node}
-use Rattle.fo_proof_syntax.specs.Grammar.{numbers, premises, nodes, body}
-
-pub premises-wrote : (old a b c d : Written) (n : ℕ) (ns : List ℕ) → a ≡ write old (to_word.word tt) → b ≡ write a (number.word n) → c ≡ write_all b (numbers.words ns) → d ≡ write c (semicolon.word tt) → d ≡ write_all old (premises.words (n ∷ ns))
-unfolding premises write_all
-premises-wrote old a b c d n ns ha hb hc hd =
-    let rest : List Word = numbers.words ns ++ semicolon.word tt ∷ [] in
-    wrote-behind old a d (to_word.word tt) (number.word n ∷ rest) ha (wrote-behind a b d (number.word n) rest hb (wrote-both b c d (numbers.words ns) (semicolon.word tt ∷ []) hc hd))
+use Rattle.fo_proof_syntax.specs.Grammar.{nodes, body}
 
 pub body-wrote : (old a b c d e f g h : Written) (cs : List Constructor) (ds : List Definition) (ns : List Node) → a ≡ write old (cyclist_word.word tt) → b ≡ write a (fo_word.word tt) → c ≡ write b (first_version.word tt) → d ≡ write c (semicolon.word tt)
     → e ≡ write_all d (constructors.words cs) → f ≡ write_all e (definitions.words ds) → g ≡ write_all f (nodes.words ns) → h ≡ write g (semicolon.word tt) → h ≡ write_all old (body.words (record { constructors = cs; definitions = ds; nodes = ns }))

@@ -1,33 +1,24 @@
 -- The grammar of proof files of first-order logic.
-use Rattle.std.specs.Prelude.{ℕ, false, List, [], ◌∷◌, ◌⊎◌, Ok}
-use Rattle.std.proofs.Common.{inl, inr}
+use Rattle.std.specs.Prelude.{ℕ, false, List, [], Ok}
 use Rattle.cyc_lex.specs.Word.{Word}
-use Rattle.cyc_grammar.specs.Syntax.{Reading, ◌>>=◌, Syntax, one, seq, alt, many, shaped, after, before, headed, is_one, uncons, or_empty}
+use Rattle.cyc_grammar.specs.Syntax.{Reading, ◌>>=◌, Syntax, one, seq, many, shaped, after, before, headed, is_one, uncons, or_empty}
 use Rattle.cyc_grammar.specs.Classes.{the_end, number}
-unfoldable pub use Rattle.heap_syntax.specs.Numbers.{numbers}
+unfoldable pub use Rattle.heap_syntax.specs.Numbers.{numbers, bracketed, two_numbers, premises}
 use Rattle.heap_syntax.specs.Grammar.{Any, cons, IsSome}
-use Rattle.heap_syntax.specs.Words.{last_word, cyclist_word, comma, semicolon, assign, opening_brace, closing_brace}
-use Rattle.fo_term_syntax.specs.Words.{dollar}
+use Rattle.heap_syntax.specs.Words.{last_word, cyclist_word, comma, semicolon, assign, opening_brace, closing_brace, dollar, node_word, by_word, opening_bracket, closing_bracket}
 use Rattle.fo_term_syntax.specs.Trees.{Sign, Atom}
 use Rattle.fo_term_syntax.specs.Grammar.{term, atom}
-use Rattle.fo_problem_syntax.specs.Words.{first_version}
+use Rattle.heap_syntax.specs.Versions.{first_version}
 use Rattle.fo_problem_syntax.specs.Lists.{list_of}
 use Rattle.fo_problem_syntax.specs.Trees.{Constructor, Definition, Sequent}
 use Rattle.fo_problem_syntax.specs.Grammar.{sequent, constructors, definitions}
 use Rattle.fo_proof_syntax.specs.declared.tree.SideTree.{SideTree}
 use Rattle.fo_proof_syntax.specs.declared.reason_word.ReasonWord.{ReasonWord}
 use Rattle.fo_proof_syntax.specs.declared.reason_word.ReasonWord.TheVariants as words
-use Rattle.fo_proof_syntax.specs.Words.{node_word, by_word, to_word, fo_word, opening_bracket, closing_bracket, side_word, reason_word}
+use Rattle.fo_proof_syntax.specs.Words.{fo_word, side_word, reason_word}
 use Rattle.fo_proof_syntax.specs.Trees.{Entry, LinkData, Reason, Axiom, Refl, Clash, Decompose, Replace, WeakenLeft, WeakenRight, Contract, Unfold, Cut, Right, Link, Node, File}
 
 -- ---- the parts of a reason
-
--- "[" { number } "]"
-unfoldable pub bracketed : Syntax (List ℕ)
-bracketed = after opening_bracket (before numbers closing_bracket)
-
-unfoldable pub two_numbers : Syntax (ℕ × ℕ)
-two_numbers = seq (one number) (one number)
 
 -- number ( "left" | "right" )
 unfoldable pub replace : Syntax (ℕ × SideTree)
@@ -162,19 +153,6 @@ FitsBehind (Unfold i) = (one number).fits i
 FitsBehind (Cut a) = (atom false).fits a
 FitsBehind (Right j k ts) = right_rule.fits (j, (k, ts))
 FitsBehind (Link l) = link.fits l
-
--- ---- [ "to" number { number } ] ";"
-
-abbrev pub to_premises : (ℕ × List ℕ) ⊎ Unit {0} → List ℕ
-to_premises (inl p) = p.0 ∷ p.1
-to_premises (inr u) = []
-
-abbrev pub from_premises : List ℕ → (ℕ × List ℕ) ⊎ Unit {0}
-from_premises [] = inr tt
-from_premises (n ∷ ns) = inl (n, ns)
-
-unfoldable pub premises : Syntax (List ℕ)
-premises = shaped {A = (ℕ × List ℕ) ⊎ Unit {0}} to_premises from_premises Any (alt (is_one to_word) (after to_word (seq (one number) (before numbers semicolon))) (one semicolon))
 
 -- ---- fonode = "node" sequent "by" foreason [ "to" number { number } ] ";"
 

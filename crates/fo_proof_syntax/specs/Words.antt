@@ -1,29 +1,14 @@
 -- The words of proof files of first-order logic that are not those of theories.
 use Rattle.std.specs.Prelude.{ℕ, List, [], ◌∷◌, codes}
 use Rattle.cyc_grammar.specs.Syntax.{Class}
-use Rattle.cyc_grammar.specs.Classes.{symbol, keyword, keyword_of}
+use Rattle.cyc_grammar.specs.Classes.{keyword, keyword_of}
 use Rattle.fo_proof_syntax.specs.declared.tree.SideTree.{SideTree}
 use Rattle.fo_proof_syntax.specs.declared.tree.SideTree.TheVariants as sided
 use Rattle.fo_proof_syntax.specs.declared.reason_word.ReasonWord.{ReasonWord}
 use Rattle.fo_proof_syntax.specs.declared.reason_word.ReasonWord.TheVariants.{Axiom, Refl, Clash, Decompose, Replace, WeakenLeft, WeakenRight, Contract, Unfold, Cut, Right, Link}
 
-abbrev pub node_word : Class (Unit {0})
-node_word = keyword (codes "node")
-
-abbrev pub by_word : Class (Unit {0})
-by_word = keyword (codes "by")
-
-abbrev pub to_word : Class (Unit {0})
-to_word = keyword (codes "to")
-
 abbrev pub fo_word : Class (Unit {0})
 fo_word = keyword (codes "fo")
-
-abbrev pub opening_bracket : Class (Unit {0})
-opening_bracket = symbol (codes "[")
-
-abbrev pub closing_bracket : Class (Unit {0})
-closing_bracket = symbol (codes "]")
 
 -- the text of a side
 abbrev pub side_text : SideTree → List ℕ

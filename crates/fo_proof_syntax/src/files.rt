@@ -17,10 +17,8 @@ use crate::tree::FileTree;
 use cyc_grammar::{Cursor, Refusal, read_fault};
 use cyc_lex::{ReadFault, Token, Tokens, WordWriter};
 use cyc_memory::OutOfMemory;
-use fo_problem_syntax::{
-    constructors, definitions, first_version, write_constructors, write_definitions,
-    write_first_version,
-};
+use fo_problem_syntax::{constructors, definitions, write_constructors, write_definitions};
+use heap_syntax::{first_version, write_first_version};
 use std::alloc::Global;
 
 #[tactic(auto, unfolding(crate::specs::Grammar::body))]

@@ -3,7 +3,7 @@
 ghost use Rattle.std.specs.Prelude.{◌≡◌, map, OnOk};
 ghost use Rattle.cyc_lex.specs.Writing.{write, write_all};
 ghost use Rattle.cyc_grammar.specs.Giving.{Gives};
-ghost use Rattle.fo_proof_syntax.specs.Grammar.{premises, node, nodes};
+ghost use Rattle.fo_proof_syntax.specs.Grammar.{node, nodes};
 ghost use Rattle.fo_proof_syntax.specs.Trees.{node_of};
 
 use crate::read_reasons::reason;
@@ -13,39 +13,8 @@ use cyc_grammar::{Cursor, Refusal};
 use cyc_lex::WordWriter;
 use cyc_memory::OutOfMemory;
 use fo_problem_syntax::{Item, more_statements, sequent, write_sequent, write_statements};
-use heap_syntax::{more_numbers, write_numbers};
+use heap_syntax::{premises, write_premises};
 use std::alloc::Global;
-
-#[tactic(auto, unfolding(crate::specs::Grammar::premises))]
-fn premises(alloc: Global, cursor: &mut Cursor<'_, '_>) -> Result<Vec<u32>, Refusal>
-    ensures { Gives (λ x. (x.items, cursor.new)) result (premises.read cursor.old) }
-{
-    let mut items = Vec::new(alloc);
-    if cursor.is_keyword_next("to") {
-        cursor.keyword("to")?;
-        items.push(cursor.number()?)?;
-        let items = more_numbers(items, cursor)?;
-        cursor.symbol(";")?;
-        return Ok(items);
-    }
-    cursor.symbol(";")?;
-    Ok(items)
-}
-
-#[tactic(auto, using(cyc_lex::proofs::WritingLaws::write_all_on), unfolding(crate::specs::Grammar::premises, cyc_lex::specs::Writing::write_all))]
-fn write_premises(numbers: &[u32], writer: &mut WordWriter) -> Result<(), OutOfMemory>
-    ensures { OnOk result (writer.new ≡ write_all writer.old (premises.words numbers.now)) }
-{
-    match numbers {
-        [] => writer.symbol(";"),
-        [first, others @ ..] => {
-            writer.name("to")?;
-            writer.number(*first)?;
-            write_numbers(others, writer)?;
-            writer.symbol(";")
-        }
-    }
-}
 
 #[tactic(auto, unfolding(crate::specs::Grammar::node))]
 fn node<'a>(alloc: Global, cursor: &mut Cursor<'_, 'a>) -> Result<NodeTree<'a>, Refusal>

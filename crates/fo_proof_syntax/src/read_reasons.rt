@@ -5,7 +5,7 @@ ghost use Rattle.cyc_grammar.specs.Syntax.{read_class};
 ghost use Rattle.cyc_grammar.specs.Giving.{Gives, with_front};
 ghost use Rattle.fo_term_syntax.specs.Trees.{atom_of};
 ghost use Rattle.fo_proof_syntax.specs.Words.{side_word, reason_word};
-ghost use Rattle.fo_proof_syntax.specs.Grammar.{numbers, bracketed, two_numbers, replace, right_rule, link, Parts, parts, to_reason, reason, parts_read};
+ghost use Rattle.fo_proof_syntax.specs.Grammar.{replace, right_rule, link, Parts, parts, to_reason, reason, parts_read};
 ghost use Rattle.fo_proof_syntax.specs.Trees.{signs_of, link_of, reason_of};
 
 use crate::reason_word::{ReasonWord, side_from_text};
@@ -13,33 +13,8 @@ use crate::term_lists::{entries, terms};
 use crate::tree::{LinkTree, ReasonTree, SideTree};
 use cyc_grammar::{Cursor, Refusal};
 use fo_term_syntax::{SignTree, atom};
-use heap_syntax::more_numbers;
+use heap_syntax::{bracketed, two_numbers};
 use std::alloc::Global;
-
-fn numbers(alloc: Global, cursor: &mut Cursor<'_, '_>) -> Result<Vec<u32>, Refusal>
-    ensures { Gives (λ x. (x.items, cursor.new)) result (numbers.read cursor.old) }
-{
-    more_numbers(Vec::new(alloc), cursor)
-}
-
-#[tactic(auto, unfolding(crate::specs::Grammar::bracketed))]
-fn bracketed(alloc: Global, cursor: &mut Cursor<'_, '_>) -> Result<Vec<u32>, Refusal>
-    ensures { Gives (λ x. (x.items, cursor.new)) result (bracketed.read cursor.old) }
-{
-    cursor.symbol("[")?;
-    let items = numbers(alloc, cursor)?;
-    cursor.symbol("]")?;
-    Ok(items)
-}
-
-#[tactic(auto, unfolding(crate::specs::Grammar::two_numbers))]
-fn two_numbers(cursor: &mut Cursor<'_, '_>) -> Result<(u32, u32), Refusal>
-    ensures { Gives (λ x. ((x.0, x.1), cursor.new)) result (two_numbers.read cursor.old) }
-{
-    let first = cursor.number()?;
-    let second = cursor.number()?;
-    Ok((first, second))
-}
 
 fn side(cursor: &mut Cursor<'_, '_>) -> Result<SideTree, Refusal>
     ensures { Gives (λ x. (x, cursor.new)) result (read_class side_word cursor.old) }

@@ -2,7 +2,7 @@
 
 ghost use Rattle.std.specs.Prelude.{◌≡◌, map, OnOk, false};
 ghost use Rattle.cyc_lex.specs.Writing.{write, write_all};
-ghost use Rattle.fo_proof_syntax.specs.Grammar.{bracketed, right_rule, link, reason, behind_word, FitsBehind};
+ghost use Rattle.fo_proof_syntax.specs.Grammar.{right_rule, link, reason, behind_word, FitsBehind};
 ghost use Rattle.fo_proof_syntax.specs.Trees.{signs_of, link_of, reason_of, word_of_reason};
 
 use crate::reason_word::{ReasonWord, text_of_side};
@@ -11,17 +11,8 @@ use crate::tree::{LinkTree, ReasonTree};
 use cyc_lex::WordWriter;
 use cyc_memory::OutOfMemory;
 use fo_term_syntax::{SignTree, write_atom};
-use heap_syntax::write_numbers;
+use heap_syntax::write_bracketed;
 use std::alloc::Global;
-
-#[tactic(auto, using(cyc_lex::proofs::WritingLaws::write_all_on), unfolding(crate::specs::Grammar::bracketed, cyc_lex::specs::Writing::write_all))]
-fn write_bracketed(numbers: &[u32], writer: &mut WordWriter) -> Result<(), OutOfMemory>
-    ensures { OnOk result (writer.new ≡ write_all writer.old (bracketed.words numbers.now)) }
-{
-    writer.symbol("[")?;
-    write_numbers(numbers, writer)?;
-    writer.symbol("]")
-}
 
 #[tactic(auto, unfolding(crate::specs::Grammar::right_rule, cyc_lex::specs::Writing::write_all))]
 fn write_right(
@@ -57,7 +48,7 @@ fn write_link(
     write_bracketed(&tree.right, writer)
 }
 
-#[tactic(auto, using(cyc_lex::proofs::WritingLaws::write_all_on), unfolding(crate::specs::Grammar::replace, crate::specs::Grammar::two_numbers, cyc_lex::specs::Writing::write_all))]
+#[tactic(auto, using(cyc_lex::proofs::WritingLaws::write_all_on), unfolding(crate::specs::Grammar::replace, heap_syntax::specs::Numbers::two_numbers, cyc_lex::specs::Writing::write_all))]
 fn write_parts(
     alloc: Global,
     tree: &ReasonTree<'_>,

@@ -37,12 +37,13 @@ count-ends [] e = refl
 count-ends (zero ∷ waits) e = let f : total waits ≡ 0 = omega (arith, e) in ap (count Closing) (count-ends waits f)
 count-ends (suc n ∷ waits) e = absurd (omega (arith, e))
 
+-- no signs are no terms
+pub none-awaited : (n : ℕ) → AreTerms n [] → n ≡ 0
+none-awaited zero h = refl
+none-awaited (suc n) h = absurd h
+
 pub counts-again : (ss : List Sign) (waits : List ℕ) → AreTerms (total waits) ss → counted (brackets waits ss) ≡ (ss, waits)
-counts-again [] waits h = count-ends waits (none (total waits) h)
-  where
-    none : (n : ℕ) → AreTerms n [] → n ≡ 0
-    none zero h = refl
-    none (suc n) h = absurd h
+counts-again [] waits h = count-ends waits (none-awaited (total waits) h)
 counts-again (s ∷ ss) waits h = by_total (λ k. counts-again ss (opened s (behind_next waits)) k) (total waits) refl h
   where
     by_total : (AreTerms (total (opened s (behind_next waits))) ss → counted (brackets (opened s (behind_next waits)) ss) ≡ (ss, opened s (behind_next waits))) → (n : ℕ) → total waits ≡ n → AreTerms n (s ∷ ss) → counted (brackets waits (s ∷ ss)) ≡ (s ∷ ss, waits)

@@ -3,14 +3,13 @@ use Rattle.std.proofs.Common.{◌≡◌, ℕ, Bool, true, false, List, [], ◌�
 use Rattle.cyc_lex.specs.Word.{is_lexeme, are_lexemes}
 use Rattle.cyc_grammar.specs.Syntax.{Syntax, Class, one, after, is_one}
 use Rattle.cyc_grammar.specs.Classes.{number}
-use Rattle.cyc_grammar.proofs.ClassLaws.{name-lexeme, number-lexeme}
-use Rattle.cyc_grammar.proofs.Ends.{Inner, one-inner, seq-inner, after-inner, before-inner, alt-inner, shaped-inner, lexemes-append}
+use Rattle.cyc_grammar.proofs.Ends.{Inner, one-inner, seq-inner, after-inner, before-inner, alt-inner, shaped-inner, lexemes-append, number-inner, name-inner}
 use Rattle.heap_syntax.specs.Grammar.{Any}
-use Rattle.heap_syntax.specs.Words.{equal, comma, opening, closing}
+use Rattle.heap_syntax.specs.Words.{equal, comma, opening, closing, dollar, query}
 use Rattle.heap_syntax.proofs.WordTexts.{syms}
 use Rattle.fo_term_syntax.specs.declared.bracket.Awaited.{Awaited}
 use Rattle.fo_term_syntax.specs.declared.bracket.Awaited.TheVariants.{First, Next, Nothing}
-use Rattle.fo_term_syntax.specs.Words.{dollar, query, reserved, free_name}
+use Rattle.fo_term_syntax.specs.Words.{reserved, free_name}
 use Rattle.fo_term_syntax.specs.Steps.{Steps, words_steps, fits_steps, steps, words_option, fits_option, option}
 use Rattle.fo_term_syntax.specs.Trees.{Sign}
 use Rattle.fo_term_syntax.specs.Brackets.{Mark}
@@ -30,12 +29,6 @@ option-inner {A = A} c a h ia = record { inner = both }
     both (inl u) f = refl
     both (inr x) f = rw (h, ia.inner x f) refl
 
-pub free_name-inner : Inner (one free_name)
-free_name-inner = one-inner free_name (name-lexeme reserved)
-
-number-inner : Inner (one number)
-number-inner = one-inner number number-lexeme
-
 leaf-inner : (b : Bool) → Inner (leaf b)
 unfolding leaf
 leaf-inner true = shaped-inner {A = ℕ ⊎ ℕ} to_leaf from_leaf IsLeaf _ (alt-inner (is_one dollar) _ _ (after-inner dollar (one number) syms.dollar_word number-inner) (after-inner query (one number) syms.query_word number-inner))
@@ -43,7 +36,7 @@ leaf-inner false = shaped-inner {A = ℕ} to_variable from_variable IsVariable _
 
 named-inner : Inner named
 unfolding named
-named-inner = before-inner (one free_name) opening syms.opening_word free_name-inner
+named-inner = before-inner (one free_name) opening syms.opening_word (name-inner reserved)
 
 head-inner : (b : Bool) → Inner (head b)
 unfolding head

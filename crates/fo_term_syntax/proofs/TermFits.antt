@@ -8,7 +8,7 @@ use Rattle.fo_term_syntax.specs.Trees.{Sign, Variable, Local, Apply, arguments_o
 use Rattle.fo_term_syntax.specs.Brackets.{Mark, Leaf, Opening, Closing, mark_of, opened, closings, behind_next, brackets, counted}
 use Rattle.fo_term_syntax.specs.Fits.{FitsSign, FitSigns}
 use Rattle.fo_term_syntax.specs.Grammar.{leaf, named, head, first_mark, next_mark, mark, closed_in, behind_mark, within, marks, application, IsTerm, term}
-use Rattle.fo_term_syntax.proofs.BracketLaws.{total, total-opened, total-next, levels, counts-again}
+use Rattle.fo_term_syntax.proofs.BracketLaws.{total, total-opened, total-next, levels, counts-again, none-awaited}
 
 -- ---- signs and marks
 
@@ -98,10 +98,6 @@ ends-fit b [] (Next n) e l = absurd cc
 ends-fit b [] Nothing e l = refl
 ends-fit b (zero ∷ waits) a e l = let t : total waits ≡ 0 = omega (arith, e) in closing-step b a (length waits) (closings waits) l (λ c k. ends-fit b waits c t k)
 ends-fit b (suc n ∷ waits) a e l = absurd (omega (arith, e))
-
-none-awaited : (n : ℕ) → AreTerms n [] → n ≡ 0
-none-awaited zero h = refl
-none-awaited (suc n) h = absurd h
 
 brackets-fit : (b : Bool) (ss : List Sign) (waits : List ℕ) (a : Awaited) → AreTerms (total waits) ss → FitSigns b ss → levels a ≡ length waits → fits_steps (within b) a (brackets waits ss)
 brackets-fit b [] waits a h f l = ends-fit b waits a (none-awaited (total waits) h) l

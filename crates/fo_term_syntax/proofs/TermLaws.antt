@@ -8,10 +8,10 @@ use Rattle.cyc_grammar.specs.Classes.{number, is_free_name}
 use Rattle.cyc_grammar.proofs.Laws.{Lawful, Stops, Begins, Begins-append, BeginsNot, BeginsNot-append, ClassLaw, one-law, seq-law, shaped-law, alt-law, after-law, before-law, Stops-never}
 use Rattle.cyc_grammar.proofs.ClassLaws.{symbol-law, name-law, number-law}
 use Rattle.heap_syntax.specs.Grammar.{Any}
-use Rattle.heap_syntax.specs.Words.{equal, comma, opening, closing}
+use Rattle.heap_syntax.specs.Words.{equal, comma, opening, closing, dollar, query}
 use Rattle.fo_term_syntax.specs.declared.bracket.Awaited.{Awaited}
 use Rattle.fo_term_syntax.specs.declared.bracket.Awaited.TheVariants.{First, Next, Nothing}
-use Rattle.fo_term_syntax.specs.Words.{dollar, query, reserved, free_name}
+use Rattle.fo_term_syntax.specs.Words.{reserved, free_name}
 use Rattle.fo_term_syntax.specs.Steps.{fits_steps, option}
 use Rattle.fo_term_syntax.specs.Trees.{Sign, Variable, Local, Apply, AreTerms, Atom, Equation, Predicate}
 use Rattle.fo_term_syntax.specs.Brackets.{Mark, Leaf, Opening, Closing, mark_of, brackets, counted}

@@ -5,10 +5,10 @@ use Rattle.cyc_lex.specs.Word.{Word}
 use Rattle.cyc_grammar.specs.Syntax.{Reading, ◌>>=◌, Syntax, one, seq, alt, shaped, after, before, is_one}
 use Rattle.cyc_grammar.specs.Classes.{number}
 use Rattle.heap_syntax.specs.Grammar.{Any}
-use Rattle.heap_syntax.specs.Words.{equal, comma, opening, closing}
+use Rattle.heap_syntax.specs.Words.{equal, comma, opening, closing, dollar, query}
 use Rattle.fo_term_syntax.specs.declared.bracket.Awaited.{Awaited}
 use Rattle.fo_term_syntax.specs.declared.bracket.Awaited.TheVariants.{First, Next, Nothing}
-use Rattle.fo_term_syntax.specs.Words.{dollar, query, free_name}
+use Rattle.fo_term_syntax.specs.Words.{free_name}
 use Rattle.fo_term_syntax.specs.Steps.{Steps, steps, option}
 use Rattle.fo_term_syntax.specs.Trees.{Sign, Variable, Local, Apply, AreTerms, Atom, Equation, Predicate}
 use Rattle.fo_term_syntax.specs.Brackets.{Mark, Leaf, Opening, Closing, brackets, innermost, counted}

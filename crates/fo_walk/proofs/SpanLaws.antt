@@ -2,8 +2,8 @@
 use Rattle.std.proofs.Common.{◌≡◌, ℕ, ◌+◌, Bool, true, false, List, [], ◌∷◌, ◌++◌, length, length-append, suc, refl, ap, arith}
 use Rattle.cyc_grammar.specs.Syntax.{Syntax, Class, is_one, before, or_empty, words_many}
 use Rattle.cyc_grammar.specs.Classes.{the_end}
-use Rattle.heap_syntax.specs.Words.{true_word, pred_word, last_word, comma, equal, semicolon, bar, turnstile, closing_brace}
-use Rattle.heap_reader.specs.Spans.{total, total_or}
+use Rattle.heap_syntax.specs.Words.{true_word, pred_word, last_word, comma, equal, semicolon, bar, turnstile, closing_brace, node_word, by_word, closing_bracket}
+use Rattle.heap_reader.specs.Spans.{total, total_or, premises_rest}
 use Rattle.heap_reader.proofs.SpanLaws.{between, alone}
 use Rattle.fo_term_syntax.specs.Words.{false_word}
 use Rattle.fo_term_syntax.specs.Trees.{Sign, Variable, Local, Apply, Atom, Equation, Predicate}
@@ -13,12 +13,11 @@ use Rattle.fo_problem_syntax.specs.Lists.{list_of}
 use Rattle.fo_problem_syntax.specs.Trees.{Constructor, Definition, Sequent, Problem}
 use Rattle.fo_problem_syntax.specs.Words.{con_word}
 use Rattle.fo_problem_syntax.specs.Grammar.{atoms, atoms_or, left, right, con, cases, definition, constructors, definitions, sequent, goal, problem_body, problem}
-use Rattle.fo_proof_syntax.specs.Words.{node_word, by_word, closing_bracket}
 use Rattle.fo_proof_syntax.specs.Trees.{Entry, LinkData, Reason, Axiom, Refl, Clash, Decompose, Replace, WeakenLeft, WeakenRight, Contract, Unfold, Cut, Right, Link, Node, File}
 use Rattle.fo_proof_syntax.specs.Grammar.{numbers, bracketed, two_numbers, replace, terms, right_rule, entry, entries, link, parts, reason, premises, node, nodes, body, file}
 use Rattle.fo_walk.specs.AtomSpans.{atom_span, atoms_span}
 use Rattle.fo_walk.proofs.Walks.{one-term}
-use Rattle.fo_walk.specs.Spans.{constructor_span, definition_span, sequent_span, term_span, entry_span, link_span, reason_span, premises_span, node_span, file_end, problem_end}
+use Rattle.fo_walk.specs.Spans.{constructor_span, definition_span, sequent_span, term_span, entry_span, link_span, reason_span, node_span, file_end, problem_end}
 
 -- members with a word between neighbours
 listed : {A : Type 0} (c : Class (Unit {0})) (a : Syntax A) (span : A → ℕ) → ((x : A) → a.fits x → length (a.words x) + 1 ≡ span x) → (xs : List A) → (list_of c a).fits xs → length ((list_of c a).words xs) + 1 ≡ total span xs
@@ -125,7 +124,7 @@ reason_words (Link l) f = omega (arith, link_words l f.1.1)
 
 -- ---- nodes and texts
 
-premises_words : (ns : List ℕ) → length (premises.words ns) ≡ premises_span ns + 1
+premises_words : (ns : List ℕ) → length (premises.words ns) ≡ premises_rest ns + 1
 unfolding premises
 premises_words [] = refl
 premises_words (n ∷ ns) = omega (arith, numbers_words ns, length-append (numbers.words ns) (semicolon.word tt ∷ []))

@@ -1,7 +1,7 @@
 -- How many tokens the parts of a text have, the one token after an atom, a term, a sequent or a reason counted in, and
 -- how many terms.
-use Rattle.std.specs.Prelude.{ℕ, ◌+◌, List, [], ◌∷◌, length}
-use Rattle.heap_reader.specs.Spans.{total, total_or}
+use Rattle.std.specs.Prelude.{ℕ, ◌+◌, List, length}
+use Rattle.heap_reader.specs.Spans.{total, total_or, premises_rest}
 use Rattle.fo_term_syntax.specs.Trees.{Sign}
 use Rattle.fo_term_syntax.specs.Places.{tokens_in}
 use Rattle.fo_problem_syntax.specs.Trees.{Constructor, Definition, Sequent, Problem}
@@ -69,14 +69,9 @@ reason_terms (Link l) = total entry_terms l.substitution
 
 -- ---- nodes and texts
 
--- where there are premises, the numbers and ";", since "to" is after the reason
-abbrev pub premises_span : List ℕ → ℕ
-premises_span [] = 0
-premises_span (n ∷ ns) = length (n ∷ ns) + 1
-
 -- "node" and its parts; nothing after it
 abbrev pub node_span : Node → ℕ
-node_span n = 1 + sequent_span n.sequent + reason_span n.reason + premises_span n.premises
+node_span n = 1 + sequent_span n.sequent + reason_span n.reason + premises_rest n.premises
 
 -- the token after the definitions; four tokens stand before the first constructor
 abbrev pub behind_theory : List Constructor → List Definition → ℕ

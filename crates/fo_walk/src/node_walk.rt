@@ -2,7 +2,7 @@
 
 ghost use Rattle.std.specs.Prelude.{◌≡◌, ◌+◌, ◌<◌, ◌^◌, map, None};
 ghost use Rattle.heap_formula.specs.Words.{Each};
-ghost use Rattle.heap_reader.specs.Spans.{total};
+ghost use Rattle.heap_reader.specs.Spans.{total, premises_rest};
 ghost use Rattle.fo_term_syntax.specs.Trees.{atom_of};
 ghost use Rattle.fo_problem_syntax.specs.Trees.{sequent_of};
 ghost use Rattle.fo_proof_syntax.specs.Trees.{node_of};
@@ -10,7 +10,7 @@ ghost use Rattle.fo_walk.specs.declared.flaw.Scope.TheVariants.{Node};
 ghost use Rattle.fo_walk.specs.AtomSpans.{atoms_span, total_terms, AreAtoms};
 ghost use Rattle.fo_walk.specs.AtomFlaws.{side_flaw, IsWalk, IsWalkFrom};
 ghost use Rattle.fo_walk.specs.Parts.{IsSequent, IsNode};
-ghost use Rattle.fo_walk.specs.Spans.{sequent_span, sequent_terms, premises_span, node_span};
+ghost use Rattle.fo_walk.specs.Spans.{sequent_span, sequent_terms, node_span};
 ghost use Rattle.fo_walk.specs.Flaws.{sequent_flaw, node_flaw, nodes_flaw};
 ghost use Rattle.fo_walk.specs.Answers.{IsPassed};
 
@@ -75,8 +75,8 @@ pub fn walk_sequent(
 
 /// The token after the premises, which stand after the token of this number.
 fn behind_premises(at: usize, premises: &[u32]) -> usize
-    requires { at + premises_span premises.now < 2 ^ 64 }
-    ensures { result ≡ at + premises_span premises.now }
+    requires { at + premises_rest premises.now < 2 ^ 64 }
+    ensures { result ≡ at + premises_rest premises.now }
 {
     if premises.is_empty() {
         return at;

@@ -1,48 +1,23 @@
 -- The premises of a rule are within the limits.
-use Rattle.std.proofs.Common.{◌≡◌, ℕ, suc, List, [], ◌∷◌, length, Some, refl, subst}
-use Rattle.std.specs.Prelude.{Ok, slice_get}
+use Rattle.std.proofs.Common.{◌≡◌, ℕ, List, [], ◌∷◌, length, subst}
+use Rattle.std.specs.Prelude.{Ok}
 use Rattle.heap_formula.specs.declared.commands.Command.{Command}
-use Rattle.heap_formula.specs.declared.commands.Command.TheVariants.{Assign, Load, Store, New, Free, IfEq, IfNeq, IfAny, Goto, Stop}
 use Rattle.heap_formula.specs.declared.judgements.Judgement.{Judgement}
 use Rattle.heap_formula.specs.declared.judgements.Premise.{Premise}
 use Rattle.heap_formula.specs.declared.proof_rules.Rule.{Rule}
 use Rattle.heap_formula.specs.declared.proof_rules.Rule.TheVariants.{Absurd, Rewrite, Split, Distinct, Weaken, Unfold, Cut, Done, Choose, PureRight, Instantiate, Frame, UnfoldRight, Exec, Drop}
 use Rattle.heap_formula.specs.Definitions.{Definition}
 use Rattle.heap_formula.specs.Words.{Each}
-use Rattle.goto_lang.specs.Lines.{IsUniversalCommand, MayStandAt, IsProgram}
+use Rattle.goto_lang.specs.Lines.{IsProgram}
 use Rattle.rule_table.specs.Answer.{Answer}
 use Rattle.rule_table.specs.Fits.{OnPremises}
 use Rattle.rule_table.specs.RuleBook.{rule_answer}
-use Rattle.rule_table.specs.Soundness.{IsCommand, HasUniversalTerms, IsUniversalPremise}
+use Rattle.rule_table.specs.Soundness.{HasUniversalTerms, IsUniversalPremise}
 use Rattle.rule_table.proofs.Keeps.{rule_keeps}
+use Rattle.symbolic_exec.proofs.ProgramLines.{program_commands}
 use Rattle.format_limits.specs.Limits.{IsJudgementWithin, IsPremiseWithin, IsDefinitionWithin, IsRuleWithin}
 use Rattle.format_limits.proofs.Judgements.{IsNearly}
 use Rattle.format_limits.proofs.Within.{rule_nearly}
-
--- ---- commands
-
-is_command : (n i : ℕ) (c : Command) → MayStandAt n i c → IsUniversalCommand c → IsCommand c
-is_command n i (Assign x t) m u = u
-is_command n i (Load x t k) m u = u
-is_command n i (Store t k v) m u = u
-is_command n i (New x k) m u = m.1.0
-is_command n i (Free t) m u = u
-is_command n i (IfEq t v j) m u = u
-is_command n i (IfNeq t v j) m u = u
-is_command n i (IfAny j) m u = tt
-is_command n i (Goto j) m u = tt
-is_command n i Stop m u = tt
-
-are_commands : (n : ℕ) (cs : List Command) → ((k : ℕ) (c : Command) → slice_get cs k ≡ Some c → (m : ℕ) × MayStandAt n m c) → Each IsUniversalCommand cs → Each IsCommand cs
-are_commands n [] f u = tt
-are_commands n (c ∷ cs) f u =
-    let m = f 0 c refl in (is_command n m.0 c m.1 u.0, are_commands n cs (λ k. f (suc k)) u.1)
-
-program_commands : (lines : List Command) → IsProgram lines → Each IsCommand lines
-program_commands lines p =
-    are_commands (length lines) lines (λ k c at. (suc k, p.commands (suc k) c at)) p.universal
-
--- ---- within
 
 universal_terms : (most : ℕ) (ds : List Definition) (rule : Rule) → IsRuleWithin most ds rule → HasUniversalTerms rule
 universal_terms most ds Absurd r = tt

@@ -3,7 +3,8 @@ use Rattle.std.proofs.Common.{ℕ, zero, suc, ◌<◌, ◌≤◌, ◌^◌, List,
 use Rattle.std.proofs.lemmas.List.{length-map}
 use Rattle.heap_reader.specs.Spans.{total}
 use Rattle.name_numbers.specs.declared.tree.NumberedDefinition.{NumberedDefinition}
-use Rattle.name_numbers.specs.Numbered.{text_of, definition_of}
+use Rattle.problem_syntax.specs.Trees.{text_of}
+use Rattle.name_numbers.specs.Numbered.{definition_of}
 use Rattle.formula_reader.specs.Spans.{parameter_span, parameters_span, definitions_span}
 
 some_two : (ps : List (List ℕ)) → length ps ≤ total parameter_span ps

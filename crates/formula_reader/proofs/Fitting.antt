@@ -21,7 +21,8 @@ use Rattle.formula_reader.specs.declared.terms.Scope.{Scope}
 use Rattle.formula_reader.specs.declared.terms.Scope.TheVariants.{Goal as InGoal, Case as InCase}
 use Rattle.formula_reader.specs.Spans.{term_span, variable_span, lines_span, parameter_span, parameters_span, definition_span, definitions_span}
 use Rattle.formula_reader.specs.Flaws.{headings, term_flaw, variable_flaw, parameter_flaw, parameters_flaw, head_flaw, cases_flaw, definition_flaw, definitions_flaw, goal_flaw, problem_flaw}
-use Rattle.formula_reader.specs.Values.{term_value, variable_value}
+use Rattle.heap_reader.specs.Values.{variable_value}
+use Rattle.formula_reader.specs.Values.{term_value}
 use Rattle.formula_reader.specs.Small.{IsSmallDefinition, HasDisjunct, IsSmallGoal, IsSmallProblem}
 
 -- a case of a predicate has at most eight parameters

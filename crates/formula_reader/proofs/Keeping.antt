@@ -23,7 +23,7 @@ use Rattle.heap_reader.specs.Trees.{Heading}
 use Rattle.heap_reader.specs.Spans.{heap_span, pure_span, pures_span, spatial_span}
 use Rattle.heap_reader.specs.Flaws.{ill_if, over_if, or_later, listed_flaw, arguments_flaw, pure_flaw, spatial_flaw, arity_in, use_flaw, heap_flaw, counted_flaw, heaps_flaw}
 use Rattle.heap_reader.specs.LineFlaws.{lines_flaw}
-use Rattle.heap_reader.specs.Values.{place_of, pure_value, spatial_value, heap_value, line_value}
+use Rattle.heap_reader.specs.Values.{place_of, pure_value, spatial_value, heap_value, line_value, variable_value, program_value}
 use Rattle.heap_reader.proofs.Fitting.{heap_few, heaps_few}
 use Rattle.heap_reader.proofs.NoFlaw.{neither, not_ill, each_of}
 use Rattle.name_numbers.specs.Names.{Name}
@@ -34,9 +34,10 @@ use Rattle.formula_reader.specs.declared.terms.Scope.{Scope}
 use Rattle.formula_reader.specs.declared.terms.Scope.TheVariants.{Goal as InGoal, Case as InCase}
 use Rattle.formula_reader.specs.Spans.{term_span, variable_span, lines_span, parameters_span, definition_span, definitions_span}
 use Rattle.formula_reader.specs.Flaws.{headings, term_flaw, variable_flaw, head_flaw, cases_flaw, definition_flaw, definitions_flaw, goal_flaw, problem_flaw}
-use Rattle.formula_reader.specs.Values.{term_value, variable_value, definition_value, program_value, goal_value}
+use Rattle.formula_reader.specs.Values.{term_value, definition_value, goal_value}
 use Rattle.formula_reader.specs.Small.{IsSmallProblem}
-use Rattle.formula_reader.specs.WellFormed.{IsOfText, goal_heaps, goal_fault, is_universal_heap, is_short_heap, has_line}
+use Rattle.heap_reader.specs.Small.{is_short_heap}
+use Rattle.formula_reader.specs.WellFormed.{IsOfText, goal_heaps, goal_fault, is_universal_heap, has_line}
 use Rattle.formula_reader.proofs.Fitting.{problem_small}
 use Rattle.formula_reader.proofs.SpanLaws.{text_some}
 use Rattle.std.proofs.lemmas.Option.{same_Some}

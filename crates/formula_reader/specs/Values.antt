@@ -1,32 +1,24 @@
 -- What a numbered problem says: predicates by their numbers in place of their names.
-use Rattle.std.specs.Prelude.{ℕ, List, length, map}
+use Rattle.std.specs.Prelude.{List, length}
 use Rattle.heap_formula.specs.declared.terms.Term.{Term}
 use Rattle.heap_formula.specs.declared.terms.Term.TheVariants as terms
-use Rattle.heap_formula.specs.declared.commands.Command.{Command}
 use Rattle.heap_formula.specs.declared.judgements.Judgement.{Judgement}
 use Rattle.heap_formula.specs.declared.judgements.Judgement.TheVariants.{Term as Halting}
 use Rattle.heap_formula.specs.Definitions.{Definition as DefinitionValue}
-use Rattle.goto_lang.specs.Lines.{commands_of}
 use Rattle.heap_reader.specs.Trees.{Heading}
 use Rattle.heap_reader.specs.Values as values
-use Rattle.heap_reader.specs.Values.{heap_value, entailment_value, line_value}
+use Rattle.heap_reader.specs.Values.{heap_value, entailment_value}
 use Rattle.name_numbers.specs.declared.tree.NumberedTerm.{NumberedTerm}
 use Rattle.name_numbers.specs.declared.tree.NumberedTerm.TheVariants.{Nil, Universal, Existential}
-use Rattle.name_numbers.specs.Numbered.{Line, Definition, Goal, Entailment, From}
+use Rattle.name_numbers.specs.Numbered.{Definition, Goal, Entailment, From}
 
 abbrev pub term_value : NumberedTerm → Term
 term_value Nil = terms.Nil
 term_value (Universal n primed) = terms.Univ n
 term_value (Existential n primed) = terms.Exist n
 
-abbrev pub variable_value : ℕ → ℕ
-variable_value v = v
-
 abbrev pub definition_value : List Heading → Definition → DefinitionValue
 definition_value hs d = values.definition_value term_value hs d.name (length d.parameters) d.cases
-
-abbrev pub program_value : List Line → List Command
-program_value ls = commands_of (map (line_value variable_value) ls)
 
 abbrev pub goal_value : List Heading → Goal → Judgement
 goal_value hs (Entailment h ds) = entailment_value term_value hs h ds

@@ -1,6 +1,6 @@
 -- What a problem keeps: some text spells it, so its predicates are known, its goal's line is one of its program's, and no
 -- existential variable stands in its goal's antecedent.
-use Rattle.std.specs.Prelude.{◌≡◌, ℕ, Bool, true, not, ◌&&◌, ◌||◌, nat_eq, nat_lt, nat_le, List, [], ◌∷◌, length, map, None, Option}
+use Rattle.std.specs.Prelude.{◌≡◌, ℕ, Bool, true, not, ◌&&◌, ◌||◌, nat_eq, nat_lt, List, [], ◌∷◌, map, None, Option}
 use Rattle.std.specs.List.{list_all}
 use Rattle.heap_formula.specs.declared.commands.Command.{Command}
 use Rattle.heap_formula.specs.declared.judgements.Judgement.{Judgement}
@@ -16,7 +16,8 @@ use Rattle.problem_syntax.specs.Trees as named
 use Rattle.name_numbers.specs.Numbered as numbers
 use Rattle.name_numbers.specs.Numbering.{numbered}
 use Rattle.formula_reader.specs.Flaws.{headings, problem_flaw}
-use Rattle.formula_reader.specs.Values.{definition_value, program_value, goal_value}
+use Rattle.heap_reader.specs.Values.{program_value}
+use Rattle.formula_reader.specs.Values.{definition_value, goal_value}
 
 -- the numbers are those of a tree with names that the grammar has
 abbrev pub IsOfText : numbers.Problem → Type 0
@@ -46,10 +47,6 @@ goal_fault ds goal = first_fault (case_fault ds) (goal_heaps goal)
 
 abbrev pub is_universal_heap : SymbolicHeap → Bool
 is_universal_heap a = list_all is_universal_pure a.pure && list_all is_universal_spatial a.spatial
-
--- at most so many spatial atoms
-abbrev pub is_short_heap : ℕ → SymbolicHeap → Bool
-is_short_heap most a = nat_le (length a.spatial) most
 
 -- the line of the goal, if it has one, is one of so many lines
 abbrev pub has_line : ℕ → Judgement → Bool

@@ -6,7 +6,8 @@ ghost use Rattle.std.specs.List.{list_any};
 ghost use Rattle.std.specs.Str.{bytes_eq};
 ghost use Rattle.heap_reader.specs.Spans.{total};
 ghost use Rattle.heap_reader.specs.Flaws.{IsWalk};
-ghost use Rattle.name_numbers.specs.Numbered.{text_of, definition_of};
+ghost use Rattle.problem_syntax.specs.Trees.{text_of};
+ghost use Rattle.name_numbers.specs.Numbered.{definition_of};
 ghost use Rattle.formula_reader.specs.Spans.{parameter_span, parameters_span, definition_span, definitions_span};
 ghost use Rattle.formula_reader.specs.Flaws.{parameter_flaw, parameters_flaw, head_flaw, definition_flaw, definitions_flaw};
 

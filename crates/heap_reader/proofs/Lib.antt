@@ -11,3 +11,4 @@ mod Loops
 pub mod Members
 pub mod FirstPlaces
 pub mod FlawFronts
+pub mod FrontSpans

@@ -1,6 +1,6 @@
 -- What no flaw says of the parts.
-use Rattle.std.proofs.Common.{◌≡◌, ℕ, suc, ◌+◌, ◌<◌, ◌≤◌, Bool, true, false, List, [], ◌∷◌, length, Some, None, refl, ap, ◌∙◌, arith}
-use Rattle.std.specs.Prelude.{nat_lt, nat_le}
+use Rattle.std.proofs.Common.{◌≡◌, ℕ, zero, suc, ◌+◌, ◌<◌, ◌≤◌, Bool, true, false, List, [], ◌∷◌, length, Some, None, refl, ap, ◌∙◌, arith}
+use Rattle.std.specs.Prelude.{nat_lt, nat_le, nat_eq}
 use Rattle.std.proofs.lemmas.Bool.{ltb-false, leb-false}
 use Rattle.heap_formula.specs.Words.{Each}
 use Rattle.cyc_lex.specs.declared.fault.IllFault.{IllFault}
@@ -27,6 +27,10 @@ at_most n m e = ltb-false n m e
 
 pub below : (n m : ℕ) → nat_le n m ≡ false → m < n
 below n m e = leb-false n m e
+
+pub positive : (n : ℕ) → nat_eq n 0 ≡ false → 0 < n
+positive zero e = absurd cc
+positive (suc n) e = omega arith
 
 -- ---- lists
 

@@ -1,10 +1,11 @@
 -- Parts of trees that fit the values' types: numbers of 16 bits, lists within the limits; over the value of a term.
-use Rattle.std.specs.Prelude.{ℕ, ◌<◌, ◌≤◌, List, length}
+use Rattle.std.specs.Prelude.{ℕ, ◌<◌, ◌≤◌, List, length, Bool, nat_le}
 use Rattle.cyc_limits.specs.declared.TheConstants.{MOST_ARGUMENTS, MOST_PURE, MOST_SPATIAL}
 use Rattle.heap_formula.specs.declared.terms.Term.{Term}
 use Rattle.heap_formula.specs.declared.terms.Term.TheVariants.{Nil, Univ, Exist}
 use Rattle.heap_formula.specs.declared.commands.Command.{Command}
 use Rattle.heap_formula.specs.declared.commands.Command.TheVariants.{Assign, Load, Store, New, Free, IfEq, IfNeq, IfAny, Goto, Stop}
+use Rattle.heap_formula.specs.Symbolic.{SymbolicHeap}
 use Rattle.heap_formula.specs.Words.{Each}
 use Rattle.heap_syntax.specs.declared.tree.PureTree.{PureTree}
 use Rattle.heap_syntax.specs.Trees.{Spatial, Cell, Predicate, Heap}
@@ -50,3 +51,7 @@ IsSmallCommand Stop = Unit {0}
 
 abbrev pub IsSmallLine : ℕ × Command → Type 0
 IsSmallLine l = IsSmallCommand l.1
+
+-- at most so many spatial atoms
+abbrev pub is_short_heap : ℕ → SymbolicHeap → Bool
+is_short_heap most a = nat_le (length a.spatial) most

@@ -1,5 +1,5 @@
 -- How many tokens the parts of a text have, the one token after a part counted in.
-use Rattle.std.specs.Prelude.{ℕ, ◌+◌, List, [], ◌∷◌}
+use Rattle.std.specs.Prelude.{ℕ, ◌+◌, List, [], ◌∷◌, length}
 use Rattle.heap_syntax.specs.declared.tree.PureTree.{PureTree}
 use Rattle.heap_syntax.specs.Trees.{Spatial, Cell, Predicate, Heap}
 use Rattle.command_syntax.specs.declared.tree.OperandTree.{OperandTree}
@@ -69,3 +69,10 @@ command_span span (Change v c) = span v + change_span span c
 -- "line", the number, ":" and the command; nothing after it
 abbrev pub line_span : {V : Type 0} → (V → ℕ) → LineTree V → ℕ
 line_span span l = 3 + command_span span l.command
+
+-- ---- premises
+
+-- what stands after the first word of "to", the premises and ";", or after ";" alone
+abbrev pub premises_rest : List ℕ → ℕ
+premises_rest [] = 0
+premises_rest (n ∷ ns) = length (n ∷ ns) + 1

@@ -13,6 +13,7 @@ use Rattle.heap_formula.specs.declared.judgements.Judgement.{Judgement}
 use Rattle.heap_formula.specs.declared.judgements.Judgement.TheVariants.{Entail}
 use Rattle.heap_formula.specs.Definitions.{Definition}
 use Rattle.heap_formula.specs.Symbolic.{SymbolicHeap}
+use Rattle.goto_lang.specs.Lines.{commands_of}
 use Rattle.heap_syntax.specs.declared.tree.PureTree.{PureTree}
 use Rattle.heap_syntax.specs.Trees.{Spatial, Cell, Predicate, Heap}
 use Rattle.command_syntax.specs.declared.tree.OperandTree.{OperandTree}
@@ -73,3 +74,11 @@ command_value value (Change v c) = change_value value (value v) c
 
 abbrev pub line_value : {V : Type 0} → (V → ℕ) → LineTree V → ℕ × Command
 line_value value l = (l.number, command_value value l.command)
+
+-- a variable that is its number
+abbrev pub variable_value : ℕ → ℕ
+variable_value n = n
+
+-- the commands of the lines
+abbrev pub program_value : List (LineTree ℕ) → List Command
+program_value ls = commands_of (map (line_value variable_value) ls)

@@ -2,8 +2,7 @@
 use Rattle.std.proofs.Common.{◌≡◌, ℕ, Bool, true, List, ◌⊎◌}
 use Rattle.cyc_lex.specs.Word.{is_lexeme}
 use Rattle.cyc_grammar.specs.Syntax.{Syntax, Class, one, seq, is_one, uncons, join_empty, split_empty}
-use Rattle.cyc_grammar.proofs.ClassLaws.{name-lexeme}
-use Rattle.cyc_grammar.proofs.Ends.{Inner, one-inner, seq-inner, after-inner, before-inner, alt-inner, many-inner, shaped-inner, list1-inner, or_empty-inner}
+use Rattle.cyc_grammar.proofs.Ends.{Inner, one-inner, seq-inner, after-inner, before-inner, alt-inner, many-inner, shaped-inner, list1-inner, or_empty-inner, name-inner}
 use Rattle.heap_syntax.specs.declared.tree.PureTree.{PureTree}
 use Rattle.heap_syntax.specs.Trees.{Spatial}
 use Rattle.heap_syntax.specs.Words.{true_word, emp, equal, unequal, comma, colon, star, arrow, opening, closing, reserved, free_name}
@@ -31,13 +30,10 @@ pub arguments-inner : {T : Type 0} (t : Terms T) → Inner t.syntax → Inner (a
 unfolding arguments
 arguments-inner t it = or_empty-inner closing (fields t) syms.closing_word (fields-inner t it)
 
-pub free_name-inner : Inner (one free_name)
-free_name-inner = one-inner free_name (name-lexeme reserved)
-
 pub spatial-inner : {T : Type 0} (t : Terms T) → Inner t.syntax → Inner (spatial t)
 unfolding spatial predicate cell
 spatial-inner {T = T} t it = shaped-inner {A = (List ℕ × List T) ⊎ (T × List T)} to_spatial from_spatial Any _ (alt-inner (is_one free_name) _ _
-    (seq-inner (one free_name) _ free_name-inner (after-inner opening _ syms.opening_word (arguments-inner t it)))
+    (seq-inner (one free_name) _ (name-inner reserved) (after-inner opening _ syms.opening_word (arguments-inner t it)))
     (seq-inner t.syntax _ it (after-inner arrow _ syms.arrow_word (after-inner opening _ syms.opening_word (fields-inner t it)))))
 
 spatials-inner : {T : Type 0} (t : Terms T) (atom : Syntax (Spatial T)) → Inner atom → Inner (spatials t atom)

@@ -1,14 +1,12 @@
 -- Heaps over lawful terms are lawful: what is read is spelled so, what is spelled is read, and a fault is exact.
-use Rattle.std.proofs.Common.{◌≡◌, ℕ, ◌<◌, Bool, true, false, List, [], ◌∷◌, ◌++◌, length, refl, ap, arith, inl, inr, ◌⊎◌}
+use Rattle.std.proofs.Common.{◌≡◌, ℕ, ◌<◌, Bool, true, false, List, [], ◌∷◌, ◌++◌, length, refl, arith, inl, inr, ◌⊎◌}
 use Rattle.std.specs.Prelude.{codes}
-use Rattle.std.specs.Str.{bytes_eq}
-use Rattle.std.proofs.lemmas.Slice.Eq.{bytes_eq-Decides}
 use Rattle.cyc_lex.specs.Word.{Word}
 use Rattle.cyc_lex.proofs.Letters.{letters-name}
 use Rattle.cyc_grammar.specs.Syntax.{Syntax, Class, one, seq, more_many, fits_many, fits_alt, after, before, is_one, uncons, join_empty, split_empty}
-use Rattle.cyc_grammar.specs.Classes.{keyword, is_free_name}
+use Rattle.cyc_grammar.specs.Classes.{is_free_name}
 use Rattle.cyc_grammar.proofs.Laws.{Lawful, Stops, Begins, BeginsNot, BeginsNot-append, ClassLaw, one-law, seq-law, shaped-law, alt-law, many-law, after-law, before-law, list1-law, or_empty-law, class-begins, uncons-cons, some-true, Stops-never}
-use Rattle.cyc_grammar.proofs.ClassLaws.{symbol-law, keyword-law, name-law}
+use Rattle.cyc_grammar.proofs.ClassLaws.{symbol-law, keyword-law, name-law, free-no}
 use Rattle.heap_syntax.specs.declared.tree.PureTree.{PureTree}
 use Rattle.heap_syntax.specs.Trees.{Spatial, Cell, Predicate, Heap}
 use Rattle.heap_syntax.specs.Words.{nil, true_word, emp, equal, unequal, comma, colon, star, arrow, opening, closing, prime, reserved, free_name}
@@ -200,17 +198,6 @@ pub nil-no-name : is_one free_name (nil.word tt) ≡ false
 unfolding is_free_name
 nil-no-name = rw (letters-name (codes "nil") refl) refl
 
-free-not : (w : List ℕ) → is_free_name reserved w ≡ false → (s : List ℕ) → is_free_name reserved s ≡ true → bytes_eq s w ≡ false
-free-not w taken s h = by_test (bytes_eq s w) refl
-  where
-    by_test : (b : Bool) → bytes_eq s w ≡ b → b ≡ false
-    by_test true e = let same : is_free_name reserved s ≡ is_free_name reserved w = ap (is_free_name reserved) ((bytes_eq-Decides s w).0 e) in absurd cc
-    by_test false e = refl
-
--- a name is none of the reserved keywords
-pub free-no : (w : List ℕ) → is_free_name reserved w ≡ false → (s : List ℕ) → is_free_name reserved s ≡ true → is_one (keyword w) (free_name.word s) ≡ false
-free-no w taken s h = rw (free-not w taken s h) refl
-
 pub emp-reserved : is_free_name reserved (codes "emp") ≡ false
 unfolding is_free_name
 emp-reserved = rw (letters-name (codes "emp") refl) refl
@@ -259,7 +246,7 @@ spatial-closed t (Cell x ts) d = fields-closed t ts d
 
 spatial-not : {T : Type 0} (t : Terms T) → Nameless t → (s : Spatial T) → (spatial t).fits s → BeginsNot (is_one emp) ((spatial t).words s)
 unfolding spatial predicate cell
-spatial-not t n (Predicate s ts) f = free-no (codes "emp") emp-reserved s f.1.0
+spatial-not t n (Predicate s ts) f = free-no reserved (codes "emp") emp-reserved s f.1.0
 spatial-not t n (Cell x ts) f = BeginsNot-append (is_one emp) _ _ (n.not_emp x f.1.0)
 
 pub spatial-all : {T : Type 0} (t : Terms T) → TermLaw t → Nameless t → AtomLaw (spatial t)

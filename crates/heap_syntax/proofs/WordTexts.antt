@@ -1,15 +1,15 @@
 -- The shared words are words that the lexer gives.
-use Rattle.std.proofs.Common.{◌≡◌, true, Some, refl}
+use Rattle.std.proofs.Common.{◌≡◌, true, [], ◌∷◌, Some, refl}
 use Rattle.std.specs.Prelude.{codes}
 use Rattle.cyc_lex.specs.Word.{is_number_text, is_symbol_text, is_lexeme}
 use Rattle.cyc_lex.proofs.Letters.{letters-name}
 use Rattle.cyc_grammar.specs.Classes.{find_text}
 use Rattle.cyc_grammar.proofs.Laws.{ClassLaw}
 use Rattle.cyc_grammar.proofs.ClassLaws.{numeral_of-law}
-use Rattle.heap_syntax.specs.Words.{nil, true_word, emp, pred_word, or_word, last_word, cyclist_word}
+use Rattle.heap_syntax.specs.Words.{nil, true_word, emp, pred_word, or_word, last_word, cyclist_word, node_word, from_word, given_word, by_word, to_word, goal_word}
 use Rattle.heap_syntax.specs.declared.version.Version.{Version}
 use Rattle.heap_syntax.specs.declared.version.Version.TheVariants.{One, Two}
-use Rattle.heap_syntax.specs.Versions.{version_text, versions, version}
+use Rattle.heap_syntax.specs.Versions.{version_text, versions, version, first_text, first_version}
 
 pub nil-word : is_lexeme (nil.word tt) ≡ true
 nil-word = letters-name (codes "nil") refl
@@ -32,6 +32,24 @@ last-word = letters-name (codes "end") refl
 pub cyclist-word : is_lexeme (cyclist_word.word tt) ≡ true
 cyclist-word = letters-name (codes "cyclist") refl
 
+pub node-word : is_lexeme (node_word.word tt) ≡ true
+node-word = letters-name (codes "node") refl
+
+pub from-word : is_lexeme (from_word.word tt) ≡ true
+from-word = letters-name (codes "from") refl
+
+pub given-word : is_lexeme (given_word.word tt) ≡ true
+given-word = letters-name (codes "given") refl
+
+pub by-word : is_lexeme (by_word.word tt) ≡ true
+by-word = letters-name (codes "by") refl
+
+pub to-word : is_lexeme (to_word.word tt) ≡ true
+to-word = letters-name (codes "to") refl
+
+pub goal-word : is_lexeme (goal_word.word tt) ≡ true
+goal-word = letters-name (codes "goal") refl
+
 -- the number of each version is a number that the lexer gives, and is read as that version
 pub version-word : (v : Version) → version.fits v → is_lexeme (version.word v) ≡ true
 unfolding is_number_text
@@ -44,6 +62,13 @@ version-law = numeral_of-law version_text versions One found
     found : (v : Version) → find_text version_text versions (version_text v) ≡ Some v
     found One = refl
     found Two = refl
+
+pub first_version-word : is_lexeme (first_version.word tt) ≡ true
+unfolding is_number_text
+first_version-word = refl
+
+pub first_version-law : ClassLaw first_version
+first_version-law = numeral_of-law first_text (tt ∷ []) tt (λ u. refl)
 
 -- symbols are told from the list of all of them
 pub record AllSymbols : Type 0 where

@@ -1,4 +1,4 @@
--- The versions of the formats of proof files and of problem files.
+-- The versions of the formats.
 use Rattle.std.specs.Prelude.{ℕ, List, [], ◌∷◌, codes}
 use Rattle.cyc_limits.specs.declared.TheConstants.{MOST_SPATIAL}
 use Rattle.cyc_grammar.specs.Syntax.{Class}
@@ -17,6 +17,13 @@ versions = One ∷ Two ∷ []
 
 abbrev pub version : Class Version
 version = numeral_of version_text versions
+
+-- the number of the only version of a format that has one
+abbrev pub first_text : Unit {0} → List ℕ
+first_text u = codes "1"
+
+abbrev pub first_version : Class (Unit {0})
+first_version = numeral_of first_text (tt ∷ [])
 
 -- the greatest number of spatial atoms of one heap
 abbrev pub most_spatial : Version → ℕ

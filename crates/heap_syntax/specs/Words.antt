@@ -1,4 +1,4 @@
--- The words that all formats with heaps share, and those that are no names.
+-- The words that formats share, and those that are no names.
 use Rattle.std.specs.Prelude.{ℕ, List, [], ◌∷◌, codes}
 use Rattle.cyc_grammar.specs.Syntax.{Class}
 use Rattle.cyc_grammar.specs.Classes.{symbol, keyword, name}
@@ -25,6 +25,24 @@ last_word = keyword (codes "end")
 
 abbrev pub cyclist_word : Class (Unit {0})
 cyclist_word = keyword (codes "cyclist")
+
+abbrev pub node_word : Class (Unit {0})
+node_word = keyword (codes "node")
+
+abbrev pub from_word : Class (Unit {0})
+from_word = keyword (codes "from")
+
+abbrev pub given_word : Class (Unit {0})
+given_word = keyword (codes "given")
+
+abbrev pub by_word : Class (Unit {0})
+by_word = keyword (codes "by")
+
+abbrev pub to_word : Class (Unit {0})
+to_word = keyword (codes "to")
+
+abbrev pub goal_word : Class (Unit {0})
+goal_word = keyword (codes "goal")
 
 abbrev pub equal : Class (Unit {0})
 equal = symbol (codes "=")
@@ -67,6 +85,18 @@ opening_brace = symbol (codes "{")
 
 abbrev pub closing_brace : Class (Unit {0})
 closing_brace = symbol (codes "}")
+
+abbrev pub opening_bracket : Class (Unit {0})
+opening_bracket = symbol (codes "[")
+
+abbrev pub closing_bracket : Class (Unit {0})
+closing_bracket = symbol (codes "]")
+
+abbrev pub dollar : Class (Unit {0})
+dollar = symbol (codes "$")
+
+abbrev pub query : Class (Unit {0})
+query = symbol (codes "?")
 
 abbrev pub prime : Class (Unit {0})
 prime = symbol (codes "'")

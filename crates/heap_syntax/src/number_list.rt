@@ -1,17 +1,18 @@
-//! Lists of numbers without a word between them.
+//! Numbers without a word between them, in brackets, and as premises.
 
 ghost use Rattle.std.specs.Prelude.{◌≡◌, ◌++◌, ◌∷◌, [], OnOk};
 ghost use Rattle.cyc_lex.specs.Writing.{write, write_all};
 ghost use Rattle.cyc_grammar.specs.Giving.{Gives, with_front};
-ghost use Rattle.heap_syntax.specs.Numbers.{numbers};
+ghost use Rattle.heap_syntax.specs.Numbers.{numbers, bracketed, two_numbers, premises};
 
 use cyc_grammar::{Cursor, Refusal};
 use cyc_lex::WordWriter;
 use cyc_memory::OutOfMemory;
+use std::alloc::Global;
 
 /// Reads the numbers after some.
 #[tactic(auto, unfolding(crate::specs::Numbers::numbers))]
-pub fn more_numbers(mut items: Vec<u32>, cursor: &mut Cursor<'_, '_>) -> Result<Vec<u32>, Refusal>
+fn more_numbers(mut items: Vec<u32>, cursor: &mut Cursor<'_, '_>) -> Result<Vec<u32>, Refusal>
     ensures { Gives (λ x. (x.items, cursor.new)) result (with_front items.items (numbers.read cursor.old)) }
 {
     for _ in 0..cursor.left() {
@@ -26,13 +27,82 @@ pub fn more_numbers(mut items: Vec<u32>, cursor: &mut Cursor<'_, '_>) -> Result<
     Ok(items)
 }
 
-/// Writes the numbers.
+fn numbers(alloc: Global, cursor: &mut Cursor<'_, '_>) -> Result<Vec<u32>, Refusal>
+    ensures { Gives (λ x. (x.items, cursor.new)) result (numbers.read cursor.old) }
+{
+    more_numbers(Vec::new(alloc), cursor)
+}
+
+/// Reads numbers in brackets.
+#[tactic(auto, unfolding(crate::specs::Numbers::bracketed))]
+pub fn bracketed(alloc: Global, cursor: &mut Cursor<'_, '_>) -> Result<Vec<u32>, Refusal>
+    ensures { Gives (λ x. (x.items, cursor.new)) result (bracketed.read cursor.old) }
+{
+    cursor.symbol("[")?;
+    let items = numbers(alloc, cursor)?;
+    cursor.symbol("]")?;
+    Ok(items)
+}
+
+/// Reads two numbers.
+#[tactic(auto, unfolding(crate::specs::Numbers::two_numbers))]
+pub fn two_numbers(cursor: &mut Cursor<'_, '_>) -> Result<(u32, u32), Refusal>
+    ensures { Gives (λ x. ((x.0, x.1), cursor.new)) result (two_numbers.read cursor.old) }
+{
+    let first = cursor.number()?;
+    let second = cursor.number()?;
+    Ok((first, second))
+}
+
+/// Reads the premises of a node, and the `;` after them.
+#[tactic(auto, unfolding(crate::specs::Numbers::premises))]
+pub fn premises(alloc: Global, cursor: &mut Cursor<'_, '_>) -> Result<Vec<u32>, Refusal>
+    ensures { Gives (λ x. (x.items, cursor.new)) result (premises.read cursor.old) }
+{
+    let mut items = Vec::new(alloc);
+    if cursor.is_keyword_next("to") {
+        cursor.keyword("to")?;
+        items.push(cursor.number()?)?;
+        let items = more_numbers(items, cursor)?;
+        cursor.symbol(";")?;
+        return Ok(items);
+    }
+    cursor.symbol(";")?;
+    Ok(items)
+}
+
 #[tactic(auto, unfolding(crate::specs::Numbers::numbers))]
-pub fn write_numbers(trees: &[u32], writer: &mut WordWriter) -> Result<(), OutOfMemory>
+fn write_numbers(trees: &[u32], writer: &mut WordWriter) -> Result<(), OutOfMemory>
     ensures { OnOk result (writer.new ≡ write_all writer.old (numbers.words trees.now)) }
 {
     for tree in trees {
         writer.number(*tree)?;
     }
     Ok(())
+}
+
+/// Writes numbers in brackets.
+#[tactic(auto, using(cyc_lex::proofs::WritingLaws::write_all_on), unfolding(crate::specs::Numbers::bracketed, cyc_lex::specs::Writing::write_all))]
+pub fn write_bracketed(trees: &[u32], writer: &mut WordWriter) -> Result<(), OutOfMemory>
+    ensures { OnOk result (writer.new ≡ write_all writer.old (bracketed.words trees.now)) }
+{
+    writer.symbol("[")?;
+    write_numbers(trees, writer)?;
+    writer.symbol("]")
+}
+
+/// Writes the premises of a node, and the `;` after them.
+#[tactic(auto, using(cyc_lex::proofs::WritingLaws::write_all_on), unfolding(crate::specs::Numbers::premises, cyc_lex::specs::Writing::write_all))]
+pub fn write_premises(trees: &[u32], writer: &mut WordWriter) -> Result<(), OutOfMemory>
+    ensures { OnOk result (writer.new ≡ write_all writer.old (premises.words trees.now)) }
+{
+    match trees {
+        [] => writer.symbol(";"),
+        [first, others @ ..] => {
+            writer.name("to")?;
+            writer.number(*first)?;
+            write_numbers(others, writer)?;
+            writer.symbol(";")
+        }
+    }
 }

@@ -76,3 +76,23 @@ pub fn write_version(version: Version, writer: &mut WordWriter) -> Result<(), Ou
 {
     writer.number(version.number())
 }
+
+/// Takes the number of the only version of a format that has one.
+pub fn first_version(cursor: &mut Cursor<'_, '_>) -> Result<(), Refusal>
+    ensures { Gives (λ x. (tt, cursor.new)) result (read_class formats.first_version cursor.old) }
+{
+    match cursor.any_number() {
+        Some("1") => {
+            cursor.skip();
+            Ok(())
+        }
+        _ => Err(Refusal::Dead(cursor.left())),
+    }
+}
+
+/// Writes the number of the only version of a format that has one.
+pub fn write_first_version(writer: &mut WordWriter) -> Result<(), OutOfMemory>
+    ensures { OnOk result (writer.new ≡ write writer.old (formats.first_version.word tt)) }
+{
+    writer.number(1)
+}

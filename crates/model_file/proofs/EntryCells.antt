@@ -1,12 +1,13 @@
 -- The entries of a heap as cells of a text.
-use Rattle.std.proofs.Common.{◌≡◌, ℕ, zero, suc, ◌+◌, ◌<◌, ◌^◌, List, [], ◌∷◌, ◌++◌, length, map, take, get_or, Some, refl, sym, ap, subst, ◌∙◌, arith}
+use Rattle.std.proofs.Common.{◌≡◌, ℕ, zero, suc, ◌+◌, ◌<◌, List, [], ◌∷◌, ◌++◌, length, map, take, get_or, Some, refl, sym, ap, subst, ◌∙◌, arith}
 use Rattle.std.specs.Prelude.{IsSome, is_some}
 use Rattle.std.specs.FinMap.{entries}
 use Rattle.heap_formula.specs.Words.{Each}
 use Rattle.heap_formula.specs.Cells.{Cells, cell_at}
 use Rattle.model_syntax.specs.Trees.{Cell}
 use Rattle.model_file.specs.Small.{IsShortCell}
-use Rattle.model_file.specs.Written.{cell_tree, cells_tree}
+use Rattle.model_syntax.specs.Grammar.{to_cell}
+use Rattle.model_file.specs.Written.{cells_tree}
 use Rattle.model_file.proofs.SortedCells.{cell_found}
 
 abbrev pub some_entry : ℕ × List ℕ
@@ -22,7 +23,7 @@ pub entry_address : (h : Cells) (items : List ℕ) (i : ℕ) → items ≡ map (
 entry_address h items i same lt =
     subst (λ (xs : List ℕ). i < length xs → (get_or xs i 0 ≡ (get_or (entries h) i some_entry).0) × (i < length (entries h))) (sym same) (address_at (entries h) i) lt
 
-each_at : (Q : Cell → Type 0) (es : List (ℕ × List ℕ)) (i : ℕ) → Each Q (map cell_tree es) → i < length es → Q (cell_tree (get_or es i some_entry))
+each_at : (Q : Cell → Type 0) (es : List (ℕ × List ℕ)) (i : ℕ) → Each Q (map to_cell es) → i < length es → Q (to_cell (get_or es i some_entry))
 each_at Q [] i all lt = absurd (omega arith)
 each_at Q (e ∷ es) zero all lt = all.0
 each_at Q (e ∷ es) (suc i) all lt = each_at Q es i all.1 (omega arith)
@@ -35,9 +36,9 @@ take_next (e ∷ es) (suc i) lt = ap (λ (n : ℕ). take n (e ∷ es)) (next i) 
     next : (n : ℕ) → suc n + 1 ≡ suc (n + 1)
     next n = omega arith
 
-cells_behind : (es fs : List (ℕ × List ℕ)) → map cell_tree (es ++ fs) ≡ map cell_tree es ++ map cell_tree fs
+cells_behind : (es fs : List (ℕ × List ℕ)) → map to_cell (es ++ fs) ≡ map to_cell es ++ map to_cell fs
 cells_behind [] fs = refl
-cells_behind (e ∷ es) fs = ap (λ (cs : List Cell). cell_tree e ∷ cs) (cells_behind es fs)
+cells_behind (e ∷ es) fs = ap (λ (cs : List Cell). to_cell e ∷ cs) (cells_behind es fs)
 
 module _ (h : Cells) (i address : ℕ) (is : address ≡ (get_or (entries h) i some_entry).0) (lt : i < length (entries h)) where
   found : cell_at h address ≡ Some (get_or (entries h) i some_entry).1
@@ -49,12 +50,12 @@ module _ (h : Cells) (i address : ℕ) (is : address ≡ (get_or (entries h) i s
   own_fields : (fields : List ℕ) → cell_at h address ≡ Some fields → (get_or (entries h) i some_entry).1 ≡ fields
   own_fields fields e = let same : Some (get_or (entries h) i some_entry).1 ≡ Some fields = sym found ∙ e in cc
 
-  own_cell : (fields : List ℕ) → cell_at h address ≡ Some fields → cell_tree (get_or (entries h) i some_entry) ≡ record { address = address; fields = fields }
+  own_cell : (fields : List ℕ) → cell_at h address ≡ Some fields → to_cell (get_or (entries h) i some_entry) ≡ record { address = address; fields = fields }
   own_cell fields e = let same = own_fields fields e in let here = sym is in λ j. record { address = here j; fields = same j }
 
   pub entry_short : Each IsShortCell (cells_tree h) → (fields : List ℕ) → cell_at h address ≡ Some fields → IsShortCell (record { address = address; fields = fields })
   entry_short all fields e = subst IsShortCell (own_cell fields e) (each_at IsShortCell (entries h) i all lt)
 
-  pub entry_next : (old : List Cell) (fields : List ℕ) → cell_at h address ≡ Some fields → old ≡ map cell_tree (take i (entries h)) → old ++ record { address = address; fields = fields } ∷ [] ≡ map cell_tree (take (i + 1) (entries h))
+  pub entry_next : (old : List Cell) (fields : List ℕ) → cell_at h address ≡ Some fields → old ≡ map to_cell (take i (entries h)) → old ++ record { address = address; fields = fields } ∷ [] ≡ map to_cell (take (i + 1) (entries h))
   entry_next old fields e same =
-      (λ j. same j ++ sym (own_cell fields e) j ∷ []) ∙ sym (cells_behind (take i (entries h)) (get_or (entries h) i some_entry ∷ [])) ∙ ap (map cell_tree) (sym (take_next (entries h) i lt))
+      (λ j. same j ++ sym (own_cell fields e) j ∷ []) ∙ sym (cells_behind (take i (entries h)) (get_or (entries h) i some_entry ∷ [])) ∙ ap (map to_cell) (sym (take_next (entries h) i lt))

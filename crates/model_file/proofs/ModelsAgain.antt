@@ -1,37 +1,32 @@
 -- What a tree without a flaw says has a text; and a model is what its tree says.
-use Rattle.std.proofs.Common.{◌≡◌, ℕ, zero, suc, false, List, [], ◌∷◌, ◌<◌, length, map, None, refl, sym, ap, ◌∙◌, arith}
-use Rattle.std.specs.Prelude.{nat_eq}
+use Rattle.std.proofs.Common.{◌≡◌, ℕ, false, List, [], ◌∷◌, ◌<◌, length, map, None, refl, sym, ap, ◌∙◌, arith}
 use Rattle.std.specs.Ordering.{nat_cmp}
 use Rattle.std.specs.Cmp.{nat_cmp_total}
 use Rattle.std.specs.FinMap.{entries, from_entries, get-from_entries, get-entries, same_map, nat_cmp-IsAntisymmetric}
 use Rattle.heap_formula.specs.Words.{Each}
 use Rattle.heap_formula.specs.Cells.{Cells}
-use Rattle.heap_formula.specs.Definitions.{Definition as DefinitionValue}
-use Rattle.heap_formula.specs.Symbolic.{SymbolicHeap}
-use Rattle.cyc_grammar.specs.Syntax.{Class, Syntax, one, after, fits_many}
+use Rattle.cyc_grammar.specs.Syntax.{Class, one, after, fits_many}
 use Rattle.cyc_grammar.specs.Classes.{number}
 use Rattle.heap_syntax.specs.Words.{comma, semicolon, closing}
 use Rattle.heap_syntax.specs.Grammar as shared
-use Rattle.heap_reader.specs.Trees.{Heading}
 use Rattle.heap_reader.specs.Flaws.{or_later}
 use Rattle.heap_reader.specs.Values.{heap_value}
-use Rattle.heap_reader.proofs.NoFlaw.{none_later}
-use Rattle.pred_syntax.specs.Trees.{Definition}
+use Rattle.heap_reader.proofs.NoFlaw.{none_later, positive}
 use Rattle.pred_syntax.specs.Grammar.{definition}
 use Rattle.pred_reader.specs.declared.scope.Scope.TheVariants.{Outside}
 use Rattle.pred_reader.specs.Spans.{definition_span}
 use Rattle.pred_reader.specs.Flaws.{headings, definition_flaw}
 use Rattle.pred_reader.specs.Values.{term_value, definition_value}
-use Rattle.pred_reader.specs.Written.{heap_tree, definition_tree}
+use Rattle.pred_reader.specs.Written.{definition_tree}
 use Rattle.pred_reader.proofs.TreesAgain.{listed_again, found_name, heap_again, definition_again}
 use Rattle.pred_reader.proofs.ValuesAgain.{each_known, found_place, heap_known, definition_known, definitions_fit}
 use Rattle.model_syntax.specs.Trees.{Cell, Model}
-use Rattle.model_syntax.specs.Grammar.{numbers, values, cell, some_cell, cells1, cells, question, state, body, model}
+use Rattle.model_syntax.specs.Grammar.{numbers, values, cell, cells1, cells, question, state, body, model, from_cell, to_cell}
 use Rattle.model_file.specs.declared.file.Model.{Model as ModelValue}
 use Rattle.model_file.specs.Flaws.{stack_flaw, cells_flaw, first_value, first_cell, first_atom, definitions_flaw, ask_flaw, model_flaw}
-use Rattle.model_file.specs.Values.{entry_of, cells_value}
+use Rattle.model_file.specs.Values.{cells_value}
 use Rattle.model_file.specs.Small.{IsSmallCell, IsShortNumber, IsShortCell}
-use Rattle.model_file.specs.Written.{cell_tree, cells_tree, tree_of}
+use Rattle.model_file.specs.Written.{cells_tree, tree_of}
 use Rattle.model_file.specs.Reading.{IsModelOf}
 use Rattle.model_file.proofs.Parts.{IsFine, faultless, fine_cells}
 use Rattle.model_file.proofs.SortedCells.{each_entry, of_entries, sorted_right}
@@ -57,14 +52,14 @@ unfolding cells cells1 shared.listed
 all_fit [] f = (tt, tt)
 all_fit (c ∷ cs) f = (tt, (omega arith, (f.0, fit_behind cs f.1)))
 
-each_tree : (Q : Cell → Type 0) (es : List (ℕ × List ℕ)) → Each (λ (e : ℕ × List ℕ). Q (cell_tree e)) es → Each Q (map cell_tree es)
+each_tree : (Q : Cell → Type 0) (es : List (ℕ × List ℕ)) → Each (λ (e : ℕ × List ℕ). Q (to_cell e)) es → Each Q (map to_cell es)
 each_tree Q [] all = tt
 each_tree Q (e ∷ es) all = (all.0, each_tree Q es all.1)
 
 -- the cells of a heap fit where those that it was made of do
 sorted_fit : (cs : List Cell) → cells.fits cs → cells.fits (cells_tree (cells_value cs))
 sorted_fit cs f =
-    all_fit (cells_tree (cells_value cs)) (each_tree cell.fits (entries (cells_value cs)) (each_entry (λ (e : ℕ × List ℕ). cell.fits (cell_tree e)) (map entry_of cs) (of_entries cell.fits cs (each_fits cs f))))
+    all_fit (cells_tree (cells_value cs)) (each_tree cell.fits (entries (cells_value cs)) (each_entry (λ (e : ℕ × List ℕ). cell.fits (to_cell e)) (map from_cell cs) (of_entries cell.fits cs (each_fits cs f))))
 
 -- ---- the tree with its cells in order
 
@@ -97,7 +92,7 @@ tree_again m e =
 
 -- ---- a model is what its tree says
 
-entries_again : (es : List (ℕ × List ℕ)) → map entry_of (map cell_tree es) ≡ es
+entries_again : (es : List (ℕ × List ℕ)) → map from_cell (map to_cell es) ≡ es
 entries_again [] = refl
 entries_again (e ∷ es) = ap (λ fs. e ∷ fs) (entries_again es)
 
@@ -152,10 +147,6 @@ model_short m f = (short_values m.stack f.1.1.0.0, each_short m.cells (each_fits
 some_field : (c : Cell) → cell.fits c → 0 < length c.fields
 unfolding cell numbers shared.listed
 some_field c f = f.1.1.0
-
-positive : (n : ℕ) → nat_eq n 0 ≡ false → 0 < n
-positive zero e = absurd cc
-positive (suc n) e = omega arith
 
 each_small : (cs : List Cell) → Each cell.fits cs → Each IsFine cs → Each IsSmallCell cs
 each_small [] f g = tt

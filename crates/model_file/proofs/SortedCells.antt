@@ -1,5 +1,5 @@
 -- The cells of a heap in the order of their addresses have no flaw where those that it was made of have none.
-use Rattle.std.proofs.Common.{◌≡◌, ℕ, zero, suc, ◌+◌, ◌<◌, ◌≤◌, Bool, true, false, cond, T, List, [], ◌∷◌, ◌++◌, length, map, take, get_or, Option, Some, None, refl, sym, ap, subst, ◌∙◌, arith}
+use Rattle.std.proofs.Common.{◌≡◌, ℕ, zero, suc, ◌+◌, ◌<◌, ◌≤◌, Bool, true, false, cond, T, List, [], ◌∷◌, ◌++◌, length, map, take, get_or, Some, None, refl, sym, ap, subst, ◌∙◌, arith}
 use Rattle.std.specs.Prelude.{◌||◌, ◌&&◌, nat_eq, nat_le}
 use Rattle.std.specs.List.{list_any}
 use Rattle.std.specs.declared.cmp.Ordering.{Ordering}
@@ -9,7 +9,7 @@ use Rattle.std.specs.Ordering.{MatchOrdering}
 use Rattle.std.specs.Cmp.{nat_cmp_total, ranks}
 use Rattle.std.specs.FinMap.{entries, entries_sorted, from_entries, empty, entries-insert, len-entries, len-empty, len, len-insert, contains_key, get-entries, nat_cmp-IsAntisymmetric}
 use Rattle.std.specs.FinMap.Entries.{put, find, by_order, below_all, is_sorted}
-use Rattle.std.proofs.lemmas.Bool.{ne_eqb, lt-leb, le-leb}
+use Rattle.std.proofs.lemmas.Bool.{ne_eqb, lt-leb}
 use Rattle.std.proofs.lemmas.List.{length-map, nil_from_length}
 use Rattle.heap_formula.specs.Words.{Each}
 use Rattle.heap_formula.specs.Cells.{Cells as Heap, cell_at}
@@ -20,8 +20,9 @@ use Rattle.heap_reader.proofs.NoFlaw.{none_later}
 use Rattle.model_syntax.specs.Trees.{Cell}
 use Rattle.model_file.specs.Spans.{cell_span}
 use Rattle.model_file.specs.Flaws.{address_of, fields_flaw, address_flaw, cell_flaw, cells_flaw}
-use Rattle.model_file.specs.Values.{entry_of, cells_value}
-use Rattle.model_file.specs.Written.{cell_tree, cells_tree}
+use Rattle.model_syntax.specs.Grammar.{from_cell, to_cell}
+use Rattle.model_file.specs.Values.{cells_value}
+use Rattle.model_file.specs.Written.{cells_tree}
 use Rattle.model_file.proofs.Parts.{IsFine}
 
 abbrev Entry : Type 0
@@ -60,7 +61,7 @@ few_kept (e ∷ es) =
 -- ---- an address is new where all before it are less
 
 abbrev addresses : List Entry → List ℕ
-addresses es = map address_of (map cell_tree es)
+addresses es = map address_of (map to_cell es)
 
 abbrev IsNew : List Entry → Entry → Type 0
 IsNew before e = list_any (nat_eq e.0) (addresses before) ≡ false
@@ -137,9 +138,9 @@ front_taken : {X : Type 0} (xs ys : List X) → take (length xs) (xs ++ ys) ≡ 
 front_taken [] ys = refl
 front_taken (x ∷ xs) ys = ap (λ zs. x ∷ zs) (front_taken xs ys)
 
-trees_behind : (before es : List Entry) → map cell_tree (before ++ es) ≡ map cell_tree before ++ map cell_tree es
+trees_behind : (before es : List Entry) → map to_cell (before ++ es) ≡ map to_cell before ++ map to_cell es
 trees_behind [] es = refl
-trees_behind (x ∷ xs) es = ap (λ ys. cell_tree x ∷ ys) (trees_behind xs es)
+trees_behind (x ∷ xs) es = ap (λ ys. to_cell x ∷ ys) (trees_behind xs es)
 
 regroup : {X : Type 0} (xs : List X) (y : X) (ys : List X) → (xs ++ y ∷ []) ++ ys ≡ xs ++ y ∷ ys
 regroup [] y ys = refl
@@ -150,41 +151,41 @@ one_longer [] y = refl
 one_longer (x ∷ xs) y = ap suc (one_longer xs y)
 
 -- the cell after some others
-cell_right : (before es : List Entry) (k : ℕ) (e : Entry) → length before < 16 → IsFine (cell_tree e) → IsNew before e → cell_flaw (map cell_tree (before ++ es)) (length before) k (cell_tree e) ≡ None
+cell_right : (before es : List Entry) (k : ℕ) (e : Entry) → length before < 16 → IsFine (to_cell e) → IsNew before e → cell_flaw (map to_cell (before ++ es)) (length before) k (to_cell e) ≡ None
 cell_right before es k e few fine new =
-    let own : map address_of (take (length before) (map cell_tree (before ++ es))) ≡ addresses before =
-    ap (λ cs. map address_of (take (length before) cs)) (trees_behind before es) ∙ ap (λ n. map address_of (take n (map cell_tree before ++ map cell_tree es))) (sym (length-map before cell_tree)) ∙ ap (map address_of) (front_taken (map cell_tree before) (map cell_tree es)) in
+    let own : map address_of (take (length before) (map to_cell (before ++ es))) ≡ addresses before =
+    ap (λ cs. map address_of (take (length before) cs)) (trees_behind before es) ∙ ap (λ n. map address_of (take n (map to_cell before ++ map to_cell es))) (sym (length-map before to_cell)) ∙ ap (map address_of) (front_taken (map to_cell before) (map to_cell es)) in
     let short = fine.few in
-    none_later (address_flaw (map address_of (take (length before) (map cell_tree (before ++ es)))) k e.0) (or_later (over_if (nat_le 16 (length before)) Cells k) (fields_flaw (k + 3) e.1))
+    none_later (address_flaw (map address_of (take (length before) (map to_cell (before ++ es)))) k e.0) (or_later (over_if (nat_le 16 (length before)) Cells k) (fields_flaw (k + 3) e.1))
     (ap (λ others. address_flaw others k e.0) own ∙ ap (λ b. ill_if (b || list_any (nat_eq e.0) (addresses before)) Address k) fine.positive ∙ ap (λ b. ill_if b Address k) new)
     (none_later (over_if (nat_le 16 (length before)) Cells k) (fields_flaw (k + 3) e.1) (ap (λ b. over_if b Cells k) (lt-leb 16 (length before) few)) (ap (λ b. over_if b Arguments (k + 3 + 16)) (lt-leb 9 (length e.1) (omega arith))))
 
-listed_right : (before es : List Entry) (all : List Cell) (k : ℕ) → all ≡ map cell_tree (before ++ es) → T (is_sorted nat_cmp es) → length before + length es ≤ 16 → Each (λ (e : Entry). IsFine (cell_tree e)) es → Each (IsNew before) es → listed_flaw (cell_flaw all) cell_span (length before) k (map cell_tree es) ≡ None
+listed_right : (before es : List Entry) (all : List Cell) (k : ℕ) → all ≡ map to_cell (before ++ es) → T (is_sorted nat_cmp es) → length before + length es ≤ 16 → Each (λ (e : Entry). IsFine (to_cell e)) es → Each (IsNew before) es → listed_flaw (cell_flaw all) cell_span (length before) k (map to_cell es) ≡ None
 listed_right before [] all k is sorted few fine new = refl
 listed_right before (e ∷ es) all k is sorted few fine new =
     let parts = both_parts (below_all nat_cmp e.0 es) (is_sorted nat_cmp es) sorted in
     let longer = one_longer before e in
-    let next = listed_right (before ++ e ∷ []) es all (k + cell_span (cell_tree e)) (is ∙ ap (map cell_tree) (sym (regroup before e es))) parts.1 (omega arith) fine.1 (still_new before e es parts.0 new.1) in
-    none_later (cell_flaw all (length before) k (cell_tree e)) (listed_flaw (cell_flaw all) cell_span (suc (length before)) (k + cell_span (cell_tree e)) (map cell_tree es))
-    (ap (λ cs. cell_flaw cs (length before) k (cell_tree e)) is ∙ cell_right before (e ∷ es) k e (omega arith) fine.0 new.0)
-    (subst (λ (n : ℕ). listed_flaw (cell_flaw all) cell_span n (k + cell_span (cell_tree e)) (map cell_tree es) ≡ None) longer next)
+    let next = listed_right (before ++ e ∷ []) es all (k + cell_span (to_cell e)) (is ∙ ap (map to_cell) (sym (regroup before e es))) parts.1 (omega arith) fine.1 (still_new before e es parts.0 new.1) in
+    none_later (cell_flaw all (length before) k (to_cell e)) (listed_flaw (cell_flaw all) cell_span (suc (length before)) (k + cell_span (to_cell e)) (map to_cell es))
+    (ap (λ cs. cell_flaw cs (length before) k (to_cell e)) is ∙ cell_right before (e ∷ es) k e (omega arith) fine.0 new.0)
+    (subst (λ (n : ℕ). listed_flaw (cell_flaw all) cell_span n (k + cell_span (to_cell e)) (map to_cell es) ≡ None) longer next)
 
 none_before : (es : List Entry) → Each (IsNew []) es
 none_before [] = tt
 none_before (e ∷ es) = (refl, none_before es)
 
-pub cells_right : (h : Heap) (k : ℕ) → Each (λ (e : Entry). IsFine (cell_tree e)) (entries h) → length (entries h) ≤ 16 → cells_flaw k (cells_tree h) ≡ None
+pub cells_right : (h : Heap) (k : ℕ) → Each (λ (e : Entry). IsFine (to_cell e)) (entries h) → length (entries h) ≤ 16 → cells_flaw k (cells_tree h) ≡ None
 cells_right h k fine few = listed_right [] (entries h) (cells_tree h) k refl (entries_sorted h) (omega arith) fine (none_before (entries h))
 
 -- each entry of cells is a cell again
-pub of_entries : (Q : Cell → Type 0) (cs : List Cell) → Each Q cs → Each (λ (e : Entry). Q (cell_tree e)) (map entry_of cs)
+pub of_entries : (Q : Cell → Type 0) (cs : List Cell) → Each Q cs → Each (λ (e : Entry). Q (to_cell e)) (map from_cell cs)
 of_entries Q [] all = tt
 of_entries Q (c ∷ cs) all = (all.0, of_entries Q cs all.1)
 
 pub sorted_right : (cs : List Cell) (k : ℕ) → Each IsFine cs → length cs ≤ 16 → cells_flaw k (cells_tree (cells_value cs)) ≡ None
 sorted_right cs k fine few =
     let h = cells_value cs in
-    let kept = few_kept (map entry_of cs) in
-    let size = length-map cs entry_of in
+    let kept = few_kept (map from_cell cs) in
+    let size = length-map cs from_cell in
     let count = len-entries h in
-    cells_right h k (each_entry (λ (e : Entry). IsFine (cell_tree e)) (map entry_of cs) (of_entries IsFine cs fine)) (omega arith)
+    cells_right h k (each_entry (λ (e : Entry). IsFine (to_cell e)) (map from_cell cs) (of_entries IsFine cs fine)) (omega arith)

@@ -7,14 +7,11 @@ use Rattle.heap_formula.specs.Definitions.{Definition as DefinitionValue}
 use Rattle.heap_formula.specs.Symbolic.{SymbolicHeap}
 use Rattle.pred_reader.specs.Written.{heap_tree, definition_tree}
 use Rattle.model_syntax.specs.Trees.{Cell, Model}
-use Rattle.model_syntax.specs.Grammar.{body}
-
-abbrev pub cell_tree : ℕ × List ℕ → Cell
-cell_tree e = record { address = e.0; fields = e.1 }
+use Rattle.model_syntax.specs.Grammar.{body, to_cell}
 
 -- the cells of a heap, ascending
 abbrev pub cells_tree : Cells → List Cell
-cells_tree h = map cell_tree (entries h)
+cells_tree h = map to_cell (entries h)
 
 abbrev pub tree_of : List DefinitionValue → List ℕ → Cells → SymbolicHeap → Model
 tree_of ds stack h ask = record { definitions = map (definition_tree ds) ds; stack = stack; cells = cells_tree h; ask = heap_tree ds ask }

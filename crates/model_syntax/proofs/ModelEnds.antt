@@ -1,20 +1,21 @@
 -- The texts of the grammar are of lexemes, and the end word stands last.
 use Rattle.std.proofs.Common.{◌≡◌, ℕ, true, false, List, refl}
 use Rattle.std.specs.Prelude.{codes}
-use Rattle.cyc_lex.specs.Word.{is_number_text, is_lexeme}
+use Rattle.cyc_lex.specs.Word.{is_lexeme}
 use Rattle.cyc_lex.proofs.Letters.{letters-name}
 use Rattle.cyc_grammar.specs.Syntax.{Class, one}
 use Rattle.cyc_grammar.specs.Classes.{number}
-use Rattle.cyc_grammar.proofs.Ends.{Inner, EndsLast, seq-inner, after-inner, before-inner, shaped-inner, or_empty-inner, end-once}
+use Rattle.cyc_grammar.proofs.Ends.{Inner, EndsLast, seq-inner, after-inner, before-inner, shaped-inner, or_empty-inner, end-once, number-inner}
 use Rattle.heap_syntax.specs.Words.{comma, semicolon, arrow, opening, closing, last_word, cyclist_word}
 use Rattle.heap_syntax.specs.Grammar.{Any}
-use Rattle.heap_syntax.proofs.WordTexts.{last-word, cyclist-word, syms}
+use Rattle.heap_syntax.proofs.WordTexts.{last-word, cyclist-word, first_version-word, syms}
 use Rattle.heap_syntax.proofs.HeapEnds.{listed-inner}
 use Rattle.pred_syntax.specs.Trees.{Heap, Definition}
 use Rattle.pred_syntax.specs.Grammar.{terms, heap, definitions}
-use Rattle.pred_syntax.proofs.DefinitionEnds.{number-inner, heap-of, definitions-inner}
+use Rattle.pred_syntax.proofs.DefinitionEnds.{heap-of, definitions-inner}
 use Rattle.model_syntax.specs.Trees.{Cell}
-use Rattle.model_syntax.specs.Grammar.{model_word, stack_word, heap_word, ask_word, first_version, numbers, values, to_cell, from_cell, cell, some_cell, cells1, cells, question, state, to_model, from_model, body, model}
+use Rattle.heap_syntax.specs.Versions.{first_version}
+use Rattle.model_syntax.specs.Grammar.{model_word, stack_word, heap_word, ask_word, numbers, values, to_cell, from_cell, cell, some_cell, cells1, cells, question, state, to_model, from_model, body, model}
 
 model-word : is_lexeme (model_word.word tt) ≡ true
 model-word = letters-name (codes "model") refl
@@ -27,10 +28,6 @@ heap-word = letters-name (codes "heap") refl
 
 ask-word : is_lexeme (ask_word.word tt) ≡ true
 ask-word = letters-name (codes "ask") refl
-
-version-word : is_lexeme (first_version.word tt) ≡ true
-unfolding is_number_text
-version-word = refl
 
 numbers-inner : (behind : Class (Unit {0})) → is_lexeme (behind.word tt) ≡ true → Inner (numbers behind)
 unfolding numbers
@@ -58,7 +55,7 @@ question-inner = after-inner ask_word _ ask-word (before-inner _ last_word last-
 
 pub body-inner : Inner body
 unfolding body
-body-inner = shaped-inner {A = List Definition × ((List ℕ × List Cell) × Heap)} to_model from_model Any _ (after-inner cyclist_word _ cyclist-word (after-inner model_word _ model-word (after-inner first_version _ version-word (after-inner semicolon _ syms.semicolon_word
+body-inner = shaped-inner {A = List Definition × ((List ℕ × List Cell) × Heap)} to_model from_model Any _ (after-inner cyclist_word _ cyclist-word (after-inner model_word _ model-word (after-inner first_version _ first_version-word (after-inner semicolon _ syms.semicolon_word
     (seq-inner definitions _ definitions-inner (seq-inner state _ state-inner (before-inner question semicolon syms.semicolon_word question-inner)))))))
 
 pub model-last : EndsLast model

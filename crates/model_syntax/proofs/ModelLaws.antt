@@ -4,7 +4,8 @@ use Rattle.cyc_lex.specs.Word.{Word}
 use Rattle.cyc_grammar.specs.Syntax.{Class, one, seq, after, before, is_one}
 use Rattle.cyc_grammar.specs.Classes.{the_end, number}
 use Rattle.cyc_grammar.proofs.Laws.{Lawful, Stops, BeginsNot, ClassLaw, one-law, seq-law, shaped-law, after-law, before-law, or_empty-law, Stops-never}
-use Rattle.cyc_grammar.proofs.ClassLaws.{symbol-law, keyword-law, the_end-law, number-law, numeral_of-law}
+use Rattle.cyc_grammar.proofs.ClassLaws.{symbol-law, keyword-law, the_end-law, number-law}
+use Rattle.heap_syntax.proofs.WordTexts.{first_version-law}
 use Rattle.heap_syntax.proofs.HeapLaws.{closed-stops, listed-law, listed-closed, listed-some, listed-not}
 use Rattle.heap_syntax.specs.Words.{comma, semicolon, arrow, opening, closing, last_word}
 use Rattle.heap_syntax.specs.Grammar.{Any}
@@ -12,10 +13,8 @@ use Rattle.pred_syntax.specs.Trees.{Heap, Definition}
 use Rattle.pred_syntax.specs.Grammar.{terms, heap, definitions}
 use Rattle.pred_syntax.proofs.DefinitionLaws.{heap-lawful, heap-stops, definitions-law, definitions-end}
 use Rattle.model_syntax.specs.Trees.{Cell}
-use Rattle.model_syntax.specs.Grammar.{stack_word, heap_word, ask_word, first_text, first_version, numbers, values, to_cell, from_cell, cell, some_cell, cells1, cells, question, state, to_model, from_model, body, model}
-
-first_version-law : ClassLaw first_version
-first_version-law = numeral_of-law first_text (tt ∷ []) tt (λ u. refl)
+use Rattle.heap_syntax.specs.Versions.{first_version}
+use Rattle.model_syntax.specs.Grammar.{stack_word, heap_word, ask_word, numbers, values, to_cell, from_cell, cell, some_cell, cells1, cells, question, state, to_model, from_model, body, model}
 
 -- ---- numbers
 

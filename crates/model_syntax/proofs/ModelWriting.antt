@@ -1,7 +1,5 @@
 -- What is written for a list of numbers and for a whole model file.
-use Rattle.std.proofs.Common.{◌≡◌, ℕ, List, [], ◌∷◌, ◌++◌, refl}
-use Rattle.std.specs.Prelude.{codes, decimal}
-use Rattle.std.specs.Fmt.{digits}
+use Rattle.std.proofs.Common.{◌≡◌, ℕ, List, [], ◌∷◌, ◌++◌}
 use Rattle.cyc_lex.specs.Word.{Word}
 use Rattle.cyc_lex.specs.Writing.{Written, write, write_all}
 use Rattle.cyc_grammar.specs.Syntax.{one, after}
@@ -10,7 +8,8 @@ use Rattle.cyc_grammar.proofs.WrittenTexts.{wrote-behind, wrote-both, wrote-ende
 use Rattle.heap_syntax.specs.Words.{cyclist_word, comma, semicolon}
 use Rattle.pred_syntax.specs.Grammar.{definitions}
 use Rattle.model_syntax.specs.Trees.{Model}
-use Rattle.model_syntax.specs.Grammar.{model_word, first_version, question, state, body}
+use Rattle.heap_syntax.specs.Versions.{first_version}
+use Rattle.model_syntax.specs.Grammar.{model_word, question, state, body}
 
 -- a word, some words, and a word after them
 pub number-wrote : (old mid late new : Written) (first : Word) (ws : List Word) (last : Word) → mid ≡ write old first → late ≡ write_all mid ws → new ≡ write late last → new ≡ write_all old (first ∷ (ws ++ last ∷ []))
@@ -34,8 +33,3 @@ body-wrote old a b c d e f g h m ha hb hc hd he hf hg hh =
     (wrote-behind a b h (model_word.word tt) (first_version.word tt ∷ semicolon.word tt ∷ rest) hb
     (wrote-behind b c h (first_version.word tt) (semicolon.word tt ∷ rest) hc
     (wrote-behind c d h (semicolon.word tt) rest hd (wrote-both d e h (definitions.words m.definitions) last he (wrote-ended e f g h (state.words (m.stack, m.cells)) (question.words m.ask) (semicolon.word tt) hf hg hh)))))
-
--- the number 1 as it is written
-pub one-text : decimal 1 ≡ codes "1"
-unfolding digits
-one-text = refl

@@ -1,8 +1,9 @@
 -- The grammar of model files.
 use Rattle.std.specs.Prelude.{ℕ, false, List, [], ◌∷◌, codes}
 use Rattle.cyc_grammar.specs.Syntax.{Syntax, Class, one, seq, shaped, after, before, or_empty}
-use Rattle.cyc_grammar.specs.Classes.{keyword, the_end, number, numeral_of}
+use Rattle.cyc_grammar.specs.Classes.{keyword, the_end, number}
 use Rattle.heap_syntax.specs.Words.{cyclist_word, comma, semicolon, arrow, opening, closing, last_word}
+use Rattle.heap_syntax.specs.Versions.{first_version}
 unfoldable pub use Rattle.heap_syntax.specs.Grammar.{listed}
 use Rattle.heap_syntax.specs.Grammar.{Any}
 use Rattle.pred_syntax.specs.Grammar.{terms, heap, definitions}
@@ -22,13 +23,6 @@ heap_word = keyword (codes "heap")
 
 abbrev pub ask_word : Class (Unit {0})
 ask_word = keyword (codes "ask")
-
--- the one version there is
-abbrev pub first_text : Unit {0} → List ℕ
-first_text u = codes "1"
-
-abbrev pub first_version : Class (Unit {0})
-first_version = numeral_of first_text (tt ∷ [])
 
 -- ---- number { "," number }, and a word after it
 

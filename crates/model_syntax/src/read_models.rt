@@ -1,13 +1,13 @@
 //! Reading whole model files.
 
-ghost use Rattle.std.specs.Prelude.{◌≡◌, ◌<◌, ◌^◌, true, length, map, ◌∷◌, []};
+ghost use Rattle.std.specs.Prelude.{◌≡◌, ◌<◌, ◌^◌, true, length, map};
 ghost use Rattle.cyc_lex.specs.Word.{word_of, EndsOnce};
-ghost use Rattle.cyc_grammar.specs.Syntax.{read_class, read_whole};
-ghost use Rattle.cyc_grammar.specs.Classes.{are_tokens, find_text};
+ghost use Rattle.cyc_grammar.specs.Syntax.{read_whole};
+ghost use Rattle.cyc_grammar.specs.Classes.{are_tokens};
 ghost use Rattle.cyc_grammar.specs.Faults.{Reads, IsRead};
 ghost use Rattle.cyc_grammar.specs.Giving.{Gives, words};
 ghost use Rattle.pred_syntax.specs.Trees.{heap_of};
-ghost use Rattle.model_syntax.specs.Grammar.{first_text, first_version, question, state, body, model};
+ghost use Rattle.model_syntax.specs.Grammar.{question, state, body, model};
 ghost use Rattle.model_syntax.specs.Trees.{Model, cell_of, model_of};
 
 use crate::cell_list::cells;
@@ -15,34 +15,9 @@ use crate::numbers::values;
 use crate::tree::{CellTree, ModelTree};
 use cyc_grammar::{Cursor, Refusal, read_fault};
 use cyc_lex::{ReadFault, Token, Tokens};
+use heap_syntax::first_version;
 use pred_syntax::{HeapTree, definitions, heap};
 use std::alloc::Global;
-
-/// Whether the text is the number of the one version.
-fn first_version(text: &str) -> Option<()>
-    ensures { result ≡ find_text first_text (tt ∷ []) text.now }
-{
-    match text {
-        "1" => Some(()),
-        _ => None,
-    }
-}
-
-/// Takes the number of the one version.
-fn read_version(cursor: &mut Cursor<'_, '_>) -> Result<(), Refusal>
-    ensures { Gives (λ x. (tt, cursor.new)) result (read_class first_version cursor.old) }
-{
-    let Some(text) = cursor.any_number() else {
-        return Err(Refusal::Dead(cursor.left()));
-    };
-    match first_version(text) {
-        Some(_) => {
-            cursor.skip();
-            Ok(())
-        }
-        None => Err(Refusal::Dead(cursor.left())),
-    }
-}
 
 /// The values of the stack and the cells of the heap.
 #[tactic(auto, unfolding(crate::specs::Grammar::state))]
@@ -74,7 +49,7 @@ fn body<'a>(alloc: Global, cursor: &mut Cursor<'_, 'a>) -> Result<ModelTree<'a>,
 {
     cursor.keyword("cyclist")?;
     cursor.keyword("model")?;
-    read_version(cursor)?;
+    first_version(cursor)?;
     cursor.symbol(";")?;
     let definitions = definitions(alloc, cursor)?;
     let (stack, cells) = state(alloc, cursor)?;

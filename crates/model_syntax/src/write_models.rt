@@ -13,6 +13,7 @@ use crate::numbers::write_values;
 use crate::tree::{CellTree, ModelTree};
 use cyc_lex::WordWriter;
 use cyc_memory::OutOfMemory;
+use heap_syntax::write_first_version;
 use pred_syntax::{HeapTree, write_definitions, write_heap};
 use std::alloc::Global;
 
@@ -49,7 +50,7 @@ fn write_body(tree: &ModelTree<'_>, writer: &mut WordWriter) -> Result<(), OutOf
 {
     writer.name("cyclist")?;
     writer.name("model")?;
-    writer.number(1)?;
+    write_first_version(writer)?;
     writer.symbol(";")?;
     write_definitions(&tree.definitions, writer)?;
     write_state(&tree.stack, &tree.cells, writer)?;

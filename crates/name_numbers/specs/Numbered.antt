@@ -1,10 +1,10 @@
 -- Numbered trees without where they lie in memory.
 use Rattle.std.specs.Prelude.{ℕ, List, map}
-use Rattle.std.specs.Borrow.{Bor}
 use Rattle.heap_syntax.specs.Trees as heaps
 pub use Rattle.heap_reader.specs.Trees.{spatial_of, heap_of}
 use Rattle.heap_syntax.specs.declared.version.Version.{Version}
 use Rattle.command_syntax.specs.declared.tree.LineTree.{LineTree}
+use Rattle.problem_syntax.specs.Trees.{text_of}
 use Rattle.name_numbers.specs.declared.tree.NumberedTerm.{NumberedTerm}
 use Rattle.name_numbers.specs.declared.tree.NumberedDefinition.{NumberedDefinition}
 use Rattle.name_numbers.specs.declared.tree.NumberedGoal.{NumberedGoal}
@@ -36,9 +36,6 @@ pub record Problem : Type 0 where
   pub goal : Goal
 
 -- ---- what a contract sees of the code's trees
-
-abbrev pub text_of : Bor (List ℕ) → List ℕ
-text_of s = s.now
 
 abbrev pub definition_of : NumberedDefinition → Definition
 definition_of d = record { name = d.name.now; parameters = map text_of d.parameters.items; cases = map heap_of d.cases.items }

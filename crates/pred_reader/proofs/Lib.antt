@@ -5,3 +5,4 @@ pub mod WithinSpans
 pub mod TreesAgain
 pub mod ValuesAgain
 pub mod DefinitionFlaws
+pub mod FrontSpans

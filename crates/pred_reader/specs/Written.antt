@@ -1,5 +1,5 @@
 -- Heaps and definitions as trees: predicates by their names in place of their numbers.
-use Rattle.std.specs.Prelude.{ℕ, true, false, List, [], map, Option, Some, None, slice_get}
+use Rattle.std.specs.Prelude.{ℕ, Bool, true, false, List, [], map, Option, Some, None, slice_get}
 use Rattle.heap_formula.specs.declared.terms.Term.{Term}
 use Rattle.heap_formula.specs.declared.terms.Term.TheVariants as terms
 use Rattle.heap_formula.specs.declared.atoms.Pure.{Pure}
@@ -10,12 +10,17 @@ use Rattle.heap_formula.specs.Definitions.{Definition as DefinitionValue}
 use Rattle.heap_formula.specs.Symbolic.{SymbolicHeap}
 use Rattle.pred_syntax.specs.declared.tree.TermTree.{TermTree}
 use Rattle.pred_syntax.specs.declared.tree.TermTree.TheVariants.{Nil, Univ, Exist}
+use Rattle.pred_syntax.specs.Grammar as grammar
 use Rattle.pred_syntax.specs.Trees.{PureTree, Spatial, Cell, Predicate, Heap, Definition}
 
 abbrev pub term_tree : Term → TermTree
 term_tree terms.Nil = Nil
 term_tree (terms.Univ n) = Univ n
 term_tree (terms.Exist n) = Exist n
+
+-- the tree of the term has a text
+abbrev pub TermFits : Bool → Term → Type 0
+TermFits universal t = (grammar.terms universal).fits (term_tree t)
 
 abbrev pub pure_tree : Pure → PureTree
 pure_tree (Eq t u) = record { left = term_tree t; is_equation = true; right = term_tree u }

@@ -3,17 +3,13 @@ use Rattle.std.proofs.Common.{◌≡◌, ℕ, Bool, true, false, List, ◌⊎◌
 use Rattle.cyc_lex.specs.Word.{is_lexeme}
 use Rattle.cyc_grammar.specs.Syntax.{Class, one, is_one}
 use Rattle.cyc_grammar.specs.Classes.{number}
-use Rattle.cyc_grammar.proofs.ClassLaws.{number-lexeme}
-use Rattle.cyc_grammar.proofs.Ends.{Inner, one-inner, seq-inner, after-inner, before-inner, alt-inner, many-inner, shaped-inner}
-use Rattle.heap_syntax.specs.Words.{nil, pred_word, semicolon, bar, opening, closing, opening_brace, closing_brace, free_name}
+use Rattle.cyc_grammar.proofs.Ends.{Inner, one-inner, seq-inner, after-inner, before-inner, alt-inner, many-inner, shaped-inner, number-inner, name-inner}
+use Rattle.heap_syntax.specs.Words.{nil, pred_word, semicolon, bar, opening, closing, opening_brace, closing_brace, free_name, dollar, query, reserved}
 use Rattle.heap_syntax.specs.Grammar.{Any}
 use Rattle.heap_syntax.proofs.WordTexts.{nil-word, pred-word, syms}
-use Rattle.heap_syntax.proofs.HeapEnds.{free_name-inner, spatial-inner, heap-inner, heaps-inner}
+use Rattle.heap_syntax.proofs.HeapEnds.{spatial-inner, heap-inner, heaps-inner}
 use Rattle.pred_syntax.specs.Trees.{Heap}
-use Rattle.pred_syntax.specs.Grammar.{dollar, query, to_term, from_term, term, to_uterm, from_uterm, IsUniversal, uterm, terms, terms_of, spatial, heap, heaps, to_definition, from_definition, cases, definition, definitions}
-
-pub number-inner : Inner (one number)
-number-inner = one-inner number number-lexeme
+use Rattle.pred_syntax.specs.Grammar.{to_term, from_term, term, to_uterm, from_uterm, IsUniversal, uterm, terms, terms_of, spatial, heap, heaps, to_definition, from_definition, cases, definition, definitions}
 
 term-inner : Inner term
 unfolding term
@@ -39,7 +35,7 @@ heaps-of m n h k = heaps-inner m n (terms_of (terms false)) (spatial (terms fals
 
 definition-inner : Inner definition
 unfolding definition cases
-definition-inner = shaped-inner {A = List ℕ × (ℕ × List Heap)} to_definition from_definition Any _ (after-inner pred_word _ pred-word (seq-inner (one free_name) _ free_name-inner
+definition-inner = shaped-inner {A = List ℕ × (ℕ × List Heap)} to_definition from_definition Any _ (after-inner pred_word _ pred-word (seq-inner (one free_name) _ (name-inner reserved)
     (after-inner opening _ syms.opening_word (seq-inner (one number) _ number-inner (after-inner closing _ syms.closing_word (after-inner opening_brace _ syms.opening_brace_word (before-inner _ semicolon syms.semicolon_word (heaps-of bar closing_brace syms.bar_word syms.closing_brace_word))))))))
 
 pub definitions-inner : Inner definitions

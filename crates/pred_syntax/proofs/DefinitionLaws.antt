@@ -8,10 +8,10 @@ use Rattle.cyc_grammar.proofs.ClassLaws.{symbol-law, keyword-law, number-law}
 use Rattle.pred_syntax.specs.declared.tree.TermTree.{TermTree}
 use Rattle.pred_syntax.specs.declared.tree.TermTree.TheVariants.{Nil, Univ, Exist}
 use Rattle.pred_syntax.specs.Trees.{Heap, Definition}
-use Rattle.heap_syntax.specs.Words.{nil, true_word, emp, pred_word, semicolon, star, bar, opening, closing, opening_brace, closing_brace, free_name}
+use Rattle.heap_syntax.specs.Words.{nil, true_word, emp, pred_word, semicolon, star, bar, opening, closing, opening_brace, closing_brace, free_name, dollar, query}
 use Rattle.heap_syntax.specs.Grammar.{Any, some_heap}
 use Rattle.heap_syntax.proofs.HeapLaws.{TermLaw, AtomLaw, Nameless, listed-closed, spatial-all, heap-law, heap-end, heaps-law, free_name-law, nil-no-name}
-use Rattle.pred_syntax.specs.Grammar.{dollar, query, to_term, from_term, term, to_uterm, from_uterm, IsUniversal, uterm, terms, terms_of, spatial, heap, to_definition, from_definition, cases, definition, definitions}
+use Rattle.pred_syntax.specs.Grammar.{to_term, from_term, term, to_uterm, from_uterm, IsUniversal, uterm, terms, terms_of, spatial, heap, to_definition, from_definition, cases, definition, definitions}
 
 -- ---- terms
 

@@ -3,3 +3,4 @@ pub mod DefinitionEnds
 pub mod SeenTrees
 pub mod WrittenTerms
 pub mod DefinitionFronts
+pub mod FrontFits

@@ -1,22 +1,16 @@
 -- The grammar of heaps and of predicates' definitions with numbered variables.
-use Rattle.std.specs.Prelude.{ℕ, Bool, true, false, List, ◌⊎◌, codes}
+use Rattle.std.specs.Prelude.{ℕ, Bool, true, false, List, ◌⊎◌}
 use Rattle.std.proofs.Common.{inl, inr}
 use Rattle.cyc_grammar.specs.Syntax.{Syntax, Class, one, seq, alt, many, shaped, after, before, is_one}
-use Rattle.cyc_grammar.specs.Classes.{symbol, number}
+use Rattle.cyc_grammar.specs.Classes.{number}
 use Rattle.heap_syntax.specs.declared.keep.Keep.{Keep}
 use Rattle.heap_syntax.specs.Grammar as shared
 use Rattle.heap_syntax.specs.Grammar.{Terms}
-use Rattle.heap_syntax.specs.Words.{nil, pred_word, semicolon, bar, opening, closing, opening_brace, closing_brace, free_name}
+use Rattle.heap_syntax.specs.Words.{nil, pred_word, semicolon, bar, opening, closing, opening_brace, closing_brace, free_name, dollar, query}
 use Rattle.heap_syntax.specs.Grammar.{Any}
 use Rattle.pred_syntax.specs.declared.tree.TermTree.{TermTree}
 use Rattle.pred_syntax.specs.declared.tree.TermTree.TheVariants.{Nil, Univ, Exist}
 use Rattle.pred_syntax.specs.Trees.{PureTree, Spatial, Heap, Definition}
-
-abbrev pub dollar : Class (Unit {0})
-dollar = symbol (codes "$")
-
-abbrev pub query : Class (Unit {0})
-query = symbol (codes "?")
 
 -- ---- term = "nil" | "$" number | "?" number
 

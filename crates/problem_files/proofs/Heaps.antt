@@ -27,7 +27,8 @@ use Rattle.heap_reader.specs.Flaws.{Found, over_if, arity_in, use_flaw, argument
 use Rattle.proof_file.specs.Written.{term_tree, pure_tree, name_of, spatial_tree, heap_tree}
 use Rattle.problem_files.proofs.Lists.{each_of_both, list_fits, listed_fits, none_later, none_listed}
 use Rattle.problem_files.proofs.Names.{HaveFreeNames, HaveOwnNames, HaveFewParameters, heads_of, used_name_free, used_with_few, no_use_flaw}
-use Rattle.problem_files.proofs.Terms.{MayStand, TermFits, term_fits, IsFlawless}
+use Rattle.pred_reader.specs.Written.{TermFits}
+use Rattle.problem_files.proofs.Terms.{MayStand, term_fits, IsFlawless}
 use Rattle.formula_facts.proofs.AllMembers.{each_imply}
 
 -- ---- two facts of each term give a third

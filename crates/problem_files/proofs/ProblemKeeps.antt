@@ -2,27 +2,21 @@
 -- have names of their own.
 use Rattle.std.proofs.Common.{◌≡◌, ℕ, ◌+◌, ◌<◌, ◌≤◌, Bool, true, false, List, [], ◌∷◌, length, map, Option, Some, None, refl, sym, subst, arith}
 use Rattle.std.specs.Prelude.{not, ◌||◌, nat_eq, nat_lt, nat_le}
-use Rattle.std.specs.List.{list_all}
 use Rattle.std.proofs.Math.Logic.{∥∥₁_elim}
-use Rattle.std.proofs.lemmas.Bool.{ltb-false, or_parts, eqb-false, and_parts}
+use Rattle.std.proofs.lemmas.Bool.{ltb-false, or_parts, eqb-false}
 use Rattle.std.proofs.lemmas.List.{length-map}
 use Rattle.heap_formula.specs.declared.terms.Term.{Term}
-use Rattle.heap_formula.specs.declared.atoms.Pure.{Pure}
-use Rattle.heap_formula.specs.declared.atoms.Spatial.{Spatial}
 use Rattle.heap_formula.specs.declared.commands.Command.{Command}
 use Rattle.heap_formula.specs.declared.judgements.Judgement.{Judgement}
-use Rattle.heap_formula.specs.Closedness.{InPure, InSpatial, InHeap, IsUniversal, IsUniversalHeap}
+use Rattle.heap_formula.specs.Closedness.{InHeap}
 use Rattle.heap_formula.specs.Definitions.{Definition as DefinitionValue}
 use Rattle.heap_formula.specs.Fresh.{univ_bound, exist_bound}
 use Rattle.heap_formula.specs.Judgements.{antecedent}
-use Rattle.heap_formula.specs.Symbolic.{SymbolicHeap}
 use Rattle.heap_formula.specs.Words.{Each}
 use Rattle.goto_lang.specs.Lines.{IsLineOf}
 use Rattle.goto_lang.proofs.Faultless.{faultless_is_program}
 use Rattle.pred_defs.specs.declared.faults.DefFault.{DefFault}
 use Rattle.pred_defs.specs.Faults.{case_fault, definition_fault, first_fault, or_later as then_fault}
-use Rattle.rule_table.specs.Tests.{is_universal_pure, is_universal_spatial}
-use Rattle.rule_table.proofs.Reflects.{universal_pure_is, universal_spatial_is}
 use Rattle.format_limits.specs.Limits.{IsHeapWithin, IsJudgementWithin, IsCaseWithin, IsDefinitionWithin}
 use Rattle.format_limits.proofs.Heaps.{IsLow}
 use Rattle.cyc_lex.specs.declared.fault.What.TheVariants.{Cases, Disjuncts, Locals, Variable}
@@ -39,7 +33,7 @@ use Rattle.heap_reader.specs.Spans.{heap_span}
 use Rattle.heap_reader.specs.Flaws.{ill_if, over_if, or_later, heap_flaw, counted_flaw, heaps_flaw}
 use Rattle.heap_reader.specs.LineFlaws.{lines_flaw}
 use Rattle.heap_reader.specs.Small.{IsSmallHeap}
-use Rattle.heap_reader.specs.Values.{heap_value, line_value}
+use Rattle.heap_reader.specs.Values.{heap_value, line_value, variable_value, program_value}
 use Rattle.heap_reader.proofs.Programs.{lines_universal}
 use Rattle.heap_syntax.specs.declared.version.Version.{Version}
 use Rattle.heap_syntax.specs.Versions.{most_spatial}
@@ -57,7 +51,8 @@ use Rattle.formula_reader.specs.declared.terms.Scope.TheVariants.{Goal as InGoal
 use Rattle.formula_reader.specs.Spans.{term_span, variable_span, lines_span, parameters_span, definition_span, definitions_span}
 use Rattle.formula_reader.specs.Flaws.{headings, term_flaw, variable_flaw, head_flaw, cases_flaw, definition_flaw, definitions_flaw, goal_flaw, problem_flaw}
 use Rattle.formula_reader.specs.Small.{IsSmallDefinition, IsSmallGoal}
-use Rattle.formula_reader.specs.Values.{term_value, variable_value, definition_value, program_value, goal_value}
+use Rattle.formula_reader.specs.Values.{term_value, definition_value, goal_value}
+use Rattle.proof_file.proofs.Universal.{universal_heap}
 use Rattle.formula_reader.specs.WellFormed.{IsOfText, IsWellFormed, goal_fault, is_universal_heap, has_line}
 use Rattle.formula_reader.proofs.Fitting.{definition_small}
 use Rattle.formula_reader.proofs.Keeping.{small_of, is_closed, is_known, has_universal_antecedent, has_its_line}
@@ -180,22 +175,6 @@ module _ (limit : ℕ) (bounded : limit ≤ 32) (hs : List Heading) where
   definitions_free (x ∷ xs) fits = (definition_free x fits.0, definitions_free xs fits.1)
 
 -- ---- goals
-
-universal_pures : (xs : List Pure) → list_all is_universal_pure xs ≡ true → Each (InPure IsUniversal) xs
-universal_pures [] e = tt
-universal_pures (x ∷ xs) e =
-    let b = and_parts (is_universal_pure x) (list_all is_universal_pure xs) e in (universal_pure_is x b.0, universal_pures xs b.1)
-
-universal_spatials : (xs : List Spatial) → list_all is_universal_spatial xs ≡ true → Each (InSpatial IsUniversal) xs
-universal_spatials [] e = tt
-universal_spatials (x ∷ xs) e =
-    let b = and_parts (is_universal_spatial x) (list_all is_universal_spatial xs) e in
-    (universal_spatial_is x b.0, universal_spatials xs b.1)
-
-universal_heap : (a : SymbolicHeap) → is_universal_heap a ≡ true → IsUniversalHeap a
-universal_heap a e =
-    let b = and_parts (list_all is_universal_pure a.pure) (list_all is_universal_spatial a.spatial) e in
-    (universal_pures a.pure b.0, universal_spatials a.spatial b.1)
 
 line_of : (count i : ℕ) → not (nat_eq i 0 || nat_lt count i) ≡ true → IsLineOf count i
 line_of count i e =

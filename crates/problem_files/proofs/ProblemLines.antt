@@ -11,11 +11,10 @@ use Rattle.command_syntax.specs.Trees.{command_of}
 use Rattle.command_syntax.specs.Grammar as syntax
 use Rattle.problem_syntax.specs.Trees as named
 use Rattle.problem_syntax.specs.Grammar.{lines}
-use Rattle.heap_reader.specs.Values.{command_value}
+use Rattle.heap_reader.specs.Values.{command_value, variable_value, program_value}
 use Rattle.name_numbers.specs.Names.{Name, place_of}
 use Rattle.name_numbers.specs.Occurrences.{plain}
 use Rattle.name_numbers.specs.Numbering as numbers
-use Rattle.formula_reader.specs.Values.{variable_value, program_value}
 use Rattle.problem_files.proofs.ProgramLines.{IsCommandOf}
 
 free_known : (free : Bool) (n : ℕ) → (syntax.behind_if free (one free_name)).fits (inl n) → free ≡ true

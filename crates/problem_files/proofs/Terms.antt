@@ -11,6 +11,7 @@ use Rattle.pred_syntax.specs.declared.tree.TermTree.{TermTree}
 use Rattle.proof_syntax.specs.Grammar as grammar
 use Rattle.heap_reader.specs.Flaws.{Found}
 use Rattle.pred_reader.specs.declared.scope.Scope.TheVariants.{Outside as InNode}
+use Rattle.pred_reader.specs.Written.{TermFits}
 use Rattle.proof_file.specs.Flaws.{term_flaw}
 use Rattle.proof_file.specs.Written.{term_tree}
 
@@ -18,9 +19,6 @@ use Rattle.proof_file.specs.Written.{term_tree}
 abbrev pub MayStand : Bool → Term → Type 0
 MayStand true t = IsUniversal t
 MayStand false t = Unit {0}
-
-abbrev pub TermFits : Bool → Term → Type 0
-TermFits universal t = (grammar.terms universal).fits (term_tree t)
 
 pub term_fits : (universal : Bool) (t : Term) → number_bound t ≤ 65535 → MayStand universal t → TermFits universal t
 unfolding grammar.terms grammar.uterm grammar.term

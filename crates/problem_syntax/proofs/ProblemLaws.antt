@@ -6,18 +6,18 @@ use Rattle.cyc_lex.proofs.Letters.{letters-name}
 use Rattle.cyc_grammar.specs.Syntax.{◌>>=◌, read_one, Class, one, seq, after, before, is_one}
 use Rattle.cyc_grammar.specs.Classes.{the_end, number, is_free_name}
 use Rattle.cyc_grammar.proofs.Laws.{Lawful, Faults, Stops, Begins, BeginsNot, BeginsNot-append, ClassLaw, ok_is, differ, one-law, seq-law, shaped-law, alt-law, many-law, after-law, before-law, nothing-law, headed-law, or_empty-law, Stops-never}
-use Rattle.cyc_grammar.proofs.ClassLaws.{symbol-law, keyword-law, the_end-law, number-law}
-use Rattle.heap_syntax.specs.Words.{nil, true_word, emp, pred_word, or_word, last_word, comma, semicolon, bar, arrow, turnstile, opening, closing, opening_brace, closing_brace, prime, reserved, free_name}
+use Rattle.cyc_grammar.proofs.ClassLaws.{symbol-law, keyword-law, the_end-law, number-law, free-no}
+use Rattle.heap_syntax.specs.Words.{nil, true_word, emp, pred_word, or_word, last_word, comma, semicolon, bar, arrow, turnstile, opening, closing, opening_brace, closing_brace, prime, reserved, free_name, goal_word, from_word, given_word}
 use Rattle.heap_syntax.specs.Grammar.{Any, listed, fields, arguments, some_heap}
 use Rattle.heap_syntax.specs.Trees.{Cell, Predicate}
-use Rattle.heap_syntax.proofs.HeapLaws.{TermLaw, AtomLaw, closed-stops, listed-law, listed-closed, listed-some, listed-not, fields-law, fields-closed, arguments-law, arguments-closed, free_name-law, nil-no-name, free-no, emp-reserved, heap-law, heap-end, heap-not, heaps-law}
+use Rattle.heap_syntax.proofs.HeapLaws.{TermLaw, AtomLaw, closed-stops, listed-law, listed-closed, listed-some, listed-not, fields-law, fields-closed, arguments-law, arguments-closed, free_name-law, nil-no-name, emp-reserved, heap-law, heap-end, heap-not, heaps-law}
 use Rattle.command_syntax.specs.Grammar as commands
 use Rattle.command_syntax.proofs.CommandLaws.{VariableLaw, lines-law, lines-end}
 use Rattle.problem_syntax.specs.Trees.{Named, Nil, Plain, Primed, Spatial, Heap, Line, Definition, Goal, Entailment, From}
 use Rattle.heap_syntax.specs.declared.version.Version.{Version}
 use Rattle.heap_syntax.specs.Versions.{version}
 use Rattle.heap_syntax.proofs.WordTexts.{version-law}
-use Rattle.problem_syntax.specs.Grammar.{goal_word, from_word, given_word, option_words, option_more, option, is_false, no_prime, forget, primes, to_named, from_named, term, terms, Atoms, to_spatial, from_spatial, behind_address, behind_name, spatial, heap, parameters, cases, to_definition, from_definition, definition, to_goal, from_goal, disjuncts, state, entailment, goal, definitions, lines, to_problem, from_problem, last_part, contents, body, problem}
+use Rattle.problem_syntax.specs.Grammar.{option_words, option_more, option, is_false, no_prime, forget, primes, to_named, from_named, term, terms, Atoms, to_spatial, from_spatial, behind_address, behind_name, spatial, heap, parameters, cases, to_definition, from_definition, definition, to_goal, from_goal, disjuncts, state, entailment, goal, definitions, lines, to_problem, from_problem, last_part, contents, body, problem}
 
 -- ---- a word or nothing
 
@@ -100,7 +100,7 @@ term-law : (b : Bool) → Lawful (term b)
 unfolding term
 term-law b =
     shaped-law {A = Unit {0} ⊎ (List ℕ × Bool)} to_named from_named Any _ (λ x f. (there x, tt)) (λ t h. here t)
-    (alt-law (is_one nil) (one nil) (seq (one free_name) (primes b)) (λ u f. refl) (λ p f. free-no (codes "nil") nil-reserved p.0 f.0) (one-law nil (keyword-law _))
+    (alt-law (is_one nil) (one nil) (seq (one free_name) (primes b)) (λ u f. refl) (λ p f. free-no reserved (codes "nil") nil-reserved p.0 f.0) (one-law nil (keyword-law _))
     (seq-law (one free_name) (primes b) (one-law free_name free_name-law) (primes-law b) (λ x y r fx fy h. Stops-never ((primes b).words y ++ r))))
   where
     there : (x : Unit {0} ⊎ (List ℕ × Bool)) → from_named (to_named x) ≡ x
@@ -124,7 +124,7 @@ unfolding term
 terms-all b = record {
   law = term-law b;
   closed = closed;
-  not_true = term-not b (is_one true_word) refl (free-no (codes "true") true-reserved);
+  not_true = term-not b (is_one true_word) refl (free-no reserved (codes "true") true-reserved);
   not_closing = term-not b (is_one closing) refl (λ s f. refl);
 }
   where
@@ -179,10 +179,10 @@ spatial-closed b (Cell (Primed s) ts) d = fields-closed (terms b) ts d
 
 spatial-not : (b : Bool) (s : Spatial) → (spatial b).fits s → BeginsNot (is_one emp) ((spatial b).words s)
 unfolding spatial
-spatial-not b (Predicate s ts) f = free-no (codes "emp") emp-reserved s f.1.0
+spatial-not b (Predicate s ts) f = free-no reserved (codes "emp") emp-reserved s f.1.0
 spatial-not b (Cell Nil ts) f = refl
-spatial-not b (Cell (Plain s) ts) f = free-no (codes "emp") emp-reserved s f.1.0
-spatial-not b (Cell (Primed s) ts) f = free-no (codes "emp") emp-reserved s f.1.0
+spatial-not b (Cell (Plain s) ts) f = free-no reserved (codes "emp") emp-reserved s f.1.0
+spatial-not b (Cell (Primed s) ts) f = free-no reserved (codes "emp") emp-reserved s f.1.0
 
 atoms-all : (b : Bool) → AtomLaw (spatial b)
 atoms-all b = record { law = spatial-law b; closed = λ s d f. spatial-closed b s d; not_emp = spatial-not b }
@@ -247,12 +247,12 @@ free_variables : VariableLaw (one free_name)
 free_variables = record {
   law = one-law free_name free_name-law;
   closed = λ s d f. refl;
-  not_nil = free-no (codes "nil") nil-reserved;
-  not_stop = free-no (codes "stop") stop-reserved;
-  not_goto = free-no (codes "goto") goto-reserved;
-  not_free = free-no (codes "free") free-reserved;
-  not_if = free-no (codes "if") if-reserved;
-  not_new = free-no (codes "new") new-reserved;
+  not_nil = free-no reserved (codes "nil") nil-reserved;
+  not_stop = free-no reserved (codes "stop") stop-reserved;
+  not_goto = free-no reserved (codes "goto") goto-reserved;
+  not_free = free-no reserved (codes "free") free-reserved;
+  not_if = free-no reserved (codes "if") if-reserved;
+  not_new = free-no reserved (codes "new") new-reserved;
   not_star = λ s f. refl;
 }
 
@@ -279,7 +279,7 @@ entailment-law = seq-law (heap true) (after turnstile disjuncts) (heap-lawful tr
 
 no-from : (p : Heap × List Heap) → entailment.fits p → BeginsNot (is_one from_word) (entailment.words p)
 unfolding entailment
-no-from p f = BeginsNot-append (is_one from_word) _ _ (heap-not (terms true) (spatial true) (is_one from_word) refl (term-not true (is_one from_word) refl (free-no (codes "from") from-reserved)) p.0 f.0)
+no-from p f = BeginsNot-append (is_one from_word) _ _ (heap-not (terms true) (spatial true) (is_one from_word) refl (term-not true (is_one from_word) refl (free-no reserved (codes "from") from-reserved)) p.0 f.0)
 
 goal-law : Lawful goal
 unfolding goal state

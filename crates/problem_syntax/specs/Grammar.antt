@@ -4,7 +4,7 @@ use Rattle.std.proofs.Common.{inl, inr}
 use Rattle.cyc_lex.specs.Word.{Word}
 use Rattle.cyc_grammar.specs.Syntax.{Reading, ◌>>=◌, Syntax, Class, begins, read_class, one, seq, alt, many, shaped, after, before, headed, nothing, is_one, or_empty}
 use Rattle.cyc_grammar.specs.Classes.{keyword, number, the_end}
-use Rattle.heap_syntax.specs.Words.{nil, pred_word, or_word, last_word, cyclist_word, comma, semicolon, bar, arrow, turnstile, opening, closing, opening_brace, closing_brace, prime, free_name}
+use Rattle.heap_syntax.specs.Words.{nil, pred_word, or_word, last_word, cyclist_word, comma, semicolon, bar, arrow, turnstile, opening, closing, opening_brace, closing_brace, prime, free_name, goal_word, from_word, given_word}
 use Rattle.heap_syntax.specs.declared.version.Version.{Version}
 use Rattle.heap_syntax.specs.Versions.{version}
 use Rattle.heap_syntax.specs.Grammar as shared
@@ -17,15 +17,6 @@ use Rattle.problem_syntax.specs.Trees.{Named, Nil, Plain, Primed, Spatial, Heap,
 
 abbrev pub problem_word : Class (Unit {0})
 problem_word = keyword (codes "problem")
-
-abbrev pub goal_word : Class (Unit {0})
-goal_word = keyword (codes "goal")
-
-abbrev pub from_word : Class (Unit {0})
-from_word = keyword (codes "from")
-
-abbrev pub given_word : Class (Unit {0})
-given_word = keyword (codes "given")
 
 -- ---- a word or nothing
 

@@ -25,7 +25,8 @@ use Rattle.proof_file.specs.Upgrades.{IsUpgrade}
 use Rattle.proof_file.proofs.Wider.{node_is_few}
 use Rattle.proof_check.specs.Files.{graph_node, graph_of, node_of, nodes_of, AreRight}
 use Rattle.proof_check.specs.Verdicts.{file_graph, IsCorrect}
-use Rattle.proof_check.proofs.WiderRules.{is_few, rule_wide}
+use Rattle.heap_reader.specs.Small.{is_short_heap}
+use Rattle.proof_check.proofs.WiderRules.{rule_wide}
 use Rattle.std.proofs.lemmas.Bool.{and_from, and_parts}
 use Rattle.std.specs.List.{list_all}
 use Rattle.std.specs.Cmp.Lexicographic.{pointwise, as_long}
@@ -33,21 +34,21 @@ use Rattle.rule_table.proofs.LinkRule.{none_of_two, no_fault}
 
 -- ---- judgements that are one have as many spatial atoms
 
-heap_few : (most : ℕ) (a b : SymbolicHeap) → same_heap a b ≡ true → is_few most b ≡ true → is_few most a ≡ true
+heap_few : (most : ℕ) (a b : SymbolicHeap) → same_heap a b ≡ true → is_short_heap most b ≡ true → is_short_heap most a ≡ true
 heap_few most a b e few =
     let spatial = as_long same_spatial a.spatial b.spatial (and_parts (pointwise same_pure a.pure b.pure) (pointwise same_spatial a.spatial b.spatial) e).1 in
     ap (λ n. nat_le n most) spatial ∙ few
 
-heaps_few : (most : ℕ) (xs ys : List SymbolicHeap) → pointwise same_heap xs ys ≡ true → list_all (is_few most) ys ≡ true → list_all (is_few most) xs ≡ true
+heaps_few : (most : ℕ) (xs ys : List SymbolicHeap) → pointwise same_heap xs ys ≡ true → list_all (is_short_heap most) ys ≡ true → list_all (is_short_heap most) xs ≡ true
 heaps_few most [] [] e few = refl
 heaps_few most [] (b ∷ ys) e few = absurd cc
 heaps_few most (a ∷ xs) [] e few = absurd cc
 heaps_few most (a ∷ xs) (b ∷ ys) e few =
     let h = and_parts (same_heap a b) (pointwise same_heap xs ys) e in
-    let f = and_parts (is_few most b) (list_all (is_few most) ys) few in
-    and_from (is_few most a) (list_all (is_few most) xs) (heap_few most a b h.0 f.0) (heaps_few most xs ys h.1 f.1)
+    let f = and_parts (is_short_heap most b) (list_all (is_short_heap most) ys) few in
+    and_from (is_short_heap most a) (list_all (is_short_heap most) xs) (heap_few most a b h.0 f.0) (heaps_few most xs ys h.1 f.1)
 
-judgement_few : (most : ℕ) (i j : Judgement) → same_judgement i j ≡ true → list_all (is_few most) (heaps_of j) ≡ true → list_all (is_few most) (heaps_of i) ≡ true
+judgement_few : (most : ℕ) (i j : Judgement) → same_judgement i j ≡ true → list_all (is_short_heap most) (heaps_of j) ≡ true → list_all (is_short_heap most) (heaps_of i) ≡ true
 judgement_few most (Entail a bs) (Entail b cs) e few = heaps_few most (a ∷ bs) (b ∷ cs) e few
 judgement_few most (Runs i a) (Runs k b) e few =
     heaps_few most (a ∷ []) (b ∷ []) (and_from (same_heap a b) true (and_parts (nat_eq i k) (same_heap a b) e).1 refl) few
@@ -67,20 +68,20 @@ premises_of nodes v us (Ok ps) e =
     record { ps = ps; is = refl; fine = (none_of_two (fault_unless (nat_eq (length ps) (length us)) PremiseCount) (premises_fault nodes v 0 ps us) e).1 }
 premises_of nodes v us (Err f) e = absurd cc
 
-module _ (most : ℕ) (nodes : List Node) (few : (u : ℕ) (node : Node) → slice_get nodes u ≡ Some node → list_all (is_few most) (heaps_of node.judgement) ≡ true) where
-  premise_few : (i u : ℕ) (p : Premise) (o : Option Node) → slice_get nodes u ≡ o → differs nodes i u p o ≡ None → list_all (is_few most) (heaps_of p.judgement) ≡ true
+module _ (most : ℕ) (nodes : List Node) (few : (u : ℕ) (node : Node) → slice_get nodes u ≡ Some node → list_all (is_short_heap most) (heaps_of node.judgement) ≡ true) where
+  premise_few : (i u : ℕ) (p : Premise) (o : Option Node) → slice_get nodes u ≡ o → differs nodes i u p o ≡ None → list_all (is_short_heap most) (heaps_of p.judgement) ≡ true
   premise_few i u p None at e = absurd cc
   premise_few i u p (Some node) at e =
       judgement_few most p.judgement node.judgement (no_fault (same_judgement p.judgement node.judgement) (PremiseDiffers i) e) (few u node at)
 
   -- the premises of a right node have few spatial atoms, as its nodes have
-  premises_few : (v i : ℕ) (ps : List Premise) (us : List ℕ) → premises_fault nodes v i ps us ≡ None → each_heap (is_few most) ps ≡ true
+  premises_few : (v i : ℕ) (ps : List Premise) (us : List ℕ) → premises_fault nodes v i ps us ≡ None → each_heap (is_short_heap most) ps ≡ true
   premises_few v i [] us e = refl
   premises_few v i (p ∷ ps) [] e = absurd cc
   premises_few v i (p ∷ ps) (u ∷ us) e =
       let a = none_of_two (fault_unless (nat_lt v u) NoSuchNode) (first_of (differs nodes i u p (slice_get nodes u)) (premises_fault nodes v (suc i) ps us)) e in
       let b = none_of_two (differs nodes i u p (slice_get nodes u)) (premises_fault nodes v (suc i) ps us) a.1 in
-      and_from (list_all (is_few most) (heaps_of p.judgement)) (each_heap (is_few most) ps) (premise_few i u p (slice_get nodes u) refl b.0) (premises_few v (suc i) ps us b.1)
+      and_from (list_all (is_short_heap most) (heaps_of p.judgement)) (each_heap (is_short_heap most) ps) (premise_few i u p (slice_get nodes u) refl b.0) (premises_few v (suc i) ps us b.1)
 
   module _ (more : ℕ) (le : most ≤ more) (ds : List Definition) (lines : List Command) where
     reason_rises : (v : ℕ) (j : Judgement) (us : List ℕ) (r : Reason) → reason_fault most ds lines nodes v j us r ≡ None → reason_fault more ds lines nodes v j us r ≡ None
@@ -125,11 +126,11 @@ module _ (most : ℕ) (nodes : List Node) (few : (u : ℕ) (node : Node) → sli
 
 -- ---- files
 
-few_nodes : (f : ProofFile) (u : ℕ) (node : Node) → slice_get (nodes_of f.nodes) u ≡ Some node → list_all (is_few f.defs.most) (heaps_of node.judgement) ≡ true
+few_nodes : (f : ProofFile) (u : ℕ) (node : Node) → slice_get (nodes_of f.nodes) u ≡ Some node → list_all (is_short_heap f.defs.most) (heaps_of node.judgement) ≡ true
 few_nodes f u node at =
     let m = mapped_at node_of f.nodes u node at in
-    let here = node_is_few f u m.from m.at in
-    subst (λ (n : ℕ). list_all (is_few n) (heaps_of node.judgement) ≡ true) (sym f.limit) (subst (λ (n : Node). list_all (is_few (most_spatial f.version)) (heaps_of n.judgement) ≡ true) m.is here)
+    let here = node_is_short_heap f u m.from m.at in
+    subst (λ (n : ℕ). list_all (is_short_heap n) (heaps_of node.judgement) ≡ true) (sym f.limit) (subst (λ (n : Node). list_all (is_short_heap (most_spatial f.version)) (heaps_of n.judgement) ≡ true) m.is here)
 
 module _ (f g : ProofFile) (up : IsUpgrade f g) where
   limit : g.defs.most ≡ 32

@@ -32,10 +32,7 @@ use Rattle.rule_table.specs.RuleCut.{cut_left, cut_right}
 use Rattle.rule_table.specs.RuleUnfold.{unfold_premise, unfolded}
 use Rattle.rule_table.specs.Table.{calls, right_term, with_right, without_spatial}
 use Rattle.rule_table.specs.Tests.{ascend_from, has_number}
-
--- at most so many spatial atoms
-abbrev pub is_few : ℕ → SymbolicHeap → Bool
-is_few most a = nat_le (length a.spatial) most
+use Rattle.heap_reader.specs.Small.{is_short_heap}
 
 -- ---- tests
 
@@ -56,7 +53,7 @@ short_wider most more le a e =
     let few = leb-true (length a.spatial) most b.1 in
     and_from (nat_le (length a.pure) 64) (nat_le (length a.spatial) more) b.0 (le-leb (length a.spatial) more (omega arith))
 
-short_again : (most more : ℕ) (a : SymbolicHeap) → is_short more a ≡ true → is_few most a ≡ true → is_short most a ≡ true
+short_again : (most more : ℕ) (a : SymbolicHeap) → is_short more a ≡ true → is_short_heap most a ≡ true → is_short most a ≡ true
 short_again most more a e f =
     let b = and_parts (nat_le (length a.pure) 64) (nat_le (length a.spatial) more) e in
     and_from (nat_le (length a.pure) 64) (nat_le (length a.spatial) most) b.0 f
@@ -74,7 +71,7 @@ needs_from false f rest e = absurd cc
 -- the second answer has the premises of the first, and the first those of the second where they have few spatial atoms
 pub record Widens (most : ℕ) (answer other : Answer) : Type 0 where
   pub rises : (ps : List Premise) → answer ≡ Ok ps → other ≡ Ok ps
-  pub falls : (ps : List Premise) → other ≡ Ok ps → each_heap (is_few most) ps ≡ true → answer ≡ Ok ps
+  pub falls : (ps : List Premise) → other ≡ Ok ps → each_heap (is_short_heap most) ps ≡ true → answer ≡ Ok ps
 
 module _ (most more : ℕ) (le : most ≤ more) where
   same : (answer : Answer) → Widens most answer answer
@@ -120,14 +117,14 @@ module _ (most more : ℕ) (le : most ≤ more) where
           let short = every_weaker (λ (p : Premise). list_all (is_short most) (heaps_of p.judgement)) (λ (p : Premise). list_all (is_short more) (heaps_of p.judgement)) (λ p h. every_weaker (is_short most) (is_short more) (short_wider most more le) (heaps_of p.judgement) h) ps b.0 in
           needs_from (each_heap (is_short more) ps) TooManyAtoms numbers short ∙ b.1
 
-      fall : (qs : List Premise) → limited more ps ≡ Ok qs → each_heap (is_few most) qs ≡ true → limited most ps ≡ Ok qs
+      fall : (qs : List Premise) → limited more ps ≡ Ok qs → each_heap (is_short_heap most) qs ≡ true → limited most ps ≡ Ok qs
       fall qs e few =
           let b = needs_ok (each_heap (is_short more) ps) TooManyAtoms numbers qs e in
           let n = needs_ok (each_heap has_numbers ps) NoFreshVariable (Ok ps) qs b.1 in
           let ok : Ok ps ≡ Ok qs = n.1 in
           let is : ps ≡ qs = cc in
-          let few_here : each_heap (is_few most) ps ≡ true = subst (λ (xs : List Premise). each_heap (is_few most) xs ≡ true) (sym is) few in
-          let short = every_both (λ (p : Premise). list_all (is_short more) (heaps_of p.judgement)) (λ (p : Premise). list_all (is_few most) (heaps_of p.judgement)) (λ (p : Premise). list_all (is_short most) (heaps_of p.judgement)) (λ p h g. every_both (is_short more) (is_few most) (is_short most) (short_again most more) (heaps_of p.judgement) h g) ps b.0 few_here in
+          let few_here : each_heap (is_short_heap most) ps ≡ true = subst (λ (xs : List Premise). each_heap (is_short_heap most) xs ≡ true) (sym is) few in
+          let short = every_both (λ (p : Premise). list_all (is_short more) (heaps_of p.judgement)) (λ (p : Premise). list_all (is_short_heap most) (heaps_of p.judgement)) (λ (p : Premise). list_all (is_short most) (heaps_of p.judgement)) (λ p h g. every_both (is_short more) (is_short_heap most) (is_short most) (short_again most more) (heaps_of p.judgement) h g) ps b.0 few_here in
           needs_from (each_heap (is_short most) ps) TooManyAtoms numbers short ∙ b.1
 
   -- ---- rules

@@ -1,5 +1,5 @@
 -- Why a tested file is a proof system: lemmas for the laws of its impl, which can cite no others.
-use Rattle.std.proofs.Common.{◌≡◌, ℕ, suc, ◌<◌, Bool, true, List, [], ◌∷◌, length, refl, subst, arith, Some}
+use Rattle.std.proofs.Common.{◌≡◌, ℕ, suc, ◌<◌, true, List, [], ◌∷◌, length, refl, subst, arith, Some}
 use Rattle.std.specs.List.{list_all}
 use Rattle.std.proofs.lemmas.List.{length-map}
 use Rattle.std.proofs.lemmas.Bool.{leb-true, leb-false, and_parts}
@@ -9,41 +9,31 @@ use Rattle.heap_formula.specs.declared.commands.Command.{Command}
 use Rattle.heap_formula.specs.declared.commands.Command.TheVariants.{Assign, Load, Store, New, Free, IfEq, IfNeq, IfAny, Goto, Stop}
 use Rattle.heap_formula.specs.declared.proof_rules.Reason.{Reason}
 use Rattle.heap_formula.specs.declared.proof_rules.Reason.TheVariants.{Step, Back}
-use Rattle.heap_formula.specs.Closedness.{IsUniversal, IsUniversalHeap, InPure, InSpatial}
+use Rattle.heap_formula.specs.Closedness.{IsUniversal}
 use Rattle.heap_formula.specs.Definitions.{Definition, HasFewCases}
 use Rattle.heap_formula.specs.Judgements.{antecedent}
-use Rattle.heap_formula.specs.Symbolic.{SymbolicHeap}
 use Rattle.heap_formula.specs.Words.{Each}
-use Rattle.rule_table.specs.Tests.{is_universal, is_universal_pure, is_universal_spatial}
+use Rattle.rule_table.specs.Tests.{is_universal}
 use Rattle.rule_table.specs.Soundness.{IsCommand}
 use Rattle.rule_table.specs.Nodes.{Node, IsReadable, HoldsAtNode}
-use Rattle.rule_table.proofs.Reflects.{universal_is, universal_pure_is, universal_spatial_is}
+use Rattle.rule_table.proofs.Reflects.{universal_is}
 use Rattle.trace_pairs.specs.System.{AreRight, IsLocalAt, is_untested}
 use Rattle.proof_graph.proofs.Joined.{mapped_at}
 use Rattle.proof_file.specs.Readable.{is_universal_heap, is_universal_reason, is_readable, are_readable, is_universal_command, has_few_cases, all_have_few_cases}
 use Rattle.proof_file.specs.declared.node.FileNode.{FileNode}
 use Rattle.proof_file.specs.declared.file.ProofFile.{ProofFile}
+use Rattle.proof_file.proofs.Universal.{each_passes, universal_heap}
 use Rattle.node_reasons.proofs.RightGraphs.{graph_right, graph_local}
 use Rattle.proof_check.specs.Files.{AreReadable, graph_node, node_of, nodes_of}
 use Rattle.proof_check.specs.Tested.{IsTested, HasFields}
 use Rattle.proof_check.specs.Verdicts.{file_graph}
 use Rattle.formula_facts.proofs.AllMembers.{each_at}
 
--- each member passes a test that all pass
-each_passes : {X : Type 0} (p : X → Bool) (Q : X → Type 0) → ((x : X) → p x ≡ true → Q x) → (xs : List X) → list_all p xs ≡ true → Each Q xs
-each_passes p Q one [] e = tt
-each_passes p Q one (x ∷ xs) e = let b = and_parts (p x) (list_all p xs) e in (one x b.0, each_passes p Q one xs b.1)
-
-heap_universal : (a : SymbolicHeap) → is_universal_heap a ≡ true → IsUniversalHeap a
-heap_universal a e =
-    let b = and_parts (list_all is_universal_pure a.pure) (list_all is_universal_spatial a.spatial) e in
-    (each_passes is_universal_pure (InPure IsUniversal) universal_pure_is a.pure b.0, each_passes is_universal_spatial (InSpatial IsUniversal) universal_spatial_is a.spatial b.1)
-
 node_readable : (n : FileNode) → is_readable n ≡ true → IsReadable n.judgement n.reason
 node_readable n e = by_reason n.reason (and_parts (is_universal_heap (antecedent n.judgement)) (is_universal_reason n.reason) e)
   where
     by_reason : (r : Reason) → (is_universal_heap (antecedent n.judgement) ≡ true) × (is_universal_reason r ≡ true) → IsReadable n.judgement r
-    by_reason (Step rule) b = heap_universal (antecedent n.judgement) b.0
+    by_reason (Step rule) b = universal_heap (antecedent n.judgement) b.0
     by_reason (Back link) b = each_passes (λ (pair : ℕ × Term). is_universal pair.1) (λ pair. IsUniversal pair.1) (λ pair. universal_is pair.1) link.subst b.1
 
 nodes_readable : (ns : List FileNode) → are_readable ns ≡ true → AreReadable (nodes_of ns)

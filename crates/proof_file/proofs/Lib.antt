@@ -7,3 +7,5 @@ pub mod ValuesAgain
 pub mod Readings
 pub mod Wider
 pub mod NodeFlaws
+pub mod FrontSpans
+pub mod Universal

@@ -1,5 +1,5 @@
 -- What the grammar lets through has universal variables alone where it must.
-use Rattle.std.proofs.Common.{◌≡◌, ℕ, zero, suc, ◌+◌, ◌<◌, ◌≤◌, Bool, true, false, ◌&&◌, List, [], ◌∷◌, map, length, None, refl, arith}
+use Rattle.std.proofs.Common.{◌≡◌, ℕ, suc, ◌+◌, ◌≤◌, Bool, true, false, ◌&&◌, List, [], ◌∷◌, map, length, None, refl, arith}
 use Rattle.std.specs.List.{list_all}
 use Rattle.std.specs.Prelude.{◌||◌, nat_eq, nat_lt, nat_le}
 use Rattle.std.proofs.lemmas.Bool.{le-leb, lt-ltb, ltb-false, and_from as both_true}
@@ -23,14 +23,14 @@ use Rattle.proof_syntax.specs.Grammar.{uterm, terms, pure, pures, spatial, heap,
 use Rattle.heap_syntax.specs.Versions.{most_spatial}
 use Rattle.heap_reader.specs.Trees.{Heading}
 use Rattle.heap_reader.specs.Flaws.{ill_if, listed_flaw, heap_flaw}
-use Rattle.heap_reader.specs.Values.{pure_value, spatial_value, heap_value, operand_value, command_value}
+use Rattle.heap_reader.specs.Values.{pure_value, spatial_value, heap_value, operand_value, command_value, variable_value, program_value}
 use Rattle.heap_reader.proofs.Fitting.{most_fits}
-use Rattle.heap_reader.proofs.NoFlaw.{neither, not_ill}
+use Rattle.heap_reader.proofs.NoFlaw.{neither, not_ill, positive}
 use Rattle.proof_file.proofs.Fitting.{node_parts, file_parts}
 use Rattle.pred_reader.specs.declared.scope.Scope.TheVariants.{Outside as InNode}
 use Rattle.proof_file.specs.Spans.{term_span, node_span}
 use Rattle.proof_file.specs.Flaws.{headings, term_flaw, judgement_flaw, node_flaw, first_node, file_flaw}
-use Rattle.proof_file.specs.Values.{term_value, variable_value, definition_value, program_value, judgement_value, pair_value, reason_value, node_value}
+use Rattle.proof_file.specs.Values.{term_value, definition_value, judgement_value, pair_value, reason_value, node_value}
 use Rattle.proof_file.specs.Readable.{is_universal_heap, is_universal_reason, is_readable, are_readable, is_universal_command, are_universal_commands, is_at_line, are_at_lines, has_few_cases, all_have_few_cases}
 use Rattle.proof_file.specs.Small.{IsSmallDefinition}
 use Rattle.pred_reader.proofs.Members.{list_fit, listed_fit, spatials_fit}
@@ -175,10 +175,6 @@ commands_universal (l ∷ ls) =
     both_true (is_universal_command (command_value variable_value l.command)) (are_universal_commands (program_value ls)) (universal_command l.command) (commands_universal ls)
 
 -- ---- judgements that start from a line
-
-positive : (n : ℕ) → nat_eq n 0 ≡ false → 0 < n
-positive zero e = absurd cc
-positive (suc n) e = omega arith
 
 line_there : (count n : ℕ) → nat_eq n 0 || nat_lt count n ≡ false → nat_lt 0 n && nat_le n count ≡ true
 line_there count n e =

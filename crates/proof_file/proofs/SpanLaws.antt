@@ -4,14 +4,14 @@ use Rattle.heap_formula.specs.Words.{Each}
 use Rattle.cyc_grammar.specs.Classes.{the_end}
 use Rattle.cyc_grammar.specs.Syntax.{words_many, fits_many, list1}
 use Rattle.heap_syntax.specs.Grammar as shared
-use Rattle.heap_reader.specs.Spans.{total, total_or, line_span}
+use Rattle.heap_reader.specs.Spans.{total, total_or, line_span, premises_rest}
 use Rattle.heap_reader.proofs.SpanLaws.{between, alone, lines_words}
 use Rattle.pred_reader.proofs.SpanLaws.{uterm_words, heap_words, heaps_words, definition_words}
 use Rattle.proof_syntax.specs.declared.tree.PairTree.{PairTree}
 use Rattle.proof_syntax.specs.Trees.{Entailment, Judgement, Entails, From, LinkData, Reason, Absurd, Rewrite, Split, Distinct, Weaken, Unfold, Cut, Done, Choose, PureRight, Instantiate, Frame, UnfoldRight, Exec, Drop, Link, Node, File}
 use Rattle.proof_syntax.specs.Grammar.{uterm, terms, heap, heaps, definition, variable, lines, disjuncts, entailment, state, judgement, numbers, bracketed, two_numbers, side, rewrite, split, cut, instantiate, pair, pairs1, pairs, link, parts, reason, premises, node, definitions, more_nodes, nodes, body, file, some_pair, comma, closing_bracket, closing_brace, semicolon, or_word, by_word, last_word, turnstile}
 use Rattle.proof_file.proofs.Fitting.{HasDisjunct}
-use Rattle.proof_file.specs.Spans.{variable_span, definition_span, entailment_span, judgement_span, pair_span, link_span, reason_span, premises_rest, node_span}
+use Rattle.proof_file.specs.Spans.{variable_span, definition_span, entailment_span, judgement_span, pair_span, link_span, reason_span, node_span}
 
 -- ---- lists
 

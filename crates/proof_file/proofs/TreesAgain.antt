@@ -18,14 +18,14 @@ use Rattle.heap_reader.specs.Trees.{Heading}
 use Rattle.heap_reader.specs.Spans.{heap_span, line_span}
 use Rattle.heap_reader.specs.Flaws.{ill_if, over_if, or_later, listed_flaw, arity_in, use_flaw, heap_flaw, heaps_flaw}
 use Rattle.heap_reader.specs.LineFlaws.{goes_on, line_head_flaw, command_flaw, line_flaw}
-use Rattle.heap_reader.specs.Values.{place_of, operand_value, command_value}
+use Rattle.heap_reader.specs.Values.{place_of, operand_value, command_value, variable_value, program_value}
 use Rattle.heap_reader.proofs.Fitting.{most_fits}
 use Rattle.heap_reader.proofs.NoFlaw.{neither, not_ill}
 use Rattle.pred_reader.specs.declared.scope.Scope.TheVariants.{Outside as InNode}
 use Rattle.pred_reader.proofs.TreesAgain.{listed_again, term_again, found_name, heap_again, heaps_again, definition_again}
 use Rattle.proof_file.specs.Spans.{term_span, variable_span, definition_span, judgement_span, node_span}
 use Rattle.proof_file.specs.Flaws.{headings, term_flaw, variable_flaw, definition_flaw, judgement_flaw, reason_flaw, node_flaw, first_line, first_node, file_flaw}
-use Rattle.proof_file.specs.Values.{variable_value, definition_value, program_value, judgement_value, side_value, pair_value, reason_value, node_value}
+use Rattle.proof_file.specs.Values.{definition_value, judgement_value, side_value, pair_value, reason_value, node_value}
 use Rattle.proof_file.proofs.Fitting.{node_parts, file_parts}
 use Rattle.proof_file.specs.Written.{operand_tree, command_tree, lines_behind, name_of, definition_tree, judgement_tree, side_tree, pair_tree, reason_tree, node_tree, tree_of}
 use Rattle.list_facts.proofs.Tests.{equal_numbers}

@@ -19,10 +19,10 @@ use Rattle.proof_syntax.specs.Grammar.{reserved, uterm, definition, disjuncts, e
 use Rattle.proof_file.specs.declared.node.FileNode.{FileNode}
 use Rattle.proof_file.specs.declared.file.ProofFile.{ProofFile}
 use Rattle.heap_reader.specs.Trees.{Heading}
-use Rattle.heap_reader.specs.Values.{place_of, operand_value, command_value}
+use Rattle.heap_reader.specs.Values.{place_of, operand_value, command_value, variable_value, program_value}
 use Rattle.pred_reader.proofs.ValuesAgain.{each_known, found_place, term_known, heap_known, heaps_known, definition_known, definitions_fit}
 use Rattle.proof_file.specs.Flaws.{headings}
-use Rattle.proof_file.specs.Values.{variable_value, definition_value, program_value, judgement_value, side_value, pair_value, reason_value, node_value}
+use Rattle.proof_file.specs.Values.{definition_value, judgement_value, side_value, pair_value, reason_value, node_value}
 use Rattle.proof_file.specs.Written.{operand_tree, store_tree, command_tree, lines_behind, name_of, definition_tree, judgement_tree, side_tree, pair_tree, reason_tree, node_tree, tree_of}
 use Rattle.proof_file.specs.Reading.{IsFileOf}
 use Rattle.proof_file.specs.Readable.{is_universal_command, are_universal_commands}
@@ -30,8 +30,6 @@ use Rattle.proof_file.proofs.Fitting.{file_parts}
 use Rattle.rule_table.specs.Tests.{is_universal}
 use Rattle.proof_file.proofs.ReadableNodes.{nodes_fit}
 use Rattle.list_facts.proofs.Parts.{map_back}
-use Rattle.list_facts.proofs.Places.{get_map}
-use Rattle.heap_reader.proofs.FirstPlaces.{flaw_at}
 
 -- ---- judgements and nodes
 

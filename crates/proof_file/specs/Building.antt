@@ -1,5 +1,5 @@
 -- Files that are made part by part.
-use Rattle.std.specs.Prelude.{◌≡◌, ℕ, List, [], map, None, Some, Result, Ok, Err}
+use Rattle.std.specs.Prelude.{◌≡◌, List, [], map, None, Some, Result, Ok, Err}
 use Rattle.heap_syntax.specs.declared.version.Version.{Version}
 use Rattle.heap_syntax.specs.Versions.{most_spatial}
 use Rattle.heap_formula.specs.declared.commands.Command.{Command}
@@ -11,7 +11,8 @@ use Rattle.proof_file.specs.declared.building.NodeFault.{NodeFault}
 use Rattle.proof_file.specs.declared.building.NodeFault.TheVariants as faults
 use Rattle.proof_file.specs.declared.node.FileNode.{FileNode}
 use Rattle.proof_file.specs.Flaws.{headings, file_flaw}
-use Rattle.proof_file.specs.Values.{definition_value, program_value, node_value}
+use Rattle.heap_reader.specs.Values.{program_value}
+use Rattle.proof_file.specs.Values.{definition_value, node_value}
 
 -- what stands before the nodes
 abbrev pub front_of : Version → List Definition → List Line → File

@@ -9,3 +9,4 @@ pub mod Upgrades
 pub mod Fits
 pub mod Building
 pub mod Fronts
+pub mod Links

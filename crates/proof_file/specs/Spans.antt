@@ -1,6 +1,6 @@
 -- How many tokens the parts of a file have, the one token after a part counted in.
-use Rattle.std.specs.Prelude.{ℕ, ◌+◌, List, [], ◌∷◌, length}
-use Rattle.heap_reader.specs.Spans.{total, total_or, heap_span}
+use Rattle.std.specs.Prelude.{ℕ, ◌+◌, length}
+use Rattle.heap_reader.specs.Spans.{total, total_or, heap_span, premises_rest}
 pub use Rattle.pred_reader.specs.Spans.{term_span, definition_span}
 use Rattle.proof_syntax.specs.declared.tree.PairTree.{PairTree}
 use Rattle.proof_syntax.specs.Trees.{Entailment, Judgement, Entails, From, LinkData, Reason, Absurd, Rewrite, Split, Distinct, Weaken, Unfold, Cut, Done, Choose, PureRight, Instantiate, Frame, UnfoldRight, Exec, Drop, Link, Node}
@@ -43,11 +43,6 @@ reason_span (UnfoldRight j c) = 4
 reason_span Exec = 2
 reason_span (Drop k) = 3
 reason_span (Link l) = link_span l
-
--- what stands after the first word of "to", the premises and ";", or after ";" alone
-abbrev pub premises_rest : List ℕ → ℕ
-premises_rest [] = 0
-premises_rest (n ∷ ns) = length (n ∷ ns) + 1
 
 -- "node" and what follows it; nothing after it
 abbrev pub node_span : Node → ℕ

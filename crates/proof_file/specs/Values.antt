@@ -9,24 +9,14 @@ use Rattle.heap_formula.specs.declared.proof_rules.Rule.TheVariants as rules
 use Rattle.heap_formula.specs.declared.proof_rules.Link.{Link as LinkValue}
 use Rattle.heap_formula.specs.declared.proof_rules.Reason.{Reason as ReasonValue}
 use Rattle.heap_formula.specs.declared.proof_rules.Reason.TheVariants.{Step, Back}
-use Rattle.heap_formula.specs.declared.commands.Command.{Command}
-use Rattle.goto_lang.specs.Lines.{commands_of}
 use Rattle.heap_reader.specs.Trees.{Heading}
 pub use Rattle.pred_reader.specs.Values.{term_value, definition_value}
-use Rattle.heap_reader.specs.Values.{heap_value, entailment_value, line_value}
+use Rattle.heap_reader.specs.Values.{heap_value, entailment_value}
 use Rattle.proof_syntax.specs.declared.tree.SideTree.{SideTree}
 use Rattle.proof_syntax.specs.declared.tree.SideTree.TheVariants.{Left, Right}
 use Rattle.proof_syntax.specs.declared.tree.PairTree.{PairTree}
-use Rattle.proof_syntax.specs.Trees.{Line, Judgement as JudgementTree, Entails, From, LinkData, Reason, Absurd, Rewrite, Split, Distinct, Weaken, Unfold, Cut, Done, Choose, PureRight, Instantiate, Frame, UnfoldRight, Exec, Drop, Link, Node}
+use Rattle.proof_syntax.specs.Trees.{Judgement as JudgementTree, Entails, From, LinkData, Reason, Absurd, Rewrite, Split, Distinct, Weaken, Unfold, Cut, Done, Choose, PureRight, Instantiate, Frame, UnfoldRight, Exec, Drop, Link, Node}
 use Rattle.proof_file.specs.declared.node.FileNode.{FileNode}
-
--- a program variable is its number
-abbrev pub variable_value : ℕ → ℕ
-variable_value n = n
-
--- the commands of the lines
-abbrev pub program_value : List Line → List Command
-program_value ls = commands_of (map (line_value variable_value) ls)
 
 abbrev pub judgement_value : List Heading → JudgementTree → Judgement
 judgement_value hs (Entails e) = entailment_value term_value hs e.antecedent e.disjuncts

@@ -7,7 +7,8 @@ ghost use Rattle.proof_syntax.specs.Trees.{definition_of, node_of};
 ghost use Rattle.proof_file.specs.Building.{front_of, AreSaid, IsNodeMade};
 ghost use Rattle.proof_file.specs.Flaws.{headings, node_flaw, first_node, file_flaw};
 ghost use Rattle.proof_file.specs.Spans.{node_span};
-ghost use Rattle.proof_file.specs.Values.{definition_value, program_value, node_value};
+ghost use Rattle.heap_reader.specs.Values.{program_value};
+ghost use Rattle.proof_file.specs.Values.{definition_value, node_value};
 
 use crate::file::ProofFile;
 use crate::node::{FileNode, FileNodes};

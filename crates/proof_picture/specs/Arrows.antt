@@ -1,15 +1,14 @@
 -- The edges that stand in a picture.
-use Rattle.std.specs.Prelude.{ℕ, suc, Bool, true, false, nat_lt, List, [], ◌∷◌, map, length, Option, Some, None, Ok, Err, slice_get, if◌then◌else◌}
+use Rattle.std.specs.Prelude.{ℕ, suc, Bool, nat_lt, List, [], ◌∷◌, map, length, Option, Some, None, Ok, Err, slice_get, if◌then◌else◌}
 use Rattle.heap_formula.specs.declared.judgements.Pair.{Pair}
 use Rattle.heap_formula.specs.declared.judgements.Premise.{Premise}
-use Rattle.heap_formula.specs.declared.proof_rules.Reason.{Reason}
-use Rattle.heap_formula.specs.declared.proof_rules.Reason.TheVariants.{Step, Back}
 use Rattle.heap_formula.specs.Judgements.{antecedent}
 use Rattle.rule_table.specs.Answer.{Answer}
 use Rattle.rule_table.specs.Nodes.{Node}
 use Rattle.node_reasons.specs.Answers.{companion_in, reason_answer, targets_of}
 use Rattle.proof_file.specs.declared.file.ProofFile.{ProofFile}
 use Rattle.proof_file.specs.declared.node.FileNode.{FileNode}
+use Rattle.proof_file.specs.Links.{is_link}
 use Rattle.proof_check.specs.Files.{nodes_of}
 use Rattle.proof_picture.specs.declared.arrows.Arrow.{Arrow}
 use Rattle.proof_picture.specs.declared.arrows.Row.{Row}
@@ -33,10 +32,6 @@ pub record DrawnRow : Type 0 where
 
 abbrev pub row_of : Row → DrawnRow
 row_of r = record { atoms = r.atoms; arrows = map drawn_of r.arrows.items }
-
-abbrev pub is_link : Reason → Bool
-is_link (Step rule) = false
-is_link (Back link) = true
 
 -- the premises of an answer, none of a fault
 abbrev pub premises_in : Answer → List Premise

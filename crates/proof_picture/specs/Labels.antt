@@ -1,6 +1,5 @@
 -- The labels of the nodes of a file.
-use Rattle.std.specs.Prelude.{◌≡◌, ◌<◌, ◌^◌, ℕ, suc, Bool, List, [], ◌∷◌, ◌++◌, map, length, Option, Some, None, slice_get, Vec, Ok}
-use Rattle.std.specs.declared.alloc.Global.{Global}
+use Rattle.std.specs.Prelude.{◌≡◌, ◌<◌, ◌^◌, ℕ, suc, Bool, List, [], ◌∷◌, ◌++◌, map, length, Option, Some, None, slice_get, Ok}
 use Rattle.cyc_lex.specs.Lexing.{tokens_of}
 use Rattle.cyc_lex.specs.Placed.{Placed}
 use Rattle.cyc_lex.specs.Word.{Word, word_of, EndsOnce}
@@ -35,9 +34,6 @@ labels_of flags v (n ∷ ns) = label_of_node (flags_at flags v) n ∷ labels_of 
 -- the labels of a file's nodes; the flags say of each node, and of each spatial atom of its antecedent, whether it stands out
 abbrev pub labels_with : ProofFile → List (List Bool) → List (List LabelPart)
 labels_with f flags = labels_of flags 0 (map (node_tree f.defs.list) f.nodes)
-
-abbrev pub flag_list : Vec Bool Global → List Bool
-flag_list flags = flags.items
 
 -- ---- how they are made
 

@@ -4,7 +4,8 @@ ghost use Rattle.std.specs.Option.{option_copied};
 ghost use Rattle.rule_table.specs.Nodes.{Node};
 ghost use Rattle.node_reasons.specs.Answers.{companion_in, targets_of as target_numbers};
 ghost use Rattle.proof_check.specs.Files.{nodes_of};
-ghost use Rattle.proof_picture.specs.Arrows.{arrows_at, drawn_of, is_link as links, pairs_at, premises_at, row_of, rows_of};
+ghost use Rattle.proof_file.specs.Links.{is_link as links};
+ghost use Rattle.proof_picture.specs.Arrows.{arrows_at, drawn_of, pairs_at, premises_at, row_of, rows_of};
 ghost use Rattle.proof_picture.specs.Red.{step_in};
 
 use crate::steps::RefusedSteps;

@@ -3,7 +3,8 @@ ghost use Rattle.std.specs.Prelude.{◌≡◌, IfOk, map, length, ◌<◌, ◌^�
 ghost use Rattle.cyc_lex.specs.Spelling.{Spells};
 ghost use Rattle.proof_syntax.specs.Grammar.{node as node_syntax, body};
 ghost use Rattle.proof_syntax.specs.Trees.{node_of};
-ghost use Rattle.proof_picture.specs.Labels.{alone, flag_list, label_of_node, labels_of, labels_with, AllFit, IsTokensOf, flags_at as flags_of_node};
+ghost use Rattle.proof_picture.specs.Carried.{flags_of};
+ghost use Rattle.proof_picture.specs.Labels.{alone, label_of_node, labels_of, labels_with, AllFit, IsTokensOf, flags_at as flags_of_node};
 ghost use Rattle.proof_picture.specs.Layout.{label};
 ghost use Rattle.proof_picture.specs.Pieces.{piece_of, pieces_of};
 
@@ -66,7 +67,7 @@ fn label_of(alloc: Global, node: NodeTree<'_>, flags: &[bool]) -> Result<Vec<Pie
 
 /// The flags of a node, none past the end.
 fn flags_at(flags: &VecDeque<Vec<bool>>, v: usize) -> &[bool]
-    ensures { result.now ≡ flags_of_node (map flag_list flags.now.items) v }
+    ensures { result.now ≡ flags_of_node (map flags_of flags.now.items) v }
 {
     match flags.get(v) {
         Some(flags) => flags.as_slice(),
@@ -81,7 +82,7 @@ fn labels_of_trees(
 ) -> Result<Vec<Label>, OutOfMemory>
     requires { AllFit (map node_of nodes.items) }
     ensures { IfOk result (λ v. map pieces_of v.items
-        ≡ labels_of (map flag_list flags.now.items) 0 (map node_of nodes.entry.items)) }
+        ≡ labels_of (map flags_of flags.now.items) 0 (map node_of nodes.entry.items)) }
 {
     let mut labels = Vec::new(alloc);
     for node in nodes {
@@ -98,7 +99,7 @@ pub fn labels_of_file(
     file: &ProofFile,
     flags: &VecDeque<Vec<bool>>,
 ) -> Result<Vec<Label>, OutOfMemory>
-    ensures { IfOk result (λ v. map pieces_of v.items ≡ labels_with file.now (map flag_list flags.now.items)) }
+    ensures { IfOk result (λ v. map pieces_of v.items ≡ labels_with file.now (map flags_of flags.now.items)) }
 {
     let text = write_file(alloc, file)?;
     let tokens = written_tokens(alloc, &text)?;

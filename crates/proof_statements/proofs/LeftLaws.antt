@@ -3,7 +3,7 @@ use Rattle.std.proofs.Common.{◌≡◌, ℕ, suc, ◌+◌, Bool, true, false, L
 use Rattle.cyc_lex.specs.Word.{Word}
 use Rattle.cyc_grammar.specs.Syntax.{Reading, ◌>>=◌, one, seq, begins, alt, many, after, before, read_class, is_one}
 use Rattle.cyc_grammar.specs.Classes.{the_end}
-use Rattle.cyc_grammar.proofs.Laws.{Lawful, BeginsNot, one-law, alt-law, after-law, before-law}
+use Rattle.cyc_grammar.proofs.Laws.{Lawful, BeginsNot, one-law, alt-law, after-law, before-law, pair_up}
 use Rattle.cyc_grammar.proofs.ClassLaws.{symbol-law, keyword-law}
 use Rattle.heap_syntax.specs.declared.version.Version.{Version}
 use Rattle.heap_syntax.proofs.WordTexts.{version-law}
@@ -53,23 +53,16 @@ nodes-first ws = by (begins (is_one node_word) ws) refl
         ending-none (is_one node_word) node last_word semicolon the_end ws h
         ∙ sym (alt-second (is_one node_word) node (after last_word (one semicolon)) ws (from_statement Nodes) h)
 
--- a value before what is read, and another form of it
-abbrev beside : {A B : Type 0} → A → Reading B → Reading (A × B)
-beside t r = r >>= λ y. Ok ((t, y.0), y.1)
-
-abbrev valued : {A B : Type 0} → (A → B) → Reading A → Reading B
-valued f r = r >>= λ x. Ok (f x.0, x.1)
-
 -- the nodes, from the first on
 nodes-behind : (ws : List Word) → (before nodes semicolon).read ws ≡ (node.read ws >>= λ x. joined (λ ns. x.0 ∷ ns) ((before (before more_nodes last_word) semicolon).read x.1))
 unfolding nodes
 nodes-behind ws = by (node.read ws)
   where
-    ended : (t : Node) (r : Reading (List Node)) → then_word semicolon (valued {A = Node × List Node} (λ z. z.0 ∷ z.1) (beside t r)) ≡ joined (λ ns. t ∷ ns) (then_word semicolon r)
+    ended : (t : Node) (r : Reading (List Node)) → then_word semicolon (joined {A = Node × List Node} (λ z. z.0 ∷ z.1) (pair_up t r)) ≡ joined (λ ns. t ∷ ns) (then_word semicolon r)
     ended t (Err n) = refl
     ended t (Ok y) = word-joined semicolon (λ ns. t ∷ ns) (Ok y)
 
-    by : (r : Reading Node) → then_word semicolon (valued {A = Node × List Node} (λ z. z.0 ∷ z.1) (r >>= λ x. beside x.0 ((before more_nodes last_word).read x.1))) ≡ (r >>= λ x. joined (λ ns. x.0 ∷ ns) (then_word semicolon ((before more_nodes last_word).read x.1)))
+    by : (r : Reading Node) → then_word semicolon (joined {A = Node × List Node} (λ z. z.0 ∷ z.1) (r >>= λ x. pair_up x.0 ((before more_nodes last_word).read x.1))) ≡ (r >>= λ x. joined (λ ns. x.0 ∷ ns) (then_word semicolon ((before more_nodes last_word).read x.1)))
     by (Err n) = refl
     by (Ok x) = ended x.0 ((before more_nodes last_word).read x.1)
 
@@ -129,28 +122,28 @@ abbrev read_behind : Version → List Word → Reading Behind
 read_behind v ws = (seq definitions (seq (lines v) (before nodes semicolon))).read ws
 
 abbrev said : Reading (Version × Behind) → Reading File
-said q = then_word the_end (valued (λ z. join First z.0 z.1) q)
+said q = then_word the_end (joined (λ z. join First z.0 z.1) q)
 
 abbrev first_said : Reading Version → Reading File
 first_said r = r >>= from_statement First
 
-said-behind : (v : Version) (q : Reading Behind) → said (beside v q) ≡ joined (join First v) (then_word the_end q)
+said-behind : (v : Version) (q : Reading Behind) → said (pair_up v q) ≡ joined (join First v) (then_word the_end q)
 said-behind v (Err n) = refl
 said-behind v (Ok y) = word-joined the_end (join First v) (Ok y)
 
-said-semicolon : (v : Version) (r : Reading (Unit {0})) → said (beside v (r >>= λ x. read_behind v x.1)) ≡ first_said (r >>= λ y. Ok (v, y.1))
+said-semicolon : (v : Version) (r : Reading (Unit {0})) → said (pair_up v (r >>= λ x. read_behind v x.1)) ≡ first_said (r >>= λ y. Ok (v, y.1))
 said-semicolon v (Err n) = refl
 said-semicolon v (Ok x) = said-behind v (read_behind v x.1)
 
-said-version : (r : Reading Version) → said (r >>= λ x. beside x.0 (read_class semicolon x.1 >>= λ u. read_behind x.0 u.1)) ≡ first_said (then_word semicolon r)
+said-version : (r : Reading Version) → said (r >>= λ x. pair_up x.0 (read_class semicolon x.1 >>= λ u. read_behind x.0 u.1)) ≡ first_said (then_word semicolon r)
 said-version (Err n) = refl
 said-version (Ok x) = said-semicolon x.0 (read_class semicolon x.1)
 
-said-proof : (r : Reading (Unit {0})) → said (r >>= λ w. read_class version w.1 >>= λ x. beside x.0 (read_class semicolon x.1 >>= λ u. read_behind x.0 u.1)) ≡ first_said (r >>= λ w. then_word semicolon (read_class version w.1))
+said-proof : (r : Reading (Unit {0})) → said (r >>= λ w. read_class version w.1 >>= λ x. pair_up x.0 (read_class semicolon x.1 >>= λ u. read_behind x.0 u.1)) ≡ first_said (r >>= λ w. then_word semicolon (read_class version w.1))
 said-proof (Err n) = refl
 said-proof (Ok w) = said-version (read_class version w.1)
 
-said-cyclist : (r : Reading (Unit {0})) → said (r >>= λ k. read_class proof_word k.1 >>= λ w. read_class version w.1 >>= λ x. beside x.0 (read_class semicolon x.1 >>= λ u. read_behind x.0 u.1)) ≡ first_said (r >>= λ k. read_class proof_word k.1 >>= λ w. then_word semicolon (read_class version w.1))
+said-cyclist : (r : Reading (Unit {0})) → said (r >>= λ k. read_class proof_word k.1 >>= λ w. read_class version w.1 >>= λ x. pair_up x.0 (read_class semicolon x.1 >>= λ u. read_behind x.0 u.1)) ≡ first_said (r >>= λ k. read_class proof_word k.1 >>= λ w. then_word semicolon (read_class version w.1))
 said-cyclist (Err n) = refl
 said-cyclist (Ok k) = said-proof (read_class proof_word k.1)
 

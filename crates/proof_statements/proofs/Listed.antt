@@ -2,7 +2,7 @@
 use Rattle.std.proofs.Common.{◌≡◌, Bool, true, false, cond, List, [], ◌∷◌, Ok, Err, refl, ap, ◌∙◌, inl, inr, ◌⊎◌}
 use Rattle.cyc_lex.specs.Word.{Word}
 use Rattle.cyc_grammar.specs.Syntax.{Reading, ◌>>=◌, Syntax, Class, one, seq, begins, alt, many, after, before, read_class}
-use Rattle.cyc_grammar.proofs.Laws.{Lawful}
+use Rattle.cyc_grammar.proofs.Laws.{Lawful, then_read}
 use Rattle.proof_statements.specs.Left.{joined}
 use Rattle.proof_statements.proofs.Statements.{HasWords, with_first, many-more, many-none}
 
@@ -11,10 +11,6 @@ use Rattle.proof_statements.proofs.Statements.{HasWords, with_first, many-more, 
 -- a word after it
 abbrev pub then_word : {A : Type 0} → Class (Unit {0}) → Reading A → Reading A
 then_word c q = q >>= λ x. read_class c x.1 >>= λ y. Ok (x.0, y.1)
-
--- b after it
-abbrev pub then_read : {A B : Type 0} → Syntax B → Reading A → Reading (A × B)
-then_read b q = q >>= λ x. b.read x.1 >>= λ y. Ok ((x.0, y.0), y.1)
 
 pub word-joined : {A B : Type 0} (c : Class (Unit {0})) (f : A → B) (q : Reading A) → then_word c (joined f q) ≡ joined f (then_word c q)
 word-joined c f (Err n) = refl

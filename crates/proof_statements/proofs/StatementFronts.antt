@@ -1,5 +1,6 @@
 -- What is kept of a statement that is read is its front.
-use Rattle.std.proofs.Common.{◌≡◌, refl, inl, inr, ◌⊎◌, ap, ◌∙◌, Ok, Err}
+use Rattle.std.proofs.Common.{◌≡◌, refl, inl, inr, ◌⊎◌, ap, ◌∙◌, Ok, Err, sym, List, []}
+use Rattle.cyc_lex.specs.Word.{Word}
 use Rattle.cyc_grammar.specs.Syntax.{Reading, ◌>>=◌, Syntax, alt, is_one}
 use Rattle.command_syntax.specs.Grammar as commands
 use Rattle.heap_syntax.specs.declared.keep.Keep.{Keep}
@@ -50,6 +51,31 @@ kept-front k Nodes =
     same : (x : Node ⊎ Unit {0}) → both (node_front k) (λ u. u) x ≡ statement_front k Nodes x
     same (inl n) = refl
     same (inr u) = refl
+
+abbrev value_in : {A : Type 0} → A → Reading A → A
+value_in d (Ok x) = x.0
+value_in d (Err n) = d
+
+abbrev rest_in : {A : Type 0} → Reading A → List Word
+rest_in (Ok x) = x.1
+rest_in (Err n) = []
+
+not-read : {A : Type 0} (q : Reading A) (n : ℕ) (x : A) (rest : List Word) → q ≡ Err n → q ≡ Ok (x, rest) → ⊥
+not-read q n x rest e f = cc
+
+-- what is kept of a statement is kept of one that is read of the same words
+pub from-kept : (k : Keep) (p : Part) (ws rest : List Word) (s : Statement p) → (kept_statement k p).read ws ≡ Ok (s, rest) → (t : Statement p) × ((statement_of p).read ws ≡ Ok (t, rest)) × (statement_front k p t ≡ s)
+from-kept k p ws rest s e = by ((statement_of p).read ws) refl
+  where
+    got : ((statement_of p).read ws >>= mapped (statement_front k p)) ≡ Ok (s, rest)
+    got = sym ((kept-front k p).reads ws) ∙ e
+
+    by : (q : Reading (Statement p)) → (statement_of p).read ws ≡ q → (t : Statement p) × ((statement_of p).read ws ≡ Ok (t, rest)) × (statement_front k p t ≡ s)
+    by (Ok x) same =
+        let is = sym (ap (λ (q : Reading (Statement p)). q >>= mapped (statement_front k p)) same) ∙ got in
+        (x.0, same ∙ ap (λ (ws : List Word). Ok (x.0, ws)) (ap rest_in is), ap (value_in s) is)
+    by (Err n) same =
+        absurd (not-read ((statement_of p).read ws >>= mapped (statement_front k p)) n s rest (ap (λ (q : Reading (Statement p)). q >>= mapped (statement_front k p)) same) got)
 
 -- it leads on as the whole statement does
 pub next-front : (k : Keep) (p : Part) (t : Statement p) → next p (statement_front k p t) ≡ next p t

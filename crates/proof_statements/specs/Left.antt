@@ -1,7 +1,7 @@
 -- What is left of a proof file after some of its statements: a statement, and what is left after that one.
-use Rattle.std.specs.Prelude.{List, [], ◌∷◌, ◌⊎◌, Ok, Err}
+use Rattle.std.specs.Prelude.{List, [], ◌∷◌, ◌⊎◌, Ok}
 use Rattle.std.proofs.Common.{inl, inr}
-use Rattle.cyc_grammar.specs.Syntax.{Reading, Syntax, one, seq, alt, after, before, is_one}
+use Rattle.cyc_grammar.specs.Syntax.{Reading, Syntax, one, seq, alt, after, before, is_one, ◌>>=◌}
 use Rattle.cyc_grammar.specs.Classes.{the_end}
 use Rattle.heap_syntax.specs.declared.keep.Keep.{Keep}
 use Rattle.heap_syntax.specs.declared.version.Version.{Version}
@@ -111,5 +111,4 @@ join Nodes (inr u) x = []
 
 -- what is read after a statement, with the statement
 abbrev pub joined : {A B : Type 0} → (A → B) → Reading A → Reading B
-joined f (Ok x) = Ok (f x.0, x.1)
-joined f (Err left) = Err left
+joined f q = q >>= λ x. Ok (f x.0, x.1)

@@ -5,9 +5,9 @@ use Rattle.cyc_lex.specs.Word.{is_lexeme}
 use Rattle.cyc_lex.proofs.Letters.{letters-name}
 use Rattle.cyc_grammar.specs.Syntax.{one, is_one, uncons}
 use Rattle.cyc_grammar.specs.Classes.{number, keyword_of}
-use Rattle.cyc_grammar.proofs.Ends.{Inner, EndsLast, one-inner, seq-inner, after-inner, before-inner, alt-inner, many-inner, shaped-inner, nothing-inner, headed-inner, list1-inner, or_empty-inner, end-once}
+use Rattle.cyc_grammar.proofs.Ends.{Inner, EndsLast, one-inner, seq-inner, after-inner, before-inner, alt-inner, many-inner, shaped-inner, nothing-inner, headed-inner, list1-inner, or_empty-inner, end-once, number-inner}
 use Rattle.pred_syntax.specs.declared.tree.TermTree.{TermTree}
-use Rattle.pred_syntax.proofs.DefinitionEnds.{number-inner, uterm-inner, heap-of, heaps-of, definitions-inner}
+use Rattle.pred_syntax.proofs.DefinitionEnds.{uterm-inner, heap-of, heaps-of, definitions-inner}
 use Rattle.proof_syntax.specs.declared.tree.PairTree.{PairTree}
 use Rattle.proof_syntax.specs.declared.tree.SideTree.{SideTree}
 use Rattle.proof_syntax.specs.declared.tree.SideTree.TheVariants.{Left, Right}
@@ -15,27 +15,13 @@ use Rattle.proof_syntax.specs.declared.reason_word.ReasonWord.{ReasonWord}
 use Rattle.proof_syntax.specs.declared.reason_word.ReasonWord.TheVariants as words
 use Rattle.proof_syntax.specs.ReasonWords.{side_text, sides}
 use Rattle.proof_syntax.specs.Trees.{Heap, Line, Definition, Entailment, Judgement, Reason, Node}
-use Rattle.proof_syntax.specs.Grammar.{Any, node_word, from_word, given_word, or_word, by_word, to_word, last_word, cyclist_word, proof_word, version, dollar, query, comma, semicolon, assign, turnstile, opening_brace, closing_brace, opening_bracket, closing_bracket, uterm, terms, heap, cons, IsSome, variable, lines, to_entailment, from_entailment, disjuncts, entailment, state, to_judgement, from_judgement, judgement, numbers, bracketed, two_numbers, side, rewrite, split, cut, instantiate, to_pair, from_pair, pair, some_pair, pairs1, pairs, to_link, from_link, link, Parts, parts, to_reason, from_reason, reason_word, reason, to_premises, from_premises, premises, to_node, from_node, node, some_node, more_nodes, nodes, to_file, from_file, contents, body, file}
+use Rattle.proof_syntax.specs.Grammar.{Any, node_word, from_word, given_word, or_word, by_word, last_word, cyclist_word, proof_word, version, dollar, query, comma, semicolon, assign, turnstile, opening_brace, closing_brace, uterm, terms, heap, cons, IsSome, variable, lines, to_entailment, from_entailment, disjuncts, entailment, state, to_judgement, from_judgement, judgement, bracketed, side, rewrite, split, cut, instantiate, to_pair, from_pair, pair, some_pair, pairs1, pairs, to_link, from_link, link, Parts, parts, to_reason, from_reason, reason_word, reason, premises, to_node, from_node, node, some_node, more_nodes, nodes, to_file, from_file, contents, body, file}
 use Rattle.heap_syntax.specs.declared.version.Version.{Version}
-use Rattle.heap_syntax.proofs.WordTexts.{or-word, last-word, cyclist-word, version-word, syms}
+use Rattle.heap_syntax.proofs.WordTexts.{or-word, last-word, cyclist-word, version-word, syms, node-word, from-word, given-word, by-word}
+use Rattle.heap_syntax.proofs.NumberLaws.{bracketed-inner, two_numbers-inner, premises-inner}
 use Rattle.command_syntax.proofs.CommandLaws.{lines-inner}
 
 -- ---- words
-
-node-word : is_lexeme (node_word.word tt) ≡ true
-node-word = letters-name (codes "node") refl
-
-from-word : is_lexeme (from_word.word tt) ≡ true
-from-word = letters-name (codes "from") refl
-
-given-word : is_lexeme (given_word.word tt) ≡ true
-given-word = letters-name (codes "given") refl
-
-by-word : is_lexeme (by_word.word tt) ≡ true
-by-word = letters-name (codes "by") refl
-
-to-word : is_lexeme (to_word.word tt) ≡ true
-to-word = letters-name (codes "to") refl
 
 proof-word : is_lexeme (proof_word.word tt) ≡ true
 proof-word = letters-name (codes "proof") refl
@@ -59,18 +45,6 @@ unfolding judgement
 judgement-inner = shaped-inner {A = (ℕ × Heap) ⊎ Entailment} to_judgement from_judgement Any _ (alt-inner (is_one from_word) state entailment state-inner entailment-inner)
 
 -- ---- reasons
-
-numbers-inner : Inner numbers
-unfolding numbers
-numbers-inner = many-inner (is_one number) (one number) number-inner
-
-bracketed-inner : Inner bracketed
-unfolding bracketed
-bracketed-inner = after-inner opening_bracket _ syms.opening_bracket_word (before-inner numbers closing_bracket syms.closing_bracket_word numbers-inner)
-
-two_numbers-inner : Inner two_numbers
-unfolding two_numbers
-two_numbers-inner = seq-inner (one number) (one number) number-inner number-inner
 
 side-inner : Inner side
 unfolding side
@@ -135,10 +109,6 @@ reason-inner = shaped-inner {A = (w : ReasonWord) × Parts w} to_reason from_rea
 variable-inner : Inner variable
 unfolding variable
 variable-inner = after-inner dollar (one number) syms.dollar_word number-inner
-
-premises-inner : Inner premises
-unfolding premises
-premises-inner = shaped-inner {A = (ℕ × List ℕ) ⊎ Unit {0}} to_premises from_premises Any _ (alt-inner (is_one to_word) _ _ (after-inner to_word _ to-word (seq-inner (one number) _ number-inner (before-inner numbers semicolon syms.semicolon_word numbers-inner))) (one-inner semicolon (λ u f. syms.semicolon_word)))
 
 node-inner : Inner node
 unfolding node

@@ -15,12 +15,13 @@ use Rattle.proof_syntax.specs.declared.reason_word.ReasonWord.{ReasonWord}
 use Rattle.proof_syntax.specs.declared.reason_word.ReasonWord.TheVariants as words
 use Rattle.proof_syntax.specs.ReasonWords.{reason_text, reason_words, side_text, sides}
 use Rattle.proof_syntax.specs.Trees.{Heap, Line, Definition, Entailment, Judgement, Entails, From, Reason, Absurd, Rewrite, Split, Distinct, Weaken, Unfold, Cut, Done, Choose, PureRight, Instantiate, Frame, UnfoldRight, Exec, Drop, Link, Node}
-use Rattle.proof_syntax.specs.Grammar.{Any, node_word, from_word, given_word, or_word, by_word, to_word, last_word, dollar, query, comma, semicolon, star, assign, turnstile, opening_brace, closing_brace, opening_bracket, closing_bracket, uterm, terms, terms_of, spatial, heap, some_heap, cons, IsSome, variable, lines, to_entailment, from_entailment, disjuncts, entailment, state, to_judgement, from_judgement, judgement, numbers, bracketed, two_numbers, side, rewrite, split, cut, instantiate, to_pair, from_pair, pair, some_pair, pairs1, pairs, to_link, from_link, link, Parts, parts, made_of, to_reason, from_reason, reason_word, reason, to_premises, from_premises, premises, to_node, from_node, node, some_node, definitions, more_nodes, nodes, to_file, from_file, version, contents, body, file}
+use Rattle.proof_syntax.specs.Grammar.{Any, node_word, from_word, given_word, or_word, by_word, to_word, last_word, dollar, query, comma, semicolon, star, assign, turnstile, opening_brace, closing_brace, uterm, terms, terms_of, spatial, heap, some_heap, cons, IsSome, variable, lines, to_entailment, from_entailment, disjuncts, entailment, state, to_judgement, from_judgement, judgement, bracketed, two_numbers, side, rewrite, split, cut, instantiate, to_pair, from_pair, pair, some_pair, pairs1, pairs, to_link, from_link, link, Parts, parts, made_of, to_reason, from_reason, reason_word, reason, premises, to_node, from_node, node, some_node, definitions, more_nodes, nodes, to_file, from_file, version, contents, body, file}
 use Rattle.heap_syntax.specs.declared.version.Version.{Version}
 use Rattle.heap_syntax.proofs.WordTexts.{version-law}
 use Rattle.command_syntax.specs.Grammar as commands
 use Rattle.command_syntax.proofs.CommandLaws.{VariableLaw, lines-law, lines-end}
 use Rattle.heap_syntax.proofs.HeapLaws.{closed-stops, list-end, listed-closed, heap-not, heaps-law}
+use Rattle.heap_syntax.proofs.NumberLaws.{bracketed-law, bracketed-closed, two_numbers-law, premises-law, premises-closed}
 
 -- ---- judgements
 
@@ -79,28 +80,6 @@ judgement-closed (From n h) d = refl
 judgement-closed (Entails e) d = entailment-closed e d
 
 -- ---- the parts of a reason
-
-numbers-law : Lawful numbers
-unfolding numbers
-numbers-law = many-law (is_one number) (one number) (one-law number number-law) (record { starts = λ n f. rw (number-law.value n f) refl; apart = λ n d f h. refl })
-
-numbers-end : (d : Word) → is_one number d ≡ false → (ns : List ℕ) → numbers.fits ns → numbers.more ns d ≡ false
-unfolding numbers
-numbers-end d h [] f = h
-numbers-end d h (n ∷ []) f = rw h refl
-numbers-end d h (n ∷ m ∷ ns) f = numbers-end d h (m ∷ ns) f.1
-
-bracketed-law : Lawful bracketed
-unfolding bracketed
-bracketed-law = after-law opening_bracket _ (symbol-law _) (before-law numbers closing_bracket (symbol-law _) numbers-law (λ ns f. numbers-end (closing_bracket.word tt) refl ns f))
-
-bracketed-closed : (ns : List ℕ) (d : Word) → bracketed.more ns d ≡ false
-unfolding bracketed
-bracketed-closed ns d = refl
-
-two_numbers-law : Lawful two_numbers
-unfolding two_numbers
-two_numbers-law = seq-law (one number) (one number) (one-law number number-law) (one-law number number-law) (λ x y r fx fy h. Stops-never ((one number).words y ++ r))
 
 side-law : Lawful side
 unfolding side
@@ -275,28 +254,6 @@ reason-end d h (Drop k) f = refl
 reason-end d h (Link l) f = bracketed-closed l.disjuncts d
 
 -- ---- premises
-
-premises-law : Lawful premises
-unfolding premises
-premises-law =
-    shaped-law {A = (ℕ × List ℕ) ⊎ Unit {0}} to_premises from_premises Any _ (λ x f. (there x, tt)) (λ ns h. here ns)
-    (alt-law (is_one to_word) (after to_word (seq (one number) (before numbers semicolon))) (one semicolon) (λ x f. refl) (λ u f. refl)
-    (after-law to_word (seq (one number) (before numbers semicolon)) (keyword-law _)
-    (seq-law (one number) (before numbers semicolon) (one-law number number-law) (before-law numbers semicolon (symbol-law _) numbers-law (λ ns f. numbers-end (semicolon.word tt) refl ns f)) (λ n ns r fn fns h. Stops-never ((before numbers semicolon).words ns ++ r))))
-    (one-law semicolon (symbol-law _)))
-  where
-    there : (x : (ℕ × List ℕ) ⊎ Unit {0}) → from_premises (to_premises x) ≡ x
-    there (inl p) = refl
-    there (inr u) = refl
-
-    here : (ns : List ℕ) → to_premises (from_premises ns) ≡ ns
-    here [] = refl
-    here (n ∷ ns) = refl
-
-premises-closed : (ns : List ℕ) (d : Word) → premises.more ns d ≡ false
-unfolding premises
-premises-closed [] d = refl
-premises-closed (n ∷ ns) d = refl
 
 premises-apart : (r : Reason) (ns : List ℕ) (rest : List Word) → reason.fits r → Stops (reason.more r) (premises.words ns ++ rest)
 unfolding premises

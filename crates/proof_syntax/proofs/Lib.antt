@@ -4,3 +4,4 @@ pub mod ReasonParts
 pub mod WrittenFiles
 pub mod SeenTrees
 pub mod NodeFronts
+pub mod FrontFits

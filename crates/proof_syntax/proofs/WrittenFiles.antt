@@ -1,18 +1,11 @@
--- What is written for premises and for a whole file.
-use Rattle.std.proofs.Common.{◌≡◌, ℕ, List, [], ◌∷◌, ◌++◌}
+-- What is written for a whole file.
+use Rattle.std.proofs.Common.{◌≡◌, List, [], ◌∷◌, ◌++◌}
 use Rattle.cyc_lex.specs.Word.{Word}
 use Rattle.cyc_lex.specs.Writing.{Written, write, write_all}
-use Rattle.cyc_grammar.specs.Classes.{number}
 use Rattle.cyc_grammar.proofs.WrittenTexts.{wrote-behind, wrote-both, wrote-ended}
 use Rattle.heap_syntax.specs.declared.version.Version.{Version}
 use Rattle.proof_syntax.specs.Trees.{Definition, Line, Node}
-use Rattle.proof_syntax.specs.Grammar.{to_word, cyclist_word, proof_word, version, semicolon, numbers, premises, definitions, lines, nodes, body}
-
-pub premises-wrote : (old a b c d : Written) (n : ℕ) (ns : List ℕ) → a ≡ write old (to_word.word tt) → b ≡ write a (number.word n) → c ≡ write_all b (numbers.words ns) → d ≡ write c (semicolon.word tt) → d ≡ write_all old (premises.words (n ∷ ns))
-unfolding premises write_all
-premises-wrote old a b c d n ns ha hb hc hd =
-    let rest : List Word = numbers.words ns ++ semicolon.word tt ∷ [] in
-    wrote-behind old a d (to_word.word tt) (number.word n ∷ rest) ha (wrote-behind a b d (number.word n) rest hb (wrote-both b c d (numbers.words ns) (semicolon.word tt ∷ []) hc hd))
+use Rattle.proof_syntax.specs.Grammar.{cyclist_word, proof_word, version, semicolon, definitions, lines, nodes, body}
 
 pub body-wrote : (old a b c d e l f g : Written) (v : Version) (ds : List Definition) (ls : List Line) (ns : List Node) → a ≡ write old (cyclist_word.word tt) → b ≡ write a (proof_word.word tt) → c ≡ write b (version.word v) → d ≡ write c (semicolon.word tt)
     → e ≡ write_all d (definitions.words ds) → l ≡ write_all e ((lines v).words ls) → f ≡ write_all l (nodes.words ns) → g ≡ write f (semicolon.word tt) → g ≡ write_all old (body.words (record { version = v; definitions = ds; lines = ls; nodes = ns }))

@@ -3,13 +3,13 @@ use Rattle.std.specs.Prelude.{ℕ, true, false, List, [], ◌∷◌, ◌⊎◌, 
 use Rattle.std.proofs.Common.{inl, inr}
 use Rattle.cyc_lex.specs.Word.{Word}
 use Rattle.cyc_grammar.specs.Syntax.{Reading, ◌>>=◌, Syntax, Class, one, seq, alt, many, shaped, after, before, headed, nothing, is_one, uncons, list1, or_empty}
-use Rattle.cyc_grammar.specs.Classes.{symbol, keyword, the_end, number, keyword_of}
-unfoldable pub use Rattle.heap_syntax.specs.Numbers.{numbers}
-pub use Rattle.heap_syntax.specs.Words.{nil, true_word, emp, pred_word, or_word, last_word, cyclist_word, equal, unequal, comma, colon, semicolon, star, bar, arrow, assign, turnstile, opening, closing, opening_brace, closing_brace, reserved, free_name}
+use Rattle.cyc_grammar.specs.Classes.{keyword, the_end, number, keyword_of}
+unfoldable pub use Rattle.heap_syntax.specs.Numbers.{numbers, bracketed, two_numbers, premises}
+pub use Rattle.heap_syntax.specs.Words.{nil, true_word, emp, pred_word, or_word, last_word, cyclist_word, node_word, from_word, given_word, by_word, to_word, equal, unequal, comma, colon, semicolon, star, bar, arrow, assign, turnstile, opening, closing, opening_brace, closing_brace, opening_bracket, closing_bracket, dollar, query, reserved, free_name}
 pub use Rattle.heap_syntax.specs.Versions.{version}
 pub use Rattle.heap_syntax.specs.Grammar.{Any, cons, IsSome, some_heap}
 unfoldable pub use Rattle.heap_syntax.specs.Grammar.{sign, pure}
-pub use Rattle.pred_syntax.specs.Grammar.{dollar, query, to_term, from_term, to_uterm, from_uterm, IsUniversal, terms_of, some_pure, pures1, pures, fields, arguments, spatial, some_spatial, spatials, heap, kept_heap, heaps, kept_heaps, to_definition, from_definition}
+pub use Rattle.pred_syntax.specs.Grammar.{to_term, from_term, to_uterm, from_uterm, IsUniversal, terms_of, some_pure, pures1, pures, fields, arguments, spatial, some_spatial, spatials, heap, kept_heap, heaps, kept_heaps, to_definition, from_definition}
 unfoldable pub use Rattle.pred_syntax.specs.Grammar.{term, uterm, terms, cases, definition, kept_definition, definitions}
 use Rattle.command_syntax.specs.Grammar as commands
 use Rattle.heap_syntax.specs.declared.keep.Keep.{Keep}
@@ -25,29 +25,8 @@ use Rattle.proof_syntax.specs.Trees.{Heap, Line, Definition, Entailment, Judgeme
 
 -- ---- words
 
-abbrev pub node_word : Class (Unit {0})
-node_word = keyword (codes "node")
-
-abbrev pub from_word : Class (Unit {0})
-from_word = keyword (codes "from")
-
-abbrev pub given_word : Class (Unit {0})
-given_word = keyword (codes "given")
-
-abbrev pub by_word : Class (Unit {0})
-by_word = keyword (codes "by")
-
-abbrev pub to_word : Class (Unit {0})
-to_word = keyword (codes "to")
-
 abbrev pub proof_word : Class (Unit {0})
 proof_word = keyword (codes "proof")
-
-abbrev pub opening_bracket : Class (Unit {0})
-opening_bracket = symbol (codes "[")
-
-abbrev pub closing_bracket : Class (Unit {0})
-closing_bracket = symbol (codes "]")
 
 -- ---- the lines of the program, with uvar = "$" number as their variables
 
@@ -108,13 +87,6 @@ unfoldable pub kept_judgement : Keep → Syntax Judgement
 kept_judgement k = judgement_over (kept_state k) (kept_entailment k)
 
 -- ---- the parts of a reason
-
--- "[" { number } "]"
-unfoldable pub bracketed : Syntax (List ℕ)
-bracketed = after opening_bracket (before numbers closing_bracket)
-
-unfoldable pub two_numbers : Syntax (ℕ × ℕ)
-two_numbers = seq (one number) (one number)
 
 unfoldable pub side : Syntax SideTree
 side = one (keyword_of side_text sides)
@@ -307,19 +279,6 @@ FitsBehind (UnfoldRight j c) = two_numbers.fits (j, c)
 FitsBehind Exec = Unit {0}
 FitsBehind (Drop k) = (one number).fits k
 FitsBehind (Link l) = link.fits l
-
--- ---- [ "to" number { number } ] ";"
-
-abbrev pub to_premises : (ℕ × List ℕ) ⊎ Unit {0} → List ℕ
-to_premises (inl p) = p.0 ∷ p.1
-to_premises (inr u) = []
-
-abbrev pub from_premises : List ℕ → (ℕ × List ℕ) ⊎ Unit {0}
-from_premises [] = inr tt
-from_premises (n ∷ ns) = inl (n, ns)
-
-unfoldable pub premises : Syntax (List ℕ)
-premises = shaped {A = (ℕ × List ℕ) ⊎ Unit {0}} to_premises from_premises Any (alt (is_one to_word) (after to_word (seq (one number) (before numbers semicolon))) (one semicolon))
 
 -- ---- node = "node" judgement "by" reason premises
 

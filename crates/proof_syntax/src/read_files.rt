@@ -6,7 +6,7 @@ ghost use Rattle.cyc_grammar.specs.Syntax.{read_whole};
 ghost use Rattle.cyc_grammar.specs.Classes.{are_tokens};
 ghost use Rattle.cyc_grammar.specs.Faults.{Reads, IsRead};
 ghost use Rattle.cyc_grammar.specs.Giving.{Gives, IsWithin, with_front, words};
-ghost use Rattle.proof_syntax.specs.Grammar.{kept_disjuncts, node_word, definitions, kept_entailment, kept_state, kept_judgement, premises, node, kept_node, more_nodes, nodes, body, file};
+ghost use Rattle.proof_syntax.specs.Grammar.{kept_disjuncts, node_word, definitions, kept_entailment, kept_state, kept_judgement, node, kept_node, more_nodes, nodes, body, file};
 ghost use Rattle.proof_syntax.specs.Trees.{File, heap_of, definition_of, entailment_of, judgement_of, node_of, file_of};
 
 use crate::line_lists::lines;
@@ -14,7 +14,7 @@ use crate::read_reasons::kept_reason;
 use crate::tree::{EntailmentTree, FileTree, HeapTree, JudgementTree, NodeTree};
 use cyc_grammar::{Cursor, Refusal, read_fault};
 use cyc_lex::{ReadFault, Token, Tokens};
-use heap_syntax::{Keep, Mark, more_numbers, read_version};
+use heap_syntax::{Keep, Mark, premises, read_version};
 use pred_syntax::{definitions, kept_heap, kept_heaps};
 use std::alloc::Global;
 
@@ -82,22 +82,6 @@ fn kept_judgement<'a>(
         return Ok(JudgementTree::From(line, heap));
     }
     Ok(JudgementTree::Entailment(kept_entailment(alloc, keep, cursor)?))
-}
-
-#[tactic(auto, unfolding(crate::specs::Grammar::premises))]
-fn premises(alloc: Global, cursor: &mut Cursor<'_, '_>) -> Result<Vec<u32>, Refusal>
-    ensures { Gives (λ x. (x.items, cursor.new)) result (premises.read cursor.old) }
-{
-    let mut items = Vec::new(alloc);
-    if cursor.is_keyword_next("to") {
-        cursor.keyword("to")?;
-        items.push(cursor.number()?)?;
-        let items = more_numbers(items, cursor)?;
-        cursor.symbol(";")?;
-        return Ok(items);
-    }
-    cursor.symbol(";")?;
-    Ok(items)
 }
 
 /// Reads one node; so much is kept of its lists of heaps and of theirs.

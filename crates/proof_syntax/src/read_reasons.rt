@@ -3,40 +3,15 @@
 ghost use Rattle.std.specs.Prelude.{◌≡◌, ◌++◌, ◌∷◌, [], Ok, map};
 ghost use Rattle.cyc_grammar.specs.Syntax.{many, after, is_one, read_class};
 ghost use Rattle.cyc_grammar.specs.Giving.{Gives, with_front};
-ghost use Rattle.proof_syntax.specs.Grammar.{comma, numbers, bracketed, two_numbers, side, rewrite, split, kept_cut, instantiate, pair, pairs1, pairs, link, Parts, kept_parts, to_reason, reason_word, kept_reason, kept_parts_read};
+ghost use Rattle.proof_syntax.specs.Grammar.{comma, side, rewrite, split, kept_cut, instantiate, pair, pairs1, pairs, link, Parts, kept_parts, to_reason, reason_word, kept_reason, kept_parts_read};
 ghost use Rattle.proof_syntax.specs.Trees.{heap_of, link_of, reason_of};
 
 use crate::reason_word::{ReasonWord, side_from_text};
 use crate::tree::{HeapTree, LinkTree, PairTree, ReasonTree, SideTree, TermTree};
 use cyc_grammar::{Cursor, Refusal};
-use heap_syntax::{Keep, more_numbers};
+use heap_syntax::{Keep, bracketed, two_numbers};
 use pred_syntax::{kept_heap, universal_term};
 use std::alloc::Global;
-
-fn numbers(alloc: Global, cursor: &mut Cursor<'_, '_>) -> Result<Vec<u32>, Refusal>
-    ensures { Gives (λ x. (x.items, cursor.new)) result (numbers.read cursor.old) }
-{
-    more_numbers(Vec::new(alloc), cursor)
-}
-
-#[tactic(auto, unfolding(crate::specs::Grammar::bracketed))]
-fn bracketed(alloc: Global, cursor: &mut Cursor<'_, '_>) -> Result<Vec<u32>, Refusal>
-    ensures { Gives (λ x. (x.items, cursor.new)) result (bracketed.read cursor.old) }
-{
-    cursor.symbol("[")?;
-    let items = numbers(alloc, cursor)?;
-    cursor.symbol("]")?;
-    Ok(items)
-}
-
-#[tactic(auto, unfolding(crate::specs::Grammar::two_numbers))]
-fn two_numbers(cursor: &mut Cursor<'_, '_>) -> Result<(u32, u32), Refusal>
-    ensures { Gives (λ x. ((x.0, x.1), cursor.new)) result (two_numbers.read cursor.old) }
-{
-    let first = cursor.number()?;
-    let second = cursor.number()?;
-    Ok((first, second))
-}
 
 #[tactic(auto, unfolding(crate::specs::Grammar::side))]
 fn side(cursor: &mut Cursor<'_, '_>) -> Result<SideTree, Refusal>

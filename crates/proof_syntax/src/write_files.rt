@@ -4,7 +4,7 @@ ghost use Rattle.std.specs.Prelude.{◌≡◌, map, OnOk, IfOk, false};
 ghost use Rattle.cyc_lex.specs.Spacing.{text_of};
 ghost use Rattle.cyc_lex.specs.Spelling.{Spells};
 ghost use Rattle.cyc_lex.specs.Writing.{write, write_all};
-ghost use Rattle.proof_syntax.specs.Grammar.{disjuncts, definitions, entailment, state, judgement, premises, node, more_nodes, nodes, body, file};
+ghost use Rattle.proof_syntax.specs.Grammar.{disjuncts, definitions, entailment, state, judgement, node, more_nodes, nodes, body, file};
 ghost use Rattle.proof_syntax.specs.Trees.{heap_of, definition_of, entailment_of, judgement_of, node_of, file_of};
 
 use crate::line_lists::write_lines;
@@ -12,7 +12,7 @@ use crate::tree::{EntailmentTree, FileTree, HeapTree, JudgementTree, NodeTree};
 use crate::write_reasons::write_reason;
 use cyc_lex::WordWriter;
 use cyc_memory::OutOfMemory;
-use heap_syntax::{Mark, write_numbers, write_version};
+use heap_syntax::{Mark, write_premises, write_version};
 use pred_syntax::{write_definitions, write_heap, write_heaps};
 use std::alloc::Global;
 
@@ -55,21 +55,6 @@ fn write_judgement(tree: &JudgementTree<'_>, writer: &mut WordWriter) -> Result<
     match tree {
         JudgementTree::Entailment(entailment) => write_entailment(entailment, writer),
         JudgementTree::From(line, heap) => write_state(*line, heap, writer),
-    }
-}
-
-#[tactic(auto, using(cyc_lex::proofs::WritingLaws::write_all_on), unfolding(crate::specs::Grammar::premises, cyc_lex::specs::Writing::write_all))]
-fn write_premises(numbers: &[u32], writer: &mut WordWriter) -> Result<(), OutOfMemory>
-    ensures { OnOk result (writer.new ≡ write_all writer.old (premises.words numbers.now)) }
-{
-    match numbers {
-        [] => writer.symbol(";"),
-        [first, others @ ..] => {
-            writer.name("to")?;
-            writer.number(*first)?;
-            write_numbers(others, writer)?;
-            writer.symbol(";")
-        }
     }
 }
 

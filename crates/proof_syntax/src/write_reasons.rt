@@ -3,24 +3,15 @@
 ghost use Rattle.std.specs.Prelude.{◌≡◌, map, true, OnOk};
 ghost use Rattle.cyc_lex.specs.Writing.{write, write_all};
 ghost use Rattle.cyc_grammar.specs.Syntax.{after, words_many, fits_many, list1};
-ghost use Rattle.proof_syntax.specs.Grammar.{uterm, comma, bracketed, pair, some_pair, pairs, link, reason, behind_word, FitsBehind};
+ghost use Rattle.proof_syntax.specs.Grammar.{uterm, comma, pair, some_pair, pairs, link, reason, behind_word, FitsBehind};
 ghost use Rattle.proof_syntax.specs.Trees.{link_of, reason_of, word_of_reason};
 
 use crate::reason_word::{ReasonWord, text_of_side};
 use crate::tree::{LinkTree, PairTree, ReasonTree, TermTree};
 use cyc_lex::WordWriter;
 use cyc_memory::OutOfMemory;
-use heap_syntax::write_numbers;
+use heap_syntax::write_bracketed;
 use pred_syntax::{write_heap, write_universal_term};
-
-#[tactic(auto, using(cyc_lex::proofs::WritingLaws::write_all_on), unfolding(crate::specs::Grammar::bracketed, cyc_lex::specs::Writing::write_all))]
-fn write_bracketed(numbers: &[u32], writer: &mut WordWriter) -> Result<(), OutOfMemory>
-    ensures { OnOk result (writer.new ≡ write_all writer.old (bracketed.words numbers.now)) }
-{
-    writer.symbol("[")?;
-    write_numbers(numbers, writer)?;
-    writer.symbol("]")
-}
 
 #[tactic(auto, unfolding(crate::specs::Grammar::pair, cyc_lex::specs::Writing::write_all))]
 fn write_pair(tree: PairTree, writer: &mut WordWriter) -> Result<(), OutOfMemory>
@@ -83,7 +74,7 @@ fn write_link(tree: &LinkTree, writer: &mut WordWriter) -> Result<(), OutOfMemor
     write_bracketed(&tree.disjuncts, writer)
 }
 
-#[tactic(auto, using(cyc_lex::proofs::WritingLaws::write_all_on), unfolding(crate::specs::Grammar::rewrite, crate::specs::Grammar::side, crate::specs::Grammar::split, crate::specs::Grammar::two_numbers, crate::specs::Grammar::cut, crate::specs::Grammar::instantiate, cyc_lex::specs::Writing::write_all))]
+#[tactic(auto, using(cyc_lex::proofs::WritingLaws::write_all_on), unfolding(crate::specs::Grammar::rewrite, crate::specs::Grammar::side, crate::specs::Grammar::split, heap_syntax::specs::Numbers::two_numbers, crate::specs::Grammar::cut, crate::specs::Grammar::instantiate, cyc_lex::specs::Writing::write_all))]
 fn write_parts(tree: &ReasonTree<'_>, writer: &mut WordWriter) -> Result<(), OutOfMemory>
     requires { FitsBehind (reason_of tree.now) }
     ensures { OnOk result (writer.new ≡ write_all writer.old (behind_word (reason_of tree.now))) }

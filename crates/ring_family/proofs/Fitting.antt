@@ -21,14 +21,12 @@ use Rattle.command_syntax.specs.Grammar as commands
 use Rattle.proof_syntax.specs.Trees.{Node as NodeTree}
 use Rattle.proof_syntax.specs.Grammar as grammar
 use Rattle.heap_syntax.specs.declared.version.Version.TheVariants.{One}
-use Rattle.proof_file.specs.Written.{term_tree, heap_tree, definition_tree, reason_tree, node_tree, tree_of}
+use Rattle.pred_reader.specs.Written.{TermFits}
+use Rattle.proof_file.specs.Written.{heap_tree, definition_tree, reason_tree, node_tree, tree_of}
 use Rattle.ring_family.specs.Ring.{emp, is_nil, holds, cell_then, after, list_of, definitions_from, ring_definitions, ring_block, ring_bud, ring_nodes, file_node}
 use Rattle.ring_family.proofs.Blocks.{EachFrom, blocks_long}
 use Rattle.ring_family.proofs.Names.{p_free, q_free}
 use Rattle.ring_family.proofs.Members.{each_node, free, after_within}
-
-abbrev TermFits : Bool → Term → Type 0
-TermFits universal t = (grammar.terms universal).fits (term_tree t)
 
 nil_fits : (universal : Bool) → TermFits universal Nil
 unfolding grammar.terms grammar.uterm grammar.term

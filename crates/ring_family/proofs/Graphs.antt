@@ -1,5 +1,5 @@
 -- The trace graph of the ring, node by node.
-use Rattle.std.proofs.Common.{◌≡◌, ℕ, ◌+◌, ◌*◌, ◌<◌, ◌≤◌, List, [], ◌∷◌, map, arith, true, false, refl, ap}
+use Rattle.std.proofs.Common.{◌≡◌, ℕ, ◌+◌, ◌*◌, ◌<◌, ◌≤◌, List, [], ◌∷◌, length, map, arith, true, false, refl, ap}
 use Rattle.heap_formula.specs.declared.terms.Term.TheVariants.{Nil, Univ, Exist}
 use Rattle.heap_formula.specs.declared.proof_rules.Rule.{Rule}
 use Rattle.heap_formula.specs.declared.proof_rules.Rule.TheVariants.{Rewrite, Unfold, Done, PureRight, Instantiate, Frame, UnfoldRight}
@@ -34,6 +34,9 @@ graph_block m =
     graph_node_of (1 ∷ []) (edge (8 * m + 6) ((1, 1, false) ∷ []) ∷ []) ∷
     graph_node_of (1 ∷ []) (edge (8 * m + 7) ((1, 1, false) ∷ []) ∷ []) ∷
     graph_node_of (1 ∷ []) (edge (8 * m + 8) ((1, 0, false) ∷ []) ∷ []) ∷ []
+
+pub graph_block_eight : (m : ℕ) → length (graph_block m) ≡ 8
+graph_block_eight m = refl
 
 -- its last node
 abbrev pub graph_bud : GraphNode

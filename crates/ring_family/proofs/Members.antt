@@ -7,6 +7,7 @@ use Rattle.std.proofs.lemmas.Bool.{cases_eq, eq-eqb, ne_eqb}
 use Rattle.heap_formula.specs.Definitions.{Definition}
 use Rattle.rule_table.specs.Nodes.{Node}
 use Rattle.cyc_grammar.specs.Classes.{is_free_name}
+use Rattle.cyc_grammar.proofs.ClassLaws.{bytes_same}
 use Rattle.heap_syntax.specs.Words.{reserved}
 use Rattle.heap_reader.specs.Trees.{Heading}
 use Rattle.heap_reader.specs.Flaws.{arity_in}
@@ -14,7 +15,7 @@ use Rattle.proof_file.specs.Flaws.{headings}
 use Rattle.proof_file.specs.Written.{name_of, definition_tree}
 use Rattle.ring_family.specs.Ring.{after, definitions_from, ring_definitions, ring_block, ring_bud, ring_nodes}
 use Rattle.ring_family.proofs.Blocks.{EachFrom, each_from, blocks_cases}
-use Rattle.ring_family.proofs.Names.{p_free, q_free, name_itself, names_apart}
+use Rattle.ring_family.proofs.Names.{p_free, q_free, names_apart}
 
 -- ---- lists
 
@@ -51,7 +52,7 @@ module _ (ds : List Definition) where
   arity_p k i zero p a b c = absurd (omega arith)
   arity_p k i (suc n) p a b c =
       elim (cases_eq i p) [
-        | inl same ↦ (let t : bytes_eq (112 ∷ decimal i) (112 ∷ decimal p) ≡ true = subst (λ x. bytes_eq (112 ∷ decimal i) (112 ∷ decimal x) ≡ true) same (name_itself (112 ∷ decimal i)) in
+        | inl same ↦ (let t : bytes_eq (112 ∷ decimal i) (112 ∷ decimal p) ≡ true = subst (λ x. bytes_eq (112 ∷ decimal i) (112 ∷ decimal x) ≡ true) same (bytes_same (112 ∷ decimal i)) in
             ap (λ (x : Bool). if x then Some 1 else arity_in (heads (definitions_from k (suc i) n)) (112 ∷ decimal p)) t)
         | inr other ↦
             ap (λ (x : Bool). if x then Some 1 else arity_in (heads (definitions_from k (suc i) n)) (112 ∷ decimal p)) (names_apart i p (omega arith) c) ∙ arity_p k (suc i) n p (omega arith) (omega arith) c

@@ -1,28 +1,24 @@
 -- The names of the ring's predicates: they are names of the format, and apart.
-use Rattle.std.proofs.Common.{◌≡◌, ℕ, ◌<◌, ◌≤◌, List, [], ◌∷◌, arith, rules, true, false, length, refl, ap, sym, ◌∙◌}
+use Rattle.std.proofs.Common.{◌≡◌, ℕ, ◌<◌, ◌≤◌, List, [], ◌∷◌, arith, true, false, length, refl, ap, sym, ◌∙◌}
 use Rattle.std.specs.Prelude.{nat_le, nat_eq}
 use Rattle.std.specs.Str.{is_utf8, chars, encode_utf8_all, all_scalars, bytes_eq}
 use Rattle.std.specs.Char.{is_ascii_digit, is_ascii_alphanumeric}
 use Rattle.std.specs.List.{list_all, list_any}
 use Rattle.std.specs.Fmt.{decimal}
-use Rattle.std.specs.Str.Parse.{digits_value}
 use Rattle.std.proofs.lemmas.Bool.{ne_eqb, le-leb, false_from_ne_true}
 use Rattle.std.proofs.lemmas.Bool.Decides.{nat_tests}
 use Rattle.std.proofs.lemmas.Fmt.{digits_decimal, length-decimal-le, decimal_injective}
 use Rattle.std.proofs.lemmas.Slice.Eq.{bytes_eq-Decides}
 use Rattle.std.proofs.lemmas.Str.{is_utf8-from_IsUtf8, chars-encodes, encode_ascii}
-use Rattle.std.proofs.lemmas.Str.Parse.{IsNumeralModel, numerals_by_value}
 use Rattle.unicode_ident.specs.Ident.{is_xid_continue}
 use Rattle.unicode_ident.proofs.IdentLemmas.{is_xid_continue-ascii, is_xid_start-ascii}
 use Rattle.cyc_lex.specs.Word.{is_identifier, is_name_text}
 use Rattle.cyc_lex.proofs.Letters.{letters-name}
 use Rattle.cyc_lex.proofs.BoolParts.{and-parts}
 use Rattle.cyc_grammar.specs.Classes.{is_free_name}
+use Rattle.cyc_grammar.proofs.ClassLaws.{digit_numerals}
 use Rattle.heap_syntax.specs.Words.{reserved}
 use Rattle.cyc_lex.proofs.Lexemes.{digits-encode, digits-scalars}
-
-own : IsNumeralModel (λ ds. list_all is_ascii_digit ds ≡ true) (digits_value 10)
-own = numerals_by_value (λ ds. list_all is_ascii_digit ds ≡ true) (search rules)
 
 digit_small : (c : ℕ) → is_ascii_digit c ≡ true → c ≤ 57
 digit_small c h = grind (arith, nat_tests)
@@ -65,7 +61,7 @@ digits_free ds h few = rw (digits_name ds h few, not_reserved ds h) refl
 pub p_free : (p : ℕ) → p ≤ 2000 → is_free_name reserved (112 ∷ decimal p) ≡ true
 p_free p small =
     let few = length-decimal-le 9 p (omega arith) (omega arith) (omega arith) in
-    digits_free (decimal p) (digits_decimal own p (omega arith)) (omega (arith, few))
+    digits_free (decimal p) (digits_decimal digit_numerals p (omega arith)) (omega (arith, few))
 
 q_name : is_name_text (113 ∷ []) ≡ true
 q_name = letters-name (113 ∷ []) refl
@@ -75,9 +71,6 @@ unfolding is_free_name
 q_free = rw q_name refl
 
 -- ---- names apart
-
-pub name_itself : (s : List ℕ) → bytes_eq s s ≡ true
-name_itself s = (bytes_eq-Decides s s).1 refl
 
 pub names_apart : (p r : ℕ) → p < r → r ≤ 2000 → bytes_eq (112 ∷ decimal p) (112 ∷ decimal r) ≡ false
 names_apart p r lower small =

@@ -1,12 +1,12 @@
 -- Where the ring runs through the graph, and how each edge of the graph goes on along it.
-use Rattle.std.proofs.Common.{◌≡◌, ℕ, ◌+◌, ◌*◌, ◌<◌, ◌≤◌, ◌⊎◌, inl, inr, List, [], ◌∷◌, arith, Bool, true, false, cond, Option, Some, None, slice_get, length, refl, ap, sym, subst}
+use Rattle.std.proofs.Common.{◌≡◌, ℕ, ◌+◌, ◌*◌, ◌<◌, ◌≤◌, ◌⊎◌, inl, inr, List, [], ◌∷◌, arith, Bool, true, false, cond, Option, Some, None, slice_get, refl, ap, sym, subst}
 use Rattle.std.specs.Prelude.{nat_eq}
 use Rattle.std.proofs.lemmas.Bool.{cases_eq, ne_eqb, both_ways}
 use Rattle.heap_formula.specs.Words.{Each}
 use Rattle.trace_pairs.specs.Graph.{Node, Edge, IsEdge}
 use Rattle.buchi_core.specs.Forest.{is_filled, next_forest, start}
 use Rattle.ring_family.proofs.Blocks.{EachFrom, each_from, blocks_cases, in_block, at_last}
-use Rattle.ring_family.proofs.Graphs.{edge, graph_block, graph_bud, ring_graph}
+use Rattle.ring_family.proofs.Graphs.{edge, graph_block, graph_bud, ring_graph, graph_block_eight}
 use Rattle.ring_family.proofs.Turning.{Turns}
 use Rattle.formula_facts.proofs.AllMembers.{each_at}
 
@@ -35,11 +35,8 @@ abbrev pub rank : ℕ → ℕ → ℕ
 rank k v = cond (nat_eq v 0) (8 * k + 1) v
 
 module _ (k : ℕ) where
-  eight : (i : ℕ) → length (graph_block i) ≡ 8
-  eight i = refl
-
   pub graph_at : (m r v : ℕ) (x : Node) → m < k → v ≡ 8 * m + r → slice_get (graph_block m) r ≡ Some x → slice_get (ring_graph k) v ≡ Some x
-  graph_at m r v x b e h = in_block graph_block graph_bud eight 0 k v m r x (omega arith) (omega arith) (omega arith) h
+  graph_at m r v x b e h = in_block graph_block graph_bud graph_block_eight 0 k v m r x (omega arith) (omega arith) (omega arith) h
 
   pub places_of : (m r v : ℕ) (x : Node) → m < k → v ≡ 8 * m + r → slice_get (graph_block m) r ≡ Some x → places_at k v ≡ x.positions
   places_of m r v x b e h = ap places_in (graph_at m r v x b e h)
@@ -47,7 +44,7 @@ module _ (k : ℕ) where
   pub head_places : (m v : ℕ) → m ≤ k → v ≡ 8 * m → places_at k v ≡ 0 ∷ []
   head_places m v b e =
       elim (cases_eq m k) [
-        | inl same ↦ ap places_in (at_last graph_block graph_bud eight 0 k v (omega arith))
+        | inl same ↦ ap places_in (at_last graph_block graph_bud graph_block_eight 0 k v (omega arith))
         | inr other ↦ places_of m 0 v _ (omega arith) (omega arith) refl
       ]
 
@@ -121,7 +118,7 @@ module _ (k : ℕ) where
 
   pub all_good : 1 ≤ k → (v i : ℕ) (e : Edge) → IsEdge (ring_graph k) v i e → GoodEdge v e
   all_good one v i e h =
-      elim (blocks_cases graph_block graph_bud eight 0 k v h.node h.is_node) [
+      elim (blocks_cases graph_block graph_bud graph_block_eight 0 k v h.node h.is_node) [
         | inl b ↦
             (let place : 8 * b.m + b.r ≡ v = omega (arith, b.place) in
             let each' = each_from (λ r (x : Node). Each (GoodEdge (8 * b.m + r)) x.edges) 0 b.r b.r (graph_block b.m) h.node (omega arith) b.is_x (block_good b.m (omega (arith, b.last))) in

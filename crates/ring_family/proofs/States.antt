@@ -8,7 +8,7 @@ use Rattle.buchi_inclusion.specs.Product.{State, Moves, Run, Reachable}
 use Rattle.buchi_inclusion.specs.Answers.{AreReached, HasAtMost, HasMoreThan}
 use Rattle.buchi_inclusion.proofs.Descent.{reach_more}
 use Rattle.ring_family.proofs.Blocks.{blocks_long, blocks_cases}
-use Rattle.ring_family.proofs.Graphs.{graph_block, graph_bud, ring_graph}
+use Rattle.ring_family.proofs.Graphs.{graph_block, graph_bud, ring_graph, graph_block_eight}
 use Rattle.ring_family.proofs.Places.{places_in, places_at, graph_at, all_good}
 use Rattle.list_facts.proofs.Places.{get_within}
 
@@ -40,11 +40,8 @@ module _ (k : ℕ) (one : 1 ≤ k) where
   abbrev g : List Node
   g = ring_graph k
 
-  eight : (i : ℕ) → length (graph_block i) ≡ 8
-  eight i = refl
-
   long : length g ≡ 8 * k + 1
-  long = blocks_long graph_block graph_bud eight 0 k
+  long = blocks_long graph_block graph_bud graph_block_eight 0 k
 
   -- ---- each state is reached
 
@@ -114,7 +111,7 @@ module _ (k : ℕ) (one : 1 ≤ k) where
   reached : (v : ℕ) → v < 8 * k + 1 → Reachable g (state_at k v)
   reached v b =
       let node = get_within g v (omega (arith, b, long)) in
-      elim (blocks_cases graph_block graph_bud eight 0 k v node.0 node.1) [
+      elim (blocks_cases graph_block graph_bud graph_block_eight 0 k v node.0 node.1) [
         | inl c ↦
             (let place : 8 * c.m + c.r ≡ v = omega (arith, c.place) in
             let below : c.m < k = omega (arith, c.last) in

@@ -6,7 +6,8 @@ use Rattle.pred_syntax.specs.declared.tree.DefinitionTree.{DefinitionTree}
 use Rattle.proof_syntax.specs.Trees.{Definition, definition_of}
 use Rattle.proof_file.specs.Building.{front_of}
 use Rattle.proof_file.specs.Flaws.{heading, headings, first_node, file_flaw}
-use Rattle.proof_file.specs.Values.{definition_value, program_value}
+use Rattle.heap_reader.specs.Values.{program_value}
+use Rattle.proof_file.specs.Values.{definition_value}
 use Rattle.file_reader.specs.Steps.{tree_of}
 use Rattle.file_reader.specs.Wholes.{AreAllKept, IsFlawIn, front_defs}
 use Rattle.file_reader.proofs.WholeLaws.{begun-size, front-few, IsTree, all-found, all-kept, whole-tree, tree-few, tree-flawed}

@@ -7,12 +7,13 @@ use Rattle.pred_defs.specs.Book.{DefinitionBook}
 use Rattle.pred_defs.specs.Faults.{closed_fault}
 use Rattle.goto_lang.specs.Faults.{program_fault}
 use Rattle.heap_syntax.specs.Versions.{most_spatial}
-use Rattle.heap_reader.specs.Values.{line_value}
+use Rattle.heap_reader.specs.Values.{line_value, variable_value, program_value}
 use Rattle.name_numbers.specs.declared.tree.NumberedDefinition.{NumberedDefinition}
 use Rattle.name_numbers.specs.Numbered.{definition_of, problem_of}
 use Rattle.formula_reader.specs.Flaws.{heading}
-use Rattle.formula_reader.specs.Values.{variable_value, definition_value, program_value, goal_value}
-use Rattle.formula_reader.specs.WellFormed.{goal_heaps, goal_fault, is_universal_heap, is_short_heap, has_line}
+use Rattle.formula_reader.specs.Values.{definition_value, goal_value}
+use Rattle.heap_reader.specs.Small.{is_short_heap}
+use Rattle.formula_reader.specs.WellFormed.{goal_heaps, goal_fault, is_universal_heap, has_line}
 use Rattle.formula_reader.specs.Small.{IsSmallDefinition}
 use Rattle.formula_reader.proofs.Keeping.{small_of, is_closed, is_known, has_universal_antecedent, is_short, has_its_line}
 use Rattle.formula_reader.proofs.reading.problem_of_tree.Goals as goal

@@ -1,7 +1,7 @@
 use Rattle.std.proofs.Common.{◌≡◌, drop, map}
 use Rattle.std.specs.List.{list_any}
 use Rattle.std.specs.Str.{bytes_eq}
-use Rattle.name_numbers.specs.Numbered.{text_of}
+use Rattle.problem_syntax.specs.Trees.{text_of}
 use Rattle.formula_reader.proofs.walk.is_among.Given as goal
 
 abbrev pub invariant-loop-known : goal.invariant-loop-known

@@ -2,7 +2,7 @@ use Rattle.std.proofs.Common.{ap, sym, ◌∙◌, List, ℕ}
 use Rattle.std.specs.List.{list_any}
 use Rattle.std.specs.Str.{bytes_eq}
 use Rattle.std.proofs.lemmas.List.{take-map}
-use Rattle.name_numbers.specs.Numbered.{text_of}
+use Rattle.problem_syntax.specs.Trees.{text_of}
 use Rattle.formula_reader.proofs.walk.is_before.Goals as goal
 
 pub returns : goal.returns

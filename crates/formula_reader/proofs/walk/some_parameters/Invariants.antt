@@ -1,7 +1,7 @@
 use Rattle.std.proofs.Common.{◌≡◌, ◌+◌, drop, map}
 use Rattle.heap_reader.specs.Spans.{total}
 use Rattle.heap_reader.specs.Flaws.{listed_flaw}
-use Rattle.name_numbers.specs.Numbered.{text_of}
+use Rattle.problem_syntax.specs.Trees.{text_of}
 use Rattle.formula_reader.specs.Spans.{parameter_span}
 use Rattle.formula_reader.specs.Flaws.{parameter_flaw}
 use Rattle.formula_reader.proofs.walk.some_parameters.Given as goal

@@ -1,4 +1,4 @@
-use Rattle.std.proofs.Common.{◌≡◌, ◌≤◌, suc, true, List, [], ◌∷◌, length, map, None, refl, sym, ap, ◌∙◌, subst, arith}
+use Rattle.std.proofs.Common.{◌≡◌, suc, true, List, [], ◌∷◌, length, refl, sym, ap, ◌∙◌, subst, arith}
 use Rattle.std.proofs.lemmas.List.{length-map}
 use Rattle.heap_formula.specs.declared.commands.Command.{Command}
 use Rattle.heap_formula.specs.Definitions.{Definition as DefinitionValue}
@@ -9,7 +9,8 @@ use Rattle.proof_file.specs.declared.node.FileNode.{FileNode}
 use Rattle.proof_file.specs.Readable.{are_readable, are_universal_commands, are_at_lines, all_have_few_cases}
 use Rattle.proof_file.specs.Flaws.{headings, file_flaw}
 use Rattle.proof_file.specs.Written.{tree_of}
-use Rattle.proof_file.specs.Values.{program_value, node_value}
+use Rattle.heap_reader.specs.Values.{program_value}
+use Rattle.proof_file.specs.Values.{node_value}
 use Rattle.proof_file.proofs.Fitting.{file_small}
 use Rattle.proof_file.proofs.SpanLaws.{nodes_some, file_some}
 use Rattle.proof_file.proofs.TreesAgain.{tree_again}

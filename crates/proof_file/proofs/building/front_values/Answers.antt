@@ -5,7 +5,7 @@ use Rattle.proof_syntax.specs.Trees.{definition_of}
 use Rattle.proof_file.specs.Building.{front_of}
 use Rattle.proof_file.specs.Flaws.{variable_flaw, first_line}
 use Rattle.proof_file.specs.Spans.{variable_span}
-use Rattle.proof_file.specs.Values.{variable_value}
+use Rattle.heap_reader.specs.Values.{variable_value}
 use Rattle.proof_file.proofs.Fitting.{variable_few, file_parts, file_small, few_heads}
 use Rattle.proof_file.proofs.building.front_values.Goals as goal
 

@@ -1,13 +1,14 @@
-use Rattle.std.proofs.Common.{List, map, None, refl, sym, ap, ◌∙◌, subst}
+use Rattle.std.proofs.Common.{List, map, refl, sym, ap, ◌∙◌, subst}
 use Rattle.heap_formula.specs.Words.{Each}
 use Rattle.pred_syntax.specs.declared.tree.DefinitionTree.{DefinitionTree}
 use Rattle.proof_syntax.specs.declared.tree.NodeTree.{NodeTree}
 use Rattle.pred_defs.specs.Book.{DefinitionBook}
 use Rattle.proof_syntax.specs.Trees.{definition_of, node_of, file_of}
-use Rattle.proof_file.specs.Building.{front_of, IsSaid}
+use Rattle.proof_file.specs.Building.{front_of}
 use Rattle.proof_file.specs.Small.{IsSmallNode}
 use Rattle.proof_file.specs.Flaws.{headings, file_flaw}
-use Rattle.proof_file.specs.Values.{definition_value, program_value, node_value}
+use Rattle.heap_reader.specs.Values.{program_value}
+use Rattle.proof_file.specs.Values.{definition_value, node_value}
 use Rattle.proof_file.proofs.Fitting.{file_small, front_right, few_heads}
 use Rattle.proof_file.proofs.SpanLaws.{nodes_some}
 use Rattle.proof_file.proofs.reading.file_of_tree.Goals as goal

@@ -1,6 +1,7 @@
 use Rattle.std.proofs.Common.{◌≡◌, ◌++◌, map, drop, length}
 use Rattle.node_reasons.specs.Answers.{targets_of}
-use Rattle.proof_picture.specs.Arrows.{arrows_at, arrows_from, drawn_of, is_link, premises_at}
+use Rattle.proof_file.specs.Links.{is_link}
+use Rattle.proof_picture.specs.Arrows.{arrows_at, arrows_from, drawn_of, premises_at}
 use Rattle.proof_picture.specs.Red.{step_in}
 use Rattle.proof_picture.proofs.arrows.arrows_of.Given as goal
 

@@ -3,7 +3,8 @@ use Rattle.std.specs.Prelude.{IfOk}
 use Rattle.cyc_lex.specs.Lexing.{tokens_of}
 use Rattle.proof_syntax.specs.Trees.{File, Node, file_of}
 use Rattle.proof_file.specs.Written.{tree_of}
-use Rattle.proof_picture.specs.Labels.{flag_list, labels_of}
+use Rattle.proof_picture.specs.Carried.{flags_of}
+use Rattle.proof_picture.specs.Labels.{labels_of}
 use Rattle.proof_picture.specs.Pieces.{pieces_of}
 use Rattle.proof_picture.proofs.Alone.{all_fit, file_spelled}
 use Rattle.proof_picture.proofs.labels.labels_of_file.Goals as goal
@@ -17,4 +18,4 @@ returns-in-Ok c =
     let told = subst (λ (bs : List ℕ). tokens_of bs ≡ Ok c.in_ok-tokens.tokens) c.deref.ensures.value c.in_ok-tokens.ensures.0 in
     let words = file_spelled f c.in_ok-text.text.items c.in_ok-tokens.tokens c.in_ok-text.ensures.text told in
     let same = ap (λ (t : File). t.nodes) (c.in-Ok.ensures.again (tree_of f.version f.defs.list f.program f.nodes) f.fits words) in
-    subst (λ (ns : List Node). IfOk c.labels_of_trees.result (λ v. map pieces_of v.items ≡ labels_of (map flag_list c.args.flags.now.items) 0 ns)) same c.labels_of_trees.ensures
+    subst (λ (ns : List Node). IfOk c.labels_of_trees.result (λ v. map pieces_of v.items ≡ labels_of (map flags_of c.args.flags.now.items) 0 ns)) same c.labels_of_trees.ensures

@@ -2,8 +2,8 @@ use Rattle.std.proofs.Common.{List, ℕ, ◌≡◌, ◌∙◌, ap, subst}
 use Rattle.cyc_grammar.specs.Giving.{Gives, with_front}
 use Rattle.cyc_grammar.specs.Syntax.{Reading}
 use Rattle.cyc_grammar.proofs.Loop.{with_front-nil}
-use Rattle.fo_proof_syntax.specs.Grammar.{numbers}
-use Rattle.fo_proof_syntax.proofs.read_reasons.numbers.Goals as goal
+use Rattle.heap_syntax.specs.Numbers.{numbers}
+use Rattle.heap_syntax.proofs.number_list.numbers.Goals as goal
 
 pub returns : goal.returns
 returns c =
