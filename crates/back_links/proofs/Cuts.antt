@@ -107,10 +107,6 @@ module _ (bud companion : Judgement) (target p : ℕ) where
   abbrev pub entries_from : List ℕ → Bindings → List ℕ → List Link
   entries_from places s made = by_entries bud companion target p places s made (number_choices (disjuncts bud) (drop (length made) (disjuncts companion)))
 
-  pub entries_end : (places : List ℕ) (s : Bindings) (made : List ℕ) → length (disjuncts companion) ≤ length made → if_right bud companion p (link_of target places s made) ≡ entries_from places s made
-  entries_end places s made le =
-      sym (below_end (λ (ks : List ℕ). if_right bud companion p (link_of target places s ks)) made) ∙ ap (λ (cs : List SymbolicHeap). by_entries bud companion target p places s made (number_choices (disjuncts bud) cs)) (sym (drop_all (length made) (disjuncts companion) le))
-
   pub entries_all : (places : List ℕ) (s : Bindings) (made : List ℕ) (c : SymbolicHeap) → length made < length (disjuncts companion) → flat_map (λ m. entries_from places s (made ++ m ∷ [])) (range_with_len 0 (length (disjuncts bud))) ≡ entries_from places s made
   entries_all places s made c lt =
       (λ i. flat_map (λ (m : ℕ). by_entries bud companion target p places s (made ++ m ∷ []) (number_choices (disjuncts bud) (drop (longer m i) (disjuncts companion)))) (range_with_len 0 (length (disjuncts bud))))

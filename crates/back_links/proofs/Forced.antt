@@ -91,8 +91,3 @@ forced n pures atoms s ms xs i x y lm lx at there out =
     ∙ ((λ j. (not (stands_in_spatial n (at j)) || could_match_some pures s (at j) (there j)) && could_match_those n pures atoms s (drop (suc i) ms) (drop (suc i) xs))
     ∙ ap (λ (b : Bool). b && could_match_those n pures atoms s (drop (suc i) ms) (drop (suc i) xs))
     ((λ j. not (stands_in_atom n x y r.w r.is_w j) || unequal_atoms pures s n r.v r.w r.is_v r.out x y r.is_w j)))
-
--- nothing is ruled out where no term is known
-pub none_forced : (pures : List Pure) (value : Option Term) → is_ruled_out pures value None ≡ true → ⊥
-none_forced pures None h = both_ways false refl h
-none_forced pures (Some v) h = both_ways false refl h

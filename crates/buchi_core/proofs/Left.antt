@@ -27,11 +27,6 @@ inside_neither : (h a s : Bool) → ((h && not a) && not s) ≡ (h && not (a || 
 inside_neither true a s = neither a s
 inside_neither false a s = refl
 
-or_past : (xs : List ℕ) (i : ℕ) → length xs ≤ i → get_or xs i 0 ≡ 0
-or_past [] i l = refl
-or_past (x ∷ xs) zero l = absurd (omega arith)
-or_past (x ∷ xs) (suc i) l = or_past xs i (omega arith)
-
 zeros : (n i : ℕ) → get_or (replicate {A = ℕ} n 0) i 0 ≡ 0
 zeros zero i = refl
 zeros (suc n) zero = refl
@@ -76,17 +71,6 @@ give_some old new r k f w top left (Some p) q l =
           ap (λ (xs : List ℕ). is_one (get_or xs p 0) q) left ∙
           (ap (λ m. is_one m q) (get_or-set_other old.left r p (bit_and (get_or old.left r 0) (4294967295 - k)) 0 d) ∙
           (sym (and-true (is_one (get_or old.left p 0) q)) ∙ ap (λ b. is_one (get_or old.left p 0) q && not (b && is_one k q)) (sym no'))))
-    ]
-
-pub give_far : (old : Young) (r k : ℕ) → length old.left ≤ r →
-    (o : Option ℕ) (q : ℕ) → q < 32 → is_one (left_of old o) q ≡ (is_one (left_of old o) q && not (same_parent (Some r) o && is_one k q))
-give_far old r k w None q l = sym (and-true (is_one old.top q))
-give_far old r k w (Some p) q l =
-    elim (cases_eq r p) [
-      | inl e ↦
-          (let no' : is_one (get_or old.left p 0) q ≡ false = ap (λ m. is_one m q) (or_past old.left p (omega (arith, e))) ∙ one_zero q in
-          no' ∙ sym (and_left (is_one (get_or old.left p 0) q) (not (nat_eq r p && is_one k q)) no'))
-      | inr d ↦ sym (and-true (is_one (get_or old.left p 0) q)) ∙ ap (λ b. is_one (get_or old.left p 0) q && not (b && is_one k q)) (sym (ne_eqb r p d))
     ]
 
 -- ---- one entry more

@@ -45,21 +45,6 @@ turn_kept entries old next e item i j whole l same at push parent set kept so_fa
     ap (λ (z : List AgeEntry). z ++ map (settled (entries_of entries)) (places (is_kept (entries_of entries)) (i + 1) (length entries - (i + 1)))) items ∙
     (place_more (settled (entries_of entries)) (is_kept (entries_of entries)) (entries_of old) i (length entries) l' kept ∙ so_far)
 
--- where an entry stays, there are fewer before it than stay in all
-pub room_left : (entries old : List Entry) (i n : ℕ) (whole : List AgeEntry) → i < n → is_kept (entries_of entries) i ≡ true →
-    entries_of old ++ map (settled (entries_of entries)) (places (is_kept (entries_of entries)) i (n - i)) ≡ whole → length old < length whole
-room_left entries old i n whole l kept so_far =
-    let f = settled (entries_of entries) in
-    let keep = is_kept (entries_of entries) in
-    let here = place_more f keep (entries_of old) i n l kept ∙ so_far in
-    omega (
-      arith,
-      ap length here,
-      length-append (entries_of old ++ (f i ∷ [])) (map f (places keep (i + 1) (n - (i + 1)))),
-      length-append (entries_of old) (f i ∷ []),
-      length-map old entry_of,
-    )
-
 pub turn_skipped : (entries old next : List Entry) (i j : ℕ) (whole : List AgeEntry) → j < length entries → i ≡ j → next ≡ old → is_kept (entries_of entries) i ≡ false →
     entries_of old ++ map (settled (entries_of entries)) (places (is_kept (entries_of entries)) i (length entries - i)) ≡ whole →
     entries_of next ++ map (settled (entries_of entries)) (places (is_kept (entries_of entries)) (i + 1) (length entries - (i + 1))) ≡ whole

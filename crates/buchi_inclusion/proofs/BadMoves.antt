@@ -18,10 +18,6 @@ use Rattle.buchi_inclusion.proofs.Exact.{exact, run_append}
 use Rattle.buchi_inclusion.proofs.Deciding.{bad_is}
 use Rattle.list_facts.proofs.Places.{get_within, get_append_left, get_end}
 
--- there is no way where there is one
-pub way_or_none : (g : List Node) (states : List State) (least : Event) (from to : ℕ) → HasWay g states least from to → IsNoWay g states least from to → ⊥
-way_or_none g states least from to w none = none w.s w.t w.events w.is_s w.is_t w.run w.ok
-
 pub way_of_walk : (g : List Node) (states : List State) (least : Event) (from to : ℕ) (steps : List Step) → IsWalk g states least from to steps → HasWay g states least from to
 way_of_walk g states least from to steps w =
     record { s = w.s; t = w.t; is_s = w.is_s; is_t = w.is_t; events = w.events; run = over_run g w.s w.t steps w.events w.over; ok = w.ok }

@@ -53,9 +53,6 @@ between_more g states least visits at to from v steps step s l b h e is_s node e
 not_ltb : (i k : ℕ) → ltb i k ≡ false → k ≤ i
 not_ltb i k h = elim (cases_lt i k) [ inl l ↦ absurd (both_ways (ltb i k) h (lt-ltb i k l)) | inr g ↦ g ]
 
-not_leb : (i k : ℕ) → leb i k ≡ false → k < i
-not_leb i k h = elim (cases_lt k i) [ inl l ↦ l | inr g ↦ absurd (both_ways (leb i k) h (le-leb i k g)) ]
-
 at_least_from : (k : ℕ) (e : Event) → IsAtLeast (Dies k) e → IsFrom k e
 at_least_from k (Dies i) h = not_ltb i k h
 at_least_from k (Green i) h = not_ltb i k h
@@ -81,18 +78,6 @@ pub bad_is : (least event : Event) (events : List Event) → IsLeast least → e
 bad_is (Dies k) event events l e h = inr (k, inl e, (subst (IsFrom k) (sym e) (le_refl k), each_weaker (IsAtLeast (Dies k)) (IsFrom k) (at_least_from k) events h))
 bad_is (Green k) event events l e h = absurd l
 bad_is Nothing event events l e h = inl (e, each_weaker (IsAtLeast Nothing) IsNothing at_least_nothing events h)
-
--- two events of which neither is earlier are one
-pub tied : (a b : Event) → is_earlier a b ≡ false → is_earlier b a ≡ false → a ≡ b
-tied Nothing Nothing p q = refl
-tied Nothing (Dies j) p q = absurd (both_ways true q refl)
-tied Nothing (Green j) p q = absurd (both_ways true q refl)
-tied (Dies i) Nothing p q = absurd (both_ways true p refl)
-tied (Green i) Nothing p q = absurd (both_ways true p refl)
-tied (Dies i) (Dies j) p q = let a = not_ltb i j p in let b = not_ltb j i q in let e : i ≡ j = omega arith in ap Dies e
-tied (Green i) (Green j) p q = let a = not_ltb i j p in let b = not_ltb j i q in let e : i ≡ j = omega arith in ap Green e
-tied (Dies i) (Green j) p q = let a = not_leb i j p in let b = not_ltb j i q in absurd (omega arith)
-tied (Green i) (Dies j) p q = let a = not_leb j i q in let b = not_ltb i j p in absurd (omega arith)
 
 module _ (g : List Node) (states : List State) (rows : List (Vec Transition Global)) (t : IsTable g states rows) (graph : IsGraph g) where
   pub counter_is : (least : Event) (q k : ℕ) (m : Transition) (s : State) (step : Step) (stem back : List Step) → IsLeast least → IsItem g states q k m → m.event ≡ least → slice_get states q ≡ Some s → step.node ≡ s.node → step.edge ≡ k →

@@ -56,9 +56,6 @@ stack_itself x = not_after_itself (slice_cmp nat_cmp) nat_list_cmp_total x
 
 -- ---- comparing from an address on
 
-from_cmp : Cells → Cells → ℕ → ℕ → Ordering
-from_cmp x y a k = slice_cmp cell_cmp (rows x a k) (rows y a k)
-
 more_rows : (x y : Cells) (a k : ℕ) (o : Ordering) → o ≡ cell_cmp (cell_at x a) (cell_at y a) → slice_cmp cell_cmp (rows x a (suc k)) (rows y a (suc k)) ≡ ordering_then o (slice_cmp cell_cmp (rows x (suc a) k) (rows y (suc a) k))
 more_rows x y a k o e = ap (λ p. ordering_then p (slice_cmp cell_cmp (rows x (suc a) k) (rows y (suc a) k))) (sym e)
 
@@ -68,13 +65,3 @@ same_so_far n x y a l e =
     let q : n - a ≡ n + 1 - (a + 1) = omega arith in
     let r : suc a ≡ a + 1 = omega arith in
     ap (λ k. slice_cmp cell_cmp (rows x a k) (rows y a k)) p ∙ more_rows x y a (n - a) Equal e ∙ ap (λ b. slice_cmp cell_cmp (rows x b (n - a)) (rows y b (n - a))) r ∙ ap (λ k. slice_cmp cell_cmp (rows x (a + 1) k) (rows y (a + 1) k)) q
-
-pub decided_here : (n : ℕ) (x y : Cells) (a : ℕ) (o : Ordering) → a ≤ n → o ≢ Equal → o ≡ cell_cmp (cell_at x a) (cell_at y a) → o ≡ slice_cmp cell_cmp (rows x a (n + 1 - a)) (rows y a (n + 1 - a))
-decided_here n x y a o l d e =
-    let p : n + 1 - a ≡ suc (n - a) = omega arith in
-    sym (ap (λ k. slice_cmp cell_cmp (rows x a k) (rows y a k)) p ∙ more_rows x y a (n - a) o e ∙ kept o (slice_cmp cell_cmp (rows x (suc a) (n - a)) (rows y (suc a) (n - a))) d)
-  where
-    kept : (o r : Ordering) → o ≢ Equal → ordering_then o r ≡ o
-    kept Less r d = refl
-    kept Equal r d = absurd (d refl)
-    kept Greater r d = refl

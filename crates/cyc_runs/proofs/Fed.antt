@@ -11,13 +11,6 @@ use Rattle.cyc_runs.specs.declared.endings.Status.{Status}
 use Rattle.cyc_runs.specs.declared.endings.Status.TheVariants.{Limit}
 use Rattle.cyc_runs.proofs.Told.{long_told}
 
--- nothing more was fed
-pub fed_none : (a : Answering) (n : ℕ) (told : Option (List ℕ)) → WasFed a a n n told told
-fed_none a n told = record {
-  bytes = [];
-  came = Consumes-nil told;
-  count = omega arith;
-  answers = λ rest ending text answer. answer;
 }
 
 -- some bytes, and then some more

@@ -27,15 +27,3 @@ module _ (t : Theory) (nodes : List MadeNode) (g : OpenGoal) where
       by_node : (o : Option MadeNode) → link_answer t.lines g.premise.judgement link (option_map judgement_of o) ≡ Err f → none_beside (edge_to t g.premise.judgement link o) ≡ None
       by_node None e = refl
       by_node (Some m) e = by_fault m (link_fault g.premise.judgement (judgement_of m) link (variables_of t.lines g.premise.judgement)) e
-
-  pub has_effect : (reason : Reason) (ps : List Premise) (e : Effect) → reason_answer t.most t.definitions t.lines g.premise.judgement reason (companion_in judgement_of nodes reason) ≡ Ok ps → IsEffectBy reason ps e → IsEffect t nodes g reason (Some e)
-  has_effect (Step rule) ps e answer by = (ap answered answer ∙ ap Some (sym by.0), ap answer_pairs answer ∙ sym by.1)
-  has_effect (Back link) ps e answer by = by_node (slice_get nodes link.target) answer
-    where
-      by_fault : (m : MadeNode) (o : Option RuleFault) → unless_fault o (link_premise (judgement_of m) link) ≡ Ok ps → (none_beside (edge_unless o (judgement_of m) link) ≡ Some e.premises.items) × (link_pairs link (Some m) ≡ e.pairs)
-      by_fault m None h = (ap Some (sym by.0), let one : link_premise (judgement_of m) link ∷ [] ≡ ps = cc in ap (map (λ (p : Premise). p.pairs)) one ∙ sym by.1)
-      by_fault m (Some f) h = absurd (let h' : Err f ≡ Ok ps = h in cc)
-
-      by_node : (o : Option MadeNode) → link_answer t.lines g.premise.judgement link (option_map judgement_of o) ≡ Ok ps → (none_beside (edge_to t g.premise.judgement link o) ≡ Some e.premises.items) × (link_pairs link o ≡ e.pairs)
-      by_node None h = absurd (let h' : Err NoSuchNode ≡ Ok ps = h in cc)
-      by_node (Some m) h = by_fault m (link_fault g.premise.judgement (judgement_of m) link (variables_of t.lines g.premise.judgement)) h

@@ -185,9 +185,3 @@ module _ {L J R : Type 0} (calculus : L → Calculus J R) (Occurs : L → J → 
         all_in (Allows s.logic) (c.links s.made.items g) (λ r is. order.fair.offers s.made.items g r occur (inl is)),
         all_in (Allows s.logic) (c.rules s.made.items g) (λ r is. order.fair.offers s.made.items g r occur (inr is)),
       )
-
-  pub offered_is : (offer : List (Made J R) → Goal J → List R) (g : Goal J) (rest : List (Goal J)) → goals_in s ≡ g ∷ rest → offered offer (replay c s.root (reasons_in s)) ≡ offer s.made.items g
-  offered_is offer g rest next = ap (offered offer) order.replayed ∙ ap (offered_at offer s.made.items) next
-
-  pub nothing_offered : (offer : List (Made J R) → Goal J → List R) → goals_in s ≡ [] → offered offer (replay c s.root (reasons_in s)) ≡ []
-  nothing_offered offer none = ap (offered offer) order.replayed ∙ ap (offered_at offer s.made.items) none

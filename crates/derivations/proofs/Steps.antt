@@ -30,13 +30,6 @@ module _ {L J R : Type 0} (calculus : L → Calculus J R) (Occurs : L → J → 
   replayed' : replay (calculus s.logic) s.root (reasons_in s') ≡ Some (tableau_in s')
   replayed' = subst (λ (a : L × (ℕ × J)). replay (calculus a.0) a.1.1 (reasons_in s') ≡ Some (tableau_in s')) same order'.replayed
 
-  -- a reason that was taken made a node of the next goal
-  pub took : (r : R) (e : Effect J) (has : HasEffect calculus s r e) → reasons_in s' ≡ after (reasons_in s) r → s'.made.items ≡ s.made.items ++ record { goal = has.goal; reason = r } ∷ []
-  took r e has more =
-      sym (ap (λ (t : Tableau J R). t.nodes)
-      (same_Some (next_tableau (calculus s.logic) s.made.items s.traces has.goal has.rest e.premises.items r) (tableau_in s')
-      (sym (replayed_next calculus Occurs Allows s order r e has) ∙ (ap (replay (calculus s.logic) s.root) (sym more) ∙ replayed'))))
-
   -- a reason that was taken back left its goal the next one
   pub before : reasons_in s' ≡ front (reasons_in s) → 0 < length s.made.items → Before calculus s s'
   before less some' =

@@ -58,44 +58,12 @@ alive-new all enough none = record {
   led = ((λ x. x), lead-none);
 }
 
--- with bytes after all of them
-pub alive-fed : (a : Alive) (all : Vec ℕ) (enough : ℕ) (piece : List ℕ) → IsAlive a → all.items ≡ a.all.items ++ piece → IsAlive (record { all = all; awaited = a.awaited; tokens = a.tokens; place = a.place; comment = a.comment; enough = enough })
-alive-fed a all enough piece h more = record {
-  taken = h.taken;
-  law = λ rest.
-      ap (λ (b : List ℕ). tokens_from start false (b ++ rest)) more
-      ∙ ap (tokens_from start false) (append_assoc a.all.items piece rest)
-      ∙ h.law (piece ++ rest)
-      ∙ ap (λ (b : List ℕ). with_tokens h.taken (tokens_from a.place a.comment b)) (sym (ap (λ (b : List ℕ). b ++ rest) later ∙ append_assoc (waiting_of a) piece rest));
-  count = h.count;
-  few = h.few;
-  size = omega (arith, h.size, ap length more, length-append a.all.items piece);
-  small = h.small;
-  led = h.led;
 }
   where
-    later : drop a.place.offset all.items ≡ waiting_of a ++ piece
-    later = ap (drop a.place.offset) more ∙ drop-append-le a.place.offset a.all.items piece h.size
 
-pub alive-waits : (a : Alive) (all : Vec ℕ) (enough : ℕ) (piece : List ℕ) → IsAlive a → all.items ≡ a.all.items ++ piece
-    → IsKept (parts_of (kinds.Alive a)) piece (kinds.Alive (record { all = all; awaited = a.awaited; tokens = a.tokens; place = a.place; comment = a.comment; enough = enough }))
-alive-waits a all enough piece h more = record {
-  held = alive-fed a all enough piece h more;
-  law = λ rest. piece-waits (parts_of (kinds.Alive a)) piece rest ∙ ap (λ (b : List ℕ). outcome (parts (Head []) start false b) rest) (sym more);
-  count = omega (arith, ap length more, length-append a.all.items piece);
 }
 
-pub faulty-waits : (f : Faulty) (waiting : Vec ℕ) (enough : ℕ) (piece : List ℕ) → IsSmall f.place → waiting.items ≡ f.waiting.items ++ piece
-    → IsKept (parts_of (kinds.Faulty f)) piece (kinds.Faulty (record { fault = f.fault; place = f.place; comment = f.comment; waiting = waiting; enough = enough }))
-faulty-waits f waiting enough piece small more = record {
-  held = small;
-  law = λ rest. piece-waits (parts_of (kinds.Faulty f)) piece rest ∙ ap (λ (b : List ℕ). outcome (parts (Dead f.fault) f.place f.comment b) rest) (sym more);
-  count = omega (arith, ap length more, length-append f.waiting.items piece);
 }
-
--- and then what is found among them
-pub kept-then : (old : Parts) (piece : List ℕ) (mid new : Held) → IsKept old piece mid → IsKept (parts_of mid) [] new → IsKept old piece new
-kept-then old piece mid new h k = record { held = k.held; law = λ rest. h.law rest ∙ k.law rest; count = omega (arith, h.count, k.count) }
 
 -- piece by piece
 pub kept-on : (old : Parts) (done now : List ℕ) (mid new : Held) → IsKept old done mid → IsKept (parts_of mid) now new → IsKept old (done ++ now) new
@@ -105,23 +73,8 @@ kept-on old done now mid new h k = record {
   count = omega (arith, h.count, k.count, length-append done now);
 }
 
-pub kept-none : (h : Held) → IsHeld h → IsKept (parts_of h) [] h
-kept-none h held = record { held = held; law = λ rest. refl; count = omega arith }
-
 -- ---- a bad place
 
-pub unlexed-says : (fault : LexFault) (p : Place) (comment : Bool) (pending rest : List ℕ) → outcome (parts (Unlexed fault) p comment pending) rest ≡ Bears (faults.Lex fault)
-unlexed-says fault p comment pending rest = by (tokens_from p comment (pending ++ rest))
-  where
-    by : (r : Result (List Placed) (Bad × Place)) → behind (Unlexed fault) r ≡ Bears (faults.Lex fault)
-    by (Ok us) = refl
-    by (Err e) = refl
-
-pub unlexed-stays : (fault : LexFault) (n m : ℕ) (piece : List ℕ) → m ≡ n + length piece → IsKept (parts_of (kinds.Unlexed fault n)) piece (kinds.Unlexed fault m)
-unlexed-stays fault n m piece is = record {
-  held = tt;
-  law = λ rest. unlexed-says fault (behind_bytes n) false [] (piece ++ rest) ∙ sym (unlexed-says fault (behind_bytes m) false [] rest);
-  count = omega (arith, is);
 }
 
 alive-bad : (a : Alive) (bad : Bad) (p : Place) → IsAlive a → IsBad (parts (Head []) a.place a.comment (waiting_of a)) bad p → IsBad (parts_of (kinds.Alive a)) bad p
@@ -172,10 +125,6 @@ faulty-text f v (stops.At b p) n new valid cut size bad stopped =
     subst (IsKept (parts_of (kinds.Faulty f)) []) (sym stopped) (faulty-unlexed f b p n size (statement-bad (Dead f.fault) f.place p f.comment f.waiting.items v.text.now b valid.text (sym valid.cut ∙ cut) bad))
 
 -- ---- room
-
-pub room-text : (p : Place) (bytes : List ℕ) (v : Valid) → IsSmall p → p.offset + length bytes < 2 ^ 32 - 1 → IsValid bytes v → HasRoom p (length v.text.now)
-room-text p bytes v small room valid =
-    record { offset = omega (arith, room, ap length valid.whole, length-append v.text.now v.tail.now); line = small.0; column = small.1 }
 
 -- ---- tokens that are taken
 

@@ -150,18 +150,6 @@ tokens-of-lexemes (w ∷ ws) h = let t = and-parts (is_lexeme w) (are_lexemes ws
 
 -- ---- a dead token
 
-pub dead-told : (before left at count : ℕ) (all : List Placed) (t : Placed) (d : DeadToken) → count ≤ length all → 0 < left → left ≤ count → at ≡ count - left → slice_get all at ≡ Some t → d ≡ record { token = before + at; line = t.line; column = t.column } → TellsDead before (take count all) left d
-dead-told before left at count all t d few some within place is same n = (λ i. at_token faults.Syntax (number i) (token i)) ∙ ap (λ (e : DeadToken). faults.Syntax (n + e.token) e.line e.column) (sym same)
-  where
-    size : length (take count all) ≡ count
-    size = length-take-le count all few
-
-    number : n + before + (length (take count all) - left) ≡ n + (before + at)
-    number = omega (arith, size, place)
-
-    token : slice_get (take count all) (length (take count all) - left) ≡ Some t
-    token = ap (slice_get (take count all)) (omega (arith, size, place)) ∙ slice-take count at all (omega (arith, place, some, within)) ∙ is
-
 -- ---- what is read of a text, and one more statement
 
 pub ended-some : (ts : List Placed) (ended : Bool) (left : Text) → Ends ended ts left → ended ≡ true → 0 < length ts

@@ -528,13 +528,6 @@ stands-there text rest q d ts t utf8 left h all e = by (tokens_from q d (rest ++
     by (Err bad) is = absurd (tokens-differ all bad (from ∙ ap (with_tokens (ts ++ t ∷ [])) is ∙ with_tokens-err (ts ++ t ∷ []) bad))
     by (Ok us) is = there us (tokens-same all ((ts ++ t ∷ []) ++ us) (from ∙ ap (with_tokens (ts ++ t ∷ [])) is ∙ with_tokens-ok (ts ++ t ∷ []) us))
 
-pub told-there : (text : List ℕ) (flaw : Flaw) (line column : ℕ) (fault : ReadFault) → StandsIn text flaw.token line column → fault ≡ item_fault flaw.item flaw.token line column → IsFlawIn text flaw fault
-told-there text flaw line column fault stands is all e = subst (IsFlawTold all flaw) (sym is) (by flaw.item refl)
-  where
-    by : (item : Item) → flaw.item ≡ item → IsFlawTold all flaw (item_fault item flaw.token line column)
-    by (Ill ill) same = (ap (λ (i : Item). record { item = i; token = flaw.token }) same, stands all e)
-    by (Over what) same = (ap (λ (i : Item). record { item = i; token = flaw.token }) same, stands all e)
-
 -- ---- the answer
 
 read-fault : (bytes : List ℕ) (fault : ReadFault) → IsRead bytes (Err fault) → Reads bytes (Err fault)

@@ -22,10 +22,6 @@ find-lookup q (e ∷ es) = ap (cond (eq_by_cmp nat_cmp q e.0) (Some e.1)) (find-
 pub at_is : {X : Type 0} (es : List (ℕ × X)) (q : ℕ) → get (from_entries {R = nat_cmp} es) q ≡ lookup (λ k. is_eq (nat_cmp q k)) es
 at_is es q = get-from_entries nat_cmp_total es q ∙ find-lookup q es
 
-pub matched : {X : Type 0} (r : Option (Bor X)) (o : Option X) → option_copied r ≡ o → MatchOption r (o ≡ None) (λ f. o ≡ Some f.now)
-matched None o e = sym e
-matched (Some b) o e = sym e
-
 pub put_is : {X : Type 0} (es fs : List (ℕ × X)) (k : ℕ) (v : X) → ((q : ℕ) → lookup (λ j. is_eq (nat_cmp q j)) fs ≡ cond (is_eq (nat_cmp k q)) (Some v) (lookup (λ j. is_eq (nat_cmp q j)) es)) → from_entries {R = nat_cmp} fs ≡ insert (from_entries es) k v
 put_is es fs k v h =
     same_map nat_cmp_total nat_cmp-IsAntisymmetric _ _ (λ q.

@@ -18,56 +18,7 @@ use Rattle.goto_lang.specs.Effects.{Makes, IsLoad, IsStore, IsFree, IsJump}
 
 -- ---- the commands
 
-pub load_makes : (x : ℕ) (t : _) (k a : ℕ) (vs : List ℕ) (c : State) (r : Stepped) → IsLoad x (value_in c t) k c r → Makes (Load x t k) a vs c r
-load_makes x t k a vs c Stop h = absurd h
-load_makes x t k a vs c Fault h = h
-load_makes x t k a vs c (To d) h = h
-load_makes x t k a vs c BadPick h = h
-
-pub store_makes : (t : _) (k : ℕ) (u : _) (a : ℕ) (vs : List ℕ) (c : State) (r : Stepped) → IsStore (value_in c t) k (value_in c u) c r → Makes (Store t k u) a vs c r
-store_makes t k u a vs c Stop h = absurd h
-store_makes t k u a vs c Fault h = h
-store_makes t k u a vs c (To d) h = h
-store_makes t k u a vs c BadPick h = h
-
-pub free_makes : (t : _) (a : ℕ) (vs : List ℕ) (c : State) (r : Stepped) → IsFree (value_in c t) c r → Makes (Free t) a vs c r
-free_makes t a vs c Stop h = absurd h
-free_makes t a vs c Fault h = h
-free_makes t a vs c (To d) h = h
-free_makes t a vs c BadPick h = h
-
-pub equal_makes : (t u : _) (j a : ℕ) (vs : List ℕ) (c : State) (r : Stepped) → IsJump (cond (nat_eq (value_in c t) (value_in c u)) j (c.line + 1)) c r → Makes (IfEq t u j) a vs c r
-equal_makes t u j a vs c Stop h = absurd h
-equal_makes t u j a vs c Fault h = absurd h
-equal_makes t u j a vs c (To d) h = h
-equal_makes t u j a vs c BadPick h = h
-
-turned : (b : Bool) (m n : ℕ) → cond (not b) m n ≡ cond b n m
-turned true m n = refl
-turned false m n = refl
-
-pub unequal_makes : (t u : _) (j a : ℕ) (vs : List ℕ) (c : State) (r : Stepped) → IsJump (cond (not (nat_eq (value_in c t) (value_in c u))) j (c.line + 1)) c r → Makes (IfNeq t u j) a vs c r
-unequal_makes t u j a vs c Stop h = absurd h
-unequal_makes t u j a vs c Fault h = absurd h
-unequal_makes t u j a vs c (To d) h = h ∙ ap (jump c) (turned (nat_eq (value_in c t) (value_in c u)) j (c.line + 1))
-unequal_makes t u j a vs c BadPick h = h
-
-pub any_makes : (j a : ℕ) (vs : List ℕ) (c : State) (r : Stepped) → IsJump (cond (nat_eq a 1) j (c.line + 1)) c r → Makes (IfAny j) a vs c r
-any_makes j a vs c Stop h = absurd h
-any_makes j a vs c Fault h = absurd h
-any_makes j a vs c (To d) h = h
-any_makes j a vs c BadPick h = h
-
 -- ---- fields
-
-pub no_field : (vs : List ℕ) (k : ℕ) → length vs < k → counted_from_one vs k ≡ None
-no_field vs zero h = absurd (omega arith)
-no_field vs (suc k) h = past vs k (omega arith)
-  where
-    past : (vs : List ℕ) (k : ℕ) → length vs ≤ k → slice_get vs k ≡ None
-    past [] k h = refl
-    past (v ∷ vs) zero h = absurd (omega arith)
-    past (v ∷ vs) (suc k) h = past vs k (omega arith)
 
 pub some_field : (vs : List ℕ) (k : ℕ) → 0 < k → k ≤ length vs → (v : ℕ) × (counted_from_one vs k ≡ Some v)
 some_field vs zero p h = absurd (omega arith)

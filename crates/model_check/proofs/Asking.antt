@@ -54,17 +54,8 @@ pred_asked ns old new s e a p q ts us vs y ye ae ue ve k = record {
   piece = subst (λ z. PieceFits ns new s e a z) ye (subst (λ z. PieceFits ns new s e z (Of q)) (sym ae) (subst (λ ws. IsQuestion new q p ws) (ve ∙ ap (values s e) ue) k.question));
 }
 
-pub asked_all : (ns : List ℕ) (a c : List Question) (s e : Stack) (xs : List Spatial) (i : ℕ) (ys zs : List Piece) → length xs ≤ i → AskedPieces ns a c s e (take i xs) ys → ys ≡ zs → AskedPieces ns a c s e xs zs
-asked_all ns a c s e xs i ys zs h f z = record {
-  extends = f.extends;
-  pieces = subst (λ ws. PiecesFit ns c s e xs ws) z (subst (λ ws. PiecesFit ns c s e ws ys) (whole xs i h) f.pieces);
 }
   where
-    whole : (xs : List Spatial) (i : ℕ) → length xs ≤ i → take i xs ≡ xs
-    whole [] zero h = refl
-    whole [] (suc i) h = refl
-    whole (x ∷ xs) zero h = absurd (omega arith)
-    whole (x ∷ xs) (suc i) h = ap (λ ws. x ∷ ws) (whole xs i (omega arith))
 
 pub asked_next_at : (ns : List ℕ) (a b c : List Question) (s e : Stack) (xs : List Spatial) (i : ℕ) (x : Spatial) (ys zs : List Piece) (y : Piece) → i < length xs → x ≡ get_or xs i x → AskedPieces ns a b s e (take i xs) ys → AskedPiece ns b c s e x y → zs ≡ ys ++ y ∷ [] → AskedPieces ns a c s e (take (i + 1) xs) zs
 asked_next_at ns a b c s e xs i x ys zs y h is f g z =

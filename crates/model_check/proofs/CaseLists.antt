@@ -17,12 +17,6 @@ use Rattle.formula_facts.proofs.AllMembers.{each_imply, each_last, each_append}
 use Rattle.formula_facts.proofs.SomeMember.{one_front, one_last}
 
 module _ (h : Cells) (ns : List ℕ) (head : ℕ) (vs : List ℕ) where
-  no_cases : (qs : List Question) (rules : List GroundRule) → GroundedCases h ns qs qs rules rules head vs []
-  no_cases qs rules = record { extends = extends_all qs; added = []; more = sym (end rules); are = tt; has = tt }
-    where
-      end : (xs : List GroundRule) → xs ++ [] ≡ xs
-      end [] = refl
-      end (x ∷ xs) = ap (λ ys. x ∷ ys) (end xs)
 
   -- a case rule of some cases is one of more cases, with more questions
   rule_kept : (qs qs' : List Question) (bs : List SymbolicHeap) (b : SymbolicHeap) → Extends qs qs' → (r : GroundRule) → IsCaseRule h ns qs head vs bs r → IsCaseRule h ns qs' head vs (bs ++ b ∷ []) r
@@ -59,9 +53,6 @@ module _ (h : Cells) (ns : List ℕ) (head : ℕ) (vs : List ℕ) where
   pub next_case_at : (q0 q1 q2 : List Question) (r0 r1 r2 : List GroundRule) (bs : List SymbolicHeap) (i : ℕ) (b : SymbolicHeap) → i < length bs → b ≡ get_or bs i b → GroundedCases h ns q0 q1 r0 r1 head vs (take i bs) → GroundedCase h ns q1 q2 r1 r2 head vs b → GroundedCases h ns q0 q2 r0 r2 head vs (take (i + 1) bs)
   next_case_at q0 q1 q2 r0 r1 r2 bs i b l is g k =
       subst (GroundedCases h ns q0 q2 r0 r2 head vs) (sym (take_more bs i b l ∙ ap (λ x. take i bs ++ x ∷ []) (sym is))) (next_case q0 q1 q2 r0 r1 r2 (take i bs) b g k)
-
-pub start_cases : (h : Cells) (ns : List ℕ) (head : ℕ) (vs : List ℕ) (qs : List Question) (rules : List GroundRule) → GroundedCases h ns qs qs rules rules head vs []
-start_cases h ns head vs = no_cases h ns head vs
 
 -- the cases of each predicate are constructive
 pub constructive_cases : (ds : List Definition) (p : ℕ) → AreConstructive ds → Each IsConstructive (cases_of ds p)

@@ -122,12 +122,6 @@ forced_fit h s a ls c f p o fits = fits_moved h s o (stack_of ls) a (forced_agre
 
 -- ---- the answers as the code has them
 
-pub all_fit : (h : Cells) (s e : Stack) (a : SymbolicHeap) (ps : List Pure) (xs : List Spatial) (yes : Bool) → ps ≡ a.pure → xs ≡ a.spatial → Each (PureHolds s e) ps → IsTrue yes ↔ Each (CellFits h s e) xs → IsTrue yes ↔ Fits h s e a
-all_fit h s e a ps xs b i j p q = (
-  λ t. record { pure = subst (Each (PureHolds s e)) i p; cells = subst (Each (CellFits h s e)) j (q.0 t) },
-  λ f. q.1 (subst (Each (CellFits h s e)) (sym j) f.cells),
-)
-
 pub none_fits : (h : Cells) (s : Stack) (a : SymbolicHeap) → IsEvaluated h s (steps_of a) None → (e : Stack) → Fits h s e a → ⊥
 none_fits h s a v e f = v e (fits_steps h s e a f)
 

@@ -33,9 +33,6 @@ member_at [] i d h = absurd (omega arith)
 member_at (x ∷ xs) zero d h = inl refl
 member_at (x ∷ xs) (suc i) d h = inr (member_at xs i d (omega arith))
 
-still_taken : (ks : List Term) (st : Step) (rest all : List Step) → (AllTaken ks (st ∷ rest) → AllTaken ks all) → IsTaken ks st → AllTaken ks rest → AllTaken ks all
-still_taken ks st rest all f t r = f (t, r)
-
 -- one more step of a round
 round_step : (steps : List Step) (i : ℕ) (d : Step) (init : ℕ) (old new : List Term) → i < length steps → AreLearned steps old → init ≤ length old → (length old ≡ init → AllTaken old (drop i steps) → AllTaken old steps) → Learns old new (source (get_or steps i d)) (target (get_or steps i d)) → AreLearned steps new × (init ≤ length new) × (length new ≡ init → AllTaken new (drop (i + 1) steps) → AllTaken new steps)
 round_step steps i d init old new h a l f (inl k) =

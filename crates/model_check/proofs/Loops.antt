@@ -56,11 +56,6 @@ pair_added part rest old new x b z w a m =
       λ o. elim o as (λ y. HoldsMask m new) [ inl k ↦ r.1 (inl k) | inr p ↦ r.1 (inr (p.whole ∙ sym w)) ],
     )
 
--- no pair is added where the two have a place in common
-pub pair_not_added : (part rest : ℕ) (old new : Row) → ¬ (bit_and part rest ≡ 0) → new ≡ old → (m : ℕ) → HoldsMask m new ↔ (HoldsMask m old ⊎ Apart part rest m)
-pair_not_added part rest old new n e m =
-    (λ k. inl (subst (HoldsMask m) e k), λ o. elim o as (λ y. HoldsMask m new) [ inl k ↦ subst (HoldsMask m) (sym e) k | inr p ↦ absurd (n p.apart) ])
-
 -- one cell with each of the others, in a row that was empty
 pub cell_joined : (part place : ℕ) (old new others : Row) (m : ℕ) → old ≡ [] → part ≡ 2 ^ place → (HoldsMask m new ↔ (HoldsMask m old ⊎ JoinsOne part others m)) → (HoldsMask m new ↔ JoinsOne (2 ^ place) others m)
 cell_joined part place old new others m e p k =
@@ -146,15 +141,6 @@ take_empty (suc n) = refl
 take_whole : (xs : List Piece) (n : ℕ) → n ≡ length xs → take n xs ≡ xs
 take_whole [] n e = take_empty n
 take_whole (x ∷ xs) n e = subst (λ k. take k (x ∷ xs) ≡ x ∷ xs) (sym e) (ap (λ ys. x ∷ ys) (take_whole xs (length xs) refl))
-
--- the recursion as the code has it: the empty list, a piece that nothing is known of, and the rest of another
-pub unions_empty : {E : Type 0} (table : List Row) (xs : List Piece) → true ≡ (length xs == 0) → (result : Result Row E) → IfOk result (λ out. (m : ℕ) → HoldsMask m out ↔ (m ≡ 0)) → IfOk result (λ out. (m : ℕ) → HoldsMask m out ↔ Unions (HasMask table) xs m)
-unions_empty table [] h result p = p
-unions_empty table (x ∷ xs) h result p = absurd (let z : suc (length xs) ≡ 0 = eqb-true (suc (length xs)) 0 (sym h) in omega arith)
-
-pub unions_lack : (table : List Row) (xs : List Piece) (d : Piece) → false ≡ (length xs == 0) → ((m : ℕ) → ¬ PieceIs (HasMask table) (get_or xs 0 d) m) → (out : Row) → out ≡ [] → (m : ℕ) → HoldsMask m out ↔ Unions (HasMask table) xs m
-unions_lack table [] d h n out e m = absurd (let z : false ≡ true = h in cc)
-unions_lack table (x ∷ xs) d h n out e m = (λ k. absurd (subst (HoldsMask m) e k), λ u. absurd (n u.part u.first))
 
 pub unions_more : {E : Type 0} (table : List Row) (xs : List Piece) (d : Piece) → false ≡ (length xs == 0) → (others view : Row) → view ≡ others → ((r : ℕ) → HoldsMask r others ↔ Unions (HasMask table) (take (length xs - 1) (drop 1 xs)) r) → (result : Result Row E) → IfOk result (λ out. (m : ℕ) → HoldsMask m out ↔ JoinsPiece table (get_or xs 0 d) view m) → IfOk result (λ out. (m : ℕ) → HoldsMask m out ↔ Unions (HasMask table) xs m)
 unions_more table [] d h others view v b result p = absurd (let z : false ≡ true = h in cc)

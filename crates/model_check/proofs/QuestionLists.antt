@@ -30,8 +30,6 @@ question_within (x ∷ qs) zero p vs i = omega arith
 question_within (x ∷ qs) (suc q) p vs i = let r = question_within qs q p vs i in omega arith
 
 module _ (ds : List Definition) (h : Cells) (ns : List ℕ) where
-  pub start_grounded : (qs : List Question) (rules : List GroundRule) → rules ≡ [] → IsGrounded ds h ns qs rules 0
-  start_grounded qs rules e = record { sound = subst (Each (IsRule ds h ns qs)) (sym e) tt; complete = λ q p vs l i. absurd (omega arith) }
 
   rule_kept : (qs qs' : List Question) → Extends qs qs' → (r : GroundRule) → IsRule ds h ns qs r → IsRule ds h ns qs' r
   rule_kept qs qs' x r k = record {
@@ -73,12 +71,6 @@ module _ (ds : List Definition) (h : Cells) (ns : List ℕ) where
             subst (λ y. IsAnswered ds h ns qs' rules' y u us) e (answered_same qs' rules' head p u vs us same.0 same.1 (record { has = k.has }))
       ]
 
-  pub all_grounded : (qs : List Question) (rules : List GroundRule) (done : ℕ) → Covers ns h → IsHeap h → IsGrounded ds h ns qs rules done → length qs ≤ done → Grounds ds h ns qs rules
-  all_grounded qs rules done c k g l = record {
-    covers = c;
-    heap = k;
-    sound = g.sound;
-    complete = λ q p vs i. g.complete q p vs (let w : q < length qs = question_within qs q p vs i in omega arith) i;
   }
 
 -- one more question, as the code has it

@@ -150,9 +150,6 @@ module _ (ds : List Definition) (h : Cells) (ns : List ℕ) (qs : List Question)
       let w = one_stage ds s e a.spatial h y in
       (λ _. w.0, (e, (f.pure, w.1)))
 
-  pub satisfied_fits : (s : Stack) (a : SymbolicHeap) → Satisfies ds s h a → (e : Stack) × Fits h s e a
-  satisfied_fits s a x = (x.1.0, holds_fits (λ k. at_stage ds (x.0 k)) s x.1.0 a h h (inside_all h) x.1.1)
-
   pub satisfied_unions : (s e : Stack) (a : SymbolicHeap) (ys : List Piece) → IsOnly h s e a → PiecesFit ns qs s e a.spatial ys → Satisfies ds s h a → Unions (derived rules) ys (mask_of ns h)
   satisfied_unions s e a ys k z x =
       let o = x.1.0 in

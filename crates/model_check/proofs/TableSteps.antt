@@ -159,42 +159,13 @@ module _ (rules : List GroundRule) (i : ℕ) (r : GroundRule) (s : slice_get rul
         by true e = settled_same (same (sym (eqb-true before after e)))
         by false e = settled_grown (let n : before ≢ after = eqb-false before after e in omega arith) b h w
 
-pub before_after : (applied applied' : List ℕ) (i before after : ℕ) → applied' ≡ slice_set applied i before → before ≤ after → AreBefore applied before → AreBefore applied' after
-before_after applied applied' i before after ae le b j = subst (λ ts. slice_index ts j ≤ after) (sym ae) (by applied i j b)
-  where
-    by : (xs : List ℕ) (k n : ℕ) → AreBefore xs before → slice_index (slice_set xs k before) n ≤ after
-    by [] k n b = let z : slice_index [] n ≤ before = b n in omega arith
-    by (x ∷ xs) zero zero b = le
-    by (x ∷ xs) zero (suc n) b = let z : slice_index xs n ≤ before = b (suc n) in omega arith
-    by (x ∷ xs) (suc k) zero b = let z : x ≤ before = b 0 in omega arith
-    by (x ∷ xs) (suc k) (suc n) b = by xs k n (λ m. b (suc m))
-
 -- ---- rounds, from the last rule to the first
 
 -- each rule from this place on is closed
 abbrev pub AreClosedFrom : List Row → ℕ → List GroundRule → Type 0
 AreClosedFrom table from rules = (i : ℕ) (r : GroundRule) → from ≤ i → slice_get rules i ≡ Some r → IsClosed table r
 
-pub closed_from_zero : (table : List Row) (rules : List GroundRule) → AreClosedFrom table 0 rules → AreClosed table rules
-closed_from_zero table [] k = tt
-closed_from_zero table (r ∷ rules) k = (k 0 r (omega arith) refl, closed_from_zero table rules (λ i x l e. k (suc i) x (omega arith) e))
-
-pub closed_step : (table : List Row) (rules : List GroundRule) (i from : ℕ) → from ≡ i + 1 → AreClosedFrom table from rules → ((r : GroundRule) → slice_get rules i ≡ Some r → IsClosed table r) → AreClosedFrom table i rules
-closed_step table rules i from f k c j x l e = elim (cases_eq j i) as (λ z. IsClosed table x) [
-  | inl y ↦ c x (subst (λ n. slice_get rules n ≡ Some x) y e)
-  | inr n ↦ k j x (omega arith) e
 ]
-
-zero_at : (n i : ℕ) → slice_index (replicate n 0) i ≡ 0
-zero_at zero i = refl
-zero_at (suc n) zero = refl
-zero_at (suc n) (suc i) = zero_at n i
-
-pub none_settled : (table : List Row) (grown applied : List ℕ) (rules : List GroundRule) (n : ℕ) → applied ≡ replicate n 0 → AreSettled table grown applied rules
-none_settled table grown applied rules n e i r s f = absurd (let z : slice_index applied i ≡ 0 = ap (λ ts. slice_index ts i) e ∙ zero_at n i in let p : 0 < slice_index applied i = f.0 in omega arith)
-
-pub none_before : (applied : List ℕ) (n now : ℕ) → applied ≡ replicate n 0 → AreBefore applied now
-none_before applied n now e i = let z : slice_index applied i ≡ 0 = ap (λ ts. slice_index ts i) e ∙ zero_at n i in omega arith
 
 pub row_added_at : (t : List Row) (h mask : ℕ) (old new : Row) (b : Bool) → h < length t → old ≡ get_or t h old → Added old new mask b → AddsMask h mask t (slice_set t h new)
 row_added_at t h mask old new b l e a = row_added t h mask old new b l (subst (λ x. Added x new mask b) e a)

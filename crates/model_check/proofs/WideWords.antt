@@ -98,9 +98,6 @@ no_words : (ws : List ℕ) → length ws ≤ 0 → ws ≡ []
 no_words [] h = refl
 no_words (w ∷ ws) h = absurd (omega arith)
 
-or_zero_zero : bit_or 0 0 ≡ 0
-or_zero_zero = refl
-
 pub number_or : (k : ℕ) (xs ys : List ℕ) → IsNormal xs → IsNormal ys → length xs ≤ k → length ys ≤ k → number (or_words k xs ys) ≡ bit_or (number xs) (number ys)
 number_or zero xs ys n m h l = sym (ap (λ zs. bit_or (number zs) (number ys)) (no_words xs h) ∙ ap (λ zs. bit_or 0 (number zs)) (no_words ys l))
 number_or (suc k) xs ys n m h l =

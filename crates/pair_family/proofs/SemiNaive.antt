@@ -8,41 +8,6 @@ use Rattle.pair_family.specs.Combination.{Choice, next}
 use Rattle.pair_family.specs.Family.{PairFamily, IsChosen, CaseGives}
 use Rattle.pair_family.specs.States.{Families, next_families, IsChosenBy, GivesBy}
 
--- old before place j, new at it, all after it
-abbrev pub pass : Families → Families → Families → ℕ → Families
-pass old new all zero zero = new 0
-pass old new all zero (suc k) = all (suc k)
-pass old new all (suc j) zero = old 0
-pass old new all (suc j) (suc k) = pass (next_families old) (next_families new) (next_families all) j k
-
-abbrev pub WithinFamilies : Families → Families → Type 0
-WithinFamilies Fs Gs = (i p : ℕ) (b : BasePair) → Fs i p b → Gs i p b
-
-pub chosen_by_within : (Fs Gs : Families) → WithinFamilies Fs Gs → (bs : Choice) (xs : List Spatial) → IsChosenBy Fs bs xs → IsChosenBy Gs bs xs
-chosen_by_within Fs Gs w bs [] c = tt
-chosen_by_within Fs Gs w bs (Cell t ts ∷ xs) c = (tt, chosen_by_within (next_families Fs) (next_families Gs) (λ i. w (suc i)) (next bs) xs c.1)
-chosen_by_within Fs Gs w bs (Pred p ts ∷ xs) c = (w 0 p (bs 0) c.0, chosen_by_within (next_families Fs) (next_families Gs) (λ i. w (suc i)) (next bs) xs c.1)
-
-pub gives_by_within : (Fs Gs : Families) → WithinFamilies Fs Gs → (k : ℕ) (b : BasePair) (a : SymbolicHeap) → GivesBy Fs k b a → GivesBy Gs k b a
-gives_by_within Fs Gs w k b a c = record { chosen = c.chosen; from_families = chosen_by_within Fs Gs w c.chosen a.spatial c.from_families; consistent = c.consistent; projected = c.projected }
-
--- a choice is old everywhere, or one of the passes
-pub old_or_pass : (old new all : Families) → ((i p : ℕ) (b : BasePair) → all i p b → old i p b ⊎ new i p b) → (bs : Choice) (xs : List Spatial) → IsChosenBy all bs xs → IsChosenBy old bs xs ⊎ ((j : ℕ) × IsChosenBy (pass old new all j) bs xs)
-old_or_pass old new all cases bs [] c = inl tt
-old_or_pass old new all cases bs (Cell t ts ∷ xs) c =
-    elim (old_or_pass (next_families old) (next_families new) (next_families all) (λ i. cases (suc i)) (next bs) xs c.1) [
-      | inl o ↦ inl (tt, o)
-      | inr r ↦ inr (suc r.0, (tt, r.1))
-    ]
-old_or_pass old new all cases bs (Pred p ts ∷ xs) c =
-    elim (cases 0 p (bs 0) c.0) [
-      | inr n ↦ inr (0, (n, c.1))
-      | inl o ↦ elim (old_or_pass (next_families old) (next_families new) (next_families all) (λ i. cases (suc i)) (next bs) xs c.1) [
-        | inl rest ↦ inl (o, rest)
-        | inr r ↦ inr (suc r.0, (o, r.1))
-      ]
-    ]
-
 -- one family at all places
 pub chosen_by : (F : PairFamily) (bs : Choice) (xs : List Spatial) → IsChosen F bs xs → IsChosenBy (λ k. F) bs xs
 chosen_by F bs [] c = tt

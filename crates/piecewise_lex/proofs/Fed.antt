@@ -68,9 +68,6 @@ told-tokens ts (Err e) = ap told (with_tokens-err ts e)
 
 -- ---- the law of one call
 
-abbrev parts_of : List ℕ → Place → Bool → Option LexFault → Parts
-parts_of w p going met = record { waiting = w; place = p; comment = going; met = met }
-
 -- the parts after a call that was answered Ok
 pub fed : (old new : Parts) (piece : List ℕ) (ts : List Placed) → old.met ≡ None → new.met ≡ None → new.waiting ≡ waiting_in old.comment (old.waiting ++ piece) → new.comment ≡ comment_after old.comment (old.waiting ++ piece) → IsTaken old.place old.comment (old.waiting ++ piece) ts new.place
     → IsFed old (old.waiting ++ piece) new ts

@@ -27,12 +27,6 @@ module _ (a b : Reading) (text : List ℕ) (t : Taken) (xs : List Placed) (h : H
   pub one-more : (token : Token) → t.token ≡ Some token → HasTaken a (xs ++ placed token ∷ []) (after t)
   one-more token is = subst (λ (o : Option Token). HasTaken a (xs ++ listed o) (after t)) is (taken-more a b (after t) xs (listed t.token) h step)
 
-  pub short-one : (token : Token) → t.token ≡ Some token → IsShort token
-  short-one token is = (subst (IsNearer text t) is nearer).0
-
-  pub fewer-left : (token : Token) → t.token ≡ Some token → length (chars t.rest.now) < length (chars text)
-  fewer-left token is = (subst (IsNearer text t) is nearer).1
-
   pub lexeme-one : (token : Token) → t.token ≡ Some token → is_lexeme (word token) ≡ true
   lexeme-one token is = (subst (IsNearer text t) is nearer).3
 

@@ -100,21 +100,6 @@ longer waiting piece tail bytes text known new h behind joined same size cut goe
       size = omega (arith, valid, len, size);
     }
 
--- all the bytes that wait, and the run among them
-pub of-front : (waits tail waiting : List ℕ) (known : Known) → IsUtf8 waits → known.len ≡ length waits → IsRun known.run (chars waits) → waiting ≡ waits ++ tail → IsKnownRun false waiting known
-of-front waits tail waiting known utf8 len run is =
-    let front : take known.len waiting ≡ waits = ap (take known.len) is ∙ take_at waits tail known.len (sym len) in
-    record {
-      solid = refl;
-      within = omega (arith, len, ap length is, length-append waits tail);
-      utf8 = subst IsUtf8 (sym front) utf8;
-      run = subst (IsRun known.run) (sym (ap chars front)) run;
-    }
-
-pub known-solid : (comment : Bool) (bytes : List ℕ) (known : Option Known) → IsKnown comment bytes known → IsKnown false bytes known
-known-solid comment bytes None h = tt
-known-solid comment bytes (Some known) h = record { solid = refl; within = h.within; utf8 = h.utf8; run = h.run }
-
 pub known-comment : (comment : Bool) (bytes : List ℕ) (known : Option Known) → IsKnown comment bytes known → is_some known ≡ true → comment ≡ false
 known-comment comment bytes None h some = absurd cc
 known-comment comment bytes (Some known) h some = h.solid

@@ -31,14 +31,6 @@ use Rattle.cyc_lex.proofs.Lexed.{Found}
 use Rattle.piecewise_lex.proofs.Carrying.{then_tokens}
 use Rattle.piecewise_lex.proofs.Extending.{all_chars, valid-parts, bytes-parts, taken-tokens, waiting-cut, taken-bad, bad-tokens, place_behind}
 
-pub text-of-front : (p : Place) (going : Bool) (text tail : List ℕ) (f : Front) (t : Batch) → IsFront (reading p going text) f → map owned t.tokens.items ≡ map owned f.tokens.items → t.place ≡ f.place → t.comment ≡ f.comment → t.waiting.items ≡ f.waits.now ++ tail → IsKnown t.comment t.waiting.items t.known
-    → IsOfText p going (chars text) tail t
-text-of-front p going text tail f t h tokens place comment waiting known = record {
-  tokens = h.tokens ∙ ap (λ ts. Ok ts) (sym tokens);
-  place = place ∙ h.place;
-  comment = comment ∙ h.comment;
-  waiting = waiting ∙ ap (λ (w : List ℕ). w ++ tail) h.waits;
-  known = known;
 }
 
 stops-then : (e : Stop) (a b : Found) → Stops e a → Stops e (then_tokens a b)
@@ -122,17 +114,6 @@ faulty-parts old new piece (faults.LongName o l c) unmet met h = record { met = 
 pub fault-parts : (old new : Parts) (piece : List ℕ) (f : LexFault) → old.met ≡ None → new.met ≡ Some f → IsToldOf f (tokens_from old.place old.comment (taken_in old.comment (old.waiting ++ piece)))
     → Feeds old (old.waiting ++ piece) new (Err f) × KeepsLaw old piece new (Err f)
 fault-parts old new piece f unmet met h = let a = faulty-parts old new piece f unmet met h in (a, keeps-fault old new piece f a)
-
--- the same, where one was met before
-again-faulty : (old new : Parts) (piece : List ℕ) (f : LexFault) → old.met ≡ Some f → new ≡ old → Feeds old (old.waiting ++ piece) new (Err f)
-again-faulty old new piece faults.OutOfMemory met is = (ap (λ (s : Parts). s.met) is ∙ met, inr met)
-again-faulty old new piece (faults.BadByte o l c) met is = record { met = ap (λ (s : Parts). s.met) is ∙ met; first = inl met }
-again-faulty old new piece (faults.BadUtf8 o l c) met is = record { met = ap (λ (s : Parts). s.met) is ∙ met; first = inl met }
-again-faulty old new piece (faults.LongNumber o l c) met is = record { met = ap (λ (s : Parts). s.met) is ∙ met; first = inl met }
-again-faulty old new piece (faults.LongName o l c) met is = record { met = ap (λ (s : Parts). s.met) is ∙ met; first = inl met }
-
-pub again-parts : (old new : Parts) (piece : List ℕ) (f : LexFault) → old.met ≡ Some f → new ≡ old → Feeds old (old.waiting ++ piece) new (Err f) × KeepsLaw old piece new (Err f)
-again-parts old new piece f met is = let a = again-faulty old new piece f met is in (a, keeps-fault old new piece f a)
 
 -- the rest of a text
 pub rest-all : (p : Place) (going : Bool) (bytes text : List ℕ) (whole : Bool) (r : Result (Vec OwnedToken) LexFault) → chars text ≡ valid_chars bytes → whole ≡ (utf8_valid_len bytes == length bytes) → TakesAll p going whole (chars text) r → TakesRest p going bytes r

@@ -167,11 +167,6 @@ store_good count (terms.Univ x) n u h p q b c k =
     none_later (variable_flaw k x) _ (variable_good x (omega arith) k) (none_later (field_flaw (k + 3) n) (operand_flaw variable_flaw variable_span (k + 3 + 2) (operand_tree u)) (field_good n h (k + 3)) (operand_good u q c (k + 3 + 2)))
 store_good count (terms.Exist x) n u h p q b c k = absurd p
 
-store_goes_on : (t : Term) (k : ℕ) (u : Term) → IsUniversal t → goes_on (command_tree (commands.Store t k u)) ≡ true
-store_goes_on terms.Nil k u p = refl
-store_goes_on (terms.Univ x) k u p = refl
-store_goes_on (terms.Exist x) k u p = absurd p
-
 module _ (count : ℕ) (most : count ≤ 4096) where
   jump_good : (j : ℕ) → IsLineOf count j → (k : ℕ) → jump_flaw count k j ≡ None
   jump_good j line k =

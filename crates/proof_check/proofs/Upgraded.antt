@@ -129,7 +129,7 @@ module _ (most : ℕ) (nodes : List Node) (few : (u : ℕ) (node : Node) → sli
 few_nodes : (f : ProofFile) (u : ℕ) (node : Node) → slice_get (nodes_of f.nodes) u ≡ Some node → list_all (is_short_heap f.defs.most) (heaps_of node.judgement) ≡ true
 few_nodes f u node at =
     let m = mapped_at node_of f.nodes u node at in
-    let here = node_is_short_heap f u m.from m.at in
+    let here = node_is_few f u m.from m.at in
     subst (λ (n : ℕ). list_all (is_short_heap n) (heaps_of node.judgement) ≡ true) (sym f.limit) (subst (λ (n : Node). list_all (is_short_heap (most_spatial f.version)) (heaps_of n.judgement) ≡ true) m.is here)
 
 module _ (f g : ProofFile) (up : IsUpgrade f g) where

@@ -97,9 +97,3 @@ whole-definition = refl
 whole-line_or_node : (v : Version) → kept_line_or_node All v ≡ line_or_node v
 unfolding line_or_node kept_line_or_node
 whole-line_or_node v = λ i. alt (is_one commands.line_word) (commands.line v variable) (whole-node i)
-
-pub whole-statement : (p : Part) → kept_statement All p ≡ statement_of p
-whole-statement First = refl
-whole-statement (Preds v) = λ i. alt (is_one pred_word) (whole-definition i) (whole-line_or_node v i)
-whole-statement (Lines v) = whole-line_or_node v
-whole-statement Nodes = λ i. alt (is_one node_word) (whole-node i) last_statement

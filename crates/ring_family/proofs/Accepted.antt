@@ -36,9 +36,6 @@ ring_root (suc n) root h = some_judgement _ root h
 
 -- ---- the nodes and the links
 
-pub ring_size : (k : ℕ) → length (ring_nodes k) ≡ 8 * k + 1
-ring_size k = blocks_long (ring_block k) (ring_bud k) (λ j. refl) 0 k
-
 module _ (is_link : Reason → Bool) (step : (rule : Rule) → is_link (Step rule) ≡ false) (back : (link : Link) → is_link (Back link) ≡ true) where
   abbrev links : List FileNode → ℕ
   links ns = count_by (λ (n : FileNode). is_link n.reason) ns

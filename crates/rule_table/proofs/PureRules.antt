@@ -45,7 +45,3 @@ split_sound ds lines j t u stages premises s h o = by (nat_eq (value s o.0 t) (v
         by_pures ds lines j ((antecedent j).pure ++ Eq t u ∷ []) stages premises.0 s h o (each_append (PureHolds s o.0) (antecedent j).pure (Eq t u ∷ []) o.1.0 ((Decides-eqb _ _).0 q, tt))
     by false q =
         by_pures ds lines j ((antecedent j).pure ++ Neq t u ∷ []) stages premises.1.0 s h o (each_append (PureHolds s o.0) (antecedent j).pure (Neq t u ∷ []) o.1.0 ((λ e. let d = (Decides-eqb _ _).1 e in cc), tt))
-
--- one kind of Absurd: a disequation of a term with itself
-pub absurd_sound : (ds : List Definition) (lines : List Command) (j : Judgement) (k : ℕ) (t : Term) → slice_get (antecedent j).pure k ≡ Some (Neq t t) → IsLocallySound ds lines j []
-absurd_sound ds lines j k t at stages none s h o = absurd (each_at (PureHolds s o.0) (antecedent j).pure k (Neq t t) at o.1.0 refl)

@@ -56,27 +56,3 @@ pub value_replaced : (s e : Stack) (v : ℕ) (u : Term) → value s e u ≡ slic
 value_replaced s e v u same Nil q = refl
 value_replaced s e v u same (Exist n) q = refl
 value_replaced s e v u same (Univ n) q = one_pair (nat_eq n v) s e n v u refl same
-
--- an equation between a variable and a term, either way round
-abbrev pub Equates : ℕ → Term → Pure → Type 0
-Equates v u x = (x ≡ Eq (Univ v) u) ⊎ (x ≡ Eq u (Univ v))
-
-equated : (s e : Stack) (v : ℕ) (u : Term) (x : Pure) → Equates v u x → PureHolds s e x → value s e u ≡ slice_index s v
-equated s e v u x (inl q) h = sym (subst (PureHolds s e) q h)
-equated s e v u x (inr q) h = subst (PureHolds s e) q h
-
-abbrev pub rewritten : ℕ → ℕ → Term → SymbolicHeap → SymbolicHeap
-rewritten k v u a = apply_heap ((v, u) ∷ []) (record { pure = without k a.pure; spatial = a.spatial })
-
-pub rewrite_sound : (ds : List Definition) (lines : List Command) (a : SymbolicHeap) (bs : List SymbolicHeap) (k v : ℕ) (u : Term) (x : Pure) → slice_get a.pure k ≡ Some x → Equates v u x → IsUniversal u → IsLocallySound ds lines (Entail a bs) (record { judgement = Entail (rewritten k v u a) (map (apply_heap ((v, u) ∷ [])) bs); pairs = same_pairs a.spatial } ∷ [])
-rewrite_sound ds lines a bs k v u x at equates universal stages premises s h o =
-    let same = equated s o.0 v u x equates (each_at (PureHolds s o.0) a.pure k x at o.1.0) in
-    let a' : SymbolicHeap = record { pure = without k a.pure; spatial = a.spatial } in
-    let smaller : Holds (λ m. at_stage ds (stages m)) s o.0 a' h = (Each-without (PureHolds s o.0) a.pure k o.1.0, o.1.1) in
-    let moved : Holds (λ m. at_stage ds (stages m)) s o.0 (rewritten k v u a) h =
-    back_along (holds_same AnyTerm (apply_term ((v, u) ∷ [])) s o.0 s o.0 (value_replaced s o.0 v u same) (λ m. at_stage ds (stages m)) a' (any_heap a') h) smaller in
-    let r = premises.0 stages (pairs_follow (λ m. m) stages 0 a.spatial) s h (o.0, moved) in
-    one_unmap (Satisfies ds s h) (Satisfies ds s h) (apply_heap ((v, u) ∷ [])) (λ b t.
-    let e' = t.1.0 in
-    let same' : value s e' u ≡ slice_index s v = value_universal s e' o.0 u universal ∙ same in
-    (t.0, (e', along (holds_same AnyTerm (apply_term ((v, u) ∷ [])) s e' s e' (value_replaced s e' v u same') (λ m. at_stage ds (t.0 m)) b (any_heap b) h) t.1.1))) bs r

@@ -79,9 +79,6 @@ leads_in table k (Pred p ts) xs b d l = one_in (Says' table k (Pred p ts) xs d b
 one_change : {X : Type 0} (P Q : X → Type 0) (xs : List X) → ((x : X) → IsMember x xs → P x → Q x) → OneOf P xs → OneOf Q xs
 one_change P Q xs f o = let r = one_out P xs o in one_in Q xs r.0 r.1 (f r.0 r.1 r.2)
 
-abbrev pub Steps : ℕ → List ℕ → List ℕ → ℕ → List Term → List BasePair → List BasePair → List BasePair → Type 0
-Steps k numbers' after n terms pairs states next = Grows [] next (λ d. OneOf (λ b. OneOf (Gives numbers' b (places_in numbers' terms) (count_from 0 n) d) pairs) states)
-
 pub step_leads : (table : Table) (k : ℕ) (x : Spatial) (xs : List Spatial) (states next : List BasePair) → Each (IsWithin (suc (length (kept_terms k (x ∷ xs))))) states → Grows [] next (λ d. OneOf (λ b. OneOf (Gives' table k x xs d b) (pairs_for table cell_pair_alone x)) states) → (d : BasePair) → IsMember d next ↔ OneOf (Leads (in_table table) (frames_of k (x ∷ xs) 0) (frames_of k (x ∷ xs) 1) x d) states
 step_leads table k x xs states next w g d =
     let W = λ (b : BasePair) (m : IsMember b states). each_at (IsWithin (suc (length (kept_terms k (x ∷ xs))))) states b w m in

@@ -26,14 +26,3 @@ module _ {S : Type 0} (keys : S → List BasePair) where
   pub table_added : (rows : List S) (p : ℕ) (old new : S) (k : BasePair) (b : Bool) → p < length rows → get_or rows p old ≡ old → IsAdded (keys old) (keys new) k b → IsAddedTo (map keys rows) (map keys (slice_set rows p new)) p k b
   table_added rows p old new k true l e a = ((λ m. a.0 (subst (IsMember k) (row_at rows p old l e) m)), row_new rows p old new k l e a.1)
   table_added rows p old new k false l e a = (subst (IsMember k) (sym (row_at rows p old l e)) a.0, row_same rows p old new l e a.1)
-
-pub rows_push : (T : Table) (i : ℕ) → T ≡ replicate i [] → T ++ ([] ∷ []) ≡ replicate (i + 1) []
-rows_push T i e = ap (λ z. z ++ ([] ∷ [])) e ∙ (replicated i ∙ (let s : suc i ≡ i + 1 = omega arith in ap (λ n. replicate n []) s))
-  where
-    replicated : (i : ℕ) → replicate {A = List BasePair} i [] ++ ([] ∷ []) ≡ replicate (suc i) []
-    replicated zero = refl
-    replicated (suc i) = ap (λ z. [] ∷ z) (replicated i)
-
-pub map_push : {S : Type 0} (keys : S → List BasePair) (rows : List S) (s : S) → keys s ≡ [] → map keys (rows ++ (s ∷ [])) ≡ map keys rows ++ ([] ∷ [])
-map_push keys [] s e = ap (λ z. z ∷ []) e
-map_push keys (r ∷ rows) s e = ap (λ z. keys r ∷ z) (map_push keys rows s e)

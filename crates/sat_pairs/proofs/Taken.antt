@@ -78,9 +78,6 @@ module _ (ds : List Definition) (most : ℕ) (T : Table) (p : ℕ) (k : BasePair
 pub count_more : (T : Table) (p : ℕ) (k : BasePair) (n : ℕ) → p < length T → n ≡ total T → n + 1 ≡ total (with_pair T p k)
 count_more T p k n l e = let a = with_total T p k l in omega arith
 
-pub grown_same : (T : Table) → IsGrown T T
-grown_same T = record { within = λ q b m. m; more = omega arith; same = λ e. refl }
-
 pub grown_then : (A B C : Table) → IsGrown A B → IsGrown B C → IsGrown A C
 grown_then A B C f g = record {
   within = λ q b m. g.within q b (f.within q b m);
@@ -166,11 +163,6 @@ at_member (y ∷ xs) (suc i) x l e = inr (at_member xs i x (omega arith) e)
 -- what a case gives with the family is in the family
 pub case_sound : (ds : List Definition) (p : ℕ) (k : ℕ) (a : SymbolicHeap) → k ≡ arity_of ds p → IsMember a (cases_of ds p) → (b : BasePair) → CaseGives (InFamily ds) k b a → InFamily ds p b
 case_sound ds p k a e m b g = family_closed ds p b (one_in (CaseGives (InFamily ds) (arity_of ds p) b) (cases_of ds p) a m (subst (λ z. CaseGives (InFamily ds) z b a) e g))
-
-pub arity_there : (ds : List Definition) (p : ℕ) (d : Definition) → p < length ds → get_or ds p d ≡ d → d.arity ≡ arity_of ds p
-arity_there [] p d l e = absurd (omega arith)
-arity_there (x ∷ ds) zero d l e = ap (λ z. z.arity) (sym e)
-arity_there (x ∷ ds) (suc p) d l e = arity_there ds p d (omega arith) e
 
 no_cases : (ds : List Definition) (p : ℕ) (P : SymbolicHeap → Type 0) → length ds ≤ p → OneOf P (cases_of ds p) → ⊥
 no_cases [] p P l o = o

@@ -43,16 +43,6 @@ is_seen nodes v view node seen at =
     let same : seen.node ≡ node = cc in
     (seen.judgement ∙ ap (λ (n : GraphNode). n.judgement) same, seen.reason ∙ ap (λ (n : GraphNode). n.reason) same)
 
-pub entails_same : (nodes : List GraphNode) (v : ℕ) (view : NodeView) (node : GraphNode) → IsViewed nodes v view → slice_get nodes v ≡ Some node → (is_entailment (judgement_of view.judgement.now) && has_rule is_unfold (option_map reason_of (option_copied view.reason))) ≡ (is_entailment node.judgement && has_rule is_unfold node.reason)
-entails_same nodes v view node seen at =
-    let s = is_seen nodes v view node seen at in
-    λ k. is_entailment (s.0 k) && has_rule is_unfold (s.1 k)
-
-pub works_there : (i : ℕ) (nodes : List GraphNode) (v : ℕ) (view : NodeView) (node : GraphNode) → IsViewed nodes v view → slice_get nodes v ≡ Some node → (is_on_line i (judgement_of view.judgement.now) && has_rule is_work (option_map reason_of (option_copied view.reason))) ≡ works_on i node
-works_there i nodes v view node seen at =
-    let s = is_seen nodes v view node seen at in
-    λ k. is_on_line i (s.0 k) && has_rule is_work (s.1 k)
-
 -- what the node at place v gives is given
 pub lower_given : {X Y : Type 0} (f : ℕ → X → List Y) (xs : List X) (n v : ℕ) (items items' all : List Y) → v < n → n < length xs → ((x : X) → slice_get xs v ≡ Some x → items' ≡ items ++ f v x) → items ++ each_from f v (drop v (take n xs)) ≡ all → items' ++ each_from f (v + 1) (drop (v + 1) (take n xs)) ≡ all
 lower_given f xs n v items items' all l m given so_far =

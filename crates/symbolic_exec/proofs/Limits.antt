@@ -26,25 +26,11 @@ one_true : (p : Bool) → (p && true) && true ≡ p
 one_true true = refl
 one_true false = refl
 
-two_true : (p : Bool) → (p && true) && ((p && true) && true) ≡ p
-two_true true = refl
-two_true false = refl
-
 pub one_short : (most i : ℕ) (a b : SymbolicHeap) → each_heap (is_short most) (one (at_line i a b)) ≡ is_short most b
 one_short most i a b = one_true (is_short most b)
 
 pub sizes : (most p s : ℕ) (a b : SymbolicHeap) → length b.pure ≡ length a.pure + p → length b.spatial ≡ length a.spatial + s → is_short most b ≡ has_room_for most p s a
 sizes most p s a b e f = λ i. nat_le (e i) 64 && nat_le (f i) most
-
-atom_sizes : (most : ℕ) (a : SymbolicHeap) (y : Pure) → is_short most (with_atom a y) ≡ has_room_for most 1 0 a
-atom_sizes most a y =
-    let l = length-append a.pure (y ∷ []) in sizes most 1 0 a (with_atom a y) (omega arith) (omega arith)
-
-pub two_short : (most i j : ℕ) (a : SymbolicHeap) (y z : Pure) → each_heap (is_short most) (two (at_line i a (with_atom a y)) (at_line j a (with_atom a z))) ≡ has_room_for most 1 0 a
-two_short most i j a y z =
-    let e = atom_sizes most a y in
-    let f = atom_sizes most a z in
-    (λ q. (e q && true) && ((f q && true) && true)) ∙ two_true (has_room_for most 1 0 a)
 
 pub set_short : (most i x n : ℕ) (a : SymbolicHeap) (y : Pure) → each_heap (is_short most) (one (at_line i a (with_atom (renamed x n a) y))) ≡ has_room_for most 1 0 a
 set_short most i x n a y =
@@ -61,10 +47,6 @@ new_short most i x n a us =
     one_short most i a (with_cell (renamed x n a) x us) ∙ sizes most 0 1 a (with_cell (renamed x n a) x us) (omega arith) (omega arith)
 
 -- ---- the answer from premises within the sizes
-
--- the premises are the table's
-pub exactly : (most : ℕ) (r : Result (Vec Premise Global) RuleError) (ps xs : List Premise) → xs ≡ ps → each_heap (is_short most) ps ≡ true → IsAnswer r (needs (each_heap has_numbers xs) NoFreshVariable (Ok xs)) → IsAnswer r (limited most ps)
-exactly most r ps xs made short is = limited_changed most r ps ps xs made short refl (λ _. refl) is
 
 -- the only premise is the table's where no number passes the greatest, and passes it where the table's does
 pub as_numbered : (most i : ℕ) (a real made : SymbolicHeap) (r : Result (Vec Premise Global) RuleError) (xs : List Premise) → xs ≡ one (at_line i a made) → each_heap (is_short most) (one (at_line i a real)) ≡ true → (heap_numbers real ≤ 65535 → made ≡ real) → (heap_numbers made ≤ 65535 → heap_numbers real ≤ 65535) → IsAnswer r (needs (each_heap has_numbers xs) NoFreshVariable (Ok xs)) → IsAnswer r (limited most (one (at_line i a real)))

@@ -72,12 +72,6 @@ program_commands lines p =
 
 -- ---- a line of the program
 
-pub line_within : (lines : List Command) → IsProgram lines → (i : ℕ) (c : Command) → counted_from_one lines i ≡ Some c → i ≤ 4096
-line_within lines p zero c at = omega arith
-line_within lines p (suc i) c at =
-    let w = slice_get_within lines i c at in
-    let few = p.few_lines in omega arith
-
 few_new : (n i : ℕ) (c : Command) → MayStandAt n i c → new_fields c ≤ 8
 few_new n i (Assign x t) m = omega arith
 few_new n i (Load x t k) m = omega arith

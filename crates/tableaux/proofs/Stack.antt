@@ -57,19 +57,6 @@ next_of xs x rest e = ap reverse e ∙ reverse-append rest (x ∷ [])
 pub begins_last : {J : Type 0} (node : ℕ) (goals : List (Goal J)) (g : Goal J) → Some g ≡ slice_get goals (length goals - 1) → begins_with node (reverse goals) ≡ nat_eq g.parent node
 begins_last node goals g h = let last = last_of goals g h in ap (begins_with node) (next_of goals g last.rest last.are)
 
--- a premise of the node is taken off
-pub one_dropped : {J : Type 0} (node : ℕ) (old new : List (Goal J)) (popped : Option (Goal J)) → begins_with node (reverse old) ≡ true → old ≡ new ++ option_to_list popped → others_of node (reverse new) ≡ others_of node (reverse old)
-one_dropped node old new None begins e = ap (λ gs. others_of node (reverse gs)) (sym (e ∙ append-nil new))
-one_dropped {J} node old new (Some g) begins e =
-    let at : reverse old ≡ g ∷ reverse new = next_of old g new e in
-    let yes' : nat_eq g.parent node ≡ true = ap (begins_with node) (sym at) ∙ begins in
-    sym (ap (others_of node) at ∙ (rw yes' refl))
-
--- none is left
-pub none_dropped : {J : Type 0} (node : ℕ) (goals : List (Goal J)) → begins_with node goals ≡ false → others_of node goals ≡ goals
-none_dropped node [] h = refl
-none_dropped node (g ∷ goals) h = rw h refl
-
 -- ---- what the code sees of the top of the stack
 
 -- the goal that is seen there is the next one
