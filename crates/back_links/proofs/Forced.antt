@@ -1,5 +1,5 @@
 -- The term that a variable's value has to equal, since an atom with the variable has a place.
-use Rattle.std.proofs.Common.{◌≡◌, ℕ, suc, ◌<◌, ◌≤◌, Bool, true, false, List, [], ◌∷◌, length, drop, get_or, ◌&&◌, ◌||◌, ◌+◌, refl, sym, ap, subst, ◌∙◌, arith, drop-cons, Option, Some, None, inl, inr}
+use Rattle.std.proofs.Common.{◌≡◌, ℕ, suc, ◌<◌, ◌≤◌, Bool, true, false, List, [], ◌∷◌, length, drop, get_or, ◌&&◌, ◌||◌, ◌+◌, refl, sym, ap, subst, ◌∙◌, arith, drop-cons, Option, Some, None}
 use Rattle.std.specs.Prelude.{nat_eq, not, slice_get, if◌then◌else◌}
 use Rattle.std.proofs.lemmas.Bool.{both_ways, and_right, not-true}
 use Rattle.std.proofs.lemmas.Bool.Decides.{Decides-eqb}

@@ -1,7 +1,6 @@
 // Whether the choices that are made so far leave a link possible.
 ghost use Rattle.std.specs.Prelude.{◌≡◌, ◌≤◌, ◌<◌, ◌||◌, length, nat_le, slice_get};
 ghost use Rattle.std.specs.Option.{option_copied};
-ghost use Rattle.heap_formula.specs.Judgements.{antecedent as antecedent_of};
 ghost use Rattle.back_links.specs.Prospects.{lookup as looked_up, known as known_term, could_equal as terms_could, could_equal_all as all_could, could_match as atoms_could, could_match_some, could_match_those as those_could, known_pure as pure_known, could_follow as pure_could, could_follow_those as those_could_follow, could_keep as could_stay, kept_variables as variables_kept, could_stand as stand_could, could_take as take_could, are_alike as alike, opposite_in as opposite_term_in, opposite as opposite_term, is_ruled_out as value_is_ruled_out, has_cover as cover_left, have_covers as covers_left};
 ghost use Rattle.back_links.specs.Searching.{MayStart, MayStartAt, MustEqual, could_match_with as could_match_atom, may_send, value_is_left, values_are_left};
 

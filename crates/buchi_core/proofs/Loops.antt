@@ -1,7 +1,7 @@
 -- One turn of the loops over places.
-use Rattle.std.proofs.Common.{◌≡◌, ℕ, suc, ◌+◌, ◌-◌, ◌<◌, List, [], ◌∷◌, ◌++◌, map, Bool, true, false, Some, slice_get, length, arith, sym, refl, ap, ◌∙◌, append_assoc, length-append, option_map, get_or}
+use Rattle.std.proofs.Common.{◌≡◌, ℕ, suc, ◌+◌, ◌-◌, ◌<◌, List, [], ◌∷◌, ◌++◌, map, Bool, true, false, Some, slice_get, length, arith, sym, refl, ap, ◌∙◌, append_assoc, option_map, get_or}
 use Rattle.std.proofs.lemmas.Bool.{cond-true, cond-false}
-use Rattle.std.proofs.lemmas.List.{length-map, map_push}
+use Rattle.std.proofs.lemmas.List.{map_push}
 use Rattle.std.proofs.lemmas.Option.{slice_get-map, slice_get_read}
 use Rattle.buchi_core.specs.Forest.{Entry as AgeEntry, is_kept, is_green, event_from, places, settled, renumbered, set_of, parent_of}
 use Rattle.buchi_core.specs.declared.entry.Entry.{Entry}

@@ -11,7 +11,7 @@ use Rattle.buchi_inclusion.specs.declared.product.Transition.{Transition}
 use Rattle.buchi_inclusion.specs.declared.decision.BadMove.{BadMove}
 use Rattle.buchi_inclusion.specs.Product.{State, Moves, Run, BadCycle}
 use Rattle.buchi_inclusion.specs.Table.{IsItem, IsTable}
-use Rattle.buchi_inclusion.specs.Decision.{IsAtLeast, IsWalk, IsNoWay, HasWay, AreLed}
+use Rattle.buchi_inclusion.specs.Decision.{IsAtLeast, IsWalk, HasWay, AreLed}
 use Rattle.buchi_inclusion.specs.BadMoves.{IsBadMove}
 use Rattle.buchi_inclusion.proofs.Runs.{over_run, each_append}
 use Rattle.buchi_inclusion.proofs.Exact.{exact, run_append}

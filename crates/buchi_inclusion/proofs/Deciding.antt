@@ -1,6 +1,6 @@
 -- Ways back are lassos that don't progress; where there is none no cycle is bad.
-use Rattle.std.proofs.Common.{◌≡◌, ℕ, ◌<◌, ◌≤◌, inl, inr, List, [], ◌∷◌, true, false, arith, Some, slice_get, length, sym, refl, ap, ◌∙◌, subst, Vec, Global, ltb, leb, ltb-true, le_refl, get_or, ◌+◌}
-use Rattle.std.proofs.lemmas.Bool.{cases_Bool, both_ways, lt-ltb, le-leb, cases_lt, cases_eq}
+use Rattle.std.proofs.Common.{◌≡◌, ℕ, ◌<◌, ◌≤◌, inl, inr, List, [], ◌∷◌, true, false, arith, Some, slice_get, length, sym, refl, ap, ◌∙◌, subst, Vec, Global, ltb, ltb-true, le_refl, get_or, ◌+◌}
+use Rattle.std.proofs.lemmas.Bool.{cases_Bool, both_ways, lt-ltb, cases_lt, cases_eq}
 use Rattle.std.proofs.lemmas.Option.{slice_get_within, slice_get_read}
 use Rattle.trace_pairs.specs.Graph.{Node, IsGraph}
 use Rattle.trace_pairs.specs.Lasso.{IsPath}
@@ -8,7 +8,7 @@ use Rattle.trace_pairs.specs.declared.lasso.Step.{Step}
 use Rattle.trace_pairs.specs.declared.reach.Visit.{Visit}
 use Rattle.buchi_core.specs.declared.event.Event.{Event}
 use Rattle.buchi_core.specs.declared.event.Event.TheVariants.{Dies, Green, Nothing}
-use Rattle.buchi_core.specs.Forest.{is_earlier, before_drop}
+use Rattle.buchi_core.specs.Forest.{before_drop}
 use Rattle.buchi_core.proofs.Drop.{event_facts}
 use Rattle.buchi_core.proofs.Lists.{get_one}
 use Rattle.buchi_inclusion.specs.declared.product.Transition.{Transition}

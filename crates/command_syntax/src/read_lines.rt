@@ -1,6 +1,6 @@
 //! Reading the lines of a program.
 
-ghost use Rattle.std.specs.Prelude.{◌≡◌, ◌++◌, ◌∷◌, [], map};
+ghost use Rattle.std.specs.Prelude.{map};
 ghost use Rattle.cyc_grammar.specs.Giving.{Gives, with_front};
 ghost use Rattle.command_syntax.specs.Grammar.{line, lines};
 ghost use Rattle.command_syntax.specs.Trees.{line_of};

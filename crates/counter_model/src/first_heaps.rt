@@ -1,9 +1,9 @@
 // The first heap with which a stack is a counter-model.
-ghost use Rattle.std.specs.Prelude.{◌≡◌, ◌≢◌, ◌↔◌, ◌⊎◌, ◌≤◌, ℕ, List, IsTrue, IfOk};
-ghost use Rattle.heap_formula.specs.Words.{Each, OneOf};
+ghost use Rattle.std.specs.Prelude.{◌≡◌, ◌↔◌, ◌⊎◌, IsTrue, IfOk};
+ghost use Rattle.heap_formula.specs.Words.{Each};
 ghost use Rattle.heap_formula.specs.Cells.{Cells as SomeHeap};
 ghost use Rattle.heap_formula.specs.Closedness.{IsUniversalHeap};
-ghost use Rattle.heap_formula.specs.Meaning.{Satisfies, SatisfiesOne};
+ghost use Rattle.heap_formula.specs.Meaning.{SatisfiesOne};
 ghost use Rattle.model_check.specs.Constructive.{IsConstructive, AreConstructive};
 ghost use Rattle.fitting_heaps.specs.Bounds.{AreAtMost, IsWithin};
 ghost use Rattle.counter_model.specs.FirstCounter.{IsCounter};

@@ -1,5 +1,5 @@
 //! Sources and sinks in memory, none of whose calls fail but for want of room.
-ghost use Rattle.std.specs.Prelude.{◌≡◌, ◌+◌, ◌-◌, ◌<◌, ◌≤◌, ◌++◌, ◌↔◌, [], length, min, take, drop, Some, OnOk, OnErr, IfOk, IsOk, IsErr, true};
+ghost use Rattle.std.specs.Prelude.{◌≡◌, ◌+◌, ◌-◌, ◌<◌, ◌≤◌, ◌++◌, ◌↔◌, [], length, min, take, drop, Some, OnOk, OnErr, IfOk, IsOk, IsErr};
 ghost use Rattle.std.specs.Io.{ReadsAtMost, WritesAtMost};
 ghost use Rattle.std.specs.Io.KnownBytes.{ReadConsumes, WriteAppends};
 ghost use Rattle.cyc_io.specs.Causes.{HasCause, risen};

@@ -1,5 +1,5 @@
 //! Readers and writers of std as sources and sinks, with a count of their faults.
-ghost use Rattle.std.specs.Prelude.{◌≡◌, None};
+ghost use Rattle.std.specs.Prelude.{◌≡◌};
 
 use crate::{Failed, Sink, Source};
 use std::io::{Read, Write};

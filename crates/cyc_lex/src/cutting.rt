@@ -1,7 +1,6 @@
 //! The tokens of a text.
 
 ghost use Rattle.std.specs.Prelude.{◌≡◌, ◌<◌, ◌^◌, ◌-◌, length, map, IfOk};
-ghost use Rattle.std.specs.Str.Lossy.{utf8_valid_len};
 ghost use Rattle.cyc_lex.specs.Lexing.{Lexes, tokens_of};
 ghost use Rattle.cyc_lex.specs.Placed.{placed};
 ghost use Rattle.cyc_lex.specs.Answer.{fault_of, Answers};

@@ -1,7 +1,7 @@
 -- Bytes that a tool is fed, one piece after the other.
 use Rattle.std.proofs.Common.{◌≡◌, ◌∙◌, ℕ, ◌+◌, ◌-◌, ◌≤◌, List, [], ◌++◌, length-append, append_assoc, append-nil, sym, subst, ap, arith, inl, inr, Option, Some, None}
 use Rattle.std.specs.Io.KnownBytes.{Consumes, IsAtEnd}
-use Rattle.std.proofs.KnownBytes.{Consumes-nil, Consumes-trans}
+use Rattle.std.proofs.KnownBytes.{Consumes-trans}
 use Rattle.cyc_io.specs.Bytes.{Came}
 use Rattle.cyc_texts.specs.Texts.{input_limit_text}
 use Rattle.cyc_runs.specs.Runs.{Answering, AnswersTold, IsAnswerOf, IsTold, input_limit}

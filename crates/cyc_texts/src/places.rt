@@ -1,5 +1,5 @@
 // The lines of answers that name a place in the input.
-ghost use Rattle.std.specs.Prelude.{◌≡◌, ◌++◌, IfOk, OnOk};
+ghost use Rattle.std.specs.Prelude.{◌≡◌, ◌++◌, IfOk};
 ghost use Rattle.cyc_texts.specs.Texts.{ill_formed_text, lexical_text, limit_text, place_text, syntax_text, token_text, unreadable_text};
 
 use crate::faults::{ill_name, limit_name};

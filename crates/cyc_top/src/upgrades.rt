@@ -1,5 +1,4 @@
 // Answers to an upgrade, by its input.
-ghost use Rattle.std.specs.Prelude.{◌≡◌};
 
 use cyc_memory::OutOfMemory;
 use cyc_runs::{Answer, Status, Tool, answer_to_fault};

@@ -1,19 +1,16 @@
 -- The effect of a reason, and none at a fault.
-use Rattle.std.proofs.Common.{◌≡◌, List, [], ◌∷◌, map, Option, Some, None, Ok, Err, refl, sym, ap, ◌∙◌}
+use Rattle.std.proofs.Common.{◌≡◌, List, Option, Some, None, Err, refl, ap}
 use Rattle.std.specs.Prelude.{slice_get}
 use Rattle.std.specs.Option.{option_map}
-use Rattle.heap_formula.specs.declared.judgements.Premise.{Premise}
 use Rattle.heap_formula.specs.declared.proof_rules.Reason.{Reason}
 use Rattle.heap_formula.specs.declared.proof_rules.Reason.TheVariants.{Step, Back}
 use Rattle.heap_formula.specs.declared.proof_rules.RuleFault.{RuleFault}
-use Rattle.heap_formula.specs.declared.proof_rules.RuleFault.TheVariants.{NoSuchNode}
 use Rattle.rule_table.specs.LinkTable.{link_fault, link_premise}
 use Rattle.rule_table.specs.RuleBook.{variables_of}
 use Rattle.node_reasons.specs.Answers.{unless_fault, link_answer, reason_answer, companion_in}
 use Rattle.search_moves.specs.Trying.{Theory}
-use Rattle.search_calculus.specs.Calculus.{OpenGoal, MadeNode, judgement_of, answered, edge_unless, edge_to, none_beside, answer_pairs, link_pairs}
-use Rattle.derivation_moves.specs.declared.effects.Effect.{Effect}
-use Rattle.derivation_moves.specs.Effects.{IsEffectBy, IsEffect}
+use Rattle.search_calculus.specs.Calculus.{OpenGoal, MadeNode, judgement_of, answered, edge_unless, edge_to, none_beside}
+use Rattle.derivation_moves.specs.Effects.{IsEffect}
 
 module _ (t : Theory) (nodes : List MadeNode) (g : OpenGoal) where
   pub no_effect : (reason : Reason) (f : RuleFault) → reason_answer t.most t.definitions t.lines g.premise.judgement reason (companion_in judgement_of nodes reason) ≡ Err f → IsEffect t nodes g reason None

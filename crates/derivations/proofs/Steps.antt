@@ -4,17 +4,13 @@ use Rattle.std.specs.Prelude.{ℕ}
 use Rattle.std.proofs.lemmas.List.{length-map}
 use Rattle.std.proofs.lemmas.Option.{same_Some}
 use Rattle.std.proofs.lemmas.List.Sums.{fold-append}
-use Rattle.derivation_search.specs.System.{after}
 use Rattle.derivation_search.specs.Stack.{front}
 use Rattle.derivation_search.proofs.Members.{front-after}
 use Rattle.tableaux.specs.Tableau.{Premise, Goal, Made, Tableau, Calculus, step, begin, replay}
-use Rattle.tableaux.proofs.Steps.{next_tableau}
 use Rattle.derivations.specs.declared.derivation.Derivation.{Derivation}
-use Rattle.derivations.specs.declared.logic.Effect.{Effect}
-use Rattle.derivations.specs.Derivations.{goals_in, reasons_in, tableau_in, about, IsInOrder, HasEffect}
+use Rattle.derivations.specs.Derivations.{goals_in, reasons_in, tableau_in, about, IsInOrder}
 use Rattle.list_facts.proofs.Parts.{split_last}
 use Rattle.tableaux.proofs.TakenBack.{WasAt, was_at}
-use Rattle.derivations.proofs.Nexts.{replayed_next}
 
 -- the last reason's goal, and what was made before it
 pub record Before {L J R : Type 0} (calculus : L → Calculus J R) (s s' : Derivation L J R) : Type 0 where

@@ -4,7 +4,7 @@ use Rattle.cyc_lex.specs.declared.fault.ReadFault.{ReadFault}
 use Rattle.cyc_runs.specs.declared.endings.Status.{Status}
 use Rattle.cyc_runs.specs.declared.endings.Status.TheVariants as status
 use Rattle.cyc_runs.specs.Faults.{IsFaultAnswer}
-use Rattle.cyc_runs.specs.Runs.{Answering, IsAnswerOf, AnswersTold, input_limit}
+use Rattle.cyc_runs.specs.Runs.{Answering, IsAnswerOf}
 use Rattle.cyc_runs.specs.Runs as runs
 use Rattle.draw_top.specs.Texts.{graph_text}
 use Rattle.proof_file.specs.declared.file.ProofFile.{ProofFile}

@@ -1,5 +1,5 @@
 //! The drawing of an input.
-ghost use Rattle.std.specs.Prelude.{◌≡◌, IfOk};
+ghost use Rattle.std.specs.Prelude.{IfOk};
 ghost use Rattle.draw_top.specs.Answers.{IsTextOf};
 
 use crate::drawing::graph_of;

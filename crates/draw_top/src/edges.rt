@@ -1,8 +1,8 @@
 //! Edges of a picture as edges of a graph.
-ghost use Rattle.std.specs.Prelude.{◌≡◌, ◌++◌, ◌∷◌, [], map, IfOk, OnOk};
+ghost use Rattle.std.specs.Prelude.{◌≡◌, ◌++◌, [], map, IfOk, OnOk};
 ghost use Rattle.draw_top.specs.Graphs.{edge_of, look_of, run_of, set_of};
 ghost use Rattle.proof_picture.specs.Arrows.{drawn_of};
-ghost use Rattle.draw_top.specs.Drawings.{arrow_edge, arrow_edges, arrow_sets, link_sets, pair_look, pair_text, pairs_runs, pairs_sets};
+ghost use Rattle.draw_top.specs.Drawings.{arrow_edges, arrow_sets, link_sets, pair_look, pair_text, pairs_runs, pairs_sets};
 
 use crate::graph::{Arrow as Edge, Attribute, Run, Style, Value};
 use crate::sets::{add_red, number, plain, set};

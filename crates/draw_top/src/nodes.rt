@@ -1,6 +1,6 @@
 //! Boxes as nodes of a graph.
-ghost use Rattle.std.specs.Prelude.{◌≡◌, ◌++◌, ◌∷◌, [], map, IfOk, OnOk};
-ghost use Rattle.draw_top.specs.Graphs.{node_of, run_of, set_of};
+ghost use Rattle.std.specs.Prelude.{◌≡◌, ◌++◌, map, IfOk, OnOk};
+ghost use Rattle.draw_top.specs.Graphs.{node_of, run_of};
 ghost use Rattle.proof_picture.specs.Pieces.{piece_of, pieces_of};
 ghost use Rattle.draw_top.specs.Drawings.{box_node, fault_runs, label_runs, part_run};
 

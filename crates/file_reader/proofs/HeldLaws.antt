@@ -1,10 +1,9 @@
 -- What a reader holds keeps what the text comes to.
-use Rattle.std.proofs.Common.{◌≡◌, ℕ, zero, suc, ◌+◌, ◌-◌, ◌^◌, ◌<◌, ◌≤◌, Bool, true, false, List, [], ◌++◌, length, Some, None, Result, Ok, Err, refl, sym, ap, subst, ◌∙◌, arith, length-append, append_assoc}
+use Rattle.std.proofs.Common.{◌≡◌, ℕ, zero, suc, ◌+◌, ◌-◌, ◌<◌, ◌≤◌, Bool, true, false, List, [], ◌++◌, length, Some, None, Err, refl, sym, ap, subst, ◌∙◌, arith, length-append, append_assoc}
 use Rattle.std.specs.Prelude.{map, drop}
 use Rattle.std.specs.Global.{Vec}
 use Rattle.std.specs.Str.{chars}
-use Rattle.std.proofs.lemmas.List.{length-map, length-drop, drop-drop, drop_at, drop-append-le, map-append}
-use Rattle.cyc_lex.specs.declared.fault.LexFault.{LexFault}
+use Rattle.std.proofs.lemmas.List.{length-map, length-drop, drop-drop, drop_at, map-append}
 use Rattle.cyc_lex.specs.declared.fault.ReadFault.{ReadFault}
 use Rattle.cyc_lex.specs.declared.fault.ReadFault.TheVariants as faults
 use Rattle.cyc_lex.specs.declared.place.Bad.{Bad}
@@ -12,7 +11,7 @@ use Rattle.cyc_lex.specs.declared.place.Place.{Place}
 use Rattle.cyc_lex.specs.declared.place.Stop.{Stop}
 use Rattle.cyc_lex.specs.declared.place.Stop.TheVariants as stops
 use Rattle.cyc_lex.specs.Answer.{fault_of}
-use Rattle.cyc_lex.specs.Lexing.{HasRoom, Stops, start, lex, comment_len, with_tokens}
+use Rattle.cyc_lex.specs.Lexing.{Stops, start, lex, comment_len, with_tokens}
 use Rattle.cyc_lex.specs.Placed.{Placed}
 use Rattle.cyc_lex.specs.Word.{Word, word_of}
 use Rattle.cyc_lex.proofs.Lexed.{with_tokens-append, with_tokens-err}
@@ -32,7 +31,7 @@ use Rattle.file_reader.specs.declared.held.Held.TheVariants as kinds
 use Rattle.file_reader.specs.declared.passing.Passed.{Passed}
 use Rattle.file_reader.specs.declared.scan.DeadToken.{DeadToken}
 use Rattle.file_reader.specs.declared.scan.Scan.{Scan}
-use Rattle.file_reader.specs.Helds.{parts_of, waiting_of, behind_bytes, IsSmall, IsAlive, IsHeld, IsKept, IsStopped}
+use Rattle.file_reader.specs.Helds.{parts_of, waiting_of, IsAlive, IsKept, IsStopped}
 use Rattle.file_reader.specs.Outcomes.{Faulty as Bears, syntax_fault}
 use Rattle.file_reader.specs.Passing.{IsPassed}
 use Rattle.file_reader.specs.Pieces.{parts, Comes, IsBad}
@@ -40,7 +39,7 @@ use Rattle.file_reader.specs.Scans.{reached_of, IsDead, HasDead, LeadsOn, Finds,
 use Rattle.file_reader.specs.Stages.{Stage, Head, Dead, Unlexed, Parts, behind, outcome}
 use Rattle.file_reader.specs.Steps.{Takes, Leads}
 use Rattle.file_reader.proofs.Beginning.{lead-none}
-use Rattle.file_reader.proofs.PieceLaws.{piece-waits, tokens-taken, bad-place, statement-comes, statement-bad, bytes-bad}
+use Rattle.file_reader.proofs.PieceLaws.{tokens-taken, bad-place, statement-comes, statement-bad, bytes-bad}
 use Rattle.file_reader.proofs.StepLaws.{head-step, head-fault-step, dead-step}
 use Rattle.file_reader.proofs.Tokens.{syntax-later}
 

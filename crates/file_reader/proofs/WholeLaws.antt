@@ -37,15 +37,12 @@ use Rattle.file_reader.specs.Steps.{Leads, tree_of, span_of}
 use Rattle.file_reader.specs.Wholes.{IsPart, IsKeptPart, kept, IsTheEnd, IsAt, LeadsFront, front_size, front_defs, IsFront, IsKeptFront, IsBegun, LeadsNodes, IsAll, IsLastLeft, found_in, AreNodes, AreKeptNodes, AreAllNodes, AreAllKept, StandsIn, IsFlawIn, IsWhole, IsAnswer}
 use Rattle.file_reader.specs.declared.whole.Whole.{Whole}
 use Rattle.file_reader.specs.declared.whole.Whole.TheVariants as wholes
-use Rattle.file_reader.specs.Outcomes.{item_fault}
 use Rattle.file_reader.proofs.Tokens.{slice-behind}
 use Rattle.cyc_lex.specs.declared.fault.ReadFault.{ReadFault}
 use Rattle.cyc_lex.specs.declared.fault.ReadFault.TheVariants as faults
 use Rattle.cyc_lex.specs.declared.place.Bad.{Bad}
 use Rattle.cyc_lex.specs.declared.place.Place.{Place}
 use Rattle.cyc_grammar.specs.Faults.{StandsAt}
-use Rattle.heap_reader.specs.declared.flaw.Item.{Item}
-use Rattle.heap_reader.specs.declared.flaw.Item.TheVariants.{Ill, Over}
 use Rattle.heap_reader.specs.declared.flaw.Flaw.{Flaw}
 use Rattle.heap_reader.specs.Told.{IsFlawTold}
 use Rattle.heap_reader.specs.Reading.{SpellsTree}

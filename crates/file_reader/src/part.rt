@@ -1,7 +1,6 @@
 //! One statement as a tree.
 
 ghost use Rattle.std.specs.Prelude.{◌≡◌, true, [], Ok, IfOk, IfSome};
-ghost use Rattle.std.proofs.Common.{inl, inr};
 ghost use Rattle.proof_statements.specs.Left.{First, Nodes, statement_of, kept_statement};
 ghost use Rattle.proof_statements.specs.Trees.{pred_or_later_of, node_or_end_of};
 ghost use Rattle.file_reader.specs.Wholes.{IsKeptPart, IsTheEnd};

@@ -1,6 +1,6 @@
 //! What the tokens of one statement come to.
 
-ghost use Rattle.std.specs.Prelude.{◌≡◌, IfOk};
+ghost use Rattle.std.specs.Prelude.{IfOk};
 ghost use Rattle.cyc_grammar.specs.Giving.{Gives};
 ghost use Rattle.file_reader.specs.Scans.{reached_of, next_read, kept_next_read, IsRefused, IsStep};
 

@@ -1,6 +1,6 @@
 //! A text that is read through as a proof file, and of whose nodes only the values are held.
 
-ghost use Rattle.std.specs.Prelude.{◌≡◌, ◌-◌, ◌≤◌, ◌<◌, ◌^◌, List, None, length, true, IfOk, IfSome};
+ghost use Rattle.std.specs.Prelude.{◌≡◌, ◌-◌, ◌≤◌, ◌<◌, ◌^◌, List, None, length, IfOk, IfSome};
 ghost use Rattle.cyc_lex.specs.Placed.{Placed};
 ghost use Rattle.file_reader.specs.Wholes.{AreAllKept, IsAt, IsAnswer, IsBegun, IsWhole, TellsEnd, TellsLast};
 

@@ -1,5 +1,5 @@
 // The values that the locals of a formula may have.
-ghost use Rattle.std.specs.Prelude.{◌≡◌, ◌++◌, ◌∷◌, [], ◌⊎◌, ℕ, List, IfOk, length};
+ghost use Rattle.std.specs.Prelude.{◌≡◌, ◌++◌, ◌∷◌, [], ◌⊎◌, ℕ, List, IfOk};
 ghost use Rattle.heap_formula.specs.Words.{OneOf};
 ghost use Rattle.list_facts.specs.Words.{IsMember};
 ghost use Rattle.fitting_heaps.specs.LocalValues.{IsNext, IsChoice, IsLonger};

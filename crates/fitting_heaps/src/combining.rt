@@ -1,5 +1,5 @@
 // Lists of heaps, and the disjoint unions of their members.
-ghost use Rattle.std.specs.Prelude.{◌≡◌, ℕ, ◌⊎◌, ◌++◌, ◌∷◌, [], IsTrue, IfOk};
+ghost use Rattle.std.specs.Prelude.{◌≡◌, ◌⊎◌, ◌++◌, ◌∷◌, [], IsTrue, IfOk};
 ghost use Rattle.heap_formula.specs.Words.{OneOf};
 ghost use Rattle.heap_formula.specs.Cells.{Cells as SomeHeap, Star};
 ghost use Rattle.fitting_heaps.specs.Bounds.{IsAmong, Unites};

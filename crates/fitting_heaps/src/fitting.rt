@@ -1,5 +1,5 @@
 // The heaps that may satisfy a formula.
-ghost use Rattle.std.specs.Prelude.{◌≡◌, ◌⊎◌, ◌↔◌, IsTrue, IfOk};
+ghost use Rattle.std.specs.Prelude.{◌⊎◌, ◌↔◌, IsTrue, IfOk};
 ghost use Rattle.heap_formula.specs.Words.{Each};
 ghost use Rattle.heap_formula.specs.Cells.{Cells as SomeHeap};
 ghost use Rattle.heap_formula.specs.Closedness.{IsUniversalHeap};

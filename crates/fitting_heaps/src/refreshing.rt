@@ -1,6 +1,5 @@
 // One more turn: what the cases of the predicates give by what is found so far.
-ghost use Rattle.std.specs.Prelude.{◌≡◌, ℕ, IfOk, [], ◌∷◌};
-ghost use Rattle.heap_formula.specs.Words.{OneOf};
+ghost use Rattle.std.specs.Prelude.{ℕ, IfOk};
 ghost use Rattle.heap_formula.specs.Cells.{Cells as SomeHeap};
 ghost use Rattle.heap_formula.specs.Meaning.{SpatialHolds};
 ghost use Rattle.fitting_heaps.specs.Bounds.{IsAmong};

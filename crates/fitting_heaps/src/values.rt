@@ -1,5 +1,5 @@
 // Terms and pure atoms under a stack and values of the locals.
-ghost use Rattle.std.specs.Prelude.{◌≡◌, ◌≤◌, ◌++◌, ◌↔◌, ℕ, List, IsTrue, IfOk, length, slice_index};
+ghost use Rattle.std.specs.Prelude.{◌≡◌, ◌≤◌, ◌++◌, ℕ, List, IsTrue, IfOk, length, slice_index};
 ghost use Rattle.heap_formula.specs.Words.{Each};
 ghost use Rattle.heap_formula.specs.Values.{value, values};
 ghost use Rattle.heap_formula.specs.Fresh.{exist_bound};

@@ -1,6 +1,5 @@
 // The greatest numbers of variables and of locals.
-ghost use Rattle.std.specs.Prelude.{◌≡◌, ◌≤◌, max, map};
-ghost use Rattle.heap_formula.specs.Words.{max_of};
+ghost use Rattle.std.specs.Prelude.{◌≡◌, ◌≤◌, max};
 ghost use Rattle.fo_formula.specs.Bounds.{sign_bound, word_bound, words_bound, atom_bound, atoms_bound, sequent_bound};
 
 use crate::atoms::FoAtom;

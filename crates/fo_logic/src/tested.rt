@@ -1,7 +1,6 @@
 // A proof as a proof system: each node is tested once, up to the first fault.
 ghost use Rattle.std.specs.Prelude.{◌≡◌, ◌≤◌, length, IfOk};
 ghost use Rattle.trace_pairs.specs.System.{IsLeastFaulty, is_untested};
-ghost use Rattle.fo_formula.specs.declared.atoms.FoAtom.{FoAtom as AtomValue};
 ghost use Rattle.fo_nodes.specs.Files.{IsFoProof, predicate_places};
 ghost use Rattle.fo_nodes.specs.Once.{proof_once};
 ghost use Rattle.trace_pairs.specs.Turn.{lists_of};

@@ -1,5 +1,5 @@
 // Numbers of variables and applications, counted no further than 4,097.
-ghost use Rattle.std.specs.Prelude.{◌≡◌, ◌≤◌, length, map};
+ghost use Rattle.std.specs.Prelude.{◌≡◌, length, map};
 ghost use Rattle.fo_formula.specs.Sizes.{words_size, atom_size, atoms_size, sequent_size};
 ghost use Rattle.fo_formula.specs.Words.{replaced, in_atom};
 ghost use Rattle.fo_parts.specs.Putting.{put};

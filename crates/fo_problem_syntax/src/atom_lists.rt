@@ -1,7 +1,7 @@
 //! Lists of atoms: the sides of a sequent, and the cases of a definition.
 
 ghost use Rattle.std.specs.Prelude.{◌≡◌, map, OnOk};
-ghost use Rattle.cyc_lex.specs.Writing.{write, write_all};
+ghost use Rattle.cyc_lex.specs.Writing.{write_all};
 ghost use Rattle.cyc_grammar.specs.Giving.{Gives};
 ghost use Rattle.cyc_grammar.specs.Classes as class;
 ghost use Rattle.fo_problem_syntax.specs.Grammar.{atoms, atoms_or};

@@ -5,7 +5,7 @@ ghost use Rattle.cyc_lex.specs.Word.{word_of, EndsOnce};
 ghost use Rattle.cyc_grammar.specs.Syntax.{read_whole};
 ghost use Rattle.cyc_grammar.specs.Classes.{are_tokens};
 ghost use Rattle.cyc_grammar.specs.Faults.{Reads, IsRead};
-ghost use Rattle.cyc_grammar.specs.Giving.{Gives, IsWithin, words};
+ghost use Rattle.cyc_grammar.specs.Giving.{Gives, words};
 ghost use Rattle.fo_problem_syntax.specs.Grammar.{goal as goal_syntax, problem_body, problem as problem_syntax};
 ghost use Rattle.fo_problem_syntax.specs.Trees.{Problem, sequent_of, problem_of};
 

@@ -1,7 +1,7 @@
 //! Sequents.
 
 ghost use Rattle.std.specs.Prelude.{◌≡◌, OnOk};
-ghost use Rattle.cyc_lex.specs.Writing.{write, write_all};
+ghost use Rattle.cyc_lex.specs.Writing.{write_all};
 ghost use Rattle.cyc_grammar.specs.Giving.{Gives};
 ghost use Rattle.fo_problem_syntax.specs.Grammar.{sequent};
 ghost use Rattle.fo_problem_syntax.specs.Trees.{sequent_of};

@@ -1,7 +1,7 @@
 //! Constructors and definitions.
 
 ghost use Rattle.std.specs.Prelude.{◌≡◌, map, OnOk};
-ghost use Rattle.cyc_lex.specs.Writing.{write, write_all};
+ghost use Rattle.cyc_lex.specs.Writing.{write_all};
 ghost use Rattle.cyc_grammar.specs.Giving.{Gives};
 ghost use Rattle.fo_problem_syntax.specs.Grammar.{con, constructors, cases, definition, definitions};
 ghost use Rattle.fo_problem_syntax.specs.Trees.{atoms_of, constructor_of, definition_of};

@@ -4,11 +4,11 @@ ghost use Rattle.std.specs.Prelude.{◌≡◌, ◌<◌, ◌^◌, true, length, m
 ghost use Rattle.cyc_lex.specs.Spacing.{text_of};
 ghost use Rattle.cyc_lex.specs.Spelling.{Spells};
 ghost use Rattle.cyc_lex.specs.Word.{word_of, EndsOnce};
-ghost use Rattle.cyc_lex.specs.Writing.{write, write_all};
+ghost use Rattle.cyc_lex.specs.Writing.{write_all};
 ghost use Rattle.cyc_grammar.specs.Syntax.{read_whole};
 ghost use Rattle.cyc_grammar.specs.Classes.{are_tokens};
 ghost use Rattle.cyc_grammar.specs.Faults.{Reads, IsRead};
-ghost use Rattle.cyc_grammar.specs.Giving.{Gives, IsWithin, words};
+ghost use Rattle.cyc_grammar.specs.Giving.{Gives, words};
 ghost use Rattle.fo_proof_syntax.specs.Grammar.{body, file};
 ghost use Rattle.fo_proof_syntax.specs.Trees.{File, file_of};
 

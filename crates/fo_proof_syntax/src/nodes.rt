@@ -1,7 +1,7 @@
 //! Nodes of proofs.
 
 ghost use Rattle.std.specs.Prelude.{◌≡◌, map, OnOk};
-ghost use Rattle.cyc_lex.specs.Writing.{write, write_all};
+ghost use Rattle.cyc_lex.specs.Writing.{write_all};
 ghost use Rattle.cyc_grammar.specs.Giving.{Gives};
 ghost use Rattle.fo_proof_syntax.specs.Grammar.{node, nodes};
 ghost use Rattle.fo_proof_syntax.specs.Trees.{node_of};

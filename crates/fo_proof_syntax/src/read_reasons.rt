@@ -1,11 +1,10 @@
 //! Reading the reason of a node.
 
-ghost use Rattle.std.specs.Prelude.{◌≡◌, Ok, map, false};
+ghost use Rattle.std.specs.Prelude.{Ok, map, false};
 ghost use Rattle.cyc_grammar.specs.Syntax.{read_class};
-ghost use Rattle.cyc_grammar.specs.Giving.{Gives, with_front};
-ghost use Rattle.fo_term_syntax.specs.Trees.{atom_of};
+ghost use Rattle.cyc_grammar.specs.Giving.{Gives};
 ghost use Rattle.fo_proof_syntax.specs.Words.{side_word, reason_word};
-ghost use Rattle.fo_proof_syntax.specs.Grammar.{replace, right_rule, link, Parts, parts, to_reason, reason, parts_read};
+ghost use Rattle.fo_proof_syntax.specs.Grammar.{replace, right_rule, link, parts, reason, parts_read};
 ghost use Rattle.fo_proof_syntax.specs.Trees.{signs_of, link_of, reason_of};
 
 use crate::reason_word::{ReasonWord, side_from_text};

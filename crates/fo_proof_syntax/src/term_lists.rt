@@ -1,7 +1,7 @@
 //! Lists of terms, and the entries of a substitution.
 
 ghost use Rattle.std.specs.Prelude.{◌≡◌, map, OnOk};
-ghost use Rattle.cyc_lex.specs.Writing.{write, write_all};
+ghost use Rattle.cyc_lex.specs.Writing.{write_all};
 ghost use Rattle.cyc_grammar.specs.Giving.{Gives};
 ghost use Rattle.fo_proof_syntax.specs.Grammar.{terms, entry, entries};
 ghost use Rattle.fo_proof_syntax.specs.Trees.{signs_of, entry_of};

@@ -1,7 +1,7 @@
 //! Writing the reason of a node.
 
 ghost use Rattle.std.specs.Prelude.{◌≡◌, map, OnOk, false};
-ghost use Rattle.cyc_lex.specs.Writing.{write, write_all};
+ghost use Rattle.cyc_lex.specs.Writing.{write_all};
 ghost use Rattle.fo_proof_syntax.specs.Grammar.{right_rule, link, reason, behind_word, FitsBehind};
 ghost use Rattle.fo_proof_syntax.specs.Trees.{signs_of, link_of, reason_of, word_of_reason};
 

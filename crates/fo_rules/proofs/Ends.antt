@@ -1,9 +1,8 @@
 -- Where the first terms of a word end.
-use Rattle.std.proofs.Common.{◌≡◌, ℕ, zero, suc, ◌+◌, ◌-◌, ◌<◌, ◌≤◌, List, [], ◌∷◌, ◌++◌, length, refl, ap, ◌∙◌, arith, append_assoc}
-use Rattle.fo_formula.specs.declared.terms.Sign.{Sign}
+use Rattle.std.proofs.Common.{◌≡◌, ℕ, zero, suc, ◌+◌, ◌-◌, ◌<◌, List, [], ◌∷◌, ◌++◌, ◌∙◌, arith, append_assoc}
 use Rattle.fo_formula.specs.declared.atoms.FoAtom.{FoAtom}
 use Rattle.fo_formula.specs.declared.atoms.FoAtom.TheVariants.{Equation}
-use Rattle.fo_formula.specs.Words.{Word, arity, end_of, first_term, after_first}
+use Rattle.fo_formula.specs.Words.{Word, first_term, after_first}
 use Rattle.fo_table.specs.Table.{equations}
 
 -- one more equation is written

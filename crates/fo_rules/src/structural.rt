@@ -1,5 +1,5 @@
 // The rules that remove or copy atoms, and Cut.
-ghost use Rattle.std.specs.Prelude.{◌≡◌, ◌<◌, ◌≤◌, ◌∷◌, [], ◌++◌, length, IfOk, Some, slice_get};
+ghost use Rattle.std.specs.Prelude.{◌≡◌, ◌<◌, ◌≤◌, length, IfOk, Some};
 ghost use Rattle.fo_table.specs.Answered.{IsAnswer};
 ghost use Rattle.fo_table.specs.Table.{weakened_left, weakened_right, contracted, cut_right, cut_left, weaken_left_answer, weaken_right_answer, contract_answer, cut_answer};
 

@@ -1,8 +1,6 @@
 // A derivation without open goals as a proof.
 ghost use Rattle.std.specs.Prelude.{◌≡◌, length, IfOk};
-ghost use Rattle.fo_calculus.specs.Calculus.{calculus_of};
-ghost use Rattle.fo_calculus.specs.Occurring.{MayOccur};
-ghost use Rattle.fo_found.specs.Files.{numbers_of, node_of, nodes_with, proof_nodes};
+ghost use Rattle.fo_found.specs.Files.{numbers_of, nodes_with, proof_nodes};
 ghost use Rattle.derivations.specs.Derivations.{tableau_in};
 
 use crate::logic::FirstOrder;

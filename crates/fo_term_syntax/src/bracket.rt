@@ -1,7 +1,7 @@
 //! Brackets: what may come within an application.
 
 ghost use Rattle.std.specs.Prelude.{◌≡◌, ◌<◌, ◌^◌, ◌+◌};
-ghost use Rattle.fo_term_syntax.specs.Grammar.{is_awaited, behind_mark, closed_in};
+ghost use Rattle.fo_term_syntax.specs.Grammar.{behind_mark, closed_in};
 ghost use Rattle.fo_term_syntax.specs.Seen.{mark_seen};
 ghost use Rattle.fo_term_syntax.specs.Depth.{depth};
 

@@ -1,6 +1,6 @@
 //! Counting the arguments that stand in brackets.
 
-ghost use Rattle.std.specs.Prelude.{◌≡◌, ◌<◌, ◌^◌, ◌+◌, [], map, reverse, OnOk, IfOk};
+ghost use Rattle.std.specs.Prelude.{◌≡◌, ◌<◌, ◌^◌, ◌+◌, map, reverse, OnOk, IfOk};
 ghost use Rattle.fo_term_syntax.specs.Trees.{sign_of};
 ghost use Rattle.fo_term_syntax.specs.Seen.{mark_seen};
 ghost use Rattle.fo_term_syntax.specs.Brackets.{one_more, innermost, outer, count, counted};

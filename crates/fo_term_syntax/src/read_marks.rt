@@ -1,7 +1,7 @@
 //! Reading variables, names and brackets from the front of a list of tokens.
 
-ghost use Rattle.std.specs.Prelude.{◌≡◌, ◌++◌, ◌∷◌, [], ◌<◌, ◌≤◌, ◌+◌, map, length};
-ghost use Rattle.cyc_grammar.specs.Giving.{Gives, with_front};
+ghost use Rattle.std.specs.Prelude.{◌<◌, map};
+ghost use Rattle.cyc_grammar.specs.Giving.{Gives};
 ghost use Rattle.fo_term_syntax.specs.Trees.{sign_of};
 ghost use Rattle.fo_term_syntax.specs.Seen.{mark_seen};
 ghost use Rattle.fo_term_syntax.specs.Grammar.{leaf, named, head, first_mark, next_mark, marks, mark};

@@ -1,6 +1,6 @@
 //! Reading terms and atoms from the front of a list of tokens.
 
-ghost use Rattle.std.specs.Prelude.{◌≡◌, ◌∷◌, [], map};
+ghost use Rattle.std.specs.Prelude.{map};
 ghost use Rattle.cyc_grammar.specs.Giving.{Gives};
 ghost use Rattle.fo_term_syntax.specs.Trees.{sign_of, atom_of};
 ghost use Rattle.fo_term_syntax.specs.Grammar.{leaf_read, application, term, atom};

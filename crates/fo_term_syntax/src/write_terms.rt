@@ -1,6 +1,6 @@
 //! Writing terms and atoms.
 
-ghost use Rattle.std.specs.Prelude.{◌≡◌, ◌<◌, ◌^◌, ◌+◌, ◌∷◌, map, OnOk};
+ghost use Rattle.std.specs.Prelude.{◌≡◌, ◌<◌, ◌∷◌, map, OnOk};
 ghost use Rattle.cyc_lex.specs.Writing.{write_all};
 ghost use Rattle.fo_term_syntax.specs.Trees.{Apply, sign_of, atom_of};
 ghost use Rattle.fo_term_syntax.specs.Seen.{mark_seen};

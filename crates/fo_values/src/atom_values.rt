@@ -1,7 +1,6 @@
 //! Atoms and sequents that trees say.
 
 ghost use Rattle.std.specs.Prelude.{◌≡◌, ◌<◌, length, map, IfOk};
-ghost use Rattle.heap_formula.specs.Words.{Each};
 ghost use Rattle.fo_term_syntax.specs.Trees.{sign_of, atom_of};
 ghost use Rattle.fo_problem_syntax.specs.Trees.{sequent_of};
 ghost use Rattle.fo_values.specs.Known.{IsKnownUse, IsKnownAtom, AreKnownAtoms, IsKnownSequent};

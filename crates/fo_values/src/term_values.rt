@@ -1,8 +1,8 @@
 //! Terms that trees say.
 
-ghost use Rattle.std.specs.Prelude.{◌≡◌, ◌<◌, ◌≤◌, length, map, IfOk};
+ghost use Rattle.std.specs.Prelude.{◌≡◌, ◌<◌, length, map, IfOk};
 ghost use Rattle.heap_formula.specs.Words.{Each};
-ghost use Rattle.fo_term_syntax.specs.Trees.{AreTerms, arguments_of, sign_of};
+ghost use Rattle.fo_term_syntax.specs.Trees.{arguments_of, sign_of};
 ghost use Rattle.fo_proof_syntax.specs.Trees.{signs_of};
 ghost use Rattle.fo_values.specs.Known.{IsKnownSign, AreKnownTerms, IsKnownTerm};
 ghost use Rattle.fo_values.specs.Values.{first_terms, sign_value, term_value};

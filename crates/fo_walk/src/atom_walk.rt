@@ -1,6 +1,6 @@
 //! A walk over atoms in the order of their tokens, up to the first flaw.
 
-ghost use Rattle.std.specs.Prelude.{◌≡◌, ◌+◌, ◌-◌, ◌∷◌, ◌<◌, ◌≤◌, ◌^◌, length, map, drop, nat_le, None};
+ghost use Rattle.std.specs.Prelude.{◌≡◌, ◌+◌, ◌-◌, ◌∷◌, ◌<◌, ◌^◌, length, map, nat_le, None};
 ghost use Rattle.fo_term_syntax.specs.Trees.{AreTerms, Apply, Equation, Predicate, sign_of, atom_of};
 ghost use Rattle.fo_term_syntax.specs.Grammar.{IsTerm, IsApplication};
 ghost use Rattle.fo_term_syntax.specs.Places.{places_of as places_in, tokens_in};

@@ -1,9 +1,9 @@
 //! A walk over the signs of a term in the order of their tokens, up to the first flaw.
 
-ghost use Rattle.std.specs.Prelude.{◌≡◌, ◌+◌, ◌-◌, ◌<◌, ◌≤◌, ◌^◌, length, map, drop, None};
+ghost use Rattle.std.specs.Prelude.{◌+◌, ◌-◌, ◌<◌, ◌^◌, length, map, None};
 ghost use Rattle.fo_term_syntax.specs.Trees.{sign_of};
 ghost use Rattle.fo_term_syntax.specs.Grammar.{IsTerm};
-ghost use Rattle.fo_term_syntax.specs.Places.{places_of as places_in, tokens_in};
+ghost use Rattle.fo_term_syntax.specs.Places.{tokens_in};
 ghost use Rattle.fo_term_syntax.proofs.PlaceLaws.{HaveRoom};
 ghost use Rattle.heap_reader.specs.Flaws.{use_flaw, IsName};
 ghost use Rattle.fo_walk.specs.AtomFlaws.{variable_flaw, terms_flaw, sign_flaw, signs_flaw, term_flaw, IsWalkFrom};

@@ -1,5 +1,5 @@
 // Terms of a state for the variables of a case.
-ghost use Rattle.std.specs.Prelude.{◌≡◌, ◌≤◌, IfOk, Some, length};
+ghost use Rattle.std.specs.Prelude.{◌≡◌, IfOk, Some};
 ghost use Rattle.heap_formula.specs.Substitution.{in_pure};
 ghost use Rattle.fold_offers.specs.Bound.{IsBound};
 ghost use Rattle.fold_offers.specs.Folds.{bound_in as bound_in_binding, bind_variable as variable_bound, bind as term_bound, bind_lists as lists_bound, bind_atom as atom_bound, bound_term as term_under};

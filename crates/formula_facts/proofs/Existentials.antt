@@ -1,6 +1,5 @@
 -- The existential variables of a heap are below their number.
 use Rattle.std.proofs.Common.{ℕ, ◌≤◌, arith}
-use Rattle.heap_formula.specs.declared.terms.Term.{Term}
 use Rattle.heap_formula.specs.declared.atoms.Pure.{Pure}
 use Rattle.heap_formula.specs.declared.atoms.Pure.TheVariants.{Eq, Neq}
 use Rattle.heap_formula.specs.declared.atoms.Spatial.{Spatial}

@@ -1,5 +1,5 @@
 -- One step: what a command makes of a state, that no two answers fit, and that the state stays one of the program.
-use Rattle.std.proofs.Common.{◌≡◌, ◌≢◌, ℕ, zero, suc, ◌+◌, ◌-◌, ◌<◌, ◌≤◌, ◌^◌, Bool, true, false, not, cond, ◌⊎◌, inl, inr, List, [], ◌∷◌, length, Option, Some, None, refl, sym, ap, subst, ◌∙◌, arith}
+use Rattle.std.proofs.Common.{◌≡◌, ◌≢◌, ℕ, zero, suc, ◌+◌, ◌-◌, ◌<◌, ◌≤◌, ◌^◌, Bool, true, false, cond, ◌⊎◌, inl, inr, List, [], ◌∷◌, length, Option, Some, None, refl, sym, ap, subst, ◌∙◌, arith}
 use Rattle.std.specs.Prelude.{◌↔◌, nat_eq, slice_get, slice_set}
 use Rattle.std.proofs.lemmas.List.{length-set}
 use Rattle.std.specs.FinMap.{insert}
@@ -14,7 +14,7 @@ use Rattle.goto_lang.specs.declared.steps.Stepped.TheVariants.{Stop, Fault, To, 
 use Rattle.goto_lang.specs.Lines.{IsProgram, MayStandAt, IsLineOf}
 use Rattle.goto_lang.specs.States.{state_of, IsStateOf}
 use Rattle.goto_lang.specs.Steps.{MayTake, Leads, IsStep, IsSuccessor}
-use Rattle.goto_lang.specs.Effects.{Makes, IsLoad, IsStore, IsFree, IsJump}
+use Rattle.goto_lang.specs.Effects.{Makes}
 
 -- ---- the commands
 

@@ -1,5 +1,5 @@
 // States of a program's runs.
-ghost use Rattle.std.specs.Prelude.{◌≡◌, ◌↔◌, [], IsTrue};
+ghost use Rattle.std.specs.Prelude.{◌≡◌, ◌↔◌, IsTrue};
 ghost use Rattle.heap_formula.specs.Values.{value};
 ghost use Rattle.heap_formula.specs.Programs.{greatest, value_in};
 ghost use Rattle.goto_lang.specs.States.{state_of, IsStateOf};

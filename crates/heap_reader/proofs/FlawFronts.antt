@@ -1,10 +1,10 @@
 -- The first flaw of what is kept of heaps is the first flaw of the heaps, where more is kept than every limit; and without
 -- a flaw all is kept.
-use Rattle.std.proofs.Common.{◌≡◌, ℕ, zero, suc, ◌+◌, ◌<◌, ◌≤◌, List, [], ◌∷◌, length, take, Some, None, refl, sym, ap, ◌∙◌, arith}
+use Rattle.std.proofs.Common.{◌≡◌, ℕ, zero, suc, ◌+◌, ◌<◌, ◌≤◌, List, [], ◌∷◌, take, Some, None, refl, ap, ◌∙◌, arith}
 use Rattle.std.specs.Prelude.{map, nat_le}
 use Rattle.std.proofs.lemmas.List.{take_all}
 use Rattle.cyc_lex.specs.declared.fault.What.{What}
-use Rattle.cyc_lex.specs.declared.fault.What.TheVariants.{Pure, Spatial as SpatialAtoms}
+use Rattle.cyc_lex.specs.declared.fault.What.TheVariants.{Pure}
 use Rattle.heap_syntax.specs.declared.keep.Keep.TheVariants.{Beyond}
 use Rattle.heap_syntax.specs.declared.tree.PureTree.{PureTree}
 use Rattle.heap_syntax.specs.Keeping.{members, heap_front, heaps_front}

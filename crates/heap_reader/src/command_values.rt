@@ -1,5 +1,5 @@
 // Values of lines that are a program.
-ghost use Rattle.std.specs.Prelude.{◌≡◌, ◌<◌, ◌^◌, map, IfOk, None};
+ghost use Rattle.std.specs.Prelude.{◌≡◌, ◌<◌, map, IfOk, None};
 ghost use Rattle.heap_formula.specs.Words.{Each};
 ghost use Rattle.command_syntax.specs.declared.tree.CommandTree.TheVariants.{If};
 ghost use Rattle.goto_lang.specs.Faults.{program_fault};

@@ -1,7 +1,7 @@
 //! Numbers without a word between them, in brackets, and as premises.
 
-ghost use Rattle.std.specs.Prelude.{◌≡◌, ◌++◌, ◌∷◌, [], OnOk};
-ghost use Rattle.cyc_lex.specs.Writing.{write, write_all};
+ghost use Rattle.std.specs.Prelude.{◌≡◌, [], OnOk};
+ghost use Rattle.cyc_lex.specs.Writing.{write_all};
 ghost use Rattle.cyc_grammar.specs.Giving.{Gives, with_front};
 ghost use Rattle.heap_syntax.specs.Numbers.{numbers, bracketed, two_numbers, premises};
 

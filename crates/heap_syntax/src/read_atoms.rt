@@ -1,6 +1,6 @@
 //! Reading terms and atoms from the front of a list of tokens.
 
-ghost use Rattle.std.specs.Prelude.{◌≡◌, ◌++◌, ◌∷◌, [], map};
+ghost use Rattle.std.specs.Prelude.{map};
 ghost use Rattle.cyc_grammar.specs.Syntax.{many, after, is_one};
 ghost use Rattle.cyc_grammar.specs.Giving.{Gives, with_front};
 ghost use Rattle.heap_syntax.specs.Words.{comma};

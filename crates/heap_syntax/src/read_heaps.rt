@@ -1,6 +1,6 @@
 //! Reading heaps from the front of a list of tokens.
 
-ghost use Rattle.std.specs.Prelude.{◌≡◌, map};
+ghost use Rattle.std.specs.Prelude.{map};
 ghost use Rattle.cyc_grammar.specs.Giving.{Gives};
 ghost use Rattle.heap_syntax.specs.Words.{star, marked};
 ghost use Rattle.heap_syntax.specs.Grammar.{kept_spatials, heap, kept_heap, heaps, kept_heaps};

@@ -4,7 +4,7 @@ ghost use Rattle.heap_reader.specs.Spans.{heap_span};
 ghost use Rattle.heap_reader.specs.Trees.{heading_of};
 ghost use Rattle.pred_reader.specs.Spans.{term_span, definition_span};
 ghost use Rattle.heap_reader.specs.Flaws.{IsName};
-ghost use Rattle.pred_reader.specs.Flaws.{heading, definition_flaw};
+ghost use Rattle.pred_reader.specs.Flaws.{definition_flaw};
 ghost use Rattle.pred_syntax.specs.Trees.{heap_of, definition_of};
 ghost use Rattle.item_reader.specs.Items.{is_unknown, defined_heads, IsHeapItem, IsDefinitionItem};
 

@@ -12,7 +12,7 @@ use Rattle.model_check.specs.declared.ground.GroundRule.{GroundRule}
 use Rattle.model_check.specs.Questions.{Question}
 use Rattle.model_check.specs.Constructive.{IsConstructive, AreConstructive, Fits}
 use Rattle.model_check.specs.Grounding.{PiecesFit, HasRule, Extends, GroundedCase, IsCaseRule, GroundedCases}
-use Rattle.model_check.proofs.Asking.{extends_all, extends_trans, pieces_kept}
+use Rattle.model_check.proofs.Asking.{extends_trans, pieces_kept}
 use Rattle.formula_facts.proofs.AllMembers.{each_imply, each_last, each_append}
 use Rattle.formula_facts.proofs.SomeMember.{one_front, one_last}
 

@@ -14,7 +14,7 @@ use Rattle.model_check.specs.declared.known.Step.{Step}
 use Rattle.model_check.specs.declared.known.Step.TheVariants.{Same, Field}
 use Rattle.model_check.specs.Constructive.{Known, nil, universal, right_side, left_side, field, IsConstructive}
 use Rattle.list_facts.specs.Words.{IsMember}
-use Rattle.model_check.specs.Steps.{source, target, IsKnownIn, Learned, start, taken, AreLearned, IsTaken, AllTaken, Learns, pure_steps, pures_steps, field_steps, spatial_steps, spatials_steps, steps_of}
+use Rattle.model_check.specs.Steps.{source, target, IsKnownIn, Learned, start, taken, AreLearned, AllTaken, Learns, pure_steps, pures_steps, field_steps, spatial_steps, spatials_steps, steps_of}
 use Rattle.model_check.proofs.OnlyLocals.{member_each, universal_known}
 use Rattle.formula_facts.proofs.AllMembers.{each_imply, each_last, each_append}
 

@@ -5,14 +5,13 @@ use Rattle.std.proofs.Common.{◌≡◌, ℕ, zero, suc, ◌+◌, ◌<◌, ◌�
 use Rattle.heap_formula.specs.Definitions.{Definition}
 use Rattle.heap_formula.specs.Words.{Each}
 use Rattle.heap_formula.specs.Values.{Stack}
-use Rattle.heap_formula.specs.Cells.{Cells, IsHeap}
+use Rattle.heap_formula.specs.Cells.{Cells}
 use Rattle.heap_formula.specs.Meaning.{cases_of}
 use Rattle.heap_formula.proofs.StageLaws.{OneOf-map}
 use Rattle.model_check.specs.declared.ground.GroundRule.{GroundRule}
 use Rattle.model_check.specs.Questions.{Question}
 use Rattle.model_check.specs.Constructive.{Fits}
-use Rattle.model_check.specs.MaskParts.{Covers}
-use Rattle.model_check.specs.Grounding.{IsQuestion, PiecesFit, HasRule, IsRule, IsAnswered, Extends, IsCaseRule, GroundedCases, IsGrounded, Grounds}
+use Rattle.model_check.specs.Grounding.{IsQuestion, PiecesFit, HasRule, IsRule, IsAnswered, Extends, IsCaseRule, GroundedCases, IsGrounded}
 use Rattle.model_check.proofs.Asking.{extends_trans, pieces_kept}
 use Rattle.model_check.proofs.CaseLists.{has_kept}
 use Rattle.model_check.proofs.Rounds.{one_question}

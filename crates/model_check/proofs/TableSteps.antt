@@ -1,7 +1,7 @@
 -- Steps of loops over tables.
-use Rattle.std.specs.Prelude.{◌↔◌, slice_get, slice_set, slice_index, replicate, nat_eq, if◌then◌else◌}
+use Rattle.std.specs.Prelude.{◌↔◌, slice_get, slice_set, slice_index, nat_eq, if◌then◌else◌}
 use Rattle.std.proofs.lemmas.Bool.{cases_Bool, eqb-true, eqb-false}
-use Rattle.std.proofs.Common.{◌≡◌, ◌≢◌, ℕ, zero, suc, ◌+◌, ◌<◌, ◌≤◌, List, [], ◌∷◌, length, get_or, Bool, true, false, Some, None, refl, sym, ap, ◌∙◌, subst, inl, inr, ◌⊎◌, arith}
+use Rattle.std.proofs.Common.{◌≡◌, ◌≢◌, ℕ, zero, suc, ◌<◌, ◌≤◌, List, [], ◌∷◌, length, get_or, Bool, true, false, Some, None, refl, sym, ap, ◌∙◌, subst, inl, inr, ◌⊎◌, arith}
 use Rattle.heap_formula.specs.Words.{Each, OneOf}
 use Rattle.model_check.specs.declared.ground.Piece.{Piece}
 use Rattle.model_check.specs.declared.ground.Piece.TheVariants.{Here, Of}
@@ -9,7 +9,7 @@ use Rattle.model_check.specs.declared.ground.GroundRule.{GroundRule}
 use Rattle.list_facts.specs.Words.{IsMember}
 use Rattle.model_check.specs.Ground.{Unions, derived}
 use Rattle.model_check.specs.WideMasks.{HoldsMask}
-use Rattle.model_check.specs.Tables.{Row, Added, HasMask, AddsMask, AddsRule, IsDerived, IsClosed, AreClosed, HeadsFit, IsOld, IsFresh, AreSettled, AreBefore}
+use Rattle.model_check.specs.Tables.{Row, Added, HasMask, AddsMask, AddsRule, IsDerived, IsClosed, HeadsFit, IsOld, IsFresh, AreSettled, AreBefore}
 use Rattle.model_check.proofs.Loops.{added_members}
 use Rattle.model_check.proofs.Rounds.{union_map, gives_derived}
 

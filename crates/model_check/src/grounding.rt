@@ -1,11 +1,11 @@
 // From cases of definitions to rules on masks.
-ghost use Rattle.std.specs.Prelude.{◌≡◌, ℕ, List, [], ◌<◌, ◌^◌, ◌↔◌, IsTrue, IfOk, OnOk, Ok, Some, None, vec_len};
+ghost use Rattle.std.specs.Prelude.{◌≡◌, List, [], ◌<◌, IfOk, OnOk, Ok, Some, None};
 ghost use Rattle.heap_formula.specs.Words.{Each};
-ghost use Rattle.heap_formula.specs.Values.{Stack, value, values};
-ghost use Rattle.model_check.specs.Constructive.{AreConstructive, IsConstructive, CellFits, Fits, IsOnly};
+ghost use Rattle.heap_formula.specs.Values.{values};
+ghost use Rattle.model_check.specs.Constructive.{AreConstructive, IsConstructive};
 ghost use Rattle.model_check.specs.ForcedLocals.{stack_of};
 ghost use Rattle.model_check.specs.MaskParts.{place, Covers};
-ghost use Rattle.model_check.specs.Grounding.{IsListed, IsQuestion, PieceFits, PiecesFit, Extends, Asked, AskedPiece, AskedPieces, GroundedCase, GroundedCases, IsGrounded, Grounds, IsQuestionAt};
+ghost use Rattle.model_check.specs.Grounding.{IsListed, Extends, AskedPiece, AskedPieces, GroundedCase, GroundedCases, Grounds, IsQuestionAt};
 ghost use Rattle.heap_formula.specs.Meaning.{cases_of};
 ghost use Rattle.heap_formula.specs.Cells.{IsHeap};
 

@@ -4,7 +4,7 @@ ghost use Rattle.heap_formula.specs.Words.{Each};
 ghost use Rattle.heap_formula.specs.Closedness.{InPure, InSpatial, InHeap};
 ghost use Rattle.model_check.specs.Constructive.{IsConstructive};
 ghost use Rattle.list_facts.specs.Words.{IsMember};
-ghost use Rattle.model_check.specs.Steps.{source, target, IsKnownIn, Learned, AreLearned, IsTaken, Learns, AllTaken, pure_steps, pures_steps, field_steps, spatial_steps, spatials_steps, steps_of};
+ghost use Rattle.model_check.specs.Steps.{source, target, IsKnownIn, AreLearned, Learns, AllTaken, pure_steps, field_steps, spatial_steps, steps_of};
 
 use cyc_memory::OutOfMemory;
 use heap_formula::{Heap, Pure, Spatial, Term};

@@ -1,9 +1,9 @@
 // The values that a heap forces on the locals of a formula.
-ghost use Rattle.std.specs.Prelude.{◌≡◌, ℕ, ◌<◌, ◌≤◌, ◌++◌, ◌∷◌, [], ◌↔◌, ◌⊎◌, Bool, true, false, Ok, IsTrue, IfOk, OnOk, MatchOption, Some, None, vec_len, slice_get, slice_index};
+ghost use Rattle.std.specs.Prelude.{◌≡◌, ◌<◌, ◌↔◌, Bool, true, false, Ok, IsTrue, IfOk, OnOk, MatchOption, Some, None, vec_len, slice_get, slice_index};
 ghost use Rattle.heap_formula.specs.Words.{Each};
 ghost use Rattle.heap_formula.specs.Cells.{cell_at};
 ghost use Rattle.model_check.specs.Steps.{target, steps_of as all_steps};
-ghost use Rattle.model_check.specs.ForcedLocals.{local_value, term_value, field_of as cell_field, target_of, Sets, Follows, Passes, StepsHold, AreForced, Evaluates};
+ghost use Rattle.model_check.specs.ForcedLocals.{local_value, term_value, field_of as cell_field, target_of, Sets, Follows, Passes, AreForced, Evaluates};
 ghost use Rattle.heap_formula.specs.Values.{Stack, value, values};
 ghost use Rattle.heap_formula.specs.Meaning.{PureHolds};
 ghost use Rattle.model_check.specs.Constructive.{IsConstructive, CellFits, Fits, IsOnly};

@@ -1,5 +1,5 @@
 // The first place that is not constructive.
-ghost use Rattle.std.specs.Prelude.{◌≡◌, ℕ, ◌≤◌, length, [], ◌∷◌, IfOk, MatchOption};
+ghost use Rattle.std.specs.Prelude.{◌≡◌, ◌≤◌, length, [], ◌∷◌, IfOk, MatchOption};
 ghost use Rattle.heap_formula.specs.Words.{Each};
 ghost use Rattle.model_check.specs.Constructive.{IsConstructive, AreConstructive};
 ghost use Rattle.model_check.specs.FirstPlaces.{IsFirstBad, IsFirstBadCase, IsFirstPlace};

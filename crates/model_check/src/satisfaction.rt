@@ -1,5 +1,5 @@
 // Whether a stack and a heap satisfy a formula.
-ghost use Rattle.std.specs.Prelude.{◌≡◌, ℕ, ◌↔◌, IsTrue, IfOk, Bool, nat_eq, ◌&&◌, ◌+◌, slice_index};
+ghost use Rattle.std.specs.Prelude.{◌≡◌, ℕ, ◌↔◌, IsTrue, IfOk, nat_eq, ◌&&◌, ◌+◌, slice_index};
 ghost use Rattle.std.specs.Option.{is_some};
 ghost use Rattle.heap_formula.specs.Cells.{IsHeap, cell_at};
 ghost use Rattle.heap_formula.specs.Meaning.{Satisfies};

@@ -1,5 +1,5 @@
 // The least table of masks that rules give.
-ghost use Rattle.std.specs.Prelude.{◌≡◌, ℕ, ◌<◌, ◌≤◌, ◌↔◌, ◌⊎◌, Some, IfOk, OnOk, IsTrue, vec_len, slice_get, slice_index, slice_set, replicate, length, nat_eq, if◌then◌else◌};
+ghost use Rattle.std.specs.Prelude.{◌≡◌, ℕ, ◌<◌, ◌≤◌, ◌↔◌, Some, IfOk, OnOk, IsTrue, vec_len, slice_get, slice_index, slice_set, replicate, length, nat_eq, if◌then◌else◌};
 ghost use Rattle.heap_formula.specs.Words.{Each};
 ghost use Rattle.model_check.specs.WideMasks.{number, HoldsMask};
 ghost use Rattle.model_check.specs.Ground.{IsSolved};

@@ -1,5 +1,5 @@
 // Sets of masks, and the disjoint unions of their members.
-ghost use Rattle.std.specs.Prelude.{◌≡◌, ℕ, ◌++◌, ◌∷◌, [], ◌^◌, ◌↔◌, IsTrue, IfOk, OnOk, Bool, length};
+ghost use Rattle.std.specs.Prelude.{◌≡◌, ℕ, [], ◌^◌, ◌↔◌, IsTrue, IfOk};
 ghost use Rattle.model_check.specs.WideMasks.{number, HoldsMask};
 ghost use Rattle.model_check.specs.Ground.{Apart, Unions, PieceIs};
 ghost use Rattle.model_check.specs.Tables.{Added, JoinsOne, JoinsSome, HasMask, JoinsPiece, Gains};

@@ -1,5 +1,5 @@
 -- A part without a flaw has none wherever it stands.
-use Rattle.std.proofs.Common.{◌≡◌, ℕ, suc, ◌+◌, Bool, true, false, List, [], ◌∷◌, length, Option, Some, None, refl, ap}
+use Rattle.std.proofs.Common.{◌≡◌, ℕ, suc, ◌+◌, Bool, List, [], ◌∷◌, length, Option, Some, None, refl, ap}
 use Rattle.std.specs.Prelude.{not, nat_eq, nat_lt, nat_le}
 use Rattle.cyc_lex.specs.declared.fault.IllFault.{IllFault}
 use Rattle.cyc_lex.specs.declared.fault.IllFault.TheVariants.{Arity}

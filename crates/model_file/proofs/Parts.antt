@@ -2,11 +2,11 @@
 use Rattle.std.proofs.Common.{◌≡◌, ℕ, ◌+◌, ◌<◌, ◌≤◌, Bool, true, false, List, length, map, take, None, refl, arith}
 use Rattle.std.specs.Prelude.{◌||◌, nat_eq, nat_le}
 use Rattle.std.specs.List.{list_any}
-use Rattle.std.proofs.lemmas.Bool.{eqb-false, leb-false}
+use Rattle.std.proofs.lemmas.Bool.{leb-false}
 use Rattle.heap_formula.specs.Words.{Each}
 use Rattle.cyc_lex.specs.declared.fault.IllFault.TheVariants.{Address}
 use Rattle.cyc_lex.specs.declared.fault.What.TheVariants.{Arguments, Cells}
-use Rattle.heap_reader.specs.Flaws.{ill_if, over_if, or_later}
+use Rattle.heap_reader.specs.Flaws.{over_if, or_later}
 use Rattle.heap_reader.proofs.NoFlaw.{neither, not_over, not_ill, each_of, few_all}
 use Rattle.model_syntax.specs.Trees.{Cell, Model}
 use Rattle.model_file.specs.Spans.{cell_span}

@@ -2,7 +2,7 @@
 use Rattle.std.proofs.Common.{◌≡◌, ℕ, ◌+◌, true, false, List, [], ◌∷◌, ◌++◌, length, refl, ◌∙◌, arith, length-append}
 use Rattle.cyc_grammar.specs.Syntax.{Class, one, words_many}
 use Rattle.cyc_grammar.specs.Classes.{number, the_end}
-use Rattle.heap_syntax.specs.Words.{comma, semicolon, arrow, opening, closing, last_word}
+use Rattle.heap_syntax.specs.Words.{comma, semicolon, closing, last_word}
 use Rattle.heap_reader.specs.Spans.{total, heap_span}
 use Rattle.heap_reader.proofs.SpanLaws.{listed_words, alone}
 use Rattle.pred_syntax.specs.Grammar.{terms, heap, definition, definitions}

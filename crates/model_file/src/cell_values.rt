@@ -1,5 +1,5 @@
 // Stacks and heaps as values, and as numbers and cells of a text.
-ghost use Rattle.std.specs.Prelude.{◌≡◌, ◌<◌, ◌^◌, length, map, IfOk};
+ghost use Rattle.std.specs.Prelude.{◌≡◌, ◌<◌, map, IfOk};
 ghost use Rattle.heap_formula.specs.Words.{Each};
 ghost use Rattle.model_syntax.specs.Trees.{cell_of};
 ghost use Rattle.model_file.specs.Small.{IsSmallCell};

@@ -1,6 +1,5 @@
 // Models as trees, with the names of predicates borrowed from the definitions.
 ghost use Rattle.std.specs.Prelude.{◌≡◌, ℕ, List, map, IfOk, Some, IsSome};
-ghost use Rattle.std.specs.FinMap.{entries};
 ghost use Rattle.heap_formula.specs.Words.{Each};
 ghost use Rattle.heap_formula.specs.Cells.{cell_at};
 ghost use Rattle.model_syntax.specs.Trees.{cell_of, model_of};

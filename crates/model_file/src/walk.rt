@@ -2,15 +2,14 @@
 // the part's first token and gives that of the token after it and the one that follows every part of its kind.
 ghost use Rattle.std.specs.Prelude.{◌≡◌, ◌+◌, ◌<◌, ◌≤◌, ◌^◌, ◌||◌, length, map, nat_eq, take};
 ghost use Rattle.std.specs.List.{list_any};
-ghost use Rattle.pred_syntax.specs.Trees.{heap_of, definition_of};
 ghost use Rattle.heap_reader.specs.Spans.{total, heap_span};
-ghost use Rattle.heap_reader.specs.Flaws.{listed_flaw, heap_flaw, IsName, IsWalk};
+ghost use Rattle.heap_reader.specs.Flaws.{IsName, IsWalk};
 ghost use Rattle.pred_reader.specs.declared.scope.Scope.TheVariants.{Outside};
-ghost use Rattle.pred_reader.specs.Spans.{term_span, definition_span};
-ghost use Rattle.pred_reader.specs.Flaws.{headings, term_flaw, definition_flaw};
+ghost use Rattle.pred_reader.specs.Spans.{term_span};
+ghost use Rattle.pred_reader.specs.Flaws.{headings};
 ghost use Rattle.model_syntax.specs.Trees.{cell_of, model_of};
 ghost use Rattle.model_file.specs.Spans.{numbers_span, values_span, cell_span, cells_span};
-ghost use Rattle.model_file.specs.Flaws.{address_of, stack_flaw, fields_flaw, address_flaw, cell_flaw, cells_flaw, first_value, first_atom, definitions_flaw, model_flaw as first_flaw, behind_definitions_flaw};
+ghost use Rattle.model_file.specs.Flaws.{address_of, stack_flaw, fields_flaw, address_flaw, cell_flaw, cells_flaw, first_value, first_atom, model_flaw as first_flaw, behind_definitions_flaw};
 
 use cyc_lex::{IllFault, What};
 use cyc_limits::{MOST_ARGUMENTS, MOST_CELLS, MOST_SPATIAL, MOST_VALUES};

@@ -1,8 +1,8 @@
 //! Lists of numbers with commas between them.
 
-ghost use Rattle.std.specs.Prelude.{◌≡◌, ◌++◌, ◌∷◌, [], OnOk};
-ghost use Rattle.cyc_lex.specs.Writing.{write, write_all};
-ghost use Rattle.cyc_grammar.specs.Syntax.{many, one, after, is_one, words_many, fits_many};
+ghost use Rattle.std.specs.Prelude.{◌≡◌, [], OnOk};
+ghost use Rattle.cyc_lex.specs.Writing.{write_all};
+ghost use Rattle.cyc_grammar.specs.Syntax.{many, one, after, is_one, words_many};
 ghost use Rattle.cyc_grammar.specs.Classes.{symbol, number};
 ghost use Rattle.cyc_grammar.specs.Giving.{Gives, with_front};
 ghost use Rattle.heap_syntax.specs.Words.{comma};

@@ -3,7 +3,7 @@
 ghost use Rattle.std.specs.Prelude.{◌≡◌, map, OnOk, IfOk};
 ghost use Rattle.cyc_lex.specs.Spacing.{text_of};
 ghost use Rattle.cyc_lex.specs.Spelling.{Spells};
-ghost use Rattle.cyc_lex.specs.Writing.{write, write_all};
+ghost use Rattle.cyc_lex.specs.Writing.{write_all};
 ghost use Rattle.pred_syntax.specs.Trees.{heap_of};
 ghost use Rattle.model_syntax.specs.Grammar.{question, state, body, model};
 ghost use Rattle.model_syntax.specs.Trees.{cell_of, model_of};

@@ -1,6 +1,6 @@
 //! Names in the order of their first occurrences.
 
-ghost use Rattle.std.specs.Prelude.{◌≡◌, map, IfOk, IfSome, IfNone, Option};
+ghost use Rattle.std.specs.Prelude.{◌≡◌, map, IfOk};
 ghost use Rattle.name_numbers.specs.Names.{firsts, has, place_of};
 ghost use Rattle.name_numbers.specs.Views.{name_of, names_of};
 

@@ -4,7 +4,7 @@ ghost use Rattle.std.specs.Prelude.{◌≡◌, ◌++◌, map, IfOk};
 ghost use Rattle.std.specs.List.{flat_map};
 ghost use Rattle.problem_syntax.specs.Trees as named;
 ghost use Rattle.name_numbers.specs.Names.{firsts};
-ghost use Rattle.name_numbers.specs.Occurrences.{plain_names, goal_names as names_of_goal, program_names as names_of_program};
+ghost use Rattle.name_numbers.specs.Occurrences.{plain_names, goal_names as names_of_goal};
 ghost use Rattle.name_numbers.specs.Numbered.{heap_of, goal_of, problem_of};
 ghost use Rattle.name_numbers.specs.Numbering.{disjunct as disjunct_number, goal as goal_number, numbered};
 ghost use Rattle.name_numbers.specs.Views.{name_of, names_of};

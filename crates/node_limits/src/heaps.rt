@@ -1,5 +1,5 @@
 // Heaps and judgements that a file may have.
-ghost use Rattle.std.specs.Prelude.{◌≡◌, IsTrue, None, true, length};
+ghost use Rattle.std.specs.Prelude.{◌≡◌, IsTrue, None, true};
 ghost use Rattle.heap_formula.specs.Words.{Each};
 ghost use Rattle.pred_defs.specs.Faults.{first_fault, use_fault};
 ghost use Rattle.rule_table.specs.Answer.{has_numbers};

@@ -29,7 +29,7 @@ pub use Rattle.proof_graph.proofs.Joined.{Mapped, mapped_at}
 use Rattle.heap_formula.proofs.Members.{each_from}
 use Rattle.proof_graph.proofs.Places.{place_of, places_set}
 use Rattle.formula_facts.proofs.AllMembers.{each_at}
-use Rattle.list_facts.proofs.Places.{get_within as some_at, get_map as at_mapped}
+use Rattle.list_facts.proofs.Places.{get_map as at_mapped}
 
 module _ (most : ℕ) (ds : List Definition) (lines : List Command) (nodes : List Node) where
   -- an edge leads to a node, and its pairs join predicate atoms

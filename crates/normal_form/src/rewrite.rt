@@ -1,5 +1,5 @@
 // A variable gives way to the term that it equals.
-ghost use Rattle.std.specs.Prelude.{◌≡◌, ◌<◌, [], ◌∷◌, IfOk, List, length, nat_le, if◌then◌else◌, slice_set, slice_get, Some};
+ghost use Rattle.std.specs.Prelude.{◌≡◌, ◌<◌, [], ◌∷◌, IfOk, List, length, if◌then◌else◌, slice_set, Some};
 ghost use Rattle.heap_formula.specs.declared.atoms.Pure.TheVariants.{Eq};
 ghost use Rattle.heap_formula.specs.declared.commands.Command.{Command};
 ghost use Rattle.heap_formula.specs.Closedness.{IsUniversalHeap};

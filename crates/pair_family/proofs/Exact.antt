@@ -1,7 +1,5 @@
 -- Combinable is satisfiable; and not so for cells without fields.
-use Rattle.std.proofs.Common.{◌≡◌, [], arith}
-use Rattle.pair_family.specs.Family.{IsCombinable}
-use Rattle.pair_family.specs.Statements.{IsSatisfiable, CombinableIsSatisfiable, bare_cell}
+use Rattle.pair_family.specs.Statements.{CombinableIsSatisfiable}
 use Rattle.pair_family.proofs.Complete.{satisfied_combines}
 use Rattle.pair_family.proofs.Realised.{combinable_satisfied}
 

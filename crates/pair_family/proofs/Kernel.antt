@@ -1,15 +1,11 @@
 -- Any labels that tell the same terms apart say the same; and what is said has numbers within bounds.
-use Rattle.std.proofs.Common.{◌≡◌, ◌≢◌, ◌↔◌, ℕ, suc, ◌<◌, List, ◌||◌, ◌&&◌, not, arith}
+use Rattle.std.proofs.Common.{◌≡◌, ◌↔◌, ℕ, suc, ◌<◌, List, ◌&&◌, arith}
 use Rattle.std.specs.Prelude.{nat_eq}
-use Rattle.std.proofs.lemmas.Bool.{eqb-true, eq-eqb}
 use Rattle.std.specs.List.{list_any}
 use Rattle.heap_formula.specs.declared.terms.Term.{Term}
 use Rattle.pair_family.specs.Within.{IsWithin}
-use Rattle.pair_family.specs.Combination.{Two, upto, pairs_below, is_between, is_in_class, is_least, AreApart, kept}
+use Rattle.pair_family.specs.Combination.{Two, upto, pairs_below, is_between, is_in_class, is_least, kept}
 use Rattle.pair_family.proofs.Lists.{at_each, filter_in, upto_in, pairs_in}
-use Rattle.pair_family.proofs.Fold.{filter_same, any_same}
-use Rattle.formula_facts.proofs.AllMembers.{each_imply}
-use Rattle.list_facts.proofs.Tests.{bool_same}
 
 module _ (f g : Term → ℕ) (same : (t u : Term) → (f t ≡ f u) ↔ (g t ≡ g u)) where
 

@@ -1,12 +1,11 @@
 -- Rounds that take only choices with something new.
-use Rattle.std.proofs.Common.{◌⊎◌, inl, inr, ℕ, zero, suc, List, [], ◌∷◌}
+use Rattle.std.proofs.Common.{ℕ, List, [], ◌∷◌}
 use Rattle.heap_formula.specs.declared.atoms.Spatial.{Spatial}
-use Rattle.heap_formula.specs.declared.atoms.Spatial.TheVariants.{Cell, Pred}
 use Rattle.heap_formula.specs.Symbolic.{SymbolicHeap}
 use Rattle.pair_family.specs.BasePairs.{BasePair}
 use Rattle.pair_family.specs.Combination.{Choice, next}
 use Rattle.pair_family.specs.Family.{PairFamily, IsChosen, CaseGives}
-use Rattle.pair_family.specs.States.{Families, next_families, IsChosenBy, GivesBy}
+use Rattle.pair_family.specs.States.{IsChosenBy, GivesBy}
 
 -- one family at all places
 pub chosen_by : (F : PairFamily) (bs : Choice) (xs : List Spatial) → IsChosen F bs xs → IsChosenBy (λ k. F) bs xs

@@ -1,10 +1,9 @@
 -- Lists of base pairs that grow.
-use Rattle.std.proofs.Common.{◌≡◌, ◌↔◌, ◌⊎◌, inl, inr, Bool, true, false, List, [], ◌∷◌, ◌++◌, sym, ◌∙◌, subst}
+use Rattle.std.proofs.Common.{◌≡◌, ◌↔◌, ◌⊎◌, inl, inr, List, [], ◌∷◌, sym, ◌∙◌}
 use Rattle.heap_formula.specs.Words.{OneOf}
 use Rattle.pair_family.specs.BasePairs.{BasePair}
 use Rattle.list_facts.specs.Words.{IsMember}
-use Rattle.pair_states.specs.Labels.{Grows, IsAdded}
-use Rattle.pair_family.proofs.Lists.{in_left, in_right, in_append}
+use Rattle.pair_states.specs.Labels.{Grows}
 
 -- the same is given
 pub grows_same : (old new : List BasePair) (G H : BasePair → Type 0) → ((d : BasePair) → G d ↔ H d) → Grows old new G → Grows old new H

@@ -1,9 +1,9 @@
 -- The pairs below n, row by row and pair by pair.
-use Rattle.std.proofs.Common.{◌≡◌, inl, inr, ℕ, suc, ◌+◌, List, [], ◌∷◌, ◌++◌, map, filter, Bool, true, false, ◌||◌, ◌&&◌, arith, sym, refl, ap, ◌∙◌}
+use Rattle.std.proofs.Common.{◌≡◌, inl, inr, ℕ, suc, ◌+◌, List, [], ◌∷◌, ◌++◌, filter, Bool, true, false, ◌||◌, ◌&&◌, arith, sym, refl, ap, ◌∙◌}
 use Rattle.std.specs.Prelude.{if◌then◌else◌, nat_eq, slice_index}
-use Rattle.std.proofs.lemmas.Bool.{cases_Bool, eqb-true}
+use Rattle.std.proofs.lemmas.Bool.{cases_Bool}
 use Rattle.pair_family.specs.Combination.{upto, pairs_below}
-use Rattle.pair_states.specs.Labels.{relabelled, row, has_same, neighbours, has_difference, is_between_labels}
+use Rattle.pair_states.specs.Labels.{row, neighbours, has_difference, is_between_labels}
 use Rattle.pair_family.proofs.ByAtom.{append_three}
 use Rattle.std.proofs.lemmas.List.{map-append}
 use Rattle.std.specs.List.{list_any}

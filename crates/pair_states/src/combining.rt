@@ -1,8 +1,6 @@
 // A base pair is taken in.
-ghost use Rattle.std.specs.Prelude.{◌≡◌, ◌≢◌, ◌≤◌, ◌<◌, ◌++◌, ◌∷◌, [], ◌↔◌, IsTrue, if◌then◌else◌, List, ℕ, length, map, filter, slice_index, nat_eq, IfOk};
-ghost use Rattle.heap_formula.specs.Words.{Each, OneOf};
-ghost use Rattle.pair_family.specs.Combination.{upto, pairs_below, each_two};
-ghost use Rattle.pair_states.specs.Labels.{said_by, all_pairs, told_by, cell_pairs, label_pairs, combined_pairs, combined, IfApart};
+ghost use Rattle.std.specs.Prelude.{◌≡◌, ◌<◌, IfOk};
+ghost use Rattle.pair_states.specs.Labels.{said_by, all_pairs, told_by, combined_pairs, combined, IfApart};
 
 use crate::known::Known;
 use crate::labels::{

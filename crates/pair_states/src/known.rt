@@ -1,5 +1,5 @@
 // What is known of some terms.
-ghost use Rattle.std.specs.Prelude.{◌≡◌, ◌≤◌, length};
+ghost use Rattle.std.specs.Prelude.{◌≡◌};
 
 use cyc_memory::OutOfMemory;
 use std::alloc::Global;
@@ -24,7 +24,7 @@ impl Model for Known {
 }
 
 impl PartialEq for Known {
-    ghost use Rattle.std.specs.Prelude.{◌≡◌, ◌↔◌, IsTrue};
+    ghost use Rattle.std.specs.Prelude.{◌≡◌};
     ghost use Rattle.pair_states.specs.Equality.{base_pair_eq, base_pair_per};
 
     ghost eq = { base_pair_eq };

@@ -1,9 +1,9 @@
 // Labels of the terms, equal for terms of one class.
-ghost use Rattle.std.specs.Prelude.{◌≡◌, ◌≢◌, ◌≤◌, ◌<◌, ◌++◌, ◌∷◌, [], ◌↔◌, IsTrue, if◌then◌else◌, List, ℕ, length, map, filter, slice_index, nat_eq, IfOk, MatchOption};
+ghost use Rattle.std.specs.Prelude.{◌≡◌, ◌≢◌, ◌<◌, ◌++◌, ◌∷◌, [], ◌↔◌, IsTrue, if◌then◌else◌, length, map, filter, slice_index, nat_eq, IfOk};
 ghost use Rattle.std.specs.List.{list_any};
-ghost use Rattle.heap_formula.specs.Words.{Each, OneOf};
+ghost use Rattle.heap_formula.specs.Words.{Each};
 ghost use Rattle.pair_family.specs.Combination.{upto, pairs_below, each_two};
-ghost use Rattle.pair_states.specs.Labels.{row, has_same, neighbours, is_between_labels, has_difference, is_first_label, is_cell_label, relabelled, joined_labels, labels_at, label_pairs, cell_pairs, pairs_at, numbers_at, different_pairs};
+ghost use Rattle.pair_states.specs.Labels.{row, has_same, neighbours, has_difference, is_first_label, is_cell_label, relabelled, joined_labels, labels_at, label_pairs, cell_pairs, pairs_at, numbers_at, different_pairs};
 
 use std::alloc::{AllocError, Global};
 

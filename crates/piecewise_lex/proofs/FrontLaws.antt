@@ -7,7 +7,6 @@ use Rattle.std.proofs.lemmas.Str.{encodes-chars, encodes-append}
 use Rattle.cyc_lex.specs.declared.token.Token.{Token}
 use Rattle.cyc_lex.specs.Placed.{Placed, placed}
 use Rattle.piecewise_lex.specs.declared.taking.Taken.{Taken}
-use Rattle.piecewise_lex.specs.Owned.{IsShort}
 use Rattle.cyc_lex.proofs.BoolParts.{and-parts}
 use Rattle.cyc_lex.specs.Word.{word, word_of, is_lexeme, are_lexemes}
 use Rattle.piecewise_lex.specs.Feeding.{taken_chars, held_chars}

@@ -7,16 +7,13 @@ use Rattle.std.proofs.lemmas.Str.{utf8_valid_len-IsUtf8}
 use Rattle.cyc_lex.specs.declared.place.Place.{Place}
 use Rattle.cyc_lex.specs.declared.place.Stop.{Stop}
 use Rattle.cyc_lex.specs.declared.place.Stop.TheVariants as stops
-use Rattle.piecewise_lex.specs.declared.fronts.Front.{Front}
 use Rattle.piecewise_lex.specs.declared.batch.Batch.{Batch}
 use Rattle.cyc_lex.specs.Lexing.{lex, Stops, ended}
-use Rattle.piecewise_lex.specs.Fronts.{IsFront}
 use Rattle.piecewise_lex.specs.Feeding.{Parts, IsFed, Feeds, KeepsLaw, taken_chars, held_chars, tokens_taken, valid_chars, after_valid, is_cut, tokens_from, taken_in, comment_after}
 use Rattle.cyc_lex.specs.Lexing.{comment_len}
 use Rattle.piecewise_lex.specs.Batches.{IsOfText, TakesText, IsTaking, Takings, IsToldOf, TakesAll, TakesRest}
 use Rattle.piecewise_lex.specs.Runs.{IsKnown, IsKnownRun, IsAllRun}
 use Rattle.piecewise_lex.specs.declared.run.Known.{Known}
-use Rattle.piecewise_lex.specs.Taking.{reading}
 use Rattle.piecewise_lex.proofs.RunLaws.{run-waits, run-chars}
 use Rattle.std.specs.Global.{Vec}
 use Rattle.std.specs.Prelude.{◌==◌}

@@ -1,7 +1,6 @@
 //! Where a statement ends, and how many tokens it has.
 
-ghost use Rattle.std.specs.Prelude.{◌≡◌, ◌&&◌, ◌++◌, IfOk, List, codes, length, ℕ};
-ghost use Rattle.std.specs.Str.{bytes_eq};
+ghost use Rattle.std.specs.Prelude.{◌≡◌, ◌++◌, IfOk, List, length, ℕ};
 ghost use Rattle.cyc_lex.specs.Lexing.{HasRoom, with_tokens};
 ghost use Rattle.cyc_lex.specs.Placed.{placed};
 ghost use Rattle.piecewise_lex.specs.Feeding.{tokens_from};

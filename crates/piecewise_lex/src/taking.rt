@@ -1,8 +1,7 @@
 //! Taking tokens off the front of a text, of which more may come.
 
-ghost use Rattle.std.specs.Prelude.{◌≡◌, ◌==◌, ◌||◌, ◌&&◌, length, slice_index, false};
-ghost use Rattle.std.specs.Str.{chars, IsUtf8};
-ghost use Rattle.cyc_lex.specs.Lexing.{HasRoom, lex, Stops, comment_len};
+ghost use Rattle.std.specs.Prelude.{◌≡◌, ◌==◌, ◌||◌, length, false};
+ghost use Rattle.cyc_lex.specs.Lexing.{HasRoom};
 ghost use Rattle.piecewise_lex.specs.Taking.{Takes, stays};
 
 use cyc_lex::{Bad, Kind, Piece, Place, Stop, Token, check_len, next, next_char, skip_comment};

@@ -1,6 +1,5 @@
 //! The characters at the front of bytes, which may end within a character.
 
-ghost use Rattle.std.specs.Prelude.{◌≡◌};
 ghost use Rattle.piecewise_lex.specs.Valid.{IsValid};
 
 /// The text at the front of bytes, up to the first byte that begins no whole character, and the bytes from there on. They are

@@ -1,5 +1,5 @@
 -- A case at arguments, its locals as fresh variables.
-use Rattle.std.specs.Prelude.{ℕ, ◌+◌, ◌≤◌, List, slice_index_or}
+use Rattle.std.specs.Prelude.{ℕ, ◌+◌, List, slice_index_or}
 use Rattle.heap_formula.specs.declared.terms.Term.{Term}
 use Rattle.heap_formula.specs.declared.terms.Term.TheVariants.{Nil, Univ as Universal, Exist as Existential}
 use Rattle.heap_formula.specs.Symbolic.{SymbolicHeap}

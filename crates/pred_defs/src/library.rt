@@ -1,9 +1,7 @@
 // The definitions of a file, in order.
-ghost use Rattle.std.specs.Prelude.{◌≡◌, ◌≢◌, ◌≤◌, ◌<◌, ◌⊎◌, ◌++◌, ◌∷◌, [], length, Some, string_bytes, OnOk, OnErr, IfOk, IsOkUnless};
-ghost use Rattle.heap_formula.specs.Definitions.{Definition};
+ghost use Rattle.std.specs.Prelude.{◌≡◌, ◌≢◌, ◌≤◌, ◌<◌, ◌++◌, ◌∷◌, [], length, Some, OnOk, OnErr, IfOk, IsOkUnless};
 ghost use Rattle.heap_formula.specs.Meaning.{cases_of};
-ghost use Rattle.heap_formula.specs.Fresh.{heap_bound, heap_exists};
-ghost use Rattle.pred_defs.specs.Faults.{first_fault, has_name as list_has_name, is_long, has_far_local, has_stranger, push_fault, use_fault, case_fault, definition_fault, closed_fault, IsRefusal};
+ghost use Rattle.pred_defs.specs.Faults.{first_fault, has_name as list_has_name, is_long, has_far_local, has_stranger, push_fault, use_fault, case_fault, closed_fault, IsRefusal};
 
 use crate::faults::DefFault;
 use cyc_limits::{MOST_ARGUMENTS, MOST_CASES, MOST_LOCALS, MOST_PREDICATES, MOST_SPATIAL};

@@ -1,12 +1,12 @@
 -- The first flaw of what is kept of definitions is the first flaw of the definitions, and without a flaw all is kept.
-use Rattle.std.proofs.Common.{◌≡◌, ℕ, ◌+◌, ◌≤◌, List, [], ◌∷◌, None, refl, sym, ap, ◌∙◌}
+use Rattle.std.proofs.Common.{◌≡◌, ℕ, ◌+◌, ◌≤◌, List, [], ◌∷◌, None, refl, ap}
 use Rattle.std.specs.Prelude.{map}
 use Rattle.cyc_lex.specs.declared.fault.What.TheVariants.{Cases}
 use Rattle.heap_syntax.specs.declared.keep.Keep.TheVariants.{Beyond}
-use Rattle.pred_syntax.specs.Keeping.{heaps_front, definition_front}
+use Rattle.pred_syntax.specs.Keeping.{definition_front}
 use Rattle.pred_syntax.specs.Trees.{Heap, Definition}
 use Rattle.heap_reader.specs.Trees.{Heading}
-use Rattle.heap_reader.specs.Flaws.{Found, or_later, listed_flaw, heaps_flaw}
+use Rattle.heap_reader.specs.Flaws.{or_later, listed_flaw, heaps_flaw}
 use Rattle.heap_reader.proofs.NoFlaw.{neither}
 use Rattle.heap_reader.proofs.FlawFronts.{mapped_flaw, mapped_whole, fronts_flaw, fronts_whole}
 use Rattle.pred_reader.specs.declared.scope.Scope.TheVariants.{Case as InCase}

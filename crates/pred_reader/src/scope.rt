@@ -1,5 +1,5 @@
 // Terms with numbered variables, and where they stand.
-ghost use Rattle.std.specs.Prelude.{◌≡◌, ◌+◌, ◌<◌, ◌^◌};
+ghost use Rattle.std.specs.Prelude.{◌+◌, ◌<◌, ◌^◌};
 ghost use Rattle.cyc_lex.specs.declared.fault.What.TheVariants.{Variable};
 ghost use Rattle.pred_syntax.specs.declared.tree.TermTree.TheVariants.{Univ};
 ghost use Rattle.heap_reader.specs.Flaws.{IsWalk};

@@ -1,7 +1,7 @@
 // A walk over definitions in the order of their tokens, up to the first flaw. Each function is given the number of the
 // part's first token and gives that of the token after it and the one that follows every part of its kind. A heap has at
 // most `most` spatial atoms.
-ghost use Rattle.std.specs.Prelude.{◌≡◌, ◌+◌, ◌<◌, ◌≤◌, ◌^◌, length, map};
+ghost use Rattle.std.specs.Prelude.{◌+◌, ◌<◌, ◌≤◌, ◌^◌, length, map};
 ghost use Rattle.cyc_lex.specs.declared.fault.What.TheVariants.{Cases};
 ghost use Rattle.pred_syntax.specs.Trees.{heap_of, definition_of};
 ghost use Rattle.heap_reader.specs.Spans.{total, heap_span};

@@ -1,9 +1,8 @@
 //! Reading and writing the definitions of predicates.
 
-ghost use Rattle.std.specs.Prelude.{◌≡◌, ◌++◌, ◌∷◌, [], map, OnOk};
-ghost use Rattle.cyc_lex.specs.Writing.{write, write_all};
+ghost use Rattle.std.specs.Prelude.{◌≡◌, map, OnOk};
+ghost use Rattle.cyc_lex.specs.Writing.{write_all};
 ghost use Rattle.cyc_grammar.specs.Giving.{Gives, with_front};
-ghost use Rattle.heap_syntax.specs.Words.{pred_word};
 ghost use Rattle.pred_syntax.specs.Grammar.{cases, kept_cases, definition, kept_definition, definitions};
 ghost use Rattle.pred_syntax.specs.Trees.{heap_of, definition_of};
 

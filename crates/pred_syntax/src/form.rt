@@ -1,7 +1,7 @@
 //! Terms with numbered variables: reading and writing them.
 
 ghost use Rattle.std.specs.Prelude.{◌≡◌, OnOk};
-ghost use Rattle.cyc_lex.specs.Writing.{write, write_all};
+ghost use Rattle.cyc_lex.specs.Writing.{write_all};
 ghost use Rattle.cyc_grammar.specs.Giving.{Gives};
 ghost use Rattle.pred_syntax.specs.Grammar.{term, uterm, terms};
 

@@ -1,12 +1,12 @@
 -- Lists whose members fit, are without a flaw, or pass a test.
-use Rattle.std.proofs.Common.{◌≡◌, ℕ, suc, ◌+◌, ◌<◌, ◌≤◌, Bool, true, List, [], ◌∷◌, map, length, None, refl, ap, ◌∙◌, arith}
+use Rattle.std.proofs.Common.{◌≡◌, ℕ, suc, ◌+◌, ◌<◌, ◌≤◌, Bool, true, List, [], ◌∷◌, map, length, None, refl, arith}
 use Rattle.std.specs.List.{list_all}
 use Rattle.std.proofs.lemmas.Bool.{and_from}
 use Rattle.heap_formula.specs.Words.{Each}
 use Rattle.cyc_grammar.specs.Syntax.{Syntax, Class, after, list1, fits_many}
 use Rattle.heap_syntax.specs.Grammar as shared
 pub use Rattle.heap_reader.proofs.NoFlaw.{none_later}
-use Rattle.heap_reader.specs.Flaws.{Found, or_later, listed_flaw}
+use Rattle.heap_reader.specs.Flaws.{Found, listed_flaw}
 
 -- ---- members
 

@@ -1,5 +1,5 @@
 // What a problem keeps. The function does nothing.
-ghost use Rattle.std.specs.Prelude.{◌≡◌, length};
+ghost use Rattle.std.specs.Prelude.{length};
 ghost use Rattle.heap_formula.specs.Words.{Each};
 ghost use Rattle.goto_lang.specs.Lines.{IsProgram};
 ghost use Rattle.format_limits.specs.Limits.{IsDefinitionWithin, IsJudgementWithin};

@@ -1,10 +1,8 @@
 //! The terms, spatial atoms and program variables of problem files.
 
-ghost use Rattle.std.specs.Prelude.{◌≡◌};
 ghost use Rattle.cyc_grammar.specs.Giving.{Gives};
 ghost use Rattle.problem_syntax.specs.Grammar.{primes, behind_address, spatial, term};
 ghost use Rattle.problem_syntax.specs.Trees.{named_of};
-ghost use Rattle.heap_syntax.specs.Trees.{spatial_of};
 ghost use Rattle.std.specs.Prelude.{map};
 
 use crate::tree::NameTree;

@@ -1,5 +1,5 @@
 // The laws of correct files. The functions do nothing.
-ghost use Rattle.std.specs.Prelude.{◌≡◌, ◌≤◌, ℕ, List, Some, slice_get, length};
+ghost use Rattle.std.specs.Prelude.{◌≡◌, ℕ, List, Some, slice_get};
 ghost use Rattle.heap_formula.specs.Definitions.{Definition, HasFewCases};
 ghost use Rattle.heap_formula.specs.Judgements.{JudgementHolds};
 ghost use Rattle.heap_formula.specs.declared.commands.Command.{Command};

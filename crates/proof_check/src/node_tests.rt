@@ -1,8 +1,7 @@
 // The first fault of a node, or its edges.
-ghost use Rattle.std.specs.Prelude.{Ok, Some, ◌≡◌, ◌<◌, ◌^◌, [], ℕ, length, slice_get, nat_lt, IfOk};
+ghost use Rattle.std.specs.Prelude.{Ok, Some, ◌≡◌, ◌<◌, ◌^◌, length, slice_get, nat_lt, IfOk};
 ghost use Rattle.std.specs.Option.{option_copied};
 ghost use Rattle.heap_formula.specs.Words.{Each};
-ghost use Rattle.heap_formula.specs.declared.judgements.Premise.{Premise as PremiseValue};
 ghost use Rattle.heap_formula.specs.declared.proof_rules.RuleFault.TheVariants.{NoSuchNode};
 ghost use Rattle.rule_table.specs.LinkTable.{first_of, fault_unless};
 ghost use Rattle.rule_table.specs.Nodes.{Node, same_judgement as judgements_agree, differs as premise_differs, premises_fault as first_premises_fault, node_fault as first_node_fault, edges_to, edges_of};

@@ -1,5 +1,5 @@
 -- The first flaw of what is kept of a node is the first flaw of the node, and without a flaw all is kept.
-use Rattle.std.proofs.Common.{◌≡◌, ℕ, ◌+◌, ◌≤◌, List, length, Some, None, refl, sym, ap, ◌∙◌}
+use Rattle.std.proofs.Common.{◌≡◌, ℕ, ◌+◌, ◌≤◌, List, length, Some, None, refl, ap, ◌∙◌}
 use Rattle.std.specs.Prelude.{◌||◌, nat_eq, nat_lt, nat_le}
 use Rattle.cyc_lex.specs.declared.fault.IllFault.TheVariants.{NoLine}
 use Rattle.cyc_lex.specs.declared.fault.What.TheVariants.{Disjuncts, Nodes}
@@ -12,8 +12,8 @@ use Rattle.heap_reader.specs.Flaws.{Found, ill_if, over_if, or_later, heap_flaw,
 use Rattle.heap_reader.proofs.NoFlaw.{neither}
 use Rattle.heap_reader.proofs.FlawFronts.{front_flaw, front_whole, fronts_flaw, fronts_whole}
 use Rattle.pred_reader.specs.declared.scope.Scope.TheVariants.{Outside as InNode}
-use Rattle.proof_file.specs.Flaws.{term_flaw, entailment_flaw, state_flaw, judgement_flaw, reason_flaw, node_flaw}
-use Rattle.proof_file.specs.Spans.{term_span, judgement_span, node_span}
+use Rattle.proof_file.specs.Flaws.{term_flaw, entailment_flaw, judgement_flaw, reason_flaw, node_flaw}
+use Rattle.proof_file.specs.Spans.{term_span, judgement_span}
 
 module _ (most : ℕ) (m : ℕ) (pures_within : 64 ≤ m) (spatials_within : most ≤ m) (heaps_within : 16 ≤ m) (hs : List Heading) where
   abbrev heap_found : ℕ → Heap → Found

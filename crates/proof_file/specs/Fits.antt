@@ -13,7 +13,7 @@ use Rattle.command_syntax.specs.declared.tree.OperandTree.TheVariants as operand
 use Rattle.command_syntax.specs.declared.tree.ChangeTree.TheVariants as changes
 use Rattle.command_syntax.specs.declared.tree.CommandTree.TheVariants.{Stop, Goto, Free, IfAny, If, StoreAtNil, Change}
 use Rattle.command_syntax.specs.Grammar as commands
-use Rattle.proof_syntax.specs.Grammar.{sign, definition, variable, lines, disjuncts, entailment, state, judgement, numbers, bracketed, two_numbers, side, rewrite, split, cut, instantiate, pair, pairs1, pairs, link, parts, reason, premises, node, definitions, more_nodes, nodes, body, file, from_reason, comma, or_word, by_word, some_pair, some_node}
+use Rattle.proof_syntax.specs.Grammar.{definition, variable, lines, disjuncts, entailment, state, judgement, numbers, bracketed, two_numbers, side, rewrite, split, cut, instantiate, pair, pairs1, pairs, link, parts, reason, premises, node, definitions, more_nodes, nodes, body, file, from_reason, comma, or_word, by_word, some_pair, some_node}
 
 -- ---- judgements
 

@@ -1,13 +1,13 @@
 // A walk over a file's tree in the order of its tokens, up to the first flaw. Each function is given the number of the
 // part's first token and gives that of the token after it and the one that follows every part of its kind. A heap has at
 // most `most` spatial atoms.
-ghost use Rattle.std.specs.Prelude.{◌≡◌, ◌+◌, ◌<◌, ◌≤◌, ◌^◌, length, map, nat_lt};
+ghost use Rattle.std.specs.Prelude.{◌≡◌, ◌+◌, ◌<◌, ◌^◌, map, nat_lt};
 ghost use Rattle.cyc_lex.specs.declared.fault.What.TheVariants.{Variable};
-ghost use Rattle.proof_syntax.specs.Trees.{heap_of, definition_of, entailment_of, judgement_of, link_of, reason_of, node_of, file_of};
+ghost use Rattle.proof_syntax.specs.Trees.{heap_of, entailment_of, judgement_of, link_of, reason_of, node_of, file_of};
 ghost use Rattle.heap_reader.specs.Spans.{total, total_or, heap_span, premises_rest};
-ghost use Rattle.heap_reader.specs.Flaws.{or_later, over_if, listed_flaw, heaps_flaw, IsName, IsWalk};
-ghost use Rattle.proof_file.specs.Spans.{term_span, definition_span, entailment_span, judgement_span, pair_span, link_span, reason_span, node_span};
-ghost use Rattle.proof_file.specs.Flaws.{headings, term_flaw, head_flaw, definition_flaw, entailment_flaw, state_flaw, judgement_flaw, pair_flaw, reason_flaw, node_flaw, first_node, file_flaw as first_flaw};
+ghost use Rattle.heap_reader.specs.Flaws.{or_later, over_if, listed_flaw, IsWalk};
+ghost use Rattle.proof_file.specs.Spans.{term_span, entailment_span, judgement_span, pair_span, link_span, reason_span, node_span};
+ghost use Rattle.proof_file.specs.Flaws.{headings, term_flaw, entailment_flaw, state_flaw, judgement_flaw, pair_flaw, reason_flaw, node_flaw, first_node, file_flaw as first_flaw};
 ghost use Rattle.pred_reader.specs.declared.scope.Scope.TheVariants.{Outside};
 
 use crate::scope::ProgramVariables;

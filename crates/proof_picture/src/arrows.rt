@@ -1,5 +1,5 @@
 //! The edges that stand in a picture.
-ghost use Rattle.std.specs.Prelude.{◌≡◌, ◌<◌, ◌^◌, length, map, IfOk};
+ghost use Rattle.std.specs.Prelude.{◌≡◌, ◌<◌, map, IfOk};
 ghost use Rattle.std.specs.Option.{option_copied};
 ghost use Rattle.rule_table.specs.Nodes.{Node};
 ghost use Rattle.node_reasons.specs.Answers.{companion_in, targets_of as target_numbers};

@@ -1,5 +1,5 @@
 //! The labels of the nodes of a file.
-ghost use Rattle.std.specs.Prelude.{◌≡◌, IfOk, map, length, ◌<◌, ◌^◌, ◌-◌};
+ghost use Rattle.std.specs.Prelude.{◌≡◌, IfOk, map, ◌<◌, ◌-◌};
 ghost use Rattle.cyc_lex.specs.Spelling.{Spells};
 ghost use Rattle.proof_syntax.specs.Grammar.{node as node_syntax, body};
 ghost use Rattle.proof_syntax.specs.Trees.{node_of};

@@ -1,5 +1,5 @@
 //! How far the words of a node have come, and what stands before the next.
-ghost use Rattle.std.specs.Prelude.{◌≡◌, ◌≤◌};
+ghost use Rattle.std.specs.Prelude.{◌≡◌};
 ghost use Rattle.proof_picture.specs.Layout.{after_word as spot_after, begins_line as starts_line, first_flag, flags_behind, gap_before, other_flags, signs_with, stands_out as is_bold, start};
 ghost use Rattle.proof_picture.specs.Places.{place_of};
 

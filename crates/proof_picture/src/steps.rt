@@ -1,5 +1,5 @@
 //! The steps that a verdict refuses.
-ghost use Rattle.std.specs.Prelude.{◌≡◌, ◌||◌, ◌++◌, ℕ, IfOk, OnOk};
+ghost use Rattle.std.specs.Prelude.{◌≡◌, ◌||◌, ℕ, IfOk, OnOk};
 ghost use Rattle.proof_picture.specs.Red.{has_step, refused_steps, step_in};
 
 use cyc_memory::OutOfMemory;

@@ -1,6 +1,5 @@
 //! Reading one statement.
 
-ghost use Rattle.std.specs.Prelude.{◌≡◌};
 ghost use Rattle.cyc_grammar.specs.Giving.{Gives};
 ghost use Rattle.proof_statements.specs.Left.{First, Preds, Lines, Nodes, statement_of, kept_statement, first_statement, last_statement};
 ghost use Rattle.proof_statements.specs.Trees.{line_or_node_of, pred_or_later_of, node_or_end_of};

@@ -1,13 +1,13 @@
 //! Reading definitions, nodes and whole files.
 
-ghost use Rattle.std.specs.Prelude.{◌≡◌, ◌<◌, ◌^◌, ◌++◌, ◌∷◌, [], true, length, map, IfErr};
+ghost use Rattle.std.specs.Prelude.{◌≡◌, ◌<◌, ◌^◌, true, length, map};
 ghost use Rattle.cyc_lex.specs.Word.{word_of, EndsOnce};
 ghost use Rattle.cyc_grammar.specs.Syntax.{read_whole};
 ghost use Rattle.cyc_grammar.specs.Classes.{are_tokens};
 ghost use Rattle.cyc_grammar.specs.Faults.{Reads, IsRead};
-ghost use Rattle.cyc_grammar.specs.Giving.{Gives, IsWithin, with_front, words};
-ghost use Rattle.proof_syntax.specs.Grammar.{kept_disjuncts, node_word, definitions, kept_entailment, kept_state, kept_judgement, node, kept_node, more_nodes, nodes, body, file};
-ghost use Rattle.proof_syntax.specs.Trees.{File, heap_of, definition_of, entailment_of, judgement_of, node_of, file_of};
+ghost use Rattle.cyc_grammar.specs.Giving.{Gives, with_front, words};
+ghost use Rattle.proof_syntax.specs.Grammar.{kept_disjuncts, definitions, kept_entailment, kept_state, kept_judgement, node, kept_node, more_nodes, nodes, body, file};
+ghost use Rattle.proof_syntax.specs.Trees.{File, heap_of, entailment_of, judgement_of, node_of, file_of};
 
 use crate::line_lists::lines;
 use crate::read_reasons::kept_reason;

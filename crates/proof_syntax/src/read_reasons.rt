@@ -1,9 +1,9 @@
 //! Reading the reason of a node.
 
-ghost use Rattle.std.specs.Prelude.{◌≡◌, ◌++◌, ◌∷◌, [], Ok, map};
+ghost use Rattle.std.specs.Prelude.{Ok, map};
 ghost use Rattle.cyc_grammar.specs.Syntax.{many, after, is_one, read_class};
 ghost use Rattle.cyc_grammar.specs.Giving.{Gives, with_front};
-ghost use Rattle.proof_syntax.specs.Grammar.{comma, side, rewrite, split, kept_cut, instantiate, pair, pairs1, pairs, link, Parts, kept_parts, to_reason, reason_word, kept_reason, kept_parts_read};
+ghost use Rattle.proof_syntax.specs.Grammar.{comma, side, rewrite, split, kept_cut, instantiate, pair, pairs1, pairs, link, kept_parts, reason_word, kept_reason, kept_parts_read};
 ghost use Rattle.proof_syntax.specs.Trees.{heap_of, link_of, reason_of};
 
 use crate::reason_word::{ReasonWord, side_from_text};

@@ -1,11 +1,11 @@
 //! Writing definitions, nodes and whole files.
 
-ghost use Rattle.std.specs.Prelude.{◌≡◌, map, OnOk, IfOk, false};
+ghost use Rattle.std.specs.Prelude.{◌≡◌, map, OnOk, IfOk};
 ghost use Rattle.cyc_lex.specs.Spacing.{text_of};
 ghost use Rattle.cyc_lex.specs.Spelling.{Spells};
-ghost use Rattle.cyc_lex.specs.Writing.{write, write_all};
+ghost use Rattle.cyc_lex.specs.Writing.{write_all};
 ghost use Rattle.proof_syntax.specs.Grammar.{disjuncts, definitions, entailment, state, judgement, node, more_nodes, nodes, body, file};
-ghost use Rattle.proof_syntax.specs.Trees.{heap_of, definition_of, entailment_of, judgement_of, node_of, file_of};
+ghost use Rattle.proof_syntax.specs.Trees.{heap_of, entailment_of, judgement_of, node_of, file_of};
 
 use crate::line_lists::write_lines;
 use crate::tree::{EntailmentTree, FileTree, HeapTree, JudgementTree, NodeTree};

@@ -1,9 +1,9 @@
 //! Writing the reason of a node.
 
-ghost use Rattle.std.specs.Prelude.{◌≡◌, map, true, OnOk};
-ghost use Rattle.cyc_lex.specs.Writing.{write, write_all};
+ghost use Rattle.std.specs.Prelude.{◌≡◌, map, OnOk};
+ghost use Rattle.cyc_lex.specs.Writing.{write_all};
 ghost use Rattle.cyc_grammar.specs.Syntax.{after, words_many, fits_many, list1};
-ghost use Rattle.proof_syntax.specs.Grammar.{uterm, comma, pair, some_pair, pairs, link, reason, behind_word, FitsBehind};
+ghost use Rattle.proof_syntax.specs.Grammar.{comma, pair, some_pair, pairs, link, reason, behind_word, FitsBehind};
 ghost use Rattle.proof_syntax.specs.Trees.{link_of, reason_of, word_of_reason};
 
 use crate::reason_word::{ReasonWord, text_of_side};

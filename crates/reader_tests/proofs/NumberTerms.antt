@@ -1,10 +1,7 @@
 -- Numbers as terms.
-use Rattle.std.proofs.Common.{◌≡◌, ℕ, List, Result, Ok, refl, subst}
-use Rattle.cyc_lex.specs.Word.{Word}
+use Rattle.std.proofs.Common.{ℕ, List, refl}
 use Rattle.cyc_grammar.specs.Syntax.{Syntax, one}
 use Rattle.cyc_grammar.specs.Classes.{number}
-use Rattle.cyc_grammar.specs.Giving.{Gives}
-use Rattle.cyc_grammar.specs.declared.cursor.Refusal.{Refusal}
 use Rattle.cyc_grammar.proofs.Laws.{Lawful, one-law}
 use Rattle.cyc_grammar.proofs.ClassLaws.{symbol-law, keyword-law, number-law}
 use Rattle.heap_syntax.specs.Trees.{Heap}

@@ -1,10 +1,7 @@
 -- Numbers as program variables.
-use Rattle.std.proofs.Common.{◌≡◌, List, Result, Ok, refl, subst}
-use Rattle.cyc_lex.specs.Word.{Word}
-use Rattle.cyc_grammar.specs.Syntax.{Syntax, one}
+use Rattle.std.proofs.Common.{refl}
+use Rattle.cyc_grammar.specs.Syntax.{one}
 use Rattle.cyc_grammar.specs.Classes.{number}
-use Rattle.cyc_grammar.specs.Giving.{Gives}
-use Rattle.cyc_grammar.specs.declared.cursor.Refusal.{Refusal}
 use Rattle.cyc_grammar.proofs.Laws.{Lawful, one-law}
 use Rattle.cyc_grammar.proofs.ClassLaws.{number-law}
 use Rattle.heap_syntax.specs.declared.version.Version.TheVariants.{Two}

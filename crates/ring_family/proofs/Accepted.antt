@@ -1,5 +1,5 @@
 -- What a check can say of the ring's file: that it is accepted, an entailment's proof of 8 k + 1 nodes with one link.
-use Rattle.std.proofs.Common.{◌≡◌, ℕ, zero, suc, ◌+◌, ◌*◌, ◌≤◌, List, [], ◌∷◌, Bool, true, false, cond, Some, length, refl, arith, ap, ◌∙◌}
+use Rattle.std.proofs.Common.{◌≡◌, ℕ, zero, suc, ◌+◌, ◌*◌, ◌≤◌, List, [], ◌∷◌, Bool, true, false, cond, Some, arith, ap, ◌∙◌}
 use Rattle.std.specs.Prelude.{slice_get, count_by}
 use Rattle.std.proofs.lemmas.List.{map-append}
 use Rattle.std.proofs.lemmas.List.Sums.{sum_by-append}
@@ -22,7 +22,6 @@ use Rattle.proof_check.specs.Files.{AreRight, graph_of, nodes_of}
 use Rattle.proof_check.specs.Verdicts.{file_graph, state_limit, IsCorrect, IsVerdict}
 use Rattle.proof_check.proofs.OneAnswer.{at_most_more, correct_is_accepted}
 use Rattle.ring_family.specs.Ring.{holds, ring_definitions, ring_block, ring_bud, ring_nodes, in_blocks, file_node, file_nodes}
-use Rattle.ring_family.proofs.Blocks.{blocks_long}
 use Rattle.ring_family.proofs.Correct.{right, paths, states_at_most, moved}
 
 -- ---- the root

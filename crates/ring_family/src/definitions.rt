@@ -1,6 +1,6 @@
 // The definitions of the family.
-ghost use Rattle.std.specs.Prelude.{◌≡◌, ◌<◌, ◌≤◌, ◌+◌, ◌-◌, ◌++◌, ◌∷◌, [], decimal, string_bytes, IfOk};
-ghost use Rattle.ring_family.specs.Ring.{after, list_of, definitions_from, ring_definitions};
+ghost use Rattle.std.specs.Prelude.{◌≡◌, ◌<◌, ◌+◌, ◌-◌, ◌∷◌, [], decimal, string_bytes, IfOk};
+ghost use Rattle.ring_family.specs.Ring.{after, list_of, ring_definitions};
 
 use crate::formulas::{cell_then, is_nil};
 use cyc_memory::OutOfMemory;

@@ -1,5 +1,5 @@
 // The formulas of the family, and nodes over them.
-ghost use Rattle.std.specs.Prelude.{◌≡◌, ◌≤◌, [], ◌∷◌, length, IfOk};
+ghost use Rattle.std.specs.Prelude.{◌≡◌, [], ◌∷◌, IfOk};
 ghost use Rattle.heap_formula.specs.declared.atoms.Spatial.TheVariants.{Cell, Pred};
 ghost use Rattle.ring_family.specs.Ring.{emp as nothing, is_nil as nil_heap, holds as call_heap, cell_then as cell_heap, by_rule, file_node};
 

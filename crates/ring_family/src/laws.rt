@@ -1,5 +1,5 @@
 // The laws of the ring family. The functions do nothing.
-ghost use Rattle.std.specs.Prelude.{◌≡◌, ◌<◌, ◌≤◌, ◌+◌, ◌*◌, ℕ, List, [], ◌∷◌, Bool, true, false, Some, slice_get, length, count_by};
+ghost use Rattle.std.specs.Prelude.{◌≡◌, ◌<◌, ◌≤◌, ◌+◌, ◌*◌, ℕ, [], ◌∷◌, Bool, true, false, Some, slice_get, length, count_by};
 ghost use Rattle.heap_formula.specs.declared.terms.Term.TheVariants.{Univ};
 ghost use Rattle.heap_formula.specs.declared.judgements.Judgement.TheVariants.{Entail};
 ghost use Rattle.heap_formula.specs.declared.proof_rules.Link.{Link};

@@ -1,6 +1,6 @@
 -- Rules that change the pure atoms alone are sound.
-use Rattle.std.proofs.Common.{◌≡◌, ℕ, Bool, true, false, List, [], ◌∷◌, ◌++◌, Some, refl}
-use Rattle.std.specs.Prelude.{slice_get, nat_eq}
+use Rattle.std.proofs.Common.{◌≡◌, ℕ, Bool, true, false, List, [], ◌∷◌, ◌++◌, refl}
+use Rattle.std.specs.Prelude.{nat_eq}
 use Rattle.std.proofs.lemmas.Bool.Decides.{Decides-eqb}
 use Rattle.heap_formula.specs.declared.terms.Term.{Term}
 use Rattle.heap_formula.specs.declared.atoms.Pure.{Pure}
@@ -19,7 +19,7 @@ use Rattle.heap_formula.specs.Positions.{without}
 use Rattle.rule_table.proofs.Frames.{pairs_follow}
 use Rattle.rule_table.proofs.Rewrites.{Each-without}
 use Rattle.rule_table.proofs.Conclusions.{use_premise}
-use Rattle.formula_facts.proofs.AllMembers.{each_append, each_at}
+use Rattle.formula_facts.proofs.AllMembers.{each_append}
 use Rattle.rule_table.specs.Table.{with_pures}
 
 -- the conclusion does not speak of the antecedent

@@ -1,28 +1,20 @@
 -- Rewrite is sound.
-use Rattle.std.proofs.Common.{◌≡◌, ℕ, zero, suc, ◌⊎◌, Bool, true, false, List, [], ◌∷◌, Some, refl, sym, ap, ◌∙◌, subst, inl, inr, map, cond}
+use Rattle.std.proofs.Common.{◌≡◌, ℕ, zero, suc, Bool, true, false, List, [], ◌∷◌, refl, sym, ap, ◌∙◌, cond}
 use Rattle.std.proofs.lemmas.Bool.Decides.{Decides-eqb}
-use Rattle.std.specs.Prelude.{slice_get, slice_index, nat_eq}
+use Rattle.std.specs.Prelude.{slice_index, nat_eq}
 use Rattle.heap_formula.specs.declared.terms.Term.{Term}
 use Rattle.heap_formula.specs.declared.terms.Term.TheVariants.{Nil, Univ, Exist}
 use Rattle.heap_formula.specs.declared.atoms.Pure.{Pure}
 use Rattle.heap_formula.specs.declared.atoms.Pure.TheVariants.{Eq, Neq}
 use Rattle.heap_formula.specs.declared.atoms.Spatial.{Spatial}
 use Rattle.heap_formula.specs.declared.atoms.Spatial.TheVariants.{Cell, Pred}
-use Rattle.heap_formula.specs.declared.commands.Command.{Command}
-use Rattle.heap_formula.specs.declared.judgements.Judgement.TheVariants.{Entail}
 use Rattle.heap_formula.specs.Symbolic.{SymbolicHeap}
-use Rattle.heap_formula.specs.Definitions.{Definition}
 use Rattle.heap_formula.specs.Words.{Each}
 use Rattle.heap_formula.specs.Values.{Stack, value}
-use Rattle.heap_formula.specs.Meaning.{PureHolds, Holds, at_stage, Satisfies}
-use Rattle.heap_formula.specs.Judgements.{IsLocallySound}
-use Rattle.heap_formula.specs.Positions.{without, same_pairs}
-use Rattle.heap_formula.specs.Closedness.{InPure, InSpatial, InHeap, IsUniversal}
-use Rattle.heap_formula.specs.Substitution.{apply_term, apply_heap}
-use Rattle.rule_table.proofs.Substitutes.{holds_same, along, back_along}
-use Rattle.rule_table.proofs.Frames.{value_universal, pairs_follow}
-use Rattle.formula_facts.proofs.AllMembers.{each_at, each_any}
-use Rattle.formula_facts.proofs.SomeMember.{one_unmap}
+use Rattle.heap_formula.specs.Positions.{without}
+use Rattle.heap_formula.specs.Closedness.{InPure, InSpatial, InHeap}
+use Rattle.heap_formula.specs.Substitution.{apply_term}
+use Rattle.formula_facts.proofs.AllMembers.{each_any}
 
 abbrev pub AnyTerm : Term → Type 0
 AnyTerm _ = Unit {0}

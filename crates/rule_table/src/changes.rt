@@ -1,5 +1,5 @@
 // Terms in place of others.
-ghost use Rattle.std.specs.Prelude.{◌≡◌, ◌+◌, ◌≤◌, ◌++◌, min, map, IfOk, OnOk, length, slice_index_or};
+ghost use Rattle.std.specs.Prelude.{◌≡◌, ◌+◌, ◌≤◌, ◌++◌, min, map, IfOk, OnOk, slice_index_or};
 ghost use Rattle.heap_formula.specs.declared.terms.Term.TheVariants.{Nil, Exist};
 ghost use Rattle.heap_formula.specs.Substitution.{in_pure, in_spatial, in_heap};
 ghost use Rattle.rule_table.specs.Changes.{changed, IsSmall};

@@ -1,5 +1,5 @@
 // Atoms at places.
-ghost use Rattle.std.specs.Prelude.{◌≡◌, ◌≤◌, ◌<◌, ◌+◌, length, IfOk, Bool};
+ghost use Rattle.std.specs.Prelude.{◌≡◌, ◌≤◌, ◌<◌, ◌+◌, length, IfOk};
 ghost use Rattle.heap_formula.specs.Positions.{chosen, chosen_place, pairs_from};
 ghost use Rattle.rule_table.specs.Tests.{ascend_from, has_number};
 ghost use Rattle.rule_table.specs.Choosing.{chosen_from, chosen_pairs as pairs_chosen, taken};

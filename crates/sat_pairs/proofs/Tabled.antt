@@ -1,8 +1,8 @@
 -- Rows of tables.
-use Rattle.std.proofs.Common.{◌≡◌, ℕ, zero, suc, ◌+◌, ◌<◌, List, [], ◌∷◌, ◌++◌, map, length, Bool, true, false, get_or, arith, sym, refl, ap, ◌∙◌, subst}
-use Rattle.std.specs.Prelude.{slice_set, replicate}
+use Rattle.std.proofs.Common.{◌≡◌, ℕ, zero, suc, ◌+◌, ◌<◌, List, [], ◌∷◌, ◌++◌, map, length, Bool, true, false, get_or, arith, sym, ap, ◌∙◌, subst}
+use Rattle.std.specs.Prelude.{slice_set}
 use Rattle.pair_family.specs.BasePairs.{BasePair}
-use Rattle.pair_family.specs.Tables.{Table, pairs_of}
+use Rattle.pair_family.specs.Tables.{pairs_of}
 use Rattle.list_facts.specs.Words.{IsMember}
 use Rattle.pair_states.specs.Labels.{IsAdded}
 use Rattle.sat_pairs.specs.Growth.{with_pair, IsAddedTo}

@@ -1,5 +1,5 @@
 // Terms by number: which are kept before each atom, and where.
-ghost use Rattle.std.specs.Prelude.{◌≡◌, ◌<◌, ◌++◌, ◌∷◌, [], if◌then◌else◌, length, map, nat_eq, IfOk};
+ghost use Rattle.std.specs.Prelude.{◌≡◌, ◌<◌, ◌∷◌, length, map, nat_eq, IfOk};
 ghost use Rattle.heap_formula.specs.declared.terms.Term.TheVariants.{Nil};
 ghost use Rattle.pair_family.specs.Classes.{term_number};
 ghost use Rattle.std.specs.List.{list_any};

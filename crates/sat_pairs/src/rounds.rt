@@ -1,10 +1,9 @@
 // The base pairs of all predicates.
-ghost use Rattle.std.specs.Prelude.{ℕ, ◌≡◌, ◌<◌, ◌≤◌, ◌+◌, ◌↔◌, [], length, Err, IfOk, slice_get, Some};
+ghost use Rattle.std.specs.Prelude.{ℕ, ◌≡◌, ◌<◌, ◌+◌, length, Err, IfOk, Some};
 ghost use Rattle.heap_formula.specs.Meaning.{cases_of};
-ghost use Rattle.heap_formula.specs.Words.{Each, OneOf};
 ghost use Rattle.pair_family.specs.BasePairs.{BasePair};
 ghost use Rattle.pair_family.specs.Family.{CaseGives, InFamily, arity_of};
-ghost use Rattle.pair_family.specs.Tables.{IsTable, HasAtMost, HasMoreThan, in_table, pairs_of};
+ghost use Rattle.pair_family.specs.Tables.{IsTable, HasAtMost, HasMoreThan, pairs_of};
 ghost use Rattle.list_facts.specs.Words.{IsMember};
 ghost use Rattle.sat_pairs.specs.Growth.{total, IsPartOf, IsGrown, HasGiven, HasAllGiven};
 

@@ -9,8 +9,7 @@ use Rattle.proof_graph.specs.declared.graph_nodes.NodeView.{NodeView}
 use Rattle.proof_graph.specs.HeapViews.{judgement_of}
 use Rattle.proof_graph.specs.NodeViews.{IsViewed}
 use Rattle.proof_graph.specs.ReasonViews.{reason_of}
-use Rattle.search_moves.specs.States.{has_rule, is_work, is_unfold, is_on_line, works_on}
-use Rattle.search_moves.specs.Offering.{is_entailment}
+use Rattle.search_moves.specs.States.{has_rule, is_work, is_on_line, works_on}
 use Rattle.list_facts.proofs.Places.{get_within}
 
 lower : {X : Type 0} (xs : List X) (n v : ℕ) (x : X) → v < n → slice_get xs v ≡ Some x → drop v (take n xs) ≡ x ∷ drop (suc v) (take n xs)

@@ -1,6 +1,6 @@
 // Which Distincts tell a disequation.
 ghost use Rattle.std.specs.Prelude.{◌≡◌, ◌≤◌, ◌++◌, IfOk, OnOk, length};
-ghost use Rattle.search_moves.specs.Entailments.{apart as apart_as, is_or_mirrors, distinct_at, distincts_with, distincts_for as distincts_for_of, distincts_if, distincts as distincts_of};
+ghost use Rattle.search_moves.specs.Entailments.{apart as apart_as, is_or_mirrors, distincts_with, distincts_for as distincts_for_of, distincts as distincts_of};
 ghost use Rattle.rule_table.specs.Tests.{address_of};
 ghost use Rattle.rule_table.specs.RuleLink.{mirror_pure};
 

@@ -1,6 +1,5 @@
 // Rules that name atoms by their places.
 ghost use Rattle.std.specs.Prelude.{◌≡◌, ◌≤◌, ◌++◌, IfOk, OnOk, length};
-ghost use Rattle.fold_offers.specs.Places.{each_place};
 ghost use Rattle.search_moves.specs.Entailments.{choices as choices_of, unfolds as unfolds_of, pure_rights as pure_rights_of, rewrites as rewrites_of, side_of, frames_from, cell_frames as cell_frames_of, predicate_frames as predicate_frames_of};
 
 use cyc_limits::MOST_PURE;

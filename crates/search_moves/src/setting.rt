@@ -1,5 +1,5 @@
 // What is assumed, and which rules have no fault.
-ghost use Rattle.std.specs.Prelude.{◌≡◌, IfOk, OnOk, ◌++◌, false};
+ghost use Rattle.std.specs.Prelude.{◌≡◌, IfOk, false};
 ghost use Rattle.std.specs.List.{filter, list_any};
 ghost use Rattle.fold_offers.specs.Places.{first_that};
 ghost use Rattle.search_moves.specs.Trying.{goes as goes_at};

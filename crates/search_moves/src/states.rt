@@ -1,5 +1,5 @@
 // The rules at a symbolic state of a program, line by line.
-ghost use Rattle.std.specs.Prelude.{◌≡◌, ◌≤◌, ◌<◌, ◌++◌, IfOk, length};
+ghost use Rattle.std.specs.Prelude.{◌≡◌, ◌<◌, IfOk, length};
 ghost use Rattle.std.specs.List.{list_any};
 ghost use Rattle.heap_formula.specs.Programs.{counted_from_one};
 ghost use Rattle.rule_table.specs.Tests.{equated as are_equated};

@@ -1,6 +1,5 @@
 //! A search over words of two letters. The links are tried before the first letter alone.
 ghost use Rattle.std.specs.Prelude.{ℕ, List, [], ◌∷◌, ◌≡◌, ◌&&◌, length, nat_eq, nat_le, nat_lt, if◌then◌else◌};
-ghost use Rattle.derivation_search.specs.System.{System};
 
 use cyc_memory::OutOfMemory;
 use derivation_search::{Moves, Offers, Stop, Tried, search_depth};

@@ -1,5 +1,5 @@
 // The draft of a proof.
-ghost use Rattle.std.specs.Prelude.{◌≤◌, ◌<◌, IfOk};
+ghost use Rattle.std.specs.Prelude.{◌<◌};
 
 use cyc_memory::OutOfMemory;
 use heap_formula::{Judgement, Pairs, Premise, Reason, Rule};

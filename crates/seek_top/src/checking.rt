@@ -1,6 +1,5 @@
 // The check of what was found.
 ghost use Rattle.std.specs.Prelude.{◌≡◌, IsTrue, IfOk, Some, slice_get};
-ghost use Rattle.heap_formula.specs.declared.judgements.Judgement.{Judgement as JudgementParts};
 ghost use Rattle.proof_file.specs.declared.node.FileNode.{FileNode as Node};
 ghost use Rattle.seek_top.specs.Found.{IsSought};
 

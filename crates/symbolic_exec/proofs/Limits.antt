@@ -11,7 +11,7 @@ use Rattle.heap_formula.specs.declared.judgements.Premise.{Premise}
 use Rattle.heap_formula.specs.declared.proof_rules.RuleError.{RuleError}
 use Rattle.heap_formula.specs.declared.proof_rules.RuleFault.TheVariants.{NoFreshVariable}
 use Rattle.heap_formula.specs.Symbolic.{SymbolicHeap}
-use Rattle.rule_table.specs.Answer.{needs, limited, is_short, has_numbers, each_heap, one, two}
+use Rattle.rule_table.specs.Answer.{needs, limited, is_short, has_numbers, each_heap, one}
 use Rattle.heap_formula.specs.Fresh.{heap_numbers}
 use Rattle.rule_table.specs.Answered.{IsAnswer}
 use Rattle.rule_table.specs.ExecTable.{renamed, with_atom, with_cell, at_line}

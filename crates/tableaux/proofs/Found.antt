@@ -19,7 +19,7 @@ use Rattle.tableaux.specs.Tableau.{Premise, Goal, Made, Tableau, Calculus, grown
 use Rattle.tableaux.specs.Room.{is_nil, is_done, offered, offered_at}
 use Rattle.tableaux.specs.Search.{on_graph, system_of, EachFound, EachIsSmall}
 use Rattle.tableaux.specs.Fair.{AllOccur, IsFair}
-use Rattle.tableaux.specs.Nodes.{HasRoot, reasons_of, MayStand, AllOffered, IsSmall, AreEdges, AllHavePremises, StandApart, AllHaveEdges}
+use Rattle.tableaux.specs.Nodes.{HasRoot, reasons_of, MayStand, AllOffered, AreEdges, AllHavePremises, StandApart, AllHaveEdges}
 use Rattle.tableaux.proofs.Grown.{link_edges}
 use Rattle.tableaux.proofs.Waiting.{waiting, none_left}
 use Rattle.tableaux.proofs.Rows.{Row}

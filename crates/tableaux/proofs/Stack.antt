@@ -1,8 +1,7 @@
 -- Goals on a stack, the next one last.
-use Rattle.std.proofs.Common.{◌≡◌, ℕ, suc, ◌+◌, ◌-◌, ◌<◌, ◌≤◌, ◌⊎◌, inl, inr, Bool, true, false, ◌&&◌, ◌||◌, eqb-true, List, [], ◌∷◌, ◌++◌, Option, None, Some, length, length-append, slice_get, reverse, arith, refl, sym, ap, subst, ◌∙◌}
+use Rattle.std.proofs.Common.{◌≡◌, ℕ, suc, ◌+◌, ◌-◌, ◌<◌, ◌≤◌, inl, inr, Bool, true, false, ◌&&◌, ◌||◌, eqb-true, List, [], ◌∷◌, ◌++◌, None, Some, length, length-append, slice_get, reverse, arith, refl, sym, ap, subst, ◌∙◌}
 use Rattle.std.specs.Prelude.{nat_eq, nat_lt, nat_le}
-use Rattle.std.specs.Option.{option_to_list}
-use Rattle.std.proofs.lemmas.List.{append_assoc, append-nil, reverse-append, length-reverse}
+use Rattle.std.proofs.lemmas.List.{append_assoc, reverse-append, length-reverse}
 use Rattle.std.proofs.lemmas.Bool.{cases_Bool, and_parts, leb-true, ltb-true, eq-eqb}
 use Rattle.list_facts.proofs.Places.{get_end}
 use Rattle.list_facts.proofs.Parts.{split_last}

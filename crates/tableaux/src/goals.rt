@@ -24,7 +24,7 @@ impl Model for TracePairs {
 }
 
 impl TracePairs {
-    ghost use Rattle.std.specs.Prelude.{◌≡◌, IfOk};
+    ghost use Rattle.std.specs.Prelude.{◌≡◌};
 
     /// These pairs in this order, without a copy.
     pub fn from_vec(pairs: Vec<(u8, u8, bool)>) -> TracePairs

@@ -69,7 +69,7 @@ fn copied_positions(alloc: Global, positions: &[u8]) -> Result<Vec<u8>, OutOfMem
 }
 
 impl GrowingNode {
-    ghost use Rattle.std.specs.Prelude.{[], ◌∷◌, ◌++◌};
+    ghost use Rattle.std.specs.Prelude.{[]};
     ghost use Rattle.tableaux.specs.Leaves.{with_edge, without_edge};
 
     fn new(alloc: Global, positions: Vec<u8>) -> GrowingNode

@@ -1,7 +1,6 @@
 -- The first placed atom with the variable says what its value has to equal.
 use Rattle.std.proofs.Common.{◌≡◌, ◌<◌, List, Some, true, length, get_or, slice_get, refl, sym, ap, subst, ◌∙◌, arith}
 use Rattle.std.proofs.lemmas.Option.{slice_get_read}
-use Rattle.heap_formula.specs.declared.terms.Term.{Term}
 use Rattle.heap_formula.specs.declared.atoms.Spatial.{Spatial}
 use Rattle.heap_formula.specs.Judgements.{antecedent}
 use Rattle.heap_formula.specs.Symbolic.{SymbolicHeap}

@@ -1,6 +1,4 @@
-use Rattle.std.proofs.Common.{◌≡◌, ◌++◌, ap, ◌∙◌, append_assoc}
-use Rattle.std.specs.Prelude.{codes, OnOk}
-use Rattle.std.proofs.lemmas.Grind.{common_steps}
+use Rattle.std.specs.Prelude.{codes}
 use Rattle.draw_top.specs.Quoting.{quoted}
 use Rattle.draw_top.proofs.ReadingBack.{three_parts}
 use Rattle.draw_top.proofs.writing.begin_bold.Goals as goal

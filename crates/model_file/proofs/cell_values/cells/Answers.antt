@@ -1,4 +1,4 @@
-use Rattle.std.proofs.Common.{◌≡◌, ◌<◌, ◌-◌, ◌∙◌, ℕ, List, length, sym, ap, subst, arith}
+use Rattle.std.proofs.Common.{◌<◌, ◌-◌, ◌∙◌, ℕ, List, length, sym, subst, arith}
 use Rattle.model_syntax.specs.declared.tree.CellTree.{CellTree}
 use Rattle.model_syntax.specs.Trees.{cell_of}
 use Rattle.model_file.specs.Small.{IsSmallCell}

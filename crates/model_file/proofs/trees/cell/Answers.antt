@@ -1,4 +1,4 @@
-use Rattle.std.proofs.Common.{◌<◌, ◌^◌, arith}
+use Rattle.std.proofs.Common.{arith}
 use Rattle.model_file.proofs.trees.cell.Goals as goal
 
 pub overflow_cast-result : goal.overflow_cast-result

@@ -1,6 +1,5 @@
 use Rattle.std.proofs.Common.{◌≡◌, map, take}
 use Rattle.problem_syntax.specs.Trees as named
-use Rattle.problem_syntax.specs.Trees.{text_of}
 use Rattle.name_numbers.specs.Numbered.{definition_of}
 use Rattle.name_numbers.specs.Numbering.{definition}
 use Rattle.name_numbers.proofs.definitions.definitions.Given as goal

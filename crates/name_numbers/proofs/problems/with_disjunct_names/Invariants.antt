@@ -1,7 +1,6 @@
 use Rattle.std.proofs.Common.{◌≡◌, ◌++◌, map, take}
 use Rattle.std.specs.List.{flat_map}
 use Rattle.problem_syntax.specs.Trees as named
-use Rattle.problem_syntax.specs.Trees.{text_of}
 use Rattle.name_numbers.specs.Occurrences.{plain_names}
 use Rattle.name_numbers.specs.Views.{name_of}
 use Rattle.name_numbers.proofs.problems.with_disjunct_names.Given as goal

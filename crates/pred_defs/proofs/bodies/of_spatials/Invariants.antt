@@ -1,7 +1,7 @@
-use Rattle.std.proofs.Common.{◌≡◌, ◌+◌, ◌≤◌, map, take, drop, length}
+use Rattle.std.proofs.Common.{◌≡◌, ◌+◌, ◌≤◌, map, take, drop}
 use Rattle.heap_formula.specs.Words.{max_of}
-use Rattle.heap_formula.specs.Fresh.{exist_bound, pure_exists, spatial_exists}
-use Rattle.heap_formula.specs.Substitution.{in_pure, in_spatial}
+use Rattle.heap_formula.specs.Fresh.{spatial_exists}
+use Rattle.heap_formula.specs.Substitution.{in_spatial}
 use Rattle.pred_defs.specs.Bodies.{body_term, first_fresh}
 use Rattle.pred_defs.proofs.bodies.of_spatials.Given as goal
 

@@ -1,4 +1,4 @@
-use Rattle.std.proofs.Common.{◌≡◌, sym, ◌∙◌, ap}
+use Rattle.std.proofs.Common.{sym, ◌∙◌, ap}
 use Rattle.pred_defs.proofs.CaseLists.{cases_in, cases_past}
 use Rattle.pred_defs.proofs.library.cases_at.Goals as goal
 

@@ -1,5 +1,4 @@
 use Rattle.std.proofs.Common.{◌≡◌, ℕ, None, subst}
-use Rattle.heap_reader.specs.Flaws.{Found}
 use Rattle.heap_reader.proofs.Fitting.{most_fits}
 use Rattle.heap_syntax.specs.Versions.{most_spatial}
 use Rattle.proof_syntax.specs.Trees.{node_of}
