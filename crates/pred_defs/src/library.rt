@@ -23,7 +23,7 @@ pub struct Defs {
 impl Model for Defs {
     ghost use Rattle.pred_defs.specs.Book.{DefinitionBook};
     ghost use Rattle.std.specs.Prelude.{length, ◌≤◌};
-ghost use Rattle.std.specs.List.{list_any};
+    ghost use Rattle.std.specs.List.{list_any};
     ghost use Rattle.cyc_limits.specs.declared.TheConstants.{MOST_PREDICATES, MOST_SPATIAL};
 
     ghost Value = { DefinitionBook };
