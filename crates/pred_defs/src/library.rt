@@ -1,5 +1,6 @@
 // The definitions of a file, in order.
 ghost use Rattle.std.specs.Prelude.{◌≡◌, ◌≢◌, ◌≤◌, ◌<◌, ◌⊎◌, ◌++◌, ◌∷◌, [], length, Some, string_bytes, OnOk, OnErr, IfOk, IsOkUnless};
+ghost use Rattle.std.specs.List.{list_any};
 ghost use Rattle.heap_formula.specs.Definitions.{Definition};
 ghost use Rattle.heap_formula.specs.Meaning.{cases_of};
 ghost use Rattle.heap_formula.specs.Fresh.{heap_bound, heap_exists};
@@ -23,7 +24,6 @@ pub struct Defs {
 impl Model for Defs {
     ghost use Rattle.pred_defs.specs.Book.{DefinitionBook};
     ghost use Rattle.std.specs.Prelude.{length, ◌≤◌};
-    ghost use Rattle.std.specs.List.{list_any};
     ghost use Rattle.cyc_limits.specs.declared.TheConstants.{MOST_PREDICATES, MOST_SPATIAL};
 
     ghost Value = { DefinitionBook };
