@@ -1,5 +1,6 @@
 // The definitions of a file, in order.
 ghost use Rattle.std.specs.Prelude.{◌≡◌, ◌≢◌, ◌≤◌, ◌<◌, ◌++◌, ◌∷◌, [], length, Some, OnOk, OnErr, IfOk, IsOkUnless};
+ghost use Rattle.std.specs.List.{list_any};
 ghost use Rattle.heap_formula.specs.Meaning.{cases_of};
 ghost use Rattle.pred_defs.specs.Faults.{first_fault, has_name as list_has_name, is_long, has_far_local, has_stranger, push_fault, use_fault, case_fault, closed_fault, IsRefusal};
 
@@ -21,7 +22,6 @@ pub struct Defs {
 impl Model for Defs {
     ghost use Rattle.pred_defs.specs.Book.{DefinitionBook};
     ghost use Rattle.std.specs.Prelude.{length, ◌≤◌};
-ghost use Rattle.std.specs.List.{list_any};
     ghost use Rattle.cyc_limits.specs.declared.TheConstants.{MOST_PREDICATES, MOST_SPATIAL};
 
     ghost Value = { DefinitionBook };
