@@ -137,7 +137,6 @@ filter_get t (y ∷ xs) (suc i) x h p =
     elim (cases_Bool (t y)) [ inl yes' ↦ (suc r.0, rw yes' r.1) | inr no' ↦ (r.0, rw no' r.1) ]
 
 module _ (pairs : List Pair) (positions : List ℕ) (forest : List Entry) where
-
   old_at : (i : ℕ) (f : Entry) → slice_get forest i ≡ Some f → slice_get (grown pairs positions forest) i ≡ Some (moved pairs positions f)
   old_at i f h = get_append_left (map (moved pairs positions) forest) _ i (moved pairs positions f) (slice_get-map (moved pairs positions) forest i ∙ ap (option_map (moved pairs positions)) h)
 
@@ -215,7 +214,6 @@ same_old keep (Some p) None ka kb e = absurd (let e' : Some (rank keep p) ≡ No
 same_old keep (Some p) (Some r) ka kb e = ap Some (rank_one keep p r (ka p refl) (kb r refl) (let e' : Some (rank keep p) ≡ Some (rank keep r) = e in cc))
 
 module _ (pairs : List Pair) (positions : List ℕ) (forest : List Entry) where
-
   clear_at : (p q : ℕ) → In forest (Some p) q → IsAbove p (event_of pairs positions forest) → (j : ℕ) → j ≤ p →
       (is_kept (before_drop pairs positions forest) j ≡ true) × (is_green (before_drop pairs positions forest) j ≡ false)
   clear_at p q m a j l =

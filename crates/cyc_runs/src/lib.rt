@@ -88,7 +88,7 @@ pub fn run_over<T: Tool, S: Source, K: Sink>(
     // The text of the answer to the bytes that the source told was written, whole.
     ensures answered { is_answer result ≡ true
         → WroteAnswer (IsAnswerOf (T.answers tool.now)) (S.left src.old)
-            (K.written out.old) (K.written out.new) result }
+        (K.written out.old) (K.written out.new) result }
     ensures through { is_answer result ≡ true → IsReadThrough (S.left src.old) (S.left src.new) }
     ensures read_fault { result ≡ Status.ReadFault → Rose (S.faults src.old) (S.faults src.new) × (out.new ≡ out.old) }
     ensures write_fault { result ≡ Status.WriteFault → Rose (K.faults out.old) (K.faults out.new)

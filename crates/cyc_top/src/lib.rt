@@ -90,7 +90,7 @@ pub fn run<S: Source, K: Sink>(alloc: Global, words: &[String], src: &mut S, out
     // The line of the answer to the words and to the bytes that the source told was written, whole.
     ensures answered { is_answer result ≡ true
         → WroteAnswer (meaning_of (map string_bytes words.now)) (S.left src.old)
-            (K.written out.old) (K.written out.new) result }
+        (K.written out.old) (K.written out.new) result }
     // Where the words have this answer for the told bytes, it comes, unless a read or a write fails.
     ensures exact { (input : List ℕ) (status : Status) (text : List ℕ) → S.left src.old ≡ Some input
         → IsAnswer (meaning_of (map string_bytes words.now)) input status text

@@ -14,7 +14,6 @@ here_at (x ∷ xs) zero d h = refl
 here_at (x ∷ xs) (suc v) d h = here_at xs v d (omega (arith, h))
 
 module _ (t : FoTheory) (nodes : List MadeNode) (g : OpenGoal) (occur : AllOccur (MayOccur t) nodes g) where
-
   pub small_node : (v : ℕ) (m : MadeNode) → slice_get nodes v ≡ Some m → IsSmallSequent (sequent_of m)
   small_node v m at = (occur.made v m at).1.0
 

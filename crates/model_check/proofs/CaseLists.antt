@@ -17,7 +17,6 @@ use Rattle.formula_facts.proofs.AllMembers.{each_imply, each_last, each_append}
 use Rattle.formula_facts.proofs.SomeMember.{one_front, one_last}
 
 module _ (h : Cells) (ns : List ℕ) (head : ℕ) (vs : List ℕ) where
-
   -- a case rule of some cases is one of more cases, with more questions
   rule_kept : (qs qs' : List Question) (bs : List SymbolicHeap) (b : SymbolicHeap) → Extends qs qs' → (r : GroundRule) → IsCaseRule h ns qs head vs bs r → IsCaseRule h ns qs' head vs (bs ++ b ∷ []) r
   rule_kept qs qs' bs b x r k =
