@@ -66,7 +66,8 @@ fn all_steps(
 
 /// The stacks of so many entries from 0 to the greatest in which each entry is at most one more than all before it.
 pub fn tight_stacks(alloc: Global, greatest: u32, count: u32) -> Result<Vec<Stack>, OutOfMemory>
-    ensures complete { IfOk result (λ v. (s : List ℕ) → IsStack greatest count s → (¬ Breaks 0 s) → IsMember s v.items) }
+    ensures complete { IfOk result (λ v. (s : List ℕ)
+        → IsStack greatest count s → (¬ Breaks 0 s) → IsMember s v.items) }
     ensures sound { IfOk result (λ v. Each (IsStack greatest count) v.items) }
 {
     let mut all = Vec::new(alloc);

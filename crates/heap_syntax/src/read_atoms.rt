@@ -101,7 +101,8 @@ fn more_terms<'a, F: TermForm<'a>>(
     cursor: &mut Cursor<'_, 'a>,
 ) -> Result<Vec<F::Term>, Refusal>
     ensures { Gives (λ x. (map F.seen x.items, cursor.new)) result
-        (with_front (map F.seen items.items) ((many (is_one comma) (after comma (F.terms form.now).syntax)).read cursor.old)) }
+        (with_front (map F.seen items.items)
+        ((many (is_one comma) (after comma (F.terms form.now).syntax)).read cursor.old)) }
 {
     for _ in 0..cursor.left() {
         if !cursor.is_symbol_next(",") {

@@ -127,7 +127,8 @@ pub fn kept_heaps<'a, F: AtomForm<'a>>(
     cursor: &mut Cursor<'_, 'a>,
 ) -> Result<Vec<HeapTree<'a, F::Term>>, Refusal>
     ensures { Gives (λ x. (map (heap_of F.seen) x.items, cursor.new)) result
-        ((kept_heaps keep (marked between.now) (marked behind.now) (kept_heap keep (F.terms form.now) (F.atoms form.now))).read cursor.old) }
+        ((kept_heaps keep (marked between.now) (marked behind.now)
+        (kept_heap keep (F.terms form.now) (F.atoms form.now))).read cursor.old) }
 {
     let first = kept_heap(alloc, form, keep, cursor)?;
     let items = more_heaps(alloc, form, keep, between, first, cursor)?;
@@ -145,7 +146,8 @@ pub fn heaps<'a, F: AtomForm<'a>>(
     cursor: &mut Cursor<'_, 'a>,
 ) -> Result<Vec<HeapTree<'a, F::Term>>, Refusal>
     ensures { Gives (λ x. (map (heap_of F.seen) x.items, cursor.new)) result
-        ((heaps (marked between.now) (marked behind.now) (heap (F.terms form.now) (F.atoms form.now))).read cursor.old) }
+        ((heaps (marked between.now) (marked behind.now)
+        (heap (F.terms form.now) (F.atoms form.now))).read cursor.old) }
 {
     kept_heaps(alloc, form, Keep::All, between, behind, cursor)
 }

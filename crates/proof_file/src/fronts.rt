@@ -17,9 +17,11 @@ ghost use Rattle.proof_file.specs.Fronts.{KeepsEnough, HasItsFlaw, IsWholeIfFlaw
 /// nothing.
 pub fn flaws_show_in_what_is_kept()
     ensures definitions { (most m : ℕ) → KeepsEnough most m → (hs : List Heading) (n k : ℕ) (ds : List Definition)
-        → HasItsFlaw (listed_flaw (definition_flaw most hs) definition_span n k) (map (definition_front (Beyond m))) ds }
+        → HasItsFlaw (listed_flaw (definition_flaw most hs) definition_span n k)
+        (map (definition_front (Beyond m))) ds }
     ensures whole_definitions { (most m : ℕ) → KeepsEnough most m → (hs : List Heading) (n k : ℕ) (ds : List Definition)
-        → IsWholeIfFlawless (listed_flaw (definition_flaw most hs) definition_span n k) (map (definition_front (Beyond m))) ds }
+        → IsWholeIfFlawless (listed_flaw (definition_flaw most hs) definition_span n k)
+        (map (definition_front (Beyond m))) ds }
     ensures node { (most m : ℕ) → KeepsEnough most m → (hs : List Heading) (count n k : ℕ) (x : Node)
         → HasItsFlaw (node_flaw most hs count n k) (node_front (Beyond m)) x }
     ensures whole_node { (most m : ℕ) → KeepsEnough most m → (hs : List Heading) (count n k : ℕ) (x : Node)

@@ -93,7 +93,8 @@ pub fn are_disjuncts_short(most: u8, judgement: &Judgement) -> bool
 
 /// Whether one more pure atom on the left keeps the limits.
 pub fn has_room(judgement: &Judgement) -> bool
-    ensures each { (x : Pure) → result ≡ list_all (short MOST_SPATIAL) (heaps_of (with_pure judgement.now x).judgement) }
+    ensures each { (x : Pure) → result
+        ≡ list_all (short MOST_SPATIAL) (heaps_of (with_pure judgement.now x).judgement) }
     ensures room { result ≡ true → length (antecedent judgement.now).pure < MOST_PURE }
 {
     match judgement {
