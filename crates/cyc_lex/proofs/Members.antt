@@ -2,13 +2,10 @@
 use Rattle.std.proofs.Common.{◌≡◌, ℕ, true, List, [], ◌∷◌, sym, subst, eqb-true, inl, inr}
 use Rattle.std.specs.Prelude.{◌==◌}
 use Rattle.std.specs.List.{list_any}
+use Rattle.list_facts.specs.Words.{Each}
 use Rattle.cyc_lex.proofs.BoolParts.{or-parts}
 
-abbrev pub Each : {X : Type 0} → (X → Type 0) → List X → Type 0
-Each P [] = Unit {0}
-Each P (x ∷ xs) = P x × Each P xs
-
--- so of a number that is among them
+-- so it holds of a number that is among them
 pub one-of : (P : ℕ → Type 0) (ss : List ℕ) (c : ℕ) → Each P ss → list_any (λ s. c == s) ss ≡ true → P c
 one-of P [] c all h = absurd cc
 one-of P (s ∷ ss) c all h = elim (or-parts (c == s) (list_any (λ s. c == s) ss) h) [

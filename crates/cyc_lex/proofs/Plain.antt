@@ -5,7 +5,8 @@ use Rattle.cyc_lex.specs.declared.token.Kind.TheVariants.{Symbol}
 use Rattle.cyc_lex.specs.declared.place.Piece.TheVariants as pieces
 use Rattle.cyc_lex.specs.Characters.{is_plain}
 use Rattle.cyc_lex.specs.Lexing.{piece_at}
-use Rattle.cyc_lex.proofs.Members.{Each, one-of}
+use Rattle.list_facts.specs.Words.{Each}
+use Rattle.cyc_lex.proofs.Members.{one-of}
 
 abbrev IsAlone : ℕ → Type 0
 IsAlone c = (cs : List ℕ) → piece_at c cs ≡ (pieces.Token Symbol, 0)

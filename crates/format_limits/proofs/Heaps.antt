@@ -44,7 +44,7 @@ length-slice_set (y ∷ xs) (suc k) x = let r = length-slice_set xs k x in omega
 abbrev pub IsLow : Term → Type 0
 IsLow t = number_bound t ≤ 65535
 
-low_pure : (x : Pure) → pure_numbers x ≤ 65535 → InPure IsLow x
+pub low_pure : (x : Pure) → pure_numbers x ≤ 65535 → InPure IsLow x
 low_pure (Eq t u) h = (omega arith, omega arith)
 low_pure (Neq t u) h = (omega arith, omega arith)
 
@@ -52,7 +52,7 @@ pure_low : (x : Pure) → InPure IsLow x → pure_numbers x ≤ 65535
 pure_low (Eq t u) q = let a = q.0 in let b = q.1 in omega arith
 pure_low (Neq t u) q = let a = q.0 in let b = q.1 in omega arith
 
-low_spatial : (x : Spatial) → spatial_numbers x ≤ 65535 → InSpatial IsLow x
+pub low_spatial : (x : Spatial) → spatial_numbers x ≤ 65535 → InSpatial IsLow x
 low_spatial (Cell t ts) h = (omega arith, each_below number_bound 65535 ts (omega arith))
 low_spatial (Pred p ts) h = each_below number_bound 65535 ts h
 

@@ -13,7 +13,7 @@ use Rattle.heap_formula.specs.Words.{Each}
 use Rattle.heap_formula.specs.Judgements.{antecedent}
 use Rattle.pred_defs.specs.declared.faults.DefFault.{DefFault}
 use Rattle.pred_defs.specs.Faults.{arity_fault, use_fault, case_fault, definition_fault, closed_fault, first_fault, or_later as then_fault}
-use Rattle.rule_table.specs.Tests.{is_universal, are_universal, is_universal_pure, is_universal_spatial}
+use Rattle.rule_table.specs.Tests.{is_universal, are_universal, is_universal_pure, is_universal_spatial, is_universal_heap}
 use Rattle.heap_syntax.specs.declared.tree.PureTree.{PureTree}
 use Rattle.heap_syntax.specs.Trees.{Cell, Predicate, pure_of}
 use Rattle.problem_syntax.specs.Trees as named
@@ -37,7 +37,7 @@ use Rattle.formula_reader.specs.Flaws.{headings, term_flaw, variable_flaw, head_
 use Rattle.formula_reader.specs.Values.{term_value, definition_value, goal_value}
 use Rattle.formula_reader.specs.Small.{IsSmallProblem}
 use Rattle.heap_reader.specs.Small.{is_short_heap}
-use Rattle.formula_reader.specs.WellFormed.{IsOfText, goal_heaps, goal_fault, is_universal_heap, has_line}
+use Rattle.formula_reader.specs.WellFormed.{IsOfText, goal_heaps, goal_fault, has_line}
 use Rattle.formula_reader.proofs.Fitting.{problem_small}
 use Rattle.formula_reader.proofs.SpanLaws.{text_some}
 use Rattle.std.proofs.lemmas.Option.{same_Some}

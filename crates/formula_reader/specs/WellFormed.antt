@@ -1,7 +1,6 @@
 -- What a problem keeps: some text spells it, so its predicates are known, its goal's line is one of its program's, and no
 -- existential variable stands in its goal's antecedent.
-use Rattle.std.specs.Prelude.{◌≡◌, ℕ, Bool, true, not, ◌&&◌, ◌||◌, nat_eq, nat_lt, List, [], ◌∷◌, map, None, Option}
-use Rattle.std.specs.List.{list_all}
+use Rattle.std.specs.Prelude.{◌≡◌, ℕ, Bool, true, not, ◌||◌, nat_eq, nat_lt, List, [], ◌∷◌, map, None, Option}
 use Rattle.heap_formula.specs.declared.commands.Command.{Command}
 use Rattle.heap_formula.specs.declared.judgements.Judgement.{Judgement}
 use Rattle.heap_formula.specs.declared.judgements.Judgement.TheVariants.{Entail, Term as Halting}
@@ -9,7 +8,6 @@ use Rattle.heap_formula.specs.Definitions.{Definition}
 use Rattle.heap_formula.specs.Symbolic.{SymbolicHeap}
 use Rattle.pred_defs.specs.declared.faults.DefFault.{DefFault}
 use Rattle.pred_defs.specs.Faults.{first_fault, case_fault}
-use Rattle.rule_table.specs.Tests.{is_universal_pure, is_universal_spatial}
 use Rattle.heap_syntax.specs.declared.version.Version.{Version}
 use Rattle.problem_syntax.specs.Grammar.{problem}
 use Rattle.problem_syntax.specs.Trees as named
@@ -44,9 +42,6 @@ goal_heaps (Halting i a) = a ∷ []
 -- the first use of a predicate in the goal that is at fault
 abbrev pub goal_fault : List Definition → Judgement → Option DefFault
 goal_fault ds goal = first_fault (case_fault ds) (goal_heaps goal)
-
-abbrev pub is_universal_heap : SymbolicHeap → Bool
-is_universal_heap a = list_all is_universal_pure a.pure && list_all is_universal_spatial a.spatial
 
 -- the line of the goal, if it has one, is one of so many lines
 abbrev pub has_line : ℕ → Judgement → Bool

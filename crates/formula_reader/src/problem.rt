@@ -6,7 +6,8 @@ ghost use Rattle.heap_formula.specs.Judgements.{antecedent};
 ghost use Rattle.pred_defs.specs.Faults.{closed_fault};
 ghost use Rattle.heap_syntax.specs.Versions.{most_spatial};
 ghost use Rattle.heap_reader.specs.Small.{is_short_heap};
-ghost use Rattle.formula_reader.specs.WellFormed.{IsWellFormed, goal_heaps, goal_fault, is_universal_heap, has_line};
+ghost use Rattle.formula_reader.specs.WellFormed.{IsWellFormed, goal_heaps, goal_fault, has_line};
+ghost use Rattle.rule_table.specs.Tests.{is_universal_heap};
 
 use goto_lang::Program;
 use heap_formula::Judgement;

@@ -1,7 +1,6 @@
 -- The terms of a heap within the limits.
 use Rattle.std.proofs.Common.{ℕ, ◌≤◌, List, [], ◌∷◌, map, arith, leb-true}
 use Rattle.heap_formula.specs.declared.atoms.Pure.{Pure}
-use Rattle.heap_formula.specs.declared.atoms.Pure.TheVariants.{Eq, Neq}
 use Rattle.heap_formula.specs.declared.atoms.Spatial.{Spatial}
 use Rattle.heap_formula.specs.declared.atoms.Spatial.TheVariants.{Cell, Pred}
 use Rattle.heap_formula.specs.declared.judgements.Judgement.{Judgement}
@@ -11,28 +10,20 @@ use Rattle.heap_formula.specs.Definitions.{Definition}
 use Rattle.heap_formula.specs.Fresh.{heap_bound, judgement_bound, pure_numbers, spatial_numbers, heap_numbers}
 use Rattle.heap_formula.specs.Symbolic.{SymbolicHeap}
 use Rattle.heap_formula.specs.Words.{Each, max_of}
-use Rattle.rule_table.specs.Answer.{number_bound, heaps_of}
+use Rattle.rule_table.specs.Answer.{heaps_of}
 use Rattle.format_limits.specs.Limits.{IsHeapWithin, IsTermWithin}
 use Rattle.formula_facts.proofs.Greatest.{each_below}
 use Rattle.formula_facts.proofs.AllMembers.{each_both}
 use Rattle.search_moves.proofs.LeftNumbers.{heap_below as heap_le}
-use Rattle.format_limits.proofs.Heaps.{IsLow}
-
-pure_has : (x : Pure) → pure_numbers x ≤ 65535 → InPure IsLow x
-pure_has (Eq t u) h = (omega arith, omega arith)
-pure_has (Neq t u) h = (omega arith, omega arith)
-
-spatial_has : (x : Spatial) → spatial_numbers x ≤ 65535 → InSpatial IsLow x
-spatial_has (Cell t ts) h = (omega arith, each_below number_bound 65535 ts (omega arith))
-spatial_has (Pred p ts) h = each_below number_bound 65535 ts h
+use Rattle.format_limits.proofs.Heaps.{IsLow, low_pure, low_spatial}
 
 pures_have : (xs : List Pure) → Each (λ x. pure_numbers x ≤ 65535) xs → Each (InPure IsLow) xs
 pures_have [] a = tt
-pures_have (x ∷ xs) a = (pure_has x a.0, pures_have xs a.1)
+pures_have (x ∷ xs) a = (low_pure x a.0, pures_have xs a.1)
 
 spatials_have : (xs : List Spatial) → Each (λ x. spatial_numbers x ≤ 65535) xs → Each (InSpatial IsLow) xs
 spatials_have [] a = tt
-spatials_have (x ∷ xs) a = (spatial_has x a.0, spatials_have xs a.1)
+spatials_have (x ∷ xs) a = (low_spatial x a.0, spatials_have xs a.1)
 
 heap_below : (most : ℕ) (ds : List Definition) (a : SymbolicHeap) → IsHeapWithin most ds a → heap_numbers a ≤ 65535
 heap_below most ds a w = leb-true (heap_numbers a) 65535 w.numbers

@@ -1,12 +1,13 @@
 -- A question: whether a predicate holds of values, and in which parts of the heap.
-use Rattle.std.specs.Prelude.{◌≡◌, ℕ, List, [], ◌∷◌, Bool, true, false, ◌++◌, ◌&&◌, nat_eq, refl}
+use Rattle.std.specs.Prelude.{◌≡◌, ℕ, List, Bool, true, ◌++◌, ◌&&◌, nat_eq, refl}
 use Rattle.std.proofs.Common.{subst, ap}
-use Rattle.std.proofs.lemmas.Bool.{and_parts, and_from, eqb-true, eq-eqb, both_ways}
+use Rattle.std.proofs.lemmas.Bool.{and_parts, and_from, eqb-true, eq-eqb}
 use Rattle.std.specs.Bool.{Decides}
 use Rattle.std.specs.Cmp.{IsPartialEquivalence, IsEquivalence, decided, partial_equiv_from_equiv}
 use Rattle.std.specs.Cmp.Lexicographic.{pointwise}
 use Rattle.std.specs.Hash as fed
 use Rattle.std.specs.Hash.{HashWrites}
+use Rattle.list_facts.proofs.Tests.{pointwise_is, pointwise_self}
 
 pub record Question : Type 0 where
   pub predicate : ℕ
@@ -15,30 +16,18 @@ pub record Question : Type 0 where
 abbrev pub question_eq : Question → Question → Bool
 question_eq a b = nat_eq a.predicate b.predicate && pointwise nat_eq a.values b.values
 
-lists_same : (xs ys : List ℕ) → pointwise nat_eq xs ys ≡ true → xs ≡ ys
-lists_same [] [] h = refl
-lists_same [] (y ∷ ys) h = absurd (both_ways false refl h)
-lists_same (x ∷ xs) [] h = absurd (both_ways false refl h)
-lists_same (x ∷ xs) (y ∷ ys) h =
-    let p = and_parts (nat_eq x y) (pointwise nat_eq xs ys) h in
-    let here = eqb-true x y p.0 in let rest = lists_same xs ys p.1 in λ i. here i ∷ rest i
-
-lists_refl : (xs : List ℕ) → pointwise nat_eq xs xs ≡ true
-lists_refl [] = refl
-lists_refl (x ∷ xs) = and_from (nat_eq x x) (pointwise nat_eq xs xs) (eq-eqb x x refl) (lists_refl xs)
-
 -- lists that `==` takes for equal are one list
 pub lists_decide : (xs ys : List ℕ) → Decides (pointwise nat_eq xs ys) (xs ≡ ys)
-lists_decide xs ys = (lists_same xs ys, λ e. subst (λ zs. pointwise nat_eq xs zs ≡ true) e (lists_refl xs))
+lists_decide xs ys = (pointwise_is nat_eq (λ x y. eqb-true x y) xs ys, λ e. subst (λ zs. pointwise nat_eq xs zs ≡ true) e (pointwise_self nat_eq (λ x. eq-eqb x x refl) xs))
 
 pub question_same : (a b : Question) → question_eq a b ≡ true → a ≡ b
 question_same a b h =
     let p = and_parts (nat_eq a.predicate b.predicate) (pointwise nat_eq a.values b.values) h in
     let e : a.predicate ≡ b.predicate = eqb-true a.predicate b.predicate p.0 in
-    let f = lists_same a.values b.values p.1 in λ i. record { predicate = e i; values = f i }
+    let f = pointwise_is nat_eq (λ x y. eqb-true x y) a.values b.values p.1 in λ i. record { predicate = e i; values = f i }
 
 pub question_refl : (a : Question) → question_eq a a ≡ true
-question_refl a = and_from (nat_eq a.predicate a.predicate) (pointwise nat_eq a.values a.values) (eq-eqb a.predicate a.predicate refl) (lists_refl a.values)
+question_refl a = and_from (nat_eq a.predicate a.predicate) (pointwise nat_eq a.values a.values) (eq-eqb a.predicate a.predicate refl) (pointwise_self nat_eq (λ x. eq-eqb x x refl) a.values)
 
 question_decides : (a b : Question) → Decides (question_eq a b) (a ≡ b)
 question_decides a b = (question_same a b, λ e. subst (λ z. question_eq a z ≡ true) e (question_refl a))
@@ -69,4 +58,4 @@ abbrev pub list_writes : List ℕ → HashWrites
 list_writes xs = fed.slice fed.u64 xs
 
 pub lists_alike : (xs ys : List ℕ) → pointwise nat_eq xs ys ≡ true → list_writes xs ≡ list_writes ys
-lists_alike xs ys h = ap list_writes (lists_same xs ys h)
+lists_alike xs ys h = ap list_writes (pointwise_is nat_eq (λ x y. eqb-true x y) xs ys h)

@@ -1,12 +1,13 @@
 -- What `==` computes of two base pairs.
-use Rattle.std.specs.Prelude.{◌≡◌, ℕ, List, [], ◌∷◌, Bool, true, false, ◌++◌, ◌&&◌, nat_eq, refl}
+use Rattle.std.specs.Prelude.{◌≡◌, ℕ, Bool, true, ◌++◌, ◌&&◌, nat_eq, refl}
 use Rattle.std.proofs.Common.{subst, ap}
-use Rattle.std.proofs.lemmas.Bool.{and_parts, and_from, eqb-true, eq-eqb, both_ways}
+use Rattle.std.proofs.lemmas.Bool.{and_parts, and_from, eqb-true, eq-eqb}
 use Rattle.std.specs.Bool.{Decides}
 use Rattle.std.specs.Hash as fed
 use Rattle.std.specs.Hash.{HashWrites}
 use Rattle.std.specs.Cmp.{IsPartialEquivalence, IsEquivalence, decided, partial_equiv_from_equiv}
 use Rattle.std.specs.Cmp.Lexicographic.{pointwise}
+use Rattle.list_facts.proofs.Tests.{pointwise_is, pointwise_self}
 use Rattle.pair_family.specs.BasePairs.{BasePair}
 
 abbrev pub two_eq : ℕ × ℕ → ℕ × ℕ → Bool
@@ -24,30 +25,18 @@ two_same x y h =
 two_refl : (x : ℕ × ℕ) → two_eq x x ≡ true
 two_refl x = and_from (nat_eq x.0 x.0) (nat_eq x.1 x.1) (eq-eqb x.0 x.0 refl) (eq-eqb x.1 x.1 refl)
 
-lists_same : {X : Type 0} (E : X → X → Bool) → ((x y : X) → E x y ≡ true → x ≡ y) → (xs ys : List X) → pointwise E xs ys ≡ true → xs ≡ ys
-lists_same E s [] [] h = refl
-lists_same E s [] (y ∷ ys) h = absurd (both_ways false refl h)
-lists_same E s (x ∷ xs) [] h = absurd (both_ways false refl h)
-lists_same E s (x ∷ xs) (y ∷ ys) h =
-    let p = and_parts (E x y) (pointwise E xs ys) h in
-    let here = s x y p.0 in let rest = lists_same E s xs ys p.1 in λ i. here i ∷ rest i
-
-lists_refl : {X : Type 0} (E : X → X → Bool) → ((x : X) → E x x ≡ true) → (xs : List X) → pointwise E xs xs ≡ true
-lists_refl E r [] = refl
-lists_refl E r (x ∷ xs) = and_from (E x x) (pointwise E xs xs) (r x) (lists_refl E r xs)
-
 pub pair_same : (a b : BasePair) → base_pair_eq a b ≡ true → a ≡ b
 pair_same a b h =
     let p = and_parts (pointwise two_eq a.same b.same) (pointwise two_eq a.differ b.differ && pointwise nat_eq a.cells b.cells) h in
     let q = and_parts (pointwise two_eq a.differ b.differ) (pointwise nat_eq a.cells b.cells) p.1 in
-    let s = lists_same two_eq two_same a.same b.same p.0 in
-    let d = lists_same two_eq two_same a.differ b.differ q.0 in
-    let c = lists_same nat_eq (λ x y. eqb-true x y) a.cells b.cells q.1 in
+    let s = pointwise_is two_eq two_same a.same b.same p.0 in
+    let d = pointwise_is two_eq two_same a.differ b.differ q.0 in
+    let c = pointwise_is nat_eq (λ x y. eqb-true x y) a.cells b.cells q.1 in
     λ i. record { same = s i; differ = d i; cells = c i }
 
 pub pair_refl : (a : BasePair) → base_pair_eq a a ≡ true
 pair_refl a =
-    and_from (pointwise two_eq a.same a.same) (pointwise two_eq a.differ a.differ && pointwise nat_eq a.cells a.cells) (lists_refl two_eq two_refl a.same) (and_from (pointwise two_eq a.differ a.differ) (pointwise nat_eq a.cells a.cells) (lists_refl two_eq two_refl a.differ) (lists_refl nat_eq (λ x. eq-eqb x x refl) a.cells))
+    and_from (pointwise two_eq a.same a.same) (pointwise two_eq a.differ a.differ && pointwise nat_eq a.cells a.cells) (pointwise_self two_eq two_refl a.same) (and_from (pointwise two_eq a.differ a.differ) (pointwise nat_eq a.cells a.cells) (pointwise_self two_eq two_refl a.differ) (pointwise_self nat_eq (λ x. eq-eqb x x refl) a.cells))
 
 pub base_pair_decides : (a b : BasePair) → Decides (base_pair_eq a b) (a ≡ b)
 base_pair_decides a b = (pair_same a b, λ e. subst (λ z. base_pair_eq a z ≡ true) e (pair_refl a))

@@ -14,7 +14,7 @@ use Rattle.heap_formula.specs.Closedness.{InPure, InSpatial, InHeap, IsUniversal
 use Rattle.heap_formula.specs.Definitions.{Definition}
 use Rattle.heap_formula.specs.Symbolic.{SymbolicHeap}
 use Rattle.heap_formula.specs.Words.{Each}
-use Rattle.rule_table.specs.Tests.{is_universal, are_universal, is_universal_pure, is_universal_spatial}
+use Rattle.rule_table.specs.Tests.{is_universal, are_universal, is_universal_pure, is_universal_spatial, is_universal_heap}
 use Rattle.goto_lang.specs.Lines.{IsLineOf}
 use Rattle.format_limits.specs.Limits.{IsHeapWithin, IsJudgementWithin}
 use Rattle.format_limits.proofs.Heaps.{IsLow, small}
@@ -26,7 +26,7 @@ use Rattle.heap_reader.specs.Flaws.{ill_if, heap_flaw}
 use Rattle.pred_reader.specs.declared.scope.Scope.TheVariants.{Outside as InNode}
 use Rattle.proof_file.specs.Spans.{term_span}
 use Rattle.proof_file.specs.Flaws.{term_flaw, judgement_flaw}
-use Rattle.proof_file.specs.Readable.{is_universal_heap, is_at_line}
+use Rattle.proof_file.specs.Readable.{is_at_line}
 use Rattle.proof_file.specs.Written.{heap_tree, judgement_tree}
 use Rattle.problem_files.proofs.Lists.{none_later, all_true}
 use Rattle.problem_files.proofs.Names.{HaveFreeNames, HaveOwnNames, HaveFewParameters, heads_of}

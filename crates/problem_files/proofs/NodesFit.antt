@@ -6,7 +6,7 @@ use Rattle.heap_formula.specs.Judgements.{antecedent}
 use Rattle.heap_formula.specs.Words.{Each}
 use Rattle.proof_syntax.specs.Grammar as grammar
 use Rattle.proof_file.specs.declared.node.FileNode.{FileNode}
-use Rattle.proof_file.specs.Readable.{is_universal_heap, is_universal_reason, is_readable, are_readable, is_at_line, are_at_lines}
+use Rattle.proof_file.specs.Readable.{is_universal_reason, is_readable, are_readable, is_at_line, are_at_lines}
 use Rattle.proof_file.specs.Written.{node_tree}
 use Rattle.problem_files.specs.Nodes.{IsNodeWithin}
 use Rattle.problem_files.proofs.Lists.{many_fit, all_true}
@@ -14,6 +14,7 @@ use Rattle.problem_files.proofs.Names.{HaveFreeNames}
 use Rattle.problem_files.proofs.Judgements.{judgement_fits, judgement_at_line, heap_readable}
 use Rattle.problem_files.proofs.Reasons.{reason_fits, premises_fit, reason_readable}
 use Rattle.formula_facts.proofs.AllMembers.{each_imply}
+use Rattle.rule_table.specs.Tests.{is_universal_heap}
 
 module _ (limit : ℕ) (ds : List Definition) (count : ℕ) where
   node_fits : HaveFreeNames ds → count ≤ 4096 → (n : FileNode) → IsNodeWithin limit ds count n → grammar.node.fits (node_tree ds n)

@@ -53,7 +53,7 @@ use Rattle.formula_reader.specs.Flaws.{headings, term_flaw, variable_flaw, head_
 use Rattle.formula_reader.specs.Small.{IsSmallDefinition, IsSmallGoal}
 use Rattle.formula_reader.specs.Values.{term_value, definition_value, goal_value}
 use Rattle.proof_file.proofs.Universal.{universal_heap}
-use Rattle.formula_reader.specs.WellFormed.{IsOfText, IsWellFormed, goal_fault, is_universal_heap, has_line}
+use Rattle.formula_reader.specs.WellFormed.{IsOfText, IsWellFormed, goal_fault, has_line}
 use Rattle.formula_reader.proofs.Fitting.{definition_small}
 use Rattle.formula_reader.proofs.Keeping.{small_of, is_closed, is_known, has_universal_antecedent, has_its_line}
 use Rattle.problem_files.proofs.ProblemHeaps.{heap_keeps, in_heap_each, heap_bounded, heap_open, heap_within}
@@ -62,6 +62,7 @@ use Rattle.problem_files.proofs.ProblemLines.{lines_known}
 use Rattle.problem_files.proofs.Kept.{IsKept, kept_prop}
 use Rattle.formula_facts.proofs.AllMembers.{each_at}
 use Rattle.heap_reader.proofs.Members.{many_fit, behind_fit}
+use Rattle.rule_table.specs.Tests.{is_universal_heap}
 
 -- ---- lists
 

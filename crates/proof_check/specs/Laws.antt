@@ -13,13 +13,13 @@ use Rattle.heap_formula.specs.Closedness.{IsUniversal}
 use Rattle.heap_formula.specs.Definitions.{Definition, HasFewCases}
 use Rattle.heap_formula.specs.Judgements.{antecedent}
 use Rattle.heap_formula.specs.Words.{Each}
-use Rattle.rule_table.specs.Tests.{is_universal}
+use Rattle.rule_table.specs.Tests.{is_universal, is_universal_heap}
 use Rattle.rule_table.specs.Soundness.{IsCommand}
 use Rattle.rule_table.specs.Nodes.{Node, IsReadable, HoldsAtNode}
 use Rattle.rule_table.proofs.Reflects.{universal_is}
 use Rattle.trace_pairs.specs.System.{AreRight, IsLocalAt, is_untested}
 use Rattle.proof_graph.proofs.Joined.{mapped_at}
-use Rattle.proof_file.specs.Readable.{is_universal_heap, is_universal_reason, is_readable, are_readable, is_universal_command, has_few_cases, all_have_few_cases}
+use Rattle.proof_file.specs.Readable.{is_universal_reason, is_readable, are_readable, is_universal_command, has_few_cases, all_have_few_cases}
 use Rattle.proof_file.specs.declared.node.FileNode.{FileNode}
 use Rattle.proof_file.specs.declared.file.ProofFile.{ProofFile}
 use Rattle.proof_file.proofs.Universal.{each_passes, universal_heap}

@@ -7,7 +7,7 @@ use Rattle.std.proofs.lemmas.List.{length-map}
 use Rattle.heap_formula.specs.declared.terms.Term.{Term}
 use Rattle.heap_formula.specs.Words.{Each}
 use Rattle.heap_formula.specs.Judgements.{antecedent}
-use Rattle.rule_table.specs.Tests.{is_universal, are_universal, is_universal_pure, is_universal_spatial}
+use Rattle.rule_table.specs.Tests.{is_universal, are_universal, is_universal_pure, is_universal_spatial, is_universal_heap}
 use Rattle.heap_syntax.specs.Grammar as shared
 use Rattle.command_syntax.specs.declared.tree.OperandTree.{OperandTree}
 use Rattle.command_syntax.specs.declared.tree.OperandTree.TheVariants as operands
@@ -31,7 +31,7 @@ use Rattle.pred_reader.specs.declared.scope.Scope.TheVariants.{Outside as InNode
 use Rattle.proof_file.specs.Spans.{term_span, node_span}
 use Rattle.proof_file.specs.Flaws.{headings, term_flaw, judgement_flaw, node_flaw, first_node, file_flaw}
 use Rattle.proof_file.specs.Values.{term_value, definition_value, judgement_value, pair_value, reason_value, node_value}
-use Rattle.proof_file.specs.Readable.{is_universal_heap, is_universal_reason, is_readable, are_readable, is_universal_command, are_universal_commands, is_at_line, are_at_lines, has_few_cases, all_have_few_cases}
+use Rattle.proof_file.specs.Readable.{is_universal_reason, is_readable, are_readable, is_universal_command, are_universal_commands, is_at_line, are_at_lines, has_few_cases, all_have_few_cases}
 use Rattle.proof_file.specs.Small.{IsSmallDefinition}
 use Rattle.pred_reader.proofs.Members.{list_fit, listed_fit, spatials_fit}
 use Rattle.heap_reader.proofs.Members.{many_fit}

@@ -5,9 +5,8 @@ use Rattle.std.proofs.lemmas.Bool.{and_parts}
 use Rattle.heap_formula.specs.Closedness.{IsUniversal, IsUniversalHeap, InPure, InSpatial}
 use Rattle.heap_formula.specs.Symbolic.{SymbolicHeap}
 use Rattle.heap_formula.specs.Words.{Each}
-use Rattle.rule_table.specs.Tests.{is_universal_pure, is_universal_spatial}
+use Rattle.rule_table.specs.Tests.{is_universal_pure, is_universal_spatial, is_universal_heap}
 use Rattle.rule_table.proofs.Reflects.{universal_pure_is, universal_spatial_is}
-use Rattle.proof_file.specs.Readable.{is_universal_heap}
 
 -- each member passes a test that all pass
 pub each_passes : {X : Type 0} (p : X → Bool) (Q : X → Type 0) → ((x : X) → p x ≡ true → Q x) → (xs : List X) → list_all p xs ≡ true → Each Q xs

@@ -13,12 +13,8 @@ use Rattle.heap_formula.specs.declared.proof_rules.Reason.{Reason}
 use Rattle.heap_formula.specs.declared.proof_rules.Reason.TheVariants.{Step, Back}
 use Rattle.heap_formula.specs.Definitions.{Definition}
 use Rattle.heap_formula.specs.Judgements.{antecedent}
-use Rattle.heap_formula.specs.Symbolic.{SymbolicHeap}
-use Rattle.rule_table.specs.Tests.{is_universal, is_universal_pure, is_universal_spatial}
+use Rattle.rule_table.specs.Tests.{is_universal, is_universal_heap}
 use Rattle.proof_file.specs.declared.node.FileNode.{FileNode}
-
-abbrev pub is_universal_heap : SymbolicHeap → Bool
-is_universal_heap a = list_all is_universal_pure a.pure && list_all is_universal_spatial a.spatial
 
 abbrev pub is_universal_rule : Rule → Bool
 is_universal_rule (Split t u) = is_universal t && is_universal u

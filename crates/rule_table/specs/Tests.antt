@@ -1,5 +1,6 @@
 -- Tests on terms and atoms.
 use Rattle.std.specs.Prelude.{ℕ, suc, List, [], ◌∷◌, Bool, true, false, ◌&&◌, ◌||◌, nat_eq, nat_le, nat_lt, Option, Some, None}
+use Rattle.std.specs.List.{list_all}
 use Rattle.heap_formula.specs.declared.terms.Term.{Term}
 use Rattle.heap_formula.specs.declared.terms.Term.TheVariants.{Nil, Univ, Exist}
 use Rattle.heap_formula.specs.declared.atoms.Pure.{Pure}
@@ -62,6 +63,10 @@ is_universal_pure (Neq t u) = is_universal t && is_universal u
 abbrev pub is_universal_spatial : Spatial → Bool
 is_universal_spatial (Cell t ts) = is_universal t && are_universal ts
 is_universal_spatial (Pred p ts) = are_universal ts
+
+-- none stands in the heap
+abbrev pub is_universal_heap : SymbolicHeap → Bool
+is_universal_heap a = list_all is_universal_pure a.pure && list_all is_universal_spatial a.spatial
 
 -- the list has the atom or its mirror image
 abbrev pub has_pure : List Pure → Pure → Bool

@@ -13,10 +13,11 @@ use Rattle.name_numbers.specs.Numbered.{definition_of, problem_of}
 use Rattle.formula_reader.specs.Flaws.{heading}
 use Rattle.formula_reader.specs.Values.{definition_value, goal_value}
 use Rattle.heap_reader.specs.Small.{is_short_heap}
-use Rattle.formula_reader.specs.WellFormed.{goal_heaps, goal_fault, is_universal_heap, has_line}
+use Rattle.formula_reader.specs.WellFormed.{goal_heaps, goal_fault, has_line}
 use Rattle.formula_reader.specs.Small.{IsSmallDefinition}
 use Rattle.formula_reader.proofs.Keeping.{small_of, is_closed, is_known, has_universal_antecedent, is_short, has_its_line}
 use Rattle.formula_reader.proofs.reading.problem_of_tree.Goals as goal
+use Rattle.rule_table.specs.Tests.{is_universal_heap}
 
 pub definitions-requires-clause-small : goal.definitions-requires-clause-small
 definitions-requires-clause-small c =
