@@ -11,8 +11,6 @@ use Rattle.cyc_runs.specs.declared.endings.Status.{Status}
 use Rattle.cyc_runs.specs.declared.endings.Status.TheVariants.{Limit}
 use Rattle.cyc_runs.proofs.Told.{long_told}
 
-}
-
 -- some bytes, and then some more
 pub fed_more : (a b c : Answering) (k n m : ℕ) (t u v : Option (List ℕ)) → WasFed a b k n t u → WasFed b c n m u v → WasFed a c k m t v
 fed_more a b c k n m t u v first next = record {

@@ -57,8 +57,6 @@ alive-new all enough none = record {
   led = ((λ x. x), lead-none);
 }
 
-}
-  where
 
 }
 

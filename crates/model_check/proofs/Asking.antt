@@ -54,9 +54,6 @@ pred_asked ns old new s e a p q ts us vs y ye ae ue ve k = record {
   piece = subst (λ z. PieceFits ns new s e a z) ye (subst (λ z. PieceFits ns new s e z (Of q)) (sym ae) (subst (λ ws. IsQuestion new q p ws) (ve ∙ ap (values s e) ue) k.question));
 }
 
-}
-  where
-
 pub asked_next_at : (ns : List ℕ) (a b c : List Question) (s e : Stack) (xs : List Spatial) (i : ℕ) (x : Spatial) (ys zs : List Piece) (y : Piece) → i < length xs → x ≡ get_or xs i x → AskedPieces ns a b s e (take i xs) ys → AskedPiece ns b c s e x y → zs ≡ ys ++ y ∷ [] → AskedPieces ns a c s e (take (i + 1) xs) zs
 asked_next_at ns a b c s e xs i x ys zs y h is f g z =
     asked_next ns a b c s e xs i x ys zs y h f (subst (λ w. AskedPiece ns b c s e w y) is g) z

@@ -29,7 +29,6 @@ question_within (x ∷ qs) zero p vs i = omega arith
 question_within (x ∷ qs) (suc q) p vs i = let r = question_within qs q p vs i in omega arith
 
 module _ (ds : List Definition) (h : Cells) (ns : List ℕ) where
-
   rule_kept : (qs qs' : List Question) → Extends qs qs' → (r : GroundRule) → IsRule ds h ns qs r → IsRule ds h ns qs' r
   rule_kept qs qs' x r k = record {
     predicate = k.predicate;
@@ -69,8 +68,6 @@ module _ (ds : List Definition) (h : Cells) (ns : List ℕ) where
             let same = one_question qs' head p u vs us (k.extends.kept head p vs i) j' in
             subst (λ y. IsAnswered ds h ns qs' rules' y u us) e (answered_same qs' rules' head p u vs us same.0 same.1 (record { has = k.has }))
       ]
-
-  }
 
 -- one more question, as the code has it
 pub loop_question : (ds : List Definition) (h : Cells) (ns : List ℕ) (qs0 qs qs' : List Question) (rules rules' : List GroundRule) (head : ℕ) (x : Question) → slice_get qs head ≡ Some x → Extends qs0 qs → IsGrounded ds h ns qs rules head → GroundedCases h ns qs qs' rules rules' head x.values (cases_of ds x.predicate) → Extends qs0 qs' × IsGrounded ds h ns qs' rules' (head + 1) × (head + 1 ≤ length qs')

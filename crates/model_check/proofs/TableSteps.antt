@@ -165,8 +165,6 @@ module _ (rules : List GroundRule) (i : ℕ) (r : GroundRule) (s : slice_get rul
 abbrev pub AreClosedFrom : List Row → ℕ → List GroundRule → Type 0
 AreClosedFrom table from rules = (i : ℕ) (r : GroundRule) → from ≤ i → slice_get rules i ≡ Some r → IsClosed table r
 
-]
-
 pub row_added_at : (t : List Row) (h mask : ℕ) (old new : Row) (b : Bool) → h < length t → old ≡ get_or t h old → Added old new mask b → AddsMask h mask t (slice_set t h new)
 row_added_at t h mask old new b l e a = row_added t h mask old new b l (subst (λ x. Added x new mask b) e a)
 

@@ -28,8 +28,6 @@ use Rattle.cyc_lex.proofs.Lexed.{Found}
 use Rattle.piecewise_lex.proofs.Carrying.{then_tokens}
 use Rattle.piecewise_lex.proofs.Extending.{all_chars, valid-parts, bytes-parts, taken-tokens, waiting-cut, taken-bad, bad-tokens, place_behind}
 
-}
-
 stops-then : (e : Stop) (a b : Found) → Stops e a → Stops e (then_tokens a b)
 stops-then stops.OutOfMemory a b h = tt
 stops-then (stops.At bad place) a b h = ap (λ r. then_tokens r b) h
