@@ -57,11 +57,6 @@ alive-new all enough none = record {
   led = ((λ x. x), lead-none);
 }
 
-
-}
-
-}
-
 -- piece by piece
 pub kept-on : (old : Parts) (done now : List ℕ) (mid new : Held) → IsKept old done mid → IsKept (parts_of mid) now new → IsKept old (done ++ now) new
 kept-on old done now mid new h k = record {
