@@ -67,8 +67,6 @@ kept-on old done now mid new h k = record {
 
 -- ---- a bad place
 
-}
-
 alive-bad : (a : Alive) (bad : Bad) (p : Place) → IsAlive a → IsBad (parts (Head []) a.place a.comment (waiting_of a)) bad p → IsBad (parts_of (kinds.Alive a)) bad p
 alive-bad a bad p h is more = h.law more ∙ ap (with_tokens h.taken) (is more) ∙ with_tokens-err h.taken (bad, p)
 
