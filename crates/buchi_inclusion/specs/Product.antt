@@ -83,12 +83,6 @@ pub record IsClosed (g : List Node) (states : List State) : Type 0 where
   pub next : (i : ℕ) (s t : State) (event : Event) → slice_get states i ≡ Some s → Moves g s t event →
       (j : ℕ) × (slice_get states j ≡ Some t)
 
--- no cycle of the product is bad, and its states are in a list
-pub record HasNoBadCycle (g : List Node) : Type 0 where
-  pub states : List State
-  pub closed : IsClosed g states
-  pub good : BadCycle g → ⊥
-
 -- the step leads from s to t, with the event
 pub record MovesBy (g : List Node) (s t : State) (step : Step) (event : Event) : Type 0 where
   pub move : Moves g s t event

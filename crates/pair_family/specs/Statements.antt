@@ -1,7 +1,5 @@
 -- What is proved of satisfiability.
-use Rattle.std.specs.Prelude.{◌↔◌, List, [], ◌∷◌}
-use Rattle.heap_formula.specs.declared.terms.Term.TheVariants.{Univ}
-use Rattle.heap_formula.specs.declared.atoms.Spatial.TheVariants.{Cell}
+use Rattle.std.specs.Prelude.{◌↔◌, List}
 use Rattle.heap_formula.specs.Symbolic.{SymbolicHeap}
 use Rattle.heap_formula.specs.Definitions.{Definition}
 use Rattle.heap_formula.specs.Words.{Each}
@@ -18,6 +16,3 @@ IsSatisfiable ds a = (s : Stack) × (h : Cells) × Satisfies ds s h a
 abbrev pub CombinableIsSatisfiable : Type 0
 CombinableIsSatisfiable = (ds : List Definition) (a : SymbolicHeap) → AreCases ds → Each HasFields a.spatial → IsCombinable ds a ↔ IsSatisfiable ds a
 
--- one cell without fields
-abbrev pub bare_cell : SymbolicHeap
-bare_cell = record { pure = []; spatial = Cell (Univ 0) [] ∷ [] }
