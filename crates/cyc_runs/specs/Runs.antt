@@ -4,11 +4,12 @@ use Rattle.std.specs.Io.KnownBytes.{Appends, IsAtEnd}
 use Rattle.cyc_io.specs.Bytes.{AppendsProperPrefix, Came}
 use Rattle.cyc_texts.specs.Texts.{input_limit_text}
 use Rattle.cyc_runs.specs.declared.endings.Status.{Status}
+use Rattle.cyc_runs.specs.declared.pieces.TheConstants.{INPUT_LIMIT}
 use Rattle.cyc_runs.specs.declared.endings.Status.TheVariants as status
 
 -- the greatest length of an input, in bytes
 abbrev pub input_limit : ℕ
-input_limit = 16777216
+input_limit = INPUT_LIMIT
 
 -- which status and which text answer an input
 abbrev pub Answering : Type 1

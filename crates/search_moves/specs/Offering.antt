@@ -1,5 +1,6 @@
 -- What the next goal of a partial derivation is offered.
 use Rattle.std.specs.Prelude.{ℕ, ◌≡◌, List, [], ◌∷◌, Some, slice_get, take, Bool, true, false, ◌&&◌, if◌then◌else◌}
+use Rattle.cyc_limits.specs.declared.TheConstants.{MOST_LINKS}
 use Rattle.heap_formula.specs.declared.commands.Command.{Command}
 use Rattle.heap_formula.specs.declared.judgements.Judgement.{Judgement}
 use Rattle.heap_formula.specs.declared.judgements.Judgement.TheVariants.{Entail, Term as Runs}
@@ -29,9 +30,9 @@ is_companion (Runs i a) node = works_on i node
 abbrev pub links_to : ℕ → List Command → Judgement → ℕ → GraphNode → List Link
 links_to most lines j k node = if is_companion j node then take most (links j node.judgement k (variables_of lines j)) else []
 
--- by companion, in order; of each the first 1,000,000
+-- by companion, in order; of each the first ones, up to a limit
 abbrev pub candidates : List Command → List GraphNode → ℕ → Judgement → List Link
-candidates lines nodes goal j = each_place (links_to 1000000 lines j) (take goal nodes)
+candidates lines nodes goal j = each_place (links_to MOST_LINKS lines j) (take goal nodes)
 
 -- ---- rules
 
