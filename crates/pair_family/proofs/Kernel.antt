@@ -1,13 +1,11 @@
--- Any labels that tell the same terms apart say the same; and what is said has numbers within bounds.
-use Rattle.std.proofs.Common.{◌≡◌, ◌↔◌, ℕ, suc, ◌<◌, List, ◌&&◌, arith}
+-- What labels say has numbers within bounds.
+use Rattle.std.proofs.Common.{ℕ, suc, ◌<◌, List, ◌&&◌, arith}
 use Rattle.std.specs.Prelude.{nat_eq}
 use Rattle.std.specs.List.{list_any}
 use Rattle.heap_formula.specs.declared.terms.Term.{Term}
 use Rattle.pair_family.specs.Within.{IsWithin}
 use Rattle.pair_family.specs.Combination.{Two, upto, pairs_below, is_between, is_in_class, is_least, kept}
 use Rattle.pair_family.proofs.Lists.{at_each, filter_in, upto_in, pairs_in}
-
-module _ (f g : Term → ℕ) (same : (t u : Term) → (f t ≡ f u) ↔ (g t ≡ g u)) where
 
 pub kept_within : (k : ℕ) (at : ℕ → Term) (f : Term → ℕ) (ds : List Two) (cs : List Term) → IsWithin (suc k) (kept k at f ds cs)
 kept_within k at f ds cs = record {

@@ -1,5 +1,5 @@
 -- What is kept of a statement that is read is its front.
-use Rattle.std.proofs.Common.{◌≡◌, refl, inl, inr, ◌⊎◌, ap, ◌∙◌, Ok, Err, sym, List, []}
+use Rattle.std.proofs.Common.{◌≡◌, ℕ, refl, inl, inr, ◌⊎◌, ap, ◌∙◌, Ok, Err, sym, List, []}
 use Rattle.cyc_lex.specs.Word.{Word}
 use Rattle.cyc_grammar.specs.Syntax.{Reading, ◌>>=◌, Syntax, alt, is_one}
 use Rattle.command_syntax.specs.Grammar as commands
