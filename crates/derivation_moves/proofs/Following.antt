@@ -3,6 +3,7 @@ use Rattle.std.proofs.Common.{◌≡◌, ℕ, ◌+◌, ◌-◌, ◌<◌, ◌≤�
 use Rattle.std.specs.Prelude.{nat_eq, nat_lt, nat_le, filter, if◌then◌else◌, Ok, Err}
 use Rattle.std.proofs.lemmas.Bool.{cases_Bool, ltb-true}
 use Rattle.std.proofs.lemmas.List.{length-map, length-reverse}
+use Rattle.std.proofs.lemmas.List.Elements.{filter_agree}
 use Rattle.std.proofs.lemmas.Option.{slice_get_within}
 use Rattle.heap_formula.specs.declared.judgements.Judgement.{Judgement}
 use Rattle.heap_formula.specs.declared.proof_rules.Reason.{Reason}
@@ -33,11 +34,10 @@ use Rattle.search_calculus.specs.Calculus.{OpenGoal, MadeNode, answered}
 use Rattle.search_calculus.specs.Graphs.{traces_of, made_graph, goal_graph}
 use Rattle.search_calculus.specs.Search.{links_at, rules_at, calculus_of, search_system}
 use Rattle.search_calculus.proofs.MadeRows.{made_in_order, made_is_graph, made_traces}
-use Rattle.search_calculus.proofs.ProofGraphs.{reason_given, goal_last}
+use Rattle.search_calculus.proofs.ProofGraphs.{goal_graph_size, reason_given, goal_last}
 use Rattle.search_calculus.proofs.TraceGraphs.{replay_traces}
 use Rattle.derivation_moves.specs.declared.effects.Effect.{Effect}
 use Rattle.derivation_moves.specs.declared.derivation.Derivation.{Derivation}
-use Rattle.derivation_moves.proofs.Gives.{goal_graph_size}
 use Rattle.derivation_moves.proofs.Shows.{HasNext, next_seen}
 use Rattle.derivation_moves.specs.Effects.{IsEffect}
 use Rattle.derivation_moves.specs.Leaving.{LeavesPremises}
@@ -162,10 +162,6 @@ deep_room limit e n g rest (Ok []) deep = refl
 deep_room limit e n g rest (Ok (p ∷ ps)) deep = rw deep refl
 deep_room limit e n g rest (Err f) deep = refl
 
-filter_same : {X : Type 0} (p q : X → Bool) (xs : List X) → ((x : X) → p x ≡ q x) → filter p xs ≡ filter q xs
-filter_same p q [] h = refl
-filter_same p q (x ∷ xs) h = rw (h x, filter_same p q xs h) refl
-
 filter_steps : (p : Reason → Bool) (rules : List Rule) → filter p (map Step rules) ≡ map Step (filter (λ r. p (Step r)) rules)
 filter_steps p [] = refl
 filter_steps p (r ∷ rules) =
@@ -246,7 +242,7 @@ module _ (s : Derivation) (g : OpenGoal) (order : IsInOrder s) (next : HasNext s
     followed : (rules : List Rule) → filter (system.fits bound (reasons_in s)) (map Step rules) ≡ map Step (filter (λ _. room) (filter (closes u g.premise.judgement) rules))
     followed rules =
         filter_steps (system.fits bound (reasons_in s)) rules
-        ∙ ap (map Step) (filter_same (λ r. system.fits bound (reasons_in s) (Step r)) (λ r. closes u g.premise.judgement r && room) rules fits_deep ∙ filter_twice (closes u g.premise.judgement) room rules)
+        ∙ ap (map Step) (filter_agree (λ r. system.fits bound (reasons_in s) (Step r)) (λ r. closes u g.premise.judgement r && room) fits_deep rules ∙ filter_twice (closes u g.premise.judgement) room rules)
 
     abbrev all_offered : List Rule
     all_offered = rules_offered u (goal_graph u (nodes_in s) g) (length (nodes_in s)) g.premise.judgement

@@ -2,10 +2,9 @@
 use Rattle.std.proofs.Common.{◌≡◌, ◌+◌, ◌<◌, ◌≤◌, List, [], ◌∷◌, ◌++◌, map, reverse, Some, length, length-append, arith, sym, ap, subst, ◌∙◌}
 use Rattle.std.proofs.lemmas.List.{map-append, length-reverse}
 use Rattle.heap_formula.specs.declared.proof_rules.Reason.{Reason}
-use Rattle.proof_graph.specs.Nodes.{open_node, with_reason, changed_at}
+use Rattle.proof_graph.specs.Nodes.{with_reason, changed_at}
 use Rattle.heap_formula.specs.Words.{Each}
 use Rattle.search_moves.specs.Limits.{IsSmall}
-use Rattle.search_moves.specs.Trying.{Theory}
 use Rattle.tableaux.specs.Tableau.{goals_of, replay}
 use Rattle.tableaux.proofs.Stack.{next_of, length-goals_of}
 use Rattle.tableaux.proofs.Steps.{Fits, next_tableau, next_is}
@@ -13,16 +12,11 @@ use Rattle.search_calculus.specs.Calculus.{OpenGoal, MadeNode}
 use Rattle.search_calculus.specs.Graphs.{traces_of, made_graph, goal_graph}
 use Rattle.search_calculus.specs.Problems.{IsSmallProblem}
 use Rattle.search_calculus.specs.Search.{calculus_of}
-use Rattle.search_calculus.proofs.ProofGraphs.{reason_given, shown, length-shown, goal_graph_is}
+use Rattle.search_calculus.proofs.ProofGraphs.{goal_graph_size, reason_given}
 use Rattle.search_calculus.proofs.TraceGraphs.{replay_traces}
 use Rattle.derivation_moves.specs.declared.effects.Effect.{Effect}
 use Rattle.derivation_moves.specs.declared.derivation.Derivation.{Derivation}
 use Rattle.derivation_moves.specs.Derivations.{theory_in, nodes_in, goals_in, reasons_in, graph_with, tableau_in, IsInOrder, IsMade, MayTake}
-
--- the graph with a goal has one node more than are made
-pub goal_graph_size : (t : Theory) (nodes : List MadeNode) (g : OpenGoal) → length (goal_graph t nodes g) ≡ length nodes + 1
-goal_graph_size t nodes g =
-    ap length (goal_graph_is t nodes g) ∙ (length-append (shown t nodes g) (open_node g.premise.judgement ∷ []) ∙ ap (λ n. n + 1) (length-shown t nodes g))
 
 -- what a reason with this effect makes of the derivation
 pub record Given (s s' : Derivation) (g : OpenGoal) (rest : List OpenGoal) (reason : Reason) (effect : Effect) : Type 0 where

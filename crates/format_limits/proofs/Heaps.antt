@@ -1,7 +1,7 @@
 -- A heap within the limits: how long its lists are, the numbers of its terms, and the shapes of its spatial atoms.
 use Rattle.std.proofs.Common.{◌≡◌, ℕ, zero, suc, ◌≤◌, true, List, [], ◌∷◌, map, length, Option, Some, None, refl, sym, subst, arith, leb-true, le-leb}
 use Rattle.std.proofs.lemmas.List.{length-map}
-use Rattle.std.specs.Prelude.{nat_le, slice_get, slice_set}
+use Rattle.std.specs.Prelude.{nat_le, slice_get}
 use Rattle.heap_formula.specs.declared.terms.Term.{Term}
 use Rattle.heap_formula.specs.declared.atoms.Pure.{Pure}
 use Rattle.heap_formula.specs.declared.atoms.Pure.TheVariants.{Eq, Neq}
@@ -18,25 +18,16 @@ use Rattle.pred_defs.specs.declared.faults.DefFault.{DefFault}
 use Rattle.rule_table.specs.Answer.{number_bound, is_short, has_numbers}
 use Rattle.heap_formula.specs.Fresh.{pure_numbers, spatial_numbers, heap_numbers}
 use Rattle.format_limits.specs.Limits.{HasFields, IsHeapWithin}
-use Rattle.formula_facts.proofs.AllMembers.{each_imply}
+use Rattle.formula_facts.proofs.AllMembers.{each_imply, each_made}
 use Rattle.formula_facts.proofs.Greatest.{each_below, below_each}
 use Rattle.std.proofs.lemmas.Bool.{and_from as both_true, and_parts}
 
 -- ---- lists
 
-pub Each-map : {X Y : Type 0} (P : X → Type 0) (Q : Y → Type 0) (f : X → Y) → ((x : X) → P x → Q (f x)) → (xs : List X) → Each P xs → Each Q (map f xs)
-Each-map P Q f g [] e = tt
-Each-map P Q f g (x ∷ xs) e = (g x e.0, Each-map P Q f g xs e.1)
-
 pub length-without : {X : Type 0} (xs : List X) (k : ℕ) → length (without k xs) ≤ length xs
 length-without [] k = omega arith
 length-without (x ∷ xs) zero = omega arith
 length-without (x ∷ xs) (suc k) = let r = length-without xs k in omega arith
-
-pub length-slice_set : {X : Type 0} (xs : List X) (k : ℕ) (x : X) → length (slice_set xs k x) ≡ length xs
-length-slice_set [] k x = refl
-length-slice_set (y ∷ xs) zero x = omega arith
-length-slice_set (y ∷ xs) (suc k) x = let r = length-slice_set xs k x in omega arith
 
 -- ---- numbers
 
@@ -44,7 +35,7 @@ length-slice_set (y ∷ xs) (suc k) x = let r = length-slice_set xs k x in omega
 abbrev pub IsLow : Term → Type 0
 IsLow t = number_bound t ≤ 65535
 
-pub low_pure : (x : Pure) → pure_numbers x ≤ 65535 → InPure IsLow x
+low_pure : (x : Pure) → pure_numbers x ≤ 65535 → InPure IsLow x
 low_pure (Eq t u) h = (omega arith, omega arith)
 low_pure (Neq t u) h = (omega arith, omega arith)
 
@@ -52,7 +43,7 @@ pure_low : (x : Pure) → InPure IsLow x → pure_numbers x ≤ 65535
 pure_low (Eq t u) q = let a = q.0 in let b = q.1 in omega arith
 pure_low (Neq t u) q = let a = q.0 in let b = q.1 in omega arith
 
-pub low_spatial : (x : Spatial) → spatial_numbers x ≤ 65535 → InSpatial IsLow x
+low_spatial : (x : Spatial) → spatial_numbers x ≤ 65535 → InSpatial IsLow x
 low_spatial (Cell t ts) h = (omega arith, each_below number_bound 65535 ts (omega arith))
 low_spatial (Pred p ts) h = each_below number_bound 65535 ts h
 
@@ -106,7 +97,7 @@ shape_after ds f (Pred q ts) s =
     let e = length-map ts f in (subst (λ n. arity_fault (slice_get ds q) n ≡ None) (sym e) s.0, tt)
 
 pub shapes_after : (ds : List Definition) (f : Term → Term) (xs : List Spatial) → Each (IsShaped ds) xs → Each (IsShaped ds) (map (in_spatial f) xs)
-shapes_after ds f = Each-map (IsShaped ds) (IsShaped ds) (in_spatial f) (shape_after ds f)
+shapes_after ds f = each_made (in_spatial f) (IsShaped ds) (IsShaped ds) (shape_after ds f)
 
 -- ---- heaps
 
@@ -155,14 +146,14 @@ module _ (f : Term → Term) (g : (t : Term) → IsLow t → IsLow (f t)) where
   low_pure_after (Neq t u) q = (g t q.0, g u q.1)
 
   low_spatial_after : (x : Spatial) → InSpatial IsLow x → InSpatial IsLow (in_spatial f x)
-  low_spatial_after (Cell t ts) q = (g t q.0, Each-map IsLow IsLow f g ts q.1)
-  low_spatial_after (Pred p ts) q = Each-map IsLow IsLow f g ts q
+  low_spatial_after (Cell t ts) q = (g t q.0, each_made f IsLow IsLow g ts q.1)
+  low_spatial_after (Pred p ts) q = each_made f IsLow IsLow g ts q
 
   pub low_pures_after : (xs : List Pure) → Each (InPure IsLow) xs → Each (InPure IsLow) (map (in_pure f) xs)
-  low_pures_after = Each-map (InPure IsLow) (InPure IsLow) (in_pure f) low_pure_after
+  low_pures_after = each_made (in_pure f) (InPure IsLow) (InPure IsLow) low_pure_after
 
   pub low_spatials_after : (xs : List Spatial) → Each (InSpatial IsLow) xs → Each (InSpatial IsLow) (map (in_spatial f) xs)
-  low_spatials_after = Each-map (InSpatial IsLow) (InSpatial IsLow) (in_spatial f) low_spatial_after
+  low_spatials_after = each_made (in_spatial f) (InSpatial IsLow) (InSpatial IsLow) low_spatial_after
 
   pub within_after : (most : ℕ) (ds : List Definition) (a : SymbolicHeap) → IsHeapWithin most ds a → IsHeapWithin most ds (in_heap f a)
   within_after most ds a h =

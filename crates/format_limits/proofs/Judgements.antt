@@ -12,7 +12,8 @@ use Rattle.heap_formula.specs.Words.{Each}
 use Rattle.rule_table.specs.Answer.{heaps_of, each_heap, is_short, has_numbers, limited}
 use Rattle.rule_table.specs.Fits.{OnPremises}
 use Rattle.format_limits.specs.Limits.{IsHeapWithin, IsFormWithin}
-use Rattle.format_limits.proofs.Heaps.{Each-map, IsShaped, small, within_tested}
+use Rattle.formula_facts.proofs.AllMembers.{each_imply, each_made}
+use Rattle.format_limits.proofs.Heaps.{IsShaped, small, within_tested}
 use Rattle.format_limits.proofs.Gives.{limited_gives}
 use Rattle.std.proofs.lemmas.Bool.{and_parts}
 use Rattle.std.specs.List.{list_all}
@@ -27,7 +28,7 @@ first_heap P (Entail b bs) h = h.0
 first_heap P (Runs i b) h = h.0
 
 pub heaps_map : (P Q : SymbolicHeap → Type 0) (s : Bindings) (j : Judgement) → ((a : SymbolicHeap) → P a → Q (apply_heap s a)) → Each P (heaps_of j) → Each Q (heaps_of (apply_judgement s j))
-heaps_map P Q s (Entail a bs) g h = (g a h.0, Each-map P Q (apply_heap s) g bs h.1)
+heaps_map P Q s (Entail a bs) g h = (g a h.0, each_made (apply_heap s) P Q g bs h.1)
 heaps_map P Q s (Runs i a) g h = (g a h.0, tt)
 
 pub form_with : (n : ℕ) (j : Judgement) (a : SymbolicHeap) → IsFormWithin n j → IsFormWithin n (with_antecedent j a)
@@ -57,8 +58,7 @@ module _ (most : ℕ) (ds : List Definition) (n : ℕ) where
   ready tested a h = let s = small most ds a h in ((λ _. s.spatials), s.shaped)
 
   pub all_ready : (tested : ℕ) (xs : List SymbolicHeap) → Each (IsHeapWithin most ds) xs → Each (IsReadyHeap tested) xs
-  all_ready tested [] e = tt
-  all_ready tested (a ∷ xs) e = (ready tested a e.0, all_ready tested xs e.1)
+  all_ready tested = each_imply (IsHeapWithin most ds) (IsReadyHeap tested) (ready tested)
 
   heaps_tested : (tested : ℕ) (xs : List SymbolicHeap) → list_all (is_short tested) xs ≡ true → list_all has_numbers xs ≡ true → Each (IsReadyHeap tested) xs → Each (IsHeapWithin most ds) xs
   heaps_tested tested [] s l e = tt

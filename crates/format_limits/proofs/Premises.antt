@@ -5,7 +5,7 @@ use Rattle.heap_formula.specs.declared.commands.Command.{Command}
 use Rattle.heap_formula.specs.declared.judgements.Judgement.{Judgement}
 use Rattle.heap_formula.specs.declared.judgements.Premise.{Premise}
 use Rattle.heap_formula.specs.declared.proof_rules.Rule.{Rule}
-use Rattle.heap_formula.specs.declared.proof_rules.Rule.TheVariants.{Absurd, Rewrite, Split, Distinct, Weaken, Unfold, Cut, Done, Choose, PureRight, Instantiate, Frame, UnfoldRight, Exec, Drop}
+use Rattle.heap_formula.specs.declared.proof_rules.Rule.TheVariants.{Split}
 use Rattle.heap_formula.specs.Definitions.{Definition}
 use Rattle.heap_formula.specs.Words.{Each}
 use Rattle.goto_lang.specs.Lines.{IsProgram}
@@ -20,21 +20,8 @@ use Rattle.format_limits.proofs.Judgements.{IsNearly}
 use Rattle.format_limits.proofs.Within.{rule_nearly}
 
 universal_terms : (most : ℕ) (ds : List Definition) (rule : Rule) → IsRuleWithin most ds rule → HasUniversalTerms rule
-universal_terms most ds Absurd r = tt
-universal_terms most ds (Rewrite k side) r = tt
 universal_terms most ds (Split t u) r = (r.0.0, r.1.0)
-universal_terms most ds (Distinct i k) r = tt
-universal_terms most ds (Weaken k) r = tt
-universal_terms most ds (Unfold k) r = tt
-universal_terms most ds (Cut places f) r = tt
-universal_terms most ds Done r = tt
-universal_terms most ds (Choose k) r = tt
-universal_terms most ds (PureRight k) r = tt
-universal_terms most ds (Instantiate v t) r = tt
-universal_terms most ds (Frame i k) r = tt
-universal_terms most ds (UnfoldRight k c) r = tt
-universal_terms most ds Exec r = tt
-universal_terms most ds (Drop k) r = tt
+universal_terms most ds rule r = tt
 
 all_within : (most : ℕ) (ds : List Definition) (n : ℕ) (ps : List Premise) → Each (IsNearly most ds n) ps → Each IsUniversalPremise ps → Each (IsPremiseWithin most ds n) ps
 all_within most ds n [] h u = tt

@@ -11,7 +11,7 @@ use Rattle.heap_formula.specs.declared.judgements.Judgement.TheVariants.{Entail,
 use Rattle.heap_formula.specs.declared.judgements.Premise.{Premise}
 use Rattle.heap_formula.specs.declared.proof_rules.Link.{Link}
 use Rattle.heap_formula.specs.declared.proof_rules.Rule.{Rule}
-use Rattle.heap_formula.specs.declared.proof_rules.Rule.TheVariants.{Absurd, Rewrite, Split, Distinct, Weaken, Unfold, Cut, Done, Choose, PureRight, Instantiate, Frame, UnfoldRight, Exec, Drop}
+use Rattle.heap_formula.specs.declared.proof_rules.Rule.TheVariants.{Rewrite, Distinct, Weaken, Unfold, Cut, Choose, PureRight, Frame, UnfoldRight, Drop}
 use Rattle.heap_formula.specs.declared.proof_rules.RuleFault.{RuleFault}
 use Rattle.heap_formula.specs.declared.proof_rules.RuleFault.TheVariants.{NoSuchAtom, NoSuchCase, LineDiffers, LinkProgramVariable}
 use Rattle.heap_formula.specs.Definitions.{Definition}
@@ -69,30 +69,24 @@ module _ (most : ℕ) (bounded : most ≤ 32) (ds : List Definition) (lines : Li
   same : (i : Judgement) → j ≡ i → IsJudgementWithin most ds (length lines) i
   same i e = subst (λ (i : Judgement). IsJudgementWithin most ds (length lines) i) e h
 
-  few_pures : length (antecedent j).pure ≤ 64
-  few_pures = s.pures
-
   few_spatials : length (antecedent j).spatial ≤ 64
   few_spatials = let m = s.spatials in omega arith
 
   pub rule_short : (rule : Rule) → rule_answer most ds lines j rule ≡ Ok ps → HasShortRule rule
-  rule_short Absurd = λ e. tt
   rule_short (Rewrite k side) =
-      let X = IsShortNumber k in finds_gives (Gives X ps) (no_answer X ps) (slice_get (antecedent j).pure k) NoSuchAtom _ (λ x at e. short_at (antecedent j).pure k x at few_pures)
-  rule_short (Split t u) = λ e. tt
+      let X = IsShortNumber k in finds_gives (Gives X ps) (no_answer X ps) (slice_get (antecedent j).pure k) NoSuchAtom _ (λ x at e. short_at (antecedent j).pure k x at s.pures)
   rule_short (Distinct i k) =
       let X = IsShortNumber i × IsShortNumber k in
       finds_gives (Gives X ps) (no_answer X ps) (slice_get (antecedent j).spatial i) NoSuchAtom _ (λ x at_i.
       finds_gives (Gives X ps) (no_answer X ps) (slice_get (antecedent j).spatial k) NoSuchAtom _ (λ y at_k e.
       (short_at (antecedent j).spatial i x at_i few_spatials, short_at (antecedent j).spatial k y at_k few_spatials)))
   rule_short (Weaken k) =
-      let X = IsShortNumber k in finds_gives (Gives X ps) (no_answer X ps) (slice_get (antecedent j).pure k) NoSuchAtom _ (λ x at e. short_at (antecedent j).pure k x at few_pures)
+      let X = IsShortNumber k in finds_gives (Gives X ps) (no_answer X ps) (slice_get (antecedent j).pure k) NoSuchAtom _ (λ x at e. short_at (antecedent j).pure k x at s.pures)
   rule_short (Unfold k) =
       let X = IsShortNumber k in finds_gives (Gives X ps) (no_answer X ps) (slice_get (antecedent j).spatial k) NoSuchAtom _ (λ x at e. short_at (antecedent j).spatial k x at few_spatials)
   rule_short (Cut places f) =
       let X = Each IsShortNumber places in
       needs_gives (Gives X ps) (no_answer X ps) (ascend_from 0 (length (antecedent j).spatial) places) NoSuchAtom _ (λ up e. places_short 0 (length (antecedent j).spatial) places up few_spatials)
-  rule_short Done = λ e. tt
   rule_short (Choose k) =
       let X = IsShortNumber k in
       entails_gives (Gives X ps) (no_answer X ps) j _ (λ a bs is.
@@ -103,7 +97,6 @@ module _ (most : ℕ) (bounded : most ≤ 32) (ds : List Definition) (lines : Li
       single_gives (Gives X ps) (no_answer X ps) j _ (λ a b is.
       finds_gives (Gives X ps) (no_answer X ps) (slice_get b.pure k) NoSuchAtom _ (λ x at e.
       let few = (small most ds b (same (Entail a (b ∷ [])) is).heaps.1.0).pures in short_at b.pure k x at few))
-  rule_short (Instantiate v t) = λ e. tt
   rule_short (Frame i k) =
       let X = IsShortNumber i × IsShortNumber k in
       single_gives (Gives X ps) (no_answer X ps) j _ (λ a b is.
@@ -119,25 +112,23 @@ module _ (most : ℕ) (bounded : most ≤ 32) (ds : List Definition) (lines : Li
       finds_gives (Gives X ps) (no_answer X ps) (slice_get b.spatial k) NoSuchAtom _ (λ x at e.
       let few = (small most ds b (same (Entail a (b ∷ [])) is).heaps.1.0).spatials in
       (short_at b.spatial k x at (omega arith), right_short most ds ps a b k c x d e)))
-  rule_short Exec = λ e. tt
   rule_short (Drop k) =
       let X = IsShortNumber k in
       runs_gives (Gives X ps) (no_answer X ps) j _ (λ i a is.
       finds_gives (Gives X ps) (no_answer X ps) (slice_get a.spatial k) NoSuchAtom _ (λ x at e.
       let few = (small most ds a (same (Runs i a) is).heaps.0).spatials in short_at a.spatial k x at (omega arith)))
+  rule_short rule = λ e. tt
 
 -- ---- links
 
 map_short : (pures : List Pure) (atoms : List Spatial) (free : ℕ → Bool) (ms : List ℕ) (xs : List Spatial) → length atoms ≤ 64 → MapsInto pures atoms free ms xs → Each IsShortNumber ms
-map_short pures atoms free [] [] few m = tt
-map_short pures atoms free [] (x ∷ xs) few m = tt
+map_short pures atoms free [] xs few m = tt
 map_short pures atoms free (k ∷ ms) [] few m = absurd m
 map_short pures atoms free (k ∷ ms) (x ∷ xs) few m =
     (short_at atoms k m.0 m.1 few, map_short pures atoms _ ms xs few m.4)
 
 disjuncts_short : (bs : List SymbolicHeap) (ms : List ℕ) (cs : List SymbolicHeap) → length bs ≤ 64 → DisjunctsCover bs ms cs → Each IsShortNumber ms
-disjuncts_short bs [] [] few m = tt
-disjuncts_short bs [] (c ∷ cs) few m = tt
+disjuncts_short bs [] cs few m = tt
 disjuncts_short bs (k ∷ ms) [] few m = absurd m
 disjuncts_short bs (k ∷ ms) (c ∷ cs) few m = (short_at bs k m.0 m.1 few, disjuncts_short bs ms cs few m.3)
 
@@ -151,8 +142,6 @@ parts_short a bs b cs whole link few_atoms few_disjuncts e short =
     }
 
 pub link_short : (most : ℕ) (ds : List Definition) (count p : ℕ) (bud companion : Judgement) (link : Link) → most ≤ 32 → IsJudgementWithin most ds count bud → link_fault bud companion link p ≡ None → IsShortNumber link.target → HasShortLink link
-link_short most ds count p (Entail a bs) (Runs i b) link bounded h e short = cc
-link_short most ds count p (Runs i a) (Entail b cs) link bounded h e short = cc
 link_short most ds count p (Entail a bs) (Entail b cs) link bounded h e short =
     let atoms = (small most ds a h.heaps.0).spatials in
     let few = h.form.1 in
@@ -162,3 +151,4 @@ link_short most ds count p (Runs i a) (Runs k b) link bounded h e short =
     let g = none_of_two (fault_unless (keeps_below link.subst p) LinkProgramVariable) (parts_fault a [] b [] true link) f.1 in
     let atoms = (small most ds a h.heaps.0).spatials in
     parts_short a [] b [] true link (omega arith) (omega arith) g.1 short
+link_short most ds count p bud companion link bounded h e short = cc

@@ -1,5 +1,5 @@
 -- Rule by rule: the heaps of the premises are within the limits, and so is their form.
-use Rattle.std.proofs.Common.{◌≡◌, ℕ, zero, suc, ◌+◌, ◌-◌, ◌<◌, ◌≤◌, max, Bool, true, false, cond, List, [], ◌∷◌, map, length, Some, refl, subst, arith}
+use Rattle.std.proofs.Common.{◌≡◌, ℕ, zero, suc, ◌+◌, ◌-◌, ◌<◌, ◌≤◌, max, Bool, true, false, cond, List, [], ◌∷◌, map, length, length-set, Some, refl, subst, arith}
 use Rattle.std.proofs.lemmas.List.{length-map}
 use Rattle.std.specs.Prelude.{Ok, Err, nat_eq, nat_le, if◌then◌else◌, slice_get, slice_set}
 use Rattle.heap_formula.specs.declared.terms.Term.{Term}
@@ -42,9 +42,9 @@ use Rattle.rule_table.proofs.Commands.{found_is}
 use Rattle.rule_table.proofs.Rewrites.{Each-without}
 use Rattle.format_limits.specs.Limits.{IsHeapWithin, IsJudgementWithin, IsCaseWithin, IsDefinitionWithin, IsRuleWithin}
 use Rattle.format_limits.proofs.Gives.{needs_gives, finds_gives, entails_gives, single_gives, runs_gives}
-use Rattle.format_limits.proofs.Heaps.{length-without, length-slice_set, IsLow, IsShaped, IsSmall, small, within, within_after, shapes_after, low_pures_after, low_spatials_after}
+use Rattle.format_limits.proofs.Heaps.{length-without, IsLow, IsShaped, IsSmall, small, within, within_after, shapes_after, low_pures_after, low_spatials_after}
 use Rattle.format_limits.proofs.Judgements.{heaps_with, first_heap, heaps_map, form_with, form_map, IsNearly, IsReadyHeap, IsReady, ready, all_ready, limited_nearly}
-use Rattle.formula_facts.proofs.AllMembers.{each_imply, each_append, each_at, each_set, each_chosen}
+use Rattle.formula_facts.proofs.AllMembers.{each_imply, each_made, each_append, each_at, each_set, each_chosen}
 use Rattle.rule_table.proofs.EmptyPremises.{empty_on}
 
 -- ---- cases
@@ -62,14 +62,12 @@ low_choice true t u p q = p
 low_choice false t u p q = q
 
 low_replaced : (v : ℕ) (u : Term) → IsLow u → (t : Term) → IsLow t → IsLow (apply_term ((v, u) ∷ []) t)
-low_replaced v u p Nil q = q
 low_replaced v u p (Univ m) q = low_choice (nat_eq m v) u (Univ m) p q
-low_replaced v u p (Exist m) q = q
+low_replaced v u p t q = q
 
 low_instance : (v : ℕ) (t : Term) → IsLow t → (u : Term) → IsLow u → IsLow (instance_term v t u)
-low_instance v t p Nil q = q
-low_instance v t p (Univ m) q = q
 low_instance v t p (Exist m) q = low_choice (nat_eq m v) t (Exist m) p q
+low_instance v t p u q = q
 
 -- ---- pure atoms after a Rewrite
 
@@ -83,7 +81,7 @@ pures_few true k v x u xs h =
     let l = length-without xs k in omega arith
 pures_few false k v x u xs h =
     let e = length-map xs (apply_pure ((v, u) ∷ [])) in
-    let l = length-slice_set (map (apply_pure ((v, u) ∷ [])) xs) k x in omega arith
+    let l = length-set (map (apply_pure ((v, u) ∷ [])) xs) k x in omega arith
 
 length-variables_from : (n k : ℕ) → length (variables_from n k) ≡ k
 length-variables_from n zero = refl
@@ -135,9 +133,8 @@ module _ (most : ℕ) (ds : List Definition) (n : ℕ) where
       (heaps_with H (apply_judgement ((v, u) ∷ []) j) _ a (heaps_map H H ((v, u) ∷ []) j (within_after f (low_replaced v u r) most ds) h.heaps), form_with n (apply_judgement ((v, u) ∷ []) j) _ (form_map n ((v, u) ∷ []) j h.form))
 
   side_nearly : (p : ℕ) (j : Judgement) (k : ℕ) (x : Pure) (t u : Term) → IsJudgementWithin most ds n j → InPure IsLow x → IsLow u → OnPremises P (rewrite_side p j k x t u)
-  side_nearly p j k x Nil u h q r = tt
-  side_nearly p j k x (Exist m) u h q r = tt
   side_nearly p j k x (Univ v) u h q r = (rewritten_nearly p j k x v u h q r, tt)
+  side_nearly p j k x t u h q r = tt
 
   named_nearly : (p : ℕ) (j : Judgement) (k : ℕ) (side : Side) (t u : Term) → IsJudgementWithin most ds n j → IsLow t → IsLow u → OnPremises P (rewrite_side p j k (Eq t u) (named side t u) (unnamed side t u))
   named_nearly p j k Left t u h q r = side_nearly p j k (Eq t u) t u h (q, r) r
@@ -160,14 +157,12 @@ module _ (most : ℕ) (ds : List Definition) (n : ℕ) where
       let shaped = each_append Shaped (without k (antecedent j).spatial) (case_body ts m case).spatial (Each-without Shaped (antecedent j).spatial k s.shaped) (shapes_after ds (case_term ts m) case.spatial c) in
       (heaps_with (IsReadyHeap most ds n most) j a ((λ few. few), shaped) (all_ready most ds n most (heaps_of j) h.heaps), form_with n j a h.form)
 
-  unfolds_ready : (j : Judgement) (k : ℕ) (ts : List Term) (m : ℕ) (cases : List SymbolicHeap) → IsJudgementWithin most ds n j → Each (λ (c : SymbolicHeap). Each Shaped c.spatial) cases → Each (IsReady most ds n most) (map (unfold_premise j k ts m) cases)
-  unfolds_ready j k ts m [] h e = tt
-  unfolds_ready j k ts m (c ∷ cs) h e = (unfold_ready j k ts m c h e.0, unfolds_ready j k ts m cs h e.1)
-
   unfold_nearly : (p : ℕ) (j : Judgement) (k : ℕ) (x : Spatial) → Each (IsDefinitionWithin most ds) ds → IsJudgementWithin most ds n j → OnPremises P (calls x (λ q ts. limited most (map (unfold_premise j k ts (fresh_number p j)) (cases_of ds q))))
   unfold_nearly p j k (Cell t ts) d h = tt
   unfold_nearly p j k (Pred q ts) d h =
-      limited_nearly most ds n most (map (unfold_premise j k ts (fresh_number p j)) (cases_of ds q)) (unfolds_ready j k ts (fresh_number p j) (cases_of ds q) h (case_shapes most ds ds d q))
+      let m = fresh_number p j in
+      limited_nearly most ds n most (map (unfold_premise j k ts m) (cases_of ds q))
+      (each_made (unfold_premise j k ts m) (λ (c : SymbolicHeap). Each Shaped c.spatial) (IsReady most ds n most) (λ c. unfold_ready j k ts m c h) (cases_of ds q) (case_shapes most ds ds d q))
 
   -- ---- Cut
 
@@ -235,7 +230,7 @@ module _ (most : ℕ) (ds : List Definition) (n : ℕ) where
 
     field_shaped : (c : Found) (k : ℕ) (u : Term) → Shaped (Cell c.address c.fields) → Shaped (Cell c.address (slice_set c.fields k u))
     field_shaped c k u s =
-        let e = length-slice_set c.fields k u in
+        let e = length-set c.fields k u in
         let some = s.1.0 in
         let few = s.1.1 in (refl, (omega arith, omega arith))
 

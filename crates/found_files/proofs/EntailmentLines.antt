@@ -19,9 +19,10 @@ use Rattle.fold_offers.specs.Kinds.{is_cell, is_predicate}
 use Rattle.search_moves.specs.Trying.{Theory, goes}
 use Rattle.search_moves.specs.Entailments.{side_of, rewrite_at, rewrites, choice_at, choices, unfold_at, unfolds, pure_right_at, pure_rights, frame_at, frames_from, frames_if, cell_frames, predicate_frames, apart, is_or_mirrors, distinct_at, distincts_with, distincts_for, distincts_if, distincts, equation_instances, field_instances, argument_instances, instance_rule, may_unfold, right_unfold_at, right_unfolds_of, right_unfolds, entailment_before, last_line, single_lines, entailment_after}
 use Rattle.format_limits.specs.Limits.{IsHeapWithin, IsRuleWithin}
-use Rattle.found_files.proofs.Members.{each_append, each_if, each_filter, each_first_that, each_first_line, each_of_any, each_anywhere, each_first_place}
-use Rattle.found_files.proofs.HeapTerms.{HasTerms, heap_has, spatials_within}
-use Rattle.format_limits.proofs.Heaps.{IsLow}
+use Rattle.found_files.proofs.Members.{beside, each_if, each_filter, each_first_that, each_first_line, each_of_any, each_anywhere, each_first_place}
+use Rattle.found_files.proofs.HeapTerms.{HasTerms, spatials_within}
+use Rattle.format_limits.proofs.Heaps.{IsLow, small}
+use Rattle.formula_facts.proofs.AllMembers.{each_append}
 use Rattle.found_files.proofs.Instances.{instance_rules, equations_within, fields_within, arguments_within}
 
 -- ---- rules without terms and formulas
@@ -31,26 +32,11 @@ module _ (most : ℕ) (ds : List Definition) where
   rewrite_within k None = tt
   rewrite_within k (Some side) = (tt, tt)
 
-  rewrites_within : (xs : List Pure) → Each (IsRuleWithin most ds) (rewrites xs)
-  rewrites_within xs = each_first_place (IsRuleWithin most ds) (λ k x. rewrite_at k (side_of x)) xs (λ k x. rewrite_within k (side_of x))
-
-  choices_within : (bs : List SymbolicHeap) → Each (IsRuleWithin most ds) (choices bs)
-  choices_within bs = each_anywhere (IsRuleWithin most ds) choice_at bs (λ k b. (tt, tt))
-
   unfolds_within : (xs : List Spatial) → Each (IsRuleWithin most ds) (unfolds xs)
   unfolds_within xs = each_anywhere (IsRuleWithin most ds) unfold_at xs (λ k x. each_if (IsRuleWithin most ds) (is_predicate x) (Unfold k ∷ []) (tt, tt))
 
-  pure_rights_within : (xs : List Pure) → Each (IsRuleWithin most ds) (pure_rights xs)
-  pure_rights_within xs = each_anywhere (IsRuleWithin most ds) pure_right_at xs (λ k x. (tt, tt))
-
   frames_within : (ys : List Spatial) (i : ℕ) (wanted : Bool) → Each (IsRuleWithin most ds) (frames_if ys i wanted)
   frames_within ys i wanted = each_if (IsRuleWithin most ds) wanted (frames_from ys i) (each_anywhere (IsRuleWithin most ds) (frame_at i) ys (λ k y. (tt, tt)))
-
-  cell_frames_within : (xs ys : List Spatial) → Each (IsRuleWithin most ds) (cell_frames xs ys)
-  cell_frames_within xs ys = each_anywhere (IsRuleWithin most ds) (λ i x. frames_if ys i (is_cell x)) xs (λ i x. frames_within ys i (is_cell x))
-
-  predicate_frames_within : (xs ys : List Spatial) → Each (IsRuleWithin most ds) (predicate_frames xs ys)
-  predicate_frames_within xs ys = each_anywhere (IsRuleWithin most ds) (λ i x. frames_if ys i (is_predicate x)) xs (λ i x. frames_within ys i (is_predicate x))
 
   distincts_for_within : (ys : List Spatial) (x : Pure) → Each (IsRuleWithin most ds) (distincts_for ys x)
   distincts_for_within ys x =
@@ -65,14 +51,13 @@ module _ (most : ℕ) (ds : List Definition) where
   right_unfolds_of_within t j a k (Pred q ts) =
       each_anywhere (IsRuleWithin most ds) (right_unfold_at t j a k ts) (cases_of t.definitions q) (λ c case. each_if (IsRuleWithin most ds) (may_unfold t j a (in_heap (right_term ts 0) case)) (UnfoldRight k c ∷ []) (tt, tt))
 
-  right_unfolds_within : (t : Theory) (j : Judgement) (a : SymbolicHeap) (ys : List Spatial) → Each (IsRuleWithin most ds) (right_unfolds t j a ys)
-  right_unfolds_within t j a ys = each_anywhere (IsRuleWithin most ds) (right_unfolds_of t j a) ys (right_unfolds_of_within t j a)
-
   -- ---- the lines
 
   pub before_within : (t : Theory) (j : Judgement) (a : SymbolicHeap) → Each (IsRuleWithin most ds) (entailment_before t j a)
   before_within t j a =
-      each_first_line (IsRuleWithin most ds) (filter (goes t j) (Absurd ∷ []) ∷ rewrites a.pure ∷ []) (each_filter (IsRuleWithin most ds) (goes t j) (Absurd ∷ []) (tt, tt), (rewrites_within a.pure, tt))
+      each_first_line (IsRuleWithin most ds) (filter (goes t j) (Absurd ∷ []) ∷ rewrites a.pure ∷ [])
+      (beside (each_filter (IsRuleWithin most ds) (goes t j) (Absurd ∷ []) (tt, tt))
+      (beside (each_first_place (IsRuleWithin most ds) (λ k x. rewrite_at k (side_of x)) a.pure (λ k x. rewrite_within k (side_of x))) tt))
 
   module _ (t : Theory) (j : Judgement) (a : SymbolicHeap) (b : SymbolicHeap) (left : Each HasTerms a.spatial) (right : InHeap IsLow b) where
     last_within : Each (IsRuleWithin most ds) (last_line t j a b)
@@ -81,37 +66,25 @@ module _ (most : ℕ) (ds : List Definition) where
         let unfolded = right_unfolds t j a b.spatial in
         each_filter (IsRuleWithin most ds) (goes t j) ((instances ++ unfolded) ++ unfolds a.spatial)
         (each_append (IsRuleWithin most ds) (instances ++ unfolded) (unfolds a.spatial)
-        (each_append (IsRuleWithin most ds) instances unfolded (instance_rules most ds (argument_instances a.spatial b.spatial) (arguments_within a.spatial b.spatial left right.1)) (right_unfolds_within t j a b.spatial))
+        (each_append (IsRuleWithin most ds) instances unfolded (instance_rules most ds (argument_instances a.spatial b.spatial) (arguments_within a.spatial b.spatial left right.1))
+        (each_anywhere (IsRuleWithin most ds) (right_unfolds_of t j a) b.spatial (right_unfolds_of_within t j a)))
         (unfolds_within a.spatial))
 
     lines_within : Each (Each (IsRuleWithin most ds)) (single_lines t j a b)
     lines_within =
-        let first = each_first_that (IsRuleWithin most ds) (goes t j) in (
-          each_filter (IsRuleWithin most ds) (goes t j) (Done ∷ []) (tt, tt),
-          (
-            first (pure_rights b.pure) (pure_rights_within b.pure),
-            (
-              first (distincts a.spatial b.pure) (distincts_within a.spatial b.pure),
-              (
-                first (cell_frames a.spatial b.spatial) (cell_frames_within a.spatial b.spatial),
-                (
-                  first (map instance_rule (equation_instances b.pure)) (instance_rules most ds (equation_instances b.pure) (equations_within b.pure right.0)),
-                  (
-                    first (map instance_rule (field_instances a.spatial b.spatial)) (instance_rules most ds (field_instances a.spatial b.spatial) (fields_within a.spatial b.spatial left right.1)),
-                    (
-                      first (predicate_frames a.spatial b.spatial) (predicate_frames_within a.spatial b.spatial),
-                      (last_within, tt),
-                    ),
-                  ),
-                ),
-              ),
-            ),
-          ),
-        )
+        let first = each_first_that (IsRuleWithin most ds) (goes t j) in
+        beside (each_filter (IsRuleWithin most ds) (goes t j) (Done ∷ []) (tt, tt))
+        (beside (first (pure_rights b.pure) (each_anywhere (IsRuleWithin most ds) pure_right_at b.pure (λ k x. (tt, tt))))
+        (beside (first (distincts a.spatial b.pure) (distincts_within a.spatial b.pure))
+        (beside (first (cell_frames a.spatial b.spatial) (each_anywhere (IsRuleWithin most ds) (λ i x. frames_if b.spatial i (is_cell x)) a.spatial (λ i x. frames_within b.spatial i (is_cell x))))
+        (beside (first (map instance_rule (equation_instances b.pure)) (instance_rules most ds (equation_instances b.pure) (equations_within b.pure right.0)))
+        (beside (first (map instance_rule (field_instances a.spatial b.spatial)) (instance_rules most ds (field_instances a.spatial b.spatial) (fields_within a.spatial b.spatial left right.1)))
+        (beside (first (predicate_frames a.spatial b.spatial) (each_anywhere (IsRuleWithin most ds) (λ i x. frames_if b.spatial i (is_predicate x)) a.spatial (λ i x. frames_within b.spatial i (is_predicate x))))
+        (beside last_within tt)))))))
 
   pub after_within : (t : Theory) (j : Judgement) (a : SymbolicHeap) (bs : List SymbolicHeap) → IsHeapWithin most ds a → Each (IsHeapWithin most ds) bs → IsUniversalHeap a → Each (IsRuleWithin most ds) (entailment_after t j a bs)
   after_within t j a [] w ws u = tt
   after_within t j a (b ∷ []) w ws u =
-      each_first_line (IsRuleWithin most ds) (single_lines t j a b) (lines_within t j a b (spatials_within a.spatial u.1 (heap_has most ds a w).1) (heap_has most ds b ws.0))
+      each_first_line (IsRuleWithin most ds) (single_lines t j a b) (lines_within t j a b (spatials_within a.spatial u.1 (small most ds a w).low.1) (small most ds b ws.0).low)
   after_within t j a (b ∷ c ∷ bs) w ws u =
-      each_filter (IsRuleWithin most ds) (goes t j) (choices (b ∷ c ∷ bs) ++ unfolds a.spatial) (each_append (IsRuleWithin most ds) (choices (b ∷ c ∷ bs)) (unfolds a.spatial) (choices_within (b ∷ c ∷ bs)) (unfolds_within a.spatial))
+      each_filter (IsRuleWithin most ds) (goes t j) (choices (b ∷ c ∷ bs) ++ unfolds a.spatial) (each_append (IsRuleWithin most ds) (choices (b ∷ c ∷ bs)) (unfolds a.spatial) (each_anywhere (IsRuleWithin most ds) choice_at (b ∷ c ∷ bs) (λ k x. (tt, tt))) (unfolds_within a.spatial))

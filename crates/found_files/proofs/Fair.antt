@@ -1,5 +1,5 @@
 -- The calculus of a problem within the limits is fair, for the judgements and the reasons within them.
-use Rattle.std.proofs.Common.{◌≡◌, ℕ, ◌+◌, ◌⊎◌, inl, inr, arith, length-append, List, [], ◌∷◌, map, Some, None, slice_get, length, refl, sym, ap, subst, ◌∙◌}
+use Rattle.std.proofs.Common.{◌≡◌, ℕ, ◌⊎◌, inl, inr, arith, List, [], map, Some, None, slice_get, length, refl, sym, ap, subst, ◌∙◌}
 use Rattle.std.specs.Prelude.{Ok, Err}
 use Rattle.std.proofs.lemmas.Bool.{cases_eq}
 use Rattle.std.proofs.lemmas.Option.{slice_get_within}
@@ -12,12 +12,12 @@ use Rattle.heap_formula.specs.Judgements.{antecedent}
 use Rattle.heap_formula.specs.Words.{Each}
 use Rattle.rule_table.specs.Answer.{Answer}
 use Rattle.rule_table.specs.RuleBook.{rule_answer}
-use Rattle.format_limits.specs.Limits.{IsHeapWithin, IsJudgementWithin, IsPremiseWithin, IsRuleWithin, IsReasonWithin}
-use Rattle.format_limits.proofs.Heaps.{Each-map, small}
+use Rattle.format_limits.specs.Limits.{IsHeapWithin, IsJudgementWithin, IsRuleWithin, IsReasonWithin}
+use Rattle.format_limits.proofs.Heaps.{small}
 use Rattle.format_limits.proofs.Judgements.{first_heap}
 use Rattle.format_limits.proofs.Few.{are_few}
 use Rattle.format_limits.proofs.Premises.{premises_within}
-use Rattle.found_files.proofs.Members.{each_get}
+use Rattle.formula_facts.proofs.AllMembers.{each_at, each_mapped}
 use Rattle.found_files.proofs.RulesWithin.{rules_within}
 use Rattle.found_files.proofs.LinksWithin.{links_within}
 use Rattle.buchi_core.proofs.Lists.{get_one}
@@ -32,7 +32,7 @@ use Rattle.search_calculus.specs.Calculus.{OpenGoal, MadeNode, judgement_of, tra
 use Rattle.search_calculus.specs.Graphs.{goal_graph}
 use Rattle.search_calculus.specs.Problems.{IsSmallProblem}
 use Rattle.search_calculus.specs.Search.{links_at, rules_at, calculus_of}
-use Rattle.search_calculus.proofs.ProofGraphs.{shown, length-shown, goal_graph_is, goal_last, goal_shows}
+use Rattle.search_calculus.proofs.ProofGraphs.{goal_graph_size, goal_last, goal_shows}
 use Rattle.search_calculus.proofs.ShortHeaps.{IsShort}
 use Rattle.search_calculus.proofs.Fairness.{beside_none, small_is_fair}
 use Rattle.found_files.specs.Found.{IsWithinLimits}
@@ -72,15 +72,10 @@ goal_has P t nodes g each here v node at =
           (let is : slice_get (goal_graph t nodes g) v ≡ Some (open_node g.premise.judgement) = ap (slice_get (goal_graph t nodes g)) last ∙ goal_last t nodes g in
           subst (λ (x : GraphNode). P x.judgement) (get_one (goal_graph t nodes g) v (open_node g.premise.judgement) node is at) here)
       | inr other ↦
-          (let m = get_within nodes v (omega (arith, other, size, slice_get_within (goal_graph t nodes g) v node at)) in
+          (let m = get_within nodes v (omega (arith, other, goal_graph_size t nodes g, slice_get_within (goal_graph t nodes g) v node at)) in
           let shown = goal_shows t nodes g v m.0 m.1 in
           subst P (sym shown.judgement ∙ ap (λ (x : GraphNode). x.judgement) (get_one (goal_graph t nodes g) v shown.node node shown.is_node at)) (each v m.0 m.1))
     ]
-  where
-    size : length (goal_graph t nodes g) ≡ length nodes + 1
-    size =
-        ap length (goal_graph_is t nodes g)
-        ∙ (length-append (shown t nodes g) (open_node g.premise.judgement ∷ []) ∙ ap (λ n. n + 1) (length-shown t nodes g))
 
 -- ---- the calculus
 
@@ -101,8 +96,8 @@ module _ (t : Theory) (goal : Judgement) (limits : IsWithinLimits t goal) where
   offered : (nodes : List MadeNode) (g : OpenGoal) (r : Reason) → AllOccur (Occurs t) nodes g → IsIn (links_at t nodes g) r ⊎ IsIn (rules_at t nodes g) r → Allows t r
   offered nodes g r occur offer =
       elim offer [
-        | inl link ↦ each_get (Allows t) (links_at t nodes g) link.place r (Each-map (λ (l : Link). Allows t (Back l)) (Allows t) Back (λ l h. h) (links_offered t graph (length nodes) g.premise.judgement) links) link.at
-        | inr rule ↦ each_get (Allows t) (rules_at t nodes g) rule.place r (Each-map (IsRuleWithin t.most t.definitions) (Allows t) Step (λ x h. h) (rules_offered t graph (length nodes) g.premise.judgement) rules) rule.at
+        | inl link ↦ each_at (Allows t) (links_at t nodes g) link.place r link.at (each_mapped (Allows t) Back (links_offered t graph (length nodes) g.premise.judgement) links)
+        | inr rule ↦ each_at (Allows t) (rules_at t nodes g) rule.place r rule.at (each_mapped (Allows t) Step (rules_offered t graph (length nodes) g.premise.judgement) rules)
       ]
     where
       graph : List GraphNode
@@ -120,9 +115,8 @@ module _ (t : Theory) (goal : Judgement) (limits : IsWithinLimits t goal) where
   premises_occur nodes g (Step rule) ps occur allowed h k p at =
       let a = answer_of (rule_answer t.most t.definitions t.lines g.premise.judgement rule) ps h in
       let each = premises_within t.most t.definitions t.lines g.premise.judgement rule a.premises limits.definitions limits.program occur.goal allowed a.is_answer in
-      each_get (λ (q : TracedPremise Judgement). Occurs t q.judgement) (map traced a.premises) k p
-      (Each-map (IsPremiseWithin t.most t.definitions (length t.lines)) (λ (q : TracedPremise Judgement). Occurs t q.judgement) traced (λ q w. w) a.premises each)
-      (subst (λ qs. slice_get qs k ≡ Some p) (sym a.are) at)
+      each_at (λ (q : TracedPremise Judgement). Occurs t q.judgement) (map traced a.premises) k p (subst (λ qs. slice_get qs k ≡ Some p) (sym a.are) at)
+      (each_mapped (λ (q : TracedPremise Judgement). Occurs t q.judgement) traced a.premises each)
   premises_occur nodes g (Back link) ps occur allowed h k p at =
       let none : ps ≡ [] = beside_none (edge_to t g.premise.judgement link (slice_get nodes link.target)) ps h in
       absurd (let e : None ≡ Some p = subst (λ qs. slice_get qs k ≡ Some p) none at in cc)

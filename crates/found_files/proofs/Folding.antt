@@ -20,7 +20,8 @@ use Rattle.heap_formula.specs.Fresh.{terms_numbers}
 use Rattle.rule_table.specs.Tests.{same_term, has_number}
 use Rattle.fold_offers.specs.Folds.{Binding, bound_in, bind_variable, bind, bind_terms, bind_lists, bind_atom, placed, parameters, can_fold, value_of, bound_term, folded, ascending, case_follows, fold_by, folds_of_case, folds_of, folds}
 use Rattle.format_limits.specs.Limits.{IsHeapWithin, IsDefinitionWithin, IsRuleWithin}
-use Rattle.found_files.proofs.Members.{each_append, each_if, each_unless, each_take, each_map, each_get, each_of_any, each_placed}
+use Rattle.found_files.proofs.Members.{each_if, each_unless, some_if, each_of_any, each_placed}
+use Rattle.formula_facts.proofs.AllMembers.{each_append, each_take, each_mapped, each_at}
 use Rattle.format_limits.proofs.Heaps.{IsLow}
 use Rattle.formula_facts.proofs.Greatest.{below_each}
 
@@ -28,10 +29,6 @@ use Rattle.formula_facts.proofs.Greatest.{below_each}
 
 abbrev pub HasValues : Binding → Type 0
 HasValues s = Each (λ (p : Term × Term). IsLow p.1) s
-
-if_has : {X : Type 0} (P : X → Type 0) (b : Bool) (o : Option X) → IfSome o P → IfSome (if b then o else None) P
-if_has P true o h = h
-if_has P false o h = tt
 
 found_has : (s : Binding) (t : Term) → HasValues s → IfSome (bound_in s t) IsLow
 found_has [] t h = tt
@@ -43,10 +40,10 @@ found_has (p ∷ ps) t h = step (same_term p.0 t) (bound_in ps t) (found_has ps 
 
 variable_has : (s : Binding) (t u : Term) (o : Option Term) → HasValues s → IsLow u → IfSome (bind_variable s t u o) HasValues
 variable_has s t u None h n = each_append (λ (p : Term × Term). IsLow p.1) s ((t, u) ∷ []) h (n, tt)
-variable_has s t u (Some w) h n = if_has HasValues (same_term w u) (Some s) h
+variable_has s t u (Some w) h n = some_if HasValues (same_term w u) (Some s) h
 
 bind_has : (s : Binding) (t u : Term) → HasValues s → IsLow u → IfSome (bind s t u) HasValues
-bind_has s Nil u h n = if_has HasValues (same_term Nil u) (Some s) h
+bind_has s Nil u h n = some_if HasValues (same_term Nil u) (Some s) h
 bind_has s (Univ k) u h n = variable_has s (Univ k) u (bound_in s (Univ k)) h n
 bind_has s (Exist k) u h n = variable_has s (Exist k) u (bound_in s (Exist k)) h n
 
@@ -57,13 +54,12 @@ terms_have (Some s) (t ∷ ts) [] h n = h
 terms_have (Some s) (t ∷ ts) (u ∷ us) h n = terms_have (bind s t u) ts us (bind_has s t u h n.0) n.1
 
 lists_have : (o : Option Binding) (ts us : List Term) → IfSome o HasValues → Each IsLow us → IfSome (bind_lists o ts us) HasValues
-lists_have o ts us h n = if_has HasValues (nat_eq (length ts) (length us)) (bind_terms o ts us) (terms_have o ts us h n)
+lists_have o ts us h n = some_if HasValues (nat_eq (length ts) (length us)) (bind_terms o ts us) (terms_have o ts us h n)
 
 atom_has : (s : Binding) (x y : Spatial) → HasValues s → InSpatial IsLow y → IfSome (bind_atom s x y) HasValues
 atom_has s (Cell t ts) (Cell u us) h n = lists_have (bind s t u) ts us (bind_has s t u h n.0) n.1
-atom_has s (Cell t ts) (Pred q us) h n = tt
-atom_has s (Pred p ts) (Cell u us) h n = tt
-atom_has s (Pred p ts) (Pred q us) h n = if_has HasValues (nat_eq p q) (bind_lists (Some s) ts us) (lists_have (Some s) ts us h n)
+atom_has s (Pred p ts) (Pred q us) h n = some_if HasValues (nat_eq p q) (bind_lists (Some s) ts us) (lists_have (Some s) ts us h n)
+atom_has s x y h n = tt
 
 -- what is given of bindings to a state's terms is given of each way to place a case's atoms
 placed_each : (P : Rule → Type 0) (f : List ℕ → Binding → List Rule) (ys xs : List Spatial) (taken : List ℕ) (o : Option Binding) → Each (InSpatial IsLow) ys → ((places : List ℕ) (s : Binding) → HasValues s → Each P (f places s)) → IfSome o HasValues → Each P (placed f ys xs taken o)
@@ -71,7 +67,7 @@ placed_each P f ys xs taken None n h v = tt
 placed_each P f ys [] taken (Some s) n h v = h taken s v
 placed_each P f ys (x ∷ xs) taken (Some s) n h v =
     each_placed P (λ i y. if has_number taken i then [] else placed f ys xs (taken ++ i ∷ []) (bind_atom s x y)) ys (λ i y e.
-    each_unless P (has_number taken i) (placed f ys xs (taken ++ i ∷ []) (bind_atom s x y)) (placed_each P f ys xs (taken ++ i ∷ []) (bind_atom s x y) n h (atom_has s x y v (each_get (InSpatial IsLow) ys i y n e))))
+    each_unless P (has_number taken i) (placed f ys xs (taken ++ i ∷ []) (bind_atom s x y)) (placed_each P f ys xs (taken ++ i ∷ []) (bind_atom s x y) n h (atom_has s x y v (each_at (InSpatial IsLow) ys i y e n))))
 
 -- ---- the formula
 
@@ -104,7 +100,7 @@ module _ (most : ℕ) (some : 0 < most) (ds : List Definition) where
   folded_within : (q : ℕ) (d : Definition) (s : Binding) → slice_get ds q ≡ Some d → d.arity ≤ 8 → HasValues s → IsHeapWithin most ds (folded q d.arity s)
   folded_within q d s at few h =
       let terms = map (bound_term s) (parameters d.arity) in
-      let below : terms_numbers terms ≤ 65535 = below_each number_bound 65535 terms (each_map IsLow (bound_term s) (parameters d.arity) (parameters_have s d.arity h)) in
+      let below : terms_numbers terms ≤ 65535 = below_each number_bound 65535 terms (each_mapped IsLow (bound_term s) (parameters d.arity) (parameters_have s d.arity h)) in
       record {
         short = le-leb 1 most some;
         numbers = le-leb _ _ (omega arith);
@@ -120,4 +116,4 @@ module _ (most : ℕ) (some : 0 < most) (ds : List Definition) where
       each_if (IsRuleWithin most ds) (case_follows a case s) (Cut (ascending a.spatial places) (folded q d.arity s) ∷ []) (folded_within q d s at few v, tt)) tt))
 
   pub folds_within : (a : SymbolicHeap) → Each (InSpatial IsLow) a.spatial → Each (IsDefinitionWithin most ds) ds → Each (IsRuleWithin most ds) (folds a ds)
-  folds_within a n w = each_placed (IsRuleWithin most ds) (folds_of a) ds (λ q d at. folds_of_within a q d n at (each_get (IsDefinitionWithin most ds) ds q d w at).arity)
+  folds_within a n w = each_placed (IsRuleWithin most ds) (folds_of a) ds (λ q d at. folds_of_within a q d n at (each_at (IsDefinitionWithin most ds) ds q d at w).arity)

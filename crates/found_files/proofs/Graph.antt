@@ -26,11 +26,10 @@ use Rattle.list_facts.proofs.Places.{get_within, get_map}
 edges_same : (nodes : List MadeNode) (v : ℕ) (ps : List Premise) (es : List Edge) → AllLead nodes v (map traced ps) es →
     map graph_edge (edges_to ps (map (λ (e : Edge). e.target) es)) ≡ es
 edges_same nodes v [] [] led = refl
-edges_same nodes v [] (e ∷ es) led = absurd led
-edges_same nodes v (p ∷ ps) [] led = absurd led
 edges_same nodes v (p ∷ ps) (e ∷ es) led =
     let first : trace_pairs_of p.pairs ≡ e.pairs = sym led.0.pairs in
     let rest = edges_same nodes v ps es led.1 in λ i. record { target = e.target; pairs = first i } ∷ rest i
+edges_same nodes v ps es led = absurd led
 
 module _ (t : Theory) (nodes : List MadeNode) (all' : AllMade t nodes) where
   abbrev rows : List RuleNode

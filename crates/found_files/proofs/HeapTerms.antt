@@ -1,39 +1,22 @@
 -- The terms of a heap within the limits.
 use Rattle.std.proofs.Common.{ℕ, ◌≤◌, List, [], ◌∷◌, map, arith, leb-true}
-use Rattle.heap_formula.specs.declared.atoms.Pure.{Pure}
 use Rattle.heap_formula.specs.declared.atoms.Spatial.{Spatial}
 use Rattle.heap_formula.specs.declared.atoms.Spatial.TheVariants.{Cell, Pred}
 use Rattle.heap_formula.specs.declared.judgements.Judgement.{Judgement}
 use Rattle.heap_formula.specs.declared.judgements.Judgement.TheVariants.{Entail, Term as Runs}
-use Rattle.heap_formula.specs.Closedness.{InPure, InSpatial, InHeap, IsUniversal, IsUniversalSpatial}
+use Rattle.heap_formula.specs.Closedness.{InSpatial, IsUniversal, IsUniversalSpatial}
 use Rattle.heap_formula.specs.Definitions.{Definition}
-use Rattle.heap_formula.specs.Fresh.{heap_bound, judgement_bound, pure_numbers, spatial_numbers, heap_numbers}
+use Rattle.heap_formula.specs.Fresh.{heap_bound, judgement_bound, heap_numbers}
 use Rattle.heap_formula.specs.Symbolic.{SymbolicHeap}
 use Rattle.heap_formula.specs.Words.{Each, max_of}
 use Rattle.rule_table.specs.Answer.{heaps_of}
 use Rattle.format_limits.specs.Limits.{IsHeapWithin, IsTermWithin}
-use Rattle.formula_facts.proofs.Greatest.{each_below}
 use Rattle.formula_facts.proofs.AllMembers.{each_both}
 use Rattle.search_moves.proofs.LeftNumbers.{heap_below as heap_le}
-use Rattle.format_limits.proofs.Heaps.{IsLow, low_pure, low_spatial}
+use Rattle.format_limits.proofs.Heaps.{IsLow}
+use Rattle.problem_files.proofs.Lists.{each_of_both}
 
-pures_have : (xs : List Pure) → Each (λ x. pure_numbers x ≤ 65535) xs → Each (InPure IsLow) xs
-pures_have [] a = tt
-pures_have (x ∷ xs) a = (low_pure x a.0, pures_have xs a.1)
-
-spatials_have : (xs : List Spatial) → Each (λ x. spatial_numbers x ≤ 65535) xs → Each (InSpatial IsLow) xs
-spatials_have [] a = tt
-spatials_have (x ∷ xs) a = (low_spatial x a.0, spatials_have xs a.1)
-
-heap_below : (most : ℕ) (ds : List Definition) (a : SymbolicHeap) → IsHeapWithin most ds a → heap_numbers a ≤ 65535
-heap_below most ds a w = leb-true (heap_numbers a) 65535 w.numbers
-
-pub heap_has : (most : ℕ) (ds : List Definition) (a : SymbolicHeap) → IsHeapWithin most ds a → InHeap IsLow a
-heap_has most ds a w =
-    let h = heap_below most ds a w in
-    (pures_have a.pure (each_below pure_numbers 65535 a.pure (omega arith)), spatials_have a.spatial (each_below spatial_numbers 65535 a.spatial (omega arith)))
-
--- ---- the antecedent's atoms
+-- ---- an antecedent's atoms
 
 abbrev pub HasTerms : Spatial → Type 0
 HasTerms = InSpatial IsTermWithin
@@ -43,10 +26,12 @@ spatial_within (Cell t ts) u n = ((u.0, n.0), each_both IsUniversal IsLow ts u.1
 spatial_within (Pred p ts) u n = each_both IsUniversal IsLow ts u n
 
 pub spatials_within : (xs : List Spatial) → Each IsUniversalSpatial xs → Each (InSpatial IsLow) xs → Each HasTerms xs
-spatials_within [] u n = tt
-spatials_within (x ∷ xs) u n = (spatial_within x u.0 n.0, spatials_within xs u.1 n.1)
+spatials_within = each_of_both IsUniversalSpatial (InSpatial IsLow) HasTerms spatial_within
 
 -- ---- universal numbers are numbers
+
+heap_below : (most : ℕ) (ds : List Definition) (a : SymbolicHeap) → IsHeapWithin most ds a → heap_numbers a ≤ 65535
+heap_below most ds a w = leb-true (heap_numbers a) 65535 w.numbers
 
 heaps_le : (most : ℕ) (ds : List Definition) (bs : List SymbolicHeap) → Each (IsHeapWithin most ds) bs → max_of (map heap_bound bs) ≤ 65535
 heaps_le most ds [] a = omega arith

@@ -5,7 +5,7 @@ use Rattle.std.specs.List.{list_any}
 use Rattle.heap_formula.specs.declared.terms.Term.{Term}
 use Rattle.heap_formula.specs.declared.terms.Term.TheVariants.{Nil, Univ, Exist}
 use Rattle.heap_formula.specs.declared.atoms.Pure.{Pure}
-use Rattle.heap_formula.specs.declared.atoms.Pure.TheVariants.{Eq, Neq}
+use Rattle.heap_formula.specs.declared.atoms.Pure.TheVariants.{Eq}
 use Rattle.heap_formula.specs.declared.atoms.Spatial.{Spatial}
 use Rattle.heap_formula.specs.declared.atoms.Spatial.TheVariants.{Cell, Pred}
 use Rattle.heap_formula.specs.Closedness.{InPure, InSpatial}
@@ -16,7 +16,8 @@ use Rattle.search_moves.specs.declared.instances.Instance.{Instance}
 use Rattle.search_moves.specs.Entailments.{equation_instance, equation_instances, instance_at, first_instance, field_instance, fields_with, field_instances, agree, argument_instance, same_instance, once, arguments_with, argument_instances, instance_rule}
 use Rattle.fold_offers.specs.Places.{each_of, if_some}
 use Rattle.format_limits.specs.Limits.{IsTermWithin, IsRuleWithin}
-use Rattle.found_files.proofs.Members.{each_append, each_map, each_each_of, each_if_some}
+use Rattle.found_files.proofs.Members.{each_each_of, each_if_some, some_if}
+use Rattle.formula_facts.proofs.AllMembers.{each_append, each_mapped}
 use Rattle.found_files.proofs.HeapTerms.{HasTerms}
 use Rattle.format_limits.proofs.Heaps.{IsLow}
 use Rattle.std.specs.Option.{option_or}
@@ -25,21 +26,16 @@ abbrev pub IsInstanceWithin : Instance → Type 0
 IsInstanceWithin i = (i.variable ≤ 65534) × IsTermWithin i.term
 
 pub instance_rules : (most : ℕ) (ds : List Definition) (is : List Instance) → Each IsInstanceWithin is → Each (IsRuleWithin most ds) (map instance_rule is)
-instance_rules most ds is a = each_map (IsRuleWithin most ds) instance_rule is a
+instance_rules most ds is a = each_mapped (IsRuleWithin most ds) instance_rule is a
 
 -- ---- by equations
 
 equation_within : (x : Pure) → InPure IsLow x → IfSome (equation_instance x) IsInstanceWithin
-equation_within (Neq t u) h = tt
-equation_within (Eq Nil Nil) h = tt
-equation_within (Eq Nil (Univ m)) h = tt
 equation_within (Eq Nil (Exist v)) h = (omega arith, (tt, h.0))
-equation_within (Eq (Univ n) Nil) h = tt
-equation_within (Eq (Univ n) (Univ m)) h = tt
 equation_within (Eq (Univ n) (Exist v)) h = (omega arith, (tt, h.0))
 equation_within (Eq (Exist v) Nil) h = (omega arith, (tt, h.1))
 equation_within (Eq (Exist v) (Univ m)) h = (omega arith, (tt, h.1))
-equation_within (Eq (Exist v) (Exist w)) h = tt
+equation_within x h = tt
 
 pub equations_within : (xs : List Pure) → Each (InPure IsLow) xs → Each IsInstanceWithin (equation_instances xs)
 equations_within xs h =
@@ -48,9 +44,8 @@ equations_within xs h =
 -- ---- by terms of the antecedent
 
 at_within : (t u : Term) → IsTermWithin t → IsLow u → IfSome (instance_at t u) IsInstanceWithin
-at_within t Nil p q = tt
-at_within t (Univ n) p q = tt
 at_within t (Exist v) p q = (omega arith, p)
+at_within t u p q = tt
 
 or_within : (a b : Option Instance) → IfSome a IsInstanceWithin → IfSome b IsInstanceWithin → IfSome (option_or a b) IsInstanceWithin
 or_within None b p q = q
@@ -61,25 +56,19 @@ first_within [] us p q = tt
 first_within (t ∷ ts) [] p q = tt
 first_within (t ∷ ts) (u ∷ us) p q = or_within (instance_at t u) (first_instance ts us) (at_within t u p.0 q.0) (first_within ts us p.1 q.1)
 
-if_within : (b : Bool) (o : Option Instance) → IfSome o IsInstanceWithin → IfSome (if b then o else None) IsInstanceWithin
-if_within true o p = p
-if_within false o p = tt
-
 field_within : (x y : Spatial) → HasTerms x → InSpatial IsLow y → IfSome (field_instance x y) IsInstanceWithin
-field_within (Cell t ts) (Cell u us) p q = if_within (same_term t u && nat_eq (length ts) (length us)) (first_instance ts us) (first_within ts us p.1 q.1)
-field_within (Cell t ts) (Pred q us) p r = tt
+field_within (Cell t ts) (Cell u us) p q = some_if IsInstanceWithin (same_term t u && nat_eq (length ts) (length us)) (first_instance ts us) (first_within ts us p.1 q.1)
 field_within (Pred p ts) (Cell u us) h q = tt
-field_within (Pred p ts) (Pred q us) h r = tt
+field_within x y p q = tt
 
 pub fields_within : (xs ys : List Spatial) → Each HasTerms xs → Each (InSpatial IsLow) ys → Each IsInstanceWithin (field_instances xs ys)
 fields_within xs ys p q =
     each_each_of IsInstanceWithin HasTerms (fields_with ys) xs p (λ x h. each_each_of IsInstanceWithin (InSpatial IsLow) (λ y. if_some (field_instance x y)) ys q (λ y r. each_if_some IsInstanceWithin (field_instance x y) (field_within x y h r)))
 
 argument_within : (x y : Spatial) → HasTerms x → InSpatial IsLow y → IfSome (argument_instance x y) IsInstanceWithin
-argument_within (Pred p ts) (Pred q us) h r = if_within (nat_eq p q && agree ts us) (first_instance ts us) (first_within ts us h r)
-argument_within (Pred p ts) (Cell u us) h r = tt
-argument_within (Cell t ts) (Cell u us) h r = tt
+argument_within (Pred p ts) (Pred q us) h r = some_if IsInstanceWithin (nat_eq p q && agree ts us) (first_instance ts us) (first_within ts us h r)
 argument_within (Cell t ts) (Pred q us) h r = tt
+argument_within x y h r = tt
 
 once_within : (done is : List Instance) → Each IsInstanceWithin done → Each IsInstanceWithin is → Each IsInstanceWithin (once done is)
 once_within done [] d a = d

@@ -12,9 +12,9 @@ use Rattle.proof_graph.specs.declared.nodes.GraphNode.{GraphNode}
 use Rattle.search_moves.specs.Trying.{Theory}
 use Rattle.search_moves.specs.Offering.{links_offered}
 use Rattle.found_files.specs.Faultless.{IsLinked}
-use Rattle.found_files.proofs.Members.{each_with, each_passes}
+use Rattle.found_files.proofs.Members.{each_passes}
 use Rattle.found_files.proofs.LinksWithin.{all_offered, links_target}
-use Rattle.formula_facts.proofs.AllMembers.{each_both}
+use Rattle.formula_facts.proofs.AllMembers.{each_imply, each_both}
 use Rattle.list_facts.proofs.Options.{none_is}
 
 pub links_fit : (t : Theory) (nodes : List GraphNode) (goal : ℕ) (j : Judgement) → Each (IsLinked t nodes j) (links_offered t nodes goal j)
@@ -23,6 +23,6 @@ links_fit t nodes goal j =
     let p = variables_of t.lines j in
     let passes : Link → Bool = λ link. is_none (link_fault j node.judgement link p) in
     let found = links j node.judgement k p in
-    each_with (λ (link : Link). (link.target ≡ k) × (passes link ≡ true)) (IsLinked t nodes j) found
-    (each_both (λ (link : Link). link.target ≡ k) (λ (link : Link). passes link ≡ true) found (links_target j node.judgement k p) (each_passes passes (candidates j node.judgement k)))
-    (λ link h. (node, subst (λ v. slice_get nodes v ≡ Some node) (sym h.0) e, none_is (link_fault j node.judgement link p) h.1)))
+    each_imply (λ (link : Link). (link.target ≡ k) × (passes link ≡ true)) (IsLinked t nodes j)
+    (λ link h. (node, subst (λ v. slice_get nodes v ≡ Some node) (sym h.0) e, none_is (link_fault j node.judgement link p) h.1)) found
+    (each_both (λ (link : Link). link.target ≡ k) (λ (link : Link). passes link ≡ true) found (links_target j node.judgement k p) (each_passes passes (candidates j node.judgement k))))

@@ -38,13 +38,12 @@ module _ (t : Theory) (nodes : List MadeNode) (all' : AllMade t nodes) where
   premises_right : (v i : ℕ) (ps : List Premise) (es : List Edge) → AllLead nodes v (map traced ps) es →
       premises_fault rows v i ps (map (λ (e : Edge). e.target) es) ≡ None
   premises_right v i [] [] led = refl
-  premises_right v i [] (e ∷ es) led = absurd led
-  premises_right v i (p ∷ ps) [] led = absurd led
   premises_right v i (p ∷ ps) (e ∷ es) led =
       let h = led.0 in
       let made = all' e.target h.node h.is_node in
       premise_right v i e.target p ps (map (λ (e : Edge). e.target) es) (node_of (file_node made.traces h.node)) h.later (node_at t nodes all' e.target h.node made h.is_node) h.judgement
       (premises_right v (suc i) ps es led.1)
+  premises_right v i ps es led = absurd led
 
   reason_right : (v : ℕ) (j : Judgement) (r : Reason) (es : List Edge) → IsBy t nodes v j r es →
       reason_fault t.most t.definitions t.lines rows v j (numbers_of r es) r ≡ None

@@ -1,5 +1,5 @@
 -- The rules that a goal is offered have premises.
-use Rattle.std.proofs.Common.{◌≡◌, ℕ, Bool, true, false, List, [], ◌∷◌, ◌++◌, map, Option, Some, None, Ok, refl, sym, subst}
+use Rattle.std.proofs.Common.{◌≡◌, ℕ, Bool, true, false, List, [], ◌∷◌, ◌++◌, map, Option, Some, None, Ok, refl, sym, ap, subst}
 use Rattle.std.specs.Prelude.{slice_get, ◌&&◌, if◌then◌else◌}
 use Rattle.std.specs.List.{filter}
 use Rattle.heap_formula.specs.declared.terms.Term.{Term}
@@ -26,41 +26,34 @@ use Rattle.rule_table.specs.Tests.{same_term}
 use Rattle.proof_graph.specs.declared.nodes.GraphNode.{GraphNode}
 use Rattle.search_moves.specs.Trying.{Theory, has_premises, goes}
 use Rattle.search_moves.specs.Entailments.{side_of, rewrite_at, rewrites, choices, unfolds, pure_rights, cell_frames, predicate_frames, distincts, equation_instances, field_instances, argument_instances, instance_rule, right_unfolds, entailment_before, single_lines, entailment_after}
-use Rattle.search_moves.specs.States.{is_logical, occurs_elsewhere, state_rewrite, state_rewrites, stops, stops_that_go, folds_if, misses_cell, unfolds_if, state_before, state_after}
+use Rattle.search_moves.specs.States.{is_logical, occurs_elsewhere, state_rewrite, state_rewrites, stops, stops_that_go, folds_if, misses_cell, unfolds_if, state_before}
 use Rattle.search_moves.specs.Offering.{rules_before, rules_after, rules_offered}
 use Rattle.found_files.specs.Faultless.{HasPremises}
-use Rattle.found_files.proofs.Members.{each_get, each_or_else, each_first_line, each_first_placed, each_passes, each_first_passes}
+use Rattle.std.proofs.lemmas.Bool.{and_parts}
+use Rattle.formula_facts.proofs.AllMembers.{each_at}
+use Rattle.found_files.proofs.Members.{beside, each_or_else, each_first_line, each_first_placed, each_passes, each_first_passes}
 
 abbrev IsVariable : Term → Type 0
-IsVariable Nil = ⊥
 IsVariable (Univ n) = Unit {0}
-IsVariable (Exist n) = ⊥
+IsVariable t = ⊥
 
 -- ---- an equation whose named side is a variable, or whose sides are one, can be rewritten by
 
 by_variable : (p : ℕ) (j : Judgement) (k : ℕ) (x : Pure) (b : Bool) (same : List Premise) (v u : Term) → IsVariable v → has_premises (if b then Ok same else rewrite_side p j k x v u) ≡ true
 by_variable p j k x true same v u h = refl
-by_variable p j k x false same Nil u h = absurd h
 by_variable p j k x false same (Univ n) u h = refl
-by_variable p j k x false same (Exist n) u h = absurd h
+by_variable p j k x false same v u h = absurd h
 
 by_same : (p : ℕ) (j : Judgement) (k : ℕ) (x : Pure) (b : Bool) (same : List Premise) (v u : Term) → b ≡ true → has_premises (if b then Ok same else rewrite_side p j k x v u) ≡ true
-by_same p j k x true same v u e = refl
-by_same p j k x false same v u e = absurd cc
-
-second : (b c : Bool) → b && c ≡ true → c ≡ true
-second true c e = e
-second false c e = absurd cc
+by_same p j k x b same v u e = ap (λ c. has_premises (if c then Ok same else rewrite_side p j k x v u)) e
 
 logical_variable : (p : ℕ) (u : Term) → is_logical p u ≡ true → IsVariable u
-logical_variable p Nil e = absurd cc
 logical_variable p (Univ n) e = tt
-logical_variable p (Exist n) e = absurd cc
+logical_variable p u e = absurd cc
 
 occurring_variable : (a : SymbolicHeap) (k : ℕ) (u : Term) → occurs_elsewhere a k u ≡ true → IsVariable u
-occurring_variable a k Nil e = absurd cc
 occurring_variable a k (Univ n) e = tt
-occurring_variable a k (Exist n) e = absurd cc
+occurring_variable a k u e = absurd cc
 
 module _ (t : Theory) (j : Judgement) (k : ℕ) where
   abbrev Stands : Pure → Type 0
@@ -99,42 +92,28 @@ module _ (t : Theory) (j : Judgement) (k : ℕ) where
       (choose (is_logical p u) Left _ (λ l. variable_goes Left u v e (logical_variable p u l))
       (choose (is_logical p v) Right _ (λ l. variable_goes Right u v e (logical_variable p v l))
       (choose (occurs_elsewhere a k u) Left _ (λ o. variable_goes Left u v e (occurring_variable a k u o))
-      (choose (same_term u Nil && occurs_elsewhere a k v) Right None (λ o. variable_goes Right u v e (occurring_variable a k v (second (same_term u Nil) (occurs_elsewhere a k v) o))) tt))))
+      (choose (same_term u Nil && occurs_elsewhere a k v) Right None (λ o. variable_goes Right u v e (occurring_variable a k v (and_parts (same_term u Nil) (occurs_elsewhere a k v) o).1)) tt))))
 
 -- ---- the lines
 
 entailment_before_goes : (t : Theory) (a : SymbolicHeap) (bs : List SymbolicHeap) → IsUniversalHeap a → Each (HasPremises t (Entail a bs)) (entailment_before t (Entail a bs) a)
 entailment_before_goes t a bs u =
     let j = Entail a bs in
-    each_first_line (HasPremises t j) (filter (goes t j) (Absurd ∷ []) ∷ rewrites a.pure ∷ []) (
-      each_passes (goes t j) (Absurd ∷ []),
-      (each_first_placed (HasPremises t j) (λ k x. rewrite_at k (side_of x)) a.pure (λ k x e. side_goes t j k x e (each_get (InPure IsUniversal) a.pure k x u.0 e)), tt),
-    )
+    each_first_line (HasPremises t j) (filter (goes t j) (Absurd ∷ []) ∷ rewrites a.pure ∷ [])
+    (beside (each_passes (goes t j) (Absurd ∷ []))
+    (beside (each_first_placed (HasPremises t j) (λ k x. rewrite_at k (side_of x)) a.pure (λ k x e. side_goes t j k x e (each_at (InPure IsUniversal) a.pure k x e u.0))) tt))
 
 single_lines_go : (t : Theory) (j : Judgement) (a b : SymbolicHeap) → Each (Each (HasPremises t j)) (single_lines t j a b)
 single_lines_go t j a b =
-    let first = each_first_passes (goes t j) in (
-      each_passes (goes t j) (Done ∷ []),
-      (
-        first (pure_rights b.pure),
-        (
-          first (distincts a.spatial b.pure),
-          (
-            first (cell_frames a.spatial b.spatial),
-            (
-              first (map instance_rule (equation_instances b.pure)),
-              (
-                first (map instance_rule (field_instances a.spatial b.spatial)),
-                (
-                  first (predicate_frames a.spatial b.spatial),
-                  (each_passes (goes t j) ((map instance_rule (argument_instances a.spatial b.spatial) ++ right_unfolds t j a b.spatial) ++ unfolds a.spatial), tt),
-                ),
-              ),
-            ),
-          ),
-        ),
-      ),
-    )
+    let first = each_first_passes (goes t j) in
+    beside (each_passes (goes t j) (Done ∷ []))
+    (beside (first (pure_rights b.pure))
+    (beside (first (distincts a.spatial b.pure))
+    (beside (first (cell_frames a.spatial b.spatial))
+    (beside (first (map instance_rule (equation_instances b.pure)))
+    (beside (first (map instance_rule (field_instances a.spatial b.spatial)))
+    (beside (first (predicate_frames a.spatial b.spatial))
+    (beside (each_passes (goes t j) ((map instance_rule (argument_instances a.spatial b.spatial) ++ right_unfolds t j a b.spatial) ++ unfolds a.spatial)) tt)))))))
 
 entailment_after_goes : (t : Theory) (j : Judgement) (a : SymbolicHeap) (bs : List SymbolicHeap) → Each (HasPremises t j) (entailment_after t j a bs)
 entailment_after_goes t j a [] = tt
@@ -145,17 +124,14 @@ state_before_goes : (t : Theory) (i : ℕ) (a : SymbolicHeap) → Each (HasPremi
 state_before_goes t i a =
     let j = Runs i a in
     let p = program_variables t.lines in
-    each_first_line (HasPremises t j) (filter (goes t j) (Absurd ∷ []) ∷ stops_that_go t j i ∷ state_rewrites p a ∷ []) (
-      each_passes (goes t j) (Absurd ∷ []),
-      (each_passes (goes t j) (stops (counted_from_one t.lines i)), (each_first_placed (HasPremises t j) (state_rewrite p a) a.pure (λ k x e. state_goes t j k p a x e), tt)),
-    )
-
-state_after_goes : (t : Theory) (nodes : List GraphNode) (goal : ℕ) (j : Judgement) (i : ℕ) (a : SymbolicHeap) → Each (HasPremises t j) (state_after t nodes goal j i a)
-state_after_goes t nodes goal j i a =
-    each_passes (goes t j) (folds_if t nodes goal i a ++ (Exec ∷ unfolds_if (misses_cell (exec_answer t.most t.lines j)) a (counted_from_one t.lines i)))
+    each_first_line (HasPremises t j) (filter (goes t j) (Absurd ∷ []) ∷ stops_that_go t j i ∷ state_rewrites p a ∷ [])
+    (beside (each_passes (goes t j) (Absurd ∷ []))
+    (beside (each_passes (goes t j) (stops (counted_from_one t.lines i)))
+    (beside (each_first_placed (HasPremises t j) (state_rewrite p a) a.pure (λ k x e. state_goes t j k p a x e)) tt)))
 
 pub rules_go : (t : Theory) (nodes : List GraphNode) (goal : ℕ) (j : Judgement) → IsUniversalHeap (antecedent j) → Each (HasPremises t j) (rules_offered t nodes goal j)
 rules_go t nodes goal (Entail a bs) u =
     each_or_else (HasPremises t (Entail a bs)) (rules_before t (Entail a bs)) (rules_after t nodes goal (Entail a bs)) (entailment_before_goes t a bs u) (entailment_after_goes t (Entail a bs) a bs)
 rules_go t nodes goal (Runs i a) u =
-    each_or_else (HasPremises t (Runs i a)) (rules_before t (Runs i a)) (rules_after t nodes goal (Runs i a)) (state_before_goes t i a) (state_after_goes t nodes goal (Runs i a) i a)
+    each_or_else (HasPremises t (Runs i a)) (rules_before t (Runs i a)) (rules_after t nodes goal (Runs i a)) (state_before_goes t i a)
+    (each_passes (goes t (Runs i a)) (folds_if t nodes goal i a ++ (Exec ∷ unfolds_if (misses_cell (exec_answer t.most t.lines (Runs i a))) a (counted_from_one t.lines i))))

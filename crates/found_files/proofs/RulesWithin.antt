@@ -1,9 +1,8 @@
 -- What a goal within the limits is offered brings in nothing beyond them.
-use Rattle.std.proofs.Common.{ℕ, ◌<◌, Bool, List, [], ◌∷◌, ◌++◌, length, Option, Some, None}
+use Rattle.std.proofs.Common.{ℕ, ◌<◌, List, [], ◌∷◌, ◌++◌, length, Option, Some, None}
 use Rattle.std.specs.Prelude.{take, ◌&&◌}
 use Rattle.std.specs.List.{filter, list_any}
 use Rattle.heap_formula.specs.declared.terms.Term.{Term}
-use Rattle.heap_formula.specs.declared.commands.Command.{Command}
 use Rattle.heap_formula.specs.declared.judgements.Judgement.{Judgement}
 use Rattle.heap_formula.specs.declared.judgements.Judgement.TheVariants.{Entail, Term as Runs}
 use Rattle.heap_formula.specs.declared.proof_rules.Rule.TheVariants.{Absurd, Unfold, Exec}
@@ -19,41 +18,38 @@ use Rattle.search_moves.specs.Trying.{Theory, goes}
 use Rattle.search_moves.specs.States.{state_side, state_rewrite, state_rewrites, is_stop, stops, wanted_cell, reaches, unfold_for, misses_cell, unfolds_for, unfolds_if, climbs, works_on, folds_if, stops_that_go, state_before, state_after}
 use Rattle.search_moves.specs.Offering.{rules_before, rules_after, rules_offered}
 use Rattle.format_limits.specs.Limits.{IsDefinitionWithin, IsHeapWithin, IsJudgementWithin, IsRuleWithin}
-use Rattle.found_files.proofs.Members.{each_append, each_if, each_filter, each_or_else, each_first_line, each_anywhere, each_first_place}
-use Rattle.found_files.proofs.HeapTerms.{heap_has}
+use Rattle.found_files.proofs.Members.{beside, each_if, each_filter, each_or_else, each_first_line, each_anywhere, each_first_place}
+use Rattle.format_limits.proofs.Heaps.{small}
+use Rattle.formula_facts.proofs.AllMembers.{each_append}
 use Rattle.found_files.proofs.EntailmentLines.{rewrite_within, before_within, after_within}
 use Rattle.found_files.proofs.Folding.{folds_within}
 
 -- ---- states of a program
 
 module _ (most : ℕ) (ds : List Definition) where
-  state_rewrites_within : (p : ℕ) (a : SymbolicHeap) → Each (IsRuleWithin most ds) (state_rewrites p a)
-  state_rewrites_within p a = each_first_place (IsRuleWithin most ds) (state_rewrite p a) a.pure (λ k x. rewrite_within most ds k (state_side p a k x))
-
-  stops_within : (c : Option Command) → Each (IsRuleWithin most ds) (stops c)
-  stops_within c = each_if (IsRuleWithin most ds) (is_stop c) (Exec ∷ []) (tt, tt)
-
   unfolds_for_within : (a : SymbolicHeap) (o : Option Term) → Each (IsRuleWithin most ds) (unfolds_for a o)
   unfolds_for_within a None = tt
   unfolds_for_within a (Some t) = each_anywhere (IsRuleWithin most ds) (unfold_for a.pure t) a.spatial (λ k x. each_if (IsRuleWithin most ds) (reaches a.pure t x) (Unfold k ∷ []) (tt, tt))
 
-  unfolds_if_within : (missing : Bool) (a : SymbolicHeap) (c : Option Command) → Each (IsRuleWithin most ds) (unfolds_if missing a c)
-  unfolds_if_within missing a c = each_if (IsRuleWithin most ds) missing (unfolds_for a (wanted_cell c)) (unfolds_for_within a (wanted_cell c))
-
   state_before_within : (t : Theory) (j : Judgement) (i : ℕ) (a : SymbolicHeap) → Each (IsRuleWithin most ds) (state_before t j i a)
   state_before_within t j i a =
-      let stopping = stops (counted_from_one t.lines i) in
-      each_first_line (IsRuleWithin most ds) (filter (goes t j) (Absurd ∷ []) ∷ stops_that_go t j i ∷ state_rewrites (program_variables t.lines) a ∷ [])
-      (each_filter (IsRuleWithin most ds) (goes t j) (Absurd ∷ []) (tt, tt), (each_filter (IsRuleWithin most ds) (goes t j) stopping (stops_within (counted_from_one t.lines i)), (state_rewrites_within (program_variables t.lines) a, tt)))
+      let command = counted_from_one t.lines i in
+      let p = program_variables t.lines in
+      each_first_line (IsRuleWithin most ds) (filter (goes t j) (Absurd ∷ []) ∷ stops_that_go t j i ∷ state_rewrites p a ∷ [])
+      (beside (each_filter (IsRuleWithin most ds) (goes t j) (Absurd ∷ []) (tt, tt))
+      (beside (each_filter (IsRuleWithin most ds) (goes t j) (stops command) (each_if (IsRuleWithin most ds) (is_stop command) (Exec ∷ []) (tt, tt)))
+      (beside (each_first_place (IsRuleWithin most ds) (state_rewrite p a) a.pure (λ k x. rewrite_within most ds k (state_side p a k x))) tt)))
 
 state_after_within : (t : Theory) (nodes : List GraphNode) (goal : ℕ) (j : Judgement) (i : ℕ) (a : SymbolicHeap) → 0 < t.most → Each (IsDefinitionWithin t.most t.definitions) t.definitions → IsHeapWithin t.most t.definitions a → Each (IsRuleWithin t.most t.definitions) (state_after t nodes goal j i a)
 state_after_within t nodes goal j i a some ds w =
     let P = IsRuleWithin t.most t.definitions in
-    let last = unfolds_if (misses_cell (exec_answer t.most t.lines j)) a (counted_from_one t.lines i) in
+    let missing = misses_cell (exec_answer t.most t.lines j) in
+    let wanted = wanted_cell (counted_from_one t.lines i) in
+    let last = unfolds_if missing a (counted_from_one t.lines i) in
     each_filter P (goes t j) (folds_if t nodes goal i a ++ (Exec ∷ last))
     (each_append P (folds_if t nodes goal i a) (Exec ∷ last)
-    (each_if P (climbs nodes goal goal && list_any (works_on i) (take goal nodes)) (folds a t.definitions) (folds_within t.most some t.definitions a (heap_has t.most t.definitions a w).1 ds))
-    (tt, unfolds_if_within t.most t.definitions (misses_cell (exec_answer t.most t.lines j)) a (counted_from_one t.lines i)))
+    (each_if P (climbs nodes goal goal && list_any (works_on i) (take goal nodes)) (folds a t.definitions) (folds_within t.most some t.definitions a (small t.most t.definitions a w).low.1 ds))
+    (tt, each_if P missing (unfolds_for a wanted) (unfolds_for_within t.most t.definitions a wanted)))
 
 -- ---- either judgement
 

@@ -25,10 +25,9 @@ use Rattle.heap_formula.proofs.Members.{each_from}
 targets_short : (nodes : List MadeNode) (v : ℕ) (ps : List (TracedPremise Judgement)) (es : List Edge) →
     length nodes ≤ 20000 → AllLead nodes v ps es → Each IsShortNumber (map (λ (e : Edge). e.target) es)
 targets_short nodes v [] [] few led = tt
-targets_short nodes v [] (e ∷ es) few led = absurd led
-targets_short nodes v (p ∷ ps) [] few led = absurd led
 targets_short nodes v (p ∷ ps) (e ∷ es) few led =
     let within = slice_get_within nodes e.target led.0.node led.0.is_node in (omega arith, targets_short nodes v ps es few led.1)
+targets_short nodes v ps es few led = absurd led
 
 module _ (t : Theory) (goal : Judgement) (limits : IsWithinLimits t goal) (nodes : List MadeNode) (all' : AllMade t nodes) (few : length nodes ≤ 20000) where
   reason_short : (v : ℕ) (j : Judgement) (r : Reason) (es : List Edge) → Occurs t j → IsBy t nodes v j r es →

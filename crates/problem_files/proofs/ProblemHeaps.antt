@@ -14,7 +14,7 @@ use Rattle.heap_formula.specs.Symbolic.{SymbolicHeap}
 use Rattle.heap_formula.specs.Words.{Each}
 use Rattle.pred_defs.specs.Faults.{case_fault}
 use Rattle.format_limits.specs.Limits.{HasFields, IsHeapWithin}
-use Rattle.format_limits.proofs.Heaps.{Each-map, IsLow, are_shaped, within}
+use Rattle.format_limits.proofs.Heaps.{IsLow, are_shaped, within}
 use Rattle.cyc_lex.specs.declared.fault.What.TheVariants.{Arguments, Pure as PureAtoms, Spatial as SpatialAtoms}
 use Rattle.heap_syntax.specs.declared.tree.PureTree.{PureTree}
 use Rattle.heap_syntax.specs.Trees.{Spatial, Cell, Predicate, Heap}
@@ -31,21 +31,16 @@ use Rattle.heap_reader.specs.Values.{pure_value, spatial_value, heap_value}
 use Rattle.heap_reader.proofs.NoFlaw.{neither, each_of as each_flawless}
 use Rattle.name_numbers.specs.Numbering as numbers
 use Rattle.formula_reader.specs.Values.{term_value}
-use Rattle.formula_facts.proofs.AllMembers.{each_imply}
+use Rattle.formula_facts.proofs.AllMembers.{each_imply, each_mapped}
 use Rattle.formula_facts.proofs.Greatest.{below_each}
 use Rattle.heap_reader.proofs.Members.{behind_fit}
-
-mapped : {X Y : Type 0} (f : X → Y) (P : Y → Type 0) (xs : List X) → Each (λ x. P (f x)) xs → Each P (map f xs)
-mapped f P xs e = Each-map (λ x. P (f x)) P f (λ x p. p) xs e
-
--- members of a text, and members that stand after a word
 
 -- ---- what holds of each term without a flaw holds of the terms of a heap without one
 
 module _ {T : Type 0} (flaw : ℕ → T → Found) (span : T → ℕ) (value : T → Term) (Q : Term → Type 0) (one : (k : ℕ) (t : T) → flaw k t ≡ None → Q (value t)) where
   arguments_keep : (k : ℕ) (ts : List T) → arguments_flaw flaw span k ts ≡ None → Each Q (map value ts)
   arguments_keep k ts e =
-      mapped value Q ts (each_flawless (argument_flaw flaw span) span (λ t. Q (value t)) (λ n j t h. one j t (neither (over_if (nat_le 8 n) Arguments j) (flaw j t) h).1) 0 k ts e)
+      each_mapped Q value ts (each_flawless (argument_flaw flaw span) span (λ t. Q (value t)) (λ n j t h. one j t (neither (over_if (nat_le 8 n) Arguments j) (flaw j t) h).1) 0 k ts e)
 
   pure_keeps : (x : PureTree T) → Q (value x.left) → Q (value x.right) → InPure Q (pure_value value x)
   pure_keeps x left right = by_sign x.is_equation
@@ -56,7 +51,7 @@ module _ {T : Type 0} (flaw : ℕ → T → Found) (span : T → ℕ) (value : T
 
   pures_keep : (k : ℕ) (xs : List (PureTree T)) → listed_flaw (pure_flaw flaw span) (pure_span span) 0 k xs ≡ None → Each (InPure Q) (map (pure_value value) xs)
   pures_keep k xs e =
-      mapped (pure_value value) (InPure Q) xs (each_flawless (pure_flaw flaw span) (pure_span span) (λ x. InPure Q (pure_value value x)) (λ n j x h.
+      each_mapped (InPure Q) (pure_value value) xs (each_flawless (pure_flaw flaw span) (pure_span span) (λ x. InPure Q (pure_value value x)) (λ n j x h.
       let sides = neither (flaw j x.left) (flaw (j + span x.left) x.right) (neither (over_if (nat_le 64 n) PureAtoms j) (or_later (flaw j x.left) (flaw (j + span x.left) x.right)) h).1 in
       pure_keeps x (one j x.left sides.0) (one (j + span x.left) x.right sides.1)) 0 k xs e)
 
@@ -76,7 +71,7 @@ module _ {T : Type 0} (flaw : ℕ → T → Found) (span : T → ℕ) (value : T
         let p = k + pures_span span h.pure in
         let a = neither (listed_flaw (pure_flaw flaw span) (pure_span span) 0 k h.pure) (listed_flaw (spatial_flaw flaw span limit hs) (spatial_span span) 0 p h.spatial) e in (
           pures_keep k h.pure a.0,
-          mapped (spatial_value value hs) (InSpatial Q) h.spatial (each_flawless (spatial_flaw flaw span limit hs) (spatial_span span) (λ x. InSpatial Q (spatial_value value hs x)) spatial_keeps 0 p h.spatial a.1),
+          each_mapped (InSpatial Q) (spatial_value value hs) h.spatial (each_flawless (spatial_flaw flaw span limit hs) (spatial_span span) (λ x. InSpatial Q (spatial_value value hs x)) spatial_keeps 0 p h.spatial a.1),
         )
 
 -- ---- a fact of each term as a bound of the heap

@@ -21,8 +21,8 @@ module _ (most : ℕ) (ds : List Definition) (lines : List Command) (nodes : Lis
   abbrev g : List GraphNode
   g = graph_of most ds lines nodes
 
-  pub correct_holds : Each IsCommand lines → Each HasFewCases ds → HasSmallHeaps nodes → AreReadable nodes → AreRight most ds lines nodes → (root : Node) → slice_get nodes 0 ≡ Some root → AllProgress g → JudgementHolds ds lines root.judgement
-  correct_holds commands few small readable right root at all =
+  pub correct_holds : (root : Node) → Each IsCommand lines → Each HasFewCases ds → HasSmallHeaps nodes → AreReadable nodes → AreRight most ds lines nodes → slice_get nodes 0 ≡ Some root → AllProgress g → JudgementHolds ds lines root.judgement
+  correct_holds root commands few small readable right at all =
       let none : ℕ → Bool = λ v. false in
       let is_right = graph_right most ds lines nodes few none (λ v node is fine. small v node is) (λ v node is fine. right v node is) in
       let is_local = graph_local most ds lines nodes commands readable none (λ v node is fine. right v node is) in

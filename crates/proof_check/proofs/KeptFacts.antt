@@ -10,4 +10,4 @@ use Rattle.proof_check.proofs.Correct.{correct_holds}
 
 pub root_holds : (f : ProofFile) → Each IsCommand f.program → HasRightNodes f → HasSmallHeaps (nodes_of f.nodes) → AllProgress (file_graph f) → RootHolds f
 root_holds f commands right small all root at =
-    correct_holds f.defs.most f.defs.list f.program (nodes_of f.nodes) commands (file_cases f) small (file_readable f) right root at all
+    correct_holds f.defs.most f.defs.list f.program (nodes_of f.nodes) root commands (file_cases f) small (file_readable f) right at all

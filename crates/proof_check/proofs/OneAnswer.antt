@@ -1,6 +1,5 @@
 -- A check of a correct file with few states can say one thing.
-use Rattle.std.proofs.Common.{◌≡◌, ℕ, ◌≤◌, List, Option, Some, None, arith, refl}
-use Rattle.heap_formula.specs.declared.proof_rules.RuleFault.{RuleFault}
+use Rattle.std.proofs.Common.{◌≡◌, ℕ, ◌≤◌, List, arith, refl}
 use Rattle.trace_pairs.specs.Graph.{Node}
 use Rattle.buchi_inclusion.specs.Answers.{HasAtMost}
 use Rattle.buchi_inclusion.proofs.Exact.{not_both}
@@ -9,10 +8,6 @@ use Rattle.proof_check.specs.declared.verdict.Verdict.{Verdict}
 use Rattle.proof_check.specs.declared.verdict.Verdict.TheVariants.{Accepted, RuleRefused, PathRefused, TooManyStates}
 use Rattle.proof_check.specs.Verdicts.{file_graph, state_limit, IsCorrect, IsVerdict}
 
-pub none_some : (x : RuleFault) (fault : Option RuleFault) → fault ≡ None → fault ≡ Some x → ⊥
-none_some x None none some = cc
-none_some x (Some y) none some = cc
-
 -- states that are at most n are at most as many as any greater number
 pub at_most_more : (g : List Node) (n m : ℕ) → n ≤ m → HasAtMost g n → HasAtMost g m
 at_most_more g n m b h = (h.0, h.1, omega (arith, h.2))
@@ -20,6 +15,6 @@ at_most_more g n m b h = (h.0, h.1, omega (arith, h.2))
 -- no other verdict is true of a correct file with few states
 pub correct_is_accepted : (f : ProofFile) (v : Verdict) → IsVerdict f v → IsCorrect f → HasAtMost (file_graph f) state_limit → v ≡ Accepted
 correct_is_accepted f Accepted is correct few = refl
-correct_is_accepted f (RuleRefused v fault) is correct few = absurd (none_some fault _ (correct.nodes v is.node is.at) is.first)
+correct_is_accepted f (RuleRefused v fault) is correct few = cc (correct.nodes v is.node is.at, is.first)
 correct_is_accepted f (PathRefused l) is correct few = absurd (is.2 (correct.paths l is.1))
 correct_is_accepted f TooManyStates is correct few = absurd (not_both (file_graph f) state_limit few is.1)

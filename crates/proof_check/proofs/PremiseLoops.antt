@@ -1,5 +1,5 @@
 -- One turn of the loop over a node's premises.
-use Rattle.std.proofs.Common.{◌≡◌, ℕ, suc, ◌+◌, ◌<◌, List, ◌∷◌, length, get_or, drop, Option, Some, None, refl, sym, ap, ◌∙◌, add-one, drop-cons}
+use Rattle.std.proofs.Common.{◌≡◌, ℕ, suc, ◌+◌, ◌<◌, List, ◌∷◌, length, get_or, drop, Option, None, refl, sym, ap, ◌∙◌, add-one, drop-cons}
 use Rattle.std.specs.Prelude.{slice_get, nat_lt}
 use Rattle.heap_formula.specs.declared.judgements.Premise.{Premise}
 use Rattle.heap_formula.specs.declared.proof_rules.RuleFault.{RuleFault}
@@ -9,8 +9,7 @@ use Rattle.rule_table.specs.Nodes.{Node, differs, premises_fault}
 
 skip : (a b rest : Option RuleFault) → first_of a b ≡ None → first_of a (first_of b rest) ≡ rest
 skip None None rest e = refl
-skip None (Some f) rest e = cc
-skip (Some f) b rest e = cc
+skip a b rest e = cc
 
 pub premise_step : (nodes : List Node) (v : ℕ) (ps : List Premise) (us : List ℕ) (i : ℕ) (p : Premise) → i < length ps → i < length us → get_or ps i p ≡ p → first_of (fault_unless (nat_lt v (get_or us i 0)) NoSuchNode) (differs nodes i (get_or us i 0) p (slice_get nodes (get_or us i 0))) ≡ None → premises_fault nodes v (i + 1) (drop (i + 1) ps) (drop (i + 1) us) ≡ premises_fault nodes v i (drop i ps) (drop i us)
 premise_step nodes v ps us i p in_ps in_us is none =

@@ -41,19 +41,17 @@ heap_few most a b e few =
 
 heaps_few : (most : ℕ) (xs ys : List SymbolicHeap) → pointwise same_heap xs ys ≡ true → list_all (is_short_heap most) ys ≡ true → list_all (is_short_heap most) xs ≡ true
 heaps_few most [] [] e few = refl
-heaps_few most [] (b ∷ ys) e few = absurd cc
-heaps_few most (a ∷ xs) [] e few = absurd cc
 heaps_few most (a ∷ xs) (b ∷ ys) e few =
     let h = and_parts (same_heap a b) (pointwise same_heap xs ys) e in
     let f = and_parts (is_short_heap most b) (list_all (is_short_heap most) ys) few in
     and_from (is_short_heap most a) (list_all (is_short_heap most) xs) (heap_few most a b h.0 f.0) (heaps_few most xs ys h.1 f.1)
+heaps_few most xs ys e few = absurd cc
 
 judgement_few : (most : ℕ) (i j : Judgement) → same_judgement i j ≡ true → list_all (is_short_heap most) (heaps_of j) ≡ true → list_all (is_short_heap most) (heaps_of i) ≡ true
 judgement_few most (Entail a bs) (Entail b cs) e few = heaps_few most (a ∷ bs) (b ∷ cs) e few
 judgement_few most (Runs i a) (Runs k b) e few =
     heaps_few most (a ∷ []) (b ∷ []) (and_from (same_heap a b) true (and_parts (nat_eq i k) (same_heap a b) e).1 refl) few
-judgement_few most (Entail a bs) (Runs k b) e few = absurd cc
-judgement_few most (Runs i a) (Entail b cs) e few = absurd cc
+judgement_few most i j e few = absurd cc
 
 -- ---- faults
 

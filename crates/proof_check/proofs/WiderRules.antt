@@ -14,7 +14,7 @@ use Rattle.heap_formula.specs.declared.judgements.Judgement.{Judgement}
 use Rattle.heap_formula.specs.declared.judgements.Judgement.TheVariants.{Entail, Term as Runs}
 use Rattle.heap_formula.specs.declared.judgements.Premise.{Premise}
 use Rattle.heap_formula.specs.declared.proof_rules.Rule.{Rule}
-use Rattle.heap_formula.specs.declared.proof_rules.Rule.TheVariants.{Absurd, Rewrite, Split, Distinct, Weaken, Unfold, Cut, Done, Choose, PureRight, Instantiate, Frame, UnfoldRight, Exec, Drop}
+use Rattle.heap_formula.specs.declared.proof_rules.Rule.TheVariants.{Unfold, Cut, UnfoldRight, Exec}
 use Rattle.heap_formula.specs.declared.proof_rules.RuleFault.{RuleFault}
 use Rattle.heap_formula.specs.declared.proof_rules.RuleFault.TheVariants.{NoSuchAtom, NoSuchCase, NoCell, TooManyAtoms, NoFreshVariable, WrongJudgement}
 use Rattle.heap_formula.specs.Definitions.{Definition}
@@ -36,16 +36,14 @@ use Rattle.heap_reader.specs.Small.{is_short_heap}
 
 -- ---- tests
 
-every_weaker : {X : Type 0} (p q : X → Bool) → ((x : X) → p x ≡ true → q x ≡ true) → (xs : List X) → list_all p xs ≡ true → list_all q xs ≡ true
-every_weaker p q step [] e = refl
-every_weaker p q step (x ∷ xs) e =
-    let b = and_parts (p x) (list_all p xs) e in and_from (q x) (list_all q xs) (step x b.0) (every_weaker p q step xs b.1)
-
 every_both : {X : Type 0} (p q r : X → Bool) → ((x : X) → p x ≡ true → q x ≡ true → r x ≡ true) → (xs : List X) → list_all p xs ≡ true → list_all q xs ≡ true → list_all r xs ≡ true
 every_both p q r step [] e f = refl
 every_both p q r step (x ∷ xs) e f =
     let b = and_parts (p x) (list_all p xs) e in
     let c = and_parts (q x) (list_all q xs) f in and_from (r x) (list_all r xs) (step x b.0 c.0) (every_both p q r step xs b.1 c.1)
+
+every_weaker : {X : Type 0} (p q : X → Bool) → ((x : X) → p x ≡ true → q x ≡ true) → (xs : List X) → list_all p xs ≡ true → list_all q xs ≡ true
+every_weaker p q step xs e = every_both p p q (λ x h g. step x h) xs e e
 
 short_wider : (most more : ℕ) → most ≤ more → (a : SymbolicHeap) → is_short most a ≡ true → is_short more a ≡ true
 short_wider most more le a e =
@@ -152,14 +150,4 @@ module _ (most more : ℕ) (le : most ≤ more) where
       finds_wide (slice_get b.spatial k) NoSuchAtom _ _ (λ x. calls_wide x _ _ (λ q ts. finds_wide (slice_get (cases_of ds q) c) NoSuchCase _ _ (λ case. limited_wide (one (with_right a (unfolded b k (in_heap (right_term ts (heap_exists b)) case) ∷ [])))))))
   rule_wide ds lines j Exec =
       runs_wide j _ _ (λ i a. finds_wide (counted_from_one lines i) WrongJudgement _ _ (λ c. command_wide i a (fresh_number (program_variables lines) j) c))
-  rule_wide ds lines j Absurd = same (rule_answer most ds lines j Absurd)
-  rule_wide ds lines j (Rewrite k side) = same (rule_answer most ds lines j (Rewrite k side))
-  rule_wide ds lines j (Split t u) = same (rule_answer most ds lines j (Split t u))
-  rule_wide ds lines j (Distinct i k) = same (rule_answer most ds lines j (Distinct i k))
-  rule_wide ds lines j (Weaken k) = same (rule_answer most ds lines j (Weaken k))
-  rule_wide ds lines j Done = same (rule_answer most ds lines j Done)
-  rule_wide ds lines j (Choose k) = same (rule_answer most ds lines j (Choose k))
-  rule_wide ds lines j (PureRight k) = same (rule_answer most ds lines j (PureRight k))
-  rule_wide ds lines j (Instantiate v t) = same (rule_answer most ds lines j (Instantiate v t))
-  rule_wide ds lines j (Frame i k) = same (rule_answer most ds lines j (Frame i k))
-  rule_wide ds lines j (Drop k) = same (rule_answer most ds lines j (Drop k))
+  rule_wide ds lines j rule = same (rule_answer most ds lines j rule)

@@ -1,5 +1,5 @@
 -- A derivation's nodes as a file's.
-use Rattle.std.proofs.Common.{◌≡◌, ℕ, zero, suc, ◌+◌, ◌≤◌, List, [], ◌∷◌, map, Option, Some, slice_get, length, arith, refl, sym, ap, ◌∙◌}
+use Rattle.std.proofs.Common.{◌≡◌, ℕ, suc, ◌+◌, ◌≤◌, List, [], ◌∷◌, map, Option, Some, slice_get, length, arith, refl, sym, ap, ◌∙◌}
 use Rattle.std.proofs.lemmas.Option.{slice_get_within, same_Some}
 use Rattle.heap_formula.specs.declared.proof_rules.Reason.{Reason}
 use Rattle.heap_formula.specs.declared.proof_rules.Reason.TheVariants.{Step, Back}
@@ -16,6 +16,7 @@ use Rattle.search_calculus.proofs.TraceGraphs.{length-traces_of}
 use Rattle.derivation_moves.specs.declared.derivation.Derivation.{Derivation}
 use Rattle.derivation_moves.specs.Derivations.{theory_in, nodes_in, goals_in, reasons_in, graph_with, tableau_in, IsInOrder}
 use Rattle.found_files.specs.Files.{numbers_of, file_node, file_nodes, nodes_made}
+use Rattle.list_facts.proofs.Places.{get_within}
 use Rattle.proof_search.specs.Results.{numbers_in, file_node_at, file_nodes_from}
 
 numbers_are : (r : Reason) (premises : List GraphPremise) (edges : List Edge) → slots_filled premises ≡ map (λ (e : Edge). e.target) edges → numbers_in r premises ≡ numbers_of r edges
@@ -32,27 +33,20 @@ one_node o n m node at named =
 
 zipped : (graph : List GraphNode) (k : ℕ) (ns : List Node) (made : List MadeNode) → length ns ≡ length made → ((v : ℕ) (n : Node) → slice_get ns v ≡ Some n → Names graph k v n) → file_nodes_from graph k made ≡ file_nodes ns made
 zipped graph k [] [] e named = refl
-zipped graph k (n ∷ ns) [] e named = absurd (omega (arith, e))
-zipped graph k [] (m ∷ ms) e named = absurd (omega (arith, e))
 zipped graph k (n ∷ ns) (m ∷ ms) e named =
     let first = named 0 n refl in
     let here : slice_get graph k ≡ Some first.0 = ap (slice_get graph) (omega arith) ∙ first.1 in
     λ i. one_node (slice_get graph k) n m first.0 here first.2 i ∷ zipped graph (k + 1) ns ms (omega (arith, e)) (λ v x at. (let y = named (suc v) x at in (y.0, ap (slice_get graph) (omega arith) ∙ y.1, y.2))) i
+zipped graph k ns ms e named = absurd (omega (arith, e))
 
 pub reasons_zip : (ns : List Node) (ms : List MadeNode) → length ns ≡ length ms → map (λ (n : FileNode). n.reason) (file_nodes ns ms) ≡ map (λ (m : MadeNode). m.reason) ms
 reasons_zip [] [] e = refl
-reasons_zip [] (m ∷ ms) e = absurd (omega (arith, e))
-reasons_zip (n ∷ ns) [] e = absurd (omega (arith, e))
 reasons_zip (n ∷ ns) (m ∷ ms) e = ap (λ rs. m.reason ∷ rs) (reasons_zip ns ms (omega (arith, e)))
+reasons_zip ns ms e = absurd (omega (arith, e))
 
 -- the reasons of the nodes of the file
 pub reasons_made : (t : Theory) (made : List MadeNode) → map (λ (n : FileNode). n.reason) (nodes_made t made) ≡ map (λ (m : MadeNode). m.reason) made
 reasons_made t made = reasons_zip (traces_of t made) made (length-traces_of t made)
-
-get_within : {X : Type 0} (xs : List X) (v : ℕ) → v ≤ length xs → (v ≡ length xs → ⊥) → (x : X) × (slice_get xs v ≡ Some x)
-get_within [] v h ne = absurd (ne (omega (arith, h)))
-get_within (x ∷ xs) zero h ne = (x, refl)
-get_within (x ∷ xs) (suc v) h ne = get_within xs v (omega (arith, h)) (λ e. ne (ap suc e))
 
 -- what the code makes of a derivation without open goals
 pub nodes_are : (s : Derivation) → IsInOrder s → goals_in s ≡ [] → file_nodes_from s.graph 0 s.made.items ≡ nodes_made (theory_in s) (nodes_in s)
@@ -63,7 +57,7 @@ nodes_are s order closed =
     named : (v : ℕ) (n : Node) → slice_get (traces_of (theory_in s) (nodes_in s)) v ≡ Some n → Names (made_graph (theory_in s) (nodes_in s)) 0 v n
     named v n at_n =
         let within = slice_get_within (traces_of (theory_in s) (nodes_in s)) v n at_n in
-        let m = get_within (nodes_in s) v (omega (arith, within, length-traces_of (theory_in s) (nodes_in s))) (λ e. omega (arith, e, within, length-traces_of (theory_in s) (nodes_in s))) in
+        let m = get_within (nodes_in s) v (omega (arith, within, length-traces_of (theory_in s) (nodes_in s))) in
         let slots = made_slots (theory_in s) s.root (reasons_in s) (tableau_in s) order.is.problem order.is.replayed v m.0 m.1 in
         (slots.node, ap (slice_get (made_graph (theory_in s) (nodes_in s))) (omega arith) ∙ slots.is_node, slots.filled_by ∙ ap (λ (x : Node). map (λ (e : Edge). e.target) x.edges) (same_Some slots.traces n (sym slots.is_traces ∙ at_n)))
 

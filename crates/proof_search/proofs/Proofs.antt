@@ -1,10 +1,7 @@
 -- What is found is a proof of the problem's goal.
-use Rattle.std.proofs.Common.{◌≡◌, ℕ, ◌<◌, ◌≤◌, List, [], ◌∷◌, map, Some, slice_get, length, arith, sym, ap, subst, ◌∙◌}
+use Rattle.std.proofs.Common.{◌≡◌, ℕ, ◌<◌, ◌≤◌, List, [], map, Some, slice_get, length, arith, sym, ap, subst, ◌∙◌}
 use Rattle.std.proofs.lemmas.Option.{slice_get_within, same_Some}
-use Rattle.std.proofs.lemmas.Bool.{and_parts, leb-true}
-use Rattle.std.specs.Prelude.{nat_le}
 use Rattle.heap_formula.specs.declared.judgements.Judgement.{Judgement}
-use Rattle.heap_formula.specs.declared.judgements.Judgement.TheVariants.{Entail, Term as Runs}
 use Rattle.trace_pairs.specs.Lasso.{AllProgress}
 use Rattle.buchi_inclusion.specs.Answers.{HasAtMost, state_limit}
 use Rattle.heap_formula.specs.declared.proof_rules.Reason.{Reason}
@@ -20,14 +17,16 @@ use Rattle.proof_file.specs.declared.node.FileNode.{FileNode}
 use Rattle.proof_check.specs.Files.{graph_of, AreRight, nodes_of, node_of, HasSmallHeaps}
 use Rattle.proof_check.specs.Verdicts.{IsCorrect}
 use Rattle.proof_graph.proofs.Joined.{mapped_at}
-use Rattle.formula_facts.proofs.AllMembers.{each_at}
+use Rattle.formula_facts.proofs.AllMembers.{each_at, each_imply}
 use Rattle.proof_check.proofs.KeptFacts.{root_holds}
 use Rattle.rule_table.specs.Nodes.{Node}
 use Rattle.heap_syntax.specs.declared.version.Version.{Version}
 use Rattle.heap_syntax.specs.declared.version.Version.TheVariants.{One, Two}
 use Rattle.heap_syntax.specs.Versions.{most_spatial}
 use Rattle.heap_reader.proofs.Fitting.{most_fits}
-use Rattle.format_limits.specs.Limits.{IsDefinitionWithin, IsJudgementWithin}
+use Rattle.format_limits.specs.Limits.{IsDefinitionWithin, IsHeapWithin, IsJudgementWithin}
+use Rattle.format_limits.proofs.Heaps.{short_spatials}
+use Rattle.format_limits.proofs.Judgements.{first_heap}
 use Rattle.problem_files.specs.Nodes.{IsNodeWithin}
 use Rattle.search_moves.specs.Limits.{IsSmall}
 use Rattle.search_moves.specs.Settings.{theory}
@@ -53,12 +52,9 @@ limit_bounded problem = subst (λ (most : ℕ). most ≤ 32) (sym problem.limit)
 limit_positive : (problem : Problem) → 0 < problem.defs.most
 limit_positive problem = subst (λ (most : ℕ). 0 < most) (sym problem.limit) (some_atoms problem.version)
 
-small_each : (most : ℕ) (ds xs : List Definition) → Each (IsDefinitionWithin most ds) xs → Each IsSmall xs
-small_each most ds [] h = tt
-small_each most ds (x ∷ xs) h = (record { parameters = h.0.arity; cases = h.0.few }, small_each most ds xs h.1)
-
 pub are_small : (problem : Problem) → IsWithinLimits (theory_for problem) problem.goal → Each IsSmall problem.defs.list
-are_small problem limits = small_each problem.defs.most problem.defs.list problem.defs.list limits.definitions
+are_small problem limits =
+    each_imply (IsDefinitionWithin problem.defs.most problem.defs.list) IsSmall (λ d h. record { parameters = h.arity; cases = h.few }) problem.defs.list limits.definitions
 
 -- the moves, with what they found
 pub record HasFound (problem : Problem) (moves : Derivation) : Type 0 where
@@ -92,10 +88,8 @@ some_node t goal nodes proof = let n = slice_get_within nodes 0 proof.root proof
 
 -- an antecedent within the limits has few spatial atoms
 few_atoms : (most : ℕ) → most ≤ 32 → (ds : List Definition) (count : ℕ) (j : Judgement) → IsJudgementWithin most ds count j → length (antecedent j).spatial ≤ 32
-few_atoms most bounded ds count (Entail a bs) h =
-    let few = leb-true (length a.spatial) most (and_parts (nat_le (length a.pure) 64) (nat_le (length a.spatial) most) h.heaps.0.short).1 in omega (arith, few, bounded)
-few_atoms most bounded ds count (Runs i a) h =
-    let few = leb-true (length a.spatial) most (and_parts (nat_le (length a.pure) 64) (nat_le (length a.spatial) most) h.heaps.0.short).1 in omega (arith, few, bounded)
+few_atoms most bounded ds count j h =
+    let few = short_spatials most (antecedent j) (first_heap (IsHeapWithin most ds) j h.heaps).short in omega (arith, few, bounded)
 
 small_heaps : (t : Theory) (nodes : List FileNode) → t.most ≤ 32 → Each (IsNodeWithin t.most t.definitions (length t.lines)) nodes → HasSmallHeaps (nodes_of nodes)
 small_heaps t nodes bounded within v node at =

@@ -1,5 +1,5 @@
 -- The calculus of a small problem is in order: heaps stay short, premises are few, and trace pairs join predicate atoms.
-use Rattle.std.proofs.Common.{◌≡◌, ℕ, zero, suc, ◌≤◌, true, List, [], ◌∷◌, map, length, Option, Some, None, slice_get, refl, sym, subst, arith}
+use Rattle.std.proofs.Common.{◌≡◌, ℕ, ◌≤◌, true, List, [], map, length, Option, Some, None, slice_get, refl, sym, subst, arith}
 use Rattle.std.proofs.lemmas.List.{length-map}
 use Rattle.std.specs.Prelude.{Ok, Err}
 use Rattle.heap_formula.specs.declared.atoms.Spatial.{Spatial}
@@ -9,16 +9,17 @@ use Rattle.heap_formula.specs.declared.judgements.Premise.{Premise}
 use Rattle.heap_formula.specs.declared.proof_rules.Link.{Link}
 use Rattle.heap_formula.specs.declared.proof_rules.Reason.{Reason}
 use Rattle.heap_formula.specs.declared.proof_rules.Reason.TheVariants.{Step, Back}
-use Rattle.heap_formula.specs.declared.proof_rules.Rule.{Rule}
 use Rattle.heap_formula.specs.declared.proof_rules.RuleFault.{RuleFault}
 use Rattle.heap_formula.specs.Judgements.{antecedent}
 use Rattle.heap_formula.specs.Words.{Each}
 use Rattle.rule_table.specs.Answer.{Answer}
-use Rattle.rule_table.specs.Fits.{PairsFit, PremiseFits, OnPremises}
+use Rattle.rule_table.specs.Fits.{IsPredAt, PairsFit, PremiseFits, OnPremises}
 use Rattle.rule_table.specs.LinkTable.{link_fault, link_premise}
 use Rattle.rule_table.specs.RuleBook.{variables_of, rule_answer}
 use Rattle.rule_table.proofs.AllFit.{rule_fits, link_fits}
+use Rattle.formula_facts.proofs.AllMembers.{each_at}
 use Rattle.format_limits.proofs.Few.{few_premises}
+use Rattle.position_sets.proofs.Lists.{map_at}
 use Rattle.trace_pairs.specs.Graph.{Edge, Pair as TracePair, has}
 use Rattle.trace_pairs.specs.System.{AreIn}
 use Rattle.proof_graph.specs.Traces.{predicate_places, trace_pair, trace_pairs_of, trace_edge}
@@ -35,26 +36,21 @@ use Rattle.search_calculus.proofs.ShortHeaps.{IsShort, StaysShort, rule_stays_sh
 
 -- pairs of predicate atoms lead from positions to positions
 pairs_in : (olds news : List Spatial) (pairs : List Pair) → PairsFit olds news pairs → AreIn (trace_pairs_of pairs) (predicate_places 0 olds) (predicate_places 0 news)
-pairs_in olds news [] fit i p at = absurd (let e : None ≡ Some p = at in cc)
-pairs_in olds news (q ∷ pairs) fit zero p at =
-    let e : Some (trace_pair q) ≡ Some p = at in
-    let e' : trace_pair q ≡ p = cc in
-    subst (λ (x : TracePair). (has (predicate_places 0 olds) x.0 ≡ true) × (has (predicate_places 0 news) x.1 ≡ true)) e' (place_of olds q.old fit.0.0, place_of news q.new fit.0.1)
-pairs_in olds news (q ∷ pairs) fit (suc i) p at = pairs_in olds news pairs fit.1 i p at
+pairs_in olds news pairs fit i p at =
+    let f = map_at trace_pair pairs i p at in
+    let fits = each_at (λ (q : Pair). IsPredAt olds q.old × IsPredAt news q.new) pairs i f.x f.is_x fit in
+    subst (λ (x : TracePair). (has (predicate_places 0 olds) x.0 ≡ true) × (has (predicate_places 0 news) x.1 ≡ true)) f.value (place_of olds f.x.old fits.0, place_of news f.x.new fits.1)
 
 -- ---- premises
 
 each_premise : (t : Theory) (g : OpenGoal) (ps : List Premise) → IsShort t.most g.premise.judgement → Each (StaysShort t.most g.premise.judgement) ps → Each (PremiseFits g.premise.judgement) ps → (k : ℕ) (p : TracedPremise Judgement) → slice_get (map traced ps) k ≡ Some p →
     IsPremise (calculus_of t) (IsShort t.most) g p
-each_premise t g [] short stay fit k p at = absurd (let e : None ≡ Some p = at in cc)
-each_premise t g (x ∷ ps) short stay fit zero p at =
-    let e : Some (traced x) ≡ Some p = at in
-    let e' : traced x ≡ p = cc in
-    subst (IsPremise (calculus_of t) (IsShort t.most) g) e' (record {
-      occurs = stay.0 short;
-      fit = pairs_in (antecedent g.premise.judgement).spatial (antecedent x.judgement).spatial x.pairs fit.0;
+each_premise t g ps short stay fit k p at =
+    let f = map_at traced ps k p at in
+    subst (IsPremise (calculus_of t) (IsShort t.most) g) f.value (record {
+      occurs = each_at (StaysShort t.most g.premise.judgement) ps k f.x f.is_x stay short;
+      fit = pairs_in (antecedent g.premise.judgement).spatial (antecedent f.x.judgement).spatial f.x.pairs (each_at (PremiseFits g.premise.judgement) ps k f.x f.is_x fit);
     })
-each_premise t g (x ∷ ps) short stay fit (suc k) p at = each_premise t g ps short stay.1 fit.1 k p at
 
 answered_premises : (t : Theory) (g : OpenGoal) (answer : Answer) (ps : List (TracedPremise Judgement)) → IsShort t.most g.premise.judgement → OnPremises (StaysShort t.most g.premise.judgement) answer → OnPremises (PremiseFits g.premise.judgement) answer →
     ((qs : List Premise) → answer ≡ Ok qs → length qs ≤ 16) → answered answer ≡ Some ps → ArePremises (calculus_of t) (IsShort t.most) g ps
@@ -91,16 +87,6 @@ pub beside_none : (o : Option Edge) (ps : List (TracedPremise Judgement)) → no
 beside_none None ps h = absurd (let e : None ≡ Some ps = h in cc)
 beside_none (Some e) ps h = let x : Some [] ≡ Some ps = h in cc
 
--- ---- offers
-
--- what is made of rules is no link
-step_forth : (t : Theory) (nodes : List MadeNode) (g : OpenGoal) (rules : List Rule) (k : ℕ) (r : Reason) → slice_get (map Step rules) k ≡ Some r → back t nodes g r ≡ None
-step_forth t nodes g [] k r at = absurd (let e : None ≡ Some r = at in cc)
-step_forth t nodes g (rule ∷ rules) zero r at =
-    let e : Some (Step rule) ≡ Some r = at in
-    let e' : Step rule ≡ r = cc in subst (λ (r : Reason). back t nodes g r ≡ None) e' refl
-step_forth t nodes g (rule ∷ rules) (suc k) r at = step_forth t nodes g rules k r at
-
 -- ---- the calculus
 
 pub small_is_fair : (t : Theory) → t.most ≤ 32 → Each (λ d. length d.cases ≤ 16) t.definitions → IsFair (calculus_of t) (λ j. length (antecedent j).spatial ≤ t.most) (λ r. Unit {0})
@@ -128,5 +114,6 @@ small_is_fair t most cases = record {
     stand_alone nodes g (Step rule) e ps b h = absurd (let x : None ≡ Some e = b in cc)
     stand_alone nodes g (Back link) e ps b h = beside_none (edge_to t g.premise.judgement link (slice_get nodes link.target)) ps h
 
+    -- what is made of rules is no link
     lead_forth : (nodes : List MadeNode) (g : OpenGoal) (r : Reason) → IsIn (rules_at t nodes g) r → back t nodes g r ≡ None
-    lead_forth nodes g r is_in = step_forth t nodes g _ is_in.place r is_in.at
+    lead_forth nodes g r is_in = subst (λ (x : Reason). back t nodes g x ≡ None) (map_at Step _ is_in.place r is_in.at).value refl

@@ -1,5 +1,5 @@
 -- The proof graph of the nodes made, and of the next goal: each node's parts, and the goal's reason, given and taken away.
-use Rattle.std.proofs.Common.{◌≡◌, ℕ, zero, suc, List, [], ◌∷◌, ◌++◌, Option, Some, None, slice_get, length, take, sym, refl, ap, ◌∙◌, arith}
+use Rattle.std.proofs.Common.{◌≡◌, ℕ, zero, suc, ◌+◌, List, [], ◌∷◌, ◌++◌, Option, Some, None, slice_get, length, length-append, take, sym, refl, ap, ◌∙◌, arith}
 use Rattle.std.proofs.lemmas.List.{append_assoc, append-nil}
 use Rattle.std.proofs.lemmas.Option.{slice_get_within}
 use Rattle.heap_formula.specs.declared.judgements.Judgement.{Judgement}
@@ -28,15 +28,13 @@ use Rattle.list_facts.proofs.Places.{get_within, get_append_left}
 
 changed_end : {X : Type 0} (f : X → X) (xs : List X) (x : X) (n : ℕ) → n ≡ length xs → changed_at f (xs ++ x ∷ []) n ≡ xs ++ f x ∷ []
 changed_end f [] x zero e = refl
-changed_end f [] x (suc n) e = absurd (omega (arith, e))
-changed_end f (y ∷ xs) x zero e = absurd (omega (arith, e))
 changed_end f (y ∷ xs) x (suc n) e = ap (λ zs. y ∷ zs) (changed_end f xs x n (omega (arith, e)))
+changed_end f xs x n e = absurd (omega (arith, e))
 
 add_end : (xs : List Node) (x : Node) (n : ℕ) (e : Edge) → n ≡ length xs → add_edge n e (xs ++ x ∷ []) ≡ xs ++ record { positions = x.positions; edges = x.edges ++ e ∷ [] } ∷ []
 add_end [] x zero e s = refl
-add_end [] x (suc n) e s = absurd (omega (arith, s))
-add_end (y ∷ xs) x zero e s = absurd (omega (arith, s))
 add_end (y ∷ xs) x (suc n) e s = ap (λ (zs : List Node). y ∷ zs) (add_end xs x n e (omega (arith, s)))
+add_end xs x n e s = absurd (omega (arith, s))
 
 -- a leaf with the edge of its link
 linked_leaf : (xs : List Node) (positions : List ℕ) (n : ℕ) (o : Option Edge) → n ≡ length xs →
@@ -49,26 +47,23 @@ linked_leaf xs positions n (Some e) s = add_end xs (record { positions = positio
 nodes_end : (t : Theory) (before : List MadeNode) (ns : List Node) (n : Node) (ms : List MadeNode) (m : MadeNode) → length ns ≡ length ms →
     nodes_from t before (ns ++ n ∷ []) (ms ++ m ∷ []) ≡ nodes_from t before ns ms ++ graph_node t (before ++ ms) n m ∷ []
 nodes_end t before [] n [] m s = ap (λ (xs : List MadeNode). graph_node t xs n m ∷ []) (sym (append-nil before))
-nodes_end t before [] n (y ∷ ms) m s = absurd (omega (arith, s))
-nodes_end t before (x ∷ ns) n [] m s = absurd (omega (arith, s))
 nodes_end t before (x ∷ ns) n (y ∷ ms) m s =
     ap (λ (zs : List GraphNode). graph_node t before x y ∷ zs)
     (nodes_end t (before ++ y ∷ []) ns n ms m (omega (arith, s))
     ∙ ap (λ (xs : List MadeNode). nodes_from t (before ++ y ∷ []) ns ms ++ graph_node t xs n m ∷ []) (append_assoc before (y ∷ []) ms))
+nodes_end t before ns n ms m s = absurd (omega (arith, s))
 
 -- a node more whose reason is not yet made shows nothing
 nodes_longer : (t : Theory) (before : List MadeNode) (ns : List Node) (n : Node) (ms : List MadeNode) → length ns ≡ length ms → nodes_from t before (ns ++ n ∷ []) ms ≡ nodes_from t before ns ms
 nodes_longer t before [] n [] s = refl
-nodes_longer t before [] n (y ∷ ms) s = absurd (omega (arith, s))
-nodes_longer t before (x ∷ ns) n [] s = absurd (omega (arith, s))
 nodes_longer t before (x ∷ ns) n (y ∷ ms) s =
     ap (λ (zs : List GraphNode). graph_node t before x y ∷ zs) (nodes_longer t (before ++ y ∷ []) ns n ms (omega (arith, s)))
+nodes_longer t before ns n ms s = absurd (omega (arith, s))
 
 length-nodes_from : (t : Theory) (before : List MadeNode) (ns : List Node) (ms : List MadeNode) → length ns ≡ length ms → length (nodes_from t before ns ms) ≡ length ms
 length-nodes_from t before [] [] s = refl
-length-nodes_from t before [] (m ∷ ms) s = absurd (omega (arith, s))
-length-nodes_from t before (n ∷ ns) [] s = absurd (omega (arith, s))
 length-nodes_from t before (n ∷ ns) (m ∷ ms) s = ap suc (length-nodes_from t (before ++ m ∷ []) ns ms (omega (arith, s)))
+length-nodes_from t before ns ms s = absurd (omega (arith, s))
 
 nodes_at : (t : Theory) (before : List MadeNode) (ns : List Node) (ms : List MadeNode) (v : ℕ) (n : Node) (m : MadeNode) → slice_get ns v ≡ Some n → slice_get ms v ≡ Some m →
     slice_get (nodes_from t before ns ms) v ≡ Some (graph_node t (before ++ take v ms) n m)
@@ -116,6 +111,10 @@ pub goal_graph_is : (t : Theory) (nodes : List MadeNode) (g : OpenGoal) → goal
 goal_graph_is t nodes g =
     ap (λ (xs : List GraphNode). xs ++ open_node g.premise.judgement ∷ [])
     (nodes_longer t [] (led t nodes g) (record { positions = positions_of g.premise.judgement; edges = [] }) nodes (length-led t nodes g))
+
+pub goal_graph_size : (t : Theory) (nodes : List MadeNode) (g : OpenGoal) → length (goal_graph t nodes g) ≡ length nodes + 1
+goal_graph_size t nodes g =
+    ap length (goal_graph_is t nodes g) ∙ (length-append (shown t nodes g) (open_node g.premise.judgement ∷ []) ∙ ap (λ n. n + 1) (length-shown t nodes g))
 
 pub goal_last : (t : Theory) (nodes : List MadeNode) (g : OpenGoal) → slice_get (goal_graph t nodes g) (length nodes) ≡ Some (open_node g.premise.judgement)
 goal_last t nodes g =

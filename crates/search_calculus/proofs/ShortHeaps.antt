@@ -3,7 +3,7 @@ use Rattle.std.proofs.Common.{◌≡◌, ℕ, ◌+◌, ◌≤◌, max, Bool, tru
 use Rattle.std.proofs.lemmas.List.{length-map}
 use Rattle.std.specs.Prelude.{Ok, if◌then◌else◌}
 use Rattle.heap_formula.specs.declared.terms.Term.{Term}
-use Rattle.heap_formula.specs.declared.terms.Term.TheVariants.{Nil, Univ, Exist}
+use Rattle.heap_formula.specs.declared.terms.Term.TheVariants.{Nil, Univ}
 use Rattle.heap_formula.specs.declared.atoms.Pure.{Pure}
 use Rattle.heap_formula.specs.declared.atoms.Pure.TheVariants.{Eq, Neq}
 use Rattle.heap_formula.specs.declared.atoms.Spatial.{Spatial}
@@ -73,9 +73,8 @@ rewritten_short most p (Entail a bs) k x v u h = let e = length-map a.spatial (a
 rewritten_short most p (Runs i a) k x v u h = let e = length-map a.spatial (apply_spatial ((v, u) ∷ [])) in omega (arith, e, h)
 
 side_short : (most : ℕ) → (p : ℕ) (j : Judgement) (k : ℕ) (x : Pure) (t u : Term) → OnPremises (StaysShort most j) (rewrite_side p j k x t u)
-side_short most p j k x Nil u = tt
-side_short most p j k x (Exist m) u = tt
 side_short most p j k x (Univ v) u = (rewritten_short most p j k x v u, tt)
+side_short most p j k x t u = tt
 
 test_short : (most : ℕ) → (b : Bool) (p : ℕ) (j : Judgement) (k : ℕ) (x : Pure) (t u : Term) → OnPremises (StaysShort most j) (cond b (Ok (one (with_pures j (without k (antecedent j).pure)))) (rewrite_side p j k x t u))
 test_short most true p j k x t u = (pures_short most j (without k (antecedent j).pure), tt)
