@@ -1,9 +1,27 @@
 -- Lists of base pairs that grow.
-use Rattle.std.proofs.Common.{◌≡◌, ◌↔◌, ◌⊎◌, inl, inr, List, [], ◌∷◌, sym, ◌∙◌}
+use Rattle.std.proofs.Common.{◌≡◌, ◌↔◌, ◌⊎◌, inl, inr, Bool, true, false, List, [], ◌∷◌, ◌++◌, sym, ◌∙◌, subst}
 use Rattle.heap_formula.specs.Words.{OneOf}
 use Rattle.pair_family.specs.BasePairs.{BasePair}
 use Rattle.list_facts.specs.Words.{IsMember}
-use Rattle.pair_states.specs.Labels.{Grows}
+use Rattle.pair_states.specs.Labels.{Grows, IsAdded}
+use Rattle.pair_family.proofs.Lists.{in_left, in_right, in_append}
+
+pub grows_new : (old new : List BasePair) (k : BasePair) → new ≡ old ++ (k ∷ []) → Grows old new (λ d. d ≡ k)
+grows_new old new k e d = (
+  λ m. elim (in_append d old (k ∷ []) (subst (IsMember d) e m)) [
+    | inl i ↦ inl i
+    | inr j ↦ elim j [ inl s ↦ inr (sym s) | inr no' ↦ absurd no' ]
+  ],
+  λ o. subst (IsMember d) (sym e) (elim o [ inl i ↦ in_left d old (k ∷ []) i | inr s ↦ in_right d old (k ∷ []) (inl (sym s)) ]),
+)
+
+pub grows_there : (old new : List BasePair) (k : BasePair) → new ≡ old → IsMember k old → Grows old new (λ d. d ≡ k)
+grows_there old new k e m d =
+    (λ i. inl (subst (IsMember d) e i), λ o. subst (IsMember d) (sym e) (elim o [ inl i ↦ i | inr s ↦ subst (λ z. IsMember z old) (sym s) m ]))
+
+-- nothing is given
+pub grows_none : (old new : List BasePair) (G : BasePair → Type 0) → new ≡ old → ((d : BasePair) → G d → ⊥) → Grows old new G
+grows_none old new G e n d = (λ i. inl (subst (IsMember d) e i), λ o. elim o [ inl i ↦ subst (IsMember d) (sym e) i | inr g ↦ absurd (n d g) ])
 
 -- the same is given
 pub grows_same : (old new : List BasePair) (G H : BasePair → Type 0) → ((d : BasePair) → G d ↔ H d) → Grows old new G → Grows old new H
@@ -30,3 +48,7 @@ grows_given old new k m P b g = grows_same old new (λ d. d ≡ k) (λ d. P × (
 -- the list's end
 pub grows_end : (old now : List BasePair) (G : BasePair → BasePair → Type 0) (all : List BasePair) → ((d : BasePair) → (IsMember d now ⊎ OneOf (G d) []) ↔ (IsMember d old ⊎ OneOf (G d) all)) → Grows old now (λ d. OneOf (G d) all)
 grows_end old now G all inv d = (λ i. (inv d).0 (inl i), λ o. elim ((inv d).1 o) [ inl i ↦ i | inr b ↦ absurd b ])
+
+pub grows_added : (old new : List BasePair) (k : BasePair) (b : Bool) → IsAdded old new k b → Grows old new (λ d. d ≡ k)
+grows_added old new k true a = grows_new old new k a.1
+grows_added old new k false a = grows_there old new k a.1 a.0

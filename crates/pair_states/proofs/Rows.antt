@@ -1,9 +1,9 @@
 -- The pairs below n, row by row and pair by pair.
-use Rattle.std.proofs.Common.{◌≡◌, inl, inr, ℕ, suc, ◌+◌, List, [], ◌∷◌, ◌++◌, filter, Bool, true, false, ◌||◌, ◌&&◌, arith, sym, refl, ap, ◌∙◌}
+use Rattle.std.proofs.Common.{◌≡◌, inl, inr, ℕ, suc, ◌+◌, List, [], ◌∷◌, ◌++◌, map, filter, Bool, true, false, ◌||◌, ◌&&◌, arith, sym, refl, ap, ◌∙◌}
 use Rattle.std.specs.Prelude.{if◌then◌else◌, nat_eq, slice_index}
-use Rattle.std.proofs.lemmas.Bool.{cases_Bool}
+use Rattle.std.proofs.lemmas.Bool.{cases_Bool, eqb-true}
 use Rattle.pair_family.specs.Combination.{upto, pairs_below}
-use Rattle.pair_states.specs.Labels.{row, neighbours, has_difference, is_between_labels}
+use Rattle.pair_states.specs.Labels.{relabelled, row, has_same, neighbours, has_difference, is_between_labels}
 use Rattle.pair_family.proofs.ByAtom.{append_three}
 use Rattle.std.proofs.lemmas.List.{map-append}
 use Rattle.std.specs.List.{list_any}
@@ -20,6 +20,11 @@ row_next : (t : ℕ × ℕ → Bool) (j i : ℕ) → filter t (row j (i + 1)) �
 row_next t j i =
     let e : i + 1 ≡ suc i = omega arith in
     ap (λ n. filter t (row j n)) e ∙ ap (filter t) (map-append (λ k. (k, j)) (upto i) (i ∷ [])) ∙ filter_append t (row j i) ((i, j) ∷ [])
+
+pub same_row : (labels : List ℕ) (j i : ℕ) (old now next : List (ℕ × ℕ)) → now ≡ old ++ filter (has_same labels) (row j i) → next ≡ now ++ (if nat_eq (slice_index labels i) (slice_index labels j) then (i, j) ∷ [] else []) → next ≡ old ++ filter (has_same labels) (row j (i + 1))
+same_row labels j i old now next a b =
+    let here : List (ℕ × ℕ) = if nat_eq (slice_index labels i) (slice_index labels j) then (i, j) ∷ [] else [] in
+    b ∙ ap (λ z. z ++ here) a ∙ sym (append_three old (filter (has_same labels) (row j i)) here) ∙ ap (λ z. old ++ z) (sym (row_next (has_same labels) j i))
 
 pub next_row : (t : ℕ × ℕ → Bool) (j : ℕ) (now next : List (ℕ × ℕ)) → now ≡ filter t (pairs_below j) → next ≡ now ++ filter t (row j j) → next ≡ filter t (pairs_below (j + 1))
 next_row t j now next a b =
@@ -68,3 +73,18 @@ any_next t i found next a b =
   where
     any_append : (t : ℕ → Bool) (xs : List ℕ) (x : ℕ) → list_any t (xs ++ (x ∷ [])) ≡ (list_any t xs || t x)
     any_append t xs x = list_any-append t xs (x ∷ []) ∙ ap (λ b. list_any t xs || b) (or-false (t x))
+
+pub cell_next : (t : ℕ → Bool) (i : ℕ) (b : Bool) (now next : List ℕ) → now ≡ filter t (upto i) → b ≡ t i → next ≡ now ++ (if b then i ∷ [] else []) → next ≡ filter t (upto (i + 1))
+cell_next t i b now next a e c =
+    let s : suc i ≡ i + 1 = omega arith in
+    c ∙ ap (λ x. now ++ (if x then i ∷ [] else [])) e ∙ ap (λ z. z ++ (if t i then i ∷ [] else [])) a ∙ sym (filter_append t (upto i) (i ∷ [])) ∙ ap (λ n. filter t (upto n)) s
+
+label_same : (a l : ℕ) → (if nat_eq l a then a else l) ≡ l
+label_same a l = elim (cases_Bool (nat_eq l a)) [ inl z ↦ rw z (sym (eqb-true l a z)) | inr z ↦ rw z refl ]
+
+-- joining a label with itself changes nothing
+pub joined_alone : (old new : ℕ) (labels : List ℕ) → old ≡ new → labels ≡ map (relabelled old new) labels
+joined_alone old new [] e = refl
+joined_alone old new (l ∷ labels) e =
+    let here : l ≡ relabelled old new l = sym (label_same old l) ∙ ap (λ z. if nat_eq l old then z else l) e in
+    let rest = joined_alone old new labels e in λ i. here i ∷ rest i
