@@ -36,7 +36,7 @@ use Rattle.search_calculus.specs.Search.{links_at, rules_at, calculus_of, search
 use Rattle.search_calculus.proofs.MadeRows.{made_in_order, made_is_graph, made_traces}
 use Rattle.search_calculus.proofs.ProofGraphs.{goal_graph_size, reason_given, goal_last}
 use Rattle.search_calculus.proofs.TraceGraphs.{replay_traces}
-use Rattle.derivation_moves.specs.declared.effects.Effect.{Effect}
+use Rattle.derivation_moves.specs.declared.effects.GraphEffect.{GraphEffect}
 use Rattle.derivation_moves.specs.declared.derivation.Derivation.{Derivation}
 use Rattle.derivation_moves.proofs.Shows.{HasNext, next_seen}
 use Rattle.derivation_moves.specs.Effects.{IsEffect}
@@ -45,20 +45,20 @@ use Rattle.tableaux.specs.Fares.{GraphFares}
 use Rattle.derivation_moves.specs.Derivations.{theory_in, nodes_in, goals_in, reasons_in, graph_with, tableau_in, IsInOrder, MayTake, IsItsSearch}
 use Rattle.tableaux.proofs.Found.{nil_is}
 
-pub record HasEffect (s : Derivation) (r : Reason) (e : Effect) : Type 0 where
+pub record HasEffect (s : Derivation) (r : Reason) (e : GraphEffect) : Type 0 where
   pub goal : OpenGoal
   pub rest : List OpenGoal
   pub next : goals_in s ≡ goal ∷ rest
   pub effects : IsEffect (theory_in s) (nodes_in s) goal r (Some e)
 
 -- the goal on top of the stack, and the effect at it
-abbrev pub with_effect : (s : Derivation) (r : Reason) (e : Effect) (goals : List OpenGoal) (g : OpenGoal) (made : List MadeNode) (o : Option Effect) → goals ≡ s.goals.items → Some g ≡ slice_get goals (length goals - 1) → made ≡ s.made.items → o ≡ Some e → IsEffect (theory_in s) made g r o → HasEffect s r e
+abbrev pub with_effect : (s : Derivation) (r : Reason) (e : GraphEffect) (goals : List OpenGoal) (g : OpenGoal) (made : List MadeNode) (o : Option GraphEffect) → goals ≡ s.goals.items → Some g ≡ slice_get goals (length goals - 1) → made ≡ s.made.items → o ≡ Some e → IsEffect (theory_in s) made g r o → HasEffect s r e
 with_effect s r e goals g made o same at made_is o_is is_effect =
     let effects : IsEffect (theory_in s) (nodes_in s) g r (Some e) = subst (IsEffect (theory_in s) (nodes_in s) g r) o_is (subst (λ ms. IsEffect (theory_in s) ms g r o) made_is is_effect) in
     let next = next_seen s goals g same at in
     record { goal = g; rest = next.0; next = next.1; effects = effects }
 
-module _ (s : Derivation) (r : Reason) (e : Effect) (order : IsInOrder s) (has : HasEffect s r e) where
+module _ (s : Derivation) (r : Reason) (e : GraphEffect) (order : IsInOrder s) (has : HasEffect s r e) where
   abbrev t : Theory
   t = theory_in s
 
@@ -134,7 +134,7 @@ above_is s order complete traces b is is_b system search =
 
 -- ---- whether a reason fits
 
-pub fits_is : (s : Derivation) (r : Reason) (e : Effect) → IsInOrder s → (has : HasEffect s r e) → (bound depth made others count : ℕ) (b : Bool) → depth ≡ has.goal.depth → made ≡ length s.made.items → others ≡ length has.rest → count ≡ length e.premises.items →
+pub fits_is : (s : Derivation) (r : Reason) (e : GraphEffect) → IsInOrder s → (has : HasEffect s r e) → (bound depth made others count : ℕ) (b : Bool) → depth ≡ has.goal.depth → made ≡ length s.made.items → others ≡ length has.rest → count ≡ length e.premises.items →
     b ≡ ((nat_eq count 0 || nat_lt depth bound) && nat_le (made + 1 + (count + others)) 20000) → (system : System Reason) → IsItsSearch s system → system.fits bound (reasons_in s) r ≡ b
 fits_is s r e order has bound depth made others count b is_depth is_made is_others is_count is_b system search =
     subst (λ (y : System Reason). y.fits bound (reasons_in s) r ≡ b) (sym search)
@@ -144,14 +144,14 @@ fits_is s r e order has bound depth made others count b is_depth is_made is_othe
     ∙ room_is 20000 bound (length (reasons_in s)) has.goal has.rest e.premises.items depth made others count b is_depth (is_made ∙ sym (length-map s.made.items (λ (m : MadeNode). m.reason))) is_others is_count is_b)))
 
 -- and where it fits, it may be taken
-pub may_take : (s : Derivation) (r : Reason) (e : Effect) (has : HasEffect s r e) (bound depth made others count : ℕ) → bound < 4294967296 → depth ≡ has.goal.depth → made ≡ length s.made.items → others ≡ length has.rest → count ≡ length e.premises.items →
+pub may_take : (s : Derivation) (r : Reason) (e : GraphEffect) (has : HasEffect s r e) (bound depth made others count : ℕ) → bound < 4294967296 → depth ≡ has.goal.depth → made ≡ length s.made.items → others ≡ length has.rest → count ≡ length e.premises.items →
     ((nat_eq count 0 || nat_lt depth bound) && nat_le (made + 1 + (count + others)) 20000) ≡ true → MayTake s r e
 may_take s r e has bound depth made others count small is_depth is_made is_others is_count fits =
     let room = room_tells 20000 bound (length s.made.items) has.goal has.rest e.premises.items depth made others count small is_depth is_made is_others is_count fits in
     record { goal = has.goal; rest = has.rest; next = has.next; effects = has.effects; room = room.0; depth = room.1 }
 
 -- the goals after the next one
-pub others_are : (s : Derivation) (r : Reason) (e : Effect) (has : HasEffect s r e) (n : ℕ) → n ≡ length s.goals.items → n - 1 ≡ length has.rest
+pub others_are : (s : Derivation) (r : Reason) (e : GraphEffect) (has : HasEffect s r e) (n : ℕ) → n ≡ length s.goals.items → n - 1 ≡ length has.rest
 others_are s r e has n number = omega (arith, number, ap length has.next, length-reverse s.goals.items)
 
 -- ---- what is offered

@@ -14,12 +14,12 @@ use Rattle.search_calculus.specs.Problems.{IsSmallProblem}
 use Rattle.search_calculus.specs.Search.{calculus_of}
 use Rattle.search_calculus.proofs.ProofGraphs.{goal_graph_size, reason_given}
 use Rattle.search_calculus.proofs.TraceGraphs.{replay_traces}
-use Rattle.derivation_moves.specs.declared.effects.Effect.{Effect}
+use Rattle.derivation_moves.specs.declared.effects.GraphEffect.{GraphEffect}
 use Rattle.derivation_moves.specs.declared.derivation.Derivation.{Derivation}
 use Rattle.derivation_moves.specs.Derivations.{theory_in, nodes_in, goals_in, reasons_in, graph_with, tableau_in, IsInOrder, IsMade, MayTake}
 
 -- what a reason with this effect makes of the derivation
-pub record Given (s s' : Derivation) (g : OpenGoal) (rest : List OpenGoal) (reason : Reason) (effect : Effect) : Type 0 where
+pub record Given (s s' : Derivation) (g : OpenGoal) (rest : List OpenGoal) (reason : Reason) (effect : GraphEffect) : Type 0 where
   pub goals : s.goals.items ≡ rest ++ g ∷ []
   pub opened : reverse s'.goals.items ≡ goals_of (length s.made.items) (g.depth + 1) 0 effect.premises.items ++ reverse rest
   pub made : s'.made.items ≡ s.made.items ++ record { goal = g; reason = reason } ∷ []
@@ -28,7 +28,7 @@ pub record Given (s s' : Derivation) (g : OpenGoal) (rest : List OpenGoal) (reas
   pub program : s'.program ≡ s.program
   pub root : s'.root ≡ s.root
 
-module _ (s s' : Derivation) (g : OpenGoal) (rest : List OpenGoal) (reason : Reason) (effect : Effect) (order : IsInOrder s) (may : MayTake s reason effect) (x : Given s s' g rest reason effect) where
+module _ (s s' : Derivation) (g : OpenGoal) (rest : List OpenGoal) (reason : Reason) (effect : GraphEffect) (order : IsInOrder s) (may : MayTake s reason effect) (x : Given s s' g rest reason effect) where
   next : g ∷ reverse rest ≡ may.goal ∷ may.rest
   next = sym (next_of s.goals.items g rest x.goals) ∙ may.next
 
@@ -105,7 +105,7 @@ module _ (s s' : Derivation) (g : OpenGoal) (rest : List OpenGoal) (reason : Rea
   }
 
 -- the next goal is a node
-pub node_there : (s : Derivation) (reason : Reason) (effect : Effect) → IsInOrder s → MayTake s reason effect → length s.made.items < length s.graph
+pub node_there : (s : Derivation) (reason : Reason) (effect : GraphEffect) → IsInOrder s → MayTake s reason effect → length s.made.items < length s.graph
 node_there s reason effect order may =
     let now : s.graph ≡ goal_graph (theory_in s) (nodes_in s) may.goal = order.graph ∙ ap (graph_with (theory_in s) (nodes_in s)) may.next in
     omega (arith, ap length now, goal_graph_size (theory_in s) (nodes_in s) may.goal)

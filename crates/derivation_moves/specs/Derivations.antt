@@ -17,7 +17,7 @@ use Rattle.search_calculus.specs.Graphs.{traces_of, made_graph, goal_graph}
 use Rattle.search_calculus.specs.Problems.{IsSmallProblem}
 use Rattle.search_calculus.specs.Search.{calculus_of, search_system}
 use Rattle.derivation_moves.specs.declared.derivation.Derivation.{Derivation}
-use Rattle.derivation_moves.specs.declared.effects.Effect.{Effect}
+use Rattle.derivation_moves.specs.declared.effects.GraphEffect.{GraphEffect}
 use Rattle.derivation_moves.specs.Effects.{IsEffect}
 
 -- the problem's definitions and lines
@@ -74,7 +74,7 @@ abbrev pub about : Derivation → DefinitionBook × (List Command × Judgement)
 about s = (s.defs, (s.program, s.root))
 
 -- the reason has this effect at the next goal, and its premises fit
-pub record MayTake (s : Derivation) (reason : Reason) (effect : Effect) : Type 0 where
+pub record MayTake (s : Derivation) (reason : Reason) (effect : GraphEffect) : Type 0 where
   pub goal : OpenGoal
   pub rest : List OpenGoal
   pub next : goals_in s ≡ goal ∷ rest

@@ -3,7 +3,7 @@ ghost use Rattle.std.specs.Prelude.{◌≡◌, ◌<◌, [], ◌∷◌, ◌++◌,
 ghost use Rattle.proof_graph.specs.Nodes.{open_node, HasPremise};
 ghost use Rattle.search_calculus.specs.Graphs.{with_goal, with_goal_at};
 
-use crate::effects::Effect;
+use crate::effects::GraphEffect;
 use bumpalo::Bump;
 use cyc_limits::MOST_NODES;
 use cyc_memory::OutOfMemory;
@@ -94,7 +94,7 @@ impl<'a> Derivation<'a> {
     }
 
     /// Gives the next goal this reason, and opens the goals that it leaves.
-    pub fn take(&mut self, reason: Reason, effect: Effect) -> Result<(), OutOfMemory>
+    pub fn take(&mut self, reason: Reason, effect: GraphEffect) -> Result<(), OutOfMemory>
         requires order { IsInOrder self.old }
         requires effect { MayTake self.old reason effect }
         ensures order { OnOk result (IsInOrder self.new) }
@@ -105,7 +105,7 @@ impl<'a> Derivation<'a> {
         self.show_next()
     }
 
-    fn give(&mut self, reason: Reason, effect: Effect) -> Result<(), OutOfMemory>
+    fn give(&mut self, reason: Reason, effect: GraphEffect) -> Result<(), OutOfMemory>
         requires order { IsInOrder self.old }
         requires effect { MayTake self.old reason effect }
         ensures order { OnOk result (IsMade self.new) }

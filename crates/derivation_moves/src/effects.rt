@@ -14,13 +14,13 @@ use node_reasons::premises_by_reason;
 use pred_defs::Defs;
 use proof_graph::PremisePairs;
 use std::alloc::Global;
-use tableaux::{MadeNode, OpenGoal, TracePairs};
+use tableaux::{MadeNode, OpenGoal, Subgoal, TracePairs};
 
-/// What a reason makes of a goal: the premises that it leaves to be proved, and the trace pairs of its edges. A link
+/// What a reason makes of a goal: the subgoals that it leaves to be proved, and the trace pairs of its edges. A link
 /// leaves nothing, and has one edge.
 #[derive(Drop)]
-pub struct Effect {
-    pub premises: Vec<tableaux::Premise<Judgement>>,
+pub struct GraphEffect {
+    pub premises: Vec<Subgoal<Judgement>>,
     pub pairs: PremisePairs,
 }
 
@@ -36,7 +36,7 @@ fn traced_pairs(alloc: Global, pairs: &[Pair]) -> Result<TracePairs, OutOfMemory
 }
 
 /// The effect of a rule with these premises.
-fn rule_effect(alloc: Global, premises: Vec<Premise>) -> Result<Effect, OutOfMemory>
+fn rule_effect(alloc: Global, premises: Vec<Premise>) -> Result<GraphEffect, OutOfMemory>
     ensures { IfOk result (Leaves (map traced premises.items) premises.items) }
 {
     let mut goals = Vec::new(alloc);
@@ -44,27 +44,27 @@ fn rule_effect(alloc: Global, premises: Vec<Premise>) -> Result<Effect, OutOfMem
     for premise in premises {
         let Premise { judgement, pairs } = premise;
         let triples = traced_pairs(alloc, pairs.as_slice())?;
-        goals.push(tableaux::Premise {
+        goals.push(Subgoal {
             judgement,
             pairs: triples,
         })?;
         lists.push(pairs)?;
     }
-    Ok(Effect {
+    Ok(GraphEffect {
         premises: goals,
         pairs: PremisePairs::from_vec(lists),
     })
 }
 
 /// The effect of a link: its premise is made already.
-fn link_effect(alloc: Global, premises: Vec<Premise>) -> Result<Effect, OutOfMemory>
+fn link_effect(alloc: Global, premises: Vec<Premise>) -> Result<GraphEffect, OutOfMemory>
     ensures { IfOk result (Leaves [] premises.items) }
 {
     let mut lists = Vec::new(alloc);
     for premise in premises {
         lists.push(premise.pairs)?;
     }
-    Ok(Effect {
+    Ok(GraphEffect {
         premises: Vec::new(alloc),
         pairs: PremisePairs::from_vec(lists),
     })
@@ -87,7 +87,11 @@ fn companion_of<'a>(
 }
 
 /// The effect of a reason with these premises.
-fn effect_by(alloc: Global, reason: &Reason, premises: Vec<Premise>) -> Result<Effect, OutOfMemory>
+fn effect_by(
+    alloc: Global,
+    reason: &Reason,
+    premises: Vec<Premise>,
+) -> Result<GraphEffect, OutOfMemory>
     ensures { IfOk result (IsEffectBy reason.now premises.items) }
 {
     match reason {
@@ -104,7 +108,7 @@ pub fn effect_of(
     made: &[MadeNode<Judgement, Reason>],
     goal: &OpenGoal<Judgement>,
     reason: &Reason,
-) -> Result<Option<Effect>, OutOfMemory>
+) -> Result<Option<GraphEffect>, OutOfMemory>
     ensures { IfOk result (IsEffect (theory defs.now program.now) made.now goal.now reason.now) }
 {
     let companion = companion_of(made, reason);

@@ -13,7 +13,7 @@ use Rattle.derivation_search.specs.Engine.{FaresSo}
 use Rattle.list_facts.specs.Words.{Each}
 use Rattle.derivation_search.specs.declared.Tried.{Tried}
 use Rattle.derivation_search.specs.declared.Tried.TheVariants.{Admitted, Refused, TooManyStates}
-use Rattle.tableaux.specs.Tableau.{Premise, Goal, Made, Calculus, grown, linked, step, at_next, with_premises, begin, replay}
+use Rattle.tableaux.specs.Tableau.{Subgoal, Goal, Made, Calculus, grown, linked, step, at_next, with_premises, begin, replay}
 use Rattle.tableaux.specs.Fair.{AllOccur}
 use Rattle.tableaux.specs.Room.{is_nil, is_done, offered, has_room, fits_at, fits_in}
 use Rattle.tableaux.specs.Search.{on_graph}
@@ -68,7 +68,7 @@ module _ {L J R : Type 0} (calculus : L → Calculus J R) (Occurs : L → J → 
   pub none_fits : (bound : ℕ) (r : R) → IsNextEffect calculus s r None → IsFitting calculus s bound r None
   none_fits bound r none = fits_by bound r ∙ at (goals_in s) none
     where
-      room : (g : Goal J) (rest : List (Goal J)) (o : Option (List (Premise J))) → with_premises c s.made.items s.traces r g rest o ≡ None → has_room s.limit bound (length (reasons_in s)) g rest o ≡ false
+      room : (g : Goal J) (rest : List (Goal J)) (o : Option (List (Subgoal J))) → with_premises c s.made.items s.traces r g rest o ≡ None → has_room s.limit bound (length (reasons_in s)) g rest o ≡ false
       room g rest None e = refl
       room g rest (Some ps) e = absurd (let e' : Some (next_tableau c s.made.items s.traces g rest ps r) ≡ None = e in cc)
 

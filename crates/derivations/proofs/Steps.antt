@@ -6,7 +6,7 @@ use Rattle.std.proofs.lemmas.Option.{same_Some}
 use Rattle.std.proofs.lemmas.List.Sums.{fold-append}
 use Rattle.derivation_search.specs.Stack.{front}
 use Rattle.derivation_search.proofs.Members.{front-after}
-use Rattle.tableaux.specs.Tableau.{Premise, Goal, Made, Tableau, Calculus, step, begin, replay}
+use Rattle.tableaux.specs.Tableau.{Subgoal, Goal, Made, Tableau, Calculus, step, begin, replay}
 use Rattle.derivations.specs.declared.derivation.Derivation.{Derivation}
 use Rattle.derivations.specs.Derivations.{goals_in, reasons_in, tableau_in, about, IsInOrder}
 use Rattle.list_facts.proofs.Parts.{split_last}
@@ -17,7 +17,7 @@ pub record Before {L J R : Type 0} (calculus : L → Calculus J R) (s s' : Deriv
   pub goal : Goal J
   pub rest : List (Goal J)
   pub reason : R
-  pub premises : List (Premise J)
+  pub premises : List (Subgoal J)
   pub next : goals_in s' ≡ goal ∷ rest
   pub made : s.made.items ≡ s'.made.items ++ record { goal = goal; reason = reason } ∷ []
   pub has : (calculus s.logic).premises s'.made.items goal reason ≡ Some premises

@@ -6,14 +6,14 @@ ghost use Rattle.derivations.specs.Effects.{IsEffect};
 use cyc_memory::OutOfMemory;
 use derivation_search::Offers;
 use std::alloc::Global;
-use tableaux::{MadeNode, OpenGoal, Premise, Rules};
+use tableaux::{MadeNode, OpenGoal, Rules, Subgoal};
 use trace_pairs::Edge;
 
 /// What a reason makes of a goal: the premises that it leaves to be proved, and, of a link, the edge to where it leads.
 /// A link leaves nothing.
 #[derive(Drop)]
 pub struct Effect<J> {
-    pub premises: Vec<Premise<J>>,
+    pub premises: Vec<Subgoal<J>>,
     pub back: Option<Edge>,
 }
 

@@ -13,22 +13,22 @@ use Rattle.fo_table.specs.LinkTable.{link_fault, link_premise}
 use Rattle.fo_table.specs.Table.{rule_answer}
 use Rattle.trace_pairs.specs.Graph.{Edge}
 use Rattle.proof_graph.specs.Traces.{trace_edge}
-use Rattle.tableaux.specs.Tableau.{Premise}
+use Rattle.tableaux.specs.Tableau.{Subgoal}
 use Rattle.fo_calculus.specs.Calculus.{OpenGoal, MadeNode, sequent_of, traced, answered, edge_unless, edge_to, back, none_beside, premises}
 
 -- ---- rules
 
 -- an answer with premises
-pub record HasAnswer (answer : Answer) (ps : List (Premise FoSequent)) : Type 0 where
+pub record HasAnswer (answer : Answer) (ps : List (Subgoal FoSequent)) : Type 0 where
   pub premises : List FoPremise
   pub is_answer : answer ≡ Ok premises
   pub are : map traced premises ≡ ps
 
-pub answer_of : (answer : Answer) (ps : List (Premise FoSequent)) → answered answer ≡ Some ps → HasAnswer answer ps
+pub answer_of : (answer : Answer) (ps : List (Subgoal FoSequent)) → answered answer ≡ Some ps → HasAnswer answer ps
 answer_of (Ok qs) ps h = record { premises = qs; is_answer = refl; are = (let e : Some (map traced qs) ≡ Some ps = h in cc) }
 answer_of (Err f) ps h = absurd (let e : None ≡ Some ps = h in cc)
 
-pub rule_premises : (t : FoTheory) (nodes : List MadeNode) (g : OpenGoal) (rule : FoRule) (ps : List (Premise FoSequent)) →
+pub rule_premises : (t : FoTheory) (nodes : List MadeNode) (g : OpenGoal) (rule : FoRule) (ps : List (Subgoal FoSequent)) →
     premises t nodes g (Rule rule) ≡ Some ps → HasAnswer (rule_answer t g.premise.judgement rule) ps
 rule_premises t nodes g rule ps h = answer_of (rule_answer t g.premise.judgement rule) ps h
 
@@ -62,16 +62,16 @@ companion_of nodes bud link e h = by_node (slice_get nodes link.to) refl h
     by_node (Some m) at h = by_fault m (link_fault bud (sequent_of m) link) at refl h
 
 -- a link has no premises
-pub none_with : (o : Option Edge) (ps : List (Premise FoSequent)) → none_beside o ≡ Some ps →
+pub none_with : (o : Option Edge) (ps : List (Subgoal FoSequent)) → none_beside o ≡ Some ps →
     (e : Edge) × (o ≡ Some e) × (ps ≡ [])
 none_with None ps h = absurd (let e : None ≡ Some ps = h in cc)
 none_with (Some e) ps h = (e, refl, (let x : Some [] ≡ Some ps = h in cc))
 
-pub link_alone : (t : FoTheory) (nodes : List MadeNode) (g : OpenGoal) (link : FoLink) (ps : List (Premise FoSequent)) →
+pub link_alone : (t : FoTheory) (nodes : List MadeNode) (g : OpenGoal) (link : FoLink) (ps : List (Subgoal FoSequent)) →
     premises t nodes g (Link link) ≡ Some ps → ps ≡ []
 link_alone t nodes g link ps h = (none_with (edge_to g.premise.judgement link (slice_get nodes link.to)) ps h).2
 
-pub link_premises : (t : FoTheory) (nodes : List MadeNode) (g : OpenGoal) (link : FoLink) (ps : List (Premise FoSequent)) →
+pub link_premises : (t : FoTheory) (nodes : List MadeNode) (g : OpenGoal) (link : FoLink) (ps : List (Subgoal FoSequent)) →
     premises t nodes g (Link link) ≡ Some ps → HasCompanion nodes g.premise.judgement link
 link_premises t nodes g link ps h =
     let edge = none_with (edge_to g.premise.judgement link (slice_get nodes link.to)) ps h in

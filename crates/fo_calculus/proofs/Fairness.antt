@@ -22,7 +22,7 @@ use Rattle.trace_pairs.specs.Graph.{Edge, Pair as TracePair, has}
 use Rattle.trace_pairs.specs.System.{AreIn}
 use Rattle.proof_graph.specs.Traces.{trace_pair, trace_pairs_of, trace_edge}
 use Rattle.proof_graph.proofs.Joined.{mapped_at}
-use Rattle.tableaux.specs.Tableau.{Premise}
+use Rattle.tableaux.specs.Tableau.{Subgoal}
 use Rattle.tableaux.specs.Fair.{IsPremise, ArePremises, IsBack, IsFair}
 use Rattle.fo_calculus.specs.Calculus.{OpenGoal, MadeNode, sequent_of, traced, back, premises, calculus_of}
 use Rattle.fo_calculus.specs.Occurring.{MayOccur}
@@ -42,7 +42,7 @@ module _ (t : FoTheory) where
   -- ---- premises
 
   module _ (nodes : List MadeNode) (g : OpenGoal) (occur : MayOccur t g.premise.judgement) where
-    by_rule : (rule : FoRule) (ps : List (Premise FoSequent)) → IsRuleWithin t rule →
+    by_rule : (rule : FoRule) (ps : List (Subgoal FoSequent)) → IsRuleWithin t rule →
         premises t nodes g (Rule rule) ≡ Some ps → ArePremises (calculus_of t) (MayOccur t) g ps
     by_rule rule ps allowed h =
         let s = g.premise.judgement in
@@ -60,7 +60,7 @@ module _ (t : FoTheory) where
               }));
         })
 
-    have_premises : (r : FoReason) (ps : List (Premise FoSequent)) → IsReasonWithin t r →
+    have_premises : (r : FoReason) (ps : List (Subgoal FoSequent)) → IsReasonWithin t r →
         premises t nodes g r ≡ Some ps → ArePremises (calculus_of t) (MayOccur t) g ps
     have_premises (Rule rule) ps allowed h = by_rule rule ps allowed h
     have_premises (Link link) ps allowed h =
@@ -85,7 +85,7 @@ module _ (t : FoTheory) where
         fit = pairs_in s.left companion.left premise.pairs fine.1.0;
       })
 
-  stand_alone : (nodes : List MadeNode) (g : OpenGoal) (r : FoReason) (e : Edge) (ps : List (Premise FoSequent)) →
+  stand_alone : (nodes : List MadeNode) (g : OpenGoal) (r : FoReason) (e : Edge) (ps : List (Subgoal FoSequent)) →
       back nodes g r ≡ Some e → premises t nodes g r ≡ Some ps → ps ≡ []
   stand_alone nodes g (Rule rule) e ps b h = absurd (let x : None ≡ Some e = b in cc)
   stand_alone nodes g (Link link) e ps b h = link_alone t nodes g link ps h

@@ -22,7 +22,7 @@ use Rattle.proof_graph.specs.Traces.{trace_edge, trace_pairs_of}
 use Rattle.derivation_search.specs.System.{System}
 use Rattle.list_facts.specs.Words.{or_else}
 use Rattle.buchi_inclusion.specs.Answers.{state_limit}
-use Rattle.tableaux.specs.Tableau.{Premise, Goal, Made, Calculus}
+use Rattle.tableaux.specs.Tableau.{Subgoal, Goal, Made, Calculus}
 use Rattle.tableaux.specs.Room.{is_nil}
 use Rattle.tableaux.specs.Search.{system_of}
 
@@ -44,11 +44,11 @@ positions_of s = predicate_places 0 s.left
 -- ---- rules
 
 -- the premise, with its pairs as the automata have them
-abbrev pub traced : FoPremise → Premise FoSequent
+abbrev pub traced : FoPremise → Subgoal FoSequent
 traced p = record { judgement = p.sequent; pairs = trace_pairs_of p.pairs }
 
 -- none at a fault
-abbrev pub answered : Answer → Option (List (Premise FoSequent))
+abbrev pub answered : Answer → Option (List (Subgoal FoSequent))
 answered (Ok ps) = Some (map traced ps)
 answered (Err f) = None
 
@@ -69,11 +69,11 @@ back nodes g (Rule rule) = None
 back nodes g (Link link) = edge_to g.premise.judgement link (slice_get nodes link.to)
 
 -- a link without a fault has no premises
-abbrev pub none_beside : Option Edge → Option (List (Premise FoSequent))
+abbrev pub none_beside : Option Edge → Option (List (Subgoal FoSequent))
 none_beside None = None
 none_beside (Some e) = Some []
 
-abbrev pub premises : FoTheory → List MadeNode → OpenGoal → FoReason → Option (List (Premise FoSequent))
+abbrev pub premises : FoTheory → List MadeNode → OpenGoal → FoReason → Option (List (Subgoal FoSequent))
 premises t nodes g (Rule rule) = answered (rule_answer t g.premise.judgement rule)
 premises t nodes g (Link link) = none_beside (edge_to g.premise.judgement link (slice_get nodes link.to))
 

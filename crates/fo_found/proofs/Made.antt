@@ -12,7 +12,7 @@ use Rattle.fo_table.specs.LinkTable.{link_fault, link_premise}
 use Rattle.fo_table.specs.Table.{rule_answer}
 use Rattle.trace_pairs.specs.Graph.{Node, Edge}
 use Rattle.proof_graph.specs.Traces.{trace_edge}
-use Rattle.tableaux.specs.Tableau.{Premise, Tableau}
+use Rattle.tableaux.specs.Tableau.{Subgoal, Tableau}
 use Rattle.tableaux.specs.Nodes.{LeadToAll, AreEdges}
 use Rattle.list_facts.proofs.Places.{get_taken}
 use Rattle.tableaux.proofs.Made.{AllLead, all_lead, IsMade}
@@ -50,7 +50,7 @@ pub record AreNodes (t : FoTheory) (b : Tableau FoSequent FoReason) : Type 0 whe
 
 -- ---- reasons
 
-by_reason : (t : FoTheory) (nodes : List MadeNode) (v : ℕ) (g : OpenGoal) (r : FoReason) (ps : List (Premise FoSequent)) (es : List Edge) →
+by_reason : (t : FoTheory) (nodes : List MadeNode) (v : ℕ) (g : OpenGoal) (r : FoReason) (ps : List (Subgoal FoSequent)) (es : List Edge) →
     premises t (take v nodes) g r ≡ Some ps →
     AreEdges nodes v ps (back (take v nodes) g r) es → IsBy t nodes v g.premise.judgement r es
 by_reason t nodes v g (Rule rule) ps es h edges =

@@ -14,7 +14,7 @@ use Rattle.fo_limits.proofs.Numbers.{rule_numbers, link_numbers}
 use Rattle.fo_moves.proofs.Offered.{links_small, before_small, after_small}
 use Rattle.trace_pairs.specs.Graph.{Edge}
 use Rattle.derivation_search.specs.Firsts.{IsIn}
-use Rattle.tableaux.specs.Tableau.{Premise, Tableau}
+use Rattle.tableaux.specs.Tableau.{Subgoal, Tableau}
 use Rattle.tableaux.specs.Nodes.{MayStand, AllOffered}
 use Rattle.tableaux.proofs.Made.{AllLead}
 use Rattle.fo_calculus.specs.Calculus.{OpenGoal, MadeNode, sequent_of, traced, links_at, rules_at, calculus_of}
@@ -26,7 +26,7 @@ use Rattle.fo_found.proofs.Made.{IsBy, AreNodes}
 use Rattle.fo_found.proofs.Rows.{row_of}
 use Rattle.formula_facts.proofs.AllMembers.{each_any}
 
-targets_short : (nodes : List MadeNode) (v : ℕ) (ps : List (Premise FoSequent)) (es : List Edge) →
+targets_short : (nodes : List MadeNode) (v : ℕ) (ps : List (Subgoal FoSequent)) (es : List Edge) →
     length nodes ≤ 20000 → AllLead nodes v ps es → Each IsNumberWithin (map (λ (e : Edge). e.target) es)
 targets_short nodes v [] [] few led = tt
 targets_short nodes v [] (e ∷ es) few led = absurd led

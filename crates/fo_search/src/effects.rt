@@ -16,7 +16,7 @@ use fo_table::{FoPremise, FoRuleError};
 use heap_formula::Pair;
 use proof_graph::trace_edge;
 use std::alloc::Global;
-use tableaux::{MadeNode, OpenGoal, Premise, TracePairs};
+use tableaux::{MadeNode, OpenGoal, Subgoal, TracePairs};
 
 /// Pairs as the automata have them.
 fn trace_pairs(alloc: Global, pairs: &[Pair]) -> Result<TracePairs, OutOfMemory>
@@ -30,13 +30,13 @@ fn trace_pairs(alloc: Global, pairs: &[Pair]) -> Result<TracePairs, OutOfMemory>
 }
 
 /// The premises of a rule, with their pairs as the automata have them.
-fn traced(alloc: Global, premises: Vec<FoPremise>) -> Result<Vec<Premise<FoSequent>>, OutOfMemory>
+fn traced(alloc: Global, premises: Vec<FoPremise>) -> Result<Vec<Subgoal<FoSequent>>, OutOfMemory>
     ensures { IfOk result (λ v. v.items ≡ map traced_premise premises.items) }
 {
     let mut traced = Vec::new(alloc);
     for premise in premises {
         let pairs = trace_pairs(alloc, premise.pairs.as_slice())?;
-        traced.push(Premise {
+        traced.push(Subgoal {
             judgement: premise.sequent,
             pairs,
         })?;

@@ -26,7 +26,7 @@ use Rattle.proof_graph.specs.Nodes.{open_node}
 use Rattle.derivation_search.specs.Firsts.{IsIn}
 use Rattle.search_moves.specs.Trying.{Theory}
 use Rattle.search_moves.specs.Offering.{links_offered, rules_offered}
-use Rattle.tableaux.specs.Tableau.{Premise as TracedPremise}
+use Rattle.tableaux.specs.Tableau.{Subgoal}
 use Rattle.tableaux.specs.Fair.{AllOccur, IsFair}
 use Rattle.search_calculus.specs.Calculus.{OpenGoal, MadeNode, judgement_of, traced, answered, edge_to, premises}
 use Rattle.search_calculus.specs.Graphs.{goal_graph}
@@ -47,12 +47,12 @@ Allows t r = IsReasonWithin t.most t.definitions r
 -- ---- answers
 
 -- an answer with premises
-pub record HasAnswer (answer : Answer) (ps : List (TracedPremise Judgement)) : Type 0 where
+pub record HasAnswer (answer : Answer) (ps : List (Subgoal Judgement)) : Type 0 where
   pub premises : List Premise
   pub is_answer : answer ≡ Ok premises
   pub are : map traced premises ≡ ps
 
-pub answer_of : (answer : Answer) (ps : List (TracedPremise Judgement)) → answered answer ≡ Some ps → HasAnswer answer ps
+pub answer_of : (answer : Answer) (ps : List (Subgoal Judgement)) → answered answer ≡ Some ps → HasAnswer answer ps
 answer_of (Ok qs) ps h = record { premises = qs; is_answer = refl; are = (let e : Some (map traced qs) ≡ Some ps = h in cc) }
 answer_of (Err f) ps h = absurd (let e : None ≡ Some ps = h in cc)
 
@@ -110,13 +110,13 @@ module _ (t : Theory) (goal : Judgement) (limits : IsWithinLimits t goal) where
       rules = rules_within t graph (length nodes) g.premise.judgement limits.some limits.definitions limits.program occur.goal
 
   -- the premises of a reason within the limits are within them
-  premises_occur : (nodes : List MadeNode) (g : OpenGoal) (r : Reason) (ps : List (TracedPremise Judgement)) → AllOccur (Occurs t) nodes g → Allows t r → premises t nodes g r ≡ Some ps →
-      (k : ℕ) (p : TracedPremise Judgement) → slice_get ps k ≡ Some p → Occurs t p.judgement
+  premises_occur : (nodes : List MadeNode) (g : OpenGoal) (r : Reason) (ps : List (Subgoal Judgement)) → AllOccur (Occurs t) nodes g → Allows t r → premises t nodes g r ≡ Some ps →
+      (k : ℕ) (p : Subgoal Judgement) → slice_get ps k ≡ Some p → Occurs t p.judgement
   premises_occur nodes g (Step rule) ps occur allowed h k p at =
       let a = answer_of (rule_answer t.most t.definitions t.lines g.premise.judgement rule) ps h in
       let each = premises_within t.most t.definitions t.lines g.premise.judgement rule a.premises limits.definitions limits.program occur.goal allowed a.is_answer in
-      each_at (λ (q : TracedPremise Judgement). Occurs t q.judgement) (map traced a.premises) k p (subst (λ qs. slice_get qs k ≡ Some p) (sym a.are) at)
-      (each_mapped (λ (q : TracedPremise Judgement). Occurs t q.judgement) traced a.premises each)
+      each_at (λ (q : Subgoal Judgement). Occurs t q.judgement) (map traced a.premises) k p (subst (λ qs. slice_get qs k ≡ Some p) (sym a.are) at)
+      (each_mapped (λ (q : Subgoal Judgement). Occurs t q.judgement) traced a.premises each)
   premises_occur nodes g (Back link) ps occur allowed h k p at =
       let none : ps ≡ [] = beside_none (edge_to t g.premise.judgement link (slice_get nodes link.target)) ps h in
       absurd (let e : None ≡ Some p = subst (λ qs. slice_get qs k ≡ Some p) none at in cc)

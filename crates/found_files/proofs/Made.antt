@@ -13,7 +13,7 @@ use Rattle.rule_table.specs.RuleBook.{variables_of, rule_answer}
 use Rattle.trace_pairs.specs.Graph.{Node, Edge}
 use Rattle.proof_graph.specs.Traces.{positions_of, trace_edge}
 use Rattle.search_moves.specs.Trying.{Theory}
-use Rattle.tableaux.specs.Tableau.{Premise as TracedPremise}
+use Rattle.tableaux.specs.Tableau.{Subgoal}
 use Rattle.tableaux.specs.Nodes.{LeadToAll, AreEdges}
 use Rattle.list_facts.proofs.Places.{get_taken}
 use Rattle.tableaux.proofs.Made.{AllLead, all_lead}
@@ -50,14 +50,14 @@ AllMade t nodes = (v : ℕ) (m : MadeNode) → slice_get nodes v ≡ Some m → 
 
 -- ---- reasons
 
-by_rule : (t : Theory) (nodes : List MadeNode) (v : ℕ) (j : Judgement) (rule : Rule) (ps : List (TracedPremise Judgement)) (es : List Edge) →
+by_rule : (t : Theory) (nodes : List MadeNode) (v : ℕ) (j : Judgement) (rule : Rule) (ps : List (Subgoal Judgement)) (es : List Edge) →
     answered (rule_answer t.most t.definitions t.lines j rule) ≡ Some ps → LeadToAll nodes v ps es →
     IsByRule t nodes v j rule es
 by_rule t nodes v j rule ps es h led =
     let a = answer_of (rule_answer t.most t.definitions t.lines j rule) ps h in
     record { premises = a.premises; is_answer = a.is_answer; edges = all_lead nodes v (map traced a.premises) es (subst (λ qs. LeadToAll nodes v qs es) (sym a.are) led) }
 
-by_link : (t : Theory) (nodes : List MadeNode) (v : ℕ) (j : Judgement) (link : Link) (ps : List (TracedPremise Judgement)) (es : List Edge) →
+by_link : (t : Theory) (nodes : List MadeNode) (v : ℕ) (j : Judgement) (link : Link) (ps : List (Subgoal Judgement)) (es : List Edge) →
     none_beside (edge_to t j link (slice_get (take v nodes) link.target)) ≡ Some ps →
     AreEdges nodes v ps (edge_to t j link (slice_get (take v nodes) link.target)) es → IsByLink t nodes j link es
 by_link t nodes v j link ps es h edges = by (slice_get (take v nodes) link.target) refl h edges
@@ -74,7 +74,7 @@ by_link t nodes v j link ps es h edges = by (slice_get (take v nodes) link.targe
     by None is h edges = absurd (let e : None ≡ Some ps = h in cc)
     by (Some m) is h edges = at m (link_fault j (judgement_of m) link (variables_of t.lines j)) is refl h edges
 
-pub by_reason : (t : Theory) (nodes : List MadeNode) (v : ℕ) (g : OpenGoal) (r : Reason) (ps : List (TracedPremise Judgement)) (es : List Edge) →
+pub by_reason : (t : Theory) (nodes : List MadeNode) (v : ℕ) (g : OpenGoal) (r : Reason) (ps : List (Subgoal Judgement)) (es : List Edge) →
     premises t (take v nodes) g r ≡ Some ps → AreEdges nodes v ps (back t (take v nodes) g r) es →
     IsBy t nodes v g.premise.judgement r es
 by_reason t nodes v g (Step rule) ps es h edges = by_rule t nodes v g.premise.judgement rule ps es h edges

@@ -12,7 +12,7 @@ use Rattle.trace_pairs.specs.Graph.{Edge}
 use Rattle.proof_file.specs.declared.node.FileNode.{FileNode}
 use Rattle.problem_files.specs.Nodes.{IsNodeWithin}
 use Rattle.search_moves.specs.Trying.{Theory}
-use Rattle.tableaux.specs.Tableau.{Premise as TracedPremise}
+use Rattle.tableaux.specs.Tableau.{Subgoal}
 use Rattle.tableaux.proofs.Made.{AllLead}
 use Rattle.search_calculus.specs.Calculus.{MadeNode, judgement_of, traced}
 use Rattle.found_files.specs.Files.{numbers_of, nodes_made}
@@ -22,7 +22,7 @@ use Rattle.found_files.proofs.Made.{IsBy, AllMade}
 use Rattle.found_files.proofs.Rows.{file_node_at}
 use Rattle.heap_formula.proofs.Members.{each_from}
 
-targets_short : (nodes : List MadeNode) (v : ℕ) (ps : List (TracedPremise Judgement)) (es : List Edge) →
+targets_short : (nodes : List MadeNode) (v : ℕ) (ps : List (Subgoal Judgement)) (es : List Edge) →
     length nodes ≤ 20000 → AllLead nodes v ps es → Each IsShortNumber (map (λ (e : Edge). e.target) es)
 targets_short nodes v [] [] few led = tt
 targets_short nodes v (p ∷ ps) (e ∷ es) few led =

@@ -26,7 +26,7 @@ use Rattle.proof_graph.specs.Traces.{predicate_places, trace_pair, trace_pairs_o
 use Rattle.proof_graph.proofs.Places.{places_set, place_of}
 use Rattle.derivation_search.specs.Firsts.{IsIn}
 use Rattle.search_moves.specs.Trying.{Theory}
-use Rattle.tableaux.specs.Tableau.{Premise as TracedPremise}
+use Rattle.tableaux.specs.Tableau.{Subgoal}
 use Rattle.tableaux.specs.Fair.{IsPremise, ArePremises, IsBack, IsFair}
 use Rattle.search_calculus.specs.Calculus.{OpenGoal, MadeNode, judgement_of, traced, answered, edge_unless, edge_to, back, none_beside, premises}
 use Rattle.search_calculus.specs.Search.{rules_at, calculus_of}
@@ -43,7 +43,7 @@ pairs_in olds news pairs fit i p at =
 
 -- ---- premises
 
-each_premise : (t : Theory) (g : OpenGoal) (ps : List Premise) → IsShort t.most g.premise.judgement → Each (StaysShort t.most g.premise.judgement) ps → Each (PremiseFits g.premise.judgement) ps → (k : ℕ) (p : TracedPremise Judgement) → slice_get (map traced ps) k ≡ Some p →
+each_premise : (t : Theory) (g : OpenGoal) (ps : List Premise) → IsShort t.most g.premise.judgement → Each (StaysShort t.most g.premise.judgement) ps → Each (PremiseFits g.premise.judgement) ps → (k : ℕ) (p : Subgoal Judgement) → slice_get (map traced ps) k ≡ Some p →
     IsPremise (calculus_of t) (IsShort t.most) g p
 each_premise t g ps short stay fit k p at =
     let f = map_at traced ps k p at in
@@ -52,7 +52,7 @@ each_premise t g ps short stay fit k p at =
       fit = pairs_in (antecedent g.premise.judgement).spatial (antecedent f.x.judgement).spatial f.x.pairs (each_at (PremiseFits g.premise.judgement) ps k f.x f.is_x fit);
     })
 
-answered_premises : (t : Theory) (g : OpenGoal) (answer : Answer) (ps : List (TracedPremise Judgement)) → IsShort t.most g.premise.judgement → OnPremises (StaysShort t.most g.premise.judgement) answer → OnPremises (PremiseFits g.premise.judgement) answer →
+answered_premises : (t : Theory) (g : OpenGoal) (answer : Answer) (ps : List (Subgoal Judgement)) → IsShort t.most g.premise.judgement → OnPremises (StaysShort t.most g.premise.judgement) answer → OnPremises (PremiseFits g.premise.judgement) answer →
     ((qs : List Premise) → answer ≡ Ok qs → length qs ≤ 16) → answered answer ≡ Some ps → ArePremises (calculus_of t) (IsShort t.most) g ps
 answered_premises t g (Err f) ps short stay fit few h = absurd (let e : None ≡ Some ps = h in cc)
 answered_premises t g (Ok qs) ps short stay fit few h =
@@ -83,7 +83,7 @@ link_back t nodes g link e (Some m) at h =
     edge_back t nodes g link m e (link_fault g.premise.judgement (judgement_of m) link (variables_of t.lines g.premise.judgement)) at refl h
 
 -- a link has no premises
-pub beside_none : (o : Option Edge) (ps : List (TracedPremise Judgement)) → none_beside o ≡ Some ps → ps ≡ []
+pub beside_none : (o : Option Edge) (ps : List (Subgoal Judgement)) → none_beside o ≡ Some ps → ps ≡ []
 beside_none None ps h = absurd (let e : None ≡ Some ps = h in cc)
 beside_none (Some e) ps h = let x : Some [] ≡ Some ps = h in cc
 
@@ -99,7 +99,7 @@ small_is_fair t most cases = record {
   rules_forth = λ nodes g r is_in. lead_forth nodes g r is_in;
 }
   where
-    have_premises : (nodes : List MadeNode) (g : OpenGoal) (r : Reason) (ps : List (TracedPremise Judgement)) → IsShort t.most g.premise.judgement → premises t nodes g r ≡ Some ps → ArePremises (calculus_of t) (IsShort t.most) g ps
+    have_premises : (nodes : List MadeNode) (g : OpenGoal) (r : Reason) (ps : List (Subgoal Judgement)) → IsShort t.most g.premise.judgement → premises t nodes g r ≡ Some ps → ArePremises (calculus_of t) (IsShort t.most) g ps
     have_premises nodes g (Step rule) ps short h =
         answered_premises t g (rule_answer t.most t.definitions t.lines g.premise.judgement rule) ps short (rule_stays_short t.most t.definitions t.lines g.premise.judgement rule) (rule_fits t.most t.definitions t.lines g.premise.judgement rule) (λ qs e. few_premises t.most t.definitions t.lines g.premise.judgement rule qs cases e) h
     have_premises nodes g (Back link) ps short h =
@@ -110,7 +110,7 @@ small_is_fair t most cases = record {
     lead_back nodes g (Step rule) e h = absurd (let x : None ≡ Some e = h in cc)
     lead_back nodes g (Back link) e h = link_back t nodes g link e (slice_get nodes link.target) refl h
 
-    stand_alone : (nodes : List MadeNode) (g : OpenGoal) (r : Reason) (e : Edge) (ps : List (TracedPremise Judgement)) → back t nodes g r ≡ Some e → premises t nodes g r ≡ Some ps → ps ≡ []
+    stand_alone : (nodes : List MadeNode) (g : OpenGoal) (r : Reason) (e : Edge) (ps : List (Subgoal Judgement)) → back t nodes g r ≡ Some e → premises t nodes g r ≡ Some ps → ps ≡ []
     stand_alone nodes g (Step rule) e ps b h = absurd (let x : None ≡ Some e = b in cc)
     stand_alone nodes g (Back link) e ps b h = beside_none (edge_to t g.premise.judgement link (slice_get nodes link.target)) ps h
 

@@ -9,7 +9,7 @@ use Rattle.trace_pairs.specs.Graph.{Node, Edge, IsGraph}
 use Rattle.buchi_core.proofs.Lists.{get_one}
 use Rattle.proof_graph.specs.Traces.{positions_of, trace_node, trace_graph_of}
 use Rattle.search_moves.specs.Trying.{Theory}
-use Rattle.tableaux.specs.Tableau.{Premise as TracedPremise, Tableau, goals_of, begin, replay}
+use Rattle.tableaux.specs.Tableau.{Subgoal, Tableau, goals_of, begin, replay}
 use Rattle.tableaux.proofs.Grown.{link_edges}
 use Rattle.tableaux.proofs.Joined.{same_lists}
 use Rattle.tableaux.proofs.Waiting.{waiting}
@@ -48,8 +48,8 @@ made_is_graph t j d b small h some' =
 
 -- a made node, with its premises made and left
 pub record IsRow (t : Theory) (b : Tableau Judgement Reason) (v : ℕ) (m : MadeNode) : Type 0 where
-  pub done : List (TracedPremise Judgement)
-  pub left : List (TracedPremise Judgement)
+  pub done : List (Subgoal Judgement)
+  pub left : List (Subgoal Judgement)
   pub has : premises t (take v b.nodes) m.goal m.reason ≡ Some (done ++ left)
   pub waits : waiting v b.goals ≡ goals_of v (m.goal.depth + 1) (length done) left
   pub edges : List Edge

@@ -9,7 +9,7 @@ use Rattle.trace_pairs.specs.Graph.{Node, Edge, TargetsAreNodes}
 use Rattle.proof_graph.specs.declared.nodes.GraphNode.{GraphNode}
 use Rattle.proof_graph.specs.Nodes.{open_node, with_premise, changed_at, node_below, nodes_below, HasPremise}
 use Rattle.search_moves.specs.Trying.{Theory}
-use Rattle.tableaux.specs.Tableau.{Premise as TracedPremise, Tableau, goals_of, replay}
+use Rattle.tableaux.specs.Tableau.{Subgoal, Tableau, goals_of, replay}
 use Rattle.tableaux.proofs.Waiting.{waiting, waiting_here, first_waits}
 use Rattle.search_calculus.specs.Calculus.{OpenGoal, MadeNode, judgement_of, premises, pairs_of}
 use Rattle.search_calculus.specs.Graphs.{traces_of, graph_node, made_graph, goal_graph}
@@ -39,7 +39,7 @@ parent_row t b g rest m goals at row =
     let waits : g ∷ waiting g.parent rest ≡ goals_of g.parent (m.goal.depth + 1) (length row.done) row.left =
     sym (waiting_here g.parent g rest refl) ∙ (ap (waiting g.parent) (sym goals) ∙ row.waits) in
     let w = first_waits g.parent (m.goal.depth + 1) (length row.done) row.left g (waiting g.parent rest) waits in
-    let has : premises t (take g.parent b.nodes) m.goal m.reason ≡ Some (row.done ++ w.p ∷ w.ps) = row.has ∙ ap (λ (ps : List (TracedPremise Judgement)). Some (row.done ++ ps)) w.are in
+    let has : premises t (take g.parent b.nodes) m.goal m.reason ≡ Some (row.done ++ w.p ∷ w.ps) = row.has ∙ ap (λ (ps : List (Subgoal Judgement)). Some (row.done ++ ps)) w.are in
     let room = reason_room t (take g.parent b.nodes) m.goal m.reason row.done w.ps w.p row.edges has row.size in
     let place : length row.done ≡ g.place = sym (ap (λ (x : OpenGoal). x.place) w.goal) in
     record {

@@ -16,7 +16,7 @@ use Rattle.proof_graph.specs.declared.nodes.GraphNode.{GraphNode}
 use Rattle.proof_graph.specs.Nodes.{open_node, first_slot, premises_of, with_reason, without_reason, changed_at}
 use Rattle.proof_graph.specs.Traces.{positions_of}
 use Rattle.search_moves.specs.Trying.{Theory}
-use Rattle.tableaux.specs.Tableau.{Premise as TracedPremise, linked}
+use Rattle.tableaux.specs.Tableau.{Subgoal, linked}
 use Rattle.tableaux.proofs.Grown.{length-add, link_edges}
 use Rattle.tableaux.proofs.Waiting.{get_end_at}
 use Rattle.search_calculus.specs.Calculus.{OpenGoal, MadeNode, judgement_of, edge_unless, edge_to, back, none_beside, premises, link_pairs, pairs_of}
@@ -150,7 +150,7 @@ filled_none [] = refl
 filled_none (pairs ∷ lists) = ap (λ (ps : List GraphPremise). record { pairs = pairs; slot = None } ∷ ps) (filled_none lists)
 
 -- the slots that a reason without a fault has at first: a link's leads to its companion
-first_filled : (t : Theory) (nodes : List MadeNode) (g : OpenGoal) (r : Reason) (ps : List (TracedPremise Judgement)) → premises t nodes g r ≡ Some ps →
+first_filled : (t : Theory) (nodes : List MadeNode) (g : OpenGoal) (r : Reason) (ps : List (Subgoal Judgement)) → premises t nodes g r ≡ Some ps →
     filled (pairs_of t nodes g.premise.judgement r) (link_edges (back t nodes g r)) ≡ premises_of (first_slot r) (pairs_of t nodes g.premise.judgement r)
 first_filled t nodes g (Step rule) ps h = filled_none (pairs_of t nodes g.premise.judgement (Step rule))
 first_filled t nodes g (Back link) ps h = by (slice_get nodes link.target) h
@@ -165,7 +165,7 @@ first_filled t nodes g (Back link) ps h = by (slice_get nodes link.target) h
     by (Some m) h = at m (link_fault g.premise.judgement (judgement_of m) link (variables_of t.lines g.premise.judgement)) h
 
 -- the goal as a node with its reason
-made_graph_is : (t : Theory) (nodes : List MadeNode) (g : OpenGoal) (r : Reason) (ps : List (TracedPremise Judgement)) → premises t nodes g r ≡ Some ps →
+made_graph_is : (t : Theory) (nodes : List MadeNode) (g : OpenGoal) (r : Reason) (ps : List (Subgoal Judgement)) → premises t nodes g r ≡ Some ps →
     made_graph t (nodes ++ record { goal = g; reason = r } ∷ []) ≡ shown t nodes g ++ with_reason r (pairs_of t nodes g.premise.judgement r) (open_node g.premise.judgement) ∷ []
 made_graph_is t nodes g r ps h =
     let m : MadeNode = record { goal = g; reason = r } in
@@ -176,7 +176,7 @@ made_graph_is t nodes g r ps h =
     ∙ ap (λ (ps : List GraphPremise). shown t nodes g ++ record { judgement = g.premise.judgement; reason = Some r; premises = ps } ∷ []) (first_filled t nodes g r ps h))
 
 -- its reason is given
-pub reason_given : (t : Theory) (nodes : List MadeNode) (g : OpenGoal) (r : Reason) (ps : List (TracedPremise Judgement)) → premises t nodes g r ≡ Some ps →
+pub reason_given : (t : Theory) (nodes : List MadeNode) (g : OpenGoal) (r : Reason) (ps : List (Subgoal Judgement)) → premises t nodes g r ≡ Some ps →
     changed_at (with_reason r (pairs_of t nodes g.premise.judgement r)) (goal_graph t nodes g) (length nodes) ≡ made_graph t (nodes ++ record { goal = g; reason = r } ∷ [])
 reason_given t nodes g r ps h =
     ap (λ (xs : List GraphNode). changed_at (with_reason r (pairs_of t nodes g.premise.judgement r)) xs (length nodes)) (goal_graph_is t nodes g)
@@ -184,7 +184,7 @@ reason_given t nodes g r ps h =
     ∙ sym (made_graph_is t nodes g r ps h))
 
 -- and taken away
-pub reason_taken : (t : Theory) (nodes : List MadeNode) (g : OpenGoal) (r : Reason) (ps : List (TracedPremise Judgement)) → premises t nodes g r ≡ Some ps →
+pub reason_taken : (t : Theory) (nodes : List MadeNode) (g : OpenGoal) (r : Reason) (ps : List (Subgoal Judgement)) → premises t nodes g r ≡ Some ps →
     changed_at without_reason (made_graph t (nodes ++ record { goal = g; reason = r } ∷ [])) (length nodes) ≡ goal_graph t nodes g
 reason_taken t nodes g r ps h =
     let last = with_reason r (pairs_of t nodes g.premise.judgement r) (open_node g.premise.judgement) in

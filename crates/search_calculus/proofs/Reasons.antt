@@ -12,7 +12,7 @@ use Rattle.rule_table.specs.LinkTable.{link_fault}
 use Rattle.rule_table.specs.RuleBook.{variables_of, rule_answer}
 use Rattle.trace_pairs.specs.Graph.{Edge}
 use Rattle.search_moves.specs.Trying.{Theory}
-use Rattle.tableaux.specs.Tableau.{Premise as TracedPremise}
+use Rattle.tableaux.specs.Tableau.{Subgoal}
 use Rattle.tableaux.proofs.Grown.{link_edges}
 use Rattle.search_calculus.specs.Calculus.{OpenGoal, MadeNode, judgement_of, traced, answered, edge_unless, edge_to, back, none_beside, premises, answer_pairs, link_pairs, pairs_of}
 use Rattle.search_calculus.specs.Graphs.{filled, HasMany}
@@ -20,12 +20,12 @@ use Rattle.search_calculus.proofs.Fairness.{beside_none}
 use Rattle.search_calculus.proofs.Slots.{length-filled, AreFirst}
 
 -- edge k has the pairs of premise k
-abbrev pub HaveEdges : List (TracedPremise Judgement) → List Edge → Type 0
-HaveEdges done es = (k : ℕ) (p : TracedPremise Judgement) → slice_get done k ≡ Some p → (v : ℕ) × (slice_get es k ≡ Some (record { target = v; pairs = p.pairs }))
+abbrev pub HaveEdges : List (Subgoal Judgement) → List Edge → Type 0
+HaveEdges done es = (k : ℕ) (p : Subgoal Judgement) → slice_get done k ≡ Some p → (v : ℕ) × (slice_get es k ≡ Some (record { target = v; pairs = p.pairs }))
 
 -- ---- edges
 
-premises_first : (qs : List Premise) (done left : List (TracedPremise Judgement)) (es : List Edge) → map traced qs ≡ done ++ left → length es ≡ length done → HaveEdges done es → AreFirst es (map (λ (p : Premise). p.pairs) qs)
+premises_first : (qs : List Premise) (done left : List (Subgoal Judgement)) (es : List Edge) → map traced qs ≡ done ++ left → length es ≡ length done → HaveEdges done es → AreFirst es (map (λ (p : Premise). p.pairs) qs)
 premises_first qs done left [] is size each = tt
 premises_first qs [] left (e ∷ es) is size each = absurd (omega (arith, size))
 premises_first [] (p ∷ done) left (e ∷ es) is size each = absurd (let x : [] ≡ p ∷ (done ++ left) = is in cc)
@@ -36,23 +36,23 @@ premises_first (q ∷ qs) (p ∷ done) left (e ∷ es) is size each =
     let h = each 0 p refl in
     let s : Some e ≡ Some (record { target = h.0; pairs = p.pairs }) = h.1 in
     let s' : e ≡ record { target = h.0; pairs = p.pairs } = cc in (
-      ap (λ (y : Edge). y.pairs) s' ∙ ap (λ (y : TracedPremise Judgement). y.pairs) (sym first),
+      ap (λ (y : Edge). y.pairs) s' ∙ ap (λ (y : Subgoal Judgement). y.pairs) (sym first),
       premises_first qs done left es rest (omega (arith, size)) (λ k y at. each (suc k) y at),
     )
 
-answer_first : (answer : Answer) (done left : List (TracedPremise Judgement)) (es : List Edge) → answered answer ≡ Some (done ++ left) → length es ≡ length done → HaveEdges done es → AreFirst es (answer_pairs answer)
+answer_first : (answer : Answer) (done left : List (Subgoal Judgement)) (es : List Edge) → answered answer ≡ Some (done ++ left) → length es ≡ length done → HaveEdges done es → AreFirst es (answer_pairs answer)
 answer_first (Err f) done left es h size each = absurd (let x : None ≡ Some (done ++ left) = h in cc)
 answer_first (Ok qs) done left es h size each =
     let x : Some (map traced qs) ≡ Some (done ++ left) = h in
     let x' : map traced qs ≡ done ++ left = cc in premises_first qs done left es x' size each
 
-no_edges : (done left : List (TracedPremise Judgement)) (es : List Edge) → done ++ left ≡ [] → length es ≡ length done → es ≡ []
+no_edges : (done left : List (Subgoal Judgement)) (es : List Edge) → done ++ left ≡ [] → length es ≡ length done → es ≡ []
 no_edges done left [] none size = refl
 no_edges [] left (e ∷ es) none size = absurd (omega (arith, size))
 no_edges (p ∷ done) left (e ∷ es) none size = absurd (let x : p ∷ (done ++ left) ≡ [] = none in cc)
 
 -- the edges of a node, its link's before those to the premises made
-pub reason_first : (t : Theory) (before : List MadeNode) (g : OpenGoal) (r : Reason) (done left : List (TracedPremise Judgement)) (es : List Edge) → premises t before g r ≡ Some (done ++ left) → length es ≡ length done → HaveEdges done es →
+pub reason_first : (t : Theory) (before : List MadeNode) (g : OpenGoal) (r : Reason) (done left : List (Subgoal Judgement)) (es : List Edge) → premises t before g r ≡ Some (done ++ left) → length es ≡ length done → HaveEdges done es →
     AreFirst (link_edges (back t before g r) ++ es) (pairs_of t before g.premise.judgement r)
 reason_first t before g (Step rule) done left es h size each =
     answer_first (rule_answer t.most t.definitions t.lines g.premise.judgement rule) done left es h size each
@@ -69,7 +69,7 @@ reason_first t before g (Back link) done left es h size each = by (slice_get bef
 
 -- ---- numbers
 
-answer_many : (answer : Answer) (ps : List (TracedPremise Judgement)) → answered answer ≡ Some ps → length (answer_pairs answer) ≡ length ps
+answer_many : (answer : Answer) (ps : List (Subgoal Judgement)) → answered answer ≡ Some ps → length (answer_pairs answer) ≡ length ps
 answer_many (Err f) ps h = absurd (let e : None ≡ Some ps = h in cc)
 answer_many (Ok qs) ps h =
     let e : Some (map traced qs) ≡ Some ps = h in
@@ -77,7 +77,7 @@ answer_many (Ok qs) ps h =
     length-map qs (λ (p : Premise). p.pairs) ∙ (sym (length-map qs traced) ∙ ap length e')
 
 -- a slot for each premise; one for a link
-pub reason_many : (t : Theory) (before : List MadeNode) (g : OpenGoal) (r : Reason) (ps : List (TracedPremise Judgement)) (es : List Edge) → premises t before g r ≡ Some ps → HasMany r ps (filled (pairs_of t before g.premise.judgement r) es)
+pub reason_many : (t : Theory) (before : List MadeNode) (g : OpenGoal) (r : Reason) (ps : List (Subgoal Judgement)) (es : List Edge) → premises t before g r ≡ Some ps → HasMany r ps (filled (pairs_of t before g.premise.judgement r) es)
 reason_many t before g (Step rule) ps es h =
     length-filled (pairs_of t before g.premise.judgement (Step rule)) es ∙ answer_many (rule_answer t.most t.definitions t.lines g.premise.judgement rule) ps h
 reason_many t before g (Back link) ps es h = (
@@ -90,7 +90,7 @@ reason_many t before g (Back link) ps es h = (
     one_slot (Some m) h = refl
 
 -- where a premise is left, there is a slot for it after the edges
-pub reason_room : (t : Theory) (before : List MadeNode) (g : OpenGoal) (r : Reason) (done ps : List (TracedPremise Judgement)) (p : TracedPremise Judgement) (es : List Edge) → premises t before g r ≡ Some (done ++ p ∷ ps) → length es ≡ length done →
+pub reason_room : (t : Theory) (before : List MadeNode) (g : OpenGoal) (r : Reason) (done ps : List (Subgoal Judgement)) (p : Subgoal Judgement) (es : List Edge) → premises t before g r ≡ Some (done ++ p ∷ ps) → length es ≡ length done →
     (length (link_edges (back t before g r) ++ es) ≡ length done) × (length done < length (pairs_of t before g.premise.judgement r))
 reason_room t before g (Step rule) done ps p es h size =
     let many = answer_many (rule_answer t.most t.definitions t.lines g.premise.judgement rule) (done ++ p ∷ ps) h in

@@ -6,7 +6,7 @@ use Rattle.heap_formula.specs.declared.proof_rules.Reason.{Reason}
 use Rattle.trace_pairs.specs.Graph.{Node}
 use Rattle.proof_graph.specs.Traces.{positions_of}
 use Rattle.search_moves.specs.Trying.{Theory}
-use Rattle.tableaux.specs.Tableau.{Premise as TracedPremise, Tableau, grown, linked, with_premises, at_next, step, begin, replay}
+use Rattle.tableaux.specs.Tableau.{Subgoal, Tableau, grown, linked, with_premises, at_next, step, begin, replay}
 use Rattle.tableaux.proofs.Grown.{length-leaf, length-linked}
 use Rattle.tableaux.proofs.Steps.{next_tableau}
 use Rattle.tableaux.proofs.Replays.{fold_none}
@@ -48,7 +48,7 @@ next_traces : (t : Theory) (nodes : List MadeNode) (graph : List Node) (goals : 
 next_traces t nodes graph [] r b same h = absurd (let e : None ≡ Some b = h in cc)
 next_traces t nodes graph (g ∷ rest) r b same h = by (premises t nodes g r) h
   where
-    by : (o : Option (List (TracedPremise Judgement))) → with_premises (calculus_of t) nodes graph r g rest o ≡ Some b → b.graph ≡ traces_of t b.nodes
+    by : (o : Option (List (Subgoal Judgement))) → with_premises (calculus_of t) nodes graph r g rest o ≡ Some b → b.graph ≡ traces_of t b.nodes
     by None h = absurd (let e : None ≡ Some b = h in cc)
     by (Some ps) h =
         let e : Some (next_tableau (calculus_of t) nodes graph g rest ps r) ≡ Some b = h in

@@ -13,7 +13,7 @@ use Rattle.rule_table.specs.RuleBook.{variables_of, rule_answer}
 use Rattle.trace_pairs.specs.Graph.{Edge}
 use Rattle.proof_graph.specs.Traces.{positions_of, trace_edge, trace_pairs_of}
 use Rattle.search_moves.specs.Trying.{Theory}
-use Rattle.tableaux.specs.Tableau.{Premise as TracedPremise, Goal, Made, Calculus}
+use Rattle.tableaux.specs.Tableau.{Subgoal, Goal, Made, Calculus}
 
 -- a goal that is open
 abbrev pub OpenGoal : Type 0
@@ -29,11 +29,11 @@ judgement_of m = m.goal.premise.judgement
 -- ---- rules
 
 -- the premise, with its pairs as the automata have them
-abbrev pub traced : Premise → TracedPremise Judgement
+abbrev pub traced : Premise → Subgoal Judgement
 traced p = record { judgement = p.judgement; pairs = trace_pairs_of p.pairs }
 
 -- none at a fault
-abbrev pub answered : Answer → Option (List (TracedPremise Judgement))
+abbrev pub answered : Answer → Option (List (Subgoal Judgement))
 answered (Ok ps) = Some (map traced ps)
 answered (Err f) = None
 
@@ -54,11 +54,11 @@ back t nodes g (Step rule) = None
 back t nodes g (Back link) = edge_to t g.premise.judgement link (slice_get nodes link.target)
 
 -- a link without a fault has no premises
-abbrev pub none_beside : Option Edge → Option (List (TracedPremise Judgement))
+abbrev pub none_beside : Option Edge → Option (List (Subgoal Judgement))
 none_beside None = None
 none_beside (Some e) = Some []
 
-abbrev pub premises : Theory → List MadeNode → OpenGoal → Reason → Option (List (TracedPremise Judgement))
+abbrev pub premises : Theory → List MadeNode → OpenGoal → Reason → Option (List (Subgoal Judgement))
 premises t nodes g (Step rule) = answered (rule_answer t.most t.definitions t.lines g.premise.judgement rule)
 premises t nodes g (Back link) = none_beside (edge_to t g.premise.judgement link (slice_get nodes link.target))
 

@@ -10,7 +10,7 @@ use Rattle.proof_graph.specs.declared.nodes.GraphPremise.{GraphPremise}
 use Rattle.proof_graph.specs.declared.nodes.GraphNode.{GraphNode}
 use Rattle.proof_graph.specs.Nodes.{open_node, with_reason, with_premise, changed_at}
 use Rattle.search_moves.specs.Trying.{Theory}
-use Rattle.tableaux.specs.Tableau.{Premise as TracedPremise, grown, linked}
+use Rattle.tableaux.specs.Tableau.{Subgoal, grown, linked}
 use Rattle.search_calculus.specs.Calculus.{OpenGoal, MadeNode, judgement_of, bare_calculus, back, premises, pairs_of}
 
 -- ---- trace graphs
@@ -87,13 +87,13 @@ slots_filled [] = []
 slots_filled (premise ∷ premises) = slot_before premise.slot (slots_filled premises)
 
 -- a slot for each premise of a rule, and one for a link, which has no premise
-abbrev pub HasMany : Reason → List (TracedPremise Judgement) → List GraphPremise → Type 0
+abbrev pub HasMany : Reason → List (Subgoal Judgement) → List GraphPremise → Type 0
 HasMany (Step rule) ps slots = length slots ≡ length ps
 HasMany (Back link) ps slots = (ps ≡ []) × (length slots ≡ 1)
 
 -- node v, made as m: the premises of its reason, its slots, and its edges, which the filled slots name
 pub record HasSlots (t : Theory) (nodes : List MadeNode) (v : ℕ) (m : MadeNode) : Type 0 where
-  pub all_premises : List (TracedPremise Judgement)
+  pub all_premises : List (Subgoal Judgement)
   pub has : premises t (take v nodes) m.goal m.reason ≡ Some all_premises
   pub node : GraphNode
   pub is_node : slice_get (made_graph t nodes) v ≡ Some node

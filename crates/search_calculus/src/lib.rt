@@ -10,7 +10,7 @@ ghost use Rattle.trace_pairs.specs.Graph.{IsGraph};
 ghost use Rattle.proof_graph.specs.Nodes.{open_node, without_reason, changed_at, nodes_below, HasPremise};
 ghost use Rattle.proof_graph.specs.Traces.{trace_graph_of};
 ghost use Rattle.search_moves.specs.Trying.{Theory};
-ghost use Rattle.tableaux.specs.Tableau.{Premise, Tableau, replay};
+ghost use Rattle.tableaux.specs.Tableau.{Subgoal, Tableau, replay};
 ghost use Rattle.tableaux.specs.Fair.{IsFair};
 ghost use Rattle.search_calculus.specs.Calculus.{OpenGoal, MadeNode, premises};
 ghost use Rattle.search_calculus.specs.Graphs.{traces_of, made_graph, goal_graph, ShowsMade, HasSlots};
@@ -58,10 +58,10 @@ pub fn graph_has_traces()
 
 /// A reason without a fault makes a node of the next goal, and where it is taken away that node is the next goal again.
 pub fn reason_makes_node()
-    ensures given { (t : Theory) (nodes : List MadeNode) (g : OpenGoal) (r : Reason) (ps : List (Premise Judgement))
+    ensures given { (t : Theory) (nodes : List MadeNode) (g : OpenGoal) (r : Reason) (ps : List (Subgoal Judgement))
         → premises t nodes g r ≡ Some ps
         → with_reason_at_goal t nodes g r ≡ made_graph t (and_node nodes g r) }
-    ensures taken { (t : Theory) (nodes : List MadeNode) (g : OpenGoal) (r : Reason) (ps : List (Premise Judgement))
+    ensures taken { (t : Theory) (nodes : List MadeNode) (g : OpenGoal) (r : Reason) (ps : List (Subgoal Judgement))
         → premises t nodes g r ≡ Some ps
         → changed_at without_reason (made_graph t (and_node nodes g r)) (length nodes) ≡ goal_graph t nodes g }
 {}

@@ -15,7 +15,7 @@ use Rattle.list_facts.specs.Words.{or_else}
 use Rattle.derivation_search.specs.Firsts.{IsIn}
 use Rattle.derivation_search.proofs.Induction.{IsOffered, found_has}
 use Rattle.derivation_search.proofs.Firsts.{first_found}
-use Rattle.tableaux.specs.Tableau.{Premise, Goal, Made, Tableau, Calculus, grown, linked, begin, replay}
+use Rattle.tableaux.specs.Tableau.{Subgoal, Goal, Made, Tableau, Calculus, grown, linked, begin, replay}
 use Rattle.tableaux.specs.Room.{is_nil, is_done, offered, offered_at}
 use Rattle.tableaux.specs.Search.{on_graph, system_of, EachFound, EachIsSmall}
 use Rattle.tableaux.specs.Fair.{AllOccur, IsFair}
@@ -90,7 +90,7 @@ next_chosen c Occurs Allows fair limit states j d r x occur h =
           record { offered = inr i; allowed = fair.offers x.t.nodes x.g r occur (inr i); progress = inr (fair.rules_forth x.t.nodes x.g r i) })
     ]
 
-next_progresses : {J R : Type 0} (c : Calculus J R) (Occurs : J → Type 0) (Allows : R → Type 0) → IsFair c Occurs Allows → (j : J) (nodes : List (Made J R)) (graph : List Node) (g : Goal J) (rest : List (Goal J)) (r : R) (ps : List (Premise J)) → InOrder c Occurs Allows j (next_tableau c nodes graph g rest ps r) →
+next_progresses : {J R : Type 0} (c : Calculus J R) (Occurs : J → Type 0) (Allows : R → Type 0) → IsFair c Occurs Allows → (j : J) (nodes : List (Made J R)) (graph : List Node) (g : Goal J) (rest : List (Goal J)) (r : R) (ps : List (Subgoal J)) → InOrder c Occurs Allows j (next_tableau c nodes graph g rest ps r) →
     AllProgress graph → IsChosen c Allows nodes graph g r → AllProgress (linked (length nodes) (grown c graph g) (c.back nodes g r))
 next_progresses c Occurs Allows fair j nodes graph g rest r ps ok before is =
     elim is.progress [
@@ -185,7 +185,7 @@ row_edges {J} {R} c Occurs Allows fair j d f i m h w =
     let same = ap (λ (ns : List (Made J R)). c.back ns m.goal m.reason) w.row.is_before in
     subst (λ (o : Option Edge). AreEdges f.holds.t.nodes i w.row.done o (link_edges (c.back w.row.before m.goal m.reason) ++ w.row.edges)) (sym same) (split (c.back w.row.before m.goal m.reason) refl)
   where
-    no_edges : (xs : List Edge) (ps : List (Premise J)) → length xs ≡ length ps → ps ≡ [] → xs ≡ []
+    no_edges : (xs : List Edge) (ps : List (Subgoal J)) → length xs ≡ length ps → ps ≡ [] → xs ≡ []
     no_edges [] ps l e = refl
     no_edges (x ∷ xs) ps l e = absurd (let n = ap length e in omega (arith, l, n))
 

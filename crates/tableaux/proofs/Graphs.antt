@@ -3,7 +3,7 @@ use Rattle.std.proofs.Common.{◌≡◌, ℕ, zero, suc, ◌<◌, ◌≤◌, ◌
 use Rattle.std.proofs.lemmas.Option.{slice_get_within}
 use Rattle.trace_pairs.specs.Graph.{Node, Edge, IsGraph, IsPositionSet, has}
 use Rattle.trace_pairs.specs.System.{AreIn}
-use Rattle.tableaux.specs.Tableau.{Premise, Goal, Made, Tableau, Calculus}
+use Rattle.tableaux.specs.Tableau.{Subgoal, Goal, Made, Tableau, Calculus}
 use Rattle.tableaux.specs.Fair.{AllOccur, IsFair}
 use Rattle.tableaux.specs.Nodes.{HasRoot, MayStand, LeadsTo}
 use Rattle.tableaux.proofs.Grown.{link_edges}
@@ -33,9 +33,9 @@ record Fits {J R : Type 0} (c : Calculus J R) (nodes : List (Made J R)) (m : Mad
   is_node : slice_get nodes e.target ≡ Some node
   fit : AreIn e.pairs (c.positions m.goal.premise.judgement) (c.positions node.goal.premise.judgement)
 
-record AtPremise {J R : Type 0} (nodes : List (Made J R)) (i : ℕ) (done : List (Premise J)) (edges : List Edge) (e : Edge) : Type 0 where
+record AtPremise {J R : Type 0} (nodes : List (Made J R)) (i : ℕ) (done : List (Subgoal J)) (edges : List Edge) (e : Edge) : Type 0 where
   k : ℕ
-  p : Premise J
+  p : Subgoal J
   is_p : slice_get done k ≡ Some p
   leads : LeadsTo nodes i k p edges
   is_edge : e ≡ record { target = leads.q; pairs = p.pairs }
@@ -83,7 +83,7 @@ edge_fits {J} {R} c Occurs Allows fair j t ok i m h row k e at =
         let is = (fair.premises row.before m.goal m.reason (row.done ++ row.left) occur allowed row.has).each x.k x.p (get_append_left row.done row.left x.k x.p x.is_p) in
         let node = x.leads.made.node in
         let fit : AreIn x.p.pairs (c.positions m.goal.premise.judgement) (c.positions node.goal.premise.judgement) =
-        subst (λ (p : Premise J). AreIn x.p.pairs (c.positions m.goal.premise.judgement) (c.positions p.judgement)) (sym x.leads.made.stands.premise) is.fit in
+        subst (λ (p : Subgoal J). AreIn x.p.pairs (c.positions m.goal.premise.judgement) (c.positions p.judgement)) (sym x.leads.made.stands.premise) is.fit in
         subst (Fits c t.nodes m) (sym x.is_edge) (record { node = node; is_node = x.leads.made.is_node; fit = fit })
 
 -- a link has one edge, and a rule at most 256

@@ -3,7 +3,7 @@ use Rattle.std.proofs.Common.{◌≡◌, ◌⊎◌, inl, inr, arith, List, [], �
 use Rattle.std.proofs.lemmas.List.{take-append-le}
 use Rattle.std.proofs.lemmas.Option.{slice_get_within}
 use Rattle.derivation_search.specs.Firsts.{IsIn}
-use Rattle.tableaux.specs.Tableau.{Premise, Goal, Made, Tableau, Calculus, begin}
+use Rattle.tableaux.specs.Tableau.{Subgoal, Goal, Made, Tableau, Calculus, begin}
 use Rattle.tableaux.specs.Nodes.{AllOffered}
 use Rattle.tableaux.proofs.Waiting.{get_end_cases}
 use Rattle.tableaux.proofs.Rows.{take_all}
@@ -17,7 +17,7 @@ IsOfferedTo c nodes g r = IsIn (c.links nodes g) r ⊎ IsIn (c.rules nodes g) r
 pub none_offered : {J R : Type 0} (c : Calculus J R) (j : J) → AllOffered c (begin j)
 none_offered c j i m at = absurd (let e : None ≡ Some m = at in cc)
 
-pub offered_next : {J R : Type 0} (c : Calculus J R) (t : Tableau J R) (g : Goal J) (rest : List (Goal J)) (ps : List (Premise J)) (r : R) →
+pub offered_next : {J R : Type 0} (c : Calculus J R) (t : Tableau J R) (g : Goal J) (rest : List (Goal J)) (ps : List (Subgoal J)) (r : R) →
     AllOffered c t → IsOfferedTo c t.nodes g r →
     AllOffered c (next_tableau c t.nodes t.graph g rest ps r)
 offered_next {J} {R} c t g rest ps r old offer i m at =

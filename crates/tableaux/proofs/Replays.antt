@@ -1,7 +1,7 @@
 -- What any reasons that may be given make is in order.
 use Rattle.std.proofs.Common.{◌≡◌, ℕ, suc, inl, inr, List, [], ◌∷◌, Option, Some, None, slice_get, fold, sym, refl, ap, subst, ◌∙◌}
 use Rattle.trace_pairs.specs.Graph.{Node, IsGraph}
-use Rattle.tableaux.specs.Tableau.{Premise, Goal, Made, Tableau, Calculus, with_premises, at_next, step, begin}
+use Rattle.tableaux.specs.Tableau.{Subgoal, Goal, Made, Tableau, Calculus, with_premises, at_next, step, begin}
 use Rattle.tableaux.specs.Search.{EachReplayed}
 use Rattle.tableaux.specs.Fair.{IsFair}
 use Rattle.tableaux.proofs.Graphs.{InOrder, graph_in_order}
@@ -14,7 +14,7 @@ pub at_next_in_order : {J R : Type 0} (c : Calculus J R) (Occurs : J → Type 0)
 at_next_in_order c Occurs Allows fair j nodes graph [] r t ok allowed h = absurd (let e : None ≡ Some t = h in cc)
 at_next_in_order {J} {R} c Occurs Allows fair j nodes graph (g ∷ rest) r t ok allowed h = split (c.premises nodes g r) refl h
   where
-    split : (o : Option (List (Premise J))) → c.premises nodes g r ≡ o → with_premises c nodes graph r g rest o ≡ Some t → InOrder c Occurs Allows j t
+    split : (o : Option (List (Subgoal J))) → c.premises nodes g r ≡ o → with_premises c nodes graph r g rest o ≡ Some t → InOrder c Occurs Allows j t
     split None has e = absurd (let e' : None ≡ Some t = e in cc)
     split (Some ps) has e =
         let e' : Some (next_tableau c nodes graph g rest ps r) ≡ Some t = e in

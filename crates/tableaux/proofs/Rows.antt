@@ -2,7 +2,7 @@
 use Rattle.std.proofs.Common.{◌≡◌, ◌≢◌, ℕ, zero, suc, ◌+◌, ◌<◌, inl, inr, arith, List, [], ◌∷◌, ◌++◌, Option, Some, None, slice_get, length, length-append, take, sym, refl, ap, subst, ◌∙◌}
 use Rattle.std.proofs.lemmas.List.{append_assoc, append-nil, take-append-le}
 use Rattle.trace_pairs.specs.Graph.{Node, Edge, Pair}
-use Rattle.tableaux.specs.Tableau.{Premise, Goal, Made, Calculus, goals_of, grown, linked}
+use Rattle.tableaux.specs.Tableau.{Subgoal, Goal, Made, Calculus, goals_of, grown, linked}
 use Rattle.tableaux.specs.Nodes.{StandsAt, IsMadeFor, LeadsTo}
 use Rattle.tableaux.proofs.Grown.{with_edges, link_edges, leaf_at, leaf_other, leaf_new, linked_other, linked_new}
 use Rattle.tableaux.proofs.Waiting.{get_end_cases, waiting, waiting_here, waiting_not, waiting_own, waiting_other, first_waits, FirstWaits, get_end_at}
@@ -12,35 +12,35 @@ use Rattle.list_facts.proofs.Places.{get_append_left}
 pub record Row {J R : Type 0} (c : Calculus J R) (nodes : List (Made J R)) (goals : List (Goal J)) (graph : List Node) (i : ℕ) (m : Made J R) : Type 0 where
   pub before : List (Made J R)
   pub is_before : take i nodes ≡ before
-  pub done : List (Premise J)
-  pub left : List (Premise J)
+  pub done : List (Subgoal J)
+  pub left : List (Subgoal J)
   pub has : c.premises before m.goal m.reason ≡ Some (done ++ left)
   pub waits : waiting i goals ≡ goals_of i (m.goal.depth + 1) (length done) left
   pub edges : List Edge
   pub is_node : slice_get graph i ≡ Some (record { positions = c.positions m.goal.premise.judgement; edges = link_edges (c.back before m.goal m.reason) ++ edges })
   pub long : length edges ≡ length done
-  pub each : (k : ℕ) (p : Premise J) → slice_get done k ≡ Some p → LeadsTo nodes i k p edges
+  pub each : (k : ℕ) (p : Subgoal J) → slice_get done k ≡ Some p → LeadsTo nodes i k p edges
   -- a node that is made for a place of this one has that place's edge
   pub only : (q : ℕ) (x : Made J R) → slice_get nodes q ≡ Some x → 0 < q → x.goal.parent ≡ i → slice_get edges x.goal.place ≡ Some (record { target = q; pairs = x.goal.premise.pairs })
 
-made_more : {J R : Type 0} (nodes : List (Made J R)) (n : Made J R) (i k : ℕ) (p : Premise J) (q : ℕ) → IsMadeFor nodes i k p q → IsMadeFor (nodes ++ (n ∷ [])) i k p q
+made_more : {J R : Type 0} (nodes : List (Made J R)) (n : Made J R) (i k : ℕ) (p : Subgoal J) (q : ℕ) → IsMadeFor nodes i k p q → IsMadeFor (nodes ++ (n ∷ [])) i k p q
 made_more nodes n i k p q h = record { later = h.later; node = h.node; is_node = get_append_left nodes (n ∷ []) q h.node h.is_node; stands = h.stands }
 
-leads_more : {J R : Type 0} (nodes : List (Made J R)) (n : Made J R) (i k : ℕ) (p : Premise J) (edges more : List Edge) → LeadsTo nodes i k p edges → LeadsTo (nodes ++ (n ∷ [])) i k p (edges ++ more)
+leads_more : {J R : Type 0} (nodes : List (Made J R)) (n : Made J R) (i k : ℕ) (p : Subgoal J) (edges more : List Edge) → LeadsTo nodes i k p edges → LeadsTo (nodes ++ (n ∷ [])) i k p (edges ++ more)
 leads_more nodes n i k p edges more h = record {
   q = h.q;
   made = made_more nodes n i k p h.q h.made;
   is_edge = get_append_left edges more k (record { target = h.q; pairs = p.pairs }) h.is_edge;
 }
 
-leads_still : {J R : Type 0} (nodes : List (Made J R)) (n : Made J R) (i k : ℕ) (p : Premise J) (edges : List Edge) → LeadsTo nodes i k p edges → LeadsTo (nodes ++ (n ∷ [])) i k p edges
+leads_still : {J R : Type 0} (nodes : List (Made J R)) (n : Made J R) (i k : ℕ) (p : Subgoal J) (edges : List Edge) → LeadsTo nodes i k p edges → LeadsTo (nodes ++ (n ∷ [])) i k p edges
 leads_still nodes n i k p edges h = record { q = h.q; made = made_more nodes n i k p h.q h.made; is_edge = h.is_edge }
 
 before_more : {J R : Type 0} (nodes : List (Made J R)) (n : Made J R) (i : ℕ) (before : List (Made J R)) → i < length nodes → take i nodes ≡ before → take i (nodes ++ (n ∷ [])) ≡ before
 before_more nodes n i before less h = take-append-le i nodes (n ∷ []) (omega arith) ∙ h
 
 -- the row of a node that the next goal does not belong to
-pub row_other : {J R : Type 0} (c : Calculus J R) (nodes : List (Made J R)) (graph : List Node) (g : Goal J) (rest : List (Goal J)) (r : R) (ps : List (Premise J)) (depth : ℕ) (o : Option Edge) (i : ℕ) (m : Made J R) →
+pub row_other : {J R : Type 0} (c : Calculus J R) (nodes : List (Made J R)) (graph : List Node) (g : Goal J) (rest : List (Goal J)) (r : R) (ps : List (Subgoal J)) (depth : ℕ) (o : Option Edge) (i : ℕ) (m : Made J R) →
     i < length nodes → g.parent ≢ i → Row c nodes (g ∷ rest) graph i m →
     Row c (nodes ++ (record { goal = g; reason = r } ∷ [])) (goals_of (length nodes) depth 0 ps ++ rest) (linked (length nodes) (grown c graph g) o) i m
 row_other {J} {R} c nodes graph g rest r ps depth o i m less ne row = record {
@@ -63,7 +63,7 @@ row_other {J} {R} c nodes graph g rest r ps depth o i m less ne row = record {
 }
 
 -- the last edge leads to the new node
-leads_new : {J R : Type 0} (nodes : List (Made J R)) (n : Made J R) (i k : ℕ) (p : Premise J) (edges : List Edge) → i < length nodes → k ≡ length edges → StandsAt i k p n.goal →
+leads_new : {J R : Type 0} (nodes : List (Made J R)) (n : Made J R) (i k : ℕ) (p : Subgoal J) (edges : List Edge) → i < length nodes → k ≡ length edges → StandsAt i k p n.goal →
     LeadsTo (nodes ++ (n ∷ [])) i k p (edges ++ (record { target = length nodes; pairs = p.pairs } ∷ []))
 leads_new nodes n i k p edges less kk stands = record {
   q = length nodes;
@@ -83,7 +83,7 @@ grown_at c graph g i n v pairs here size same h =
     at' ∙ ap (λ (e : Edge). Some (with_edges n (e ∷ []))) edge
 
 -- the row of the next goal's parent
-pub row_parent : {J R : Type 0} (c : Calculus J R) (nodes : List (Made J R)) (graph : List Node) (g : Goal J) (rest : List (Goal J)) (r : R) (ps : List (Premise J)) (depth : ℕ) (o : Option Edge) (i : ℕ) (m : Made J R) →
+pub row_parent : {J R : Type 0} (c : Calculus J R) (nodes : List (Made J R)) (graph : List Node) (g : Goal J) (rest : List (Goal J)) (r : R) (ps : List (Subgoal J)) (depth : ℕ) (o : Option Edge) (i : ℕ) (m : Made J R) →
     i < length nodes → length graph ≡ length nodes → g.parent ≡ i → Row c nodes (g ∷ rest) graph i m →
     Row c (nodes ++ (record { goal = g; reason = r } ∷ [])) (goals_of (length nodes) depth 0 ps ++ rest) (linked (length nodes) (grown c graph g) o) i m
 row_parent {J} {R} c nodes graph g rest r ps depth o i m less size here row =
@@ -111,13 +111,13 @@ row_parent {J} {R} c nodes graph g rest r ps depth o i m less size here row =
         grown_at c graph g i (record { positions = c.positions m.goal.premise.judgement; edges = link_edges (c.back row.before m.goal m.reason) ++ row.edges }) (length nodes) w.p.pairs here size pairs row.is_node
         ∙ ap (λ es. Some (record { positions = c.positions m.goal.premise.judgement; edges = es })) (append_assoc (link_edges (c.back row.before m.goal m.reason)) row.edges (record { target = length nodes; pairs = w.p.pairs } ∷ []))
 
-    each_next : (w : FirstWaits i (m.goal.depth + 1) (length row.done) row.left g (waiting i rest)) (k : ℕ) (p : Premise J) → slice_get (row.done ++ (w.p ∷ [])) k ≡ Some p →
+    each_next : (w : FirstWaits i (m.goal.depth + 1) (length row.done) row.left g (waiting i rest)) (k : ℕ) (p : Subgoal J) → slice_get (row.done ++ (w.p ∷ [])) k ≡ Some p →
         LeadsTo (nodes ++ (record { goal = g; reason = r } ∷ [])) i k p (row.edges ++ (record { target = length nodes; pairs = w.p.pairs } ∷ []))
     each_next w k p at =
         elim (get_end_cases row.done w.p p k at) [
           | inl old ↦ leads_more nodes (record { goal = g; reason = r }) i k p row.edges (record { target = length nodes; pairs = w.p.pairs } ∷ []) (row.each k p old)
           | inr new' ↦
-              subst (λ (x : Premise J). LeadsTo (nodes ++ (record { goal = g; reason = r } ∷ [])) i k x (row.edges ++ (record { target = length nodes; pairs = w.p.pairs } ∷ []))) new'.1
+              subst (λ (x : Subgoal J). LeadsTo (nodes ++ (record { goal = g; reason = r } ∷ [])) i k x (row.edges ++ (record { target = length nodes; pairs = w.p.pairs } ∷ []))) new'.1
               (leads_new nodes (record { goal = g; reason = r }) i k w.p row.edges less (new'.0 ∙ sym row.long)
               (record { parent = here; place = ap (λ (x : Goal J). x.place) w.goal ∙ sym new'.0; premise = ap (λ (x : Goal J). x.premise) w.goal }))
         ]
@@ -143,7 +143,7 @@ take_all (x ∷ xs) ys zero e = absurd (omega arith)
 take_all (x ∷ xs) ys (suc n) e = ap (λ zs. x ∷ zs) (take_all xs ys n (omega arith))
 
 -- the row of the new node
-pub row_new : {J R : Type 0} (c : Calculus J R) (nodes : List (Made J R)) (graph : List Node) (g : Goal J) (rest : List (Goal J)) (r : R) (ps : List (Premise J)) →
+pub row_new : {J R : Type 0} (c : Calculus J R) (nodes : List (Made J R)) (graph : List Node) (g : Goal J) (rest : List (Goal J)) (r : R) (ps : List (Subgoal J)) →
     length graph ≡ length nodes → c.premises nodes g r ≡ Some ps → waiting (length nodes) rest ≡ [] → ((q : ℕ) (x : Made J R) → slice_get (nodes ++ (record { goal = g; reason = r } ∷ [])) q ≡ Some x → 0 < q → x.goal.parent ≢ length nodes) →
     Row c (nodes ++ (record { goal = g; reason = r } ∷ [])) (goals_of (length nodes) (g.depth + 1) 0 ps ++ rest) (linked (length nodes) (grown c graph g) (c.back nodes g r)) (length nodes) (record { goal = g; reason = r })
 row_new {J} {R} c nodes graph g rest r ps size has none apart = record {

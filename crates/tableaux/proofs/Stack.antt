@@ -5,20 +5,20 @@ use Rattle.std.proofs.lemmas.List.{append_assoc, reverse-append, length-reverse}
 use Rattle.std.proofs.lemmas.Bool.{cases_Bool, and_parts, leb-true, ltb-true, eq-eqb}
 use Rattle.list_facts.proofs.Places.{get_end}
 use Rattle.list_facts.proofs.Parts.{split_last}
-use Rattle.tableaux.specs.Tableau.{Premise, Goal, goals_of}
+use Rattle.tableaux.specs.Tableau.{Subgoal, Goal, goals_of}
 use Rattle.tableaux.specs.Room.{is_nil, has_room}
 use Rattle.tableaux.specs.Goals.{begins_with, others_of}
 
 -- the goal of a premise
-abbrev pub goal_at : {J : Type 0} → ℕ → ℕ → ℕ → Premise J → Goal J
+abbrev pub goal_at : {J : Type 0} → ℕ → ℕ → ℕ → Subgoal J → Goal J
 goal_at node depth k p = record { parent = node; place = k; depth = depth; premise = p }
 
-opened_push : {J : Type 0} (node depth k n : ℕ) (ps : List (Premise J)) (p : Premise J) → n ≡ k + length ps → goals_of node depth k (ps ++ p ∷ []) ≡ goals_of node depth k ps ++ goal_at node depth n p ∷ []
+opened_push : {J : Type 0} (node depth k n : ℕ) (ps : List (Subgoal J)) (p : Subgoal J) → n ≡ k + length ps → goals_of node depth k (ps ++ p ∷ []) ≡ goals_of node depth k ps ++ goal_at node depth n p ∷ []
 opened_push node depth k n [] p e = let same : k ≡ n = omega (arith, e) in ap (λ i. goal_at node depth i p ∷ []) same
 opened_push node depth k n (q ∷ ps) p e = ap (λ gs. goal_at node depth k q ∷ gs) (opened_push node depth (k + 1) n ps p (omega (arith, e)))
 
 -- the last premise becomes the top of the stack
-pub pushed_goal : {J : Type 0} (node depth k : ℕ) (old new : List (Premise J)) (p : Premise J) (goals more : List (Goal J)) → old ≡ new ++ p ∷ [] → k ≡ length new → more ≡ goals ++ goal_at node depth k p ∷ [] →
+pub pushed_goal : {J : Type 0} (node depth k : ℕ) (old new : List (Subgoal J)) (p : Subgoal J) (goals more : List (Goal J)) → old ≡ new ++ p ∷ [] → k ≡ length new → more ≡ goals ++ goal_at node depth k p ∷ [] →
     goals_of node depth 0 new ++ reverse more ≡ goals_of node depth 0 old ++ reverse goals
 pushed_goal node depth k old new p goals more e place pushed =
     ap (λ gs. goals_of node depth 0 new ++ reverse gs) pushed
@@ -27,7 +27,7 @@ pushed_goal node depth k old new p goals more e place pushed =
     ∙ ap (λ gs. gs ++ reverse goals) (sym (ap (goals_of node depth 0) e ∙ opened_push node depth 0 k new p (omega (arith, place))))))
 
 -- one premise is popped from the others, so there was one
-pub popped_fewer : {J : Type 0} (old new : List (Premise J)) (p : Premise J) → old ≡ new ++ p ∷ [] → length old ≡ length new + 1
+pub popped_fewer : {J : Type 0} (old new : List (Subgoal J)) (p : Subgoal J) → old ≡ new ++ p ∷ [] → length old ≡ length new + 1
 popped_fewer old new p e = ap length e ∙ length-append new (p ∷ [])
 
 -- ---- the last of a list
@@ -100,11 +100,11 @@ others_only : {J : Type 0} (node : ℕ) (rest : List (Goal J)) → ((k : ℕ) (x
 others_only node [] earlier = refl
 others_only node (x ∷ rest) earlier = rw (other_number x.parent node (earlier 0 x refl)) refl
 
-pub others_goals : {J : Type 0} (node depth k : ℕ) (ps : List (Premise J)) (rest : List (Goal J)) → ((k : ℕ) (x : Goal J) → slice_get rest k ≡ Some x → x.parent < node) → others_of node (goals_of node depth k ps ++ rest) ≡ rest
+pub others_goals : {J : Type 0} (node depth k : ℕ) (ps : List (Subgoal J)) (rest : List (Goal J)) → ((k : ℕ) (x : Goal J) → slice_get rest k ≡ Some x → x.parent < node) → others_of node (goals_of node depth k ps ++ rest) ≡ rest
 others_goals node depth k [] rest earlier = others_only node rest earlier
 others_goals node depth k (p ∷ ps) rest earlier = rw (eq_self node) (others_goals node depth (k + 1) ps rest earlier)
 
-pub length-goals_of : {J : Type 0} (node depth k : ℕ) (ps : List (Premise J)) → length (goals_of node depth k ps) ≡ length ps
+pub length-goals_of : {J : Type 0} (node depth k : ℕ) (ps : List (Subgoal J)) → length (goals_of node depth k ps) ≡ length ps
 length-goals_of node depth k [] = refl
 length-goals_of node depth k (p ∷ ps) = ap suc (length-goals_of node depth (k + 1) ps)
 
@@ -123,7 +123,7 @@ pub closed_is : {X : Type 0} (goals : List X) (n : ℕ) → n ≡ length goals �
 closed_is goals n number = sym (nil_length (reverse goals) n (number ∙ sym (length-reverse goals)))
 
 -- whether premises fit, by the numbers that the code has
-pub room_is : {J : Type 0} (limit bound n : ℕ) (g : Goal J) (rest : List (Goal J)) (ps : List (Premise J)) (depth made others count : ℕ) (b : Bool) → depth ≡ g.depth → made ≡ n → others ≡ length rest → count ≡ length ps →
+pub room_is : {J : Type 0} (limit bound n : ℕ) (g : Goal J) (rest : List (Goal J)) (ps : List (Subgoal J)) (depth made others count : ℕ) (b : Bool) → depth ≡ g.depth → made ≡ n → others ≡ length rest → count ≡ length ps →
     b ≡ ((nat_eq count 0 || nat_lt depth bound) && nat_le (made + 1 + (count + others)) limit) → has_room limit bound n g rest (Some ps) ≡ b
 room_is limit bound n g rest ps depth made others count b is_depth is_made is_others is_count is_b =
     (λ i. (nil_length ps count is_count i || nat_lt (sym is_depth i) bound) && nat_le (sums i) limit) ∙ sym is_b
@@ -132,7 +132,7 @@ room_is limit bound n g rest ps depth made others count b is_depth is_made is_ot
     sums = omega (arith, is_made, is_others, is_count)
 
 -- what room tells of them
-pub room_tells : {J : Type 0} (limit bound n : ℕ) (g : Goal J) (rest : List (Goal J)) (ps : List (Premise J)) (depth made others count : ℕ) → bound < 4294967296 → depth ≡ g.depth → made ≡ n → others ≡ length rest → count ≡ length ps →
+pub room_tells : {J : Type 0} (limit bound n : ℕ) (g : Goal J) (rest : List (Goal J)) (ps : List (Subgoal J)) (depth made others count : ℕ) → bound < 4294967296 → depth ≡ g.depth → made ≡ n → others ≡ length rest → count ≡ length ps →
     ((nat_eq count 0 || nat_lt depth bound) && nat_le (made + 1 + (count + others)) limit) ≡ true → (n + 1 + (length ps + length rest) ≤ limit) × (0 < length ps → g.depth < 4294967295)
 room_tells limit bound n g rest ps depth made others count small is_depth is_made is_others is_count fits = (room, deep)
   where

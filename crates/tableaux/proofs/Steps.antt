@@ -6,7 +6,7 @@ use Rattle.std.proofs.lemmas.Option.{slice_get_within}
 use Rattle.trace_pairs.specs.Graph.{Node}
 use Rattle.buchi_core.proofs.Lists.{get_append_cases}
 use Rattle.derivation_search.specs.System.{after}
-use Rattle.tableaux.specs.Tableau.{Premise, Goal, Made, Tableau, Calculus, goals_of, grown, linked, with_premises, at_next, step, begin, replay}
+use Rattle.tableaux.specs.Tableau.{Subgoal, Goal, Made, Tableau, Calculus, goals_of, grown, linked, with_premises, at_next, step, begin, replay}
 use Rattle.tableaux.specs.Room.{has_room, fits_at, fits_in}
 use Rattle.tableaux.specs.Fair.{AllOccur, IsFair}
 use Rattle.tableaux.specs.Nodes.{HasRoot}
@@ -23,10 +23,10 @@ pub record Fits {J R : Type 0} (c : Calculus J R) (p : Option (Tableau J R)) (r 
   pub g : Goal J
   pub rest : List (Goal J)
   pub goals : t.goals ≡ g ∷ rest
-  pub ps : List (Premise J)
+  pub ps : List (Subgoal J)
   pub has : c.premises t.nodes g r ≡ Some ps
 
-room_has : {J : Type 0} (limit e n : ℕ) (g : Goal J) (rest : List (Goal J)) (o : Option (List (Premise J))) → has_room limit e n g rest o ≡ true → (ps : List (Premise J)) × (o ≡ Some ps)
+room_has : {J : Type 0} (limit e n : ℕ) (g : Goal J) (rest : List (Goal J)) (o : Option (List (Subgoal J))) → has_room limit e n g rest o ≡ true → (ps : List (Subgoal J)) × (o ≡ Some ps)
 room_has limit e n g rest None h = absurd (both_ways false refl h)
 room_has limit e n g rest (Some ps) h = (ps, refl)
 
@@ -44,7 +44,7 @@ replay_after : {J R : Type 0} (c : Calculus J R) (j : J) (d : List R) (r : R) �
 replay_after c j d r = fold-append (step c) (Some (begin j)) d (r ∷ [])
 
 -- the tableau after it
-abbrev pub next_tableau : {J R : Type 0} → Calculus J R → List (Made J R) → List Node → Goal J → List (Goal J) → List (Premise J) → R → Tableau J R
+abbrev pub next_tableau : {J R : Type 0} → Calculus J R → List (Made J R) → List Node → Goal J → List (Goal J) → List (Subgoal J) → R → Tableau J R
 next_tableau c nodes graph g rest ps r = record {
   nodes = nodes ++ (record { goal = g; reason = r } ∷ []);
   goals = goals_of (length nodes) (g.depth + 1) 0 ps ++ rest;
@@ -78,7 +78,7 @@ begins {J} {R} c Occurs Allows j h = record {
     first zero g at = refl
     first (suc k) g at = absurd (let e : None ≡ Some g = at in cc)
 
-next_parents : {J : Type 0} (v depth : ℕ) (ps : List (Premise J)) (g : Goal J) (rest : List (Goal J)) → ((k : ℕ) (h : Goal J) → slice_get rest k ≡ Some h → h.parent < v) → (k : ℕ) (h : Goal J) → slice_get (goals_of v depth 0 ps ++ rest) k ≡ Some h → h.parent < v + 1
+next_parents : {J : Type 0} (v depth : ℕ) (ps : List (Subgoal J)) (g : Goal J) (rest : List (Goal J)) → ((k : ℕ) (h : Goal J) → slice_get rest k ≡ Some h → h.parent < v) → (k : ℕ) (h : Goal J) → slice_get (goals_of v depth 0 ps ++ rest) k ≡ Some h → h.parent < v + 1
 next_parents v depth ps g rest old k h at =
     elim (get_append_cases (goals_of v depth 0 ps) rest k h at) [
       | inl a ↦ (let o = goal_of v depth 0 ps k h a.1 in omega (arith, o.parent))
@@ -103,7 +103,7 @@ next_earlier {J} {R} nodes graph g rest r ok q x at late =
     ]
 
 -- the row of each node after the step
-next_row : {J R : Type 0} (c : Calculus J R) (Occurs : J → Type 0) (Allows : R → Type 0) (j : J) (nodes : List (Made J R)) (graph : List Node) (g : Goal J) (rest : List (Goal J)) (r : R) (ps : List (Premise J)) →
+next_row : {J R : Type 0} (c : Calculus J R) (Occurs : J → Type 0) (Allows : R → Type 0) (j : J) (nodes : List (Made J R)) (graph : List Node) (g : Goal J) (rest : List (Goal J)) (r : R) (ps : List (Subgoal J)) →
     InOrder c Occurs Allows j (record { nodes = nodes; goals = g ∷ rest; graph = graph }) → c.premises nodes g r ≡ Some ps → (i : ℕ) (m : Made J R) → slice_get (nodes ++ (record { goal = g; reason = r } ∷ [])) i ≡ Some m →
     Row c (nodes ++ (record { goal = g; reason = r } ∷ [])) (goals_of (length nodes) (g.depth + 1) 0 ps ++ rest) (linked (length nodes) (grown c graph g) (c.back nodes g r)) i m
 next_row {J} {R} c Occurs Allows j nodes graph g rest r ps ok has i m h =
@@ -141,7 +141,7 @@ next_root {J} {R} j nodes graph graph' goals g rest r begun =
       | inr h ↦ record { root = h.root; is_root = get_append_left nodes (record { goal = g; reason = r } ∷ []) 0 h.root h.is_root; judgement = h.judgement }
     ]
 
-pub next_in_order : {J R : Type 0} (c : Calculus J R) (Occurs : J → Type 0) (Allows : R → Type 0) → IsFair c Occurs Allows → (j : J) (nodes : List (Made J R)) (graph : List Node) (g : Goal J) (rest : List (Goal J)) (r : R) (ps : List (Premise J)) →
+pub next_in_order : {J R : Type 0} (c : Calculus J R) (Occurs : J → Type 0) (Allows : R → Type 0) → IsFair c Occurs Allows → (j : J) (nodes : List (Made J R)) (graph : List Node) (g : Goal J) (rest : List (Goal J)) (r : R) (ps : List (Subgoal J)) →
     InOrder c Occurs Allows j (record { nodes = nodes; goals = g ∷ rest; graph = graph }) → Allows r → c.premises nodes g r ≡ Some ps → InOrder c Occurs Allows j (next_tableau c nodes graph g rest ps r)
 next_in_order {J} {R} c Occurs Allows fair j nodes graph g rest r ps ok allowed has = record {
   begun = inr (next_root j nodes graph _ _ g rest r ok.begun);
@@ -155,7 +155,7 @@ next_in_order {J} {R} c Occurs Allows fair j nodes graph g rest r ps ok allowed 
   open' = λ k h at. elim (get_append_cases (goals_of (length nodes) (g.depth + 1) 0 ps) rest k h at) [
     | inl a ↦
         (let o = goal_of (length nodes) (g.depth + 1) 0 ps k h a.1 in
-        subst (λ (p : Premise J). Occurs p.judgement) (sym o.premise) ((fair.premises nodes g r ps occur allowed has).each o.i o.p o.is_p).occurs)
+        subst (λ (p : Subgoal J). Occurs p.judgement) (sym o.premise) ((fair.premises nodes g r ps occur allowed has).each o.i o.p o.is_p).occurs)
     | inr b ↦ ok.open' (suc b.0) h b.2
   ];
   parents = λ k h at. inl (let less = next_parents (length nodes) (g.depth + 1) ps g rest (λ k' x at'. parent_made nodes graph g rest ok k' x at') k h at in omega (arith, less, more));

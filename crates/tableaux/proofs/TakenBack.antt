@@ -5,7 +5,7 @@ use Rattle.std.proofs.lemmas.List.Sums.{fold-append}
 use Rattle.list_facts.proofs.Places.{get_append_left}
 use Rattle.derivation_search.specs.Stack.{front}
 use Rattle.derivation_search.proofs.Members.{front-after}
-use Rattle.tableaux.specs.Tableau.{Premise, Goal, Made, Tableau, Calculus, goals_of, step, at_next, with_premises, replay, begin}
+use Rattle.tableaux.specs.Tableau.{Subgoal, Goal, Made, Tableau, Calculus, goals_of, step, at_next, with_premises, replay, begin}
 use Rattle.tableaux.specs.Fair.{IsFair}
 use Rattle.tableaux.specs.Goals.{others_of}
 use Rattle.tableaux.proofs.Graphs.{InOrder}
@@ -18,12 +18,12 @@ pub record WasAt {J R : Type 0} (c : Calculus J R) (p : Option (Tableau J R)) (r
   pub is : p ≡ Some before
   pub g : Goal J
   pub rest : List (Goal J)
-  pub ps : List (Premise J)
+  pub ps : List (Subgoal J)
   pub goals : before.goals ≡ g ∷ rest
   pub has : c.premises before.nodes g r ≡ Some ps
   pub made : next_tableau c before.nodes before.graph g rest ps r ≡ t
 
-was_with : {J R : Type 0} (c : Calculus J R) (b : Tableau J R) (r : R) (g : Goal J) (rest : List (Goal J)) (o : Option (List (Premise J))) (t : Tableau J R) → b.goals ≡ g ∷ rest → c.premises b.nodes g r ≡ o → with_premises c b.nodes b.graph r g rest o ≡ Some t → WasAt c (Some b) r t
+was_with : {J R : Type 0} (c : Calculus J R) (b : Tableau J R) (r : R) (g : Goal J) (rest : List (Goal J)) (o : Option (List (Subgoal J))) (t : Tableau J R) → b.goals ≡ g ∷ rest → c.premises b.nodes g r ≡ o → with_premises c b.nodes b.graph r g rest o ≡ Some t → WasAt c (Some b) r t
 was_with c b r g rest None t gs has h = absurd (let e : None ≡ Some t = h in cc)
 was_with c b r g rest (Some ps) t gs has h =
     let e : Some (next_tableau c b.nodes b.graph g rest ps r) ≡ Some t = h in

@@ -1,7 +1,7 @@
 -- The open goals of one node; and look-ups in lists with a member more.
 use Rattle.std.proofs.Common.{◌≡◌, ◌≢◌, ℕ, zero, suc, ◌+◌, inl, inr, false, List, [], ◌∷◌, ◌++◌, Some, None, slice_get, length, filter, nat_eq, sym, refl, ap, ◌∙◌, eqb-true, eq-eqb}
 use Rattle.std.proofs.lemmas.Bool.{cases_Bool}
-use Rattle.tableaux.specs.Tableau.{Premise, Goal, goals_of}
+use Rattle.tableaux.specs.Tableau.{Subgoal, Goal, goals_of}
 pub use Rattle.trace_pairs.proofs.Grow.{get_push_cases as get_end_cases}
 use Rattle.list_facts.proofs.Places.{get_end}
 
@@ -26,26 +26,26 @@ waiting_none i [] h = refl
 waiting_none i (g ∷ rest) h = waiting_not i g rest (h 0 g refl) ∙ waiting_none i rest (λ k x at. h (suc k) x at)
 
 -- a new node's goals are its own, and no other node's
-pub waiting_own : {J : Type 0} (v depth k : ℕ) (ps : List (Premise J)) (rest : List (Goal J)) → waiting v rest ≡ [] → waiting v (goals_of v depth k ps ++ rest) ≡ goals_of v depth k ps
+pub waiting_own : {J : Type 0} (v depth k : ℕ) (ps : List (Subgoal J)) (rest : List (Goal J)) → waiting v rest ≡ [] → waiting v (goals_of v depth k ps ++ rest) ≡ goals_of v depth k ps
 waiting_own v depth k [] rest none = none
 waiting_own {J} v depth k (p ∷ ps) rest none =
     waiting_here v (record { parent = v; place = k; depth = depth; premise = p }) (goals_of v depth (k + 1) ps ++ rest) refl
     ∙ ap (λ (gs : List (Goal J)). record { parent = v; place = k; depth = depth; premise = p } ∷ gs) (waiting_own v depth (k + 1) ps rest none)
 
-pub waiting_other : {J : Type 0} (i v depth k : ℕ) (ps : List (Premise J)) (rest : List (Goal J)) → v ≢ i → waiting i (goals_of v depth k ps ++ rest) ≡ waiting i rest
+pub waiting_other : {J : Type 0} (i v depth k : ℕ) (ps : List (Subgoal J)) (rest : List (Goal J)) → v ≢ i → waiting i (goals_of v depth k ps ++ rest) ≡ waiting i rest
 waiting_other i v depth k [] rest ne = refl
 waiting_other i v depth k (p ∷ ps) rest ne =
     waiting_not i (record { parent = v; place = k; depth = depth; premise = p }) (goals_of v depth (k + 1) ps ++ rest) ne ∙ waiting_other i v depth (k + 1) ps rest ne
 
 -- a goal of a new node stands at one of its premises
-pub record GoalOf {J : Type 0} (v : ℕ) (ps : List (Premise J)) (g : Goal J) : Type 0 where
+pub record GoalOf {J : Type 0} (v : ℕ) (ps : List (Subgoal J)) (g : Goal J) : Type 0 where
   pub i : ℕ
-  pub p : Premise J
+  pub p : Subgoal J
   pub is_p : slice_get ps i ≡ Some p
   pub parent : g.parent ≡ v
   pub premise : g.premise ≡ p
 
-pub goal_of : {J : Type 0} (v depth k : ℕ) (ps : List (Premise J)) (i : ℕ) (g : Goal J) → slice_get (goals_of v depth k ps) i ≡ Some g → GoalOf v ps g
+pub goal_of : {J : Type 0} (v depth k : ℕ) (ps : List (Subgoal J)) (i : ℕ) (g : Goal J) → slice_get (goals_of v depth k ps) i ≡ Some g → GoalOf v ps g
 goal_of v depth k [] i g h = absurd (let e : None ≡ Some g = h in cc)
 goal_of {J} v depth k (p ∷ ps) zero g h =
     let e : Some (record { parent = v; place = k; depth = depth; premise = p }) ≡ Some g = h in
@@ -56,20 +56,20 @@ goal_of v depth k (p ∷ ps) (suc i) g h =
     record { i = suc r.i; p = r.p; is_p = r.is_p; parent = r.parent; premise = r.premise }
 
 -- what waits for a node with premises left is the first of them, and then the others
-pub record FirstWaits {J : Type 0} (v depth k : ℕ) (left : List (Premise J)) (g : Goal J) (more : List (Goal J)) : Type 0 where
-  pub p : Premise J
-  pub ps : List (Premise J)
+pub record FirstWaits {J : Type 0} (v depth k : ℕ) (left : List (Subgoal J)) (g : Goal J) (more : List (Goal J)) : Type 0 where
+  pub p : Subgoal J
+  pub ps : List (Subgoal J)
   pub are : left ≡ p ∷ ps
   pub goal : g ≡ record { parent = v; place = k; depth = depth; premise = p }
   pub more_wait : more ≡ goals_of v depth (k + 1) ps
 
-pub first_waits : {J : Type 0} (v depth k : ℕ) (left : List (Premise J)) (g : Goal J) (more : List (Goal J)) → g ∷ more ≡ goals_of v depth k left → FirstWaits v depth k left g more
+pub first_waits : {J : Type 0} (v depth k : ℕ) (left : List (Subgoal J)) (g : Goal J) (more : List (Goal J)) → g ∷ more ≡ goals_of v depth k left → FirstWaits v depth k left g more
 first_waits v depth k [] g more h = absurd (let e : g ∷ more ≡ [] = h in cc)
 first_waits {J} v depth k (p ∷ ps) g more h =
     let e : g ∷ more ≡ record { parent = v; place = k; depth = depth; premise = p } ∷ goals_of v depth (k + 1) ps = h in
     record { p = p; ps = ps; are = refl; goal = cc; more_wait = cc }
 
 -- nothing waits where nothing is left
-pub none_left : {J : Type 0} (v depth k : ℕ) (left : List (Premise J)) → [] ≡ goals_of v depth k left → left ≡ []
+pub none_left : {J : Type 0} (v depth k : ℕ) (left : List (Subgoal J)) → [] ≡ goals_of v depth k left → left ≡ []
 none_left v depth k [] h = refl
 none_left {J} v depth k (p ∷ ps) h = absurd (let e : [] ≡ record { parent = v; place = k; depth = depth; premise = p } ∷ goals_of v depth (k + 1) ps = h in cc)

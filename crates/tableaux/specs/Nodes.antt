@@ -3,7 +3,7 @@ use Rattle.std.specs.Prelude.{ℕ, ◌≡◌, ◌<◌, ◌≤◌, ◌⊎◌, Lis
 use Rattle.trace_pairs.specs.Graph.{Node, Edge}
 use Rattle.buchi_inclusion.specs.Answers.{HasAtMost}
 use Rattle.derivation_search.specs.Firsts.{IsIn}
-use Rattle.tableaux.specs.Tableau.{Premise, Goal, Made, Tableau, Calculus}
+use Rattle.tableaux.specs.Tableau.{Subgoal, Goal, Made, Tableau, Calculus}
 
 -- node 0 is made for the judgement
 pub record HasRoot {J R : Type 0} (j : J) (t : Tableau J R) : Type 0 where
@@ -31,13 +31,13 @@ pub record IsSmall {J R : Type 0} (limit most : ℕ) (t : Tableau J R) : Type 0 
   pub states : HasAtMost t.graph most
 
 -- the goal stands at place k of node i, for the premise
-pub record StandsAt {J : Type 0} (i k : ℕ) (p : Premise J) (g : Goal J) : Type 0 where
+pub record StandsAt {J : Type 0} (i k : ℕ) (p : Subgoal J) (g : Goal J) : Type 0 where
   pub parent : g.parent ≡ i
   pub place : g.place ≡ k
   pub premise : g.premise ≡ p
 
 -- node q is a later one that is made for premise p, at place k of node i
-pub record IsMadeFor {J R : Type 0} (nodes : List (Made J R)) (i k : ℕ) (p : Premise J) (q : ℕ) : Type 0 where
+pub record IsMadeFor {J R : Type 0} (nodes : List (Made J R)) (i k : ℕ) (p : Subgoal J) (q : ℕ) : Type 0 where
   pub later : i < q
   pub node : Made J R
   pub is_node : slice_get nodes q ≡ Some node
@@ -45,9 +45,9 @@ pub record IsMadeFor {J R : Type 0} (nodes : List (Made J R)) (i k : ℕ) (p : P
 
 -- node i has premises, and a node is made for each; its reason saw the nodes before it
 pub record HasPremises {J R : Type 0} (c : Calculus J R) (t : Tableau J R) (i : ℕ) (m : Made J R) : Type 0 where
-  pub premises : List (Premise J)
+  pub premises : List (Subgoal J)
   pub has : c.premises (take i t.nodes) m.goal m.reason ≡ Some premises
-  pub made : (k : ℕ) (p : Premise J) → slice_get premises k ≡ Some p → (q : ℕ) × IsMadeFor t.nodes i k p q
+  pub made : (k : ℕ) (p : Subgoal J) → slice_get premises k ≡ Some p → (q : ℕ) × IsMadeFor t.nodes i k p q
 
 abbrev pub AllHavePremises : {J R : Type 0} → Calculus J R → Tableau J R → Type 0
 AllHavePremises {J} {R} c t = (i : ℕ) (m : Made J R) → slice_get t.nodes i ≡ Some m → HasPremises c t i m
@@ -58,24 +58,24 @@ StandApart {J} {R} t =
     (p q : ℕ) (m n : Made J R) → slice_get t.nodes p ≡ Some m → slice_get t.nodes q ≡ Some n → 0 < p → 0 < q → m.goal.parent ≡ n.goal.parent → m.goal.place ≡ n.goal.place → p ≡ q
 
 -- edge k leads to the node that is made for premise p, at place k of node i, with the premise's pairs
-pub record LeadsTo {J R : Type 0} (nodes : List (Made J R)) (i k : ℕ) (p : Premise J) (edges : List Edge) : Type 0 where
+pub record LeadsTo {J R : Type 0} (nodes : List (Made J R)) (i k : ℕ) (p : Subgoal J) (edges : List Edge) : Type 0 where
   pub q : ℕ
   pub made : IsMadeFor nodes i k p q
   pub is_edge : slice_get edges k ≡ Some (record { target = q; pairs = p.pairs })
 
 -- an edge for each premise, in order
-pub record LeadToAll {J R : Type 0} (nodes : List (Made J R)) (i : ℕ) (ps : List (Premise J)) (edges : List Edge) : Type 0 where
+pub record LeadToAll {J R : Type 0} (nodes : List (Made J R)) (i : ℕ) (ps : List (Subgoal J)) (edges : List Edge) : Type 0 where
   pub as_many : length edges ≡ length ps
-  pub each : (k : ℕ) (p : Premise J) → slice_get ps k ≡ Some p → LeadsTo nodes i k p edges
+  pub each : (k : ℕ) (p : Subgoal J) → slice_get ps k ≡ Some p → LeadsTo nodes i k p edges
 
 -- a link's one edge, or one for each premise
-abbrev pub AreEdges : {J R : Type 0} → List (Made J R) → ℕ → List (Premise J) → Option Edge → List Edge → Type 0
+abbrev pub AreEdges : {J R : Type 0} → List (Made J R) → ℕ → List (Subgoal J) → Option Edge → List Edge → Type 0
 AreEdges nodes i ps (Some e) edges = edges ≡ e ∷ []
 AreEdges nodes i ps None edges = LeadToAll nodes i ps edges
 
 -- the edges of node i, for its premises or its link
 pub record HasEdges {J R : Type 0} (c : Calculus J R) (t : Tableau J R) (i : ℕ) (m : Made J R) : Type 0 where
-  pub premises : List (Premise J)
+  pub premises : List (Subgoal J)
   pub has : c.premises (take i t.nodes) m.goal m.reason ≡ Some premises
   pub node : Node
   pub is_node : slice_get t.graph i ≡ Some node

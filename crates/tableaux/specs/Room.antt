@@ -4,7 +4,7 @@ use Rattle.std.proofs.Common.{refl}
 use Rattle.std.proofs.Math.Nat.{le_trans, le-add_right, lt_of_lt_of_le}
 use Rattle.std.proofs.Math.Numerals.{lt-add-one}
 use Rattle.std.proofs.lemmas.Bool.{leb-true, both_ways, and_parts}
-use Rattle.tableaux.specs.Tableau.{Premise, Goal, Made, Tableau, Calculus}
+use Rattle.tableaux.specs.Tableau.{Subgoal, Goal, Made, Tableau, Calculus}
 
 abbrev pub is_nil : {X : Type 0} → List X → Bool
 is_nil [] = true
@@ -26,7 +26,7 @@ offered offer (Some t) = offered_at offer t.nodes t.goals
 
 -- whether a reason's premises fit within depth e and the limit, after n nodes: premises need a depth below e, and the nodes
 -- and the open goals are together at most the limit
-abbrev pub has_room : {J : Type 0} → ℕ → ℕ → ℕ → Goal J → List (Goal J) → Option (List (Premise J)) → Bool
+abbrev pub has_room : {J : Type 0} → ℕ → ℕ → ℕ → Goal J → List (Goal J) → Option (List (Subgoal J)) → Bool
 has_room limit e n g rest None = false
 has_room limit e n g rest (Some ps) = (is_nil ps || nat_lt g.depth e) && nat_le (n + 1 + (length ps + length rest)) limit
 
@@ -40,7 +40,7 @@ fits_in c limit e n None r = false
 fits_in c limit e n (Some t) r = fits_at c limit e n t.nodes r t.goals
 
 -- what may be followed stays within the limit
-room_short : {J : Type 0} (limit e n : ℕ) (g : Goal J) (rest : List (Goal J)) (ps : Option (List (Premise J))) → has_room limit e n g rest ps ≡ true → n < limit
+room_short : {J : Type 0} (limit e n : ℕ) (g : Goal J) (rest : List (Goal J)) (ps : Option (List (Subgoal J))) → has_room limit e n g rest ps ≡ true → n < limit
 room_short limit e n g rest None h = absurd (both_ways false refl h)
 room_short limit e n g rest (Some ps) h =
     lt_of_lt_of_le (lt-add-one n) (le_trans (le-add_right (n + 1) (length ps + length rest)) (leb-true _ _ (and_parts (is_nil ps || nat_lt g.depth e) (nat_le (n + 1 + (length ps + length rest)) limit) h).1))

@@ -2,13 +2,13 @@
 use Rattle.std.specs.Prelude.{ℕ, ◌+◌, List, [], ◌∷◌, ◌++◌, Option, Some, None, length, fold}
 use Rattle.trace_pairs.specs.Graph.{Node, Edge}
 use Rattle.trace_decision.specs.Leaf.{add_edge, with_leaf}
-use Rattle.tableaux.specs.declared.goals.Premise.{Premise as PremiseOfCode}
+use Rattle.tableaux.specs.declared.goals.Subgoal.{Subgoal as PremiseOfCode}
 use Rattle.tableaux.specs.declared.goals.OpenGoal.{OpenGoal}
 use Rattle.tableaux.specs.declared.goals.MadeNode.{MadeNode}
 
 -- a judgement, and the pairs that lead to it
-abbrev pub Premise : Type 0 → Type 0
-Premise J = PremiseOfCode J
+abbrev pub Subgoal : Type 0 → Type 0
+Subgoal J = PremiseOfCode J
 
 -- a premise that a node is to be made for: the one at a place of node `parent`. The first goal has depth 1, and a premise
 -- is one deeper than what it is a premise of
@@ -32,12 +32,12 @@ pub record Calculus (J R : Type 0) : Type 0 where
   pub links : List (Made J R) → Goal J → List R
   pub rules : List (Made J R) → Goal J → List R
   -- the premises of a reason without a fault; of a link none
-  pub premises : List (Made J R) → Goal J → R → Option (List (Premise J))
+  pub premises : List (Made J R) → Goal J → R → Option (List (Subgoal J))
   -- where a link leads to, with its pairs
   pub back : List (Made J R) → Goal J → R → Option Edge
 
 -- the premises from place k on, as goals of a node
-abbrev pub goals_of : {J : Type 0} → ℕ → ℕ → ℕ → List (Premise J) → List (Goal J)
+abbrev pub goals_of : {J : Type 0} → ℕ → ℕ → ℕ → List (Subgoal J) → List (Goal J)
 goals_of node depth k [] = []
 goals_of node depth k (p ∷ ps) = record { parent = node; place = k; depth = depth; premise = p } ∷ goals_of node depth (k + 1) ps
 
@@ -51,7 +51,7 @@ linked v graph None = graph
 linked v graph (Some e) = add_edge v e graph
 
 -- the tableau after the next goal g has got a reason with these premises
-abbrev pub with_premises : {J R : Type 0} → Calculus J R → List (Made J R) → List Node → R → Goal J → List (Goal J) → Option (List (Premise J)) → Option (Tableau J R)
+abbrev pub with_premises : {J R : Type 0} → Calculus J R → List (Made J R) → List Node → R → Goal J → List (Goal J) → Option (List (Subgoal J)) → Option (Tableau J R)
 with_premises c nodes graph r g rest None = None
 with_premises c nodes graph r g rest (Some ps) = Some (record {
   nodes = nodes ++ (record { goal = g; reason = r } ∷ []);

@@ -41,9 +41,9 @@ impl TracePairs {
     }
 }
 
-/// A judgement, and the pairs that lead to it.
+/// A premise in any logic: a judgement, and the pairs that lead to it.
 #[derive(Drop)]
-pub struct Premise<J> {
+pub struct Subgoal<J> {
     pub judgement: J,
     pub pairs: TracePairs,
 }
@@ -55,7 +55,7 @@ pub struct OpenGoal<J> {
     pub parent: u32,
     pub place: u32,
     pub depth: u32,
-    pub premise: Premise<J>,
+    pub premise: Subgoal<J>,
 }
 
 /// A node: the goal that it was made for, and why it holds.
@@ -70,7 +70,7 @@ pub fn first_goal<J>(alloc: Global, judgement: J) -> OpenGoal<J>
     ensures { result ≡ root_goal judgement }
 {
     let pairs = TracePairs::from_vec(Vec::new(alloc));
-    let premise = Premise { judgement, pairs };
+    let premise = Subgoal { judgement, pairs };
     OpenGoal {
         parent: 0,
         place: 0,
@@ -103,7 +103,7 @@ pub fn push_goals<J: Drop>(
     goals: &mut Vec<OpenGoal<J>>,
     node: u32,
     depth: u32,
-    mut premises: Vec<Premise<J>>,
+    mut premises: Vec<Subgoal<J>>,
 ) -> Result<(), OutOfMemory>
     requires depth { 0 < length premises.items → depth < 4294967295 }
     requires few { length premises.items < 4294967296 }

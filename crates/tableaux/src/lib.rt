@@ -18,7 +18,7 @@ ghost use Rattle.tableaux.specs.Nodes.{StandApart, AllHaveEdges};
 
 pub use cyc_memory::OutOfMemory;
 pub use goals::{
-    MadeNode, OpenGoal, Premise, TracePairs, drop_goals, first_goal, has_room, push_goals,
+    MadeNode, OpenGoal, Subgoal, TracePairs, drop_goals, first_goal, has_room, push_goals,
 };
 pub use traces::GrowingTraces;
 pub use trials::{is_above, tried};
