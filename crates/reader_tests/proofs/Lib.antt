@@ -1,5 +1,2 @@
 mod ShortTexts
-mod NumberTerms
-mod NumberVariables
-mod ReadTexts
 mod SmallDollars

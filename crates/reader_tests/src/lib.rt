@@ -1,17 +1,8 @@
-//! Tests of tokens, grammars and trees, of what heaps, lines and models say, and of names and their numbers; there is nothing
-//! else here.
+//! Tests of what heaps, lines and models say, and of names and their numbers; there is nothing else here.
 #![tactic(auto)]
 
 #[cfg(test)]
-mod command_syntax_tests;
-#[cfg(test)]
-mod cyc_grammar_tests;
-#[cfg(test)]
-mod cyc_lex_tests;
-#[cfg(test)]
 mod heap_reader_tests;
-#[cfg(test)]
-mod heap_syntax_tests;
 #[cfg(test)]
 mod item_reader_tests;
 #[cfg(test)]
@@ -20,9 +11,3 @@ mod long_list_tests;
 mod model_file_tests;
 #[cfg(test)]
 mod name_numbers_tests;
-#[cfg(test)]
-mod piecewise_lex_tests;
-#[cfg(test)]
-mod proof_statements_tests;
-#[cfg(test)]
-mod texts;

@@ -3,7 +3,7 @@ use Rattle.std.specs.Prelude.{map}
 use Rattle.cyc_lex.specs.Word.{Word, word_of}
 use Rattle.cyc_grammar.specs.Classes.{are_tokens}
 use Rattle.cyc_grammar.proofs.WholeTexts.{words-placed, all-tokens}
-use Rattle.reader_tests.proofs.texts.start.Goals as goal
+use Rattle.text_tests.proofs.texts.start.Goals as goal
 
 pub new-requires : goal.new-requires
 new-requires c =

@@ -2,9 +2,9 @@ use Rattle.std.proofs.Common.{ℕ, List, refl, sym, subst}
 use Rattle.std.specs.Prelude.{map}
 use Rattle.heap_syntax.specs.declared.tree.HeapTree.{HeapTree}
 use Rattle.heap_syntax.specs.Trees.{heap_of}
-use Rattle.reader_tests.proofs.NumberTerms.{number-list, number-heaps}
-use Rattle.reader_tests.proofs.ReadTexts.{given-fits}
-use Rattle.reader_tests.proofs.heap_syntax_tests.heaps_again.Goals as goal
+use Rattle.text_tests.proofs.NumberTerms.{number-list, number-heaps}
+use Rattle.text_tests.proofs.ReadTexts.{given-fits}
+use Rattle.text_tests.proofs.heap_syntax_tests.heaps_again.Goals as goal
 
 pub write_heaps-requires : goal.write_heaps-requires
 write_heaps-requires c k =

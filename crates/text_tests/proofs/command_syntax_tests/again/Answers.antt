@@ -6,9 +6,9 @@ use Rattle.command_syntax.specs.declared.tree.LineTree.{LineTree}
 use Rattle.command_syntax.specs.Trees.{line_of}
 use Rattle.command_syntax.specs.Grammar.{lines}
 use Rattle.heap_syntax.specs.declared.version.Version.TheVariants.{Two}
-use Rattle.reader_tests.proofs.NumberVariables.{number-lines}
-use Rattle.reader_tests.proofs.ReadTexts.{given-fits}
-use Rattle.reader_tests.proofs.command_syntax_tests.again.Goals as goal
+use Rattle.text_tests.proofs.NumberVariables.{number-lines}
+use Rattle.text_tests.proofs.ReadTexts.{given-fits}
+use Rattle.text_tests.proofs.command_syntax_tests.again.Goals as goal
 
 pub write_lines-requires : goal.write_lines-requires
 write_lines-requires c k =

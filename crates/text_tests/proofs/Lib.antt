@@ -1,0 +1,3 @@
+mod NumberTerms
+mod NumberVariables
+mod ReadTexts
