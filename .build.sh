@@ -1,4 +1,4 @@
-# .build.sh, read by the scripts `cyclist`, `seek` and `draw`: becomes a program of this repository. Proves and builds it first
+# .build.sh, read by the scripts `cyclist`, `check`, `seek` and `draw`: becomes a program of this repository. Proves and builds it first
 # where it is missing or its sources are not those it was built of.
 set -u
 top=$(cd "$(dirname "$(readlink -f "${BASH_SOURCE[0]}")")" && pwd)
@@ -83,7 +83,7 @@ leave_nothing() {
 build_or_exit() {
   local failed
   command -v rt > /dev/null || { echo "$name: the toolchain's command rt is not here" >&2; exit 70; }
-  echo "$name: the first build proves the program and all crates below it, side by side; that takes more than an hour of processor" >&2
+  echo "$name: the first build proves the program and all crates below it, side by side; that takes an hour of processor or more" >&2
   gate= room=$(mktemp -d) || exit 70
   trap leave_nothing EXIT
   trap 'exit 70' INT TERM HUP
@@ -97,12 +97,17 @@ build_or_exit() {
   trap - EXIT INT TERM HUP
 }
 
-# Becomes the program of a crate, with these words.
-become() { # NAME CRATE WORDS..
+# Names the program of a crate, for the functions above.
+choose() { # NAME CRATE
   name=$1 crate=$2
-  shift 2
   out=$top/crates/$crate/out
   program=$out/$crate
+}
+
+# Becomes the program of a crate, with these words.
+become() { # NAME CRATE WORDS..
+  choose "$1" "$2"
+  shift 2
   is_current || build_or_exit
   exec "$program" "$@"
 }

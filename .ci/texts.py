@@ -1,4 +1,5 @@
-"""texts.py PROGRAM: runs the built program on the texts of texts/, and compares its status and what it writes."""
+"""texts.py PROGRAM CHECKER: runs the built program on the texts of texts/, and the checker alone on those for `check`, and compares
+their status and what they write."""
 import os
 import subprocess
 import sys
@@ -12,6 +13,7 @@ import problems
 import searches
 
 program = os.path.abspath(sys.argv[1])
+checker = os.path.abspath(sys.argv[2])
 
 
 def rows():
@@ -39,22 +41,23 @@ def rows():
 
 def answer(words, text):
     both = {"stdout": subprocess.PIPE, "stderr": subprocess.STDOUT}
-    ran = subprocess.run([program, *words.split()], input=text, timeout=120, **both)
+    ran = subprocess.run(words, input=text, timeout=120, **both)
     return ran.returncode, ran.stdout
 
 
 def fault(words, text, status, written):
-    """Returns how the program answers otherwise, or None."""
+    """Returns how the program, or for a check the checker too, answers otherwise, or None."""
     wanted = written if written.endswith(b"\n") else written + b"\n"
-    got = answer(words, text)
-    if got == (status, wanted):
-        return None
-    shown = f"cyclist {words} < {text[:60]!r}: status {got[0]}, {got[1][:200]!r}"
-    return f"{shown}; wanted status {status}, {wanted[:200]!r}"
+    for each in [[program, *words.split()]] + [[checker]] * (words == "check"):
+        got = answer(each, text)
+        if got != (status, wanted):
+            shown = f"{' '.join([os.path.basename(each[0]), *each[1:]])} < {text[:60]!r}: status {got[0]}, {got[1][:200]!r}"
+            return f"{shown}; wanted status {status}, {wanted[:200]!r}"
+    return None
 
 
 tried = list(rows())
-tried += [(second, answer(first, text)[1], status, line) for first, text, second, status, line in searches.AGAIN]
+tried += [(second, answer([program, *first.split()], text)[1], status, line) for first, text, second, status, line in searches.AGAIN]
 faults = [it for row in tried if (it := fault(*row))]
 print("\n".join(faults) if faults else f"texts: each of the {len(tried)} is answered as it should be")
 sys.exit(1 if faults else 0)

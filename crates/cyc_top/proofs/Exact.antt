@@ -9,10 +9,8 @@ use Rattle.cyc_lex.specs.declared.fault.ReadFault.{ReadFault}
 use Rattle.formula_reader.specs.declared.problem.Problem.{Problem}
 use Rattle.formula_reader.specs.Reading as problems
 use Rattle.proof_file.specs.declared.file.ProofFile.{ProofFile}
-use Rattle.proof_file.specs.Reading.{AreSame, IsRead}
-use Rattle.proof_check.specs.declared.verdict.Verdict.{Verdict}
-use Rattle.proof_check.specs.declared.verdict.Verdict.TheVariants.{Accepted, RuleRefused, PathRefused, TooManyStates}
-use Rattle.proof_check.specs.Verdicts.{file_graph, state_limit, IsCorrect, IsVerdict, RootHolds}
+use Rattle.proof_file.specs.Reading.{IsRead}
+use Rattle.proof_check.specs.Verdicts.{file_graph, state_limit, IsCorrect}
 use Rattle.buchi_inclusion.specs.Answers.{HasAtMost}
 use Rattle.fo_formula.specs.declared.nodes.FoFile.{FoFile}
 use Rattle.fo_formula.specs.declared.nodes.FoReason.{FoReason}
@@ -33,12 +31,11 @@ use Rattle.cyc_runs.specs.Endings.{is_answer}
 use Rattle.cyc_runs.specs.Runs.{IsTold, input_limit}
 use Rattle.cyc_runs.proofs.WaysToEnd.{ending_kind, ended_so as run_ended_so, fault_fails, fault_is_no_refusal}
 use Rattle.cyc_runs.proofs.Told.{told_is}
-use Rattle.cyc_top.specs.Answers.{Answers, IsAnswer, IsHeadline, IsRefusal, IsReadAnswer, IsUnrefuted, IsSearchAnswer, IsUpgradeAnswer, WroteAnswer, WroteFirstOrderProof, WroteModel, WroteProof, derivation_limit, proved_status, proved_text, verdict_status}
-use Rattle.reading_laws.specs.Alike.{AreAlike}
-use Rattle.reading_laws.proofs.Readings.{one_file_reading, one_problem_reading}
-use Rattle.proof_check.proofs.OneAnswer.{correct_is_accepted}
+use Rattle.check_answers.proofs.Checks as checks
+use Rattle.cyc_top.specs.Answers.{Answers, IsAnswer, IsHeadline, IsRefusal, IsUnrefuted, IsSearchAnswer, IsUpgradeAnswer, WroteAnswer, WroteFirstOrderProof, WroteModel, WroteProof, derivation_limit, proved_status, proved_text}
+use Rattle.reading_facts.specs.Alike.{AreAlike}
+use Rattle.reading_laws.proofs.Readings.{one_problem_reading}
 use Rattle.cyc_top.proofs.OneAnswer.{one_answer}
-use Rattle.cyc_top.proofs.OneVerdict.{right_faulty, same_verdict}
 use Rattle.cyc_top.proofs.OneSearch.{found_search, goal_holds, proof_accepted}
 use Rattle.model_answers.specs.Answers.{holds_text}
 use Rattle.model_answers.proofs.OneAnswer.{refusal_fails, success_satisfies}
@@ -61,18 +58,6 @@ told_status task told input s t xs ys e expected answer =
 
 -- ---- success
 
--- a verdict that ends a check with success accepts the file
-pub success_accepts : (file : ProofFile) (v : Verdict) → IsVerdict file v → status.Success ≡ verdict_status v → RootHolds file
-success_accepts file Accepted is e = is.2
-success_accepts file (RuleRefused node fault) is e = absurd cc
-success_accepts file (PathRefused lasso) is e = absurd cc
-success_accepts file TooManyStates is e = absurd cc
-
--- a check that ends with success read a file whose root holds
-pub success_reads : (input : List ℕ) (r : Result ProofFile ReadFault) (xs : List ℕ) → IsRead input r → IsReadAnswer r status.Success xs → (file : ProofFile) × IsRead input (Ok file) × RootHolds file
-success_reads input (Ok file) xs is answer = (file, is, success_accepts file answer.0 answer.1 answer.2)
-success_reads input (Err fault) xs is answer = absurd (fault_fails fault answer.0)
-
 -- a search that ends with success found a proof
 success_holds : (p : Problem) (a : Proved) → IsProved p a → status.Success ≡ proved_status a → JudgementHolds p.defs.list p.program p.goal
 success_holds p (Found f) is e = goal_holds p f is
@@ -93,8 +78,7 @@ upgrade_reads input (Err fault) xs is answer = absurd (fault_fails fault answer.
 -- a task that ends with success says what it says
 pub success_true : (task : Option Task) (told : Option (List ℕ)) (input xs : List ℕ) → IsTold told input → IsAnswer task input status.Success xs → IsHeadline task told
 success_true None told input xs is answer = absurd (let e : status.Success ≡ status.Usage = answer.0 in cc)
-success_true (Some Check) told input xs is (inl long) = absurd (let e : status.Success ≡ status.Limit = long.1 in cc)
-success_true (Some Check) told input xs is (inr checked) = (input, is, success_reads input checked.1 xs checked.2 checked.3)
+success_true (Some Check) told input xs is answer = (input, is, checks.success_holds input xs answer)
 success_true (Some (Prove depth)) told input xs is (inl long) = absurd (let e : status.Success ≡ status.Limit = long.1 in cc)
 success_true (Some (Prove depth)) told input xs is (inr searched) = (input, is, success_proves depth input searched.1 xs searched.2 searched.3)
 success_true (Some Upgrade) told input xs is (inl long) = absurd (let e : status.Success ≡ status.Limit = long.1 in cc)
@@ -112,17 +96,6 @@ success_true (Some FirstOrderCheck) told input xs is (inr checked) = (input, is,
 success_true (Some (Ring k)) told input xs is answer = tt
 
 -- ---- refusals
-
--- a verdict that ends a check with a refusal is on a file that is not correct
-refusal_incorrect : (file : ProofFile) (v : Verdict) → IsVerdict file v → status.Refused ≡ verdict_status v → ¬ IsCorrect file
-refusal_incorrect file Accepted is e correct = absurd cc
-refusal_incorrect file (RuleRefused node fault) is e correct = right_faulty file node fault correct.nodes is
-refusal_incorrect file (PathRefused lasso) is e correct = is.2 (correct.paths lasso is.1)
-refusal_incorrect file TooManyStates is e correct = absurd cc
-
-check_refuses : (input : List ℕ) (r : Result ProofFile ReadFault) (xs : List ℕ) → IsRead input r → IsReadAnswer r status.Refused xs → (file : ProofFile) × IsRead input (Ok file) × (¬ IsCorrect file)
-check_refuses input (Ok file) xs is answer = (file, is, refusal_incorrect file answer.0 answer.1 answer.2)
-check_refuses input (Err fault) xs is answer = absurd (fault_is_no_refusal fault answer.0)
 
 -- a search refuses nothing
 search_refuses_not : (a : Proved) → status.Refused ≡ proved_status a → ⊥
@@ -143,8 +116,7 @@ upgrade_refuses_not (Err fault) xs answer = fault_is_no_refusal fault answer.0
 -- a task that refuses says what it says
 refused_true : (task : Option Task) (told : Option (List ℕ)) (input xs : List ℕ) → IsTold told input → IsAnswer task input status.Refused xs → IsRefusal task told
 refused_true None told input xs is answer = let e : status.Refused ≡ status.Usage = answer.0 in cc
-refused_true (Some Check) told input xs is (inl long) = absurd (let e : status.Refused ≡ status.Limit = long.1 in cc)
-refused_true (Some Check) told input xs is (inr checked) = (input, is, check_refuses input checked.1 xs checked.2 checked.3)
+refused_true (Some Check) told input xs is answer = (input, is, checks.check_refuses input xs answer)
 refused_true (Some (Prove depth)) told input xs is (inl long) = let e : status.Refused ≡ status.Limit = long.1 in cc
 refused_true (Some (Prove depth)) told input xs is (inr searched) = searched_refuses_not depth searched.1 xs searched.3
 refused_true (Some Upgrade) told input xs is (inl long) = let e : status.Refused ≡ status.Limit = long.1 in cc
@@ -209,23 +181,10 @@ found_succeeds depth task told input q d s text is e short read found answer =
 
 -- ---- checks
 
--- the verdict on a correct file with few states ends a check with success
-accepted_ends : (f g : ProofFile) (v : Verdict) → AreSame f g → IsVerdict f v → IsCorrect g → HasAtMost (file_graph g) state_limit → verdict_status v ≡ status.Success
-accepted_ends f g v same is correct few = ap verdict_status (correct_is_accepted g v (same_verdict f g same v is) correct few)
-
-check_accepts : (r : Result ProofFile ReadFault) (g : ProofFile) (s : Status) (text : List ℕ) → AreAlike AreSame r (Ok g) → IsCorrect g → HasAtMost (file_graph g) state_limit → IsReadAnswer r s text → s ≡ status.Success
-check_accepts (Ok f) g s text same correct few answer = answer.2 ∙ accepted_ends f g answer.0 same answer.1 correct few
-check_accepts (Err fault) g s text same correct few answer = absurd same
-
-task_accepts : (input : List ℕ) (g : ProofFile) (s : Status) (text : List ℕ) → length input ≤ input_limit → IsRead input (Ok g) → IsCorrect g → HasAtMost (file_graph g) state_limit → IsAnswer (Some Check) input s text → s ≡ status.Success
-task_accepts input g s text short is correct few (inl long) = absurd (omega (arith, long.0))
-task_accepts input g s text short is correct few (inr checked) =
-    check_accepts checked.1 g s text (one_file_reading input checked.1 (Ok g) checked.2 is) correct few checked.3
-
 -- a check of a correct file with few states is answered with success
 pub correct_succeeds : (task : Option Task) (told : Option (List ℕ)) (input : List ℕ) (g : ProofFile) (s : Status) (text : List ℕ) → task ≡ Some Check → told ≡ Some input → length input ≤ input_limit → IsRead input (Ok g) → IsCorrect g → HasAtMost (file_graph g) state_limit → Answers task told s text → s ≡ status.Success
 correct_succeeds task told input g s text is e short read correct few answer =
-    task_accepts input g s text short read correct few (subst (λ t. IsAnswer t input s text) is (answer_for task told input s text e answer))
+    checks.check_accepts input g s text short read correct few (subst (λ t. IsAnswer t input s text) is (answer_for task told input s text e answer))
 
 -- the same of a first-order proof
 first_order_accepts : (input : List ℕ) (g : FoFile) (s : Status) (text : List ℕ) → length input ≤ input_limit → first_order.IsRead input (Ok g) → first_order_verdicts.IsCorrect g → HasAtMost (first_order_verdicts.file_graph g) state_limit → IsAnswer (Some FirstOrderCheck) input s text → s ≡ status.Success

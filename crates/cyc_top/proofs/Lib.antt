@@ -1,8 +1,6 @@
-pub mod OneVerdict
 pub mod OneSearch
 pub mod OneAnswer
 pub mod Told
 pub mod Exact
 pub mod Upgraded
 pub mod RingFiles
-pub mod InPieces

@@ -12,10 +12,11 @@ use Rattle.cyc_words.specs.declared.tasks.Task.{Task}
 use Rattle.cyc_words.specs.declared.tasks.Task.TheVariants.{Check, Prove, Ring, Upgrade, Sat, Model, Disprove, FirstOrderProve, FirstOrderCheck}
 use Rattle.cyc_runs.specs.declared.endings.Status.{Status}
 use Rattle.cyc_runs.specs.Runs.{Answering, IsAnswerOf, input_limit}
-use Rattle.reading_laws.specs.Alike.{AreAlike, AreOneCheck}
-use Rattle.reading_laws.proofs.OneCheck.{said_one}
-use Rattle.reading_laws.proofs.OneFault.{one_fault_answer}
-use Rattle.reading_laws.proofs.Readings.{one_file_reading, one_problem_reading}
+use Rattle.reading_facts.specs.Alike.{AreAlike, AreOneCheck}
+use Rattle.reading_facts.proofs.OneAnswer.{one_of}
+use Rattle.reading_facts.proofs.OneFault.{one_fault_answer}
+use Rattle.reading_facts.proofs.Files.{one_file_reading}
+use Rattle.reading_laws.proofs.Readings.{one_problem_reading}
 use Rattle.sat_answers.specs.Answers.{IsAsked}
 use Rattle.sat_answers.proofs.OneAnswer as sat
 use Rattle.model_answers.specs.Answers.{IsModelled}
@@ -26,25 +27,9 @@ use Rattle.fo_answers.specs.Answers.{IsFirstOrderChecked}
 use Rattle.fo_answers.specs.Searches.{IsFirstOrderSearched}
 use Rattle.fo_answers.proofs.OneAnswer as first_order
 use Rattle.fo_answers.proofs.OneSearch as first_order_search
-use Rattle.cyc_top.specs.Answers.{AreOneText, IsAnswer, IsChecked, IsReadAnswer, IsSearchAnswer, IsSearched, IsUpgradeAnswer, IsUpgraded, file_text, verdict_text}
-use Rattle.cyc_top.proofs.OneVerdict.{one_verdict, same_verdict}
+use Rattle.check_answers.proofs.Checks.{one_check}
+use Rattle.cyc_top.specs.Answers.{AreOneText, IsAnswer, IsSearchAnswer, IsSearched, IsUpgradeAnswer, IsUpgraded, file_text}
 use Rattle.cyc_top.proofs.OneSearch.{one_search}
-
--- ---- checks
-
-one_read_check : (r q : Result ProofFile ReadFault) (s t : Status) (xs ys : List ℕ) → AreAlike AreSame r q → IsReadAnswer r s xs → IsReadAnswer q t ys → (s ≡ t) × AreOneCheck xs ys
-one_read_check (Ok f) (Ok g) s t xs ys same first second =
-    let one = one_verdict g first.0 second.0 (same_verdict f g same first.0 first.1) second.1 in
-    let said = first.3 ∙ ap (λ nodes. verdict_text nodes first.0) same.nodes in
-    (first.2 ∙ one.0 ∙ sym second.2, said_one xs ys (verdict_text g.nodes first.0) (verdict_text g.nodes second.0) said second.3 one.1)
-one_read_check (Err a) (Err b) s t xs ys same first second =
-    let one = one_fault_answer a b s t xs ys same first second in (one.0, inl one.1)
-one_read_check (Ok f) (Err b) s t xs ys same first second = absurd same
-one_read_check (Err a) (Ok g) s t xs ys same first second = absurd same
-
-one_check : (input : List ℕ) (s t : Status) (xs ys : List ℕ) → IsChecked input s xs → IsChecked input t ys → (s ≡ t) × AreOneCheck xs ys
-one_check input s t xs ys first second =
-    one_read_check first.1 second.1 s t xs ys (one_file_reading input first.1 second.1 first.2 second.2) first.3 second.3
 
 -- ---- searches
 
@@ -84,19 +69,10 @@ one_upgraded input s t xs ys first second =
 
 -- ---- tasks
 
--- what has one answer for each input within the limit has one beside the answer to an input that is too long
-one_of : (answers : Answering) (AreOne : List ℕ → List ℕ → Type 0) → ((xs ys : List ℕ) → xs ≡ ys → AreOne xs ys) → ((input : List ℕ) (s t : Status) (xs ys : List ℕ) → answers input s xs → answers input t ys → (s ≡ t) × AreOne xs ys) → ((input : List ℕ) (s : Status) (xs : List ℕ) → answers input s xs → length input ≤ input_limit) → (input : List ℕ) (s t : Status) (xs ys : List ℕ) → IsAnswerOf answers input s xs → IsAnswerOf answers input t ys → (s ≡ t) × AreOne xs ys
-one_of answers AreOne same one short input s t xs ys (inl first) (inl second) =
-    (first.1 ∙ sym second.1, same xs ys (first.2 ∙ sym second.2))
-one_of answers AreOne same one short input s t xs ys (inr first) (inr second) = one input s t xs ys first second
-one_of answers AreOne same one short input s t xs ys (inl first) (inr second) = absurd (omega (arith, first.0, short input t ys second))
-one_of answers AreOne same one short input s t xs ys (inr first) (inl second) = absurd (omega (arith, short input s xs first, second.0))
-
 -- a task has one answer for an input
 pub one_answer : (task : Option Task) (input : List ℕ) (s t : Status) (xs ys : List ℕ) → IsAnswer task input s xs → IsAnswer task input t ys → (s ≡ t) × AreOneText task xs ys
 one_answer None input s t xs ys first second = (first.0 ∙ sym second.0, first.1 ∙ sym second.1)
-one_answer (Some Check) input s t xs ys first second =
-    one_of IsChecked AreOneCheck (λ zs us e. inl e) one_check (λ i u zs is. is.0) input s t xs ys first second
+one_answer (Some Check) input s t xs ys first second = one_check input s t xs ys first second
 one_answer (Some (Prove depth)) input s t xs ys first second =
     one_of (IsSearched depth) (λ zs us. zs ≡ us) (λ zs us e. e) (one_searched depth) (λ i u zs is. is.0) input s t xs ys first second
 one_answer (Some Upgrade) input s t xs ys first second =

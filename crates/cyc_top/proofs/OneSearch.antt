@@ -19,7 +19,7 @@ use Rattle.search_moves.specs.Settings.{theory}
 use Rattle.search_moves.specs.Trying.{Theory}
 use Rattle.search_calculus.specs.Search.{calculus_of, search_system}
 use Rattle.found_files.specs.Files.{nodes_made}
-use Rattle.reading_laws.proofs.OneCheck.{one_some}
+use Rattle.reading_facts.proofs.OneCheck.{one_some}
 use Rattle.proof_search.specs.declared.prover.Proved.{Proved}
 use Rattle.proof_search.specs.declared.prover.Proved.TheVariants.{Found, NotFound, TooManyDerivations, TooManyStates}
 use Rattle.proof_search.specs.Outcomes.{outcome_of, reasons_of, search_for, IsProofFor, IsProved}
@@ -27,7 +27,8 @@ use Rattle.cyc_words.specs.declared.tasks.Task.TheVariants.{Check}
 use Rattle.cyc_runs.specs.declared.endings.Status.{Status}
 use Rattle.cyc_runs.specs.declared.endings.Status.TheVariants as status
 use Rattle.cyc_runs.specs.Runs.{input_limit}
-use Rattle.cyc_top.specs.Answers.{IsAnswer, IsSearch, derivation_limit, file_text, nodes_text, proved_status, proved_text}
+use Rattle.check_answers.specs.Answers.{nodes_text}
+use Rattle.cyc_top.specs.Answers.{IsAnswer, IsSearch, derivation_limit, file_text, proved_status, proved_text}
 use Rattle.list_facts.proofs.Places.{get_map}
 
 -- how a search with this outcome ends

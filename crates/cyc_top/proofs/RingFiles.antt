@@ -15,7 +15,8 @@ use Rattle.ring_family.proofs.Accepted.{ring_is_accepted, ring_links}
 use Rattle.ring_family.proofs.Correct.{nodes_long}
 use Rattle.ring_family.proofs.Readable.{nodes_again}
 use Rattle.proof_file.specs.Links.{is_link}
-use Rattle.cyc_top.specs.Answers.{file_text, link_count}
+use Rattle.check_answers.specs.Answers.{link_count}
+use Rattle.cyc_top.specs.Answers.{file_text}
 use Rattle.cyc_top.specs.Rings.{IsRing}
 
 -- the ring's file itself

@@ -20,10 +20,11 @@ use Rattle.cyc_runs.specs.declared.endings.Status.{Status}
 use Rattle.cyc_runs.specs.declared.endings.Status.TheVariants as status
 use Rattle.cyc_runs.specs.Endings.{is_answer}
 use Rattle.cyc_runs.specs.Runs.{input_limit}
-use Rattle.cyc_top.specs.Answers.{Answers, IsAcceptedToo, IsAnswer, IsReadAnswer, IsUpgradeAnswer, WroteAnswer, WroteUpgrade, file_text, nodes_text, verdict_status}
-use Rattle.reading_laws.specs.Alike.{AreAlike}
-use Rattle.cyc_top.proofs.OneVerdict.{same_verdict}
-use Rattle.reading_laws.proofs.Readings.{one_file_reading}
+use Rattle.check_answers.specs.Answers.{IsReadAnswer, nodes_text, verdict_status}
+use Rattle.cyc_top.specs.Answers.{Answers, IsAcceptedToo, IsAnswer, IsUpgradeAnswer, WroteAnswer, WroteUpgrade, file_text}
+use Rattle.reading_facts.specs.Alike.{AreAlike}
+use Rattle.check_answers.proofs.OneVerdict.{same_verdict}
+use Rattle.reading_facts.proofs.Files.{one_file_reading}
 use Rattle.cyc_runs.proofs.WaysToEnd.{fault_fails}
 use Rattle.cyc_top.proofs.Exact.{answer_for}
 

@@ -1,18 +1,15 @@
 -- The answer to a task, and what is written of it.
-use Rattle.std.specs.Prelude.{◌≡◌, ◌+◌, ◌*◌, ◌≤◌, ℕ, List, [], ◌∷◌, length, count_by, Option, Some, None, Result, Ok, Err, Bool, true}
+use Rattle.std.specs.Prelude.{◌≡◌, ◌+◌, ◌*◌, ◌≤◌, ℕ, List, length, Option, Some, None, Result, Ok, Err}
 use Rattle.std.specs.Io.KnownBytes.{Appends}
-use Rattle.cyc_texts.specs.Texts.{accepted_text, node_refused_text, path_refused_text, states_limit_text, derivations_limit_text, not_found_text, ring_text}
+use Rattle.cyc_texts.specs.Texts.{states_limit_text, derivations_limit_text, not_found_text, ring_text}
 use Rattle.cyc_lex.specs.declared.fault.ReadFault.{ReadFault}
-use Rattle.proof_file.specs.declared.node.FileNode.{FileNode}
 use Rattle.proof_file.specs.declared.file.ProofFile.{ProofFile}
-use Rattle.proof_check.specs.declared.verdict.Verdict.{Verdict}
-use Rattle.proof_check.specs.declared.verdict.Verdict.TheVariants.{Accepted, RuleRefused, PathRefused, TooManyStates}
 use Rattle.cyc_runs.specs.declared.endings.Status.{Status}
 use Rattle.cyc_runs.specs.declared.endings.Status.TheVariants as status
 use Rattle.cyc_runs.specs.Faults.{IsFaultAnswer}
 use Rattle.cyc_runs.specs.Runs.{Answering, AnswersTold, IsAnswerOf, IsTold, input_limit}
 use Rattle.cyc_runs.specs.Runs as runs
-use Rattle.reading_laws.specs.Alike.{AreOneCheck}
+use Rattle.reading_facts.specs.Alike.{AreOneCheck}
 use Rattle.derivation_search.specs.declared.TheConstants.{DERIVATION_LIMIT}
 use Rattle.cyc_words.specs.declared.tasks.Task.{Task}
 use Rattle.cyc_words.specs.declared.tasks.Task.TheVariants.{Check, Prove, Ring, Upgrade, Sat, Model, Disprove, FirstOrderProve, FirstOrderCheck}
@@ -39,64 +36,15 @@ use Rattle.proof_search.specs.declared.prover.Proved.{Proved}
 use Rattle.proof_search.specs.declared.prover.Proved.TheVariants.{Found, NotFound, TooManyDerivations}
 use Rattle.proof_search.specs.declared.prover.Proved.TheVariants as answers
 use Rattle.proof_search.specs.Outcomes.{outcome_of, search_for, IsProved}
-use Rattle.proof_file.specs.Links.{is_link}
 use Rattle.proof_file.specs.Reading.{IsRead}
-use Rattle.proof_check.specs.Verdicts.{IsCorrect, IsVerdict, RootHolds}
-use Rattle.file_reader.specs.Stages.{Parts, FileFrom}
-use Rattle.file_reader.specs.Pieces.{bytes_fed}
-
--- ---- the verdicts of a check
-
--- the node is a link
-abbrev pub is_link_node : FileNode → Bool
-is_link_node node = is_link node.reason
-
--- how many of the nodes are links
-abbrev pub link_count : List FileNode → ℕ
-link_count nodes = count_by is_link_node nodes
-
--- the line for a proof of these nodes that is right
-abbrev pub nodes_text : List FileNode → List ℕ
-nodes_text [] = []
-nodes_text (root ∷ nodes) = accepted_text root.judgement (length (root ∷ nodes)) (link_count (root ∷ nodes))
-
--- how a check with this verdict ends
-abbrev pub verdict_status : Verdict → Status
-verdict_status Accepted = status.Success
-verdict_status (RuleRefused node fault) = status.Refused
-verdict_status (PathRefused lasso) = status.Refused
-verdict_status TooManyStates = status.Limit
-
--- the line for a verdict on these nodes
-abbrev pub verdict_text : List FileNode → Verdict → List ℕ
-verdict_text nodes Accepted = nodes_text nodes
-verdict_text nodes (RuleRefused node fault) = node_refused_text node fault
-verdict_text nodes (PathRefused lasso) = path_refused_text lasso
-verdict_text nodes TooManyStates = states_limit_text
+use Rattle.proof_check.specs.Verdicts.{IsCorrect, RootHolds}
+use Rattle.check_answers.specs.Answers.{IsChecked, ToldFileOf}
 
 -- ---- files as text
 
 -- what is written of a file
 abbrev pub file_text : ProofFile → List ℕ
 file_text f = text_of_file f.version f.defs.list f.program f.nodes
-
--- ---- answers
-
--- a check that read its input so is answered so; out of memory is no fault of the input
-abbrev pub IsReadAnswer : Result ProofFile ReadFault → Status → List ℕ → Type 0
-IsReadAnswer (Ok file) ending text =
-    (verdict : Verdict) × IsVerdict file verdict × (ending ≡ verdict_status verdict) × (text ≡ verdict_text file.nodes verdict)
-IsReadAnswer (Err fault) ending text = IsFaultAnswer fault ending text
-
--- the input is read, and answered so
-abbrev pub IsChecked : List ℕ → Status → List ℕ → Type 0
-IsChecked input ending text =
-    (length input ≤ input_limit) × (read : Result ProofFile ReadFault) × IsRead input read × IsReadAnswer read ending text
-
--- the text that a reader, which holds this of it, reads with this rest is answered so
-abbrev pub IsCheckedFrom : Parts → List ℕ → Status → List ℕ → Type 0
-IsCheckedFrom held rest ending text =
-    (bytes_fed held + length rest ≤ input_limit) × (read : Result ProofFile ReadFault) × FileFrom held rest read × IsReadAnswer read ending text
 
 -- ---- the answers of the prover
 
@@ -181,11 +129,7 @@ WroteAnswer task = runs.WroteAnswer (IsAnswer task)
 abbrev pub WrotePart : Option Task → Option (List ℕ) → Option (List ℕ) → Option (List ℕ) → Type 0
 WrotePart task = runs.WrotePart (IsAnswer task)
 
--- some input, which is the one that was told, spells a file of which this is true
-abbrev pub ToldFileOf : (ProofFile → Type 0) → Option (List ℕ) → Type 0
-ToldFileOf Has told = (input : List ℕ) × IsTold told input × ((file : ProofFile) × IsRead input (Ok file) × Has file)
-
--- the same of a model
+-- some input, which is the one that was told, spells a model of which this is true
 abbrev pub ToldModelOf : (formats.Model → Type 0) → Option (List ℕ) → Type 0
 ToldModelOf Has told = (input : List ℕ) × IsTold told input × ((model : formats.Model) × models.IsRead input (Ok model) × Has model)
 

@@ -28,11 +28,11 @@ mod laws;
 mod rings;
 mod searches;
 mod upgrades;
-mod verdicts;
 
+use check_answers::check_input;
 use cyc_io::{Sink, Source};
 pub use cyc_runs::Status;
-use cyc_runs::{fixed_answer, give_made, run_in_pieces, run_over};
+use cyc_runs::{fixed_answer, give_made, run_over};
 use cyc_words::{Task, USAGE, task_of};
 use disprove_answers::Disprover;
 use fo_answers::{FirstOrderChecker, FirstOrderProver};
@@ -43,7 +43,6 @@ use sat_answers::Satisfier;
 use searches::Prover;
 use std::alloc::Global;
 use upgrades::Upgrader;
-use verdicts::Checker;
 
 // Does what a task asks for, or says which words have a meaning.
 fn run_task<S: Source, K: Sink>(
@@ -69,7 +68,7 @@ fn run_task<S: Source, K: Sink>(
     ensures unread { reads_input task ≡ false → src.new ≡ src.old }
 {
     match task {
-        Some(Task::Check) => run_in_pieces(alloc, Checker::new(alloc), src, out),
+        Some(Task::Check) => check_input(alloc, src, out),
         Some(Task::Prove(depth)) => run_over(alloc, &Prover::new(depth), src, out),
         Some(Task::Upgrade) => run_over(alloc, &Upgrader, src, out),
         Some(Task::Sat) => run_over(alloc, &Satisfier, src, out),

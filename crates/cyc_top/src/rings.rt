@@ -3,7 +3,7 @@ ghost use Rattle.std.specs.Prelude.{◌≡◌, ◌≤◌, ◌+◌, ◌*◌, IfOk
 ghost use Rattle.cyc_texts.specs.Texts.{ring_text};
 ghost use Rattle.cyc_top.specs.Rings.{IsRing};
 
-use crate::verdicts::links_of;
+use check_answers::links_of;
 use cyc_lex::ReadFault;
 use cyc_memory::OutOfMemory;
 use cyc_runs::{Answer, Status};

@@ -24,8 +24,8 @@ use Rattle.cyc_runs.specs.declared.endings.Status.TheVariants.{Success, Refused,
 use Rattle.cyc_runs.specs.Faults.{fault_status}
 use Rattle.cyc_runs.specs.Runs.{input_limit}
 use Rattle.cyc_runs.proofs.WaysToEnd.{fault_fails, fault_is_no_refusal}
-use Rattle.reading_laws.specs.Alike.{AreAlike}
-use Rattle.reading_laws.proofs.OneFault.{one_fault_answer}
+use Rattle.reading_facts.specs.Alike.{AreAlike}
+use Rattle.reading_facts.proofs.OneFault.{one_fault_answer}
 use Rattle.reading_laws.proofs.Readings.{one_problem_reading}
 use Rattle.disprove_answers.specs.Answers.{IsSearched, HasNone, IsWideAnswer, IsPlaceAnswer, IsNoneAnswer, IsModelFile, IsEntailmentAnswer, IsGoalAnswer, IsReadAnswer, IsDisproved, IsRefuted, HasNoCounter, OnEntailment}
 use Rattle.disprove_answers.proofs.Answered.{goal_universal}

@@ -14,9 +14,9 @@ use Rattle.fo_logic.specs.declared.verdict.FoVerdict.{FoVerdict}
 use Rattle.fo_logic.specs.declared.verdict.FoVerdict.TheVariants.{Accepted, RuleRefused, PathRefused, TooManyStates}
 use Rattle.fo_logic.specs.Verdicts.{file_graph, state_limit, HasRightNodes, IsCorrect, IsLeastFault, IsVerdict, RootHolds}
 use Rattle.fo_file.specs.Reading.{IsRead}
-use Rattle.reading_laws.specs.Alike.{AreAlike, AreOneCheck}
-use Rattle.reading_laws.proofs.OneCheck.{none_some, one_node, one_node_fault, said_one}
-use Rattle.reading_laws.proofs.OneFault.{one_fault_answer}
+use Rattle.reading_facts.specs.Alike.{AreAlike, AreOneCheck}
+use Rattle.reading_facts.proofs.OneCheck.{none_some, one_node, one_node_fault, said_one}
+use Rattle.reading_facts.proofs.OneFault.{one_fault_answer}
 use Rattle.reading_laws.proofs.Readings.{one_proof_reading}
 use Rattle.fo_answers.specs.Answers.{IsFirstOrderChecked, IsReadAnswer, IsSaid, node_refused_text, verdict_status, verdict_text}
 

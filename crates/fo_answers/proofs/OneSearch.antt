@@ -20,9 +20,9 @@ use Rattle.fo_file.proofs.Readings.{text-is-read}
 use Rattle.fo_search.specs.declared.prover.FoProved.{FoProved}
 use Rattle.fo_search.specs.declared.prover.FoProved.TheVariants.{Found, NotFound, TooManyDerivations, TooManyStates}
 use Rattle.fo_search.specs.Outcomes.{search_for, reasons_of, outcome_of, IsProofFor, IsProved}
-use Rattle.reading_laws.specs.Alike.{AreAlike}
-use Rattle.reading_laws.proofs.OneCheck.{one_some}
-use Rattle.reading_laws.proofs.OneFault.{one_fault_answer}
+use Rattle.reading_facts.specs.Alike.{AreAlike}
+use Rattle.reading_facts.proofs.OneCheck.{one_some}
+use Rattle.reading_facts.proofs.OneFault.{one_fault_answer}
 use Rattle.reading_laws.proofs.Readings.{one_question_reading}
 use Rattle.fo_answers.specs.Answers.{IsFirstOrderChecked, accepted_text, link_count}
 use Rattle.fo_answers.specs.Searches.{proved_status, proved_text, HasText, IsSearch, IsSearchSaid, IsSearchAnswer, IsFirstOrderSearched}

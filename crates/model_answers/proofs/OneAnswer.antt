@@ -13,8 +13,8 @@ use Rattle.cyc_runs.specs.declared.endings.Status.{Status}
 use Rattle.cyc_runs.specs.declared.endings.Status.TheVariants.{Success, Refused, IllFormed}
 use Rattle.cyc_runs.specs.Runs.{input_limit}
 use Rattle.cyc_runs.proofs.WaysToEnd.{fault_fails, fault_is_no_refusal}
-use Rattle.reading_laws.specs.Alike.{AreAlike}
-use Rattle.reading_laws.proofs.OneFault.{one_fault_answer}
+use Rattle.reading_facts.specs.Alike.{AreAlike}
+use Rattle.reading_facts.proofs.OneFault.{one_fault_answer}
 use Rattle.reading_laws.proofs.Readings.{one_model_reading}
 use Rattle.model_answers.specs.Answers.{IsSatisfying, IsSaid, IsModelAnswer, IsReadAnswer, IsModelled, place_text}
 

@@ -1,4 +1,1 @@
-pub mod OneCheck
-pub mod OneFault
-pub mod OneReading
 pub mod Readings

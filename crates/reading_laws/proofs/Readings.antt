@@ -1,16 +1,12 @@
--- Each format is read in one way.
+-- Each of the other formats is read in one way.
 use Rattle.std.proofs.Common.{◌≡◌, ◌∙◌, ℕ, List, Result, sym}
 use Rattle.cyc_lex.specs.declared.fault.ReadFault.{ReadFault}
-use Rattle.proof_syntax.proofs.GrammarLaws.{file-law}
 use Rattle.problem_syntax.proofs.ProblemLaws.{problem-law}
 use Rattle.model_syntax.proofs.ModelLaws.{model-law}
 use Rattle.fo_problem_syntax.specs.Trees.{Problem as QuestionTree}
 use Rattle.fo_problem_syntax.proofs.TheoryLaws as question_laws
 use Rattle.fo_proof_syntax.specs.Trees.{File}
 use Rattle.fo_proof_syntax.proofs.ProofLaws as first_order_laws
-use Rattle.proof_file.specs.declared.file.ProofFile.{ProofFile}
-use Rattle.proof_file.specs.Reading as files
-use Rattle.proof_file.proofs.Readings.{one_file}
 use Rattle.formula_reader.specs.declared.problem.Problem.{Problem}
 use Rattle.formula_reader.specs.Reading as problems
 use Rattle.formula_reader.proofs.Readings.{one_problem}
@@ -20,11 +16,8 @@ use Rattle.model_file.proofs.Readings.{one_model}
 use Rattle.fo_formula.specs.declared.nodes.FoFile.{FoFile}
 use Rattle.fo_values.specs.declared.problem.FoProblem.{FoProblem}
 use Rattle.fo_file.specs.Reading as first_order
-use Rattle.reading_laws.specs.Alike.{AreAlike}
-use Rattle.reading_laws.proofs.OneReading.{one_reading}
-
-pub one_file_reading : (bytes : List ℕ) (r s : Result ProofFile ReadFault) → files.IsRead bytes r → files.IsRead bytes s → AreAlike files.AreSame r s
-one_file_reading = one_reading files.proof_files file-law files.AreSame one_file
+use Rattle.reading_facts.specs.Alike.{AreAlike}
+use Rattle.reading_facts.proofs.OneReading.{one_reading}
 
 pub one_problem_reading : (bytes : List ℕ) (r s : Result Problem ReadFault) → problems.IsRead bytes r → problems.IsRead bytes s → AreAlike problems.AreSame r s
 one_problem_reading = one_reading problems.problems problem-law problems.AreSame one_problem

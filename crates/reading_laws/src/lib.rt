@@ -12,7 +12,7 @@ ghost use Rattle.model_file.specs.Reading as models;
 ghost use Rattle.fo_formula.specs.declared.nodes.FoFile.{FoFile};
 ghost use Rattle.fo_values.specs.declared.problem.FoProblem.{FoProblem};
 ghost use Rattle.fo_file.specs.Reading as first_order;
-ghost use Rattle.reading_laws.specs.Alike.{AreAlike};
+ghost use Rattle.reading_facts.specs.Alike.{AreAlike};
 
 /// Two readings of a text as a proof file give the same file, or one fault.
 pub fn proof_files_are_read_in_one_way()

@@ -11,8 +11,8 @@ use Rattle.cyc_runs.specs.declared.endings.Status.{Status}
 use Rattle.cyc_runs.specs.declared.endings.Status.TheVariants.{Success, Refused, Limit}
 use Rattle.cyc_runs.proofs.WaysToEnd.{fault_fails, fault_is_no_refusal}
 use Rattle.sat_answers.specs.Answers.{IsAsked, IsPairsAnswer, IsPossible, IsReadAnswer, IsSaid, pair_limit}
-use Rattle.reading_laws.specs.Alike.{AreAlike}
-use Rattle.reading_laws.proofs.OneFault.{one_fault_answer}
+use Rattle.reading_facts.specs.Alike.{AreAlike}
+use Rattle.reading_facts.proofs.OneFault.{one_fault_answer}
 use Rattle.reading_laws.proofs.Readings.{one_problem_reading}
 
 module _ (p q : Problem) (same : problems.AreSame p q) where

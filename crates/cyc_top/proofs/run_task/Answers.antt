@@ -8,21 +8,14 @@ use Rattle.cyc_runs.specs.Runs as runs
 use Rattle.disprove_answers.specs.Answers.{IsDisproved}
 use Rattle.fo_answers.specs.Searches.{IsFirstOrderSearched}
 use Rattle.cyc_top.specs.Answers.{IsSearched}
-use Rattle.cyc_top.proofs.InPieces.{fresh_part, fresh_wrote}
 use Rattle.cyc_top.proofs.Told.{answer_as, both_ok, part_as, ring_part, ring_wrote, task_is, usage_part, usage_wrote}
 use Rattle.cyc_top.proofs.run_task.Goals as goal
-
-pub returns-in-Some-Check-clause-answered : goal.returns-in-Some-Check-clause-answered
-returns-in-Some-Check-clause-answered g c =
-    λ a.
-    answer_as _ _ _ _ _ _ (task_is c.args.task c.in-Some-Check.field-0 Check c.in-Some-Check.is (rw c.in-Some-Check.is at c.in-Some-Check.field-0-is))
-    (fresh_wrote _ _ _ _ _ c.new.ensures (c.run_in_pieces.ensures.answered a))
 
 pub returns-in-Some-Check-clause-write_fault : goal.returns-in-Some-Check-clause-write_fault
 returns-in-Some-Check-clause-write_fault g c =
     λ e.
-    let wrote = c.run_in_pieces.ensures.write_fault e in
-    (wrote.0, part_as _ _ _ _ _ (task_is c.args.task c.in-Some-Check.field-0 Check c.in-Some-Check.is (rw c.in-Some-Check.is at c.in-Some-Check.field-0-is)) (fresh_part _ _ _ _ c.new.ensures wrote.1))
+    let wrote = c.check_input.ensures.write_fault e in
+    (wrote.0, part_as _ _ _ _ _ (task_is c.args.task c.in-Some-Check.field-0 Check c.in-Some-Check.is (rw c.in-Some-Check.is at c.in-Some-Check.field-0-is)) wrote.1)
 
 pub returns-in-Some-Prove-clause-write_fault : goal.returns-in-Some-Prove-clause-write_fault
 returns-in-Some-Prove-clause-write_fault g c =

@@ -1,7 +1,7 @@
 use Rattle.std.proofs.Common.{◌≡◌, ◌∙◌, ap, subst, length}
 use Rattle.std.specs.Prelude.{IfOk}
 use Rattle.cyc_texts.specs.Texts.{ring_text}
-use Rattle.cyc_top.specs.Answers.{link_count}
+use Rattle.check_answers.specs.Answers.{link_count}
 use Rattle.cyc_top.proofs.RingFiles.{ring_node_count, ring_link_count}
 use Rattle.cyc_top.proofs.rings.accepted_ring.Goals as goal
 

@@ -14,9 +14,9 @@ use Rattle.proof_check.specs.declared.verdict.Verdict.{Verdict}
 use Rattle.proof_check.specs.declared.verdict.Verdict.TheVariants.{Accepted, RuleRefused, PathRefused, TooManyStates}
 use Rattle.proof_check.specs.Files.{AreRight, graph_of, nodes_of}
 use Rattle.proof_check.specs.Verdicts.{file_graph, state_limit, HasRightNodes, IsLeastFault, IsVerdict, RootHolds}
-use Rattle.reading_laws.specs.Alike.{AreOneCheck}
-use Rattle.reading_laws.proofs.OneCheck.{none_some, one_node, one_node_fault}
-use Rattle.cyc_top.specs.Answers.{verdict_status, verdict_text}
+use Rattle.reading_facts.specs.Alike.{AreOneCheck}
+use Rattle.reading_facts.proofs.OneCheck.{none_some, one_node, one_node_fault}
+use Rattle.check_answers.specs.Answers.{verdict_status, verdict_text}
 
 -- ---- files that say the same have the same verdicts
 

@@ -3,7 +3,7 @@ ghost use Rattle.std.specs.Prelude.{◌≡◌, ◌<◌, length, IfOk, true};
 ghost use Rattle.cyc_runs.specs.Endings.{is_answer};
 ghost use Rattle.file_reader.specs.Stages.{fresh};
 ghost use Rattle.proof_file.specs.Links.{is_link as links};
-ghost use Rattle.cyc_top.specs.Answers.{link_count, nodes_text, verdict_status, verdict_text};
+ghost use Rattle.check_answers.specs.Answers.{link_count, nodes_text, verdict_status, verdict_text};
 
 use cyc_memory::OutOfMemory;
 use cyc_runs::{Answer, PiecewiseTool, Status, answer_to_fault, fixed_answer};
@@ -88,7 +88,7 @@ impl Checker {
 
 impl PiecewiseTool for Checker {
     ghost use Rattle.file_reader.specs.Pieces.{bytes_fed};
-    ghost use Rattle.cyc_top.specs.Answers.{IsCheckedFrom};
+    ghost use Rattle.check_answers.specs.Answers.{IsCheckedFrom};
 
     ghost answers = { λ checker. IsCheckedFrom checker.reader };
 

@@ -9,8 +9,8 @@ use Rattle.cyc_grammar.proofs.Laws.{Lawful}
 use Rattle.heap_reader.specs.declared.flaw.Item.TheVariants.{Ill, Over}
 use Rattle.heap_reader.specs.Reading.{Format, IsLexFault, IsRead, IsReadFrom}
 use Rattle.heap_reader.proofs.Readings.{no_tokens, ok_tokens, no_syntax_fault, no_flaw, one_flaw, one_value}
-use Rattle.reading_laws.specs.Alike.{AreAlike}
-use Rattle.reading_laws.proofs.OneFault.{one_first_flaw, one_lex_fault, one_syntax_fault}
+use Rattle.reading_facts.specs.Alike.{AreAlike}
+use Rattle.reading_facts.proofs.OneFault.{one_first_flaw, one_lex_fault, one_syntax_fault}
 
 module _ {T V : Type 0} (format : Format T V) (law : Lawful format.syntax) (Same : V → V → Type 0) (says_one : (t : T) (v w : V) → format.Says t v → format.Says t w → Same v w) where
   -- a place without a token, or what the tokens say

@@ -20,7 +20,7 @@ use Rattle.heap_reader.specs.declared.flaw.Item.{Item}
 use Rattle.heap_reader.specs.declared.flaw.Item.TheVariants.{Ill, Over}
 use Rattle.heap_reader.specs.Reading.{Format, HasFlaw, IsLexFault}
 use Rattle.heap_reader.proofs.Readings.{same_tree}
-use Rattle.reading_laws.proofs.OneCheck.{one_some}
+use Rattle.reading_facts.proofs.OneCheck.{one_some}
 use Rattle.cyc_runs.specs.declared.endings.Status.{Status}
 use Rattle.cyc_runs.specs.Faults.{IsFaultAnswer, fault_status, fault_text}
 

@@ -1,6 +1,6 @@
 use Rattle.std.proofs.Common.{◌≡◌, ◌+◌, ◌≤◌, drop}
-use Rattle.cyc_top.specs.Answers.{link_count}
-use Rattle.cyc_top.proofs.verdicts.links_of.Given as goal
+use Rattle.check_answers.specs.Answers.{link_count}
+use Rattle.check_answers.proofs.verdicts.links_of.Given as goal
 
 -- The links so far and those that are left.
 abbrev pub invariant-loop-node : goal.invariant-loop-node

@@ -1,0 +1,4 @@
+pub mod Alone
+pub mod Checks
+pub mod InPieces
+pub mod OneVerdict

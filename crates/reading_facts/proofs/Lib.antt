@@ -1,0 +1,5 @@
+pub mod Files
+pub mod OneAnswer
+pub mod OneCheck
+pub mod OneFault
+pub mod OneReading
