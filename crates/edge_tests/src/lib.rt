@@ -2,10 +2,10 @@
 #![tactic(auto)]
 
 #[cfg(test)]
+mod check_answers_tests;
+#[cfg(test)]
 mod cyc_io_tests;
 #[cfg(test)]
 mod cyc_texts_tests;
-#[cfg(test)]
-mod cyc_top_tests;
 #[cfg(test)]
 mod cyc_words_tests;

@@ -1,7 +1,6 @@
 //! Runs against sources and sinks in memory, of which a call fails.
+use check_answers::run;
 use cyc_io::{MemSink, MemSource, PlainSink, PlainSource, StdSource};
-use cyc_top::run;
-use std::alloc::Global;
 use std::test::Fail;
 
 // The proof that two list segments compose.
@@ -10,19 +9,10 @@ const FILE: &[u8] =
 
 const ACCEPTED: &str = "accepted entailment nodes 8 links 1\n";
 
-fn words_of(alloc: Global, line: &str) -> Result<Vec<String>, Fail> {
-    let mut words = Vec::new(alloc);
-    for word in line.split_whitespace() {
-        words.push(String::from_str(alloc, word)?)?;
-    }
-    Ok(words)
-}
-
 // The line has 36 bytes, and a call takes ten.
 #[test]
 fn a_sink_that_fails_at_a_call(rt: HostRuntime) -> Result<(), Fail> {
     let alloc = rt.alloc();
-    let words = words_of(alloc, "check")?;
     for (call, written, code, faults) in [
         (1, 0, 8, 1),
         (2, 10, 8, 1),
@@ -32,7 +22,7 @@ fn a_sink_that_fails_at_a_call(rt: HostRuntime) -> Result<(), Fail> {
     ] {
         let mut src = PlainSource::new(Vec::from_slice(alloc, FILE)?, 100);
         let mut out = MemSink::new(alloc, 1000, 10, vec![in alloc; call]?)?;
-        let status = run(alloc, words.as_slice(), &mut src, &mut out);
+        let status = run(alloc, &[], &mut src, &mut out);
         assert_eq!(rt; status.code(), code, "at call {call}");
         assert_eq!(rt; out.written().len(), written, "at call {call}");
         assert!(rt; ACCEPTED.as_bytes().starts_with(out.written()));
@@ -45,12 +35,11 @@ fn a_sink_that_fails_at_a_call(rt: HostRuntime) -> Result<(), Fail> {
 #[test]
 fn a_source_that_fails_at_a_call(rt: HostRuntime) -> Result<(), Fail> {
     let alloc = rt.alloc();
-    let words = words_of(alloc, "check")?;
     for call in 1..=10 {
         let (written, code, faults) = if call < 10 { (0, 7, 1) } else { (36, 0, 0) };
         let mut src = MemSource::new(Vec::from_slice(alloc, FILE)?, 100, vec![in alloc; call]?);
         let mut out = PlainSink::new(alloc, 1000, 1)?;
-        let status = run(alloc, words.as_slice(), &mut src, &mut out);
+        let status = run(alloc, &[], &mut src, &mut out);
         assert_eq!(rt; status.code(), code, "at call {call}");
         assert_eq!(rt; out.written().len(), written, "at call {call}");
         assert_eq!(rt; src.faults(), faults, "at call {call}");
@@ -62,13 +51,12 @@ fn a_source_that_fails_at_a_call(rt: HostRuntime) -> Result<(), Fail> {
 #[test]
 fn a_source_that_fails_after_a_fault_of_the_text(rt: HostRuntime) -> Result<(), Fail> {
     let alloc = rt.alloc();
-    let words = words_of(alloc, "check")?;
     for call in 1..=12 {
         let (written, code, faults) = if call < 12 { (0, 7, 1) } else { (42, 3, 0) };
         let bytes = vec![in alloc; b'('; 20]?;
         let mut src = MemSource::new(bytes, 2, vec![in alloc; call]?);
         let mut out = PlainSink::new(alloc, 1000, 1)?;
-        let status = run(alloc, words.as_slice(), &mut src, &mut out);
+        let status = run(alloc, &[], &mut src, &mut out);
         assert_eq!(rt; status.code(), code, "at call {call}");
         assert_eq!(rt; out.written().len(), written, "at call {call}");
         assert_eq!(rt; src.faults(), faults, "at call {call}");
@@ -133,11 +121,10 @@ static TEXTS: &[(&[u8], u8, &str)] = &[
 #[test]
 fn sources_of_single_bytes(rt: HostRuntime) -> Result<(), Fail> {
     let alloc = rt.alloc();
-    let words = words_of(alloc, "check")?;
     for (text, code, line) in TEXTS {
         let mut src = PlainSource::new(Vec::from_slice(alloc, text)?, 1);
         let mut out = PlainSink::new(alloc, 1000, 3)?;
-        let status = run(alloc, words.as_slice(), &mut src, &mut out);
+        let status = run(alloc, &[], &mut src, &mut out);
         assert_eq!(rt; status.code(), *code, "at {line}");
         let written = out.written().strip_suffix(b"\n".as_slice());
         assert!(rt; written == Some(line.as_bytes()), "at {line}");
@@ -149,13 +136,12 @@ fn sources_of_single_bytes(rt: HostRuntime) -> Result<(), Fail> {
 #[test]
 fn a_token_in_two_pieces(rt: HostRuntime) -> Result<(), Fail> {
     let alloc = rt.alloc();
-    let words = words_of(alloc, "check")?;
     for spaces in [65_533, 65_527, 65_500, 65_001, 64_900] {
         let mut input: Vec<u8> = vec![in alloc; b' '; spaces]?;
         input.extend_from_slice(FILE)?;
         let mut src = StdSource::new(input.as_slice());
         let mut out = PlainSink::new(alloc, 1000, 1000)?;
-        let status = run(alloc, words.as_slice(), &mut src, &mut out);
+        let status = run(alloc, &[], &mut src, &mut out);
         assert_eq!(rt; status.code(), 0, "after {spaces} spaces");
         assert!(rt;
             out.written() == ACCEPTED.as_bytes(),
