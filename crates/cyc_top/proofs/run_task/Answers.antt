@@ -21,7 +21,7 @@ pub returns-in-Some-Prove-clause-write_fault : goal.returns-in-Some-Prove-clause
 returns-in-Some-Prove-clause-write_fault g c =
     λ e.
     let wrote = c.run_over.ensures.write_fault e in
-    (wrote.0, part_as _ _ _ _ _ (task_is c.args.task c.in-Some-Prove.field-0 (Prove c.in-Some-Prove.depth) c.in-Some-Prove.is (rw c.in-Some-Prove.is at c.in-Some-Prove.field-0-is)) (subst (λ d. runs.WrotePart (IsAnswerOf (IsSearched d)) (g.S.Source.left c.args.src.now) (g.K.Sink.written c.args.out.now) (g.K.Sink.written c.run_over.new.out)) c.new-in-Some-Prove.ensures wrote.1))
+    (wrote.0, part_as _ _ _ _ _ (task_is c.args.task c.in-Some-Prove.field-0 (Prove c.in-Some-Prove.depth) c.in-Some-Prove.is (rw c.in-Some-Prove.is at c.in-Some-Prove.field-0-is)) (subst (λ d. runs.WrotePart (IsAnswerOf (IsSearched d)) (g.S.Source.left c.args.src.now) (g.K.Sink.written c.args.out.now) (g.K.Sink.written c.run_over.new.out)) c.new.ensures wrote.1))
 
 pub returns-in-Some-Upgrade-clause-write_fault : goal.returns-in-Some-Upgrade-clause-write_fault
 returns-in-Some-Upgrade-clause-write_fault g c =
