@@ -1,5 +1,5 @@
 -- A task has one answer for each input: one status, and one text but for the lasso that a check names.
-use Rattle.std.proofs.Common.{◌≡◌, ℕ, ◌≤◌, List, ap, sym, ◌∙◌, arith, inl, inr, length, Option, Some, None}
+use Rattle.std.proofs.Common.{◌≡◌, ℕ, List, sym, ◌∙◌, inl, Option, Some, None}
 use Rattle.std.specs.Prelude.{Result, Ok, Err}
 use Rattle.cyc_lex.specs.declared.fault.ReadFault.{ReadFault}
 use Rattle.formula_reader.specs.declared.problem.Problem.{Problem}
@@ -11,7 +11,6 @@ use Rattle.proof_file.specs.Written.{text_of_file}
 use Rattle.cyc_words.specs.declared.tasks.Task.{Task}
 use Rattle.cyc_words.specs.declared.tasks.Task.TheVariants.{Check, Prove, Ring, Upgrade, Sat, Model, Disprove, FirstOrderProve, FirstOrderCheck}
 use Rattle.cyc_runs.specs.declared.endings.Status.{Status}
-use Rattle.cyc_runs.specs.Runs.{Answering, IsAnswerOf, input_limit}
 use Rattle.reading_facts.specs.Alike.{AreAlike, AreOneCheck}
 use Rattle.reading_facts.proofs.OneAnswer.{one_of}
 use Rattle.reading_facts.proofs.OneFault.{one_fault_answer}
