@@ -183,8 +183,8 @@ module _ (ds : List Definition) (n : ℕ) (t : Findings) where
 
 pub all_among : (ds : List Definition) (n : ℕ) (t0 t1 t2 : Findings) (asked grown : Bool) (s : Stack) (a : SymbolicHeap) (xs : List Spatial) (heaps : List Cells) → AreConstructive ds → AreAtMost n s → IsUniversalHeap a → asked ≡ false → grown ≡ false → xs ≡ a.spatial → UnlessGrown asked t0 t1 ((h : Cells) → SpatialHolds (λ _. found_if_asked n t0) s [] xs h → IsAmong n heaps h) → UnlessGrown grown t1 t2 ((q : ℕ) → IsSettled ds n t1 q) → (h : Cells) → IsWithin n h → Satisfies ds s h a → IsAmong n heaps h
 all_among ds n t0 t1 t2 asked grown s a xs heaps k z u ae ge xe f g h w x =
-    let first = f ae in
-    let settled = subst (λ (t : Findings). (q : ℕ) → IsSettled ds n t q) first.0 (g ge).1 in
+    let first = f.settled ae in
+    let settled = subst (λ (t : Findings). (q : ℕ) → IsSettled ds n t q) first.0 (g.settled ge).1 in
     first.1 h (subst (λ ys. SpatialHolds (λ _. found_if_asked n t0) s [] ys h) (sym xe) (asked_found ds n t0 k settled s h a z w u x))
 
 pub not_both : (b : Bool) → b ≡ true → b ≡ false → ⊥

@@ -1,5 +1,6 @@
 -- The heaps found so far of which predicates may hold, and when all are found.
-use Rattle.std.specs.Prelude.{◌≡◌, ℕ, List, [], Bool, false, Option, Some, None, length, slice_get}
+use Rattle.std.specs.Prelude.{◌≡◌, ◌<◌, ◌+◌, ℕ, List, [], Bool, true, false, Option, Some, None, length, slice_get}
+use Rattle.std.specs.List.{sum_by}
 use Rattle.heap_formula.specs.Symbolic.{SymbolicHeap}
 use Rattle.heap_formula.specs.Definitions.{Definition}
 use Rattle.heap_formula.specs.Fresh.{heap_exists}
@@ -50,6 +51,16 @@ TakesAtom n t s e parts x heaps =
     (h : Cells) → Star (IsAmong n parts) (AtomHolds (found_if_asked n t) s e x) h
     → IsAmong n heaps h
 
--- a step that found nothing has left all as it was, and P holds
-abbrev pub UnlessGrown : Bool → Findings → Findings → Type 0 → Type 0
-UnlessGrown grown old new P = grown ≡ false → (new ≡ old) × P
+-- how many questions are asked and heaps found
+abbrev pub size : Findings → ℕ
+size t = length t.questions + sum_by length t.found
+
+-- a step that found nothing has left all as it was, and P holds; any other has added something
+pub record UnlessGrown (grown : Bool) (old new : Findings) (P : Type 0) : Type 0 where
+  pub settled : grown ≡ false → (new ≡ old) × P
+  pub larger : grown ≡ true → size old < size new
+
+-- up to the address n the heap is found for question q now, and was not before
+pub record IsNewlyFound (n : ℕ) (old new : Findings) (q : ℕ) (h : Cells) : Type 0 where
+  pub before : IsFound n old q h → ⊥
+  pub after : IsFound n new q h

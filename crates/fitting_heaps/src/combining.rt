@@ -54,7 +54,8 @@ impl Heaps {
 
 /// Whether one of the heaps has the cells of this one, up to the greatest address.
 pub fn has_heap(greatest: u32, heaps: &[Cells], heap: &Cells) -> bool
-    ensures { (h : SomeHeap) → IsTrue result → IsAmong greatest (heap.now ∷ []) h → IsAmong greatest heaps.now h }
+    ensures found { (h : SomeHeap) → IsTrue result → IsAmong greatest (heap.now ∷ []) h → IsAmong greatest heaps.now h }
+    ensures missed { IsAmong greatest heaps.now heap.now → IsTrue result }
 {
     for known in heaps {
         if is_same(greatest, known, heap) {

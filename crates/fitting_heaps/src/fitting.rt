@@ -27,7 +27,7 @@ pub fn is_universal(heap: &Heap) -> bool
     exists_in_heap(heap) == 0
 }
 
-/// Turns are taken until one finds nothing new; so many as there are numbers do not fit in memory.
+/// Turns are taken until one finds nothing new. Each one before it has added something to the table.
 fn fitting(
     alloc: Global,
     defs: &Defs,
@@ -52,7 +52,7 @@ fn fitting(
             return Ok(heaps);
         }
     }
-    Err(OutOfMemory)
+    Err(table.does_not_fit())
 }
 
 /// Adds the cells of a heap up to the greatest address, if the fields are not above it.

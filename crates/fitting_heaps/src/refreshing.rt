@@ -15,19 +15,13 @@ use pred_defs::Defs;
 use std::alloc::Global;
 
 /// Adds the heaps to those found for a question, and says whether one is new.
-fn add_all(
-    alloc: Global,
-    greatest: u32,
-    table: &mut Table,
-    q: usize,
-    heaps: &[Cells],
-) -> Result<bool, OutOfMemory>
+fn add_all(greatest: u32, table: &mut Table, q: usize, heaps: &[Cells]) -> Result<bool, OutOfMemory>
     ensures { IfOk result (λ grown. UnlessGrown grown table.old table.new ((h : SomeHeap)
         → IsAmong greatest heaps.now h → IsFound greatest table.old q h)) }
 {
     let mut grown = false;
     for heap in heaps {
-        let is_new = table.add(alloc, greatest, q, heap)?;
+        let is_new = table.add(greatest, q, heap)?;
         grown = grown || is_new;
     }
     Ok(grown)
@@ -48,7 +42,7 @@ fn refresh_at(
         → IsFound greatest table.old q h)) }
 {
     let (heaps, is_new) = unions(alloc, greatest, table, values, locals, case.spatial())?;
-    let grown = add_all(alloc, greatest, table, q, heaps.as_slice())?;
+    let grown = add_all(greatest, table, q, heaps.as_slice())?;
     Ok(is_new || grown)
 }
 

@@ -66,7 +66,7 @@ fn same_fields(a: &[u64], b: &[u64]) -> bool
 }
 
 fn has_fields(cells: &Cells, address: u64, fields: &[u64]) -> bool
-    ensures { IsTrue result → cell_at cells.now address ≡ Some fields.now }
+    ensures { IsTrue result ↔ (cell_at cells.now address ≡ Some fields.now) }
 {
     match cells.get(address) {
         None => false,
@@ -75,7 +75,7 @@ fn has_fields(cells: &Cells, address: u64, fields: &[u64]) -> bool
 }
 
 fn has_same_cell(x: &Cells, y: &Cells, address: u64) -> bool
-    ensures { IsTrue result → cell_at x.now address ≡ cell_at y.now address }
+    ensures { IsTrue result ↔ (cell_at x.now address ≡ cell_at y.now address) }
 {
     match x.get(address) {
         None => y.get(address).is_none(),
@@ -85,7 +85,7 @@ fn has_same_cell(x: &Cells, y: &Cells, address: u64) -> bool
 
 /// Whether two heaps have the same cells up to the greatest address.
 pub fn is_same(greatest: u32, x: &Cells, y: &Cells) -> bool
-    ensures { IsTrue result → SameUpTo greatest x.now y.now }
+    ensures { IsTrue result ↔ SameUpTo greatest x.now y.now }
 {
     for address in 0..greatest as u64 + 1 {
         if !has_same_cell(x, y, address) {

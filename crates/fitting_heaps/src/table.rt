@@ -1,9 +1,9 @@
 // What is found so far of each question.
-ghost use Rattle.std.specs.Prelude.{◌≡◌, [], ◌∷◌, length, false, IfOk, Some, slice_get};
+ghost use Rattle.std.specs.Prelude.{◌≡◌, ◌<◌, ◌≤◌, ◌++◌, ℕ, [], ◌∷◌, length, IfOk, IsTrue, OnOk, Some, slice_get};
 ghost use Rattle.heap_formula.specs.Cells.{Cells as SomeHeap};
-ghost use Rattle.model_check.specs.Grounding.{IsQuestion, IsQuestionAt};
+ghost use Rattle.model_check.specs.Grounding.{Asked, IsQuestion, IsQuestionAt};
 ghost use Rattle.fitting_heaps.specs.Bounds.{IsAmong};
-ghost use Rattle.fitting_heaps.specs.Findings.{heaps_in, IsFound, UnlessGrown};
+ghost use Rattle.fitting_heaps.specs.Findings.{heaps_in, size, IsFound, IsNewlyFound, UnlessGrown};
 
 use crate::combining::{Heaps, has_heap};
 use cyc_memory::OutOfMemory;
@@ -76,8 +76,9 @@ impl Table {
         predicate: u16,
         values: Vec<u64>,
     ) -> Result<(usize, bool), OutOfMemory>
-        ensures { IfOk result (λ r. UnlessGrown r.1 self.old self.new
+        ensures grown { IfOk result (λ r. UnlessGrown r.1 self.old self.new
             (IsQuestion self.old.questions r.0 predicate values.items)) }
+        ensures asked { IfOk result (λ r. Asked self.old.questions self.new.questions r.0 predicate values.items) }
     {
         let (q, is_new) = self
             .questions
@@ -88,30 +89,35 @@ impl Table {
         Ok((q, is_new))
     }
 
-    fn push(&mut self, alloc: Global, q: usize, heap: Cells) -> Result<(), OutOfMemory> {
+    fn push(&mut self, q: usize, heap: Cells) -> Result<(), OutOfMemory>
+        ensures heaps { OnOk result (heaps_in (slice_get self.new.found q)
+            ≡ heaps_in (slice_get self.old.found q) ++ heap ∷ []) }
+        ensures larger { OnOk result (size self.old < size self.new) }
+    {
         if q < self.found.len() {
             self.found[q].push(heap)
         } else {
-            self.found.push(Heaps::new(alloc))?;
-            Ok(())
+            Err(OutOfMemory)
         }
     }
 
     /// Adds a copy of a heap to those found for a question, if it is not there, and says whether it did.
-    pub fn add(
-        &mut self,
-        alloc: Global,
-        greatest: u32,
-        q: usize,
-        heap: &Cells,
-    ) -> Result<bool, OutOfMemory>
-        ensures { IfOk result (λ grown. UnlessGrown grown self.old self.new ((h : SomeHeap)
+    pub fn add(&mut self, greatest: u32, q: usize, heap: &Cells) -> Result<bool, OutOfMemory>
+        ensures grown { IfOk result (λ grown. UnlessGrown grown self.old self.new ((h : SomeHeap)
             → IsAmong greatest (heap.now ∷ []) h → IsFound greatest self.old q h)) }
+        ensures new { IfOk result (λ grown. IsTrue grown → IsNewlyFound greatest self.old self.new q heap.now) }
     {
         if has_heap(greatest, self.heaps(q), heap) {
             return Ok(false);
         }
-        self.push(alloc, q, heap.clone()?)?;
+        self.push(q, heap.clone()?)?;
         Ok(true)
+    }
+
+    /// The answer where there are as many questions and heaps as there are numbers: they do not fit in memory.
+    pub fn does_not_fit(&self) -> OutOfMemory
+        requires { usize.MAX ≤ size self.now }
+    {
+        OutOfMemory
     }
 }

@@ -1,4 +1,4 @@
-use Rattle.std.proofs.Common.{arith, refl, ◌≡◌, ◌||◌, subst, List, length, sym, ◌∙◌}
+use Rattle.std.proofs.Common.{arith, ◌≡◌, ◌||◌, subst, List, length, sym, ◌∙◌}
 use Rattle.std.proofs.lemmas.Bool.{eqb-true}
 use Rattle.heap_formula.specs.Cells.{Cells, Star}
 use Rattle.heap_formula.specs.Meaning.{AtomHolds}
@@ -6,11 +6,13 @@ use Rattle.fitting_heaps.specs.Bounds.{IsAmong}
 use Rattle.fitting_heaps.specs.Findings.{found_if_asked, UnlessGrown}
 use Rattle.fitting_heaps.proofs.Loops.{either_true, either_false}
 use Rattle.fitting_heaps.proofs.AtomSteps.{left_first, left_turn, left_none, left_end}
+use Rattle.fitting_heaps.proofs.Turns.{unchanged}
 use Rattle.fitting_heaps.proofs.asking.unions.Goals.{then-asked, else-asked}
 use Rattle.fitting_heaps.proofs.asking.unions.Goals as goal
 
 pub loop-atom-init : goal.loop-atom-init
-loop-atom-init c = λ _. (refl, left_first c.args.greatest c.args.stack.now c.args.locals.now c.args.atoms.now c.args.table.now c.in_ok-heaps.heaps c.in_ok-heaps.ensures)
+loop-atom-init c =
+    unchanged c.args.table.now (left_first c.args.greatest c.args.stack.now c.args.locals.now c.args.atoms.now c.args.table.now c.in_ok-heaps.heaps c.in_ok-heaps.ensures)
 
 pub returns-then-is_empty : goal.returns-then-is_empty
 returns-then-is_empty c =

@@ -1,14 +1,12 @@
-use Rattle.std.proofs.Common.{refl}
 use Rattle.fitting_heaps.specs.Findings.{found_if_asked}
 use Rattle.fitting_heaps.proofs.AtomSteps.{cell_beside, found_beside}
+use Rattle.fitting_heaps.proofs.Turns.{unchanged}
 use Rattle.fitting_heaps.proofs.asking.with_atom.Goals as goal
 
 pub returns-in_ok-combine-in-Cell : goal.returns-in_ok-combine-in-Cell
-returns-in_ok-combine-in-Cell c = λ _. (
-  refl,
-  cell_beside c.args.greatest (found_if_asked c.args.greatest c.args.table.now) c.args.parts.now c.in_ok-cells-in-Cell.cells c.as_slice-in-Cell.result.now c.in_ok-combine-in-Cell.field-0 c.args.stack.now c.args.locals.now c.args.atom.now c.in-Cell.t c.in-Cell.ts c.as_slice.result.now c.in_ok-fields-in-Cell.fields.items c.value_of.result c.in-Cell.is c.as_slice.ensures c.in_ok-fields-in-Cell.ensures c.value_of.ensures c.in_ok-cells-in-Cell.ensures c.as_slice-in-Cell.ensures c.in_ok-combine-in-Cell.ensures,
-)
+returns-in_ok-combine-in-Cell c =
+    unchanged c.args.table.now (cell_beside c.args.greatest (found_if_asked c.args.greatest c.args.table.now) c.args.parts.now c.in_ok-cells-in-Cell.cells c.as_slice-in-Cell.result.now c.in_ok-combine-in-Cell.field-0 c.args.stack.now c.args.locals.now c.args.atom.now c.in-Cell.t c.in-Cell.ts c.as_slice.result.now c.in_ok-fields-in-Cell.fields.items c.value_of.result c.in-Cell.is c.as_slice.ensures c.in_ok-fields-in-Cell.ensures c.value_of.ensures c.in_ok-cells-in-Cell.ensures c.as_slice-in-Cell.ensures c.in_ok-combine-in-Cell.ensures)
 
 pub returns-in_ok-combine-in-Pred : goal.returns-in_ok-combine-in-Pred
 returns-in_ok-combine-in-Pred c =
-    found_beside c.args.greatest c.args.table.now c.ask.new.self c.in_ok-q-in-Pred.is_new c.args.parts.now c.heaps.result.now c.in_ok-combine-in-Pred.field-0 c.args.stack.now c.args.locals.now c.args.atom.now c.in-Pred.p c.in-Pred.ts c.as_slice-in-Pred.result.now c.in_ok-values-in-Pred.values.items c.in_ok-q-in-Pred.q c.in-Pred.is c.as_slice-in-Pred.ensures c.in_ok-values-in-Pred.ensures c.in_ok-q-in-Pred.ensures c.heaps.ensures c.in_ok-combine-in-Pred.ensures
+    found_beside c.args.greatest c.args.table.now c.ask.new.self c.in_ok-q-in-Pred.is_new c.args.parts.now c.heaps.result.now c.in_ok-combine-in-Pred.field-0 c.args.stack.now c.args.locals.now c.args.atom.now c.in-Pred.p c.in-Pred.ts c.as_slice-in-Pred.result.now c.in_ok-values-in-Pred.values.items c.in_ok-q-in-Pred.q c.in-Pred.is c.as_slice-in-Pred.ensures c.in_ok-values-in-Pred.ensures c.in_ok-q-in-Pred.ensures.grown c.heaps.ensures c.in_ok-combine-in-Pred.ensures

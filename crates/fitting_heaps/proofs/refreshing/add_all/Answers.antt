@@ -9,7 +9,7 @@ use Rattle.fitting_heaps.proofs.refreshing.add_all.Goals as goal
 pub loop-heap-preserved : goal.loop-heap-preserved
 loop-heap-preserved c =
     let b : c.if-grown.grown ≡ (c.loop-heap.grown || c.in_ok-is_new.is_new) = elim c.if-grown.branch [ then-grown w ↦ either_true _ _ _ w.if-grown.true w.grown-is | else-grown w ↦ either_false _ _ _ w.if-grown.false w.grown-is ] in
-    grown_turn c.args.table.now c.loop-heap.table c.add.new.self c.loop-heap.grown c.in_ok-is_new.is_new c.if-grown.grown b (λ t h. IsFound c.args.greatest t c.args.q h) (λ t x h. SameUpTo c.args.greatest x h) c.args.heaps.now c.loop-heap.heap-index c.heap-item.result (omega arith) c.heap-item.is c.loop-heap.invariant (alone c.loop-heap.table c.add.new.self c.in_ok-is_new.is_new c.args.greatest c.args.q c.heap-item.result c.in_ok-is_new.ensures)
+    grown_turn c.args.table.now c.loop-heap.table c.add.new.self c.loop-heap.grown c.in_ok-is_new.is_new c.if-grown.grown b (λ t h. IsFound c.args.greatest t c.args.q h) (λ t x h. SameUpTo c.args.greatest x h) c.args.heaps.now c.loop-heap.heap-index c.heap-item.result (omega arith) c.heap-item.is c.loop-heap.invariant (alone c.loop-heap.table c.add.new.self c.in_ok-is_new.is_new c.args.greatest c.args.q c.heap-item.result c.in_ok-is_new.ensures.grown)
 
 pub returns : goal.returns
 returns c =
