@@ -2,8 +2,9 @@
 use Rattle.std.proofs.Common.{◌≡◌, ℕ, zero, suc, ◌+◌, ◌-◌, ◌<◌, ◌≤◌, Bool, true, false, List, [], ◌++◌, length, Some, None, Err, refl, sym, ap, subst, ◌∙◌, arith, length-append, append_assoc}
 use Rattle.std.specs.Prelude.{map, drop}
 use Rattle.std.specs.Global.{Vec}
-use Rattle.std.specs.Str.{chars}
+use Rattle.std.specs.Str.{chars, encode_utf8_all}
 use Rattle.std.proofs.lemmas.List.{length-map, length-drop, drop-drop, drop_at, map-append}
+use Rattle.std.proofs.lemmas.Str.{encodes-append, encodes-chars}
 use Rattle.cyc_lex.specs.declared.fault.ReadFault.{ReadFault}
 use Rattle.cyc_lex.specs.declared.fault.ReadFault.TheVariants as faults
 use Rattle.cyc_lex.specs.declared.place.Bad.{Bad}
@@ -145,22 +146,32 @@ sizes a v s k h valid =
     (omega (arith, k.few, h.few, same), omega (arith, k.size, all, behind, same))
 
 -- what is left of the bytes that wait stands from the new place on
-left-waits : (a : Alive) (v : Valid) (s : Scan) (front : List ℕ) → IsScan a.place a.comment v.text.now (reached_of a.awaited) s → IsValid (waiting_of a) v → v.text.now ≡ front ++ s.rest.now → drop s.place.offset a.all.items ≡ s.rest.now ++ v.tail.now
-left-waits a v s front h valid parted =
+left-waits : (a : Alive) (v : Valid) (s : Scan) → IsScan a.place a.comment v.text.now (reached_of a.awaited) s → IsValid (waiting_of a) v → drop s.place.offset a.all.items ≡ s.rest.now ++ v.tail.now
+left-waits a v s h valid =
     ap (λ n. drop n a.all.items) there
     ∙ sym (drop-drop (length front) a.place.offset a.all.items)
     ∙ ap (drop (length front)) (sym valid.whole ∙ ap (λ (b : List ℕ). b ++ v.tail.now) parted ∙ append_assoc front s.rest.now v.tail.now)
     ∙ drop_at front (s.rest.now ++ v.tail.now) (length front) refl
   where
+    front : List ℕ
+    front = encode_utf8_all h.taken.tail.0
+
+    parted : v.text.now ≡ front ++ s.rest.now
+    parted =
+        sym (encodes-chars v.text.now valid.utf8)
+        ∙ ap encode_utf8_all h.taken.tail.1
+        ∙ encodes-append h.taken.tail.0 (chars s.rest.now)
+        ∙ ap (λ (b : List ℕ). front ++ b) (encodes-chars s.rest.now h.utf8)
+
     there : s.place.offset ≡ a.place.offset + length front
     there = omega (arith, taken-count a.place s.place a.comment s.comment v.text.now s.rest.now h.tokens valid.utf8 h.utf8 h.taken, ap length parted, length-append front s.rest.now)
 
-pub alive-led : (a : Alive) (v : Valid) (s : Scan) (enough : ℕ) → IsAlive a → IsValid (waiting_of a) v → IsScan a.place a.comment v.text.now (reached_of a.awaited) s → (front : List ℕ) × (v.text.now ≡ front ++ s.rest.now) → s.dead ≡ None
+pub alive-led : (a : Alive) (v : Valid) (s : Scan) (enough : ℕ) → IsAlive a → IsValid (waiting_of a) v → IsScan a.place a.comment v.text.now (reached_of a.awaited) s → s.dead ≡ None
     → IsKept (parts_of (kinds.Alive a)) [] (kinds.Alive (record { all = a.all; awaited = s.awaited; tokens = a.tokens + s.tokens; place = s.place; comment = s.comment; enough = enough }))
-alive-led a v s enough k valid h parted none = record {
+alive-led a v s enough k valid h none = record {
   held = record {
     taken = k.taken ++ h.tokens;
-    law = all-comes a v s (drop s.place.offset a.all.items) k h valid (left-waits a v s parted.0 h valid parted.1);
+    law = all-comes a v s (drop s.place.offset a.all.items) k h valid (left-waits a v s h valid);
     count = omega (arith, k.count, h.count, length-append k.taken h.tokens);
     few = (sizes a v s k h valid).0;
     size = omega (arith, (sizes a v s k h valid).1);

@@ -24,6 +24,10 @@ Tells o (Err (faults.Limit what k l c)) = Agrees o (Err (faults.Limit what k l c
 abbrev pub bytes_fed : Parts → ℕ
 bytes_fed s = s.place.offset + length s.pending
 
+-- memory ran out
+abbrev pub IsLost : Parts → Type 0
+IsLost s = s.stage ≡ Lost
+
 -- a piece was fed: what the text came to, with the piece and the rest, it comes to with the rest
 abbrev pub KeepsLaw : Parts → List ℕ → Parts → Type 0
 KeepsLaw old piece new = (rest : List ℕ) → outcome old (piece ++ rest) ≡ outcome new rest
@@ -31,7 +35,7 @@ KeepsLaw old piece new = (rest : List ℕ) → outcome old (piece ++ rest) ≡ o
 -- the pieces were fed one after the other; where memory ran out, the reader knows
 abbrev pub AreFed : Parts → List (List ℕ) → Parts → Type 0
 AreFed old [] new = new ≡ old
-AreFed old (piece ∷ pieces) new = (mid : Parts) × (KeepsLaw old piece mid ⊎ (mid.stage ≡ Lost)) × AreFed mid pieces new
+AreFed old (piece ∷ pieces) new = (mid : Parts) × (KeepsLaw old piece mid ⊎ IsLost mid) × AreFed mid pieces new
 
 abbrev pub bytes_of : List (List ℕ) → List ℕ
 bytes_of [] = []

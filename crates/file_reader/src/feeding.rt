@@ -1,7 +1,7 @@
 //! What a reader holds after a piece of the text.
 
-ghost use Rattle.std.specs.Prelude.{◌≡◌, ◌+◌, ◌-◌, ◌<◌, ◌^◌, ◌++◌, ℕ, List, [], true, length, IfOk};
-ghost use Rattle.file_reader.specs.Pieces.{bytes_fed};
+ghost use Rattle.std.specs.Prelude.{◌≡◌, ◌+◌, ◌-◌, ◌<◌, ◌^◌, [], length, IfOk, OnOk};
+ghost use Rattle.file_reader.specs.Pieces.{IsLost, bytes_fed};
 ghost use Rattle.file_reader.specs.Helds.{parts_of, IsAlive, IsHeld, IsKept, IsSmall, IsStopped};
 ghost use Rattle.file_reader.specs.declared.held.Held.TheVariants as kinds;
 
@@ -38,14 +38,6 @@ fn stopped(stop: Stop, fed: u32) -> Result<Held, OutOfMemory>
     }
 }
 
-/// Whether a text ends with another. What `pass_statement` leaves of a text is its end, but no clause of it says so: where it
-/// were not, nothing would be taken.
-fn is_end(text: &str, left: &str) -> bool
-    ensures { result ≡ true → (front : List ℕ) × (text.now ≡ front ++ left.now) }
-{
-    text.as_bytes().ends_with(left.as_bytes())
-}
-
 /// Reads the statements among the bytes that wait.
 fn look(alloc: Global, alive: Alive) -> Result<Held, OutOfMemory>
     requires alive { IsAlive alive }
@@ -62,19 +54,14 @@ fn look(alloc: Global, alive: Alive) -> Result<Held, OutOfMemory>
         Ok(found) => {
             let left = found.rest.len() + valid.tail.len();
             match found.dead {
-                None => {
-                    if !is_end(valid.text, found.rest) {
-                        return Ok(Held::Alive(alive));
-                    }
-                    Ok(Held::Alive(Alive {
-                        awaited: found.awaited,
-                        tokens: tokens + found.tokens,
-                        place: found.place,
-                        comment: found.comment,
-                        enough: left + left,
-                        all: alive.all,
-                    }))
-                }
+                None => Ok(Held::Alive(Alive {
+                    awaited: found.awaited,
+                    tokens: tokens + found.tokens,
+                    place: found.place,
+                    comment: found.comment,
+                    enough: left + left,
+                    all: alive.all,
+                })),
                 Some(dead) => Ok(Held::Faulty(Faulty {
                     fault: ReadFault::Syntax {
                         token: tokens + dead.token,
@@ -155,7 +142,8 @@ fn feed_faulty(alloc: Global, faulty: Faulty, piece: &[u8]) -> Result<Held, OutO
 fn feed_part(alloc: Global, held: Held, piece: &[u8]) -> Result<Held, OutOfMemory>
     requires held { IsHeld held }
     requires room { bytes_fed (parts_of held) + length piece.now < 2 ^ 32 - 1 }
-    ensures { IfOk result (IsKept (parts_of held) piece.now) }
+    ensures kept { IfOk result (IsKept (parts_of held) piece.now) }
+    ensures lost { OnOk result (IsLost (parts_of held) → ⊥) }
 {
     match held {
         Held::Alive(alive) => feed_alive(alloc, alive, piece),
@@ -169,7 +157,8 @@ fn feed_part(alloc: Global, held: Held, piece: &[u8]) -> Result<Held, OutOfMemor
 pub fn feed(alloc: Global, held: Held, piece: &[u8]) -> Result<Held, OutOfMemory>
     requires held { IsHeld held }
     requires room { bytes_fed (parts_of held) + length piece.now < 2 ^ 32 - 1 }
-    ensures { IfOk result (IsKept (parts_of held) piece.now) }
+    ensures kept { IfOk result (IsKept (parts_of held) piece.now) }
+    ensures lost { OnOk result (IsLost (parts_of held) → ⊥) }
 {
     let mut held = held;
     let mut rest = piece;

@@ -2,8 +2,8 @@
 
 ghost use Rattle.std.specs.Prelude.{◌≡◌, ◌+◌, ◌-◌, ◌<◌, ◌^◌, [], length, OnErr, OnOk};
 ghost use Rattle.proof_file.specs.Reading.{Reads};
-ghost use Rattle.file_reader.specs.Stages.{Lost, fresh, outcome};
-ghost use Rattle.file_reader.specs.Pieces.{KeepsLaw, Tells, bytes_fed};
+ghost use Rattle.file_reader.specs.Stages.{fresh, outcome};
+ghost use Rattle.file_reader.specs.Pieces.{IsLost, KeepsLaw, Tells, bytes_fed};
 
 use crate::awaited::Awaited;
 use crate::feeding::{bytes_fed, feed};
@@ -58,7 +58,8 @@ impl FileReader {
         requires { bytes_fed self.old + length piece.now < 2 ^ 32 - 1 }
         // Whatever comes: what the text came to, with the piece and the rest, it comes to with the rest.
         ensures law { OnOk result (KeepsLaw self.old piece.now self.new) }
-        ensures memory { OnErr result (self.new.stage ≡ Lost) }
+        ensures memory { OnErr result (IsLost self.new) }
+        ensures lost { OnOk result (IsLost self.old → ⊥) }
         ensures count { bytes_fed self.new ≡ bytes_fed self.old + length piece.now }
     {
         let fed = bytes_fed(&self.held) + piece.len() as u32;

@@ -1,5 +1,5 @@
 -- What the loop over the pieces of a text keeps, up to its next token.
-use Rattle.std.proofs.Common.{◌≡◌, ℕ, zero, suc, ◌≤◌, ◌<◌, Bool, true, false, ◌&&◌, List, [], ◌∷◌, ◌++◌, length, take, drop, Ok, Err, refl, sym, ap, subst, ◌∙◌, arith, length-append}
+use Rattle.std.proofs.Common.{◌≡◌, ℕ, zero, suc, ◌≤◌, ◌<◌, Bool, true, false, ◌&&◌, List, [], ◌∷◌, ◌++◌, length, take, drop, Ok, Err, refl, sym, ap, subst, ◌∙◌, arith, length-append, append_assoc}
 use Rattle.std.specs.Prelude.{nat_le, ◌==◌, slice_index}
 use Rattle.std.specs.Str.{chars, encode_utf8_all, all_scalars, IsUtf8}
 use Rattle.std.proofs.lemmas.Bool.{ne_eqb}
@@ -23,7 +23,7 @@ use Rattle.cyc_lex.specs.Lexing.{pass, pass_all, piece_at, piece_of, piece_chars
 use Rattle.piecewise_lex.specs.Feeding.{may_grow, is_held, taken_chars, held_chars, ends_in_comment, tokens_taken}
 use Rattle.cyc_lex.specs.Lexing.{comment_len}
 use Rattle.piecewise_lex.specs.Owned.{IsShort}
-use Rattle.piecewise_lex.specs.Taking.{Reading, reading, tokens_in, cut_in, HasTaken, Waits, stays}
+use Rattle.piecewise_lex.specs.Taking.{Reading, reading, tokens_in, cut_in, IsTail, HasTaken, Waits, stays}
 use Rattle.piecewise_lex.proofs.ShortTokens.{short-piece, lexeme-piece}
 use Rattle.cyc_lex.specs.Word.{word, word_of, is_lexeme}
 use Rattle.cyc_lex.proofs.Pieces.{comment_len-false}
@@ -46,6 +46,7 @@ pub record IsOn (p0 : Place) (b0 : Bool) (cs0 : List ℕ) (p : Place) (b : Bool)
   pub within : length (chars rest) ≤ length cs0
   pub bytes : length rest ≤ length (encode_utf8_all cs0)
   pub cut : cut_tokens p 0 (chars rest) ≡ cut_tokens p0 (comment_len b0 cs0) cs0
+  pub tail : IsTail (chars rest) cs0
 
 length-dropped : (n : ℕ) (cs : List ℕ) → length (drop n cs) ≤ length cs
 length-dropped zero cs = omega arith
@@ -70,6 +71,7 @@ on-start p0 b0 cs0 p rest same place room utf8 =
       within = omega (arith, ap length same, length-dropped k cs0);
       bytes = omega (arith, ap length (sym (encodes-chars rest utf8)), ap (λ (cs : List ℕ). length (encode_utf8_all cs)) same, dropped-bytes k cs0);
       cut = (λ i. cut_tokens (place i) 0 (same i)) ∙ sym (cut-skip p0 k cs0);
+      tail = (take k cs0, sym (ap (λ (t : List ℕ). take k cs0 ++ t) same ∙ take-append-drop k cs0));
     }
 
 -- what comes after a piece that doesn't wait
@@ -152,6 +154,16 @@ module _ (p0 : Place) (b0 : Bool) (cs0 : List ℕ) (p : Place) (b : Bool) (rest 
         by (c ∷ cs) some r e =
             omega (arith, e, ap length (sym (encodes-chars after n.utf8)), ap (λ (x : List ℕ). length (encode_utf8_all x)) r, dropped-bytes (piece_at c cs).1 cs, length-append (encode_utf8 c) (encode_utf8_all cs), length-encode c, (len_utf8_bounds c).0)
 
+    left-tail : IsTail (chars after) cs0
+    left-tail = by (chars rest) first-chars n.rest h.tail
+      where
+        by : (cs : List ℕ) → 0 < length cs → chars after ≡ piece_rest cs → IsTail cs cs0 → IsTail (chars after) cs0
+        by [] some r t = absurd (omega (arith, some))
+        by (c ∷ cs) some r t =
+            let k = (piece_at c cs).1 in
+            let parted : cs ≡ take k cs ++ chars after = sym (ap (λ (x : List ℕ). take k cs ++ x) r ∙ take-append-drop k cs) in
+            (t.0 ++ c ∷ take k cs, t.1 ∙ ap (λ (x : List ℕ). t.0 ++ c ∷ x) parted ∙ sym (append_assoc t.0 (c ∷ take k cs) (chars after)))
+
     module _ (free : stays piece front after ≡ false) where
       parts : IsFree p (chars rest) b
       parts = free-parts p (chars rest) b (sym stays-is ∙ free)
@@ -179,6 +191,7 @@ on-gap p0 b0 cs0 p b rest front after q h n free = record {
   within = omega (arith, h.within, fewer p0 b0 cs0 p b rest h pieces.Gap front after q n);
   bytes = omega (arith, h.bytes, fewer-bytes p0 b0 cs0 p b rest h pieces.Gap front after q n);
   cut = sym (cut-next p rest pieces.Gap front after q h.utf8 n) ∙ h.cut;
+  tail = left-tail p0 b0 cs0 p b rest h pieces.Gap front after q n;
 }
 
 -- where characters are left, whether a comment went on before them does not matter
@@ -217,6 +230,7 @@ at-token p0 b0 text p b rest k front after q t h n free fits same =
         held = ap (λ i. held_chars i (chars after)) none ∙ next-held p0 b0 cs0 p b rest h (pieces.Token k) front after q n free;
         place = ap (λ i. pass_all q (taken_chars i (chars after))) none ∙ next-place p0 b0 cs0 p b rest h (pieces.Token k) front after q n free;
         comment = ap (λ i. ends_in_comment false i (chars after)) none ∙ any-comment false (slice_index (chars front) 0 == 35) (chars after) left ∙ next-comment p0 b0 cs0 p b rest h (pieces.Token k) front after q n free;
+        tail = left-tail p0 b0 cs0 p b rest h (pieces.Token k) front after q n;
       };
       room = n.room;
       utf8 = n.utf8;
@@ -255,6 +269,7 @@ done p0 b0 text p b d rest h none free nothing all goes again = record {
     held = ap (λ i. held_chars i (chars rest)) none ∙ h.held;
     place = ap (λ i. pass_all p (taken_chars i (chars rest))) none ∙ h.place;
     comment = ap (λ i. ends_in_comment d i (chars rest)) none ∙ again ∙ sym goes ∙ h.comment;
+    tail = h.tail;
   };
   room = h.room;
   utf8 = h.utf8;
@@ -292,7 +307,7 @@ all-empty p0 b0 text p b rest h none =
 -- ---- many tokens
 
 pub taken-none : (r : Reading) → HasTaken r [] r
-taken-none r = record { tokens = refl; held = refl; place = refl; comment = refl }
+taken-none r = record { tokens = refl; held = refl; place = refl; comment = refl; tail = ([], refl) }
 
 pub taken-more : (a b c : Reading) (xs ys : List Placed) → HasTaken a xs b → HasTaken b ys c → HasTaken a (xs ++ ys) c
 taken-more a b c xs ys h k = record {
@@ -300,6 +315,7 @@ taken-more a b c xs ys h k = record {
   held = k.held ∙ h.held;
   place = k.place ∙ h.place;
   comment = k.comment ∙ h.comment;
+  tail = (h.tail.0 ++ k.tail.0, h.tail.1 ∙ ap (λ (x : List ℕ). h.tail.0 ++ x) k.tail.1 ∙ sym (append_assoc h.tail.0 k.tail.0 c.chars));
 }
 
 pub taken-stops : (a b : Reading) (xs : List Placed) (e : Stop) → HasTaken a xs b → Stops e (tokens_in b) → Stops e (tokens_in a)

@@ -47,12 +47,17 @@ comment_in r = ends_in_comment r.comment (skipped r) r.chars
 abbrev pub cut_in : Reading → List Placed
 cut_in r = cut_tokens r.place (skipped r) r.chars
 
--- these tokens come first, and all else is what the other text has
+-- the characters that are left are the last of all
+abbrev pub IsTail : List ℕ → List ℕ → Type 0
+IsTail left all = (front : List ℕ) × (all ≡ front ++ left)
+
+-- these tokens come first, and all else is what the other text has, which is the end of this one
 pub record HasTaken (old : Reading) (ts : List Placed) (new : Reading) : Type 0 where
   pub tokens : with_tokens ts (tokens_in new) ≡ tokens_in old
   pub held : held_in new ≡ held_in old
   pub place : place_in new ≡ place_in old
   pub comment : comment_in new ≡ comment_in old
+  pub tail : IsTail new.chars old.chars
 
 -- all of it waits
 pub record Waits (r : Reading) : Type 0 where

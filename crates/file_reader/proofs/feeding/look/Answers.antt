@@ -15,11 +15,11 @@ returns-then-not-valid c =
     IfOk-weaker c.stopped.result (IsStopped c.first_bad.result fed) (IsKept (parts_of (kinds.Alive a)) [])
     (λ new h. alive-first a v c.first_bad.result fed new c.requires.alive valid c.if-not-valid.true (omega (arith, c.len-fed.ensures)) c.first_bad.ensures h) c.stopped.ensures
 
-pub returns-else-not-is_end : goal.returns-else-not-is_end
-returns-else-not-is_end c =
+pub returns-in-None : goal.returns-in-None
+returns-in-None c =
     let v = c.valid_front-valid.result in
     let valid = subst (λ (b : List ℕ). IsValid b v) c.waiting.ensures c.valid_front-valid.ensures in
-    alive-led c.args.alive v c.in-Ok.found _ c.requires.alive valid c.in-Ok.ensures (c.is_end.ensures c.if-not-is_end.false) c.in-None.is
+    alive-led c.args.alive v c.in-Ok.found _ c.requires.alive valid c.in-Ok.ensures c.in-None.is
 
 pub returns-in_ok-joined-in-Some : goal.returns-in_ok-joined-in-Some
 returns-in_ok-joined-in-Some c =
