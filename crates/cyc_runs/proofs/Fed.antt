@@ -2,7 +2,7 @@
 use Rattle.std.proofs.Common.{◌≡◌, ◌∙◌, ℕ, ◌+◌, ◌-◌, ◌≤◌, List, [], ◌++◌, length-append, append_assoc, append-nil, sym, subst, ap, arith, inl, inr, Option, Some, None}
 use Rattle.std.specs.Io.KnownBytes.{Consumes, IsAtEnd}
 use Rattle.std.proofs.KnownBytes.{Consumes-trans}
-use Rattle.cyc_io.specs.Bytes.{Came}
+use Rattle.cyc_io.specs.Bytes.{Came, CameAtMost}
 use Rattle.cyc_texts.specs.Texts.{input_limit_text}
 use Rattle.cyc_runs.specs.Runs.{Answering, AnswersTold, IsAnswerOf, IsTold, input_limit}
 use Rattle.cyc_runs.specs.Pieces.{IsTurn, WasFed}
@@ -28,6 +28,11 @@ turn_more a b c n after so_far t u v first turn = fed_more a b c 0 n so_far t u 
 -- some bytes, and then more than an input may have
 pub fed_past : (a b : Answering) (n : ℕ) (t u v : Option (List ℕ)) → WasFed a b 0 n t u → n ≤ input_limit → Came u v (input_limit + 1 - n) → Came t v (input_limit + 1)
 fed_past a b n t u v first within came =
+    (first.bytes ++ came.0, Consumes-trans t u v first.bytes came.0 first.came came.1, omega (arith, within, first.count, came.2, length-append first.bytes came.0))
+
+-- some bytes, and then at most one past the limit
+pub fed_taken : (a b : Answering) (n : ℕ) (t u v : Option (List ℕ)) → WasFed a b 0 n t u → n ≤ input_limit → CameAtMost u v (input_limit + 1 - n) → CameAtMost t v (input_limit + 1)
+fed_taken a b n t u v first within came =
     (first.bytes ++ came.0, Consumes-trans t u v first.bytes came.0 first.came came.1, omega (arith, within, first.count, came.2, length-append first.bytes came.0))
 
 -- what came before the end is what was told

@@ -1,9 +1,9 @@
 //! A run of a program that answers its whole input: bytes in, one text and a status out.
 #![tactic(auto)]
 
-ghost use Rattle.std.specs.Prelude.{◌≡◌, ◌≢◌, ◌≤◌, ℕ, List, length, IfOk, true};
+ghost use Rattle.std.specs.Prelude.{◌≡◌, ◌≢◌, ◌+◌, ◌≤◌, ℕ, List, length, IfOk, true};
 ghost use Rattle.std.specs.Io.KnownBytes.{Appends};
-ghost use Rattle.cyc_io.specs.Bytes.{AppendsProperPrefix};
+ghost use Rattle.cyc_io.specs.Bytes.{AppendsProperPrefix, CameAtMost};
 ghost use Rattle.cyc_io.specs.Causes.{Rose};
 ghost use Rattle.cyc_runs.specs.Endings.{is_answer};
 ghost use Rattle.cyc_runs.specs.Runs.{IsAnswerOf, IsReadThrough, WroteAnswer, WrotePart, input_limit};
@@ -91,6 +91,10 @@ pub fn run_over<T: Tool, S: Source, K: Sink>(
         (K.written out.old) (K.written out.new) result }
     ensures through { is_answer result ≡ true → IsReadThrough (S.left src.old) (S.left src.new) }
     ensures read_fault { result ≡ Status.ReadFault → Rose (S.faults src.old) (S.faults src.new) × (out.new ≡ out.old) }
+    // A read fails, if one does, before a byte past the limit has come.
+    ensures before_fault { result ≡ Status.ReadFault → CameAtMost (S.left src.old) (S.left src.new) input_limit }
+    // However the run ends, at most one byte past the limit is taken.
+    ensures taken { CameAtMost (S.left src.old) (S.left src.new) (input_limit + 1) }
     ensures write_fault { result ≡ Status.WriteFault → Rose (K.faults out.old) (K.faults out.new)
         × WrotePart (IsAnswerOf (T.answers tool.now)) (S.left src.old) (K.written out.old) (K.written out.new) }
     // Neither a failed read nor a failed write ends so.
@@ -121,6 +125,10 @@ pub fn run_in_pieces<T: PiecewiseTool + Drop, S: Source, K: Sink>(
         → WroteAnswer (IsAnswerOf (T.answers tool)) (S.left src.old) (K.written out.old) (K.written out.new) result }
     ensures through { is_answer result ≡ true → IsReadThrough (S.left src.old) (S.left src.new) }
     ensures read_fault { result ≡ Status.ReadFault → Rose (S.faults src.old) (S.faults src.new) × (out.new ≡ out.old) }
+    // A read fails, if one does, before a byte past the limit has come.
+    ensures before_fault { result ≡ Status.ReadFault → CameAtMost (S.left src.old) (S.left src.new) input_limit }
+    // However the run ends, at most one byte past the limit is taken.
+    ensures taken { CameAtMost (S.left src.old) (S.left src.new) (input_limit + 1) }
     ensures write_fault { result ≡ Status.WriteFault → Rose (K.faults out.old) (K.faults out.new)
         × WrotePart (IsAnswerOf (T.answers tool)) (S.left src.old) (K.written out.old) (K.written out.new) }
     // Neither a failed read nor a failed write ends so.

@@ -1,5 +1,7 @@
 // Answers to an input that comes in pieces.
-ghost use Rattle.std.specs.Prelude.{◌≡◌, ◌+◌, ◌<◌, ◌≤◌, ◌⊎◌, ℕ, List, [], length, IfOk, OnOk, IsErrOf, true};
+ghost use Rattle.std.specs.Prelude.{◌≡◌, ◌+◌, ◌-◌, ◌<◌, ◌≤◌, ◌⊎◌, ℕ, List, [], length, IfOk, OnOk, IsErrOf, true};
+ghost use Rattle.std.specs.Io.KnownBytes.{Keeps};
+ghost use Rattle.cyc_io.specs.Bytes.{CameAtMost};
 ghost use Rattle.cyc_io.specs.Causes.{Rose};
 ghost use Rattle.cyc_runs.specs.Endings.{is_answer};
 ghost use Rattle.cyc_runs.specs.Pieces.{IsFedAll, IsTurn, KeepsAnswers};
@@ -91,6 +93,9 @@ pub fn feed_piece<T: PiecewiseTool, S: Source>(
     // Each turn but the last takes at least one byte.
     ensures progress { IfOk result (λ t. (n : ℕ) → t ≡ Turn.Fed n → count < n) }
     ensures read_fault { IsErrOf result NoAnswer.ReadFault → Rose (S.faults src.old) (S.faults src.new) }
+    // A failed read takes nothing, and nothing is taken after it.
+    ensures kept { IsErrOf result NoAnswer.ReadFault → Keeps (S.left src.old) (S.left src.new) }
+    ensures taken { CameAtMost (S.left src.old) (S.left src.new) (input_limit + 1 - count) }
     ensures calm { IsErrOf result NoAnswer.ReadFault ⊎ (S.faults src.new ≡ S.faults src.old) }
     ensures counted { S.faults src.old ≤ S.faults src.new }
 {
@@ -120,6 +125,8 @@ fn feed_all<T: PiecewiseTool, S: Source>(
     ensures fed { IfOk result
         (IsFedAll (T.answers tool.old) (T.answers tool.new) (T.fed tool.new) (S.left src.old) (S.left src.new)) }
     ensures read_fault { IsErrOf result NoAnswer.ReadFault → Rose (S.faults src.old) (S.faults src.new) }
+    ensures before_fault { IsErrOf result NoAnswer.ReadFault → CameAtMost (S.left src.old) (S.left src.new) input_limit }
+    ensures taken { CameAtMost (S.left src.old) (S.left src.new) (input_limit + 1) }
     ensures calm { IsErrOf result NoAnswer.ReadFault ⊎ (S.faults src.new ≡ S.faults src.old) }
     ensures counted { S.faults src.old ≤ S.faults src.new }
 {
@@ -153,6 +160,8 @@ pub fn answer_in_pieces<T: PiecewiseTool + Drop, S: Source>(
     ensures ending { IfOk result (λ a. is_answer a.status ≡ true) }
     ensures through { OnOk result (IsReadThrough (S.left src.old) (S.left src.new)) }
     ensures read_fault { IsErrOf result NoAnswer.ReadFault → Rose (S.faults src.old) (S.faults src.new) }
+    ensures before_fault { IsErrOf result NoAnswer.ReadFault → CameAtMost (S.left src.old) (S.left src.new) input_limit }
+    ensures taken { CameAtMost (S.left src.old) (S.left src.new) (input_limit + 1) }
     ensures calm { IsErrOf result NoAnswer.ReadFault ⊎ (S.faults src.new ≡ S.faults src.old) }
     ensures counted { S.faults src.old ≤ S.faults src.new }
 {

@@ -1,5 +1,5 @@
 use Rattle.std.proofs.Common.{rules}
-use Rattle.cyc_runs.proofs.Fed.{fed_past, turn_more}
+use Rattle.cyc_runs.proofs.Fed.{fed_past, fed_taken, turn_more}
 use Rattle.cyc_runs.proofs.pieces.feed_all.Goals as goal
 
 pub turns-preserved : goal.turns-preserved
@@ -15,3 +15,11 @@ turns-preserved g c =
 pub returns-in-PastLimit-clause-fed : goal.returns-in-PastLimit-clause-fed
 returns-in-PastLimit-clause-fed g c =
     fed_past _ _ _ _ _ _ c.turns.invariant.fed c.turns.invariant.within (rw c.in-PastLimit.is at c.in_ok-so_far.ensures.turn)
+
+pub returns-in_err-so_far-clause-taken : goal.returns-in_err-so_far-clause-taken
+returns-in_err-so_far-clause-taken g c =
+    fed_taken _ _ _ _ _ _ c.turns.invariant.fed c.turns.invariant.within c.feed_piece.ensures.taken
+
+pub returns-in-PastLimit-clause-taken : goal.returns-in-PastLimit-clause-taken
+returns-in-PastLimit-clause-taken g c =
+    fed_taken _ _ _ _ _ _ c.turns.invariant.fed c.turns.invariant.within c.feed_piece.ensures.taken
