@@ -79,11 +79,11 @@ module _ (h : Cells) (s : Stack) where
   sets_forced e old new t v f (inl k) a = subst (Each (HasLocal e)) (sym k.0) a
   sets_forced e old new t v f (inr k) a =
       let w : slice_index e k.0 ≡ v = sym (ap (value s e) k.1) ∙ f in
-      subst (Each (HasLocal e)) (sym k.2) (each_last (HasLocal e) old (record { number = k.0; value = v }) a w)
+      subst (Each (HasLocal e)) (sym k.2.0) (each_last (HasLocal e) old (record { number = k.0; value = v }) a w)
 
   sets_more : (old new : List Local) (st : Step) (v : ℕ) → Sets s old new (target st) v → ((new ≡ old) × IsPassed s new st) ⊎ (length new ≡ length old + 1)
   sets_more old new st v (inl k) = inl (k.0, λ w. subst (λ ls. IsValued s ls (target st)) (sym k.0) k.1)
-  sets_more old new st v (inr k) = inr (ap length k.2 ∙ length-append old ((record { number = k.0; value = v }) ∷ []))
+  sets_more old new st v (inr k) = inr (ap length k.2.0 ∙ length-append old ((record { number = k.0; value = v }) ∷ []))
 
   pub follow_value : (old new : List Local) (st : Step) (v : ℕ) (b : Bool) → true ≡ b → target_of h s old st ≡ Value v → Sets s old new (target st) v → Follows h s st old new b
   follow_value old new st v b e f k =

@@ -26,7 +26,7 @@ learned_in steps ks (Exist n) a k = member_each (Learned steps) (Exist n) ks k a
 pub still_learned : (steps : List Step) (old new : List Term) (step : Step) → IsMember step steps → AreLearned steps old → Learns old new (source step) (target step) → AreLearned steps new
 still_learned steps old new step m a (inl k) = subst (AreLearned steps) (sym k.0) a
 still_learned steps old new step m a (inr k) =
-    subst (AreLearned steps) (sym k.0) (each_last (Learned steps) old (target step) a (taken step m (learned_in steps old (source step) a k.1)))
+    subst (AreLearned steps) (sym k.0) (each_last (Learned steps) old (target step) a (taken step m (learned_in steps old (source step) a k.1.0)))
 
 pub member_at : {X : Type 0} (xs : List X) (i : ℕ) (d : X) → i < length xs → IsMember (get_or xs i d) xs
 member_at [] i d h = absurd (omega arith)

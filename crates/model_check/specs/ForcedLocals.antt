@@ -62,9 +62,9 @@ IsPassed s ls step = IsValued s ls (source step) → IsValued s ls (target step)
 abbrev pub AllPassed : Stack → List Local → List Step → Type 0
 AllPassed s ls steps = Each (IsPassed s ls) steps
 
--- a term gets a value: it had one, or it is a local that is new
+-- a term gets a value: it had one, or it is a local that had none
 abbrev pub Sets : Stack → List Local → List Local → Term → ℕ → Type 0
-Sets s old new t v = ((new ≡ old) × IsValued s old t) ⊎ ((n : ℕ) × (t ≡ Exist n) × (new ≡ old ++ (record { number = n; value = v }) ∷ []))
+Sets s old new t v = ((new ≡ old) × IsValued s old t) ⊎ ((n : ℕ) × (t ≡ Exist n) × ((new ≡ old ++ (record { number = n; value = v }) ∷ []) × (local_value old n ≡ None)))
 
 -- what the heap and the locals say of a step's target
 abbrev pub from_value : Option ℕ → Forced

@@ -41,9 +41,9 @@ IsTaken ks step = IsKnownIn ks (source step) → IsKnownIn ks (target step)
 abbrev pub AllTaken : List Term → List Step → Type 0
 AllTaken ks steps = Each (IsTaken ks) steps
 
--- a known term makes another known: nothing is new, or the other term is
+-- a known term makes another known: nothing is new, or the other term is, which was not known
 abbrev pub Learns : List Term → List Term → Term → Term → Type 0
-Learns old new t u = ((new ≡ old) × (IsKnownIn old t → IsKnownIn old u)) ⊎ ((new ≡ old ++ u ∷ []) × IsKnownIn old t)
+Learns old new t u = ((new ≡ old) × (IsKnownIn old t → IsKnownIn old u)) ⊎ ((new ≡ old ++ u ∷ []) × (IsKnownIn old t × (¬ IsKnownIn old u)))
 
 abbrev pub pure_steps : Pure → List Step
 pure_steps (Eq t u) = Same t u ∷ Same u t ∷ []

@@ -1,5 +1,6 @@
 // The least table of masks that rules give.
-ghost use Rattle.std.specs.Prelude.{◌≡◌, ℕ, ◌<◌, ◌≤◌, ◌↔◌, Some, IfOk, OnOk, IsTrue, vec_len, slice_get, slice_index, slice_set, replicate, length, nat_eq, if◌then◌else◌};
+ghost use Rattle.std.specs.List.{sum_by};
+ghost use Rattle.std.specs.Prelude.{◌≡◌, ℕ, ◌+◌, ◌<◌, ◌≤◌, ◌↔◌, Some, IfOk, OnOk, IsTrue, vec_len, slice_get, slice_index, slice_set, replicate, length, nat_eq, if◌then◌else◌};
 ghost use Rattle.heap_formula.specs.Words.{Each};
 ghost use Rattle.model_check.specs.WideMasks.{number, HoldsMask};
 ghost use Rattle.model_check.specs.Ground.{IsSolved};
@@ -12,7 +13,7 @@ use crate::unions::{Row, unions};
 use cyc_memory::OutOfMemory;
 use std::alloc::Global;
 
-/// Adds a mask to a question's row, and notes it if it is new.
+/// Adds a mask to a question's row, and notes it if it is new: the log grows as the table does.
 fn add_mask(
     table: &mut Vec<Row>,
     log: &mut Vec<usize>,
@@ -24,6 +25,8 @@ fn add_mask(
     ensures rows { vec_len table.new ≡ vec_len table.old }
     ensures longer { OnOk result (vec_len log.old ≤ vec_len log.new) }
     ensures same { OnOk result (vec_len log.new ≡ vec_len log.old → table.new.items ≡ table.old.items) }
+    ensures counted { OnOk result (vec_len log.new + sum_by length table.old.items
+        ≡ vec_len log.old + sum_by length table.new.items) }
 {
     if table[head].add(mask.clone()?)? {
         log.push(head)?;
