@@ -1,9 +1,9 @@
 -- What a text comes to at its end.
-use Rattle.std.proofs.Common.{◌≡◌, ℕ, ◌+◌, ◌≤◌, Bool, true, false, List, [], ◌∷◌, ◌++◌, length, map, Result, Ok, Err, refl, sym, ap, subst, ◌∙◌, arith, inl, inr, length-append}
-use Rattle.std.specs.Prelude.{◌==◌, Option, Some, None, IfSome, is_none}
+use Rattle.std.proofs.Common.{◌≡◌, ℕ, ◌+◌, ◌≤◌, Bool, true, false, List, [], ◌++◌, length, Result, Ok, Err, refl, sym, ap, subst, ◌∙◌, arith, length-append}
+use Rattle.std.specs.Prelude.{◌==◌, is_none}
 use Rattle.std.specs.Str.{chars, IsUtf8}
 use Rattle.std.specs.Str.Lossy.{utf8_valid_len, utf8_error_len}
-use Rattle.std.proofs.lemmas.List.{append-nil, map-append}
+use Rattle.std.proofs.lemmas.List.{append-nil}
 use Rattle.cyc_lex.specs.declared.fault.ReadFault.{ReadFault}
 use Rattle.cyc_lex.specs.declared.fault.ReadFault.TheVariants as faults
 use Rattle.cyc_lex.specs.declared.place.Bad.{Bad}
@@ -13,11 +13,10 @@ use Rattle.cyc_lex.specs.declared.place.Stop.TheVariants as stops
 use Rattle.cyc_lex.specs.Answer.{fault_of}
 use Rattle.cyc_lex.specs.Lexing.{Stops, start, lex, comment_len, tokens_of, with_tokens}
 use Rattle.cyc_lex.specs.Placed.{Placed}
-use Rattle.cyc_lex.specs.Word.{Word, word_of}
-use Rattle.cyc_lex.proofs.BoolParts.{and-parts}
-use Rattle.cyc_grammar.specs.Classes.{is_token, are_tokens}
-use Rattle.cyc_grammar.proofs.WholeTexts.{all-tokens}
+use Rattle.cyc_lex.specs.Cutting.{cut_text}
+use Rattle.cyc_lex.proofs.CutLaws.{cut-lexed}
 use Rattle.cyc_lex.proofs.Lexed.{with_tokens-ok, with_tokens-err}
+use Rattle.proof_file.specs.declared.file.ProofFile.{ProofFile}
 use Rattle.piecewise_lex.specs.declared.valid.Valid.{Valid}
 use Rattle.piecewise_lex.specs.Feeding.{tokens_from, is_cut}
 use Rattle.piecewise_lex.specs.Taking.{reading, tokens_in}
@@ -29,15 +28,13 @@ use Rattle.file_reader.specs.declared.held.Alive.{Alive}
 use Rattle.file_reader.specs.declared.held.Faulty.{Faulty}
 use Rattle.file_reader.specs.declared.held.Held.TheVariants as kinds
 use Rattle.file_reader.specs.declared.passing.Passed.{Passed}
-use Rattle.file_reader.specs.Helds.{parts_of, waiting_of, IsAlive, IsLast, IsToldStop}
-use Rattle.file_reader.specs.Scans.{reached_of, IsDead}
-use Rattle.file_reader.specs.Outcomes.{Outcome, Faulty as Bears, syntax_fault}
+use Rattle.file_reader.specs.Helds.{parts_of, waiting_of, IsAlive, IsToldStop}
+use Rattle.file_reader.specs.Outcomes.{Outcome, Faulty as Bears, whole_outcome}
 use Rattle.file_reader.specs.Passing.{IsPassed}
 use Rattle.file_reader.specs.Pieces.{Tells}
-use Rattle.file_reader.specs.Stages.{Head, Dead, ahead, behind, outcome}
+use Rattle.file_reader.specs.Stages.{Head, Dead, behind, outcome}
 use Rattle.file_reader.proofs.PieceLaws.{statement-bad}
-use Rattle.file_reader.proofs.Fresh.{tokens-end, tokens-few, from-start}
-use Rattle.file_reader.proofs.HeldLaws.{dead-all}
+use Rattle.file_reader.proofs.Fresh.{tokens-few, from-start}
 
 pub tells-fault : (x : ReadFault) → Tells (Bears x) (Err x)
 tells-fault faults.OutOfMemory = tt
@@ -98,10 +95,6 @@ pub rest-stops : (p : Place) (c : Bool) (bytes : List ℕ) (v : Valid) (to : Pas
 rest-stops p c bytes v to stops.OutOfMemory valid none h k = tt
 rest-stops p c bytes v to (stops.At bad q) valid none h k = passed-tokens p c bytes v to valid none h ∙ ap (with_tokens h.tokens) k ∙ with_tokens-err h.tokens (bad, q)
 
-pub some-all : {X : Type 0} (o : Option X) (P Q : X → Type 0) → ((x : X) → P x → Q x) → IfSome o P → IfSome o Q
-some-all (Some x) P Q f h = f x h
-some-all None P Q f h = tt
-
 -- ---- a text without a fault so far
 
 abbrev Wait : Alive → Result (List Placed) (Bad × Place)
@@ -124,7 +117,7 @@ pub whole-rest : (p : Place) (c : Bool) (bytes : List ℕ) (v : Valid) → IsVal
 whole-rest p c bytes v valid none =
     text-tokens p c v.text.now valid.utf8 ∙ ap (tokens_from p c) (sym (append-nil v.text.now) ∙ ap (λ (w : List ℕ). v.text.now ++ w) (sym none) ∙ valid.whole)
 
-all-tokens-of : (a : Alive) (k : IsAlive a) (us : List Placed) → Wait a ≡ Ok us → tokens_of a.all.items ≡ Ok (k.taken ++ us)
+pub all-tokens-of : (a : Alive) (k : IsAlive a) (us : List Placed) → Wait a ≡ Ok us → tokens_of a.all.items ≡ Ok (k.taken ++ us)
 all-tokens-of a k us e =
     sym (from-start a.all.items)
     ∙ ap (tokens_from start false) (sym (append-nil a.all.items))
@@ -133,25 +126,31 @@ all-tokens-of a k us e =
     ∙ ap (with_tokens k.taken) e
     ∙ with_tokens-ok k.taken us
 
-pub later-tokens : (ws vs : List Word) → are_tokens (ws ++ vs) ≡ true → are_tokens vs ≡ true
-later-tokens [] vs h = h
-later-tokens (w ∷ ws) vs h = later-tokens ws vs (and-parts (is_token w) (are_tokens (ws ++ vs)) h).1
+-- so many tokens, those that were taken and those that waited
+pub alive-tokens : (a : Alive) (k : IsAlive a) (us : List Placed) → Wait a ≡ Ok us → length (k.taken ++ us) ≡ a.tokens + length us
+alive-tokens a k us e = omega (arith, length-append k.taken us, k.count)
 
-pub wait-words : (a : Alive) (us : List Placed) → IsAlive a → Wait a ≡ Ok us → are_tokens (map word_of us) ≡ true
-wait-words a us k e =
-    let all = all-tokens (map word_of (k.taken ++ us)) (tokens-end a.all.items (k.taken ++ us) (all-tokens-of a k us e)) in
-    later-tokens (map word_of k.taken) (map word_of us) (subst (λ (ws : List Word). are_tokens ws ≡ true) (map-append word_of k.taken us) all)
+pub alive-few : (a : Alive) (k : IsAlive a) (us : List Placed) → Wait a ≡ Ok us → a.tokens + length us ≤ length a.all.items + 1
+alive-few a k us e = omega (arith, tokens-few a.all.items (k.taken ++ us) (all-tokens-of a k us e), alive-tokens a k us e)
 
-pub wait-few : (a : Alive) (us : List Placed) → IsAlive a → Wait a ≡ Ok us → a.tokens + length us ≤ length a.all.items + 1
-wait-few a us k e = omega (arith, tokens-few a.all.items (k.taken ++ us) (all-tokens-of a k us e), length-append k.taken us, k.count)
+-- what the text comes to is what its tokens do
+pub alive-whole : (a : Alive) (ts : List Placed) (answer : Result ProofFile ReadFault) → tokens_of a.all.items ≡ Ok ts → Tells (whole_outcome ts) answer → Tells (outcome (parts_of (kinds.Alive a)) []) answer
+alive-whole a ts answer e h =
+    subst (λ (o : Outcome). Tells o answer) (sym (ap (λ (b : List ℕ). behind (Head []) (tokens_from start false b)) (append-nil a.all.items) ∙ ap (behind (Head [])) (from-start a.all.items ∙ e))) h
 
--- a dead token among those that waited
-alive-dead : (a : Alive) (us : List Placed) (left : ℕ) → IsAlive a → Wait a ≡ Ok us → IsDead (reached_of a.awaited) (map word_of us) left → EndsWith a (syntax_fault a.tokens us left)
-alive-dead a us left k e is =
-    let ts = k.taken ++ us in
-    let fault = syntax_fault a.tokens us left in
-    subst (λ (o : Outcome). Tells o (Err fault)) (sym (alive-outcome a k (Ok us) e ∙ ap (behind (Head [])) (with_tokens-ok k.taken us) ∙ ap (ahead (Head [])) (sym (append-nil ts)) ∙ dead-all a k us left is [])) (tells-fault fault)
+-- ---- the tokens of all bytes
 
-pub alive-last : (a : Alive) (us : List Placed) (x : ReadFault) → IsAlive a → Wait a ≡ Ok us → IsLast (reached_of a.awaited) a.tokens us x → EndsWith a x
-alive-last a us x k e (inl none) = subst (EndsWith a) (sym none) tt
-alive-last a us x k e (inr (left, is, told)) = subst (EndsWith a) (sym told) (alive-dead a us left k e is)
+-- a text of characters has the tokens that are cut off it
+pub text-cut : (text : List ℕ) (ts : List Placed) → IsUtf8 text → tokens_of text ≡ Ok ts → cut_text start false text ≡ ts
+text-cut text ts utf8 e = cut-lexed start (comment_len false (chars text)) (chars text) ts (text-tokens start false text utf8 ∙ from-start text ∙ e)
+
+abbrev cut : List Placed → Result (List Placed) (Bad × Place)
+cut ts = Ok ts
+
+differ : (ts : List Placed) (e : Bad × Place) → cut ts ≡ Err e → ⊥
+differ ts e h = cc
+
+-- bytes that have tokens have no bad place
+pub no-stop : (bytes : List ℕ) (ts : List Placed) (e : Stop) (x : ReadFault) (o : Outcome) → tokens_of bytes ≡ Ok ts → Stops e (tokens_from start false bytes) → IsToldStop e x → Tells o (Err x)
+no-stop bytes ts stops.OutOfMemory x o is h told = subst (λ (y : ReadFault). Tells o (Err y)) (sym told) tt
+no-stop bytes ts (stops.At bad p) x o is h told = absurd (differ ts (bad, p) (sym is ∙ sym (from-start bytes) ∙ h))

@@ -1,5 +1,5 @@
 -- What a reader holds keeps what the text comes to.
-use Rattle.std.proofs.Common.{◌≡◌, ℕ, zero, suc, ◌+◌, ◌-◌, ◌<◌, ◌≤◌, Bool, true, false, List, [], ◌++◌, length, Some, None, Err, refl, sym, ap, subst, ◌∙◌, arith, length-append, append_assoc}
+use Rattle.std.proofs.Common.{◌≡◌, ℕ, zero, suc, ◌+◌, ◌<◌, ◌≤◌, Bool, true, false, List, [], ◌++◌, length, Some, None, Err, refl, sym, ap, subst, ◌∙◌, arith, length-append, append_assoc}
 use Rattle.std.specs.Prelude.{map, drop}
 use Rattle.std.specs.Global.{Vec}
 use Rattle.std.specs.Str.{chars, encode_utf8_all}
@@ -37,7 +37,7 @@ use Rattle.file_reader.specs.Outcomes.{Faulty as Bears, syntax_fault}
 use Rattle.file_reader.specs.Passing.{IsPassed}
 use Rattle.file_reader.specs.Pieces.{parts, Comes, IsBad}
 use Rattle.file_reader.specs.Scans.{reached_of, IsDead, HasDead, LeadsOn, Finds, IsScan}
-use Rattle.file_reader.specs.Stages.{Stage, Head, Dead, Unlexed, Parts, behind, outcome}
+use Rattle.file_reader.specs.Stages.{Stage, Head, Dead, Parts, outcome}
 use Rattle.file_reader.specs.Steps.{Takes, Leads}
 use Rattle.file_reader.proofs.Beginning.{lead-none}
 use Rattle.file_reader.proofs.PieceLaws.{tokens-taken, bad-place, statement-comes, statement-bad, bytes-bad}

@@ -1,9 +1,11 @@
 -- What is kept of statements tells their flaws, and is all of them where they have none.
-use Rattle.std.proofs.Common.{◌≡◌, ℕ, ◌≤◌, Bool, true, false, List, [], Some, None, Ok, refl, sym, ap, subst, ◌∙◌, arith, inl, inr, ◌⊎◌}
+use Rattle.std.proofs.Common.{◌≡◌, ℕ, ◌≤◌, Bool, true, false, List, [], Some, None, Ok, Err, refl, sym, ap, subst, ◌∙◌, arith, inl, inr, ◌⊎◌}
 use Rattle.std.specs.Prelude.{map}
 use Rattle.cyc_lex.specs.Word.{Word}
+use Rattle.cyc_grammar.specs.Syntax.{Reading, ◌>>=◌}
 use Rattle.heap_syntax.specs.declared.version.Version.{Version}
 use Rattle.heap_syntax.specs.Versions.{most_spatial}
+use Rattle.heap_syntax.proofs.Fronts.{mapped}
 use Rattle.heap_reader.specs.Trees.{Heading}
 use Rattle.heap_reader.specs.Flaws.{Found, or_later, listed_flaw}
 use Rattle.heap_reader.proofs.Fitting.{most_fits}
@@ -11,14 +13,14 @@ use Rattle.heap_reader.proofs.NoFlaw.{neither}
 use Rattle.pred_reader.proofs.DefinitionFlaws.{definitions_flaw, definitions_whole, same_headings}
 use Rattle.proof_syntax.specs.Trees.{Definition, Line, Node}
 use Rattle.proof_syntax.specs.Keeping.{definition_front, node_front}
-use Rattle.proof_statements.specs.Left.{Preds, Lines, Nodes, statement_of, kept_statement, line_or_node_front, statement_front}
-use Rattle.proof_statements.proofs.StatementFronts.{from-kept}
+use Rattle.proof_statements.specs.Left.{Part, Preds, Lines, Nodes, Statement, statement_of, kept_statement, line_or_node_front, statement_front, joined}
+use Rattle.proof_statements.proofs.StatementFronts.{from-kept, kept-front}
 use Rattle.proof_file.specs.Flaws.{headings, definition_flaw, program_flaw, node_flaw, first_line, nodes_flaw, file_flaw}
 use Rattle.proof_file.specs.Spans.{definition_span}
 use Rattle.proof_file.specs.Values.{node_value}
 use Rattle.proof_file.proofs.NodeFlaws.{node_same, node_whole}
 use Rattle.file_reader.specs.Steps.{tree_of}
-use Rattle.file_reader.specs.Wholes.{IsPart, IsKeptPart, kept}
+use Rattle.file_reader.specs.Wholes.{IsPart, kept, kept_part}
 
 -- ---- statements
 
@@ -33,65 +35,81 @@ abbrev right_in : {A B : Type 0} → B → A ⊎ B → B
 right_in d (inl x) = d
 right_in d (inr y) = y
 
-abbrev KeptNode : List Word → Node → Type 0
-KeptNode ws tree = (x : Node) × ((statement_of Nodes).read ws ≡ Ok (inl x, [])) × (tree ≡ node_front kept x)
+module _ (ws rest : List Word) where
+  abbrev KeptNode : Node → Type 0
+  KeptNode tree = (x : Node) × ((statement_of Nodes).read ws ≡ Ok (inl x, rest)) × (tree ≡ node_front kept x)
 
-pub later-kept : (ws : List Word) (tree : Node) → (kept_statement kept Nodes).read ws ≡ Ok (inl tree, []) → KeptNode ws tree
-later-kept ws tree e = let t = from-kept kept Nodes ws [] (inl tree) e in by t.0 t.1 t.2
-  where
-    by : (t : Node ⊎ Unit {0}) → (statement_of Nodes).read ws ≡ Ok (t, []) → statement_front kept Nodes t ≡ inl tree → KeptNode ws tree
-    by (inl x) read same = (x, read, sym (ap (left_in tree) same))
-    by (inr u) read same = absurd (apart (statement_front kept Nodes (inr u)) tree u same refl)
+  pub later-kept : (tree : Node) → (kept_statement kept Nodes).read ws ≡ Ok (inl tree, rest) → KeptNode tree
+  later-kept tree e = let t = from-kept kept Nodes ws rest (inl tree) e in by t.0 t.1 t.2
+    where
+      by : (t : Node ⊎ Unit {0}) → (statement_of Nodes).read ws ≡ Ok (t, rest) → statement_front kept Nodes t ≡ inl tree → KeptNode tree
+      by (inl x) read same = (x, read, sym (ap (left_in tree) same))
+      by (inr u) read same = absurd (apart (statement_front kept Nodes (inr u)) tree u same refl)
 
-pub end-kept : (ws rest : List Word) → (kept_statement kept Nodes).read ws ≡ Ok (inr tt, rest) → (statement_of Nodes).read ws ≡ Ok (inr tt, rest)
-end-kept ws rest e = let t = from-kept kept Nodes ws rest (inr tt) e in by t.0 t.1 t.2
+  pub end-kept : (kept_statement kept Nodes).read ws ≡ Ok (inr tt, rest) → (statement_of Nodes).read ws ≡ Ok (inr tt, rest)
+  end-kept e = let t = from-kept kept Nodes ws rest (inr tt) e in by t.0 t.1 t.2
+    where
+      by : (t : Node ⊎ Unit {0}) → (statement_of Nodes).read ws ≡ Ok (t, rest) → statement_front kept Nodes t ≡ inr tt → (statement_of Nodes).read ws ≡ Ok (inr tt, rest)
+      by (inl x) read same = absurd (apart (statement_front kept Nodes (inl x)) (node_front kept x) tt refl same)
+      by (inr u) read same = read
+
+-- a fault of what is kept is the statement's
+pub dead-kept : (p : Part) (ws : List Word) (left : ℕ) → (kept_statement kept p).read ws ≡ Err left → (statement_of p).read ws ≡ Err left
+dead-kept p ws left e = by ((statement_of p).read ws) (sym ((kept-front kept p).reads ws) ∙ e)
   where
-    by : (t : Node ⊎ Unit {0}) → (statement_of Nodes).read ws ≡ Ok (t, rest) → statement_front kept Nodes t ≡ inr tt → (statement_of Nodes).read ws ≡ Ok (inr tt, rest)
-    by (inl x) read same = absurd (apart (statement_front kept Nodes (inl x)) (node_front kept x) tt refl same)
-    by (inr u) read same = read
+    by : (q : Reading (Statement p)) → (q >>= mapped (statement_front kept p)) ≡ Err left → q ≡ Err left
+    by (Ok x) is = absurd cc
+    by (Err n) is = cc
 
 -- ---- before the nodes
 
-module _ (in_lines : Bool) (v : Version) (ws : List Word) where
+module _ (in_lines : Bool) (v : Version) (ws rest : List Word) where
   abbrev KeptPart : Definition ⊎ (Line ⊎ Node) → Type 0
-  KeptPart s = (t : Definition ⊎ (Line ⊎ Node)) × IsPart in_lines v ws [] t × (statement_front kept (Preds v) t ≡ s)
+  KeptPart s = (t : Definition ⊎ (Line ⊎ Node)) × IsPart in_lines v ws rest t × (statement_front kept (Preds v) t ≡ s)
 
-part-kept : (in_lines : Bool) (v : Version) (ws : List Word) (s : Definition ⊎ (Line ⊎ Node)) → IsKeptPart kept in_lines v ws [] s → KeptPart in_lines v ws s
-part-kept false v ws s e = from-kept kept (Preds v) ws [] s e
-part-kept true v ws (inl d) e = absurd e
-part-kept true v ws (inr s) e =
-    let t = from-kept kept (Lines v) ws [] s e in
-    (inr t.0, t.1, ap (λ (x : Line ⊎ Node). inr x) t.2)
+-- after lines no definition is read
+later-read : (q : Reading (Line ⊎ Node)) (rest : List Word) (s : Definition ⊎ (Line ⊎ Node)) → joined {B = Definition ⊎ (Line ⊎ Node)} (λ (x : Line ⊎ Node). inr x) q ≡ Ok (s, rest) → (t : Line ⊎ Node) × (q ≡ Ok (t, rest)) × (inr t ≡ s)
+later-read (Err n) rest s e = absurd cc
+later-read (Ok x) rest s e =
+    let is : (inr x.0, x.1) ≡ (s, rest) = cc in
+    (x.0, (λ i. Ok (x.0, (is i).1)), ap (λ (y : (Definition ⊎ (Line ⊎ Node)) × List Word). y.0) is)
 
-module _ (in_lines : Bool) (v : Version) (ws : List Word) where
+pub part-kept : (in_lines : Bool) (v : Version) (ws rest : List Word) (s : Definition ⊎ (Line ⊎ Node)) → kept_part in_lines v ws ≡ Ok (s, rest) → KeptPart in_lines v ws rest s
+part-kept false v ws rest s e = from-kept kept (Preds v) ws rest s e
+part-kept true v ws rest s e =
+    let x = later-read ((kept_statement kept (Lines v)).read ws) rest s e in
+    let t = from-kept kept (Lines v) ws rest x.0 x.1 in
+    (inr t.0, t.1, ap (λ (y : Line ⊎ Node). inr y) t.2 ∙ x.2)
+
+module _ (in_lines : Bool) (v : Version) (ws rest : List Word) where
   abbrev KeptPred : Definition → Type 0
-  KeptPred tree = (x : Definition) × IsPart in_lines v ws [] (inl x) × (tree ≡ definition_front kept x)
+  KeptPred tree = (x : Definition) × IsPart in_lines v ws rest (inl x) × (tree ≡ definition_front kept x)
 
-  pub pred-kept : (tree : Definition) → IsKeptPart kept in_lines v ws [] (inl tree) → KeptPred tree
-  pred-kept tree e = let t = part-kept in_lines v ws (inl tree) e in by t.0 t.1 t.2
+  pub pred-kept : (tree : Definition) → kept_part in_lines v ws ≡ Ok (inl tree, rest) → KeptPred tree
+  pred-kept tree e = let t = part-kept in_lines v ws rest (inl tree) e in by t.0 t.1 t.2
     where
-      by : (t : Definition ⊎ (Line ⊎ Node)) → IsPart in_lines v ws [] t → statement_front kept (Preds v) t ≡ inl tree → KeptPred tree
+      by : (t : Definition ⊎ (Line ⊎ Node)) → IsPart in_lines v ws rest t → statement_front kept (Preds v) t ≡ inl tree → KeptPred tree
       by (inl x) read same = (x, read, sym (ap (left_in tree) same))
       by (inr s) read same = absurd (apart (statement_front kept (Preds v) (inr s)) tree (line_or_node_front kept s) same refl)
 
-  later-part : (s : Line ⊎ Node) → IsKeptPart kept in_lines v ws [] (inr s) → (t : Line ⊎ Node) × IsPart in_lines v ws [] (inr t) × (line_or_node_front kept t ≡ s)
-  later-part s e = let t = part-kept in_lines v ws (inr s) e in by t.0 t.1 t.2
+  later-part : (s : Line ⊎ Node) → kept_part in_lines v ws ≡ Ok (inr s, rest) → (t : Line ⊎ Node) × IsPart in_lines v ws rest (inr t) × (line_or_node_front kept t ≡ s)
+  later-part s e = let t = part-kept in_lines v ws rest (inr s) e in by t.0 t.1 t.2
     where
-      by : (t : Definition ⊎ (Line ⊎ Node)) → IsPart in_lines v ws [] t → statement_front kept (Preds v) t ≡ inr s → (t : Line ⊎ Node) × IsPart in_lines v ws [] (inr t) × (line_or_node_front kept t ≡ s)
+      by : (t : Definition ⊎ (Line ⊎ Node)) → IsPart in_lines v ws rest t → statement_front kept (Preds v) t ≡ inr s → (t : Line ⊎ Node) × IsPart in_lines v ws rest (inr t) × (line_or_node_front kept t ≡ s)
       by (inl x) read same = absurd (apart (statement_front kept (Preds v) (inl x)) (definition_front kept x) s refl same)
       by (inr t) read same = (t, read, ap (right_in s) same)
 
-  pub line-kept : (l : Line) → IsKeptPart kept in_lines v ws [] (inr (inl l)) → IsPart in_lines v ws [] (inr (inl l))
+  pub line-kept : (l : Line) → kept_part in_lines v ws ≡ Ok (inr (inl l), rest) → IsPart in_lines v ws rest (inr (inl l))
   line-kept l e = let t = later-part (inl l) e in by t.0 t.1 t.2
     where
-      by : (t : Line ⊎ Node) → IsPart in_lines v ws [] (inr t) → line_or_node_front kept t ≡ inl l → IsPart in_lines v ws [] (inr (inl l))
-      by (inl x) read same = subst (λ (x : Line). IsPart in_lines v ws [] (inr (inl x))) (ap (left_in l) same) read
+      by : (t : Line ⊎ Node) → IsPart in_lines v ws rest (inr t) → line_or_node_front kept t ≡ inl l → IsPart in_lines v ws rest (inr (inl l))
+      by (inl x) read same = subst (λ (x : Line). IsPart in_lines v ws rest (inr (inl x))) (ap (left_in l) same) read
       by (inr x) read same = absurd (apart (line_or_node_front kept (inr x)) l (node_front kept x) same refl)
 
-  pub node-kept : (tree : Node) → IsKeptPart kept in_lines v ws [] (inr (inr tree)) → (x : Node) × IsPart in_lines v ws [] (inr (inr x)) × (tree ≡ node_front kept x)
+  pub node-kept : (tree : Node) → kept_part in_lines v ws ≡ Ok (inr (inr tree), rest) → (x : Node) × IsPart in_lines v ws rest (inr (inr x)) × (tree ≡ node_front kept x)
   node-kept tree e = let t = later-part (inr tree) e in by t.0 t.1 t.2
     where
-      by : (t : Line ⊎ Node) → IsPart in_lines v ws [] (inr t) → line_or_node_front kept t ≡ inr tree → (x : Node) × IsPart in_lines v ws [] (inr (inr x)) × (tree ≡ node_front kept x)
+      by : (t : Line ⊎ Node) → IsPart in_lines v ws rest (inr t) → line_or_node_front kept t ≡ inr tree → (x : Node) × IsPart in_lines v ws rest (inr (inr x)) × (tree ≡ node_front kept x)
       by (inl x) read same = absurd (apart (line_or_node_front kept (inl x)) x tree refl same)
       by (inr x) read same = (x, read, sym (ap (right_in tree) same))
 

@@ -1,5 +1,5 @@
 -- Statement by statement through a text.
-use Rattle.std.proofs.Common.{◌≡◌, ℕ, zero, suc, ◌+◌, ◌-◌, ◌<◌, ◌≤◌, Bool, true, false, List, [], ◌∷◌, ◌++◌, length, Some, None, Result, Ok, Err, refl, sym, ap, subst, ◌∙◌, arith, length-append, append_assoc}
+use Rattle.std.proofs.Common.{◌≡◌, ℕ, zero, suc, ◌+◌, ◌<◌, ◌≤◌, Bool, true, false, List, [], ◌∷◌, ◌++◌, length, Some, None, Result, Ok, Err, refl, sym, ap, subst, ◌∙◌, arith, length-append, append_assoc}
 use Rattle.std.specs.Prelude.{map, IfOk}
 use Rattle.std.proofs.lemmas.List.{length-map, length-take-le, map-append}
 use Rattle.std.proofs.lemmas.Str.{encodes-chars}
@@ -30,7 +30,6 @@ use Rattle.file_reader.specs.declared.scan.DeadToken.{DeadToken}
 use Rattle.file_reader.specs.declared.scan.Scan.{Scan}
 use Rattle.file_reader.specs.declared.step.Step.{Step}
 use Rattle.file_reader.specs.declared.step.Step.TheVariants as steps
-use Rattle.cyc_lex.specs.declared.fault.ReadFault.TheVariants as faults
 use Rattle.file_reader.specs.Outcomes.{syntax_fault}
 use Rattle.file_reader.specs.Steps.{Leads}
 use Rattle.file_reader.specs.Scans.{reached_of, lead, nothing_behind, next_read, kept_next_read, LeadsOn, DiesOn, IsDead, IsStep, IsRefused, TellsDead, HasDead, Finds, IsScan}

@@ -1,252 +1,202 @@
--- A text that is read through, statement by statement.
-use Rattle.std.proofs.Common.{◌≡◌, ℕ, ◌+◌, ◌≤◌, ◌<◌, Bool, true, false, List, [], ◌∷◌, ◌++◌, length, map, Some, None, Result, Ok, Err, refl, sym, ap, subst, ◌∙◌, arith, length-append, append_assoc, inl, inr, ◌⊎◌}
-use Rattle.std.specs.Prelude.{slice_get}
-use Rattle.std.specs.Str.{chars, IsUtf8}
+-- A text that is read once more, statement by statement.
+use Rattle.std.proofs.Common.{◌≡◌, ℕ, ◌+◌, ◌-◌, ◌≤◌, ◌<◌, Bool, true, false, List, [], ◌∷◌, ◌++◌, length, map, Some, None, Result, Ok, Err, refl, sym, ap, subst, ◌∙◌, arith, length-append, append_assoc, inl, inr, ◌⊎◌}
 use Rattle.std.proofs.lemmas.List.{append-nil, length-map, map_push, map-append}
-use Rattle.std.proofs.lemmas.Str.{encodes-chars}
-use Rattle.cyc_lex.specs.Lexing.{start, lex, comment_len, tokens_of, with_tokens}
+use Rattle.cyc_lex.specs.declared.fault.ReadFault.{ReadFault}
+use Rattle.cyc_lex.specs.Lexing.{tokens_of}
 use Rattle.cyc_lex.specs.Placed.{Placed}
 use Rattle.cyc_lex.specs.Word.{Word, word_of}
-use Rattle.cyc_lex.proofs.Lexed.{with_tokens-ok, with_tokens-err}
-use Rattle.cyc_grammar.specs.Syntax.{Reading, ◌>>=◌, all_taken, read_whole}
+use Rattle.cyc_grammar.specs.Syntax.{Reading, ◌>>=◌, all_taken, read_class, read_whole}
+use Rattle.cyc_grammar.specs.Classes.{the_end}
+use Rattle.cyc_grammar.specs.Giving.{Fails}
+use Rattle.cyc_grammar.specs.declared.cursor.Refusal.{Refusal}
+use Rattle.cyc_grammar.specs.declared.cursor.Refusal.TheVariants as refusals
 use Rattle.cyc_grammar.specs.Classes.{are_tokens}
 use Rattle.cyc_grammar.proofs.Laws.{whole_ok}
-use Rattle.cyc_grammar.proofs.WholeTexts.{all-tokens}
-use Rattle.piecewise_lex.specs.declared.spans.Span.{Span}
-use Rattle.piecewise_lex.specs.Feeding.{tokens_from}
-use Rattle.piecewise_lex.specs.Spans.{IsSpan, front_tokens}
-use Rattle.piecewise_lex.specs.Taking.{reading, HasTaken}
-use Rattle.piecewise_lex.proofs.TakingLaws.{taken-more}
-use Rattle.piecewise_lex.proofs.TakingBytes.{taken-law}
+use Rattle.cyc_grammar.proofs.WholeTexts.{all-tokens, err-within}
 use Rattle.heap_syntax.specs.declared.version.Version.{Version}
 use Rattle.heap_syntax.specs.Versions.{most_spatial}
 use Rattle.heap_reader.specs.Trees.{Heading}
-use Rattle.heap_reader.specs.Flaws.{Found, or_later, listed_flaw}
+use Rattle.heap_reader.specs.Flaws.{Found as Flaws, or_later, listed_flaw}
 use Rattle.heap_reader.specs.Spans.{total, line_span}
-use Rattle.proof_syntax.specs.Trees.{Definition, Line, Node, File}
-use Rattle.proof_syntax.specs.Grammar.{last_word, semicolon, node, file}
-use Rattle.proof_syntax.specs.Keeping.{definition_front}
-use Rattle.proof_syntax.proofs.GrammarLaws.{file-law}
-use Rattle.proof_syntax.proofs.FrontFits.{node-fits}
-use Rattle.proof_statements.specs.Left.{First, Preds, Lines, Nodes, At, Ended, Left, statement_of, kept_statement, joined, line_or_node, last_statement}
-use Rattle.proof_statements.proofs.LeftLaws.{statement-law}
-use Rattle.proof_file.specs.Flaws.{headings, definition_flaw, program_flaw, node_flaw, nodes_flaw, first_line, first_node, file_flaw}
-use Rattle.proof_file.specs.Spans.{definition_span, variable_span, node_span}
-use Rattle.file_reader.specs.declared.front.Spot.{Spot}
-use Rattle.file_reader.specs.Steps.{Leads, tree_of, span_of}
-use Rattle.file_reader.specs.Wholes.{IsPart, IsKeptPart, kept, IsTheEnd, IsAt, LeadsFront, front_size, front_defs, IsFront, IsKeptFront, IsBegun, LeadsNodes, IsAll, IsLastLeft, found_in, AreNodes, AreKeptNodes, AreAllNodes, AreAllKept, StandsIn, IsFlawIn, IsWhole, IsAnswer}
-use Rattle.file_reader.specs.declared.whole.Whole.{Whole}
-use Rattle.file_reader.specs.declared.whole.Whole.TheVariants as wholes
-use Rattle.file_reader.proofs.Tokens.{slice-behind}
-use Rattle.cyc_lex.specs.declared.fault.ReadFault.{ReadFault}
-use Rattle.cyc_lex.specs.declared.fault.ReadFault.TheVariants as faults
-use Rattle.cyc_lex.specs.declared.place.Bad.{Bad}
-use Rattle.cyc_lex.specs.declared.place.Place.{Place}
-use Rattle.cyc_grammar.specs.Faults.{StandsAt}
-use Rattle.heap_reader.specs.declared.flaw.Flaw.{Flaw}
-use Rattle.heap_reader.specs.Told.{IsFlawTold}
-use Rattle.heap_reader.specs.Reading.{SpellsTree}
 use Rattle.heap_reader.proofs.Fitting.{most_fits}
 use Rattle.heap_reader.proofs.NoFlaw.{neither}
 use Rattle.heap_reader.proofs.WithinSpans.{flaw_within}
+use Rattle.heap_reader.specs.declared.flaw.Flaw.{Flaw}
+use Rattle.proof_syntax.specs.Trees.{Definition, Line, Node, File, node_of}
+use Rattle.proof_syntax.specs.Grammar.{node, file}
+use Rattle.proof_syntax.specs.Keeping.{definition_front}
+use Rattle.proof_syntax.proofs.FrontFits.{node-fits}
+use Rattle.proof_syntax.proofs.GrammarEnds.{file-last}
+use Rattle.proof_syntax.proofs.GrammarLaws.{file-law}
+use Rattle.proof_statements.specs.Left.{Part, First, Preds, Lines, Nodes, At, Left, left_of, Statement, statement_of, kept_statement, next, join, joined, line_or_node}
+use Rattle.proof_statements.proofs.LeftLaws.{begins-with, statement-law}
+use Rattle.proof_statements.proofs.Listed.{joined-twice}
 use Rattle.pred_reader.proofs.Fitting.{definitions_small}
 use Rattle.pred_reader.proofs.FrontSpans.{definitions-span}
-use Rattle.proof_file.specs.declared.file.ProofFile.{ProofFile}
-use Rattle.proof_file.specs.Reading.{IsRead, Reads, proof_files}
-use Rattle.proof_file.proofs.SpanLaws.{file_words}
-use Rattle.proof_file.proofs.FrontSpans.{node-span}
-use Rattle.proof_file.proofs.WithinSpans.{file_before}
-use Rattle.file_reader.specs.declared.front.Front.{Front}
-use Rattle.proof_syntax.specs.Trees.{node_of}
-use Rattle.proof_file.specs.declared.node.FileNode.{FileNode}
+use Rattle.proof_file.specs.Flaws.{heading, headings, definition_flaw, program_flaw, node_flaw, nodes_flaw, first_line, first_node, file_flaw}
+use Rattle.proof_file.specs.Spans.{definition_span, variable_span, node_span}
 use Rattle.proof_file.specs.Values.{node_value}
-use Rattle.file_reader.proofs.Beginning.{lead-none, lead-more, one-later, listed-append, file-flaws}
-use Rattle.file_reader.proofs.EndLaws.{later-tokens, text-tokens}
-use Rattle.file_reader.proofs.Fresh.{tokens-end, tokens-few, from-start}
-use Rattle.file_reader.proofs.ScanLaws.{span-size}
-use Rattle.file_reader.proofs.Sizes.{statement-span}
-use Rattle.file_reader.proofs.KeptParts.{later-kept, end-kept, pred-kept, line-kept, same-found, same-value, kept-headings, kept-flaw, whole-front}
+use Rattle.proof_file.specs.declared.file.ProofFile.{ProofFile}
+use Rattle.proof_file.specs.declared.node.FileNode.{FileNode}
+use Rattle.proof_file.proofs.FrontSpans.{node-span}
+use Rattle.proof_file.proofs.SpanLaws.{file_words}
+use Rattle.proof_file.proofs.WithinSpans.{file_before}
+use Rattle.file_reader.specs.declared.found.Found.{Found}
+use Rattle.file_reader.specs.declared.front.Front.{Front}
+use Rattle.file_reader.specs.Steps.{tree_of, span_of}
+use Rattle.file_reader.specs.Wholes.{IsPart, kept, kept_part, LeadsTo, LeadsFront, front_size, IsFront, front_defs, IsBegun, AreAdded, AreRead, AreLast}
+use Rattle.file_reader.specs.Outcomes.{Faulty as Bears, Has, flaw_fault, syntax_fault, told_flaw, settled, said_of, file_outcome, whole_outcome}
+use Rattle.file_reader.specs.Pieces.{Tells}
+use Rattle.file_reader.proofs.Beginning.{one-later, listed-append, file-flaws}
+use Rattle.file_reader.proofs.EndLaws.{tells-fault}
+use Rattle.file_reader.proofs.Fresh.{tokens-end}
+use Rattle.file_reader.proofs.KeptParts.{later-kept, end-kept, dead-kept, part-kept, pred-kept, line-kept, node-kept, same-found, same-value, kept-headings, kept-flaw, whole-front}
+use Rattle.file_reader.proofs.Sizes.{statement-words}
 
--- ---- one statement
+-- ---- one statement after others
 
-part-span : (in_lines : Bool) (v : Version) (vs : List Word) (s : Definition ⊎ (Line ⊎ Node)) → IsPart in_lines v vs [] s → length vs ≡ span_of (Preds v) s
-part-span false v vs s e = statement-span (Preds v) vs s e
-part-span true v vs (inl d) e = absurd e
-part-span true v vs (inr (inl l)) e = statement-span (Lines v) vs (inl l) e
-part-span true v vs (inr (inr n)) e = statement-span (Lines v) vs (inr n) e
+pub lead-none : (ws : List Word) → LeadsTo ws (At First) (λ x. x) ws
+lead-none ws = by (file.read ws)
+  where
+    by : (q : Reading File) → q ≡ joined (λ x. x) q
+    by (Ok x) = refl
+    by (Err n) = refl
 
-node-read : (v : Version) (vs : List Word) (n : Node) → (statement_of (Lines v)).read vs ≡ Ok (inr n, []) → node.fits n
+-- what is left is read as a statement, and then as what is left after that
+left-step : (p : Part) (vs rest : List Word) (t : Statement p) → (statement_of p).read vs ≡ Ok (t, rest) → (left_of (At p)).read vs ≡ joined (join p t) ((left_of (next p t)).read rest)
+left-step p vs rest t e = begins-with p vs ∙ ap (λ (q : Reading (Statement p)). q >>= λ x. joined (join p x.0) ((left_of (next p x.0)).read x.1)) e
+
+pub left-dead : (p : Part) (vs : List Word) (left : ℕ) → (statement_of p).read vs ≡ Err left → (left_of (At p)).read vs ≡ Err left
+left-dead p vs left e = begins-with p vs ∙ ap (λ (q : Reading (Statement p)). q >>= λ x. joined (join p x.0) ((left_of (next p x.0)).read x.1)) e
+
+pub lead-step : (p : Part) (ws vs rest : List Word) (f : Left (At p) → File) (t : Statement p) → LeadsTo ws (At p) f vs → (statement_of p).read vs ≡ Ok (t, rest) → LeadsTo ws (next p t) (λ x. f (join p t x)) rest
+lead-step p ws vs rest f t leads e =
+    leads ∙ ap (λ (q : Reading (Left (At p))). joined f q) (left-step p vs rest t e) ∙ joined-twice f (join p t) ((left_of (next p t)).read rest)
+
+pub lead-dead : (p : Part) (ws vs : List Word) (f : Left (At p) → File) (left : ℕ) → LeadsTo ws (At p) f vs → (statement_of p).read vs ≡ Err left → file.read ws ≡ Err left
+lead-dead p ws vs f left leads e = leads ∙ ap (λ (q : Reading (Left (At p))). joined f q) (left-dead p vs left e)
+
+pub step-fails : (p : Part) (ws vs : List Word) (f : Left (At p) → File) (e : Refusal) → LeadsTo ws (At p) f vs → Fails e ((statement_of p).read vs) → Fails e (file.read ws)
+step-fails p ws vs f refusals.OutOfMemory leads h = tt
+step-fails p ws vs f (refusals.Dead left) leads h = lead-dead p ws vs f left leads h
+
+-- its words
+pub statement-size : (p : Part) (vs rest : List Word) (t : Statement p) → (statement_of p).read vs ≡ Ok (t, rest) → length vs ≡ span_of p t + length rest
+statement-size p vs rest t e =
+    let h = (statement-law p).takes vs (t, rest) e in
+    omega (arith, ap length h.0, length-append ((statement_of p).words t) rest, statement-words p t h.2)
+
+-- ---- before the nodes
+
+part-size : (in_lines : Bool) (v : Version) (vs rest : List Word) (s : Definition ⊎ (Line ⊎ Node)) → IsPart in_lines v vs rest s → length vs ≡ span_of (Preds v) s + length rest
+part-size false v vs rest s e = statement-size (Preds v) vs rest s e
+part-size true v vs rest (inl d) e = absurd e
+part-size true v vs rest (inr (inl l)) e = statement-size (Lines v) vs rest (inl l) e
+part-size true v vs rest (inr (inr n)) e = statement-size (Lines v) vs rest (inr n) e
+
+pub part-fits : (in_lines : Bool) (v : Version) (vs rest : List Word) (n : Node) → IsPart in_lines v vs rest (inr (inr n)) → node.fits n
 unfolding line_or_node
-node-read v vs n e = ((statement-law (Lines v)).takes vs (inr n, []) e).2
+part-fits false v vs rest n e = ((statement-law (Preds v)).takes vs (inr (inr n), rest) e).2
+part-fits true v vs rest n e = ((statement-law (Lines v)).takes vs (inr n, rest) e).2
 
-part-node-fits : (in_lines : Bool) (v : Version) (vs : List Word) (n : Node) → IsPart in_lines v vs [] (inr (inr n)) → node.fits n
-unfolding line_or_node
-part-node-fits false v vs n e = ((statement-law (Preds v)).takes vs (inr (inr n), []) e).2
-part-node-fits true v vs n e = node-read v vs n e
+module _ (v : Version) (ds : List Definition) (ls : List Line) (ws vs rest : List Word) where
+  pub part-pred : (in_lines : Bool) (d : Definition) → LeadsFront in_lines v ds ls ws vs → IsPart in_lines v vs rest (inl d) → LeadsFront in_lines v (ds ++ d ∷ []) ls ws rest
+  part-pred true d h e = absurd e
+  part-pred false d h e =
+      (h.0, subst (λ (g : Left (At (Preds v)) → File). LeadsTo ws (At (Preds v)) g rest) (λ i x. tree_of v (sym (append_assoc ds (d ∷ []) x.0) i) x.1.0 x.1.1) (lead-step (Preds v) ws vs rest (λ x. tree_of v (ds ++ x.0) x.1.0 x.1.1) (inl d) h.1 e))
 
-later-node-fits : (vs : List Word) (n : Node) → (statement_of Nodes).read vs ≡ Ok (inl n, []) → node.fits n
-later-node-fits vs n e = ((statement-law Nodes).takes vs (inl n, []) e).2
+  pub part-line : (in_lines : Bool) (l : Line) → LeadsFront in_lines v ds ls ws vs → IsPart in_lines v vs rest (inr (inl l)) → LeadsFront true v ds (ls ++ l ∷ []) ws rest
+  part-line true l h e =
+      subst (λ (g : Left (At (Lines v)) → File). LeadsTo ws (At (Lines v)) g rest) (λ i x. tree_of v ds (sym (append_assoc ls (l ∷ []) x.0) i) x.1) (lead-step (Lines v) ws vs rest (λ x. tree_of v ds (ls ++ x.0) x.1) (inl l) h e)
+  part-line false l h e =
+      subst (λ (g : Left (At (Lines v)) → File). LeadsTo ws (At (Lines v)) g rest) (λ i x. tree_of v (append-nil ds i) ((sym h.0 i ++ l ∷ []) ++ x.0) x.1) (lead-step (Preds v) ws vs rest (λ x. tree_of v (ds ++ x.0) x.1.0 x.1.1) (inr (inl l)) h.1 e)
 
--- ---- where the words lead
-
-part-pred : (in_lines : Bool) (v : Version) (ds : List Definition) (ls : List Line) (ws vs : List Word) (d : Definition) → LeadsFront in_lines v ds ls ws → IsPart in_lines v vs [] (inl d) → LeadsFront in_lines v (ds ++ d ∷ []) ls (ws ++ vs)
-part-pred true v ds ls ws vs d h e = absurd e
-part-pred false v ds ls ws vs d h e =
-    (h.0, subst (λ (g : Left (At (Preds v)) → File). Leads (ws ++ vs) (At (Preds v)) g) (λ i x. tree_of v (sym (append_assoc ds (d ∷ []) x.0) i) x.1.0 x.1.1) (lead-more (Preds v) ws vs (λ x. tree_of v (ds ++ x.0) x.1.0 x.1.1) (inl d) h.1 e))
-
-part-line : (in_lines : Bool) (v : Version) (ds : List Definition) (ls : List Line) (ws vs : List Word) (l : Line) → LeadsFront in_lines v ds ls ws → IsPart in_lines v vs [] (inr (inl l)) → LeadsFront true v ds (ls ++ l ∷ []) (ws ++ vs)
-part-line true v ds ls ws vs l h e =
-    subst (λ (g : Left (At (Lines v)) → File). Leads (ws ++ vs) (At (Lines v)) g) (λ i x. tree_of v ds (sym (append_assoc ls (l ∷ []) x.0) i) x.1) (lead-more (Lines v) ws vs (λ x. tree_of v ds (ls ++ x.0) x.1) (inl l) h e)
-part-line false v ds ls ws vs l h e =
-    subst (λ (g : Left (At (Lines v)) → File). Leads (ws ++ vs) (At (Lines v)) g) (λ i x. tree_of v (append-nil ds i) ((sym h.0 i ++ l ∷ []) ++ x.0) x.1) (lead-more (Preds v) ws vs (λ x. tree_of v (ds ++ x.0) x.1.0 x.1.1) (inr (inl l)) h.1 e)
-
-part-node : (in_lines : Bool) (v : Version) (ds : List Definition) (ls : List Line) (ws vs : List Word) (n : Node) → LeadsFront in_lines v ds ls ws → IsPart in_lines v vs [] (inr (inr n)) → LeadsNodes v ds ls (n ∷ []) (ws ++ vs)
-part-node true v ds ls ws vs n h e =
-    subst (λ (g : Left (At Nodes) → File). Leads (ws ++ vs) (At Nodes) g) (λ i x. tree_of v ds (append-nil ls i) (n ∷ x)) (lead-more (Lines v) ws vs (λ x. tree_of v ds (ls ++ x.0) x.1) (inr n) h e)
-part-node false v ds ls ws vs n h e =
-    subst (λ (g : Left (At Nodes) → File). Leads (ws ++ vs) (At Nodes) g) (λ i x. tree_of v (append-nil ds i) (sym h.0 i) (n ∷ x)) (lead-more (Preds v) ws vs (λ x. tree_of v (ds ++ x.0) x.1.0 x.1.1) (inr (inr n)) h.1 e)
-
-later-node : (v : Version) (ds : List Definition) (ls : List Line) (xs : List Node) (ws vs : List Word) (n : Node) → LeadsNodes v ds ls xs ws → (statement_of Nodes).read vs ≡ Ok (inl n, []) → LeadsNodes v ds ls (xs ++ n ∷ []) (ws ++ vs)
-later-node v ds ls xs ws vs n h e =
-    subst (λ (g : Left (At Nodes) → File). Leads (ws ++ vs) (At Nodes) g) (λ i x. tree_of v ds ls (sym (append_assoc xs (n ∷ []) x) i)) (lead-more Nodes ws vs (λ x. tree_of v ds ls (xs ++ x)) (inl n) h e)
-
-later-end : (v : Version) (ds : List Definition) (ls : List Line) (xs : List Node) (ws vs : List Word) → LeadsNodes v ds ls xs ws → (statement_of Nodes).read vs ≡ Ok (inr tt, []) → Leads (ws ++ vs) Ended (λ u. tree_of v ds ls xs)
-later-end v ds ls xs ws vs h e =
-    subst (λ (g : Left Ended → File). Leads (ws ++ vs) Ended g) (λ i x. tree_of v ds ls (append-nil xs i)) (lead-more Nodes ws vs (λ x. tree_of v ds ls (xs ++ x)) (inr tt) h e)
-
--- all words of a file
-pub all-read : (ws us : List Word) (f : File) → Leads ws Ended (λ u. f) → IsTheEnd us → read_whole file (ws ++ us) ≡ Ok f
-all-read ws us f h e = ap (λ (q : Reading File). q >>= λ y. all_taken y.0 y.1) (h us ∙ ap (λ (q : Reading (Unit {0})). joined (λ u. f) q) e)
-
--- ---- sizes
+  pub part-node : (in_lines : Bool) (n : Node) → LeadsFront in_lines v ds ls ws vs → IsPart in_lines v vs rest (inr (inr n)) → LeadsTo ws (At Nodes) (λ ns. tree_of v ds ls (n ∷ ns)) rest
+  part-node true n h e =
+      subst (λ (g : Left (At Nodes) → File). LeadsTo ws (At Nodes) g rest) (λ i x. tree_of v ds (append-nil ls i) (n ∷ x)) (lead-step (Lines v) ws vs rest (λ x. tree_of v ds (ls ++ x.0) x.1) (inr n) h e)
+  part-node false n h e =
+      subst (λ (g : Left (At Nodes) → File). LeadsTo ws (At Nodes) g rest) (λ i x. tree_of v (append-nil ds i) (sym h.0 i) (n ∷ x)) (lead-step (Preds v) ws vs rest (λ x. tree_of v (ds ++ x.0) x.1.0 x.1.1) (inr (inr n)) h.1 e)
 
 total-more : {X : Type 0} (span : X → ℕ) (xs : List X) (x : X) → total span (xs ++ x ∷ []) ≡ total span xs + span x
 total-more span [] x = omega arith
 total-more span (y ∷ ys) x = let more = total-more span ys x in omega arith
 
--- ---- one more statement
+module _ (in_lines : Bool) (v : Version) (ds : List Definition) (ls : List Line) (vs rest : List Word) where
+  pub size-pred : (d : Definition) → IsPart in_lines v vs rest (inl d) → front_size ds ls + length vs ≡ front_size (ds ++ d ∷ []) ls + length rest
+  size-pred d e = omega (arith, part-size in_lines v vs rest (inl d) e, total-more definition_span ds d)
 
--- its tokens
-abbrev pub new_tokens : Spot → Span → List Placed
-new_tokens s t = front_tokens t.tokens (reading s.place s.comment s.rest.now)
+  pub size-line : (l : Line) → IsPart in_lines v vs rest (inr (inl l)) → front_size ds ls + length vs ≡ front_size ds (ls ++ l ∷ []) + length rest
+  size-line l e = omega (arith, part-size in_lines v vs rest (inr (inl l)) e, total-more (line_span variable_span) ls l)
 
-module _ (text : List ℕ) (s : Spot) (ts : List Placed) (h : IsAt text ts s) (t : Span) (k : IsSpan (reading s.place s.comment s.rest.now) t) where
-  abbrev on : Spot
-  on = record { place = t.place; comment = t.comment; rest = t.rest; tokens = s.tokens + t.tokens }
+  pub size-node : (n : Node) → IsPart in_lines v vs rest (inr (inr n)) → length vs ≡ node_span n + length rest
+  size-node n e = part-size in_lines v vs rest (inr (inr n)) e
 
-  pub at-few : s.tokens + t.tokens + length t.rest.now ≤ length text
-  at-few = omega (arith, h.few, k.count, ap length (encodes-chars s.rest.now h.utf8))
+-- what was read before, where a statement is not read
+joined-err : {A B : Type 0} (f : A → B) (q : Reading A) (left : ℕ) → joined f q ≡ Err left → q ≡ Err left
+joined-err f (Ok x) left e = absurd cc
+joined-err f (Err n) left e = cc
 
-  pub at-more : IsAt text (ts ++ new_tokens s t) on
-  at-more = record {
-    taken = taken-more (reading start false text) (reading s.place s.comment s.rest.now) (reading t.place t.comment t.rest.now) ts (new_tokens s t) h.taken k.taken;
-    room = k.room;
-    utf8 = k.utf8;
-    count = omega (arith, h.count, span-size (reading s.place s.comment s.rest.now) t k, length-append ts (new_tokens s t));
-    few = at-few;
-  }
+pub part-fails : (in_lines : Bool) (v : Version) (ds : List Definition) (ls : List Line) (ws vs : List Word) (e : Refusal) → LeadsFront in_lines v ds ls ws vs → Fails e (kept_part in_lines v vs) → Fails e (file.read ws)
+part-fails in_lines v ds ls ws vs refusals.OutOfMemory h k = tt
+part-fails false v ds ls ws vs (refusals.Dead left) h k = lead-dead (Preds v) ws vs (λ x. tree_of v (ds ++ x.0) x.1.0 x.1.1) left h.1 (dead-kept (Preds v) vs left k)
+part-fails true v ds ls ws vs (refusals.Dead left) h k =
+    lead-dead (Lines v) ws vs (λ x. tree_of v ds (ls ++ x.0) x.1) left h (dead-kept (Lines v) vs left (joined-err {B = Definition ⊎ (Line ⊎ Node)} (λ (s : Line ⊎ Node). inr s) ((kept_statement kept (Lines v)).read vs) left k))
 
-  all-words : map word_of (ts ++ new_tokens s t) ≡ map word_of ts ++ map word_of (new_tokens s t)
-  all-words = map-append word_of ts (new_tokens s t)
+some-span : (v : Version) (s : Definition ⊎ (Line ⊎ Node)) → 0 < span_of (Preds v) s
+some-span v (inl d) = omega arith
+some-span v (inr (inl l)) = omega arith
+some-span v (inr (inr n)) = omega arith
 
-  size-of : (span : ℕ) → length (map word_of (new_tokens s t)) ≡ span → s.tokens + t.tokens ≡ s.tokens + span
-  size-of span e = omega (arith, e, length-map (new_tokens s t) word_of, span-size (reading s.place s.comment s.rest.now) t k)
+pub part-shrinks : (in_lines : Bool) (v : Version) (vs rest : List Word) (s : Definition ⊎ (Line ⊎ Node)) → kept_part in_lines v vs ≡ Ok (s, rest) → length rest < length vs
+part-shrinks in_lines v vs rest s e =
+    let t = part-kept in_lines v vs rest s e in
+    omega (arith, part-size in_lines v vs rest t.0 t.1, some-span v t.0)
 
-module _ (text : List ℕ) (in_lines : Bool) (v : Version) (ds : List Definition) (ls : List Line) (s : Spot) (f : IsFront text in_lines v ds ls s) (t : Span) (k : IsSpan (reading s.place s.comment s.rest.now) t) where
-  abbrev vs : List Word
-  vs = map word_of (new_tokens s t)
+-- ---- what is kept of a front
 
-  front-pred : (d : Definition) → IsPart in_lines v vs [] (inl d) → IsFront text in_lines v (ds ++ d ∷ []) ls (on text s f.tokens f.at t k)
-  front-pred d e =
-      record {
-        tokens = f.tokens ++ new_tokens s t;
-        at = at-more text s f.tokens f.at t k;
-        leads = subst (λ (ws : List Word). LeadsFront in_lines v (ds ++ d ∷ []) ls ws) (sym (all-words text s f.tokens f.at t k)) (part-pred in_lines v ds ls (map word_of f.tokens) vs d f.leads e);
-        size = omega (arith, f.size, size-of text s f.tokens f.at t k (definition_span d) (part-span in_lines v vs (inl d) e), total-more definition_span ds d);
-      }
+pub front-open : (ws vs : List Word) (v : Version) → (statement_of First).read ws ≡ Ok (v, vs) → IsFront false v [] [] ws vs
+front-open ws vs v e = record {
+  definitions = [];
+  are = refl;
+  leads = (refl, lead-step First ws ws vs (λ x. x) v (lead-none ws) e);
+  size = omega (arith, statement-size First ws vs v e);
+}
 
-  front-line : (l : Line) → IsPart in_lines v vs [] (inr (inl l)) → IsFront text true v ds (ls ++ l ∷ []) (on text s f.tokens f.at t k)
-  front-line l e =
-      record {
-        tokens = f.tokens ++ new_tokens s t;
-        at = at-more text s f.tokens f.at t k;
-        leads = subst (λ (ws : List Word). LeadsFront true v ds (ls ++ l ∷ []) ws) (sym (all-words text s f.tokens f.at t k)) (part-line in_lines v ds ls (map word_of f.tokens) vs l f.leads e);
-        size = omega (arith, f.size, size-of text s f.tokens f.at t k (line_span variable_span l) (part-span in_lines v vs (inr (inl l)) e), total-more (line_span variable_span) ls l);
-      }
-
-  pub front-node-leads : (x : Node) → IsPart in_lines v vs [] (inr (inr x)) → LeadsNodes v ds ls (x ∷ []) (map word_of (f.tokens ++ new_tokens s t))
-  front-node-leads x e =
-      subst (λ (ws : List Word). LeadsNodes v ds ls (x ∷ []) ws) (sym (all-words text s f.tokens f.at t k)) (part-node in_lines v ds ls (map word_of f.tokens) vs x f.leads e)
-
-  pub front-node-span : (x : Node) → IsPart in_lines v vs [] (inr (inr x)) → s.tokens + t.tokens ≡ s.tokens + node_span x
-  front-node-span x e = size-of text s f.tokens f.at t k (node_span x) (part-span in_lines v vs (inr (inr x)) e)
-
-  pub front-node-fits : (x : Node) → IsPart in_lines v vs [] (inr (inr x)) → node.fits x
-  front-node-fits x e = part-node-fits in_lines v vs x e
-
--- and what is kept of it
-module _ (text : List ℕ) (in_lines : Bool) (v : Version) (trees : List Definition) (ls : List Line) (s : Spot) (f : IsKeptFront text in_lines v trees ls s) (t : Span) (k : IsSpan (reading s.place s.comment s.rest.now) t) where
-  abbrev kept_vs : List Word
-  kept_vs = map word_of (new_tokens s t)
-
-  pub kept-front-pred : (tree : Definition) → IsKeptPart kept in_lines v kept_vs [] (inl tree) → IsKeptFront text in_lines v (trees ++ tree ∷ []) ls (on text s f.read.tokens f.read.at t k)
-  kept-front-pred tree e =
-      let d = pred-kept in_lines v kept_vs tree e in
+module _ (in_lines : Bool) (v : Version) (trees : List Definition) (ls : List Line) (ws vs rest : List Word) (f : IsFront in_lines v trees ls ws vs) where
+  pub front-pred : (tree : Definition) → kept_part in_lines v vs ≡ Ok (inl tree, rest) → IsFront in_lines v (trees ++ tree ∷ []) ls ws rest
+  front-pred tree e =
+      let d = pred-kept in_lines v vs rest tree e in
       record {
         definitions = f.definitions ++ d.0 ∷ [];
         are = (λ i. f.are i ++ d.2 i ∷ []) ∙ sym (map_push (definition_front kept) f.definitions d.0);
-        read = front-pred text in_lines v f.definitions ls s f.read t k d.0 d.1;
+        leads = part-pred v f.definitions ls ws vs rest in_lines d.0 f.leads d.1;
+        size = omega (arith, f.size, size-pred in_lines v f.definitions ls vs rest d.0 d.1);
       }
 
-  pub kept-front-line : (l : Line) → IsKeptPart kept in_lines v kept_vs [] (inr (inl l)) → IsKeptFront text true v trees (ls ++ l ∷ []) (on text s f.read.tokens f.read.at t k)
-  kept-front-line l e = record {
-    definitions = f.definitions;
-    are = f.are;
-    read = front-line text in_lines v f.definitions ls s f.read t k l (line-kept in_lines v kept_vs l e);
-  }
+  pub front-line : (l : Line) → kept_part in_lines v vs ≡ Ok (inr (inl l), rest) → IsFront true v trees (ls ++ l ∷ []) ws rest
+  front-line l e =
+      let k = line-kept in_lines v vs rest l e in
+      record {
+        definitions = f.definitions;
+        are = f.are;
+        leads = part-line v f.definitions ls ws vs rest in_lines l f.leads k;
+        size = omega (arith, f.size, size-line in_lines v f.definitions ls vs rest l k);
+      }
 
--- ---- the first statement
-
-pub front-open : (text : List ℕ) (t : Span) → IsUtf8 text → IsSpan (reading start false text) t → (v : Version) → (statement_of First).read (map word_of (front_tokens t.tokens (reading start false text))) ≡ Ok (v, [])
-    → IsFront text false v [] [] (record { place = t.place; comment = t.comment; rest = t.rest; tokens = t.tokens })
-front-open text t utf8 k v e =
-    let us = front_tokens t.tokens (reading start false text) in
-    let size = span-size (reading start false text) t k in
-    record {
-      tokens = us;
-      at = record {
-        taken = k.taken;
-        room = k.room;
-        utf8 = k.utf8;
-        count = size;
-        few = omega (arith, k.count, ap length (encodes-chars text utf8));
-      };
-      leads = (refl, lead-more First [] (map word_of us) (λ x. x) v lead-none e);
-      size = omega (arith, statement-span First (map word_of us) v e, length-map us word_of, size);
-    }
-
--- ---- nodes
-
-later-none : (o : Found) → or_later o None ≡ o
-later-none None = refl
-later-none (Some flaw) = refl
-
-found-more : (v : Version) (hs : List Heading) (ds : List Definition) (ls : List Line) (first : Found) (xs : List Node) (x : Node) → found_in v hs ds ls first (xs ++ x ∷ []) ≡ or_later (found_in v hs ds ls first xs) (node_flaw (most_spatial v) hs (length ls) (length xs) (front_size ds ls + total node_span xs) x)
-found-more v hs ds ls first xs x =
-    ap (or_later first) (listed-append flaw node_span 0 at xs (x ∷ []) ∙ (λ i. or_later (listed_flaw flaw node_span 0 at xs) (alone i)))
-    ∙ one-later first (listed_flaw flaw node_span 0 at xs) (flaw (length xs) (at + total node_span xs) x)
-  where
-    at : ℕ
-    at = front_size ds ls
-
-    flaw : ℕ → ℕ → Node → Found
-    flaw = node_flaw (most_spatial v) hs (length ls)
-
-    zero : 0 + length xs ≡ length xs
-    zero = omega arith
-
-    alone : listed_flaw flaw node_span (0 + length xs) (at + total node_span xs) (x ∷ []) ≡ flaw (length xs) (at + total node_span xs) x
-    alone = later-none (flaw (0 + length xs) (at + total node_span xs) x) ∙ ap (λ n. flaw n (at + total node_span xs) x) zero
+  pub front-node : (b : Front) → b.version ≡ v → front_defs b ≡ trees → b.lines.items ≡ ls → b.before ≡ length ws - length vs → kept_part in_lines v vs ≡ Ok (inr (inr (node_of b.first)), rest) → IsBegun ws b rest
+  front-node b version defs lines before e =
+      let x = node-kept in_lines v vs rest (node_of b.first) e in
+      record {
+        definitions = f.definitions;
+        first = x.0;
+        are = defs ∙ f.are;
+        is = x.2;
+        leads = subst (λ (w : Version). LeadsTo ws (At Nodes) (λ ns. tree_of w f.definitions b.lines.items (x.0 ∷ ns)) rest) (sym version)
+            (subst (λ (ks : List Line). LeadsTo ws (At Nodes) (λ ns. tree_of v f.definitions ks (x.0 ∷ ns)) rest) (sym lines) (part-node v f.definitions ls ws vs rest in_lines x.0 f.leads x.1));
+        before = omega (arith, before, f.size, ap (λ (ks : List Line). front_size f.definitions ks) lines);
+        size = omega (arith, f.size, size-node in_lines v f.definitions ls vs rest x.0 x.1, ap (λ (ks : List Line). front_size f.definitions ks) lines);
+        fits = part-fits in_lines v vs rest x.0 x.1;
+      }
 
 -- definitions of a front without a flaw are few
 pub front-few : (v : Version) (ds : List Definition) (ls : List Line) → file_flaw (tree_of v ds ls []) ≡ None → length ds ≤ 4096
@@ -255,285 +205,237 @@ front-few v ds ls none =
     let defs = neither (listed_flaw (definition_flaw (most_spatial v) (headings ds)) definition_span 0 4 ds) (or_later (program_flaw (first_line t) ls) (nodes_flaw t)) none in
     (definitions_small (most_spatial v) (most_fits v) (headings ds) 4 ds defs.0).1
 
--- where there is no flaw, there is none before the nodes
-nodes-none : (text : List ℕ) (v : Version) (hs : List Heading) (ds : List Definition) (ls : List Line) (first found : Found) (values : List FileNode) (s : Spot) → AreNodes text v hs ds ls first found values s → found ≡ None → first ≡ None
-nodes-none text v hs ds ls first found values s f none =
-    (neither first (listed_flaw (node_flaw (most_spatial v) hs (length ls)) node_span 0 (front_size ds ls) f.nodes) (sym f.flaw ∙ none)).0
+-- ---- nodes
 
--- the first node
-nodes-begin : (text : List ℕ) (f : Front) (hs : List Heading) (first found : Found) (values : List FileNode) (b : IsBegun text f) → found ≡ or_later first (node_flaw (most_spatial f.version) hs (length f.lines.items) 0 f.before b.first) → (found ≡ None → values ≡ node_value hs b.first ∷ [])
-    → AreNodes text f.version hs b.definitions f.lines.items first found values f.behind
-nodes-begin text f hs first found values b flaw made = record {
-  nodes = b.first ∷ [];
-  tokens = b.tokens;
-  at = b.at;
-  leads = b.leads;
-  size = omega (arith, b.size, b.span);
-  flaw = flaw ∙ ap (or_later first) (ap (λ k. node_flaw (most_spatial f.version) hs (length f.lines.items) 0 k b.first) b.size ∙ sym (later-none (node_flaw (most_spatial f.version) hs (length f.lines.items) 0 (front_size b.definitions f.lines.items) b.first)));
-  made = made;
-}
+later-none : (o : Flaws) → or_later o None ≡ o
+later-none None = refl
+later-none (Some flaw) = refl
 
--- and what is kept of it
-module _ (text : List ℕ) (f : Front) (b : IsBegun text f) where
-  pub begun-fits : node.fits (node_of f.first)
-  begun-fits = subst (λ (x : Node). node.fits x) (sym b.is) (node-fits 64 b.first b.fits)
+module _ (most : ℕ) (hs : List Heading) (lines : ℕ) where
+  abbrev flaw_at : ℕ → ℕ → Node → Flaws
+  flaw_at = node_flaw most hs lines
 
-  pub begun-span : f.before + node_span (node_of f.first) ≤ length text
-  begun-span = omega (arith, b.span, b.at.few, ap node_span b.is, node-span 64 b.first)
+  -- none
+  pub added-none : (at : ℕ) (old : Found) → AreAdded most hs lines at [] old old
+  added-none at old = record { flaw = sym (later-none old.flaw); values = λ none. sym (append-nil old.nodes.items) }
 
-  pub begun-size : front_size (front_defs f) f.lines.items ≤ f.before
-  begun-size = omega (arith, b.size, ap (total definition_span) b.are, definitions-span 64 b.definitions)
-
-  pub kept-begin : (hs : List Heading) (first found : Found) (values : List FileNode) → found ≡ or_later first (node_flaw (most_spatial f.version) hs (length f.lines.items) 0 f.before (node_of f.first)) → (found ≡ None → values ≡ node_value hs (node_of f.first) ∷ [])
-      → AreKeptNodes text f hs first found values f.behind
-  kept-begin hs first found values flaw made = record {
-    definitions = b.definitions;
-    are = b.are;
-    read =
-        nodes-begin text f hs first found values b (same-found f.version hs (length f.lines.items) 0 f.before (node_of f.first) b.first b.is first found flaw)
-        (λ none. made none ∙ ap (λ (v : FileNode). v ∷ []) (same-value f.version hs (length f.lines.items) 0 f.before (node_of f.first) b.first b.is first found flaw none));
+  -- one
+  pub added-one : (at : ℕ) (x : Node) (old new : Found) → new.flaw ≡ or_later old.flaw (flaw_at (length old.nodes.items) at x) → (new.flaw ≡ None → new.nodes.items ≡ old.nodes.items ++ node_value hs x ∷ []) → AreAdded most hs lines at (x ∷ []) old new
+  added-one at x old new flaw values = record {
+    flaw = flaw ∙ ap (or_later old.flaw) (sym (later-none (flaw_at (length old.nodes.items) at x)));
+    values = values;
   }
 
-module _ (text : List ℕ) (v : Version) (hs : List Heading) (ds : List Definition) (ls : List Line) (first found : Found) (values : List FileNode) (s : Spot) (f : AreNodes text v hs ds ls first found values s) (t : Span) (k : IsSpan (reading s.place s.comment s.rest.now) t) where
-  abbrev us : List Word
-  us = map word_of (new_tokens s t)
-
-  nodes-number : found ≡ None → length values ≡ length f.nodes
-  nodes-number none = ap length (f.made none) ∙ length-map f.nodes (node_value hs)
-
-  here : (x : Node) → or_later found (node_flaw (most_spatial v) hs (length ls) (length values) s.tokens x) ≡ or_later found (node_flaw (most_spatial v) hs (length ls) (length f.nodes) (front_size ds ls + total node_span f.nodes) x)
-  here x = by found refl
+  -- some, and then others
+  pub added-more : (at : ℕ) (xs ys : List Node) (old mid new : Found) → AreAdded most hs lines at xs old mid → AreAdded most hs lines (at + total node_span xs) ys mid new → AreAdded most hs lines at (xs ++ ys) old new
+  added-more at xs ys old mid new h k = record {
+    flaw = k.flaw ∙ by mid.flaw refl ∙ sym (ap (or_later old.flaw) (listed-append flaw_at node_span (length old.nodes.items) at xs ys));
+    values = λ none.
+        let before = (neither mid.flaw (others (length mid.nodes.items)) (sym k.flaw ∙ none)).0 in
+        k.values none ∙ ap (λ (vs : List _). vs ++ map (node_value hs) ys) (h.values before) ∙ append_assoc old.nodes.items (map (node_value hs) xs) (map (node_value hs) ys) ∙ ap (λ (vs : List _). old.nodes.items ++ vs) (sym (map-append (node_value hs) xs ys));
+  }
     where
-      by : (o : Found) → found ≡ o → or_later o (node_flaw (most_spatial v) hs (length ls) (length values) s.tokens x) ≡ or_later o (node_flaw (most_spatial v) hs (length ls) (length f.nodes) (front_size ds ls + total node_span f.nodes) x)
-      by (Some flaw) is = refl
-      by None is = λ i. node_flaw (most_spatial v) hs (length ls) (nodes-number is i) (f.size i) x
+      others : ℕ → Flaws
+      others n = listed_flaw flaw_at node_span n (at + total node_span xs) ys
 
-  nodes-more : (x : Node) (next : Found) (all : List FileNode) → (statement_of Nodes).read us ≡ Ok (inl x, []) → next ≡ or_later found (node_flaw (most_spatial v) hs (length ls) (length values) s.tokens x) → (next ≡ None → all ≡ values ++ node_value hs x ∷ [])
-      → AreNodes text v hs ds ls first next all (on text s f.tokens f.at t k)
-  nodes-more x next all e flaw more =
-      record {
-        nodes = f.nodes ++ x ∷ [];
-        tokens = f.tokens ++ new_tokens s t;
-        at = at-more text s f.tokens f.at t k;
-        leads = subst (λ (ws : List Word). LeadsNodes v ds ls (f.nodes ++ x ∷ []) ws) (sym (all-words text s f.tokens f.at t k)) (later-node v ds ls f.nodes (map word_of f.tokens) us x f.leads e);
-        size = omega (arith, f.size, size-of text s f.tokens f.at t k (node_span x) (statement-span Nodes us (inl x) e), total-more node_span f.nodes x);
-        flaw =
-            flaw ∙ here x ∙ ap (λ (o : Found). or_later o (node_flaw (most_spatial v) hs (length ls) (length f.nodes) (front_size ds ls + total node_span f.nodes) x)) f.flaw ∙ sym (found-more v hs ds ls first f.nodes x);
-        made = λ none.
-            let old = (neither found (node_flaw (most_spatial v) hs (length ls) (length values) s.tokens x) (sym flaw ∙ none)).0 in
-            more none ∙ ap (λ (xs : List FileNode). xs ++ node_value hs x ∷ []) (f.made old) ∙ sym (map_push (node_value hs) f.nodes x);
-      }
+      first : Flaws
+      first = listed_flaw flaw_at node_span (length old.nodes.items) at xs
 
-  nodes-span : (x : Node) → (statement_of Nodes).read us ≡ Ok (inl x, []) → s.tokens + node_span x ≤ length text
-  nodes-span x e =
-      omega (arith, at-few text s f.tokens f.at t k, size-of text s f.tokens f.at t k (node_span x) (statement-span Nodes us (inl x) e))
+      same : mid.flaw ≡ None → length mid.nodes.items ≡ length old.nodes.items + length xs
+      same none = omega (arith, ap length (h.values none), length-append old.nodes.items (map (node_value hs) xs), length-map xs (node_value hs))
 
-  nodes-end : (statement_of Nodes).read us ≡ Ok (inr tt, []) → IsAll text (f.tokens ++ new_tokens s t) → AreAllNodes text v hs ds ls first found values
-  nodes-end e all =
-      record {
-        nodes = f.nodes;
-        tokens = f.tokens ++ new_tokens s t;
-        at = all;
-        leads = subst (λ (ws : List Word). Leads ws Ended (λ u. tree_of v ds ls f.nodes)) (sym (all-words text s f.tokens f.at t k)) (later-end v ds ls f.nodes (map word_of f.tokens) us f.leads e);
-        flaw = f.flaw;
-        made = f.made;
-      }
+      by : (o : Flaws) → mid.flaw ≡ o → or_later mid.flaw (others (length mid.nodes.items)) ≡ or_later old.flaw (or_later first (others (length old.nodes.items + length xs)))
+      by None is = (λ i. or_later (h.flaw i) (others (same is i))) ∙ sym (one-later old.flaw first (others (length old.nodes.items + length xs)))
+      by (Some flaw) is =
+          ap (λ o. or_later o (others (length mid.nodes.items))) is
+          ∙ ap (λ o. or_later o (others (length old.nodes.items + length xs))) (sym is ∙ h.flaw)
+          ∙ sym (one-later old.flaw first (others (length old.nodes.items + length xs)))
 
--- and what is kept of it
-module _ (text : List ℕ) (f : Front) (hs : List Heading) (first found : Found) (values : List FileNode) (s : Spot) (r : AreKeptNodes text f hs first found values s) (t : Span) (k : IsSpan (reading s.place s.comment s.rest.now) t) where
-  abbrev kept_us : List Word
-  kept_us = map word_of (new_tokens s t)
+-- ---- the nodes that are left of a file
 
-  pub kept-none : found ≡ None → first ≡ None
-  kept-none none = nodes-none text f.version hs r.definitions f.lines.items first found values s r.read none
+joined-same : {A : Type 0} (q : Reading A) → q ≡ joined (λ x. x) q
+joined-same (Ok x) = refl
+joined-same (Err n) = refl
 
-  module _ (tree : Node) (e : (kept_statement kept Nodes).read kept_us ≡ Ok (inl tree, [])) where
-    pub later-fits : node.fits tree
-    later-fits =
-        let x = later-kept kept_us tree e in
-        subst (λ (y : Node). node.fits y) (sym x.2) (node-fits 64 x.0 (later-node-fits kept_us x.0 x.1))
+pub later-fits : (vs rest : List Word) (tree : Node) → (kept_statement kept Nodes).read vs ≡ Ok (inl tree, rest) → node.fits tree
+later-fits vs rest tree e =
+    let x = later-kept vs rest tree e in
+    subst (λ (y : Node). node.fits y) (sym x.2) (node-fits 64 x.0 ((statement-law Nodes).takes vs (inl x.0, rest) x.1).2)
 
-    pub later-span : s.tokens + node_span tree ≤ length text
-    later-span =
-        let x = later-kept kept_us tree e in
-        omega (arith, nodes-span text f.version hs r.definitions f.lines.items first found values s r.read t k x.0 x.1, ap node_span x.2, node-span 64 x.0)
+pub later-span : (vs rest : List Word) (tree : Node) → (kept_statement kept Nodes).read vs ≡ Ok (inl tree, rest) → node_span tree ≤ length vs
+later-span vs rest tree e =
+    let x = later-kept vs rest tree e in
+    omega (arith, statement-size Nodes vs rest (inl x.0) x.1, ap node_span x.2, node-span 64 x.0)
 
-    pub kept-more : (next : Found) (all : List FileNode) → next ≡ or_later found (node_flaw (most_spatial f.version) hs (length f.lines.items) (length values) s.tokens tree) → (next ≡ None → all ≡ values ++ node_value hs tree ∷ [])
-        → AreKeptNodes text f hs first next all (on text s r.read.tokens r.read.at t k)
-    kept-more next all flaw more =
-        let x = later-kept kept_us tree e in
+pub later-shrinks : (vs rest : List Word) (tree : Node) → (kept_statement kept Nodes).read vs ≡ Ok (inl tree, rest) → length rest < length vs
+later-shrinks vs rest tree e =
+    let x = later-kept vs rest tree e in
+    omega (arith, statement-size Nodes vs rest (inl x.0) x.1)
+
+module _ (v : Version) (hs : List Heading) (lines at : ℕ) (old : Found) (ws : List Word) where
+  abbrev most : ℕ
+  most = most_spatial v
+
+  pub read-none : AreRead most hs lines at old old ws ws
+  read-none = record {
+    nodes = [];
+    leads = joined-same ((left_of (At Nodes)).read ws);
+    size = omega arith;
+    added = added-none most hs lines at old;
+  }
+
+  module _ (vs : List Word) (mid : Found) (h : AreRead most hs lines at old mid ws vs) where
+    pub read-fails : (e : Refusal) → Fails e ((kept_statement kept Nodes).read vs) → Fails e ((left_of (At Nodes)).read ws)
+    read-fails refusals.OutOfMemory k = tt
+    read-fails (refusals.Dead left) k = h.leads ∙ ap (λ (q : Reading (List Node)). joined (λ ns. h.nodes ++ ns) q) (left-dead Nodes vs left (dead-kept Nodes vs left k))
+
+    pub read-node : (rest : List Word) (tree : Node) (new : Found) (k : ℕ) → (kept_statement kept Nodes).read vs ≡ Ok (inl tree, rest) → k + length vs ≡ at + length ws → new.flaw ≡ or_later mid.flaw (node_flaw most hs lines (length mid.nodes.items) k tree) → (new.flaw ≡ None → new.nodes.items ≡ mid.nodes.items ++ node_value hs tree ∷ []) → AreRead most hs lines at old new ws rest
+    read-node rest tree new k e there flaw values =
+        let x = later-kept vs rest tree e in
+        let place : k ≡ at + total node_span h.nodes = omega (arith, there, h.size) in
+        let found = same-found v hs lines (length mid.nodes.items) k tree x.0 x.2 mid.flaw new.flaw flaw in
+        let one = added-one most hs lines k x.0 mid new found (λ none. values none ∙ ap (λ (y : FileNode). mid.nodes.items ++ y ∷ []) (same-value v hs lines (length mid.nodes.items) k tree x.0 x.2 mid.flaw new.flaw flaw none)) in
         record {
-          definitions = r.definitions;
-          are = r.are;
-          read =
-              nodes-more text f.version hs r.definitions f.lines.items first found values s r.read t k x.0 next all x.1 (same-found f.version hs (length f.lines.items) (length values) s.tokens tree x.0 x.2 found next flaw)
-              (λ none. more none ∙ ap (λ (v : FileNode). values ++ v ∷ []) (same-value f.version hs (length f.lines.items) (length values) s.tokens tree x.0 x.2 found next flaw none));
+          nodes = h.nodes ++ x.0 ∷ [];
+          leads =
+              h.leads ∙ ap (λ (q : Reading (List Node)). joined (λ ns. h.nodes ++ ns) q) (left-step Nodes vs rest (inl x.0) x.1)
+              ∙ joined-twice (λ (ns : List Node). h.nodes ++ ns) (λ (ns : List Node). x.0 ∷ ns) ((left_of (At Nodes)).read rest)
+              ∙ (λ i. joined (λ (ns : List Node). sym (append_assoc h.nodes (x.0 ∷ []) ns) i) ((left_of (At Nodes)).read rest));
+          size = omega (arith, h.size, statement-size Nodes vs rest (inl x.0) x.1, total-more node_span h.nodes x.0);
+          added = added-more most hs lines at h.nodes (x.0 ∷ []) old mid new h.added (subst (λ (n : ℕ). AreAdded most hs lines n (x.0 ∷ []) mid new) place one);
         }
 
-  pub kept-end : (kept_statement kept Nodes).read kept_us ≡ Ok (inr tt, []) → IsAll text (r.read.tokens ++ new_tokens s t) → AreAllKept text f hs first found values
-  kept-end e all = record {
-    definitions = r.definitions;
-    are = r.are;
-    read = nodes-end text f.version hs r.definitions f.lines.items first found values s r.read t k (end-kept kept_us [] e) all;
-  }
+    module _ (last : List Word) (e : (kept_statement kept Nodes).read vs ≡ Ok (inr tt, last)) where
+      ended : (left_of (At Nodes)).read ws ≡ joined (λ ns. h.nodes ++ ns) (joined {A = Unit {0}} {B = List Node} (λ u. []) (read_class the_end last))
+      ended = h.leads ∙ ap (λ (q : Reading (List Node)). joined (λ ns. h.nodes ++ ns) q) (left-step Nodes vs last (inr tt) (end-kept vs last e))
 
--- ---- the last statement
+      pub end-fails : (x : Refusal) → Fails x (read_class the_end last) → Fails x ((left_of (At Nodes)).read ws)
+      end-fails refusals.OutOfMemory k = tt
+      end-fails (refusals.Dead left) k = ended ∙ ap (λ (q : Reading (Unit {0})). joined (λ ns. h.nodes ++ ns) (joined {A = Unit {0}} {B = List Node} (λ u. []) q)) k
 
--- its words are two
-last-words : (ws rest : List Word) → (statement_of Nodes).read ws ≡ Ok (inr tt, rest) → ws ≡ last_word.word tt ∷ semicolon.word tt ∷ rest
-unfolding last_statement
-last-words ws rest e = ((statement-law Nodes).takes ws (inr tt, rest) e).0
-
-last-read : (statement_of Nodes).read (last_word.word tt ∷ semicolon.word tt ∷ []) ≡ Ok (inr tt, [])
-unfolding last_statement
-last-read = refl
-
--- tokens of which the first two have these words
-record Parted (us : List Placed) (a b : Word) (rest : List Word) : Type 0 where
-  front : List Placed
-  left : List Placed
-  are : us ≡ front ++ left
-  words : map word_of front ≡ a ∷ b ∷ []
-  others : map word_of left ≡ rest
-
-parted : (us : List Placed) (a b : Word) (rest : List Word) → map word_of us ≡ a ∷ b ∷ rest → Parted us a b rest
-parted [] a b rest e = absurd cc
-parted (x ∷ []) a b rest e = absurd cc
-parted (x ∷ y ∷ zs) a b rest e =
-    let first : word_of x ≡ a = cc in
-    let second : word_of y ≡ b = cc in
-    let others : map word_of zs ≡ rest = cc in
-    record { front = x ∷ y ∷ []; left = zs; are = refl; words = λ i. first i ∷ second i ∷ []; others = others }
-
-module _ (text : List ℕ) (v : Version) (hs : List Heading) (ds : List Definition) (ls : List Line) (first found : Found) (values : List FileNode) (s : Spot) (f : AreNodes text v hs ds ls first found values s) where
-  nodes-last : (us : List Placed) (rest : List Word) → tokens_of text ≡ Ok (f.tokens ++ us) → (statement_of Nodes).read (map word_of us) ≡ Ok (inr tt, rest) → IsTheEnd rest → AreAllNodes text v hs ds ls first found values
-  nodes-last us rest tokens e end =
-      let w = parted us (last_word.word tt) (semicolon.word tt) rest (last-words (map word_of us) rest e) in
-      let read : (statement_of Nodes).read (map word_of w.front) ≡ Ok (inr tt, []) = ap (statement_of Nodes).read w.words ∙ last-read in
-      record {
-        nodes = f.nodes;
-        tokens = f.tokens ++ w.front;
-        at = (w.left, tokens ∙ ap (λ (zs : List Placed). Ok (f.tokens ++ zs)) w.are ∙ ap (λ (zs : List Placed). Ok zs) (sym (append_assoc f.tokens w.front w.left)), subst IsTheEnd (sym w.others) end);
-        leads = subst (λ (ws : List Word). Leads ws Ended (λ u. tree_of v ds ls f.nodes)) (sym (map-append word_of f.tokens w.front)) (later-end v ds ls f.nodes (map word_of f.tokens) (map word_of w.front) f.leads read);
-        flaw = f.flaw;
-        made = f.made;
+      pub read-end : (rest : List Word) → read_class the_end last ≡ Ok (tt, rest) → AreLast most hs lines at old mid ws rest
+      read-end rest k = record {
+        nodes = h.nodes;
+        read = ended ∙ ap (λ (q : Reading (Unit {0})). joined (λ ns. h.nodes ++ ns) (joined {A = Unit {0}} {B = List Node} (λ u. []) q)) k ∙ ap (λ (xs : List Node). Ok (xs, rest)) (append-nil h.nodes);
+        added = h.added;
       }
 
-pub kept-last : (text : List ℕ) (f : Front) (hs : List Heading) (first found : Found) (values : List FileNode) (s : Spot) (r : AreKeptNodes text f hs first found values s) → IsLastLeft text r.read.tokens → AreAllKept text f hs first found values
-kept-last text f hs first found values s r h = record {
-  definitions = r.definitions;
-  are = r.are;
-  read = nodes-last text f.version hs r.definitions f.lines.items first found values s r.read h.0 h.2.0 h.1 (end-kept (map word_of h.0) h.2.0 h.2.1) h.2.2;
-}
-
--- ---- the end of the text
-
--- the tokens that are left
-pub rest-of : (text : List ℕ) (s : Spot) (ts us : List Placed) → IsUtf8 text → IsAt text ts s → lex true s.place (comment_len s.comment (chars s.rest.now)) (chars s.rest.now) ≡ Ok us → tokens_of text ≡ Ok (ts ++ us)
-rest-of text s ts us utf8 h e =
-    sym (from-start text)
-    ∙ ap (tokens_from start false) (sym (append-nil text))
-    ∙ taken-law start s.place false s.comment text s.rest.now ts utf8 h.utf8 h.taken []
-    ∙ ap (λ (b : List ℕ). with_tokens ts (tokens_from s.place s.comment b)) (append-nil s.rest.now)
-    ∙ ap (with_tokens ts) (sym (text-tokens s.place s.comment s.rest.now h.utf8) ∙ e)
-    ∙ with_tokens-ok ts us
-
-pub rest-words : (text : List ℕ) (ts us : List Placed) → tokens_of text ≡ Ok (ts ++ us) → are_tokens (map word_of us) ≡ true
-rest-words text ts us e =
-    later-tokens (map word_of ts) (map word_of us) (subst (λ (ws : List Word). are_tokens ws ≡ true) (map-append word_of ts us) (all-tokens (map word_of (ts ++ us)) (tokens-end text (ts ++ us) e)))
+-- where there is no flaw, there was none before
+pub none-before : (a b : Flaws) → or_later a b ≡ None → a ≡ None
+none-before a b none = (neither a b none).0
 
 -- ---- the whole
 
--- the tree of a text that was read to its end, and its first flaw
-pub record IsTree (text : List ℕ) (t : File) (found : Found) : Type 0 where
-  pub all : List Placed
-  pub tokens : tokens_of text ≡ Ok all
-  pub spelled : SpellsTree proof_files all t
-  pub flaw : file_flaw t ≡ found
+-- what is read of all words, where some are left
+pub words-left : (tree : File) (rest : List Word) → 0 < length rest → all_taken tree rest ≡ Err (length rest)
+words-left tree [] h = absurd (omega (arith, h))
+words-left tree (d ∷ r) h = refl
 
-pub whole-tree : (text : List ℕ) (v : Version) (ds : List Definition) (ls : List Line) (found : Found) (values : List FileNode) (f : AreAllNodes text v (headings ds) ds ls (file_flaw (tree_of v ds ls [])) found values) → IsTree text (tree_of v ds ls f.nodes) found
-whole-tree text v ds ls found values f =
-    let t = tree_of v ds ls f.nodes in
-    let us = f.at.0 in
-    let read : read_whole file (map word_of (f.tokens ++ us)) ≡ Ok t = ap (read_whole file) (map-append word_of f.tokens us) ∙ all-read (map word_of f.tokens) (map word_of us) t f.leads f.at.2 in
-    record {
-      all = f.tokens ++ us;
-      tokens = f.at.1;
-      spelled = whole_ok file file-law (map word_of (f.tokens ++ us)) t read;
-      flaw = file-flaws v ds ls [] f.nodes ∙ ap (λ k. or_later (file_flaw (tree_of v ds ls [])) (listed_flaw (node_flaw (most_spatial v) (headings ds) (length ls)) node_span 0 k f.nodes)) same ∙ sym f.flaw;
-    }
-  where
-    same : front_size ds ls + 0 ≡ front_size ds ls
-    same = omega arith
+pub none-left : (tree : File) (rest : List Word) → length rest ≡ 0 → all_taken tree rest ≡ Ok tree
+none-left tree [] h = refl
+none-left tree (d ∷ r) h = absurd (omega (arith, h))
 
--- what was found of a front and of all nodes after it
-pub all-found : (text : List ℕ) (f : Front) (hs : List Heading) (first found : Found) (values : List FileNode) → hs ≡ headings (front_defs f) → first ≡ file_flaw (tree_of f.version (front_defs f) f.lines.items []) → (h : AreAllKept text f hs first found values)
-    → AreAllNodes text f.version (headings h.definitions) h.definitions f.lines.items (file_flaw (tree_of f.version h.definitions f.lines.items [])) found values
-all-found text f hs first found values known is h =
-    subst (λ (o : Found). AreAllNodes text f.version (headings h.definitions) h.definitions f.lines.items o found values) (is ∙ ap (λ (ds : List Definition). file_flaw (tree_of f.version ds f.lines.items [])) h.are ∙ kept-flaw f.version h.definitions f.lines.items)
-    (subst (λ (ks : List Heading). AreAllNodes text f.version ks h.definitions f.lines.items first found values) (known ∙ ap headings h.are ∙ kept-headings h.definitions) h.read)
+-- a refusal of the first part is that of the whole
+pub whole-fails : (ws : List Word) (e : Refusal) → Fails e (file.read ws) → Fails e (read_whole file ws)
+whole-fails ws refusals.OutOfMemory h = tt
+whole-fails ws (refusals.Dead left) h = ap (λ (q : Reading File). q >>= λ y. all_taken y.0 y.1) h
 
--- where there is no flaw, all was kept
-pub all-kept : (text : List ℕ) (f : Front) (hs : List Heading) (first found : Found) (values : List FileNode) → first ≡ file_flaw (tree_of f.version (front_defs f) f.lines.items []) → (h : AreAllKept text f hs first found values) → found ≡ None → front_defs f ≡ h.definitions
-all-kept text f hs first found values is h none =
-    let v = f.version in
-    let ls = f.lines.items in
-    let old = (neither first (listed_flaw (node_flaw (most_spatial v) hs (length ls)) node_span 0 (front_size h.definitions ls) h.read.nodes) (sym h.read.flaw ∙ none)).0 in
-    h.are ∙ whole-front v h.definitions ls (sym (is ∙ ap (λ (ds : List Definition). file_flaw (tree_of v ds ls [])) h.are ∙ kept-flaw v h.definitions ls) ∙ old)
+pub rest-fails : (ws rest : List Word) (f : List Node → File) (e : Refusal) → LeadsTo ws (At Nodes) f rest → Fails e ((left_of (At Nodes)).read rest) → Fails e (file.read ws)
+rest-fails ws rest f refusals.OutOfMemory leads h = tt
+rest-fails ws rest f (refusals.Dead left) leads h = leads ∙ ap (λ (q : Reading (List Node)). joined f q) h
 
--- its flaw is at one of its tokens
-pub tree-few : (text : List ℕ) (t : File) (flaw : Flaw) (h : IsTree text t (Some flaw)) → flaw.token < length text + 1
-tree-few text t flaw h =
-    let within = flaw_within (file_flaw t) (first_node t + total node_span t.nodes) flaw (file_before t) h.flaw in
-    omega (arith, within, file_words t h.spelled.0, ap length h.spelled.1, length-map h.all word_of, tokens-few text h.all h.tokens)
+-- the first node, as it is kept
+module _ (ws : List Word) (f : Front) (rest : List Word) (b : IsBegun ws f rest) where
+  pub begun-fits : node.fits (node_of f.first)
+  begun-fits = subst (λ (x : Node). node.fits x) (sym b.is) (node-fits 64 b.first b.fits)
 
-pub tree-flawed : (text : List ℕ) (t : File) (flaw : Flaw) (fault : ReadFault) (h : IsTree text t (Some flaw)) → IsFlawIn text flaw fault → IsRead text (Err fault)
-tree-flawed text t flaw fault h told = by fault (told h.all h.tokens)
-  where
-    by : (x : ReadFault) → IsFlawTold h.all flaw x → IsRead text (Err x)
-    by (faults.IllFormed ill n l c) k = (h.all, h.tokens, (t, h.spelled, h.flaw ∙ ap (λ y. Some y) k.0, k.1))
-    by (faults.Limit what n l c) k = (h.all, h.tokens, (t, h.spelled, h.flaw ∙ ap (λ y. Some y) k.0, k.1))
-    by (faults.Syntax n l c) k = absurd k
-    by (faults.Lex lexical) k = absurd k
-    by faults.OutOfMemory k = absurd k
+  pub begun-span : f.before + node_span (node_of f.first) ≤ length ws
+  begun-span = omega (arith, b.before, b.size, ap node_span b.is, node-span 64 b.first)
 
--- ---- where a flaw stands
+  pub begun-size : front_size (front_defs f) f.lines.items ≤ f.before
+  begun-size = omega (arith, b.before, ap (total definition_span) b.are, definitions-span 64 b.definitions)
 
-abbrev cut : List Placed → Result (List Placed) (Bad × Place)
-cut ts = Ok ts
+  pub begun-few : (hs : List Heading) → hs ≡ headings (front_defs f) → file_flaw (tree_of f.version (front_defs f) f.lines.items []) ≡ None → length hs ≤ 4096
+  begun-few hs known none = omega (arith, ap length known, length-map (front_defs f) heading, front-few f.version (front_defs f) f.lines.items none)
 
-tokens-same : (xs ys : List Placed) → cut xs ≡ cut ys → xs ≡ ys
-tokens-same xs ys e = cc
+-- the tree of all words, and its first flaw or its values
+pub record IsTree (ws : List Word) (f : Front) (new : Found) (left : List Word) (tree : File) : Type 0 where
+  pub version : tree.version ≡ f.version
+  pub lines : tree.lines ≡ f.lines.items
+  pub read : file.read ws ≡ Ok (tree, left)
+  pub flaw : file_flaw tree ≡ new.flaw
+  pub values : new.flaw ≡ None → new.nodes.items ≡ map (node_value (headings tree.definitions)) tree.nodes
+  pub kept : new.flaw ≡ None → front_defs f ≡ tree.definitions
 
-tokens-differ : (xs : List Placed) (e : Bad × Place) → cut xs ≡ Err e → ⊥
-tokens-differ xs e h = cc
+module _ (ws : List Word) (f : Front) (rest left : List Word) (b : IsBegun ws f rest) (hs : List Heading) (old mid new : Found) (known : hs ≡ headings (front_defs f)) (before : old.flaw ≡ file_flaw (tree_of f.version (front_defs f) f.lines.items [])) (none : old.nodes.items ≡ []) where
+  abbrev v : Version
+  v = f.version
 
-pub stands-there : (text rest : List ℕ) (q : Place) (d : Bool) (ts : List Placed) (t : Placed) → IsUtf8 text → IsUtf8 rest → HasTaken (reading start false text) (ts ++ t ∷ []) (reading q d rest) → StandsIn text (length ts) t.line t.column
-stands-there text rest q d ts t utf8 left h all e = by (tokens_from q d (rest ++ [])) refl
-  where
-    from : cut all ≡ with_tokens (ts ++ t ∷ []) (tokens_from q d (rest ++ []))
-    from = sym e ∙ sym (from-start text) ∙ ap (tokens_from start false) (sym (append-nil text)) ∙ taken-law start q false d text rest (ts ++ t ∷ []) utf8 left h []
+  abbrev ls : List Line
+  ls = f.lines.items
 
-    there : (us : List Placed) → all ≡ (ts ++ t ∷ []) ++ us → StandsAt all (length ts) t.line t.column
-    there us is =
-        (t, ap (λ (xs : List Placed). slice_get xs (length ts)) (is ∙ append_assoc ts (t ∷ []) us) ∙ ap (slice_get (ts ++ t ∷ us)) zero ∙ slice-behind ts (t ∷ us) 0, refl, refl)
-      where
-        zero : length ts ≡ length ts + 0
-        zero = omega arith
+  hs-is : hs ≡ headings b.definitions
+  hs-is = known ∙ ap headings b.are ∙ kept-headings b.definitions
 
-    by : (r : Result (List Placed) (Bad × Place)) → tokens_from q d (rest ++ []) ≡ r → StandsAt all (length ts) t.line t.column
-    by (Err bad) is = absurd (tokens-differ all bad (from ∙ ap (with_tokens (ts ++ t ∷ [])) is ∙ with_tokens-err (ts ++ t ∷ []) bad))
-    by (Ok us) is = there us (tokens-same all ((ts ++ t ∷ []) ++ us) (from ∙ ap (with_tokens (ts ++ t ∷ [])) is ∙ with_tokens-ok (ts ++ t ∷ []) us))
+  front-is : old.flaw ≡ file_flaw (tree_of v b.definitions ls [])
+  front-is = before ∙ ap (λ (ds : List Definition). file_flaw (tree_of v ds ls [])) b.are ∙ kept-flaw v b.definitions ls
+
+  pub whole-tree : mid.flaw ≡ or_later old.flaw (node_flaw (most_spatial v) hs (length ls) (length old.nodes.items) f.before (node_of f.first)) → (mid.flaw ≡ None → mid.nodes.items ≡ old.nodes.items ++ node_value hs (node_of f.first) ∷ []) → (k : AreLast (most_spatial v) hs (length ls) (length ws - length rest) mid new rest left) → IsTree ws f new left (tree_of v b.definitions ls (b.first ∷ k.nodes))
+  whole-tree flaw values k = record {
+    version = refl;
+    lines = refl;
+    read = b.leads ∙ ap (λ (q : Reading (List Node)). joined (λ ns. tree_of v b.definitions ls (b.first ∷ ns)) q) k.read;
+    flaw = file-flaws v b.definitions ls [] (b.first ∷ k.nodes) ∙ sym (all.flaw ∙ (λ i. or_later (front-is i) (listed_flaw (node_flaw (most_spatial v) (hs-is i) (length ls)) node_span (number i) (place i) (b.first ∷ k.nodes))));
+    values = λ clean. all.values clean ∙ (λ i. none i ++ map (node_value (hs-is i)) (b.first ∷ k.nodes));
+    kept = λ clean. b.are ∙ whole-front v b.definitions ls (sym front-is ∙ (neither old.flaw (listed_flaw (node_flaw (most_spatial v) hs (length ls)) node_span (length old.nodes.items) f.before (b.first ∷ k.nodes)) (sym all.flaw ∙ clean)).0);
+  }
+    where
+      found : mid.flaw ≡ or_later old.flaw (node_flaw (most_spatial v) hs (length ls) (length old.nodes.items) f.before b.first)
+      found = same-found v hs (length ls) (length old.nodes.items) f.before (node_of f.first) b.first b.is old.flaw mid.flaw flaw
+
+      one : AreAdded (most_spatial v) hs (length ls) f.before (b.first ∷ []) old mid
+      one = added-one (most_spatial v) hs (length ls) f.before b.first old mid found (λ clean. values clean ∙ ap (λ (y : FileNode). old.nodes.items ++ y ∷ []) (same-value v hs (length ls) (length old.nodes.items) f.before (node_of f.first) b.first b.is old.flaw mid.flaw flaw clean))
+
+      behind : length ws - length rest ≡ f.before + total node_span (b.first ∷ [])
+      behind = omega (arith, b.before, b.size)
+
+      all : AreAdded (most_spatial v) hs (length ls) f.before (b.first ∷ k.nodes) old new
+      all = added-more (most_spatial v) hs (length ls) f.before (b.first ∷ []) k.nodes old mid new one (subst (λ (n : ℕ). AreAdded (most_spatial v) hs (length ls) n k.nodes mid new) behind k.added)
+
+      number : length old.nodes.items ≡ 0
+      number = ap length none
+
+      place : f.before ≡ front_size b.definitions ls + 0
+      place = omega (arith, b.before)
 
 -- ---- the answer
 
-read-fault : (bytes : List ℕ) (fault : ReadFault) → IsRead bytes (Err fault) → Reads bytes (Err fault)
-read-fault bytes faults.OutOfMemory h = tt
-read-fault bytes (faults.Lex fault) h = h
-read-fault bytes (faults.Syntax n l c) h = h
-read-fault bytes (faults.IllFormed fault n l c) h = h
-read-fault bytes (faults.Limit what n l c) h = h
+module _ (text : List ℕ) (ts : List Placed) (is : tokens_of text ≡ Ok ts) where
+  abbrev all_words : List Word
+  all_words = map word_of ts
 
-pub whole-reads : (bytes : List ℕ) (w : Whole) (answer : Result ProofFile ReadFault) → IsWhole bytes w → IsAnswer w answer → Reads bytes answer
-whole-reads bytes (wholes.File f) answer h is = subst (Reads bytes) (sym is) h
-whole-reads bytes (wholes.Flawed fault) answer h is = subst (Reads bytes) (sym is) (read-fault bytes fault h)
+  pub words-are : are_tokens all_words ≡ true
+  words-are = all-tokens all_words (tokens-end text ts is)
+
+  pub flaw-there : (tree : File) (flaw : Flaw) → read_whole file all_words ≡ Ok tree → file_flaw tree ≡ Some flaw → flaw.token < length ts
+  flaw-there tree flaw e first =
+      let spelled = whole_ok file file-law all_words tree e in
+      let within = flaw_within (file_flaw tree) (first_node tree + total node_span tree.nodes) flaw (file_before tree) first in
+      omega (arith, within, file_words tree spelled.0, ap length spelled.1, length-map ts word_of)
+
+  pub dead-there : (left : ℕ) → read_whole file all_words ≡ Err left → (0 < left) × (left ≤ length ts)
+  dead-there left e = err-within {X = File} file file-law file-last (λ x. x) ts (Err (refusals.Dead left)) (refusals.Dead left) refl e (tokens-end text ts is)
+
+outcome-of : (ts : List Placed) (q : Result File ℕ) (answer : Result ProofFile ReadFault) → read_whole file (map word_of ts) ≡ q → Tells (file_outcome ts q) answer → Tells (whole_outcome ts) answer
+outcome-of ts q answer e h = subst (λ (r : Result File ℕ). Tells (file_outcome ts r) answer) (sym e) h
+
+pub tells-file : (ts : List Placed) (tree : File) (f : ProofFile) → read_whole file (map word_of ts) ≡ Ok tree → file_flaw tree ≡ None → Has (said_of tree) f → Tells (whole_outcome ts) (Ok f)
+tells-file ts tree f e clean h = outcome-of ts (Ok tree) (Ok f) e (subst (λ (o : Flaws). Tells (settled (told_flaw 0 ts o) (said_of tree)) (Ok f)) (sym clean) h)
+
+pub tells-flaw : (ts : List Placed) (tree : File) (flaw : Flaw) (x : ReadFault) → read_whole file (map word_of ts) ≡ Ok tree → file_flaw tree ≡ Some flaw → x ≡ flaw_fault 0 ts flaw → Tells (whole_outcome ts) (Err x)
+tells-flaw ts tree flaw x e first told =
+    outcome-of ts (Ok tree) (Err x) e
+    (subst (λ (o : Flaws). Tells (settled (told_flaw 0 ts o) (said_of tree)) (Err x)) (sym first) (subst (λ (y : ReadFault). Tells (Bears y) (Err x)) told (tells-fault x)))
+
+pub tells-dead : (ts : List Placed) (left : ℕ) (x : ReadFault) → read_whole file (map word_of ts) ≡ Err left → x ≡ syntax_fault 0 ts left → Tells (whole_outcome ts) (Err x)
+tells-dead ts left x e told = outcome-of ts (Err left) (Err x) e (subst (λ (y : ReadFault). Tells (Bears y) (Err x)) told (tells-fault x))

@@ -1,25 +1,24 @@
 -- What a reader holds, as contracts see it.
-use Rattle.std.specs.Prelude.{◌⊎◌, ◌≡◌, ℕ, ◌+◌, ◌≤◌, false, List, [], ◌++◌, length, drop, map}
+use Rattle.std.specs.Prelude.{◌≡◌, ℕ, ◌+◌, ◌≤◌, false, List, [], ◌++◌, length, drop, map, Ok}
 use Rattle.cyc_lex.specs.declared.place.Place.{Place}
 use Rattle.cyc_lex.specs.declared.place.Stop.{Stop}
 use Rattle.cyc_lex.specs.declared.place.Stop.TheVariants as stops
 use Rattle.cyc_lex.specs.declared.fault.ReadFault.{ReadFault}
 use Rattle.cyc_lex.specs.declared.fault.ReadFault.TheVariants as faults
 use Rattle.cyc_lex.specs.Answer.{fault_of}
-use Rattle.cyc_lex.specs.Lexing.{start, with_tokens}
+use Rattle.cyc_lex.specs.Lexing.{start, tokens_of, with_tokens}
 use Rattle.cyc_lex.specs.Placed.{Placed}
-use Rattle.file_reader.specs.Outcomes.{syntax_fault}
 use Rattle.cyc_lex.specs.Word.{word_of}
 use Rattle.piecewise_lex.specs.Feeding.{tokens_from}
 use Rattle.proof_syntax.specs.Trees.{File}
-use Rattle.proof_statements.specs.Left.{Reached, Left}
+use Rattle.proof_statements.specs.Left.{Left}
 use Rattle.file_reader.specs.declared.held.Alive.{Alive}
 use Rattle.file_reader.specs.declared.held.Held.{Held}
 use Rattle.file_reader.specs.declared.held.Held.TheVariants as kinds
 use Rattle.file_reader.specs.Stages.{Head, Dead, Unlexed, Lost, Parts}
 use Rattle.file_reader.specs.Steps.{Leads}
 use Rattle.file_reader.specs.Pieces.{KeepsLaw, parts, bytes_fed}
-use Rattle.file_reader.specs.Scans.{reached_of, IsDead}
+use Rattle.file_reader.specs.Scans.{reached_of}
 
 -- the place after so many bytes, where no line or column matters
 abbrev pub behind_bytes : ℕ → Place
@@ -76,6 +75,6 @@ abbrev pub IsToldStop : Stop → ReadFault → Type 0
 IsToldStop stops.OutOfMemory f = f ≡ faults.OutOfMemory
 IsToldStop (stops.At bad p) f = f ≡ faults.Lex (fault_of bad p)
 
--- the fault is that of the first dead token, where so many tokens stand before these; or memory ran out
-abbrev pub IsLast : Reached → ℕ → List Placed → ReadFault → Type 0
-IsLast r before ts f = (f ≡ faults.OutOfMemory) ⊎ ((left : ℕ) × IsDead r (map word_of ts) left × (f ≡ syntax_fault before ts left))
+-- the bytes have so many tokens
+abbrev pub HasTokens : List ℕ → ℕ → Type 0
+HasTokens bytes n = (ts : List Placed) × (tokens_of bytes ≡ Ok ts) × (length ts ≡ n)

@@ -1,25 +1,20 @@
 //! What a text comes to at its end.
 
-ghost use Rattle.std.specs.Prelude.{◌≡◌, ◌+◌, ◌-◌, ◌<◌, ◌≤◌, ◌^◌, [], true, length, take, Err, IfSome};
-ghost use Rattle.cyc_lex.specs.Lexing.{HasRoom};
-ghost use Rattle.cyc_lex.specs.Cutting.{cut_text};
-ghost use Rattle.cyc_grammar.specs.Classes.{are_tokens};
-ghost use Rattle.cyc_grammar.specs.Texts.{text_words};
+ghost use Rattle.std.specs.Prelude.{◌≡◌, ◌+◌, ◌-◌, ◌<◌, ◌^◌, List, [], length, Ok, Err};
+ghost use Rattle.cyc_lex.specs.Lexing.{tokens_of};
+ghost use Rattle.cyc_lex.specs.Placed.{Placed};
+ghost use Rattle.file_reader.specs.Outcomes.{whole_outcome};
 ghost use Rattle.file_reader.specs.Stages.{outcome};
 ghost use Rattle.file_reader.specs.Pieces.{Tells, bytes_fed};
-ghost use Rattle.file_reader.specs.Helds.{parts_of, IsAlive, IsHeld, IsLast, IsSmall, IsToldStop};
-ghost use Rattle.file_reader.specs.Scans.{reached_of};
+ghost use Rattle.file_reader.specs.Helds.{parts_of, HasTokens, IsAlive, IsHeld, IsSmall, IsToldStop};
 ghost use Rattle.file_reader.specs.declared.held.Held.TheVariants as kinds;
 
 use crate::held::{Alive, Faulty, Held};
 use crate::passing::pass_tokens;
-use crate::scan::dead_token;
-use crate::step::{Step, take_step};
-use crate::whole::{answer_of, read_whole};
-use cyc_grammar::Cursor;
-use cyc_lex::{OutOfMemory, ReadFault, Stop, count_tokens, fault_at};
+use crate::whole::read_whole;
+use cyc_lex::{Place, ReadFault, Stop, count_tokens, fault_at};
 use piecewise_lex::{first_bad, valid_front};
-use proof_file::{ProofFile, read_file};
+use proof_file::ProofFile;
 use std::alloc::Global;
 
 fn told_stop(stop: Stop) -> ReadFault
@@ -52,60 +47,32 @@ fn finish_faulty(faulty: &Faulty) -> ReadFault
     }
 }
 
-/// The fault of the last tokens of a text, so many with the end token; none where they have none.
-fn last_fault(alloc: Global, alive: &Alive, text: &str, count: usize) -> Option<ReadFault>
-    requires room { HasRoom alive.now.place (length text.now) }
-    requires count { count ≤ length (cut_text alive.now.place alive.now.comment text.now) }
-    requires words { are_tokens (text_words alive.now.place alive.now.comment text.now count) ≡ true }
-    requires few { alive.now.tokens + count < 2 ^ 32 }
-    ensures { IfSome result (IsLast (reached_of alive.now.awaited) alive.now.tokens
-        (take count (cut_text alive.now.place alive.now.comment text.now))) }
+/// What bytes with so many tokens say, or their first fault.
+fn read_bytes(alloc: Global, bytes: &[u8], count: usize) -> Result<ProofFile, ReadFault>
+    requires room { length bytes.now < 2 ^ 32 - 1 }
+    requires tokens { HasTokens bytes.now count }
+    ensures { (ts : List Placed) → tokens_of bytes.now ≡ Ok ts → Tells (whole_outcome ts) result }
 {
-    let cursor = Cursor::of_text(alive.place, alive.comment, text, count);
-    match take_step(alloc, alive.awaited, cursor) {
-        Ok(Step::Dead(left)) => {
-            let dead = dead_token(alive.tokens, alive.place, alive.comment, text, count, left);
-            Some(ReadFault::Syntax {
-                token: dead.token,
-                line: dead.line,
-                column: dead.column,
-            })
-        }
-        Ok(_) => None,
-        Err(OutOfMemory) => Some(ReadFault::OutOfMemory),
-    }
-}
-
-/// The fault of the bytes that wait at the end of a text, by which it ends within a statement or too early; none where they
-/// have none.
-fn end_fault(alloc: Global, alive: &Alive) -> Option<ReadFault>
-    requires alive { IsAlive alive.now }
-    requires room { length alive.now.all.items < 2 ^ 32 - 1 }
-    ensures { IfSome result (λ f. Tells (outcome (parts_of (kinds.Alive alive.now)) []) (Err f)) }
-{
-    let valid = valid_front(alive.waiting());
+    let valid = valid_front(bytes);
     if !valid.tail.is_empty() {
-        return Some(told_stop(first_bad(alive.place, alive.comment, valid.text)));
+        return Err(told_stop(first_bad(Place::START, false, valid.text)));
     }
-    match count_tokens(alive.place, alive.comment, valid.text) {
-        Ok(count) => last_fault(alloc, alive, valid.text, count),
-        Err(stop) => Some(told_stop(stop)),
-    }
+    read_whole(alloc, valid.text, count)
 }
 
-/// A text is gone through once more, node by node, for what it says or its first flaw.
+/// A text without a fault so far is gone through once more for what it says or its first fault.
 fn finish_alive(alloc: Global, alive: &Alive) -> Result<ProofFile, ReadFault>
     requires alive { IsAlive alive.now }
     requires room { length alive.now.all.items < 2 ^ 32 - 1 }
     ensures { Tells (outcome (parts_of (kinds.Alive alive.now)) []) result }
 {
-    if let Some(fault) = end_fault(alloc, alive) {
-        return Err(fault);
+    let valid = valid_front(alive.waiting());
+    if !valid.tail.is_empty() {
+        return Err(told_stop(first_bad(alive.place, alive.comment, valid.text)));
     }
-    match read_whole(alloc, &alive.all) {
-        Ok(Some(whole)) => answer_of(whole),
-        Ok(None) => read_file(alloc, &alive.all),
-        Err(OutOfMemory) => Err(ReadFault::OutOfMemory),
+    match count_tokens(alive.place, alive.comment, valid.text) {
+        Ok(count) => read_bytes(alloc, &alive.all, alive.tokens as usize + count),
+        Err(stop) => Err(told_stop(stop)),
     }
 }
 

@@ -5,7 +5,6 @@
 mod awaited;
 mod feeding;
 mod finishing;
-mod flaw_place;
 mod found;
 mod front;
 mod held;
@@ -14,6 +13,7 @@ mod passing;
 mod reader;
 mod scan;
 mod step;
+mod told;
 mod whole;
 
 ghost use Rattle.std.specs.Prelude.{◌≡◌, ◌++◌, ◌∷◌, [], true, false, suc, length, map, List, ℕ, Bool, None, Some, Result, Ok, Err};

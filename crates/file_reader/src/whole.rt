@@ -1,185 +1,124 @@
-//! A text that is read through as a proof file, and of whose nodes only the values are held.
+//! A text that is read once more as a proof file, and of whose nodes only the values are held.
 
-ghost use Rattle.std.specs.Prelude.{◌≡◌, ◌-◌, ◌≤◌, ◌<◌, ◌^◌, List, None, length, IfOk, IfSome};
-ghost use Rattle.cyc_lex.specs.Placed.{Placed};
-ghost use Rattle.file_reader.specs.Wholes.{AreAllKept, IsAt, IsAnswer, IsBegun, IsWhole, TellsEnd, TellsLast};
+ghost use Rattle.std.specs.Prelude.{◌≡◌, ◌-◌, ◌≤◌, ◌<◌, ◌^◌, None, Ok, length, false};
+ghost use Rattle.cyc_lex.specs.Cutting.{cut_text};
+ghost use Rattle.cyc_lex.specs.Lexing.{start, tokens_of};
+ghost use Rattle.heap_syntax.specs.Versions.{most_spatial};
+ghost use Rattle.file_reader.specs.Outcomes.{whole_outcome};
+ghost use Rattle.file_reader.specs.Pieces.{Tells};
+ghost use Rattle.file_reader.specs.Wholes.{Adds, Wholes};
 
-use crate::flaw_place::fault_of_flaw;
 use crate::found::{Found, take_node};
-use crate::front::{Front, Spot, read_front};
-use crate::part::{KEPT, is_the_end, later_part};
+use crate::front::read_front;
+use crate::part::KEPT;
+use crate::told::{dead_in, flaw_in};
 use cyc_grammar::{Cursor, Refusal};
-use cyc_lex::{OutOfMemory, ReadFault, Stop, count_tokens};
+use cyc_lex::{OutOfMemory, Place, ReadFault};
 use cyc_limits::MOST_PREDICATES;
 use heap_reader::{Flaw, Heads};
-use piecewise_lex::{pass_statement, valid_front};
+use heap_syntax::Version;
 use pred_reader::heads;
 use proof_file::{ProofFile, file_of_values, front_flaw, front_values};
 use proof_statements::{NodeOrEnd, kept_node_or_end};
 use std::alloc::Global;
 
-/// What a text that the grammar has comes to: the file that it says, or its first flaw.
+/// What the tokens of a file say: its value, or its first flaw.
 #[derive(Drop)]
-pub enum Whole {
+enum Whole {
     File(ProofFile),
-    Flawed(ReadFault),
+    Flawed(Flaw),
 }
 
-/// The answer to a text that comes to this.
-pub fn answer_of(whole: Whole) -> Result<ProofFile, ReadFault>
-    ensures { IsAnswer whole result }
-{
-    match whole {
-        Whole::File(file) => Ok(file),
-        Whole::Flawed(fault) => Err(fault),
-    }
-}
-
-/// Whether nothing but the end of the text is left.
-fn ends(text: &str, spot: &Spot<'_>) -> Result<bool, Stop>
-    requires { (ts : List Placed) × IsAt text.now ts spot.now }
-    ensures { IfOk result (TellsEnd text.now spot.now) }
-{
-    let count = count_tokens(spot.place, spot.comment, spot.rest)?;
-    let cursor = Cursor::of_text(spot.place, spot.comment, spot.rest, count);
-    Ok(is_the_end(cursor))
-}
-
-/// Whether nothing but the last statement and the end of the text is left. Where its `;` is the text's last byte, it has not
-/// ended for a reader to whom more may come.
-fn is_last(alloc: Global, text: &str, spot: &Spot<'_>) -> Result<bool, Stop>
-    requires { (ts : List Placed) × IsAt text.now ts spot.now }
-    ensures { IfOk result (TellsLast text.now spot.now) }
-{
-    let count = count_tokens(spot.place, spot.comment, spot.rest)?;
-    let mut cursor = Cursor::of_text(spot.place, spot.comment, spot.rest, count);
-    match kept_node_or_end(alloc, KEPT, &mut cursor) {
-        Ok(NodeOrEnd::End) => Ok(is_the_end(cursor)),
-        Ok(NodeOrEnd::Node(_)) | Err(Refusal::Dead(_)) => Ok(false),
-        Err(Refusal::OutOfMemory) => Err(Stop::OutOfMemory),
-    }
-}
-
-/// What is found of the nodes, the first of which was read, where this is the first flaw before them; none where the text has a
-/// fault after it.
+/// What is found with the nodes that are left, of a file of so many tokens and lines, and then the end of the file.
 fn read_nodes(
     alloc: Global,
-    text: &str,
-    front: &Front<'_>,
+    count: usize,
+    version: Version,
+    lines: usize,
     heads: &Heads<'_>,
-    flaw: Option<Flaw>,
-) -> Result<Option<Found>, Stop>
-    requires room { length text.now < 2 ^ 32 - 1 }
-    requires few { flaw ≡ None → length heads.now ≤ MOST_PREDICATES }
-    requires begun { IsBegun text.now front.now }
-    ensures { IfOk result
-        (λ o. IfSome o (λ f. AreAllKept text.now front.now heads.now flaw f.flaw f.nodes.items)) }
+    found: Found,
+    cursor: &mut Cursor<'_, '_>,
+) -> Result<Found, Refusal>
+    requires few { found.flaw ≡ None → length heads.now ≤ MOST_PREDICATES }
+    requires within { length cursor.old ≤ count }
+    ensures { Adds (most_spatial version) heads.now lines (count - length cursor.old) found cursor.old cursor.new result }
 {
-    let count = front.lines.len();
+    let mut found = found;
+    'nodes: loop {
+        let at = count - cursor.left();
+        match kept_node_or_end(alloc, KEPT, cursor)? {
+            NodeOrEnd::Node(tree) => {
+                found = match take_node(alloc, heads, version, lines, at, &tree, found) {
+                    Ok(found) => found,
+                    Err(OutOfMemory) => return Err(Refusal::OutOfMemory),
+                };
+            }
+            NodeOrEnd::End => {
+                cursor.end()?;
+                return Ok(found);
+            }
+        }
+    }
+}
+
+/// What the tokens say, all of them.
+fn read_tokens(alloc: Global, cursor: &mut Cursor<'_, '_>) -> Result<Whole, Refusal>
+    ensures { Wholes cursor.old result }
+{
+    let count = cursor.left();
+    let front = read_front(alloc, cursor)?;
+    let (version, lines) = (front.version, front.lines.len());
+    let heads = match heads(alloc, &front.definitions) {
+        Ok(heads) => heads,
+        Err(OutOfMemory) => return Err(Refusal::OutOfMemory),
+    };
+    let flaw = front_flaw(&heads, version, &front.definitions, &front.lines);
     let none = Found {
         flaw,
         nodes: Vec::new(alloc),
     };
-    let mut found = take_node(
+    let begun = match take_node(
         alloc,
-        heads,
-        front.version,
-        count,
+        &heads,
+        version,
+        lines,
         front.before,
         &front.first,
         none,
-    )?;
-    let mut spot = front.behind;
-    'nodes: loop {
-        let statement = pass_statement(spot.place, spot.comment, spot.rest)?;
-        if !statement.ended {
-            if is_last(alloc, text, &spot)? {
-                return Ok(Some(found));
-            }
-            return Ok(None);
-        }
-        let cursor = Cursor::of_text(spot.place, spot.comment, spot.rest, statement.tokens);
-        let before = spot.tokens;
-        spot = Spot {
-            place: statement.place,
-            comment: statement.comment,
-            rest: statement.rest,
-            tokens: before + statement.tokens,
-        };
-        match later_part(alloc, KEPT, cursor)? {
-            None => return Ok(None),
-            Some(part) => match part {
-                NodeOrEnd::Node(tree) => {
-                    found = take_node(alloc, heads, front.version, count, before, &tree, found)?;
-                }
-                NodeOrEnd::End => {
-                    if ends(text, &spot)? {
-                        return Ok(Some(found));
-                    }
-                    return Ok(None);
-                }
-            },
-        }
-    }
-}
-
-/// What a text comes to whose front was read; none where it has another fault than a flaw.
-fn whole_of_front(alloc: Global, text: &str, front: &Front<'_>) -> Result<Option<Whole>, Stop>
-    requires room { length text.now < 2 ^ 32 - 1 }
-    requires begun { IsBegun text.now front.now }
-    ensures { IfOk result (λ o. IfSome o (IsWhole text.now)) }
-{
-    let heads = heads(alloc, &front.definitions)?;
-    let flaw = front_flaw(&heads, front.version, &front.definitions, &front.lines);
-    let found = match read_nodes(alloc, text, front, &heads, flaw)? {
-        Some(found) => found,
-        None => return Ok(None),
+    ) {
+        Ok(begun) => begun,
+        Err(OutOfMemory) => return Err(Refusal::OutOfMemory),
     };
-    match found.flaw {
-        Some(flaw) => match fault_of_flaw(text, flaw)? {
-            Some(fault) => Ok(Some(Whole::Flawed(fault))),
-            None => Ok(None),
-        },
-        None => {
-            let values = front_values(
-                alloc,
-                &heads,
-                front.version,
-                &front.definitions,
-                &front.lines,
-            )?;
-            Ok(Some(Whole::File(file_of_values(
-                front.version,
-                values.defs,
-                values.program,
-                found.nodes,
-            ))))
-        }
+    let found = read_nodes(alloc, count, version, lines, &heads, begun, cursor)?;
+    if cursor.left() > 0 {
+        return Err(Refusal::Dead(cursor.left()));
+    }
+    if let Some(flaw) = found.flaw {
+        return Ok(Whole::Flawed(flaw));
+    }
+    match front_values(alloc, &heads, version, &front.definitions, &front.lines) {
+        Ok(values) => Ok(Whole::File(file_of_values(
+            version,
+            values.defs,
+            values.program,
+            found.nodes,
+        ))),
+        Err(OutOfMemory) => Err(Refusal::OutOfMemory),
     }
 }
 
-fn whole_of_text(alloc: Global, text: &str) -> Result<Option<Whole>, Stop>
-    requires { length text.now < 2 ^ 32 - 1 }
-    ensures { IfOk result (λ o. IfSome o (IsWhole text.now)) }
+/// The file that a text of so many tokens says, or its first fault. The text is gone through once, and once more up to a fault.
+pub fn read_whole(alloc: Global, text: &str, count: usize) -> Result<ProofFile, ReadFault>
+    requires room { length text.now < 2 ^ 32 - 1 }
+    requires tokens { tokens_of text.now ≡ Ok (cut_text start false text.now) }
+    requires count { count ≡ length (cut_text start false text.now) }
+    ensures { Tells (whole_outcome (cut_text start false text.now)) result }
 {
-    match read_front(alloc, text)? {
-        Some(front) => whole_of_front(alloc, text, &front),
-        None => Ok(None),
-    }
-}
-
-/// The file that the bytes say, or their first flaw; none where they have another fault.
-pub fn read_whole(alloc: Global, bytes: &[u8]) -> Result<Option<Whole>, OutOfMemory>
-    requires { length bytes.now < 2 ^ 32 - 1 }
-    ensures { IfOk result (λ o. IfSome o (IsWhole bytes.now)) }
-{
-    let valid = valid_front(bytes);
-    if !valid.tail.is_empty() {
-        return Ok(None);
-    }
-    match whole_of_text(alloc, valid.text) {
-        Ok(whole) => Ok(whole),
-        Err(Stop::OutOfMemory) => Err(OutOfMemory),
-        Err(Stop::At(_, _)) => Ok(None),
+    let mut cursor = Cursor::of_text(Place::START, false, text, count);
+    match read_tokens(alloc, &mut cursor) {
+        Ok(Whole::File(file)) => Ok(file),
+        Ok(Whole::Flawed(flaw)) => Err(flaw_in(text, flaw)),
+        Err(Refusal::Dead(left)) => Err(dead_in(text, count, left)),
+        Err(Refusal::OutOfMemory) => Err(ReadFault::OutOfMemory),
     }
 }

@@ -1,10 +1,13 @@
-use Rattle.std.proofs.Common.{length, map}
+use Rattle.std.proofs.Common.{◌≡◌, length, map}
 use Rattle.proof_syntax.specs.Trees.{definition_of}
-use Rattle.file_reader.specs.Wholes.{IsKeptFront}
+use Rattle.file_reader.specs.Wholes.{IsFront}
 use Rattle.file_reader.proofs.front.read_front.Given as goal
 
 abbrev pub invariant-parts : goal.invariant-parts
-invariant-parts l = IsKeptFront l.fn.text l.in_lines l.version (map definition_of l.definitions.items) l.lines.items l.spot
+invariant-parts l = record {
+  read : IsFront l.in_lines l.version (map definition_of l.definitions.items) l.lines.items l.fn.cursor l.cursor;
+  count : l.count ≡ length l.fn.cursor;
+}
 
 abbrev pub decreases-parts : goal.decreases-parts
-decreases-parts l = length l.spot.rest.now
+decreases-parts l = length l.cursor
