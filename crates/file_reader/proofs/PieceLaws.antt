@@ -22,9 +22,8 @@ use Rattle.file_reader.specs.Outcomes.{Outcome, Faulty}
 use Rattle.file_reader.specs.Stages.{Stage, Head, Nodes, Dead, Unlexed, Lost, Parts, fresh, behind, outcome}
 use Rattle.file_reader.specs.Steps.{Takes}
 use Rattle.file_reader.specs.Pieces.{Tells, KeepsLaw, AreFed, bytes_of, parts, IsOpen, Comes, IsBad}
-use Rattle.file_reader.proofs.Fresh.{fresh-read, fresh-comes}
+use Rattle.file_reader.proofs.Fresh.{fresh-read}
 use Rattle.std.proofs.lemmas.List.{append-nil}
-use Rattle.cyc_lex.specs.Lexing.{start}
 
 -- ---- bytes and tokens
 
@@ -90,18 +89,6 @@ pieces-read pieces new answer fed h = told-reads (bytes_of pieces) answer (fed-t
 pub one-piece : (bytes : List ℕ) (new : Parts) (answer : Result ProofFile ReadFault) → KeepsLaw fresh bytes new → Tells (outcome new []) answer → Reads bytes answer
 one-piece bytes new answer keeps h =
     told-reads bytes answer (subst (λ (o : Outcome). Tells o answer) (sym (ap (outcome fresh) (sym (append-nil bytes)) ∙ keeps [])) h)
-
--- where all bytes wait, what is read of them is what the text comes to
-pub reads-tell : (bytes : List ℕ) (answer : Result ProofFile ReadFault) → Reads bytes answer → Tells (outcome (parts (Head []) start false bytes) []) answer
-reads-tell bytes answer h = subst (λ (o : Outcome). Tells o answer) (ap (λ (b : List ℕ). behind (Head []) (tokens_from start false b)) (sym (append-nil bytes))) (by answer h)
-  where
-    by : (a : Result ProofFile ReadFault) → Reads bytes a → Tells (outcome fresh bytes) a
-    by (Ok f) k = fresh-comes bytes (Ok f) k
-    by (Err faults.OutOfMemory) k = tt
-    by (Err (faults.Lex fault)) k = fresh-comes bytes (Err (faults.Lex fault)) k
-    by (Err (faults.Syntax n l c)) k = fresh-comes bytes (Err (faults.Syntax n l c)) k
-    by (Err (faults.IllFormed fault n l c)) k = fresh-comes bytes (Err (faults.IllFormed fault n l c)) k
-    by (Err (faults.Limit what n l c)) k = fresh-comes bytes (Err (faults.Limit what n l c)) k
 
 -- ---- the tokens of one statement, at the front of a text after which bytes stand that make no character yet
 

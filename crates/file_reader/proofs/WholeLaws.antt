@@ -1,7 +1,6 @@
 -- A text that is read once more, statement by statement.
-use Rattle.std.proofs.Common.{◌≡◌, ℕ, ◌+◌, ◌-◌, ◌≤◌, ◌<◌, Bool, true, false, List, [], ◌∷◌, ◌++◌, length, map, Some, None, Result, Ok, Err, refl, sym, ap, subst, ◌∙◌, arith, length-append, append_assoc, inl, inr, ◌⊎◌}
+use Rattle.std.proofs.Common.{◌≡◌, ℕ, ◌+◌, ◌-◌, ◌≤◌, ◌<◌, Bool, true, false, List, [], ◌∷◌, ◌++◌, length, map, Some, None, Ok, Err, refl, sym, ap, subst, ◌∙◌, arith, length-append, append_assoc, inl, inr, ◌⊎◌}
 use Rattle.std.proofs.lemmas.List.{append-nil, length-map, map_push, map-append}
-use Rattle.cyc_lex.specs.declared.fault.ReadFault.{ReadFault}
 use Rattle.cyc_lex.specs.Lexing.{tokens_of}
 use Rattle.cyc_lex.specs.Placed.{Placed}
 use Rattle.cyc_lex.specs.Word.{Word, word_of}
@@ -36,7 +35,6 @@ use Rattle.pred_reader.proofs.FrontSpans.{definitions-span}
 use Rattle.proof_file.specs.Flaws.{heading, headings, definition_flaw, program_flaw, node_flaw, nodes_flaw, first_line, first_node, file_flaw}
 use Rattle.proof_file.specs.Spans.{definition_span, variable_span, node_span}
 use Rattle.proof_file.specs.Values.{node_value}
-use Rattle.proof_file.specs.declared.file.ProofFile.{ProofFile}
 use Rattle.proof_file.specs.declared.node.FileNode.{FileNode}
 use Rattle.proof_file.proofs.FrontSpans.{node-span}
 use Rattle.proof_file.proofs.SpanLaws.{file_words}
@@ -45,10 +43,7 @@ use Rattle.file_reader.specs.declared.found.Found.{Found}
 use Rattle.file_reader.specs.declared.front.Front.{Front}
 use Rattle.file_reader.specs.Steps.{tree_of, span_of}
 use Rattle.file_reader.specs.Wholes.{IsPart, kept, kept_part, LeadsTo, LeadsFront, front_size, IsFront, front_defs, IsBegun, AreAdded, AreRead, AreLast}
-use Rattle.file_reader.specs.Outcomes.{Faulty as Bears, Has, flaw_fault, syntax_fault, told_flaw, settled, said_of, file_outcome, whole_outcome}
-use Rattle.file_reader.specs.Pieces.{Tells}
 use Rattle.file_reader.proofs.Beginning.{one-later, listed-append, file-flaws}
-use Rattle.file_reader.proofs.EndLaws.{tells-fault}
 use Rattle.file_reader.proofs.Fresh.{tokens-end}
 use Rattle.file_reader.proofs.KeptParts.{later-kept, end-kept, dead-kept, part-kept, pred-kept, line-kept, node-kept, same-found, same-value, kept-headings, kept-flaw, whole-front}
 use Rattle.file_reader.proofs.Sizes.{statement-words}
@@ -425,17 +420,3 @@ module _ (text : List ℕ) (ts : List Placed) (is : tokens_of text ≡ Ok ts) wh
 
   pub dead-there : (left : ℕ) → read_whole file all_words ≡ Err left → (0 < left) × (left ≤ length ts)
   dead-there left e = err-within {X = File} file file-law file-last (λ x. x) ts (Err (refusals.Dead left)) (refusals.Dead left) refl e (tokens-end text ts is)
-
-outcome-of : (ts : List Placed) (q : Result File ℕ) (answer : Result ProofFile ReadFault) → read_whole file (map word_of ts) ≡ q → Tells (file_outcome ts q) answer → Tells (whole_outcome ts) answer
-outcome-of ts q answer e h = subst (λ (r : Result File ℕ). Tells (file_outcome ts r) answer) (sym e) h
-
-pub tells-file : (ts : List Placed) (tree : File) (f : ProofFile) → read_whole file (map word_of ts) ≡ Ok tree → file_flaw tree ≡ None → Has (said_of tree) f → Tells (whole_outcome ts) (Ok f)
-tells-file ts tree f e clean h = outcome-of ts (Ok tree) (Ok f) e (subst (λ (o : Flaws). Tells (settled (told_flaw 0 ts o) (said_of tree)) (Ok f)) (sym clean) h)
-
-pub tells-flaw : (ts : List Placed) (tree : File) (flaw : Flaw) (x : ReadFault) → read_whole file (map word_of ts) ≡ Ok tree → file_flaw tree ≡ Some flaw → x ≡ flaw_fault 0 ts flaw → Tells (whole_outcome ts) (Err x)
-tells-flaw ts tree flaw x e first told =
-    outcome-of ts (Ok tree) (Err x) e
-    (subst (λ (o : Flaws). Tells (settled (told_flaw 0 ts o) (said_of tree)) (Err x)) (sym first) (subst (λ (y : ReadFault). Tells (Bears y) (Err x)) told (tells-fault x)))
-
-pub tells-dead : (ts : List Placed) (left : ℕ) (x : ReadFault) → read_whole file (map word_of ts) ≡ Err left → x ≡ syntax_fault 0 ts left → Tells (whole_outcome ts) (Err x)
-tells-dead ts left x e told = outcome-of ts (Err left) (Err x) e (subst (λ (y : ReadFault). Tells (Bears y) (Err x)) told (tells-fault x))
