@@ -6,3 +6,4 @@ mod CaseNumbers
 pub mod Unlinked
 pub mod LeftNumbers
 mod LeftOpen
+mod OfferedParts

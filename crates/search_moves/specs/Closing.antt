@@ -59,7 +59,16 @@ leaves ds j (Drop k) = true
 abbrev pub CloseAlike : Theory → Judgement → List Rule → List Rule → Type 0
 CloseAlike t j rules rules' = filter (closes t j) rules ≡ filter (closes t j) rules'
 
+-- some of the rules that are offered, in their order
+abbrev pub IsPart : List Rule → List Rule → Type 0
+IsPart rules offered = (kept : Rule → Bool) × (rules ≡ filter kept offered)
+
 -- these rules are offered to the goal, a node of the list, but for some that leave premises
 abbrev pub OffersClosing : Theory → List GraphNode → ℕ → List Rule → Type 0
 OffersClosing t nodes goal rules =
     (node : GraphNode) × (slice_get nodes goal ≡ Some node) × CloseAlike t node.judgement rules (rules_offered t nodes goal node.judgement)
+
+-- each of these rules is offered to the goal, a node of the list, and they come in the order of the offers
+abbrev pub OffersPart : Theory → List GraphNode → ℕ → List Rule → Type 0
+OffersPart t nodes goal rules =
+    (node : GraphNode) × (slice_get nodes goal ≡ Some node) × IsPart rules (rules_offered t nodes goal node.judgement)

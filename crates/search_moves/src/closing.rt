@@ -5,7 +5,7 @@ ghost use Rattle.heap_formula.specs.Judgements.{antecedent as antecedent_of};
 ghost use Rattle.std.specs.List.{list_all};
 ghost use Rattle.search_moves.specs.Settings.{theory, theory_of};
 ghost use Rattle.search_moves.specs.Entailments.{entailment_after};
-ghost use Rattle.search_moves.specs.Closing.{has_case as has_some_case, leaves as leaves_some, closes, CloseAlike};
+ghost use Rattle.search_moves.specs.Closing.{has_case as has_some_case, leaves as leaves_some, closes, CloseAlike, IsPart};
 
 use crate::entailments::rule_alone;
 use crate::setting::Setting;
@@ -67,7 +67,9 @@ pub fn closing_rules(
 ) -> Result<Vec<Rule>, OutOfMemory>
     requires judgement { antecedent_of at.now.judgement.now ≡ left.now }
     requires cases { list_all (has_some_case at.now.defs.now.list) left.now.spatial ≡ true }
-    ensures { IfOk result (λ v. CloseAlike (theory_of at.now) at.now.judgement.now v.items
+    ensures closing { IfOk result (λ v. CloseAlike (theory_of at.now) at.now.judgement.now v.items
+        (entailment_after (theory_of at.now) at.now.judgement.now left.now heaps.now)) }
+    ensures offered { IfOk result (λ v. IsPart v.items
         (entailment_after (theory_of at.now) at.now.judgement.now left.now heaps.now)) }
 {
     if heaps.len() != 1 {

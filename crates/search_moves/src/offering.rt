@@ -4,7 +4,7 @@ ghost use Rattle.heap_formula.specs.Words.{Each};
 ghost use Rattle.heap_formula.specs.Meaning.{cases_of};
 ghost use Rattle.fold_offers.specs.Limits.{HasFewParameters};
 ghost use Rattle.proof_graph.specs.Nodes.{HasJudgement};
-ghost use Rattle.search_moves.specs.Closing.{CloseAlike, OffersClosing};
+ghost use Rattle.search_moves.specs.Closing.{CloseAlike, IsPart, OffersClosing, OffersPart};
 ghost use Rattle.search_moves.specs.Limits.{IsSmall};
 ghost use Rattle.search_moves.specs.Settings.{theory_of, theory};
 ghost use Rattle.search_moves.specs.Offering.{rules_before as rules_before_links, rules_after as rules_after_links, OffersLinks, OffersRules};
@@ -61,7 +61,9 @@ fn closing_rules_after(
     requires goal { goal < length graph.now }
     requires parameters { Each HasFewParameters at.now.defs.now.list }
     requires cases { (q : ℕ) → length (cases_of at.now.defs.now.list q) ≤ 65536 }
-    ensures { IfOk result (λ v. CloseAlike (theory_of at.now) at.now.judgement.now v.items
+    ensures closing { IfOk result (λ v. CloseAlike (theory_of at.now) at.now.judgement.now v.items
+        (rules_after_links (theory_of at.now) graph.now goal at.now.judgement.now)) }
+    ensures offered { IfOk result (λ v. IsPart v.items
         (rules_after_links (theory_of at.now) graph.now goal at.now.judgement.now)) }
 {
     match at.judgement {
@@ -142,6 +144,7 @@ pub fn closing_offers(
     requires small { Each IsSmall defs.now.list }
     ensures links { IfOk result (λ o. OffersLinks (theory defs.now program.now) graph.now goal o.links.items) }
     ensures rules { IfOk result (λ o. OffersClosing (theory defs.now program.now) graph.now goal o.rules.items) }
+    ensures offered { IfOk result (λ o. OffersPart (theory defs.now program.now) graph.now goal o.rules.items) }
 {
     let at = Setting {
         defs,
