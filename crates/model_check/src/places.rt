@@ -1,5 +1,5 @@
 // The first place that is not constructive.
-ghost use Rattle.std.specs.Prelude.{◌≡◌, ◌≤◌, length, [], ◌∷◌, IfOk, MatchOption};
+ghost use Rattle.std.specs.Prelude.{◌≡◌, ◌≤◌, length, [], ◌∷◌, Ok, IfOk, MatchOption};
 ghost use Rattle.heap_formula.specs.Words.{Each};
 ghost use Rattle.model_check.specs.Constructive.{IsConstructive, AreConstructive};
 ghost use Rattle.model_check.specs.FirstPlaces.{IsFirstBad, IsFirstBadCase, IsFirstPlace};
@@ -20,7 +20,8 @@ pub enum Place {
 
 /// A place as a number of 32 bits; so long a list does not fit in memory otherwise.
 fn small(i: usize) -> Result<u32, OutOfMemory>
-    ensures { IfOk result (λ n. n ≡ i) }
+    ensures value { IfOk result (λ n. n ≡ i) }
+    ensures fits { i ≤ u32.MAX → result ≡ Ok i }
 {
     if i > u32::MAX as usize {
         return Err(OutOfMemory);

@@ -45,6 +45,8 @@ fn add_masks(
     ensures rows { vec_len table.new ≡ vec_len table.old }
     ensures longer { OnOk result (vec_len log.old ≤ vec_len log.new) }
     ensures same { OnOk result (vec_len log.new ≡ vec_len log.old → table.new.items ≡ table.old.items) }
+    ensures counted { OnOk result (vec_len log.new + sum_by length table.old.items
+        ≡ vec_len log.old + sum_by length table.new.items) }
 {
     for mask in masks {
         add_mask(table, log, head, mask)?;
@@ -64,6 +66,8 @@ fn apply_rule(
     ensures rows { vec_len table.new ≡ vec_len table.old }
     ensures longer { OnOk result (vec_len log.old ≤ vec_len log.new) }
     ensures same { OnOk result (vec_len log.new ≡ vec_len log.old → table.new.items ≡ table.old.items) }
+    ensures counted { OnOk result (vec_len log.new + sum_by length table.old.items
+        ≡ vec_len log.old + sum_by length table.new.items) }
 {
     let masks = unions(alloc, table, rule.pieces.as_slice())?;
     add_masks(table, log, rule.head, masks.as_slice())
@@ -145,6 +149,8 @@ fn refresh_rule(
     ensures rows { OnOk result (vec_len table.new ≡ vec_len table.old) }
     ensures longer { OnOk result (vec_len log.old ≤ vec_len log.new) }
     ensures same { OnOk result (vec_len log.new ≡ vec_len log.old → table.new.items ≡ table.old.items) }
+    ensures counted { OnOk result (vec_len log.new + sum_by length table.old.items
+        ≡ vec_len log.old + sum_by length table.new.items) }
     ensures closed { OnOk result (vec_len log.new ≡ vec_len log.old → (r : GroundRule)
         → slice_get rules.now i ≡ Some r → IsClosed table.new.items r) }
     ensures settled { OnOk result (AreSettled table.new.items grown.new.items applied.new.items rules.now) }
@@ -181,6 +187,8 @@ fn refresh_rules(
     ensures sound { OnOk result (IsDerived rules.now table.new.items) }
     ensures rows { OnOk result (vec_len table.new ≡ vec_len table.old) }
     ensures longer { OnOk result (vec_len log.old ≤ vec_len log.new) }
+    ensures counted { OnOk result (vec_len log.new + sum_by length table.old.items
+        ≡ vec_len log.old + sum_by length table.new.items) }
     ensures closed { OnOk result (vec_len log.new ≡ vec_len log.old → AreClosed table.new.items rules.now) }
     ensures settled { OnOk result (AreSettled table.new.items grown.new.items applied.new.items rules.now) }
     ensures before { OnOk result (AreBefore applied.new.items (vec_len log.new)) }

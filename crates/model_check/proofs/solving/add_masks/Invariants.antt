@@ -1,4 +1,5 @@
-use Rattle.std.proofs.Common.{◌≡◌, ◌≤◌, ℕ, drop, ◌↔◌, ◌⊎◌, vec_len}
+use Rattle.std.proofs.Common.{◌≡◌, ◌≤◌, ◌+◌, ℕ, drop, ◌↔◌, ◌⊎◌, vec_len, length}
+use Rattle.std.specs.List.{sum_by}
 use Rattle.heap_formula.specs.Words.{OneOf}
 use Rattle.model_check.specs.WideMasks.{number}
 use Rattle.model_check.specs.Tables.{HasMask}
@@ -10,4 +11,5 @@ invariant-loop-mask l = record {
   rows : vec_len l.table ≡ vec_len l.initial.table;
   longer : vec_len l.initial.log ≤ vec_len l.log;
   same : vec_len l.log ≡ vec_len l.initial.log → l.table.items ≡ l.initial.table.items;
+  counted : vec_len l.log + sum_by length l.initial.table.items ≡ vec_len l.initial.log + sum_by length l.table.items;
 }
