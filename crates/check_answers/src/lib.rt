@@ -1,12 +1,13 @@
 //! The answers of the command `check`; and the top call of the checker alone: a source of bytes in, one line and a status out.
 #![tactic(auto)]
 
-ghost use Rattle.std.specs.Prelude.{◌≡◌, ◌≢◌, ◌≤◌, ◌⊎◌, ℕ, List, length, true, Some, Ok};
+ghost use Rattle.std.specs.Prelude.{◌≡◌, ◌≢◌, ◌+◌, ◌≤◌, ◌⊎◌, ℕ, List, length, true, Some, Ok};
 ghost use Rattle.buchi_inclusion.specs.Answers.{HasAtMost};
 ghost use Rattle.proof_file.specs.declared.file.ProofFile.{ProofFile};
 ghost use Rattle.proof_file.specs.Reading.{IsRead};
 ghost use Rattle.proof_check.specs.Verdicts.{IsCorrect, RootHolds, file_graph, state_limit};
 ghost use Rattle.cyc_io.specs.Causes.{Rose};
+ghost use Rattle.cyc_io.specs.Bytes.{CameAtMost};
 ghost use Rattle.cyc_runs.specs.Endings.{is_answer};
 ghost use Rattle.cyc_runs.specs.Runs.{IsAnswerOf, IsReadThrough, WroteAnswer, WrotePart, input_limit};
 ghost use Rattle.check_answers.specs.Answers.{IsAnswer, IsChecked, ToldFileOf};
@@ -27,7 +28,10 @@ pub fn check_input<S: Source, K: Sink>(alloc: Global, src: &mut S, out: &mut K) 
     ensures answered { is_answer result ≡ true
         → WroteAnswer (IsAnswerOf IsChecked) (S.left src.old) (K.written out.old) (K.written out.new) result }
     ensures through { is_answer result ≡ true → IsReadThrough (S.left src.old) (S.left src.new) }
+    // However it ends, it reads no further than it needs to know that the input is too long.
+    ensures taken { CameAtMost (S.left src.old) (S.left src.new) (input_limit + 1) }
     ensures read_fault { result ≡ Status.ReadFault → Rose (S.faults src.old) (S.faults src.new) × (out.new ≡ out.old) }
+    ensures before_fault { result ≡ Status.ReadFault → CameAtMost (S.left src.old) (S.left src.new) input_limit }
     ensures write_fault { result ≡ Status.WriteFault → Rose (K.faults out.old) (K.faults out.new)
         × WrotePart (IsAnswerOf IsChecked) (S.left src.old) (K.written out.old) (K.written out.new) }
     // Neither a failed read nor a failed write ends so.
@@ -62,7 +66,9 @@ pub fn run<S: Source, K: Sink>(alloc: Global, words: &[String], src: &mut S, out
         → ¬ Rose (S.faults src.old) (S.faults src.new) → ¬ Rose (K.faults out.old) (K.faults out.new)
         → (result ≡ Status.Success) ⊎ (result ≡ Status.OutOfMemory) }
     ensures through { is_answer result ≡ true → length words.now ≡ 0 → IsReadThrough (S.left src.old) (S.left src.new) }
+    ensures taken { CameAtMost (S.left src.old) (S.left src.new) (input_limit + 1) }
     ensures read_fault { result ≡ Status.ReadFault → Rose (S.faults src.old) (S.faults src.new) × (out.new ≡ out.old) }
+    ensures before_fault { result ≡ Status.ReadFault → CameAtMost (S.left src.old) (S.left src.new) input_limit }
     ensures write_fault { result ≡ Status.WriteFault → Rose (K.faults out.old) (K.faults out.new)
         × WrotePart (IsAnswer (length words.now)) (S.left src.old) (K.written out.old) (K.written out.new) }
     ensures memory { result ≡ Status.OutOfMemory → (out.new ≡ out.old) × (S.faults src.new ≡ S.faults src.old) }
