@@ -1,7 +1,7 @@
 //! The top call: words and a source of bytes in, one line and a status out.
 #![tactic(auto)]
 
-ghost use Rattle.std.specs.Prelude.{◌≡◌, ◌≤◌, ℕ, List, length, map, string_bytes, true, false, Some, Ok, ◌⊎◌};
+ghost use Rattle.std.specs.Prelude.{◌≡◌, ◌+◌, ◌≤◌, ℕ, List, length, map, string_bytes, true, false, Some, Ok, ◌⊎◌};
 ghost use Rattle.heap_formula.specs.declared.proof_rules.Reason.{Reason};
 ghost use Rattle.derivation_search.specs.System.{IsFound, search_of};
 ghost use Rattle.formula_reader.specs.declared.problem.Problem.{Problem};
@@ -17,6 +17,7 @@ ghost use Rattle.fo_values.specs.declared.problem.FoProblem.{FoProblem};
 ghost use Rattle.fo_search.specs.Outcomes as first_order_searches;
 ghost use Rattle.fo_file.specs.Reading as first_order;
 ghost use Rattle.fo_logic.specs.Verdicts as first_order_verdicts;
+ghost use Rattle.cyc_io.specs.Bytes.{CameAtMost};
 ghost use Rattle.cyc_io.specs.Causes.{Rose};
 ghost use Rattle.cyc_words.specs.Words.{IsInRange, meaning_of, reads_input};
 ghost use Rattle.cyc_words.specs.declared.tasks.Task.TheVariants.{Check, Prove, Ring, Upgrade, Disprove, FirstOrderProve, FirstOrderCheck};
@@ -56,7 +57,9 @@ fn run_task<S: Source, K: Sink>(
         → WroteAnswer task (S.left src.old) (K.written out.old) (K.written out.new) result }
     ensures through { is_answer result ≡ true → reads_input task ≡ true
         → IsReadThrough (S.left src.old) (S.left src.new) }
+    ensures taken { CameAtMost (S.left src.old) (S.left src.new) (input_limit + 1) }
     ensures read_fault { result ≡ Status.ReadFault → Rose (S.faults src.old) (S.faults src.new) × (out.new ≡ out.old) }
+    ensures before_fault { result ≡ Status.ReadFault → CameAtMost (S.left src.old) (S.left src.new) input_limit }
     // Only a task that needs its input reads.
     ensures asked { result ≡ Status.ReadFault → reads_input task ≡ true }
     ensures write_fault { result ≡ Status.WriteFault → Rose (K.faults out.old) (K.faults out.new)
@@ -152,7 +155,10 @@ pub fn run<S: Source, K: Sink>(alloc: Global, words: &[String], src: &mut S, out
     // A task that needs its input was answered at the input's end, or after one byte more than may come.
     ensures through { is_answer result ≡ true → reads_input (meaning_of (map string_bytes words.now)) ≡ true
         → IsReadThrough (S.left src.old) (S.left src.new) }
+    // However it ends, it reads no further than it needs to know that the input is too long.
+    ensures taken { CameAtMost (S.left src.old) (S.left src.new) (input_limit + 1) }
     ensures read_fault { result ≡ Status.ReadFault → Rose (S.faults src.old) (S.faults src.new) × (out.new ≡ out.old) }
+    ensures before_fault { result ≡ Status.ReadFault → CameAtMost (S.left src.old) (S.left src.new) input_limit }
     ensures write_fault { result ≡ Status.WriteFault → Rose (K.faults out.old) (K.faults out.new)
         × WrotePart (meaning_of (map string_bytes words.now)) (S.left src.old) (K.written out.old) (K.written out.new) }
     // Neither a failed read nor a failed write ends so.

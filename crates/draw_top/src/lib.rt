@@ -2,10 +2,11 @@
 //! language (Gansner and North 2000): a small part of it, as data and as text.
 #![tactic(auto)]
 
-ghost use Rattle.std.specs.Prelude.{◌≡◌, ◌≤◌, length, true};
+ghost use Rattle.std.specs.Prelude.{◌≡◌, ◌+◌, ◌≤◌, length, true};
+ghost use Rattle.cyc_io.specs.Bytes.{CameAtMost};
 ghost use Rattle.cyc_io.specs.Causes.{Rose};
 ghost use Rattle.cyc_runs.specs.Endings.{is_answer};
-ghost use Rattle.cyc_runs.specs.Runs.{IsReadThrough};
+ghost use Rattle.cyc_runs.specs.Runs.{IsReadThrough, input_limit};
 ghost use Rattle.draw_top.specs.Answers.{WroteDrawing, WrotePartOfDrawing};
 
 mod answering;
@@ -35,7 +36,10 @@ pub fn run<S: Source, K: Sink>(alloc: Global, words: &[String], src: &mut S, out
     ensures answered { is_answer result ≡ true
         → WroteDrawing (length words.now) (S.left src.old) (K.written out.old) (K.written out.new) result }
     ensures through { is_answer result ≡ true → length words.now ≡ 0 → IsReadThrough (S.left src.old) (S.left src.new) }
+    // However it ends, it reads no further than it needs to know that the input is too long.
+    ensures taken { CameAtMost (S.left src.old) (S.left src.new) (input_limit + 1) }
     ensures read_fault { result ≡ Status.ReadFault → Rose (S.faults src.old) (S.faults src.new) × (out.new ≡ out.old) }
+    ensures before_fault { result ≡ Status.ReadFault → CameAtMost (S.left src.old) (S.left src.new) input_limit }
     ensures write_fault { result ≡ Status.WriteFault → Rose (K.faults out.old) (K.faults out.new)
         × WrotePartOfDrawing (length words.now) (S.left src.old) (K.written out.old) (K.written out.new) }
     // Neither a failed read nor a failed write ends so.

@@ -3,10 +3,11 @@
 //! is checked before it is given.
 #![tactic(auto)]
 
-ghost use Rattle.std.specs.Prelude.{◌≡◌, ◌≢◌, ◌≤◌, ◌⊎◌, ℕ, List, Some, length, true};
+ghost use Rattle.std.specs.Prelude.{◌≡◌, ◌≢◌, ◌+◌, ◌≤◌, ◌⊎◌, ℕ, List, Some, length, true};
+ghost use Rattle.cyc_io.specs.Bytes.{CameAtMost};
 ghost use Rattle.cyc_io.specs.Causes.{Rose};
 ghost use Rattle.cyc_runs.specs.Endings.{is_answer};
-ghost use Rattle.cyc_runs.specs.Runs.{IsReadThrough, WroteAnswer, WrotePart};
+ghost use Rattle.cyc_runs.specs.Runs.{IsReadThrough, WroteAnswer, WrotePart, input_limit};
 ghost use Rattle.seek_top.specs.Answers.{EndAlike, IsAnswer, WroteProof};
 
 mod checking;
@@ -39,7 +40,10 @@ pub fn run<S: Source, K: Sink>(alloc: Global, words: &[String], src: &mut S, out
     // What was written with success is a proof of the problem's goal that a check accepts, and the goal holds.
     ensures found { result ≡ Status.Success → WroteProof (S.left src.old) (K.written out.old) (K.written out.new) }
     ensures through { is_answer result ≡ true → length words.now ≡ 0 → IsReadThrough (S.left src.old) (S.left src.new) }
+    // However it ends, it reads no further than it needs to know that the input is too long.
+    ensures taken { CameAtMost (S.left src.old) (S.left src.new) (input_limit + 1) }
     ensures read_fault { result ≡ Status.ReadFault → Rose (S.faults src.old) (S.faults src.new) × (out.new ≡ out.old) }
+    ensures before_fault { result ≡ Status.ReadFault → CameAtMost (S.left src.old) (S.left src.new) input_limit }
     ensures write_fault { result ≡ Status.WriteFault → Rose (K.faults out.old) (K.faults out.new)
         × WrotePart (IsAnswer words.now) (S.left src.old) (K.written out.old) (K.written out.new) }
     // Neither a failed read nor a failed write ends so.
