@@ -5,8 +5,9 @@ pub mod Beginning
 pub mod Fresh
 pub mod PieceLaws
 pub mod Sizes
-mod ScanLaws
+mod NodeLaws
 mod KeptParts
 mod HeldLaws
 mod EndLaws
-mod WholeLaws
+mod StatementLaws
+mod FrontLaws

@@ -3,6 +3,10 @@ pub mod Stages
 pub mod Steps
 pub mod Pieces
 pub mod Passing
-pub mod Scans
+pub mod Fronts
+pub mod Stretches
+pub mod Knowns
+pub mod Beginnings
+pub mod Runs
+pub mod Lasts
 pub mod Helds
-pub mod Wholes

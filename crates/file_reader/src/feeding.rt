@@ -1,19 +1,32 @@
 //! What a reader holds after a piece of the text.
 
-ghost use Rattle.std.specs.Prelude.{◌≡◌, ◌+◌, ◌-◌, ◌<◌, ◌^◌, [], length, IfOk, OnOk};
+ghost use Rattle.std.specs.Prelude.{◌≡◌, ◌+◌, ◌++◌, ◌-◌, ◌<◌, ◌≤◌, ◌^◌, [], length, false, IfOk, OnOk};
+ghost use Rattle.std.specs.Str.{IsUtf8};
+ghost use Rattle.cyc_lex.specs.Lexing.{HasRoom, start};
+ghost use Rattle.piecewise_lex.specs.Taking.{reading};
+ghost use Rattle.piecewise_lex.specs.Spans.{IsFront};
 ghost use Rattle.file_reader.specs.Pieces.{IsLost, bytes_fed};
-ghost use Rattle.file_reader.specs.Helds.{parts_of, IsAlive, IsHeld, IsKept, IsSmall, IsStopped};
+ghost use Rattle.file_reader.specs.Knowns.{IsSteady};
+ghost use Rattle.file_reader.specs.Runs.{Runs};
+ghost use Rattle.file_reader.specs.Helds.{parts_of, IsAfter, IsHeld, IsKept, IsOpenedTo, IsRunning, IsSmall, IsStopped};
 ghost use Rattle.file_reader.specs.declared.held.Held.TheVariants as kinds;
 
-use crate::held::{Alive, Faulty, Held};
+use crate::beginning::begin;
+use crate::held::{Faulty, Held, Opening, Running};
+use crate::known::{Found, Known, known_heads};
+use crate::nodes::{Ran, read_nodes};
 use crate::passing::pass_tokens;
-use crate::scan::read_statements;
-use cyc_lex::{OutOfMemory, ReadFault, Stop, fault_at};
-use piecewise_lex::{first_bad, joined, valid_front};
+use crate::stretch::Stretch;
+use cyc_grammar::Refusal;
+use cyc_lex::{OutOfMemory, Place, Stop, fault_at};
+use piecewise_lex::{Span, Valid, first_bad, joined, pass_statements, valid_front};
 use std::alloc::Global;
 
 /// So many bytes are taken at a time.
 const MOST: usize = 65_536;
+
+/// So many bytes wait at least before they are looked at again, so that few looks are in vain.
+const LEAST: usize = 4_096;
 
 /// How many bytes were fed.
 pub fn bytes_fed(held: &Held) -> u32
@@ -21,7 +34,8 @@ pub fn bytes_fed(held: &Held) -> u32
     ensures { result ≡ bytes_fed (parts_of held.now) }
 {
     match held {
-        Held::Alive(alive) => alive.all.len() as u32,
+        Held::Opening(opening) => opening.all.len() as u32,
+        Held::Running(running) => running.place.offset + running.waiting.len() as u32,
         Held::Faulty(faulty) => faulty.place.offset + faulty.waiting.len() as u32,
         Held::Unlexed(_, fed) => *fed,
         Held::Lost(fed) => *fed,
@@ -38,58 +52,177 @@ fn stopped(stop: Stop, fed: u32) -> Result<Held, OutOfMemory>
     }
 }
 
-/// Reads the statements among the bytes that wait.
-fn look(alloc: Global, alive: Alive) -> Result<Held, OutOfMemory>
-    requires alive { IsAlive alive }
-    requires room { length alive.all.items < 2 ^ 32 - 1 }
-    ensures { IfOk result (IsKept (parts_of (kinds.Alive alive)) []) }
+/// How many bytes are enough for the next look, where so many are left of this one.
+fn enough_after(left: usize) -> usize
+    requires { left < 2 ^ 32 }
 {
-    let fed = alive.all.len() as u32;
-    let tokens = alive.tokens;
-    let valid = valid_front(alive.waiting());
-    if !valid.cut {
-        return stopped(first_bad(alive.place, alive.comment, valid.text), fed);
-    }
-    match read_statements(alloc, alive.awaited, alive.place, alive.comment, valid.text) {
-        Ok(found) => {
-            let left = found.rest.len() + valid.tail.len();
-            match found.dead {
-                None => Ok(Held::Alive(Alive {
-                    awaited: found.awaited,
-                    tokens: tokens + found.tokens,
-                    place: found.place,
-                    comment: found.comment,
-                    enough: left + left,
-                    all: alive.all,
-                })),
-                Some(dead) => Ok(Held::Faulty(Faulty {
-                    fault: ReadFault::Syntax {
-                        token: tokens + dead.token,
-                        line: dead.line,
-                        column: dead.column,
-                    },
-                    place: found.place,
-                    comment: found.comment,
-                    waiting: joined(alloc, found.rest.as_bytes(), valid.tail)?,
-                    enough: 0,
-                })),
+    LEAST.max(left + left)
+}
+
+/// What is held once the first node came, or a syntax fault; none where neither did. So many tokens of the text were passed.
+fn opened(alloc: Global, valid: Valid<'_>, span: Span<'_>) -> Result<Option<Held>, OutOfMemory>
+    requires utf8 { IsUtf8 valid.text.now }
+    requires room { length valid.text.now + length valid.tail.now < 2 ^ 32 - 1 }
+    requires passed { IsFront (reading start false valid.text.now) span }
+    ensures { IfOk result (IsOpenedTo (valid.text.now ++ valid.tail.now)) }
+{
+    let stretch = Stretch {
+        before: 0,
+        place: Place::START,
+        comment: false,
+        text: valid.text,
+        count: span.tokens,
+    };
+    let mut cursor = stretch.cursor();
+    match begin(alloc, stretch, &mut cursor) {
+        Ok(beginning) => {
+            if cursor.left() > 0 {
+                return Ok(None);
             }
+            Ok(Some(Held::Running(Running {
+                known: beginning.known,
+                found: beginning.found,
+                place: span.place,
+                comment: span.comment,
+                waiting: joined(alloc, span.rest.as_bytes(), valid.tail)?,
+                enough: 0,
+            })))
+        }
+        Err(Refusal::Dead(left)) => {
+            if left == 0 {
+                return Ok(None);
+            }
+            Ok(Some(Held::Faulty(Faulty {
+                fault: stretch.dead(left),
+                place: span.place,
+                comment: span.comment,
+                waiting: joined(alloc, span.rest.as_bytes(), valid.tail)?,
+                enough: 0,
+            })))
+        }
+        Err(Refusal::OutOfMemory) => Err(OutOfMemory),
+    }
+}
+
+/// Reads a text up to its first node, and that too.
+fn open(alloc: Global, opening: Opening) -> Result<Held, OutOfMemory>
+    requires { length opening.all.items < 2 ^ 32 - 1 }
+    ensures { IfOk result (IsKept (parts_of (kinds.Opening opening)) []) }
+{
+    let fed = opening.all.len() as u32;
+    let valid = valid_front(&opening.all);
+    if !valid.cut {
+        return stopped(first_bad(Place::START, false, valid.text), fed);
+    }
+    match pass_statements("node", Place::START, false, valid.text) {
+        Ok(span) => match opened(alloc, valid, span)? {
+            Some(held) => Ok(held),
+            None => Ok(Held::Opening(Opening {
+                enough: enough_after(opening.all.len()),
+                all: opening.all,
+            })),
+        },
+        Err(stop) => stopped(stop, fed),
+    }
+}
+
+/// Reads the statements at the front of a text from the first node on.
+fn read_text<'a>(
+    alloc: Global,
+    known: &Known,
+    place: Place,
+    comment: bool,
+    text: &'a str,
+    found: &mut Found,
+) -> Result<Ran<'a>, Stop>
+    requires room { HasRoom place (length text.now) }
+    requires steady { IsSteady known.now found.old }
+    requires few { found.old.tokens ≤ place.offset }
+    ensures { Runs place comment text.now known.now found.old found.new result }
+{
+    let heads = known_heads(alloc, known)?;
+    read_nodes(alloc, known, &heads, place, comment, text, found)
+}
+
+/// What is held after statements were read, where these bytes wait.
+fn after_nodes(known: Known, found: Found, ran: Ran<'_>, waiting: Vec<u8>) -> Held
+    requires { length waiting.items < 2 ^ 32 }
+    ensures { IsAfter known found ran waiting.items result }
+{
+    match ran.dead {
+        Some(fault) => Held::Faulty(Faulty {
+            fault,
+            place: ran.place,
+            comment: ran.comment,
+            waiting,
+            enough: 0,
+        }),
+        None => Held::Running(Running {
+            known,
+            found,
+            place: ran.place,
+            comment: ran.comment,
+            enough: enough_after(waiting.len()),
+            waiting,
+        }),
+    }
+}
+
+/// Reads the statements among the bytes that wait.
+fn look(alloc: Global, running: Running) -> Result<Held, OutOfMemory>
+    requires running { IsRunning running }
+    requires room { running.place.offset + length running.waiting.items < 2 ^ 32 - 1 }
+    ensures { IfOk result (IsKept (parts_of (kinds.Running running)) []) }
+{
+    let Running {
+        known,
+        found,
+        place,
+        comment,
+        waiting,
+        enough: _,
+    } = running;
+    let mut found = found;
+    let fed = place.offset + waiting.len() as u32;
+    let valid = valid_front(&waiting);
+    if !valid.cut {
+        return stopped(first_bad(place, comment, valid.text), fed);
+    }
+    match read_text(alloc, &known, place, comment, valid.text, &mut found) {
+        Ok(ran) => {
+            let rest = joined(alloc, ran.rest.as_bytes(), valid.tail)?;
+            Ok(after_nodes(known, found, ran, rest))
         }
         Err(stop) => stopped(stop, fed),
     }
 }
 
-fn feed_alive(alloc: Global, alive: Alive, piece: &[u8]) -> Result<Held, OutOfMemory>
-    requires alive { IsAlive alive }
-    requires room { length alive.all.items + length piece.now < 2 ^ 32 - 1 }
-    ensures { IfOk result (IsKept (parts_of (kinds.Alive alive)) piece.now) }
+fn feed_opening(alloc: Global, opening: Opening, piece: &[u8]) -> Result<Held, OutOfMemory>
+    requires { length opening.all.items + length piece.now < 2 ^ 32 - 1 }
+    ensures { IfOk result (IsKept (parts_of (kinds.Opening opening)) piece.now) }
 {
-    let mut alive = alive;
-    alive.all.extend_from_slice(piece)?;
-    if alive.waiting().len() < alive.enough {
-        return Ok(Held::Alive(alive));
+    let mut opening = opening;
+    opening.all.extend_from_slice(piece)?;
+    if opening.all.len() < opening.enough {
+        return Ok(Held::Opening(opening));
     }
-    look(alloc, alive)
+    match open(alloc, opening)? {
+        Held::Running(running) => look(alloc, running),
+        held => Ok(held),
+    }
+}
+
+fn feed_running(alloc: Global, running: Running, piece: &[u8]) -> Result<Held, OutOfMemory>
+    requires running { IsRunning running }
+    requires room { running.place.offset + (length running.waiting.items + length piece.now) < 2 ^ 32 - 1 }
+    ensures { IfOk result (IsKept (parts_of (kinds.Running running)) piece.now) }
+{
+    let mut running = running;
+    running.waiting.extend_from_slice(piece)?;
+    if running.waiting.len() < running.enough {
+        return Ok(Held::Running(running));
+    }
+    look(alloc, running)
 }
 
 /// Passes over the tokens of the bytes that wait.
@@ -146,7 +279,8 @@ fn feed_part(alloc: Global, held: Held, piece: &[u8]) -> Result<Held, OutOfMemor
     ensures lost { OnOk result (IsLost (parts_of held) → ⊥) }
 {
     match held {
-        Held::Alive(alive) => feed_alive(alloc, alive, piece),
+        Held::Opening(opening) => feed_opening(alloc, opening, piece),
+        Held::Running(running) => feed_running(alloc, running, piece),
         Held::Faulty(faulty) => feed_faulty(alloc, faulty, piece),
         Held::Unlexed(fault, fed) => Ok(Held::Unlexed(fault, fed + piece.len() as u32)),
         Held::Lost(_) => Err(OutOfMemory),

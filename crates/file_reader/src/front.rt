@@ -1,6 +1,6 @@
 //! What stands before the nodes of a proof file, as trees.
 
-ghost use Rattle.file_reader.specs.Wholes.{Begins};
+ghost use Rattle.file_reader.specs.Fronts.{ReadsFront};
 
 use crate::part::read_part;
 use cyc_grammar::{Cursor, Refusal};
@@ -21,7 +21,7 @@ pub struct Front<'a> {
 
 /// Reads a file up to its first node, and that too.
 pub fn read_front<'a>(alloc: Global, cursor: &mut Cursor<'_, 'a>) -> Result<Front<'a>, Refusal>
-    ensures { Begins cursor.old result cursor.new }
+    ensures { ReadsFront cursor.old result cursor.new }
 {
     let count = cursor.left();
     let version = first_statement(cursor)?;

@@ -2,19 +2,19 @@
 //! any bytes that may follow. Each law is the contract of a function that does nothing.
 #![tactic(auto)]
 
-mod awaited;
+mod adding;
+mod beginning;
 mod feeding;
 mod finishing;
-mod found;
 mod front;
 mod held;
+mod known;
+mod last;
+mod nodes;
 mod part;
 mod passing;
 mod reader;
-mod scan;
-mod step;
-mod told;
-mod whole;
+mod stretch;
 
 ghost use Rattle.std.specs.Prelude.{◌≡◌, ◌++◌, ◌∷◌, [], true, false, suc, length, map, List, ℕ, Bool, None, Some, Result, Ok, Err};
 ghost use Rattle.std.specs.Str.{chars};

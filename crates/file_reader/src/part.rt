@@ -2,7 +2,7 @@
 
 ghost use Rattle.cyc_grammar.specs.Giving.{Gives};
 ghost use Rattle.proof_statements.specs.Trees.{pred_or_later_of};
-ghost use Rattle.file_reader.specs.Wholes.{kept_part};
+ghost use Rattle.file_reader.specs.Fronts.{kept_part};
 
 use cyc_grammar::{Cursor, Refusal};
 use cyc_limits::MOST_PURE;

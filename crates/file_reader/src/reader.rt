@@ -5,11 +5,10 @@ ghost use Rattle.proof_file.specs.Reading.{Reads};
 ghost use Rattle.file_reader.specs.Stages.{fresh, outcome};
 ghost use Rattle.file_reader.specs.Pieces.{IsLost, KeepsLaw, Tells, bytes_fed};
 
-use crate::awaited::Awaited;
 use crate::feeding::{bytes_fed, feed};
 use crate::finishing::finish;
-use crate::held::{Alive, Held};
-use cyc_lex::{OutOfMemory, Place, ReadFault};
+use crate::held::{Held, Opening};
+use cyc_lex::{OutOfMemory, ReadFault};
 use proof_file::ProofFile;
 use std::alloc::Global;
 use std::marker::Model;
@@ -42,12 +41,8 @@ impl FileReader {
     {
         FileReader {
             alloc,
-            held: Held::Alive(Alive {
+            held: Held::Opening(Opening {
                 all: Vec::new(alloc),
-                awaited: Awaited::First,
-                tokens: 0,
-                place: Place::START,
-                comment: false,
                 enough: 0,
             }),
         }
@@ -78,7 +73,8 @@ impl FileReader {
         requires { bytes_fed self < 2 ^ 32 - 1 }
         ensures { Tells (outcome self []) result }
     {
-        finish(self.alloc, &self.held)
+        let FileReader { alloc, held } = self;
+        finish(alloc, held)
     }
 }
 

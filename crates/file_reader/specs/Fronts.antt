@@ -1,4 +1,4 @@
--- A text that is read once more, statement by statement, by a cursor over all its tokens.
+-- What stands before the nodes of a proof file, as it is read statement by statement.
 use Rattle.std.specs.Prelude.{◌≡◌, ℕ, ◌+◌, Bool, true, false, List, [], ◌∷◌, ◌++◌, length, map, Some, None, Result, Ok, Err, ◌⊎◌}
 use Rattle.std.proofs.Common.{inl, inr}
 use Rattle.cyc_lex.specs.Word.{Word}
@@ -24,7 +24,7 @@ use Rattle.file_reader.specs.declared.front.Front.{Front}
 use Rattle.file_reader.specs.declared.whole.Whole.{Whole}
 use Rattle.file_reader.specs.declared.whole.Whole.TheVariants as wholes
 use Rattle.file_reader.specs.Outcomes.{Has, said_of}
-use Rattle.file_reader.specs.Steps.{tree_of}
+use Rattle.file_reader.specs.Steps.{Leads, tree_of}
 
 -- ---- one statement
 
@@ -45,9 +45,11 @@ kept_part true v ws = joined (λ (s : Line ⊎ Node). inr s) ((kept_statement ke
 
 -- ---- where reading stands
 
--- what is read of all words is what is read of the rest as what is left of a file, with what was read before
-abbrev pub LeadsTo : List Word → (r : Reached) → (Left r → File) → List Word → Type 0
-LeadsTo ws r f rest = file.read ws ≡ joined f ((left_of r).read rest)
+-- the words before the rest lead to what is left of a file, with what was read before
+pub record LeadsTo (ws : List Word) (r : Reached) (f : Left r → File) (rest : List Word) : Type 0 where
+  pub front : List Word
+  pub all : ws ≡ front ++ rest
+  pub leads : Leads front r f
 
 -- the version, these definitions and these lines were read
 abbrev pub LeadsFront : Bool → Version → List Definition → List Line → List Word → List Word → Type 0
@@ -79,37 +81,6 @@ pub record IsBegun (ws : List Word) (f : Front) (rest : List Word) : Type 0 wher
   pub size : length ws ≡ front_size definitions f.lines.items + (node_span first + length rest)
   pub fits : node.fits first
 
-abbrev pub Begins : List Word → Result Front Refusal → List Word → Type 0
-Begins ws (Ok f) rest = IsBegun ws f rest
-Begins ws (Err e) rest = Fails e (file.read ws)
-
--- ---- what is found of nodes
-
--- nodes were read after others, the first of them at a token: this is the first flaw so far, or these are the values of all
-pub record AreAdded (most : ℕ) (hs : List Heading) (lines at : ℕ) (xs : List Node) (old new : Found) : Type 0 where
-  pub flaw : new.flaw ≡ or_later old.flaw (listed_flaw (node_flaw most hs lines) node_span (length old.nodes.items) at xs)
-  pub values : new.flaw ≡ None → new.nodes.items ≡ old.nodes.items ++ map (node_value hs) xs
-
--- so far, of the nodes that are left of a file
-pub record AreRead (most : ℕ) (hs : List Heading) (lines at : ℕ) (old new : Found) (ws rest : List Word) : Type 0 where
-  pub nodes : List Node
-  pub leads : (left_of (At Nodes)).read ws ≡ joined (λ ns. nodes ++ ns) ((left_of (At Nodes)).read rest)
-  pub size : length ws ≡ total node_span nodes + length rest
-  pub added : AreAdded most hs lines at nodes old new
-
--- all nodes that are left of a file were read, and its end
-pub record AreLast (most : ℕ) (hs : List Heading) (lines at : ℕ) (old new : Found) (ws rest : List Word) : Type 0 where
-  pub nodes : List Node
-  pub read : (left_of (At Nodes)).read ws ≡ Ok (nodes, rest)
-  pub added : AreAdded most hs lines at nodes old new
-
-abbrev pub Adds : ℕ → List Heading → ℕ → ℕ → Found → List Word → List Word → Result Found Refusal → Type 0
-Adds most hs lines at old ws rest (Ok new) = AreLast most hs lines at old new ws rest
-Adds most hs lines at old ws rest (Err e) = Fails e ((left_of (At Nodes)).read ws)
-
--- ---- what all words come to
-
-abbrev pub Wholes : List Word → Result Whole Refusal → Type 0
-Wholes ws (Ok (wholes.File f)) = (tree : File) × (read_whole file ws ≡ Ok tree) × (file_flaw tree ≡ None) × Has (said_of tree) f
-Wholes ws (Ok (wholes.Flawed flaw)) = (tree : File) × (read_whole file ws ≡ Ok tree) × (file_flaw tree ≡ Some flaw)
-Wholes ws (Err e) = Fails e (read_whole file ws)
+abbrev pub ReadsFront : List Word → Result Front Refusal → List Word → Type 0
+ReadsFront ws (Ok f) rest = IsBegun ws f rest
+ReadsFront ws (Err e) rest = Fails e (file.read ws)

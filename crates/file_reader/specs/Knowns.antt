@@ -1,0 +1,82 @@
+-- What a reader holds of a proof file from the first node on.
+use Rattle.std.specs.Prelude.{◌≡◌, ℕ, ◌+◌, ◌≤◌, Bool, false, List, [], ◌∷◌, ◌++◌, length, map, Option, Some, None}
+use Rattle.cyc_lex.specs.Placed.{Placed}
+use Rattle.cyc_limits.specs.declared.TheConstants.{MOST_PREDICATES}
+use Rattle.heap_syntax.specs.Versions.{most_spatial}
+use Rattle.heap_formula.specs.declared.commands.Command.{Command}
+use Rattle.heap_formula.specs.Definitions.{Definition as DefinitionValue}
+use Rattle.heap_reader.specs.Trees.{Heading}
+use Rattle.heap_reader.specs.Values.{program_value}
+use Rattle.proof_syntax.specs.Trees.{Definition, Line, Node}
+use Rattle.proof_file.specs.declared.building.FileFront.{FileFront}
+use Rattle.proof_file.specs.Flaws.{headings, node_flaw, file_flaw}
+use Rattle.proof_file.specs.Values.{definition_value, node_value}
+use Rattle.file_reader.specs.declared.known.Known.{Known}
+use Rattle.file_reader.specs.declared.known.Found.{Found}
+use Rattle.file_reader.specs.Outcomes.{or_else, told_flaw}
+use Rattle.file_reader.specs.Stages.{Begun}
+use Rattle.file_reader.specs.Steps.{tree_of, Spell}
+
+-- a predicate's name and arity, of its value
+abbrev pub def_heading : DefinitionValue → Heading
+def_heading d = record { name = d.name; arity = d.arity }
+
+abbrev pub defs_in : Option FileFront → List DefinitionValue
+defs_in (Some f) = f.defs.list
+defs_in None = []
+
+abbrev pub program_in : Option FileFront → List Command
+program_in (Some f) = f.program
+program_in None = []
+
+-- what is held, as what the statements so far say
+abbrev pub begun_in : Known → Found → Begun
+begun_in k f = record {
+  version = k.version;
+  headings = map def_heading (defs_in k.front);
+  lines = k.lines;
+  definitions = defs_in k.front;
+  program = program_in k.front;
+  nodes = f.nodes.items;
+  count = length f.nodes.items;
+  tokens = f.tokens;
+  flaw = f.flaw;
+  ended = f.ended;
+}
+
+-- what uses of the predicates are compared with
+pub record IsHeads (k : Known) (hs : List Heading) : Type 0 where
+  pub value : hs ≡ map def_heading (defs_in k.front)
+  pub few : length hs ≤ MOST_PREDICATES
+
+-- these are the values of definitions and lines
+pub record HasValues (k : Known) (ds : List Definition) (ls : List Line) : Type 0 where
+  pub front : FileFront
+  pub is : k.front ≡ Some front
+  pub most : front.defs.most ≡ most_spatial k.version
+  pub definitions : front.defs.list ≡ map (definition_value (headings ds)) ds
+  pub program : front.program ≡ program_value ls
+
+-- tokens spell what is held, which has no flaw
+pub record IsTold (k : Known) (f : Found) : Type 0 where
+  pub tokens : List Placed
+  pub definitions : List Definition
+  pub program : List Line
+  pub trees : List Node
+  pub spell : Spell tokens k.version definitions program trees
+  pub clean : file_flaw (tree_of k.version definitions program trees) ≡ None
+  pub values : HasValues k definitions program
+  pub lines : k.lines ≡ length program
+  pub nodes : f.nodes.items ≡ map (node_value (headings definitions)) trees
+  pub count : f.ended ≡ false → f.tokens ≡ length tokens
+
+-- where there is no flaw so far, all that is held was told
+abbrev pub IsSteady : Known → Found → Type 0
+IsSteady k f = f.flaw ≡ None → IsTold k f
+
+-- a node came after others, whose tokens are among these: its value is with theirs, or this is the first flaw so far
+pub record IsAdded (k : Known) (hs : List Heading) (before : ℕ) (ts : List Placed) (x : Node) (old new : Found) : Type 0 where
+  pub flaw : new.flaw ≡ or_else old.flaw (told_flaw before ts (node_flaw (most_spatial k.version) hs k.lines (length old.nodes.items) old.tokens x))
+  pub nodes : new.flaw ≡ None → new.nodes.items ≡ old.nodes.items ++ node_value hs x ∷ []
+  pub tokens : new.tokens ≡ old.tokens
+  pub ended : new.ended ≡ old.ended

@@ -1,0 +1,97 @@
+//! A text up to its first node, and that too.
+
+ghost use Rattle.std.specs.Prelude.{◌≡◌, ◌≤◌, ◌<◌, ◌^◌, [], IfOk, length, map};
+ghost use Rattle.cyc_lex.specs.Word.{word_of};
+ghost use Rattle.proof_file.specs.Flaws.{headings, first_node};
+ghost use Rattle.file_reader.specs.Stretches.{IsStretch, tokens_of};
+ghost use Rattle.file_reader.specs.Fronts.{front_defs};
+ghost use Rattle.file_reader.specs.Steps.{tree_of};
+ghost use Rattle.file_reader.specs.Beginnings.{IsOpened, IsOpen, Begins};
+
+use crate::adding::add_node;
+use crate::front::{Front, read_front};
+use crate::known::{Found, Known};
+use crate::stretch::Stretch;
+use cyc_grammar::{Cursor, Refusal};
+use cyc_lex::{OutOfMemory, ReadFault};
+use heap_reader::Heads;
+use pred_reader::heads;
+use proof_file::{FileFront, front_flaw, front_values};
+use std::alloc::Global;
+
+/// What stands before the nodes of a text and what the first node says.
+#[derive(Drop)]
+pub struct Beginning {
+    pub known: Known,
+    pub found: Found,
+}
+
+/// What is held with a first flaw before the nodes, or with the values of what stands there.
+fn opened(
+    alloc: Global,
+    front: &Front<'_>,
+    flaw: Option<ReadFault>,
+    values: Option<FileFront>,
+) -> Beginning
+    requires { front.now.before < 2 ^ 32 }
+    ensures opened { IsOpened front.now result }
+    ensures flaw { result.found.flaw ≡ flaw }
+    ensures values { result.known.front ≡ values }
+{
+    Beginning {
+        known: Known {
+            version: front.version,
+            lines: front.lines.len(),
+            front: values,
+        },
+        found: Found {
+            flaw,
+            nodes: Vec::new(alloc),
+            tokens: front.before as u32,
+            ended: false,
+        },
+    }
+}
+
+/// What stands before the nodes, whose tokens are some of these.
+fn open(
+    alloc: Global,
+    stretch: Stretch<'_>,
+    heads: &Heads<'_>,
+    front: &Front<'_>,
+) -> Result<Beginning, OutOfMemory>
+    requires stretch { IsStretch stretch }
+    requires first { stretch.before ≡ 0 }
+    requires known { heads.now ≡ headings (front_defs front.now) }
+    requires within { first_node (tree_of front.now.version (front_defs front.now) front.now.lines.items [])
+        ≤ front.now.before }
+    requires before { front.now.before ≤ stretch.count }
+    ensures { IfOk result (IsOpen (tokens_of stretch) front.now) }
+{
+    match front_flaw(heads, front.version, &front.definitions, &front.lines) {
+        Some(flaw) => Ok(opened(alloc, front, Some(stretch.flaw(flaw)), None)),
+        None => {
+            let values = front_values(alloc, heads, front.version, &front.definitions, &front.lines)?;
+            Ok(opened(alloc, front, None, Some(values)))
+        }
+    }
+}
+
+/// Reads a text up to its first node, and that too: what stands there.
+pub fn begin(
+    alloc: Global,
+    stretch: Stretch<'_>,
+    cursor: &mut Cursor<'_, '_>,
+) -> Result<Beginning, Refusal>
+    requires stretch { IsStretch stretch }
+    requires first { stretch.before ≡ 0 }
+    requires cursor { cursor.old ≡ map word_of (tokens_of stretch) }
+    ensures { Begins (tokens_of stretch) cursor.new result }
+{
+    let front = read_front(alloc, cursor)?;
+    let heads = heads(alloc, &front.definitions)?;
+    let mut beginning = open(alloc, stretch, &heads, &front)?;
+    add_node(alloc, &beginning.known, &heads, stretch, &front.first, &mut beginning.found)?;
+    beginning.found.tokens = (stretch.count - cursor.left()) as u32;
+    Ok(beginning)
+}

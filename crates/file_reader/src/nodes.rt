@@ -1,0 +1,193 @@
+//! Nodes as they come, statement by statement.
+
+ghost use Rattle.std.specs.Prelude.{◌≡◌, ◌≤◌, IfOk, false, length, map, true};
+ghost use Rattle.cyc_lex.specs.Lexing.{HasRoom};
+ghost use Rattle.cyc_lex.specs.Placed.{placed};
+ghost use Rattle.cyc_lex.specs.Word.{word_of};
+ghost use Rattle.cyc_grammar.specs.Classes.{are_tokens};
+ghost use Rattle.file_reader.specs.Stretches.{IsStretch, tokens_of};
+ghost use Rattle.file_reader.specs.Knowns.{IsHeads, IsSteady};
+ghost use Rattle.file_reader.specs.Runs.{IsRefused, IsStep, Runs};
+
+use crate::adding::add_node;
+use crate::known::{Found, Known};
+use crate::part::KEPT;
+use crate::stretch::Stretch;
+use cyc_grammar::{Cursor, Refusal};
+use cyc_lex::{OutOfMemory, Place, ReadFault, Stop, Token};
+use heap_reader::Heads;
+use piecewise_lex::take_statement;
+use proof_statements::{NodeOrEnd, kept_node_or_end};
+use std::alloc::Global;
+
+/// What the tokens of one statement come to: it was taken; the first dead one of them has so many to the end; or they may
+/// go on.
+#[derive(Clone, Copy)]
+pub enum Step {
+    Taken,
+    Dead(usize),
+    Open,
+}
+
+/// What was read of a text: the syntax fault, if one came; the place after the statements that were taken, whether a comment
+/// goes on there, and the text that is left.
+#[derive(Clone, Copy)]
+pub struct Ran<'a> {
+    pub dead: Option<ReadFault>,
+    pub place: Place,
+    pub comment: bool,
+    pub rest: &'a str,
+}
+
+/// What tokens come to that are refused: words that run out may go on.
+fn refused(refusal: Refusal) -> Result<Step, OutOfMemory>
+    ensures { IfOk result (IsRefused refusal) }
+{
+    match refusal {
+        Refusal::Dead(left) => {
+            if left > 0 {
+                return Ok(Step::Dead(left));
+            }
+            Ok(Step::Open)
+        }
+        Refusal::OutOfMemory => Err(OutOfMemory),
+    }
+}
+
+/// Takes a node, or the last statement.
+fn take_node(
+    alloc: Global,
+    known: &Known,
+    heads: &Heads<'_>,
+    stretch: Stretch<'_>,
+    cursor: Cursor<'_, '_>,
+    found: &mut Found,
+) -> Result<Step, OutOfMemory>
+    requires stretch { IsStretch stretch }
+    requires heads { IsHeads known.now heads.now }
+    requires steady { IsSteady known.now found.old }
+    requires cursor { cursor.entry ≡ map word_of (tokens_of stretch) }
+    requires here { stretch.before ≡ found.old.tokens }
+    requires going { found.old.ended ≡ false }
+    ensures { IfOk result (IsStep known.now (tokens_of stretch) found.old found.new) }
+{
+    let mut cursor = cursor;
+    match kept_node_or_end(alloc, KEPT, &mut cursor) {
+        Ok(_) if cursor.left() > 0 => Ok(Step::Open),
+        Ok(NodeOrEnd::Node(tree)) => {
+            add_node(alloc, known, heads, stretch, &tree, found)?;
+            found.tokens += stretch.count as u32;
+            Ok(Step::Taken)
+        }
+        Ok(NodeOrEnd::End) => {
+            found.tokens += stretch.count as u32;
+            found.ended = true;
+            Ok(Step::Taken)
+        }
+        Err(refusal) => refused(refusal),
+    }
+}
+
+/// Takes a statement; after the last one none comes.
+fn take_step(
+    alloc: Global,
+    known: &Known,
+    heads: &Heads<'_>,
+    stretch: Stretch<'_>,
+    cursor: Cursor<'_, '_>,
+    found: &mut Found,
+) -> Result<Step, OutOfMemory>
+    requires stretch { IsStretch stretch }
+    requires heads { IsHeads known.now heads.now }
+    requires steady { IsSteady known.now found.old }
+    requires cursor { cursor.entry ≡ map word_of (tokens_of stretch) }
+    requires here { stretch.before ≡ found.old.tokens }
+    ensures { IfOk result (IsStep known.now (tokens_of stretch) found.old found.new) }
+{
+    if !found.ended {
+        return take_node(alloc, known, heads, stretch, cursor, found);
+    }
+    let mut cursor = cursor;
+    match cursor.end() {
+        Ok(()) => Ok(Step::Open),
+        Err(refusal) => refused(refusal),
+    }
+}
+
+/// The tokens, which need not be cut again where all of them were kept.
+fn cursor_of<'s, 'a>(stretch: Stretch<'a>, kept: &'s [Token<'a>]) -> Cursor<'s, 'a>
+    requires stretch { IsStretch stretch }
+    requires tokens { are_tokens (map word_of (tokens_of stretch)) ≡ true }
+    requires kept { length kept.now ≡ stretch.count → map placed kept.now ≡ tokens_of stretch }
+    ensures { result ≡ map word_of (tokens_of stretch) }
+{
+    if kept.len() == stretch.count {
+        return Cursor::new(kept);
+    }
+    stretch.cursor()
+}
+
+/// Reads the statements at the front of a text from the first node on, which stands at a place, where a comment goes on or
+/// none does. What is no whole statement yet is left.
+pub fn read_nodes<'a>(
+    alloc: Global,
+    known: &Known,
+    heads: &Heads<'_>,
+    place: Place,
+    comment: bool,
+    text: &'a str,
+    found: &mut Found,
+) -> Result<Ran<'a>, Stop>
+    requires room { HasRoom place (length text.now) }
+    requires heads { IsHeads known.now heads.now }
+    requires steady { IsSteady known.now found.old }
+    requires few { found.old.tokens ≤ place.offset }
+    ensures { Runs place comment text.now known.now found.old found.new result }
+{
+    let mut tokens = Vec::new(alloc);
+    let mut place = place;
+    let mut comment = comment;
+    let mut rest = text;
+    'statements: loop {
+        let span = take_statement(&mut tokens, place, comment, rest)?;
+        let stretch = Stretch {
+            before: found.tokens,
+            place,
+            comment,
+            text: rest,
+            count: span.tokens,
+        };
+        let cursor = cursor_of(stretch, &tokens);
+        match take_step(alloc, known, heads, stretch, cursor, found)? {
+            Step::Open => {
+                return Ok(Ran {
+                    dead: None,
+                    place,
+                    comment,
+                    rest,
+                });
+            }
+            Step::Dead(left) => {
+                return Ok(Ran {
+                    dead: Some(stretch.dead(left)),
+                    place: span.place,
+                    comment: span.comment,
+                    rest: span.rest,
+                });
+            }
+            Step::Taken => {
+                place = span.place;
+                comment = span.comment;
+                rest = span.rest;
+                if !span.ended {
+                    return Ok(Ran {
+                        dead: None,
+                        place,
+                        comment,
+                        rest,
+                    });
+                }
+            }
+        }
+    }
+}
