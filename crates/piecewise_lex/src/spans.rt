@@ -1,11 +1,10 @@
 //! Where a statement ends, and how many tokens it has.
 
-ghost use Rattle.std.specs.Prelude.{◌≡◌, ◌++◌, IfOk, List, length, ℕ};
-ghost use Rattle.cyc_lex.specs.Lexing.{HasRoom, with_tokens};
+ghost use Rattle.std.specs.Prelude.{◌≡◌, IfOk, length, map};
+ghost use Rattle.cyc_lex.specs.Lexing.{HasRoom};
 ghost use Rattle.cyc_lex.specs.Placed.{placed};
-ghost use Rattle.piecewise_lex.specs.Feeding.{tokens_from};
 ghost use Rattle.piecewise_lex.specs.Taking.{reading};
-ghost use Rattle.piecewise_lex.specs.Spans.{Spans, front_tokens, is_semicolon};
+ghost use Rattle.piecewise_lex.specs.Spans.{Spans, Passes, front_tokens, is_semicolon, is_named};
 
 use crate::taking::take_token;
 use cyc_lex::{Kind, Place, Stop, Token};
@@ -30,46 +29,96 @@ fn is_semicolon(token: &Token<'_>) -> bool
     }
 }
 
-/// Passes the tokens of a statement at the front of a text that stands at a place, where a comment goes on or none does, and
-/// keeps none. What has no `;` may go on with the bytes that come next.
-pub fn pass_statement(place: Place, comment: bool, text: &str) -> Result<Span<'_>, Stop>
+/// Whether a token is this name.
+fn begins_with(token: &Token<'_>, name: &str) -> bool
+    ensures { result ≡ is_named (placed token.now) name.now }
+{
+    match token.kind {
+        Kind::Name => token.text == name,
+        _ => false,
+    }
+}
+
+/// So many tokens of a statement are kept at most; a caller cuts those of a longer one once more.
+const MOST_KEPT: usize = 4_096;
+
+/// Takes the tokens of a statement at the front of a text that stands at a place, where a comment goes on or none does,
+/// and keeps as many as fit, in place of those kept before. What has no `;` may go on with the bytes that come next.
+pub fn take_statement<'a>(
+    kept: &mut Vec<Token<'a>>,
+    place: Place,
+    comment: bool,
+    text: &'a str,
+) -> Result<Span<'a>, Stop>
     requires { HasRoom place (length text.now) }
     ensures taken { Spans (reading place comment text.now) result }
-    // Whatever bytes come after the text.
-    ensures law { IfOk result (λ s. (more : List ℕ) → tokens_from place comment (text.now ++ more)
-        ≡ with_tokens (front_tokens s.tokens (reading place comment text.now))
-        (tokens_from s.place s.comment (s.rest.now ++ more))) }
+    // Where so many were kept, these are all.
+    ensures kept { IfOk result (λ s. length kept.new.items ≡ s.tokens
+        → map placed kept.new.items ≡ front_tokens s.tokens (reading place comment text.now)) }
 {
-    let mut tokens = 0;
-    let mut place = place;
-    let mut comment = comment;
-    let mut rest = text;
+    kept.clear();
+    let mut span = Span {
+        tokens: 0,
+        ended: false,
+        place,
+        comment,
+        rest: text,
+    };
     'tokens: loop {
-        let taken = take_token(place, comment, rest)?;
-        place = taken.place;
-        comment = taken.comment;
-        rest = taken.rest;
-        let ended = match taken.token {
-            None => {
-                return Ok(Span {
-                    tokens,
-                    ended: false,
-                    place,
-                    comment,
-                    rest,
-                });
-            }
-            Some(token) => is_semicolon(&token),
+        let taken = take_token(span.place, span.comment, span.rest)?;
+        span.place = taken.place;
+        span.comment = taken.comment;
+        span.rest = taken.rest;
+        let token = match taken.token {
+            None => return Ok(span),
+            Some(token) => token,
         };
-        tokens += 1;
-        if ended {
-            return Ok(Span {
-                tokens,
-                ended,
-                place,
-                comment,
-                rest,
-            });
+        span.tokens += 1;
+        if kept.len() < MOST_KEPT {
+            kept.push(token)?;
+        }
+        if is_semicolon(&token) {
+            span.ended = true;
+            return Ok(span);
+        }
+    }
+}
+
+/// Passes statements at the front of a text up to the end of the first that begins with this name, or all tokens that do
+/// not wait where none does, and keeps none.
+pub fn pass_statements<'a>(
+    name: &str,
+    place: Place,
+    comment: bool,
+    text: &'a str,
+) -> Result<Span<'a>, Stop>
+    requires { HasRoom place (length text.now) }
+    ensures { Passes (reading place comment text.now) result }
+{
+    let mut span = Span {
+        tokens: 0,
+        ended: false,
+        place,
+        comment,
+        rest: text,
+    };
+    let mut starts = true;
+    let mut is_last = false;
+    'tokens: loop {
+        let taken = take_token(span.place, span.comment, span.rest)?;
+        span.place = taken.place;
+        span.comment = taken.comment;
+        span.rest = taken.rest;
+        let token = match taken.token {
+            None => return Ok(span),
+            Some(token) => token,
+        };
+        span.tokens += 1;
+        is_last = is_last || starts && begins_with(&token, name);
+        starts = is_semicolon(&token);
+        if starts && is_last {
+            span.ended = true;
+            return Ok(span);
         }
     }
 }

@@ -1,5 +1,5 @@
 use cyc_lex::{LexFault, Token, tokens};
-use piecewise_lex::{Lexer, OwnedToken, pass_statement};
+use piecewise_lex::{Lexer, OwnedToken, pass_statements, take_statement};
 use std::alloc::Global;
 use std::test::Fail;
 
@@ -209,12 +209,25 @@ fn keeps_the_first_fault(rt: HostRuntime) {
     assert_eq!(rt; faults, [None, first, first, first]);
 }
 
-/// The statements of a text, and what is left after the last `;`.
+fn have_texts(tokens: &[Token<'_>], texts: &[&str]) -> bool {
+    if tokens.len() != texts.len() {
+        return false;
+    }
+    for (i, token) in tokens.iter().enumerate() {
+        if token.text != texts[i] {
+            return false;
+        }
+    }
+    true
+}
+
+/// The statements of a text with their tokens, and what is left after the last `;`.
 #[test]
-fn passes_statement_after_statement(rt: HostRuntime) -> Result<(), Fail> {
+fn takes_statement_after_statement(rt: HostRuntime) -> Result<(), Fail> {
     let text = "a; b c # ;\n; d";
     let start = cyc_lex::Place::START;
-    let first = match pass_statement(start, false, text) {
+    let mut kept = Vec::new(rt.alloc());
+    let first = match take_statement(&mut kept, start, false, text) {
         Ok(first) => first,
         Err(_) => return Err(Fail::from("refused")),
     };
@@ -222,16 +235,37 @@ fn passes_statement_after_statement(rt: HostRuntime) -> Result<(), Fail> {
         (first.tokens, first.ended, first.rest),
         (2, true, " b c # ;\n; d")
     );
-    let second = match pass_statement(first.place, first.comment, first.rest) {
+    let second = match take_statement(&mut kept, first.place, first.comment, first.rest) {
         Ok(second) => second,
         Err(_) => return Err(Fail::from("refused")),
     };
     assert_eq!(rt; (second.tokens, second.ended, second.rest), (3, true, " d"));
     assert_eq!(rt; (second.place.line, second.place.column), (2, 2));
-    let third = match pass_statement(second.place, second.comment, second.rest) {
+    assert!(rt; have_texts(&kept, &["b", "c", ";"]));
+    let third = match take_statement(&mut kept, second.place, second.comment, second.rest) {
         Ok(third) => third,
         Err(_) => return Err(Fail::from("refused")),
     };
     assert_eq!(rt; (third.tokens, third.ended, third.rest), (0, false, "d"));
+    Ok(())
+}
+
+/// Statements are passed up to the end of the first with a name, which stands at its front, or all that do not wait.
+#[test]
+fn passes_statements_up_to_a_name(rt: HostRuntime) -> Result<(), Fail> {
+    let start = cyc_lex::Place::START;
+    let found = match pass_statements("node", start, false, "pred a; node b; node c;") {
+        Ok(found) => found,
+        Err(_) => return Err(Fail::from("refused")),
+    };
+    assert_eq!(rt;
+        (found.tokens, found.ended, found.rest),
+        (6, true, " node c;")
+    );
+    let none = match pass_statements("node", start, false, "pred node; end; no") {
+        Ok(none) => none,
+        Err(_) => return Err(Fail::from("refused")),
+    };
+    assert_eq!(rt; (none.tokens, none.ended, none.rest), (5, false, "no"));
     Ok(())
 }

@@ -1,0 +1,14 @@
+use Rattle.std.proofs.Common.{◌≡◌, false, length}
+use Rattle.std.specs.Str.{chars}
+use Rattle.piecewise_lex.specs.Taking.{reading}
+use Rattle.piecewise_lex.proofs.SpanLaws.{IsPassing}
+use Rattle.piecewise_lex.proofs.spans.take_statement.Given as goal
+
+abbrev pub invariant-tokens : goal.invariant-tokens
+invariant-tokens l = record {
+  passing : IsPassing (reading l.fn.place l.fn.comment l.fn.text) l.span.tokens l.span.place l.span.comment l.span.rest.now l.kept.items;
+  going : l.span.ended ≡ false;
+}
+
+abbrev pub decreases-tokens : goal.decreases-tokens
+decreases-tokens l = length (chars l.span.rest.now)
