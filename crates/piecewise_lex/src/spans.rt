@@ -1,4 +1,4 @@
-//! Where a statement ends, and how many tokens it has.
+//! Passing statements at the front of a text: where they end, and how many tokens they have.
 
 ghost use Rattle.std.specs.Prelude.{◌≡◌, IfOk, length, map};
 ghost use Rattle.cyc_lex.specs.Lexing.{HasRoom};
@@ -9,8 +9,8 @@ ghost use Rattle.piecewise_lex.specs.Spans.{Spans, Passes, front_tokens, is_semi
 use crate::taking::take_token;
 use cyc_lex::{Kind, Place, Stop, Token};
 
-/// How many tokens a text has up to its first `;`, and that one too, or all that do not wait where there is none; the place
-/// after them, whether a comment goes on there, and the text that is left.
+/// How many tokens were passed at the front of a text, and whether a `;` ended them or all that is left waits; the
+/// place after them, whether a comment goes on there, and the text that is left.
 #[derive(Clone, Copy)]
 pub struct Span<'a> {
     pub tokens: usize,
@@ -42,8 +42,9 @@ fn begins_with(token: &Token<'_>, name: &str) -> bool
 /// So many tokens of a statement are kept at most; a caller cuts those of a longer one once more.
 const MOST_KEPT: usize = 4_096;
 
-/// Takes the tokens of a statement at the front of a text that stands at a place, where a comment goes on or none does,
-/// and keeps as many as fit, in place of those kept before. What has no `;` may go on with the bytes that come next.
+/// Takes the tokens of a statement at the front of a text that stands at a place, where a comment goes on or none
+/// does, and keeps as many as fit, in place of those kept before. What has no `;` may go on with the bytes that come
+/// next.
 pub fn take_statement<'a>(
     kept: &mut Vec<Token<'a>>,
     place: Place,
@@ -84,8 +85,8 @@ pub fn take_statement<'a>(
     }
 }
 
-/// Passes statements at the front of a text up to the end of the first that begins with this name, or all tokens that do
-/// not wait where none does, and keeps none.
+/// Passes statements at the front of a text up to the end of the first that begins with this name, or all tokens that
+/// do not wait where none does, and keeps none.
 pub fn pass_statements<'a>(
     name: &str,
     place: Place,
