@@ -1,9 +1,11 @@
 -- What a text comes to at its end.
-use Rattle.std.proofs.Common.{◌≡◌, ℕ, ◌+◌, ◌≤◌, Bool, true, false, List, [], ◌++◌, length, Result, Ok, Err, refl, sym, ap, subst, ◌∙◌, arith, length-append}
-use Rattle.std.specs.Prelude.{◌==◌, is_none}
+use Rattle.std.proofs.Common.{◌≡◌, ℕ, ◌+◌, ◌-◌, ◌≤◌, ◌<◌, ◌^◌, Bool, true, false, List, [], ◌++◌, length, take, take_all, Result, Ok, Err, refl, sym, ap, subst, ◌∙◌, arith, length-append}
+use Rattle.std.specs.Prelude.{◌==◌, is_none, map}
 use Rattle.std.specs.Str.{chars, IsUtf8}
 use Rattle.std.specs.Str.Lossy.{utf8_valid_len, utf8_error_len}
 use Rattle.std.proofs.lemmas.List.{append-nil}
+use Rattle.std.proofs.lemmas.Str.{encodes-chars, scalars-chars}
+use Rattle.cyc_lex.specs.declared.fault.LexFault.{LexFault}
 use Rattle.cyc_lex.specs.declared.fault.ReadFault.{ReadFault}
 use Rattle.cyc_lex.specs.declared.fault.ReadFault.TheVariants as faults
 use Rattle.cyc_lex.specs.declared.place.Bad.{Bad}
@@ -11,12 +13,12 @@ use Rattle.cyc_lex.specs.declared.place.Place.{Place}
 use Rattle.cyc_lex.specs.declared.place.Stop.{Stop}
 use Rattle.cyc_lex.specs.declared.place.Stop.TheVariants as stops
 use Rattle.cyc_lex.specs.Answer.{fault_of}
-use Rattle.cyc_lex.specs.Lexing.{Stops, start, lex, comment_len, tokens_of, with_tokens}
+use Rattle.cyc_lex.specs.Lexing.{Stops, lex, comment_len, with_tokens}
 use Rattle.cyc_lex.specs.Placed.{Placed}
+use Rattle.cyc_lex.specs.Word.{word_of, EndsOnce}
 use Rattle.cyc_lex.specs.Cutting.{cut_text}
-use Rattle.cyc_lex.proofs.CutLaws.{cut-lexed}
 use Rattle.cyc_lex.proofs.Lexed.{with_tokens-ok, with_tokens-err}
-use Rattle.proof_file.specs.declared.file.ProofFile.{ProofFile}
+use Rattle.cyc_grammar.proofs.WholeTexts.{all-tokens}
 use Rattle.piecewise_lex.specs.declared.valid.Valid.{Valid}
 use Rattle.piecewise_lex.specs.Feeding.{tokens_from, is_cut}
 use Rattle.piecewise_lex.specs.Taking.{reading, tokens_in}
@@ -24,17 +26,19 @@ use Rattle.piecewise_lex.specs.Valid.{IsValid}
 use Rattle.piecewise_lex.proofs.Takes.{whole-is}
 use Rattle.piecewise_lex.proofs.Utf8Cuts.{error-nil}
 use Rattle.piecewise_lex.proofs.ValidLaws.{chars-whole, whole-tail}
-use Rattle.file_reader.specs.declared.held.Alive.{Alive}
 use Rattle.file_reader.specs.declared.held.Faulty.{Faulty}
 use Rattle.file_reader.specs.declared.held.Held.TheVariants as kinds
 use Rattle.file_reader.specs.declared.passing.Passed.{Passed}
-use Rattle.file_reader.specs.Helds.{parts_of, waiting_of, IsAlive, IsToldStop}
-use Rattle.file_reader.specs.Outcomes.{Outcome, Faulty as Bears, whole_outcome}
+use Rattle.file_reader.specs.declared.stretch.Stretch.{Stretch}
+use Rattle.file_reader.specs.Helds.{parts_of, IsSmall, IsToldStop}
+use Rattle.file_reader.specs.Lasts.{IsLastStretch}
+use Rattle.file_reader.specs.Outcomes.{Outcome, Faulty as Bears}
 use Rattle.file_reader.specs.Passing.{IsPassed}
-use Rattle.file_reader.specs.Pieces.{Tells}
-use Rattle.file_reader.specs.Stages.{Head, Dead, behind, outcome}
+use Rattle.file_reader.specs.Pieces.{Tells, IsOpen}
+use Rattle.file_reader.specs.Stages.{Stage, Head, Nodes, Dead, Unlexed, Lost, bad_ahead, behind, outcome}
+use Rattle.file_reader.specs.Stretches.{tokens_of}
+use Rattle.file_reader.proofs.LexEnds.{lex-ends, few-chars}
 use Rattle.file_reader.proofs.PieceLaws.{statement-bad}
-use Rattle.file_reader.proofs.Fresh.{tokens-few, from-start}
 
 pub tells-fault : (x : ReadFault) → Tells (Bears x) (Err x)
 tells-fault faults.OutOfMemory = tt
@@ -95,62 +99,48 @@ pub rest-stops : (p : Place) (c : Bool) (bytes : List ℕ) (v : Valid) (to : Pas
 rest-stops p c bytes v to stops.OutOfMemory valid none h k = tt
 rest-stops p c bytes v to (stops.At bad q) valid none h k = passed-tokens p c bytes v to valid none h ∙ ap (with_tokens h.tokens) k ∙ with_tokens-err h.tokens (bad, q)
 
--- ---- a text without a fault so far
-
-abbrev Wait : Alive → Result (List Placed) (Bad × Place)
-Wait a = tokens_from a.place a.comment (waiting_of a)
-
-abbrev pub EndsWith : Alive → ReadFault → Type 0
-EndsWith a x = Tells (outcome (parts_of (kinds.Alive a)) []) (Err x)
-
-alive-outcome : (a : Alive) (k : IsAlive a) (r : Result (List Placed) (Bad × Place)) → Wait a ≡ r → outcome (parts_of (kinds.Alive a)) [] ≡ behind (Head []) (with_tokens k.taken r)
-alive-outcome a k r e = ap (behind (Head [])) (k.law [] ∙ ap (λ (b : List ℕ). with_tokens k.taken (tokens_from a.place a.comment b)) (append-nil (waiting_of a)) ∙ ap (with_tokens k.taken) e)
-
-pub alive-stop : (a : Alive) (e : Stop) (x : ReadFault) → IsAlive a → Stops e (Wait a) → IsToldStop e x → EndsWith a x
-alive-stop a stops.OutOfMemory x k h told = subst (EndsWith a) (sym told) tt
-alive-stop a (stops.At bad p) x k h told =
-    subst (EndsWith a) (sym told)
-    (subst (λ (o : Outcome). Tells o (Err (faults.Lex (fault_of bad p)))) (sym (alive-outcome a k (Err (bad, p)) h ∙ ap (behind (Head [])) (with_tokens-err k.taken (bad, p)))) refl)
+-- ---- the tokens of all bytes
 
 -- all of it is characters
 pub whole-rest : (p : Place) (c : Bool) (bytes : List ℕ) (v : Valid) → IsValid bytes v → v.tail.now ≡ [] → lex true p (comment_len c (chars v.text.now)) (chars v.text.now) ≡ tokens_from p c bytes
 whole-rest p c bytes v valid none =
     text-tokens p c v.text.now valid.utf8 ∙ ap (tokens_from p c) (sym (append-nil v.text.now) ∙ ap (λ (w : List ℕ). v.text.now ++ w) (sym none) ∙ valid.whole)
 
-pub all-tokens-of : (a : Alive) (k : IsAlive a) (us : List Placed) → Wait a ≡ Ok us → tokens_of a.all.items ≡ Ok (k.taken ++ us)
-all-tokens-of a k us e =
-    sym (from-start a.all.items)
-    ∙ ap (tokens_from start false) (sym (append-nil a.all.items))
-    ∙ k.law []
-    ∙ ap (λ (b : List ℕ). with_tokens k.taken (tokens_from a.place a.comment b)) (append-nil (waiting_of a))
-    ∙ ap (with_tokens k.taken) e
-    ∙ with_tokens-ok k.taken us
+-- a bad place goes before all else
+bad-told : (stage : Stage) (fault : LexFault) → IsOpen stage → Tells (bad_ahead stage fault) (Err (faults.Lex fault))
+bad-told (Head front) fault open = refl
+bad-told (Nodes b) fault open = refl
+bad-told (Dead first) fault open = refl
+bad-told (Unlexed first) fault open = absurd open
+bad-told Lost fault open = absurd open
 
--- so many tokens, those that were taken and those that waited
-pub alive-tokens : (a : Alive) (k : IsAlive a) (us : List Placed) → Wait a ≡ Ok us → length (k.taken ++ us) ≡ a.tokens + length us
-alive-tokens a k us e = omega (arith, length-append k.taken us, k.count)
+pub last-stop : (p : Place) (c : Bool) (bytes : List ℕ) (e : Stop) (x : ReadFault) → Stops e (tokens_from p c bytes) → IsToldStop e x → (stage : Stage) → IsOpen stage → Tells (behind stage (tokens_from p c bytes)) (Err x)
+last-stop p c bytes stops.OutOfMemory x h told stage open = subst (λ (y : ReadFault). Tells (behind stage (tokens_from p c bytes)) (Err y)) (sym told) tt
+last-stop p c bytes (stops.At bad q) x h told stage open =
+    subst (λ (y : ReadFault). Tells (behind stage (tokens_from p c bytes)) (Err y)) (sym told)
+    (subst (λ (r : Result (List Placed) (Bad × Place)). Tells (behind stage r) (Err (faults.Lex (fault_of bad q)))) (sym h) (bad-told stage (fault_of bad q) open))
 
-pub alive-few : (a : Alive) (k : IsAlive a) (us : List Placed) → Wait a ≡ Ok us → a.tokens + length us ≤ length a.all.items + 1
-alive-few a k us e = omega (arith, tokens-few a.all.items (k.taken ++ us) (all-tokens-of a k us e), alive-tokens a k us e)
+pub last-is : (s : Stretch) (bytes : List ℕ) (v : Valid) → s.text.now ≡ v.text.now → IsValid bytes v → v.tail.now ≡ [] → IsSmall s.place → s.before ≤ s.place.offset → s.place.offset + length bytes < 2 ^ 32 - 1
+    → lex true s.place (comment_len s.comment (chars v.text.now)) (chars v.text.now) ≡ Ok (cut_text s.place s.comment v.text.now) → s.count ≡ length (cut_text s.place s.comment v.text.now) → IsLastStretch s.place s.comment bytes s.before s
+last-is s bytes v text valid none small few room e count = record {
+  stretch = record {
+    room = record { offset = omega (arith, room, size, ap length text); line = small.0; column = small.1 };
+    within = omega (arith, count, ap (λ (b : List ℕ). length (cut_text s.place s.comment b)) text);
+    few = omega (arith, few, room, count, ends.1, few-chars (chars v.text.now), ap length (encodes-chars v.text.now valid.utf8), size);
+  };
+  tokens = sym (whole-rest s.place s.comment bytes v valid none) ∙ e ∙ ap (λ (ts : List Placed). Ok ts) (sym all);
+  words = all-tokens (map word_of (tokens_of s)) (subst (λ (ts : List Placed). EndsOnce (map word_of ts)) (sym all) ends.0);
+  before = refl;
+}
+  where
+    us : List Placed
+    us = cut_text s.place s.comment v.text.now
 
--- what the text comes to is what its tokens do
-pub alive-whole : (a : Alive) (ts : List Placed) (answer : Result ProofFile ReadFault) → tokens_of a.all.items ≡ Ok ts → Tells (whole_outcome ts) answer → Tells (outcome (parts_of (kinds.Alive a)) []) answer
-alive-whole a ts answer e h =
-    subst (λ (o : Outcome). Tells o answer) (sym (ap (λ (b : List ℕ). behind (Head []) (tokens_from start false b)) (append-nil a.all.items) ∙ ap (behind (Head [])) (from-start a.all.items ∙ e))) h
+    ends : EndsOnce (map word_of us) × (length us ≤ length (chars v.text.now) + 1)
+    ends = lex-ends s.place (comment_len s.comment (chars v.text.now)) (chars v.text.now) us (scalars-chars v.text.now valid.utf8) e
 
--- ---- the tokens of all bytes
+    size : length bytes ≡ length v.text.now
+    size = ap length (sym valid.whole ∙ ap (λ (w : List ℕ). v.text.now ++ w) none ∙ append-nil v.text.now)
 
--- a text of characters has the tokens that are cut off it
-pub text-cut : (text : List ℕ) (ts : List Placed) → IsUtf8 text → tokens_of text ≡ Ok ts → cut_text start false text ≡ ts
-text-cut text ts utf8 e = cut-lexed start (comment_len false (chars text)) (chars text) ts (text-tokens start false text utf8 ∙ from-start text ∙ e)
-
-abbrev cut : List Placed → Result (List Placed) (Bad × Place)
-cut ts = Ok ts
-
-differ : (ts : List Placed) (e : Bad × Place) → cut ts ≡ Err e → ⊥
-differ ts e h = cc
-
--- bytes that have tokens have no bad place
-pub no-stop : (bytes : List ℕ) (ts : List Placed) (e : Stop) (x : ReadFault) (o : Outcome) → tokens_of bytes ≡ Ok ts → Stops e (tokens_from start false bytes) → IsToldStop e x → Tells o (Err x)
-no-stop bytes ts stops.OutOfMemory x o is h told = subst (λ (y : ReadFault). Tells o (Err y)) (sym told) tt
-no-stop bytes ts (stops.At bad p) x o is h told = absurd (differ ts (bad, p) (sym is ∙ sym (from-start bytes) ∙ h))
+    all : tokens_of s ≡ us
+    all = ap (λ (b : List ℕ). take s.count (cut_text s.place s.comment b)) text ∙ take_all s.count us (omega (arith, count))

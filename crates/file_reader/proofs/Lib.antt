@@ -7,7 +7,9 @@ pub mod PieceLaws
 pub mod Sizes
 mod NodeLaws
 mod KeptParts
+mod LexEnds
 mod HeldLaws
 mod EndLaws
+mod LastLaws
 mod StatementLaws
 mod FrontLaws

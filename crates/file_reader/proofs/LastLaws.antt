@@ -1,0 +1,183 @@
+-- The last statements of a text, and its end.
+use Rattle.std.proofs.Common.{◌≡◌, ℕ, ◌+◌, ◌-◌, ◌≤◌, ◌<◌, Bool, true, false, List, [], ◌∷◌, ◌++◌, length, take, drop, Some, None, Option, Result, Ok, Err, refl, sym, ap, subst, ◌∙◌, arith, length-append, length-take-le, inl, inr}
+use Rattle.std.specs.Prelude.{map}
+use Rattle.std.proofs.lemmas.List.{append-nil, length-drop, length-map, drop-drop, drop_at, take-append-drop}
+use Rattle.cyc_lex.specs.declared.fault.ReadFault.{ReadFault}
+use Rattle.cyc_lex.specs.Placed.{Placed}
+use Rattle.cyc_lex.specs.Word.{Word, word_of}
+use Rattle.cyc_grammar.specs.Syntax.{Reading, ◌>>=◌, all_taken, one, read_class}
+use Rattle.cyc_grammar.specs.Classes.{the_end}
+use Rattle.cyc_grammar.specs.Giving.{Fails}
+use Rattle.cyc_grammar.specs.declared.cursor.Refusal.{Refusal}
+use Rattle.cyc_grammar.specs.declared.cursor.Refusal.TheVariants as refusals
+use Rattle.cyc_grammar.proofs.Laws.{one-law}
+use Rattle.cyc_grammar.proofs.ClassLaws.{the_end-law}
+use Rattle.proof_syntax.specs.Trees.{Node, File}
+use Rattle.proof_syntax.specs.Grammar.{file}
+use Rattle.proof_syntax.proofs.GrammarLaws.{file-law}
+use Rattle.proof_statements.specs.Left.{Nodes as Among, At, left_of, statement_of, kept_statement, joined}
+use Rattle.proof_statements.proofs.LeftLaws.{statement-law}
+use Rattle.proof_file.specs.declared.building.FileFront.{FileFront}
+use Rattle.proof_file.specs.declared.file.ProofFile.{ProofFile}
+use Rattle.proof_file.specs.Building.{AreSaid}
+use Rattle.file_reader.specs.declared.known.Known.{Known}
+use Rattle.file_reader.specs.declared.known.Found.{Found}
+use Rattle.file_reader.specs.declared.stretch.Stretch.{Stretch}
+use Rattle.file_reader.specs.Fronts.{kept}
+use Rattle.file_reader.specs.Knowns.{begun_in, IsTold, IsSteady}
+use Rattle.file_reader.specs.Lasts.{left_from, StandsIn, comes_to, DiesAt, AreRead}
+use Rattle.file_reader.specs.Outcomes.{Outcome, Faulty, settled, syntax_fault, Has}
+use Rattle.file_reader.specs.Stages.{Nodes, nodes_left, nodes_outcome, said_with, ahead}
+use Rattle.file_reader.specs.Steps.{tree_of}
+use Rattle.file_reader.specs.Stretches.{IsStretch, tokens_of}
+use Rattle.file_reader.proofs.KeptParts.{dead-kept}
+use Rattle.file_reader.proofs.NodeLaws.{NodeTaken}
+use Rattle.file_reader.proofs.Sizes.{end-says}
+use Rattle.file_reader.proofs.StatementLaws.{left-dead}
+use Rattle.file_reader.proofs.StepLaws.{nodes-lawful, fault-within}
+use Rattle.file_reader.proofs.Tokens.{syntax-later}
+
+-- ---- where reading stands
+
+pub stretch-size : (s : Stretch) → IsStretch s → length (tokens_of s) ≡ s.count
+stretch-size s h = length-take-le s.count _ h.within
+
+-- at the first of the tokens
+pub stands-first : (s : Stretch) (n : ℕ) (ws : List Word) → n ≡ s.before → ws ≡ map word_of (tokens_of s) → StandsIn s n ws
+stands-first s n ws here words = record {
+  later = omega (arith, here);
+  within = omega (arith, here);
+  words = words ∙ ap (λ (k : ℕ). map word_of (drop k (tokens_of s))) (none (n - s.before) (omega (arith, here)));
+}
+  where
+    none : (k : ℕ) → k ≡ 0 → 0 ≡ k
+    none k e = sym e
+
+-- after others
+pub stands-after : (s : Stretch) (n : ℕ) (ws : List Word) (front left : List Placed) → IsStretch s → tokens_of s ≡ front ++ left → n ≡ s.before + length front → ws ≡ map word_of left → StandsIn s n ws
+stands-after s n ws front left h all count words = record {
+  later = omega (arith, count);
+  within = omega (arith, count, ap length all, length-append front left, stretch-size s h);
+  words = words ∙ ap (map word_of) (sym (drop-front (n - s.before) (omega (arith, count))));
+}
+  where
+    drop-front : (k : ℕ) → k ≡ length front → drop k (tokens_of s) ≡ left
+    drop-front k e = ap (drop k) all ∙ drop_at front left k (sym e)
+
+module _ (s : Stretch) (h : IsStretch s) (n : ℕ) (ws : List Word) (stands : StandsIn s n ws) where
+  pub left-size : length (left_from s n) + (n - s.before) ≡ s.count
+  left-size = omega (arith, length-drop (n - s.before) (tokens_of s), stretch-size s h, stands.later, stands.within)
+
+  pub words-size : length ws + (n - s.before) ≡ s.count
+  words-size = omega (arith, left-size, ap length stands.words, length-map (left_from s n) word_of)
+
+-- ---- nodes
+
+module _ (k : Known) (s : Stretch) (h : IsStretch s) (old mid new : Found) (vs ws : List Word) (read : AreRead k s old mid vs) where
+  pub node-read : NodeTaken k (left_from s mid.tokens) ws mid new → new.tokens ≡ s.before + (s.count - length ws) → AreRead k s old new ws
+  node-read t count = record {
+    same = read.same ∙ ap (ahead (Nodes (begun_in k mid))) t.all ∙ t.takes t.rest ∙ ap (ahead (Nodes (begun_in k new))) rest;
+    stands = record {
+      later = omega (arith, count);
+      within = omega (arith, count);
+      words = t.words ∙ ap (map word_of) rest;
+    };
+    steady = t.steady;
+  }
+    where
+      here : ℕ
+      here = mid.tokens - s.before
+
+      sizes : length t.front + here ≡ new.tokens - s.before
+      sizes = omega (arith, count, left-size s h mid.tokens vs read.stands, ap length t.all, length-append t.front t.rest, ap length t.words, length-map t.rest word_of, read.stands.later)
+
+      rest : t.rest ≡ left_from s new.tokens
+      rest = sym (drop_at t.front t.rest (length t.front) refl) ∙ ap (drop (length t.front)) (sym t.all) ∙ drop-drop (length t.front) here (tokens_of s) ∙ ap (λ (n : ℕ). drop n (tokens_of s)) sizes
+
+-- the first dead token
+module _ (k : Known) (s : Stretch) (h : IsStretch s) (f : Found) (ws : List Word) (stands : StandsIn s f.tokens ws) where
+  us : List Placed
+  us = left_from s f.tokens
+
+  counted : s.before + length (take (f.tokens - s.before) (tokens_of s)) ≡ f.tokens
+  counted = omega (arith, length-take-le (f.tokens - s.before) (tokens_of s) (omega (arith, stands.within, stands.later, stretch-size s h)), stands.later)
+
+  -- a token among those that are left is one of all
+  dead-later : (left : ℕ) → left ≤ length us → syntax_fault f.tokens us left ≡ syntax_fault s.before (tokens_of s) left
+  dead-later left within =
+      ap (λ (n : ℕ). syntax_fault n us left) (sym counted)
+      ∙ sym (syntax-later s.before left (take (f.tokens - s.before) (tokens_of s)) us within)
+      ∙ ap (λ (ts : List Placed). syntax_fault s.before ts left) (take-append-drop (f.tokens - s.before) (tokens_of s))
+
+  dies : (left : ℕ) → left ≤ length us → nodes_left f.ended (map word_of us) ≡ Err left → DiesAt s (comes_to k f s) (refusals.Dead left)
+  dies left within e = (
+    omega (arith, within, left-size s h f.tokens ws stands),
+    ap (λ (q : Result (List Node) ℕ). nodes_outcome (begun_in k f) us q) e ∙ ap (λ x. Faulty x) (dead-later left within),
+  )
+
+  pub node-dies : (e : Refusal) → f.ended ≡ false → Fails e ((kept_statement kept Among).read ws) → DiesAt s (comes_to k f s) e
+  node-dies refusals.OutOfMemory going x = tt
+  node-dies (refusals.Dead left) going x =
+      let read = dead-kept Among ws left x in
+      let all : (left_of (At Among)).read (map word_of us) ≡ Err left = ap (left_of (At Among)).read (sym stands.words) ∙ left-dead Among ws left read in
+      dies left (omega (arith, fault-within (statement_of Among) (statement-law Among) ws left read, ap length stands.words, length-map us word_of))
+      (ap (λ (b : Bool). nodes_left b (map word_of us)) going ∙ ap (λ (q : Reading (List Node)). q >>= λ y. all_taken y.0 y.1) all)
+
+  -- after the last statement
+  abbrev ended_left : Reading (Unit {0}) → Result (List Node) ℕ
+  ended_left q = (q >>= λ y. all_taken y.0 y.1) >>= λ u. Ok []
+
+  module _ (ended : f.ended ≡ true) where
+    after-end : (q : Reading (Unit {0})) → read_class the_end ws ≡ q → nodes_left f.ended (map word_of us) ≡ ended_left q
+    after-end q e = ap (λ (b : Bool). nodes_left b (map word_of us)) ended ∙ ap ended_left (ap (read_class the_end) (sym stands.words) ∙ e)
+
+    pub end-dies : (e : Refusal) → Fails e (read_class the_end ws) → DiesAt s (comes_to k f s) e
+    end-dies refusals.OutOfMemory x = tt
+    end-dies (refusals.Dead left) x =
+        dies left (omega (arith, fault-within (one the_end) (one-law the_end the_end-law) ws left x, ap length stands.words, length-map us word_of)) (after-end (Err left) x)
+
+    pub rest-dies : (rest : List Word) → read_class the_end ws ≡ Ok (tt, rest) → 0 < length rest → DiesAt s (comes_to k f s) (refusals.Dead (length rest))
+    rest-dies rest e some =
+        dies (length rest) (omega (arith, ap length ((one-law the_end the_end-law).takes ws (tt, rest) e).0, ap length stands.words, length-map us word_of, length-append ((one the_end).words tt) rest))
+        (after-end (Ok (tt, rest)) e ∙ by rest some)
+      where
+        by : (r : List Word) → 0 < length r → ended_left (Ok (tt, r)) ≡ Err (length r)
+        by [] h = absurd (omega (arith, h))
+        by (d ∷ r) h = refl
+
+    pub end-comes-to : (rest : List Word) → read_class the_end ws ≡ Ok (tt, rest) → length rest ≡ 0 → comes_to k f s ≡ settled f.flaw (said_with (begun_in k f) [])
+    end-comes-to rest e none = ap (λ (q : Result (List Node) ℕ). nodes_outcome (begun_in k f) us q) (after-end (Ok (tt, rest)) e ∙ by rest none) ∙ ap (λ (o : Option ReadFault). settled o (said_with (begun_in k f) [])) (later f.flaw)
+      where
+        by : (r : List Word) → length r ≡ 0 → ended_left (Ok (tt, r)) ≡ Ok []
+        by [] h = refl
+        by (d ∷ r) h = absurd (omega (arith, h))
+
+        later : (o : Option ReadFault) → or_else o None ≡ o
+        later (Some x) = refl
+        later None = refl
+
+pub dies-same : (s : Stretch) (a b : Outcome) (e : Refusal) → a ≡ b → DiesAt s b e → DiesAt s a e
+dies-same s a b e same h = subst (λ (o : Outcome). DiesAt s o e) (sym same) h
+
+-- ---- what the file says
+
+module _ (k : Known) (f : Found) (t : IsTold k f) where
+  tree : File
+  tree = tree_of k.version t.definitions t.program t.trees
+
+  fits : file.fits tree
+  fits =
+      let ends = nodes-lawful.again [] [] tt tt in
+      subst (λ (xs : List Node). file.fits (tree_of k.version t.definitions t.program xs)) (append-nil t.trees)
+      (file-law.takes _ (tree_of k.version t.definitions t.program (t.trees ++ []), []) (t.spell.leads ((left_of (At Among)).words [] ++ []) ∙ ap (λ (q : Reading (List Node)). joined (λ ns. tree_of k.version t.definitions t.program (t.trees ++ ns)) q) ends)).2
+
+  pub told-said : (front : FileFront) → k.front ≡ Some front → AreSaid k.version front.defs front.program f.nodes.items
+  told-said front is =
+      let same : t.values.front ≡ front = cc in
+      (tree, fits, t.clean, record {
+        version = refl;
+        most = ap (λ (x : FileFront). x.defs.most) (sym same) ∙ t.values.most;
+        definitions = ap (λ (x : FileFront). x.defs.list) (sym same) ∙ t.values.definitions;
+        program = ap (λ (x : FileFront). x.program) (sym same) ∙ t.values.program;
+        nodes = t.nodes;
+      })
