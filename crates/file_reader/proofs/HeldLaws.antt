@@ -22,7 +22,7 @@ use Rattle.piecewise_lex.specs.Taking.{reading, tokens_in, HasTaken}
 use Rattle.piecewise_lex.specs.Valid.{IsValid}
 use Rattle.piecewise_lex.proofs.TakingBytes.{taken-law, taken-count}
 use Rattle.proof_syntax.specs.Grammar.{file}
-use Rattle.file_reader.specs.declared.beginning.Beginning.{Beginning}
+use Rattle.file_reader.specs.declared.first_node.Beginning.{Beginning}
 use Rattle.file_reader.specs.declared.held.Running.{Running}
 use Rattle.file_reader.specs.declared.held.Faulty.{Faulty}
 use Rattle.file_reader.specs.declared.held.Held.{Held}

@@ -20,7 +20,7 @@ use Rattle.proof_file.specs.Spans.{definition_span}
 use Rattle.proof_file.specs.Values.{node_value}
 use Rattle.proof_file.proofs.NodeFlaws.{node_same, node_whole}
 use Rattle.file_reader.specs.Steps.{tree_of}
-use Rattle.file_reader.specs.Wholes.{IsPart, kept, kept_part}
+use Rattle.file_reader.specs.Fronts.{IsPart, kept, kept_part}
 
 -- ---- statements
 
@@ -129,10 +129,10 @@ module _ (v : Version) (hs : List Heading) where
   flaw_of = node_flaw (most_spatial v) hs
 
   module _ (count n k : ℕ) (tree x : Node) (is : tree ≡ node_front kept x) where
-    same-flaw : flaw_of count n k tree ≡ flaw_of count n k x
+    pub same-flaw : flaw_of count n k tree ≡ flaw_of count n k x
     same-flaw = ap (flaw_of count n k) is ∙ node_same (most_spatial v) 64 all-within spatials-within few-within hs count n k x
 
-    same-node : flaw_of count n k tree ≡ None → tree ≡ x
+    pub same-node : flaw_of count n k tree ≡ None → tree ≡ x
     same-node none = is ∙ node_whole (most_spatial v) 64 all-within spatials-within few-within hs count n k x (sym same-flaw ∙ none)
 
     -- behind what was found before

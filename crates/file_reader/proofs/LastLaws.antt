@@ -1,5 +1,5 @@
 -- The last statements of a text, and its end.
-use Rattle.std.proofs.Common.{◌≡◌, ℕ, ◌+◌, ◌-◌, ◌≤◌, ◌<◌, Bool, true, false, List, [], ◌∷◌, ◌++◌, length, take, drop, Some, None, Option, Result, Ok, Err, refl, sym, ap, subst, ◌∙◌, arith, length-append, length-take-le, inl, inr}
+use Rattle.std.proofs.Common.{◌≡◌, ℕ, ◌+◌, ◌-◌, ◌≤◌, ◌<◌, Bool, true, false, List, [], ◌∷◌, ◌++◌, length, take, drop, Some, None, Option, Result, Ok, Err, refl, sym, ap, subst, ◌∙◌, arith, length-append, length-take-le, inl, inr, ◌⊎◌}
 use Rattle.std.specs.Prelude.{map}
 use Rattle.std.proofs.lemmas.List.{append-nil, length-drop, length-map, drop-drop, drop_at, take-append-drop}
 use Rattle.cyc_lex.specs.declared.fault.ReadFault.{ReadFault}
@@ -13,7 +13,7 @@ use Rattle.cyc_grammar.specs.declared.cursor.Refusal.TheVariants as refusals
 use Rattle.cyc_grammar.proofs.Laws.{one-law}
 use Rattle.cyc_grammar.proofs.ClassLaws.{the_end-law}
 use Rattle.proof_syntax.specs.Trees.{Node, File}
-use Rattle.proof_syntax.specs.Grammar.{file}
+use Rattle.proof_syntax.specs.Grammar.{file, more_nodes}
 use Rattle.proof_syntax.proofs.GrammarLaws.{file-law}
 use Rattle.proof_statements.specs.Left.{Nodes as Among, At, left_of, statement_of, kept_statement, joined}
 use Rattle.proof_statements.proofs.LeftLaws.{statement-law}
@@ -26,7 +26,7 @@ use Rattle.file_reader.specs.declared.stretch.Stretch.{Stretch}
 use Rattle.file_reader.specs.Fronts.{kept}
 use Rattle.file_reader.specs.Knowns.{begun_in, IsTold, IsSteady}
 use Rattle.file_reader.specs.Lasts.{left_from, StandsIn, comes_to, DiesAt, AreRead}
-use Rattle.file_reader.specs.Outcomes.{Outcome, Faulty, settled, syntax_fault, Has}
+use Rattle.file_reader.specs.Outcomes.{Outcome, Faulty, or_else, settled, syntax_fault}
 use Rattle.file_reader.specs.Stages.{Nodes, nodes_left, nodes_outcome, said_with, ahead}
 use Rattle.file_reader.specs.Steps.{tree_of}
 use Rattle.file_reader.specs.Stretches.{IsStretch, tokens_of}
@@ -71,6 +71,10 @@ module _ (s : Stretch) (h : IsStretch s) (n : ℕ) (ws : List Word) (stands : St
   pub words-size : length ws + (n - s.before) ≡ s.count
   words-size = omega (arith, left-size, ap length stands.words, length-map (left_from s n) word_of)
 
+-- what is read of the words is read of the tokens
+pub read-words : (s : Stretch) (n : ℕ) (ws : List Word) → StandsIn s n ws → (q : Reading (Node ⊎ Unit {0})) → (kept_statement kept Among).read ws ≡ q → (kept_statement kept Among).read (map word_of (left_from s n)) ≡ q
+read-words s n ws stands q e = ap (λ (vs : List Word). (kept_statement kept Among).read vs) (sym stands.words) ∙ e
+
 -- ---- nodes
 
 module _ (k : Known) (s : Stretch) (h : IsStretch s) (old mid new : Found) (vs ws : List Word) (read : AreRead k s old mid vs) where
@@ -88,7 +92,7 @@ module _ (k : Known) (s : Stretch) (h : IsStretch s) (old mid new : Found) (vs w
       here : ℕ
       here = mid.tokens - s.before
 
-      sizes : length t.front + here ≡ new.tokens - s.before
+      sizes : here + length t.front ≡ new.tokens - s.before
       sizes = omega (arith, count, left-size s h mid.tokens vs read.stands, ap length t.all, length-append t.front t.rest, ap length t.words, length-map t.rest word_of, read.stands.later)
 
       rest : t.rest ≡ left_from s new.tokens
@@ -96,7 +100,7 @@ module _ (k : Known) (s : Stretch) (h : IsStretch s) (old mid new : Found) (vs w
 
 -- the first dead token
 module _ (k : Known) (s : Stretch) (h : IsStretch s) (f : Found) (ws : List Word) (stands : StandsIn s f.tokens ws) where
-  us : List Placed
+  abbrev us : List Placed
   us = left_from s f.tokens
 
   counted : s.before + length (take (f.tokens - s.before) (tokens_of s)) ≡ f.tokens
@@ -162,10 +166,11 @@ dies-same s a b e same h = subst (λ (o : Outcome). DiesAt s o e) (sym same) h
 -- ---- what the file says
 
 module _ (k : Known) (f : Found) (t : IsTold k f) where
-  tree : File
+  abbrev tree : File
   tree = tree_of k.version t.definitions t.program t.trees
 
   fits : file.fits tree
+  unfolding more_nodes
   fits =
       let ends = nodes-lawful.again [] [] tt tt in
       subst (λ (xs : List Node). file.fits (tree_of k.version t.definitions t.program xs)) (append-nil t.trees)

@@ -53,11 +53,11 @@ Ends k s old new (Ok u) = (comes_to k old s ≡ settled new.flaw (said_with (beg
 Ends k s old new (Err e) = DiesAt s (comes_to k old s) e
 
 -- all tokens of bytes, the end token last
-pub record IsLastStretch (p : Place) (comment : Bool) (bytes : List ℕ) (before : ℕ) (s : Stretch) : Type 0 where
+pub record IsLastStretch (p : Place) (comment : Bool) (bytes : List ℕ) (n : ℕ) (s : Stretch) : Type 0 where
   pub stretch : IsStretch s
   pub tokens : tokens_from p comment bytes ≡ Ok (tokens_of s)
   pub words : are_tokens (map word_of (tokens_of s)) ≡ true
-  pub before : s.before ≡ before
+  pub before : s.before ≡ n
 
 -- or their first bad place, which goes before all else
 abbrev pub LastStretches : Place → Bool → List ℕ → ℕ → Result Stretch ReadFault → Type 0

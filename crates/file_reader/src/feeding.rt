@@ -11,7 +11,7 @@ ghost use Rattle.file_reader.specs.Runs.{Runs};
 ghost use Rattle.file_reader.specs.Helds.{parts_of, IsAfter, IsHeld, IsKept, IsOpenedTo, IsRunning, IsSmall, IsStopped};
 ghost use Rattle.file_reader.specs.declared.held.Held.TheVariants as kinds;
 
-use crate::beginning::begin;
+use crate::first_node::begin;
 use crate::held::{Faulty, Held, Opening, Running};
 use crate::known::{Found, Known, known_heads};
 use crate::nodes::{Ran, read_nodes};
@@ -64,7 +64,7 @@ fn opened(alloc: Global, valid: Valid<'_>, span: Span<'_>) -> Result<Option<Held
     requires utf8 { IsUtf8 valid.text.now }
     requires room { length valid.text.now + length valid.tail.now < 2 ^ 32 - 1 }
     requires passed { IsFront (reading start false valid.text.now) span }
-    ensures { IfOk result (IsOpenedTo (valid.text.now ++ valid.tail.now)) }
+    ensures { IfOk result (IsOpenedTo (valid.entry.text.now ++ valid.entry.tail.now)) }
 {
     let stretch = Stretch {
         before: 0,
@@ -147,7 +147,7 @@ fn read_text<'a>(
 /// What is held after statements were read, where these bytes wait.
 fn after_nodes(known: Known, found: Found, ran: Ran<'_>, waiting: Vec<u8>) -> Held
     requires { length waiting.items < 2 ^ 32 }
-    ensures { IsAfter known found ran waiting.items result }
+    ensures { IsAfter known found ran.entry waiting.items result }
 {
     match ran.dead {
         Some(fault) => Held::Faulty(Faulty {

@@ -13,7 +13,7 @@ use crate::known::{Found, Known, known_heads};
 use crate::part::KEPT;
 use crate::stretch::Stretch;
 use cyc_grammar::{Cursor, Refusal};
-use cyc_lex::ReadFault;
+use cyc_lex::{OutOfMemory, ReadFault};
 use heap_reader::Heads;
 use proof_file::{ProofFile, file_of_values};
 use proof_statements::{NodeOrEnd, kept_node_or_end};
@@ -33,12 +33,15 @@ fn read_left(
     requires steady { IsSteady known.now found.old }
     requires stands { StandsIn stretch found.old.tokens cursor.old }
     requires going { found.old.ended ≡ false }
-    ensures { Lasts known.now stretch found.old found.new cursor.new result }
+    ensures { Lasts known.now stretch.entry found.old found.new cursor.new result }
 {
     'nodes: loop {
         match kept_node_or_end(alloc, KEPT, cursor)? {
             NodeOrEnd::Node(tree) => {
-                add_node(alloc, known, heads, stretch, &tree, found)?;
+                match add_node(alloc, known, heads, stretch, &tree, found) {
+                    Ok(()) => {}
+                    Err(OutOfMemory) => return Err(Refusal::OutOfMemory),
+                }
                 found.tokens = stretch.before + (stretch.count - cursor.left()) as u32;
             }
             NodeOrEnd::End => {
@@ -47,6 +50,28 @@ fn read_left(
                 return Ok(());
             }
         }
+    }
+}
+
+/// Reads the statements that are left, if the last one did not come.
+fn read_statements(
+    alloc: Global,
+    known: &Known,
+    stretch: Stretch<'_>,
+    cursor: &mut Cursor<'_, '_>,
+    found: &mut Found,
+) -> Result<(), Refusal>
+    requires stretch { IsStretch stretch }
+    requires steady { IsSteady known.now found.old }
+    requires stands { StandsIn stretch found.old.tokens cursor.old }
+    ensures { Lasts known.now stretch.entry found.old found.new cursor.new result }
+{
+    if found.ended {
+        return Ok(());
+    }
+    match known_heads(alloc, known) {
+        Ok(heads) => read_left(alloc, known, &heads, stretch, cursor, found),
+        Err(OutOfMemory) => Err(Refusal::OutOfMemory),
     }
 }
 
@@ -61,12 +86,9 @@ fn read_end(
     requires stretch { IsStretch stretch }
     requires steady { IsSteady known.now found.old }
     requires stands { StandsIn stretch found.old.tokens cursor.old }
-    ensures { Ends known.now stretch found.old found.new result }
+    ensures { Ends known.now stretch.entry found.old found.new result }
 {
-    if !found.ended {
-        let heads = known_heads(alloc, known)?;
-        read_left(alloc, known, &heads, stretch, cursor, found)?;
-    }
+    read_statements(alloc, known, stretch, cursor, found)?;
     cursor.end()?;
     if cursor.left() > 0 {
         return Err(Refusal::Dead(cursor.left()));
@@ -79,15 +101,16 @@ fn said(known: Known, found: Found) -> Result<ProofFile, ReadFault>
     requires { IsSteady known found }
     ensures { Tells (settled found.flaw (said_with (begun_in known found) [])) result }
 {
-    match found.flaw {
+    let Known {
+        version,
+        lines: _,
+        front,
+    } = known;
+    let Found { flaw, nodes, .. } = found;
+    match flaw {
         Some(fault) => Err(fault),
-        None => match known.front {
-            Some(front) => Ok(file_of_values(
-                known.version,
-                front.defs,
-                front.program,
-                found.nodes,
-            )),
+        None => match front {
+            Some(front) => Ok(file_of_values(version, front.defs, front.program, nodes)),
             None => unreachable!(),
         },
     }
@@ -104,7 +127,7 @@ pub fn read_last(
     requires stretch { IsStretch stretch }
     requires steady { IsSteady known found }
     requires stands { StandsIn stretch found.tokens cursor.old }
-    ensures { Tells (comes_to known found stretch) result }
+    ensures { Tells (comes_to known found stretch.entry) result }
 {
     let mut found = found;
     match read_end(alloc, &known, stretch, cursor, &mut found) {

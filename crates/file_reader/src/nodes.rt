@@ -69,7 +69,7 @@ fn take_node(
     requires cursor { cursor.entry ≡ map word_of (tokens_of stretch) }
     requires here { stretch.before ≡ found.old.tokens }
     requires going { found.old.ended ≡ false }
-    ensures { IfOk result (IsStep known.now (tokens_of stretch) found.old found.new) }
+    ensures { IfOk result (IsStep known.now (tokens_of stretch.entry) found.old found.new) }
 {
     let mut cursor = cursor;
     match kept_node_or_end(alloc, KEPT, &mut cursor) {
@@ -102,7 +102,7 @@ fn take_step(
     requires steady { IsSteady known.now found.old }
     requires cursor { cursor.entry ≡ map word_of (tokens_of stretch) }
     requires here { stretch.before ≡ found.old.tokens }
-    ensures { IfOk result (IsStep known.now (tokens_of stretch) found.old found.new) }
+    ensures { IfOk result (IsStep known.now (tokens_of stretch.entry) found.old found.new) }
 {
     if !found.ended {
         return take_node(alloc, known, heads, stretch, cursor, found);
@@ -119,7 +119,7 @@ fn cursor_of<'s, 'a>(stretch: Stretch<'a>, kept: &'s [Token<'a>]) -> Cursor<'s, 
     requires stretch { IsStretch stretch }
     requires tokens { are_tokens (map word_of (tokens_of stretch)) ≡ true }
     requires kept { length kept.now ≡ stretch.count → map placed kept.now ≡ tokens_of stretch }
-    ensures { result ≡ map word_of (tokens_of stretch) }
+    ensures { result ≡ map word_of (tokens_of stretch.entry) }
 {
     if kept.len() == stretch.count {
         return Cursor::new(kept);
