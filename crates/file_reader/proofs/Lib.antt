@@ -5,6 +5,7 @@ pub mod Beginning
 pub mod Fresh
 pub mod PieceLaws
 pub mod Sizes
+mod SameBegun
 mod NodeLaws
 mod KeptParts
 mod HeldLaws
