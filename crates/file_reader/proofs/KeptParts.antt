@@ -20,7 +20,7 @@ use Rattle.proof_file.specs.Spans.{definition_span}
 use Rattle.proof_file.specs.Values.{node_value}
 use Rattle.proof_file.proofs.NodeFlaws.{node_same, node_whole}
 use Rattle.file_reader.specs.Steps.{tree_of}
-use Rattle.file_reader.specs.Wholes.{IsPart, kept, kept_part}
+use Rattle.file_reader.specs.Fronts.{IsPart, kept, kept_part}
 
 -- ---- statements
 

@@ -12,3 +12,4 @@ mod HeldLaws
 mod EndLaws
 mod StatementLaws
 mod FrontLaws
+mod BeginLaws

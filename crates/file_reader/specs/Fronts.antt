@@ -19,11 +19,7 @@ use Rattle.proof_statements.specs.Left.{Preds, Lines, Nodes, Reached, At, Left, 
 use Rattle.proof_file.specs.Flaws.{node_flaw, file_flaw}
 use Rattle.proof_file.specs.Spans.{definition_span, variable_span, node_span}
 use Rattle.proof_file.specs.Values.{node_value}
-use Rattle.file_reader.specs.declared.found.Found.{Found}
 use Rattle.file_reader.specs.declared.front.Front.{Front}
-use Rattle.file_reader.specs.declared.whole.Whole.{Whole}
-use Rattle.file_reader.specs.declared.whole.Whole.TheVariants as wholes
-use Rattle.file_reader.specs.Outcomes.{Has, said_of}
 use Rattle.file_reader.specs.Steps.{Leads, tree_of}
 
 -- ---- one statement
