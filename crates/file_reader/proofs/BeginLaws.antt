@@ -20,7 +20,7 @@ use Rattle.proof_file.specs.Spans.{node_span}
 use Rattle.proof_file.specs.Values.{definition_value, node_value}
 use Rattle.proof_file.specs.declared.node.FileNode.{FileNode}
 use Rattle.proof_file.proofs.WithinSpans.{file_before}
-use Rattle.file_reader.specs.declared.beginning.Beginning.{Beginning}
+use Rattle.file_reader.specs.declared.first_node.Beginning.{Beginning}
 use Rattle.file_reader.specs.declared.front.Front.{Front}
 use Rattle.file_reader.specs.declared.known.Found.{Found}
 use Rattle.file_reader.specs.declared.known.Known.{Known}

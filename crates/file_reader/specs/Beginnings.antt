@@ -8,7 +8,7 @@ use Rattle.cyc_grammar.specs.declared.cursor.Refusal.{Refusal}
 use Rattle.proof_syntax.specs.Grammar.{file}
 use Rattle.proof_file.specs.declared.building.FileFront.{FileFront}
 use Rattle.proof_file.specs.Flaws.{file_flaw}
-use Rattle.file_reader.specs.declared.beginning.Beginning.{Beginning}
+use Rattle.file_reader.specs.declared.first_node.Beginning.{Beginning}
 use Rattle.file_reader.specs.declared.front.Front.{Front}
 use Rattle.file_reader.specs.Outcomes.{told_flaw}
 use Rattle.file_reader.specs.Stages.{Head, Nodes}

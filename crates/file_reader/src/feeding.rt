@@ -11,7 +11,7 @@ ghost use Rattle.file_reader.specs.Runs.{Runs};
 ghost use Rattle.file_reader.specs.Helds.{parts_of, IsAfter, IsHeld, IsKept, IsOpenedTo, IsRunning, IsSmall, IsStopped};
 ghost use Rattle.file_reader.specs.declared.held.Held.TheVariants as kinds;
 
-use crate::beginning::begin;
+use crate::first_node::begin;
 use crate::held::{Faulty, Held, Opening, Running};
 use crate::known::{Found, Known, known_heads};
 use crate::nodes::{Ran, read_nodes};

@@ -7,7 +7,7 @@ ghost use Rattle.file_reader.specs.Lasts.{LastStretches};
 ghost use Rattle.file_reader.specs.Helds.{parts_of, IsHeld, IsRunning, IsSmall, IsToldStop};
 ghost use Rattle.file_reader.specs.declared.held.Held.TheVariants as kinds;
 
-use crate::beginning::begin;
+use crate::first_node::begin;
 use crate::held::{Faulty, Held, Opening, Running};
 use crate::last::read_last;
 use crate::passing::pass_tokens;

@@ -13,7 +13,7 @@ use crate::known::{Found, Known, known_heads};
 use crate::part::KEPT;
 use crate::stretch::Stretch;
 use cyc_grammar::{Cursor, Refusal};
-use cyc_lex::ReadFault;
+use cyc_lex::{OutOfMemory, ReadFault};
 use heap_reader::Heads;
 use proof_file::{ProofFile, file_of_values};
 use proof_statements::{NodeOrEnd, kept_node_or_end};
@@ -38,7 +38,10 @@ fn read_left(
     'nodes: loop {
         match kept_node_or_end(alloc, KEPT, cursor)? {
             NodeOrEnd::Node(tree) => {
-                add_node(alloc, known, heads, stretch, &tree, found)?;
+                match add_node(alloc, known, heads, stretch, &tree, found) {
+                    Ok(()) => {}
+                    Err(OutOfMemory) => return Err(Refusal::OutOfMemory),
+                }
                 found.tokens = stretch.before + (stretch.count - cursor.left()) as u32;
             }
             NodeOrEnd::End => {
@@ -64,8 +67,10 @@ fn read_end(
     ensures { Ends known.now stretch found.old found.new result }
 {
     if !found.ended {
-        let heads = known_heads(alloc, known)?;
-        read_left(alloc, known, &heads, stretch, cursor, found)?;
+        match known_heads(alloc, known) {
+            Ok(heads) => read_left(alloc, known, &heads, stretch, cursor, found)?,
+            Err(OutOfMemory) => return Err(Refusal::OutOfMemory),
+        }
     }
     cursor.end()?;
     if cursor.left() > 0 {

@@ -3,9 +3,9 @@
 #![tactic(auto)]
 
 mod adding;
-mod beginning;
 mod feeding;
 mod finishing;
+mod first_node;
 mod front;
 mod held;
 mod known;
