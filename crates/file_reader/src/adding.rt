@@ -1,6 +1,6 @@
 //! A node as it comes: its value, or its first flaw.
 
-ghost use Rattle.std.specs.Prelude.{◌≡◌, ◌≤◌, ◌+◌, IfOk, length};
+ghost use Rattle.std.specs.Prelude.{◌≡◌, ◌≤◌, ◌+◌, IfOk, None, length};
 ghost use Rattle.cyc_limits.specs.declared.TheConstants.{MOST_PREDICATES};
 ghost use Rattle.proof_syntax.specs.Grammar.{node};
 ghost use Rattle.proof_syntax.specs.Trees.{node_of};
@@ -26,11 +26,11 @@ pub fn add_node(
     found: &mut Found,
 ) -> Result<(), OutOfMemory>
     requires stretch { IsStretch stretch }
-    requires few { length heads.now ≤ MOST_PREDICATES }
+    requires few { found.old.flaw ≡ None → length heads.now ≤ MOST_PREDICATES }
     requires fits { node.fits (node_of tree.now) }
     requires later { stretch.before ≤ found.old.tokens }
     requires within { found.old.tokens + node_span (node_of tree.now) ≤ stretch.before + stretch.count }
-    ensures { IfOk result (λ _. IsAdded known.now heads.now stretch.before (tokens_of stretch) (node_of tree.now)
+    ensures { IfOk result (λ _. IsAdded known.now heads.now stretch.entry.before (tokens_of stretch.entry) (node_of tree.now)
         found.old found.new) }
 {
     if found.flaw.is_some() {

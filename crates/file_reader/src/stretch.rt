@@ -1,6 +1,6 @@
 //! Tokens of a text that stand next to one another, and the faults at them.
 
-ghost use Rattle.std.specs.Prelude.{◌≡◌, ◌≤◌, ◌+◌, ◌<◌, length, map};
+ghost use Rattle.std.specs.Prelude.{◌≡◌, ◌≤◌, ◌+◌, ◌<◌, map, true};
 ghost use Rattle.cyc_lex.specs.Word.{word_of};
 ghost use Rattle.cyc_grammar.specs.Classes.{are_tokens};
 ghost use Rattle.file_reader.specs.Outcomes.{flaw_fault, syntax_fault};
@@ -26,7 +26,7 @@ impl<'a> Stretch<'a> {
     pub fn cursor<'s>(self) -> Cursor<'s, 'a>
         requires stretch { IsStretch self }
         requires tokens { are_tokens (map word_of (tokens_of self)) ≡ true }
-        ensures { result ≡ map word_of (tokens_of self) }
+        ensures { result ≡ map word_of (tokens_of self.entry) }
     {
         Cursor::of_text(self.place, self.comment, self.text, self.count)
     }
@@ -36,7 +36,7 @@ impl<'a> Stretch<'a> {
         requires stretch { IsStretch self }
         requires later { self.before ≤ flaw.token }
         requires within { flaw.token < self.before + self.count }
-        ensures { result ≡ flaw_fault self.before (tokens_of self) flaw }
+        ensures { result ≡ flaw_fault self.entry.before (tokens_of self.entry) flaw }
     {
         let at = flaw.token - self.before as usize;
         let place = token_at(self.place, self.comment, self.text, at);
@@ -63,7 +63,7 @@ impl<'a> Stretch<'a> {
     pub fn dead(self, left: usize) -> ReadFault
         requires stretch { IsStretch self }
         requires within { left ≤ self.count }
-        ensures { result ≡ syntax_fault self.before (tokens_of self) left }
+        ensures { result ≡ syntax_fault self.entry.before (tokens_of self.entry) left }
     {
         let at = self.count - left;
         let token = self.before + at as u32;
