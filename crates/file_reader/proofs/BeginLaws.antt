@@ -37,26 +37,26 @@ use Rattle.file_reader.proofs.StepLaws.{head-step}
 
 -- ---- the tokens of words that stand in front of others
 
-pub record Cut (ts : List Placed) (front rest : List Word) : Type 0 where
+pub record Cut (ts : List Placed) (ws rest : List Word) : Type 0 where
   pub taken : List Placed
   pub left : List Placed
   pub all : ts ≡ taken ++ left
-  pub front : map word_of taken ≡ front
-  pub rest : rest ≡ map word_of left
+  pub words : map word_of taken ≡ ws
+  pub others : rest ≡ map word_of left
 
-cut : (ts : List Placed) (front rest : List Word) → map word_of ts ≡ front ++ rest → Cut ts front rest
-cut ts [] rest e = record { taken = []; left = ts; all = refl; front = refl; rest = sym e }
-cut [] (w ∷ front) rest e = absurd cc
-cut (t ∷ ts) (w ∷ front) rest e =
+cut : (ts : List Placed) (ws rest : List Word) → map word_of ts ≡ ws ++ rest → Cut ts ws rest
+cut ts [] rest e = record { taken = []; left = ts; all = refl; words = refl; others = sym e }
+cut [] (w ∷ ws) rest e = absurd cc
+cut (t ∷ ts) (w ∷ ws) rest e =
     let head : word_of t ≡ w = cc in
-    let tail : map word_of ts ≡ front ++ rest = cc in
-    let c = cut ts front rest tail in
+    let tail : map word_of ts ≡ ws ++ rest = cc in
+    let c = cut ts ws rest tail in
     record {
       taken = t ∷ c.taken;
       left = c.left;
       all = ap (λ (us : List Placed). t ∷ us) c.all;
-      front = λ i. head i ∷ c.front i;
-      rest = c.rest;
+      words = λ i. head i ∷ c.words i;
+      others = c.others;
     }
 
 -- ---- flaws
@@ -65,7 +65,7 @@ later-none : (o : Flaws) → or_later o None ≡ o
 later-none None = refl
 later-none (Some flaw) = refl
 
-told-none : (ts : List Placed) (o : Flaws) → told_flaw 0 ts o ≡ None → o ≡ None
+pub told-none : (ts : List Placed) (o : Flaws) → told_flaw 0 ts o ≡ None → o ≡ None
 told-none ts None e = refl
 told-none ts (Some flaw) e = absurd cc
 
@@ -120,11 +120,11 @@ module _ (ts : List Placed) (f : Front) (rest : List Word) (b : IsBegun (map wor
   taken = parted.taken
 
   count : length ts ≡ length taken + length rest
-  count = omega (arith, ap length parted.all, length-append taken parted.left, ap length parted.rest, length-map parted.left word_of)
+  count = omega (arith, ap length parted.all, length-append taken parted.left, ap length parted.others, length-map parted.left word_of)
 
   spell : Spell taken v ds ls (x ∷ [])
   spell = record {
-    leads = subst (λ (ws : List Word). Leads ws (At Among) (λ ns. tree_of v ds ls (x ∷ ns))) (sym parted.front) b.leads.leads;
+    leads = subst (λ (ws : List Word). Leads ws (At Among) (λ ns. tree_of v ds ls (x ∷ ns))) (sym parted.words) b.leads.leads;
     size = omega (arith, b.size, length-map ts word_of, count);
   }
 
@@ -244,7 +244,7 @@ module _ (ts : List Placed) (f : Front) (rest : List Word) (b : IsBegun (map wor
         taken = taken;
         left = parted.left;
         all = parted.all;
-        words = parted.rest;
+        words = parted.others;
         takes = takes;
         tokens = tokens-are;
         ended = ended-is;
