@@ -1,9 +1,8 @@
 -- What stands before the nodes of a text, and its first node: what is held of them says the same.
-use Rattle.std.proofs.Common.{◌≡◌, ℕ, ◌+◌, ◌-◌, ◌<◌, ◌≤◌, false, List, [], ◌∷◌, ◌++◌, length, map, Option, Some, None, refl, sym, ap, subst, ◌∙◌, arith, length-append}
+use Rattle.std.proofs.Common.{◌≡◌, ℕ, ◌+◌, ◌-◌, ◌<◌, false, List, [], ◌∷◌, ◌++◌, length, map, Some, None, refl, sym, ap, subst, ◌∙◌, arith, length-append}
 use Rattle.std.proofs.lemmas.List.{length-map}
 use Rattle.cyc_lex.specs.Placed.{Placed}
 use Rattle.cyc_lex.specs.Word.{Word, word_of}
-use Rattle.cyc_lex.specs.declared.fault.ReadFault.{ReadFault}
 use Rattle.heap_syntax.specs.declared.version.Version.{Version}
 use Rattle.heap_syntax.specs.Versions.{most_spatial}
 use Rattle.heap_reader.specs.Trees.{Heading}
@@ -23,12 +22,11 @@ use Rattle.proof_file.proofs.WithinSpans.{file_before}
 use Rattle.file_reader.specs.declared.first_node.Beginning.{Beginning}
 use Rattle.file_reader.specs.declared.front.Front.{Front}
 use Rattle.file_reader.specs.declared.known.Found.{Found}
-use Rattle.file_reader.specs.declared.known.Known.{Known}
 use Rattle.file_reader.specs.Outcomes.{or_else, told_flaw}
 use Rattle.file_reader.specs.Stages.{Begun, Head, Nodes}
 use Rattle.file_reader.specs.Steps.{Takes, Leads, tree_of, Spell, begun_of}
 use Rattle.file_reader.specs.Fronts.{front_size, front_defs, IsBegun}
-use Rattle.file_reader.specs.Knowns.{def_heading, defs_in, program_in, begun_in, HasValues, IsTold, IsSteady, IsAdded}
+use Rattle.file_reader.specs.Knowns.{def_heading, defs_in, program_in, begun_in, HasValues, IsSteady, IsAdded}
 use Rattle.file_reader.specs.Beginnings.{IsOpen, IsBeginning}
 use Rattle.file_reader.proofs.Beginning.{told-later, told-front, file-flaws, begun-step}
 use Rattle.file_reader.proofs.KeptParts.{same-found, same-value, kept-headings, kept-flaw, whole-front}

@@ -71,7 +71,13 @@ fn open(
     match front_flaw(heads, front.version, &front.definitions, &front.lines) {
         Some(flaw) => Ok(opened(alloc, front, Some(stretch.flaw(flaw)), None)),
         None => {
-            let values = front_values(alloc, heads, front.version, &front.definitions, &front.lines)?;
+            let values = front_values(
+                alloc,
+                heads,
+                front.version,
+                &front.definitions,
+                &front.lines,
+            )?;
             Ok(opened(alloc, front, None, Some(values)))
         }
     }
@@ -91,7 +97,14 @@ fn begun(
 {
     let heads = heads(alloc, &front.definitions)?;
     let mut beginning = open(alloc, stretch, &heads, front)?;
-    add_node(alloc, &beginning.known, &heads, stretch, &front.first, &mut beginning.found)?;
+    add_node(
+        alloc,
+        &beginning.known,
+        &heads,
+        stretch,
+        &front.first,
+        &mut beginning.found,
+    )?;
     beginning.found.tokens = (stretch.count - cursor.left()) as u32;
     Ok(beginning)
 }
