@@ -76,12 +76,12 @@ listed-append flaw span n k (x ∷ xs) ys =
 
 -- ---- where flaws are told
 
-told-later : (before : ℕ) (ts : List Placed) (a b : Found) → told_flaw before ts (or_later a b) ≡ or_else (told_flaw before ts a) (told_flaw before ts b)
+pub told-later : (before : ℕ) (ts : List Placed) (a b : Found) → told_flaw before ts (or_later a b) ≡ or_else (told_flaw before ts a) (told_flaw before ts b)
 told-later before ts (Some f) b = refl
 told-later before ts None b = refl
 
 -- a flaw of the first tokens
-told-front : (ts us : List Placed) (o : Found) → Before o (length ts) → told_flaw 0 (ts ++ us) o ≡ told_flaw 0 ts o
+pub told-front : (ts us : List Placed) (o : Found) → Before o (length ts) → told_flaw 0 (ts ++ us) o ≡ told_flaw 0 ts o
 told-front ts us None h = refl
 told-front ts us (Some f) h = ap (λ t. Some (at_token (item_fault f.item) f.token t)) (slice-front ts us (f.token - 0) (omega (arith, h)))
 

@@ -108,17 +108,17 @@ whole-rest p c bytes v valid none =
 
 -- a bad place goes before all else
 bad-told : (stage : Stage) (fault : LexFault) → IsOpen stage → Tells (bad_ahead stage fault) (Err (faults.Lex fault))
-bad-told (Head front) fault open = refl
-bad-told (Nodes b) fault open = refl
-bad-told (Dead first) fault open = refl
-bad-told (Unlexed first) fault open = absurd open
-bad-told Lost fault open = absurd open
+bad-told (Head front) fault going = refl
+bad-told (Nodes b) fault going = refl
+bad-told (Dead first) fault going = refl
+bad-told (Unlexed first) fault going = absurd going
+bad-told Lost fault going = absurd going
 
 pub last-stop : (p : Place) (c : Bool) (bytes : List ℕ) (e : Stop) (x : ReadFault) → Stops e (tokens_from p c bytes) → IsToldStop e x → (stage : Stage) → IsOpen stage → Tells (behind stage (tokens_from p c bytes)) (Err x)
-last-stop p c bytes stops.OutOfMemory x h told stage open = subst (λ (y : ReadFault). Tells (behind stage (tokens_from p c bytes)) (Err y)) (sym told) tt
-last-stop p c bytes (stops.At bad q) x h told stage open =
+last-stop p c bytes stops.OutOfMemory x h told stage going = subst (λ (y : ReadFault). Tells (behind stage (tokens_from p c bytes)) (Err y)) (sym told) tt
+last-stop p c bytes (stops.At bad q) x h told stage going =
     subst (λ (y : ReadFault). Tells (behind stage (tokens_from p c bytes)) (Err y)) (sym told)
-    (subst (λ (r : Result (List Placed) (Bad × Place)). Tells (behind stage r) (Err (faults.Lex (fault_of bad q)))) (sym h) (bad-told stage (fault_of bad q) open))
+    (subst (λ (r : Result (List Placed) (Bad × Place)). Tells (behind stage r) (Err (faults.Lex (fault_of bad q)))) (sym h) (bad-told stage (fault_of bad q) going))
 
 pub last-is : (s : Stretch) (bytes : List ℕ) (v : Valid) → s.text.now ≡ v.text.now → IsValid bytes v → v.tail.now ≡ [] → IsSmall s.place → s.before ≤ s.place.offset → s.place.offset + length bytes < 2 ^ 32 - 1
     → lex true s.place (comment_len s.comment (chars v.text.now)) (chars v.text.now) ≡ Ok (cut_text s.place s.comment v.text.now) → s.count ≡ length (cut_text s.place s.comment v.text.now) → IsLastStretch s.place s.comment bytes s.before s

@@ -1,68 +1,54 @@
--- A text that is read once more, statement by statement.
-use Rattle.std.proofs.Common.{◌≡◌, ℕ, ◌+◌, ◌-◌, ◌≤◌, ◌<◌, Bool, true, false, List, [], ◌∷◌, ◌++◌, length, map, Some, None, Ok, Err, refl, sym, ap, subst, ◌∙◌, arith, length-append, append_assoc, inl, inr, ◌⊎◌}
-use Rattle.std.proofs.lemmas.List.{append-nil, length-map, map_push, map-append}
-use Rattle.cyc_lex.specs.Lexing.{tokens_of}
-use Rattle.cyc_lex.specs.Placed.{Placed}
-use Rattle.cyc_lex.specs.Word.{Word, word_of}
-use Rattle.cyc_grammar.specs.Syntax.{Reading, ◌>>=◌, all_taken, read_class, read_whole}
-use Rattle.cyc_grammar.specs.Classes.{the_end}
+-- What stands before the nodes of a file, statement by statement.
+use Rattle.std.proofs.Common.{◌≡◌, ℕ, ◌+◌, ◌-◌, ◌≤◌, ◌<◌, Bool, true, false, List, [], ◌∷◌, ◌++◌, length, None, Ok, Err, refl, sym, ap, subst, ◌∙◌, arith, append_assoc, inl, inr, ◌⊎◌}
+use Rattle.std.proofs.lemmas.List.{append-nil, length-map, map_push}
+use Rattle.cyc_lex.specs.Word.{Word}
+use Rattle.cyc_grammar.specs.Syntax.{Reading}
 use Rattle.cyc_grammar.specs.Giving.{Fails}
 use Rattle.cyc_grammar.specs.declared.cursor.Refusal.{Refusal}
 use Rattle.cyc_grammar.specs.declared.cursor.Refusal.TheVariants as refusals
-use Rattle.cyc_grammar.specs.Classes.{are_tokens}
-use Rattle.cyc_grammar.proofs.Laws.{whole_ok}
-use Rattle.cyc_grammar.proofs.WholeTexts.{all-tokens, err-within}
 use Rattle.heap_syntax.specs.declared.version.Version.{Version}
 use Rattle.heap_syntax.specs.Versions.{most_spatial}
 use Rattle.heap_reader.specs.Trees.{Heading}
-use Rattle.heap_reader.specs.Flaws.{Found as Flaws, or_later, listed_flaw}
+use Rattle.heap_reader.specs.Flaws.{or_later, listed_flaw}
 use Rattle.heap_reader.specs.Spans.{total, line_span}
 use Rattle.heap_reader.proofs.Fitting.{most_fits}
 use Rattle.heap_reader.proofs.NoFlaw.{neither}
-use Rattle.heap_reader.proofs.WithinSpans.{flaw_within}
-use Rattle.heap_reader.specs.declared.flaw.Flaw.{Flaw}
 use Rattle.proof_syntax.specs.Trees.{Definition, Line, Node, File, node_of}
 use Rattle.proof_syntax.specs.Grammar.{node, file}
 use Rattle.proof_syntax.specs.Keeping.{definition_front}
 use Rattle.proof_syntax.proofs.FrontFits.{node-fits}
-use Rattle.proof_syntax.proofs.GrammarEnds.{file-last}
-use Rattle.proof_syntax.proofs.GrammarLaws.{file-law}
-use Rattle.proof_statements.specs.Left.{Part, First, Preds, Lines, Nodes, At, Left, left_of, Statement, statement_of, kept_statement, next, join, joined, line_or_node}
-use Rattle.proof_statements.proofs.LeftLaws.{begins-with, statement-law}
-use Rattle.proof_statements.proofs.Listed.{joined-twice}
+use Rattle.proof_statements.specs.Left.{Part, First, Preds, Lines, Nodes, At, Left, Statement, statement_of, kept_statement, next, join, joined, line_or_node}
+use Rattle.proof_statements.proofs.LeftLaws.{statement-law}
 use Rattle.pred_reader.proofs.Fitting.{definitions_small}
 use Rattle.pred_reader.proofs.FrontSpans.{definitions-span}
-use Rattle.proof_file.specs.Flaws.{heading, headings, definition_flaw, program_flaw, node_flaw, nodes_flaw, first_line, first_node, file_flaw}
+use Rattle.proof_file.specs.Flaws.{heading, headings, definition_flaw, program_flaw, nodes_flaw, first_line, file_flaw}
 use Rattle.proof_file.specs.Spans.{definition_span, variable_span, node_span}
-use Rattle.proof_file.specs.Values.{node_value}
-use Rattle.proof_file.specs.declared.node.FileNode.{FileNode}
 use Rattle.proof_file.proofs.FrontSpans.{node-span}
-use Rattle.proof_file.proofs.SpanLaws.{file_words}
-use Rattle.proof_file.proofs.WithinSpans.{file_before}
-use Rattle.file_reader.specs.declared.found.Found.{Found}
 use Rattle.file_reader.specs.declared.front.Front.{Front}
 use Rattle.file_reader.specs.Steps.{tree_of, span_of}
-use Rattle.file_reader.specs.Wholes.{IsPart, kept, kept_part, LeadsTo, LeadsFront, front_size, IsFront, front_defs, IsBegun, AreAdded, AreRead, AreLast}
-use Rattle.file_reader.proofs.Beginning.{one-later, listed-append, file-flaws}
-use Rattle.file_reader.proofs.Fresh.{tokens-end}
-use Rattle.file_reader.proofs.KeptParts.{later-kept, end-kept, dead-kept, part-kept, pred-kept, line-kept, node-kept, same-found, same-value, kept-headings, kept-flaw, whole-front}
-use Rattle.file_reader.proofs.Sizes.{statement-words}
+use Rattle.file_reader.specs.Fronts.{IsPart, kept, kept_part, LeadsTo, LeadsFront, front_size, IsFront, front_defs, IsBegun}
+use Rattle.file_reader.proofs.Beginning.{lead-more, lead-none as none-leads}
+use Rattle.file_reader.proofs.KeptParts.{dead-kept, part-kept, pred-kept, line-kept, node-kept}
+use Rattle.file_reader.proofs.StatementLaws.{left-dead, statement-size}
 
 -- ---- one statement after others
 
 pub lead-none : (ws : List Word) → LeadsTo ws (At First) (λ x. x) ws
-lead-none ws = by (file.read ws)
-  where
-    by : (q : Reading File) → q ≡ joined (λ x. x) q
-    by (Ok x) = refl
-    by (Err n) = refl
+lead-none ws = record { front = []; all = refl; leads = none-leads }
 
 pub lead-step : (p : Part) (ws vs rest : List Word) (f : Left (At p) → File) (t : Statement p) → LeadsTo ws (At p) f vs → (statement_of p).read vs ≡ Ok (t, rest) → LeadsTo ws (next p t) (λ x. f (join p t x)) rest
-lead-step p ws vs rest f t leads e =
-    leads ∙ ap (λ (q : Reading (Left (At p))). joined f q) (left-step p vs rest t e) ∙ joined-twice f (join p t) ((left_of (next p t)).read rest)
+lead-step p ws vs rest f t h e =
+    let k = (statement-law p).takes vs (t, rest) e in
+    let us = (statement_of p).words t in
+    let again : (statement_of p).read us ≡ Ok (t, []) = ap (statement_of p).read (sym (append-nil us)) ∙ (statement-law p).again t [] k.2 tt in
+    record {
+      front = h.front ++ us;
+      all = h.all ∙ ap (λ (x : List Word). h.front ++ x) k.0 ∙ sym (append_assoc h.front us rest);
+      leads = lead-more p h.front us f t h.leads again;
+    }
 
 pub lead-dead : (p : Part) (ws vs : List Word) (f : Left (At p) → File) (left : ℕ) → LeadsTo ws (At p) f vs → (statement_of p).read vs ≡ Err left → file.read ws ≡ Err left
-lead-dead p ws vs f left leads e = leads ∙ ap (λ (q : Reading (Left (At p))). joined f q) (left-dead p vs left e)
+lead-dead p ws vs f left h e = ap file.read h.all ∙ h.leads vs ∙ ap (λ (q : Reading (Left (At p))). joined f q) (left-dead p vs left e)
 
 pub step-fails : (p : Part) (ws vs : List Word) (f : Left (At p) → File) (e : Refusal) → LeadsTo ws (At p) f vs → Fails e ((statement_of p).read vs) → Fails e (file.read ws)
 step-fails p ws vs f refusals.OutOfMemory leads h = tt

@@ -55,9 +55,9 @@ kept-on old done now mid new h k = record {
 -- ---- a bad place
 
 unlexed : (old : Parts) (bad : Bad) (p : Place) (n : ℕ) → IsOpen old.stage → n ≡ bytes_fed old → IsBad old bad p → IsKept old [] (kinds.Unlexed (fault_of bad p) n)
-unlexed old bad p n open size is = record {
+unlexed old bad p n from size is = record {
   held = tt;
-  law = bad-place old (parts_of (kinds.Unlexed (fault_of bad p) n)) bad p open is refl;
+  law = bad-place old (parts_of (kinds.Unlexed (fault_of bad p) n)) bad p from is refl;
   count = omega (arith, size);
 }
 
@@ -68,16 +68,16 @@ FirstBad p c v e = Stops e (lex false p (comment_len c (chars v.text.now)) (char
 abbrev TextBad : Place → Bool → Valid → Stop → Type 0
 TextBad p c v e = Stops e (tokens_in (reading p c v.text.now))
 
-module _ (old : Parts) (open : IsOpen old.stage) (v : Valid) (valid : IsValid old.pending v) (n : ℕ) (size : n ≡ bytes_fed old) (new : Held) where
+module _ (old : Parts) (from : IsOpen old.stage) (v : Valid) (valid : IsValid old.pending v) (n : ℕ) (size : n ≡ bytes_fed old) (new : Held) where
   pub bad-first : (e : Stop) → v.cut ≡ false → FirstBad old.place old.comment v e → IsStopped e n new → IsKept old [] new
   bad-first stops.OutOfMemory whole bad stopped = absurd stopped
   bad-first (stops.At b p) whole bad stopped =
-      subst (IsKept old []) (sym stopped) (unlexed old b p n open size (bytes-bad old.stage old.place p old.comment old.pending v.text.now b valid.text (sym valid.cut ∙ whole) bad))
+      subst (IsKept old []) (sym stopped) (unlexed old b p n from size (bytes-bad old.stage old.place p old.comment old.pending v.text.now b valid.text (sym valid.cut ∙ whole) bad))
 
   pub bad-text : (e : Stop) → v.cut ≡ true → TextBad old.place old.comment v e → IsStopped e n new → IsKept old [] new
   bad-text stops.OutOfMemory cut bad stopped = absurd stopped
   bad-text (stops.At b p) cut bad stopped =
-      subst (IsKept old []) (sym stopped) (unlexed old b p n open size (statement-bad old.stage old.place p old.comment old.pending v.text.now b valid.text (sym valid.cut ∙ cut) bad))
+      subst (IsKept old []) (sym stopped) (unlexed old b p n from size (statement-bad old.stage old.place p old.comment old.pending v.text.now b valid.text (sym valid.cut ∙ cut) bad))
 
 -- ---- tokens that are taken
 
@@ -91,8 +91,8 @@ comes-on stage after p q c d bytes v rest new ts whole is law more =
 -- the first of the tokens of the text were taken, and these bytes are left
 module _ (stage : Stage) (p q : Place) (c d : Bool) (v : Valid) (rest new : List ℕ) (ts : List Placed) (utf8 : IsUtf8 v.text.now) (left : IsUtf8 rest) (taken : HasTaken (reading p c v.text.now) ts (reading q d rest)) (is : new ≡ rest ++ v.tail.now) where
   front-taken : (after : Stage) → IsOpen stage → IsOpen after → Takes stage ts after → (more : List ℕ) → outcome (parts stage p c (v.text.now ++ v.tail.now)) more ≡ outcome (parts after q d new) more
-  front-taken after open going takes =
-      tokens-taken (parts stage p c (v.text.now ++ v.tail.now)) (parts after q d new) ts open going takes
+  front-taken after from to takes =
+      tokens-taken (parts stage p c (v.text.now ++ v.tail.now)) (parts after q d new) ts from to takes
       (comes-on stage after p q c d (v.text.now ++ v.tail.now) v rest new ts refl is (taken-law p q c d v.text.now rest ts utf8 left taken))
 
   front-count : q.offset + length new ≡ p.offset + length (v.text.now ++ v.tail.now)

@@ -14,3 +14,4 @@ mod EndLaws
 mod LastLaws
 mod StatementLaws
 mod FrontLaws
+mod BeginLaws

@@ -1,5 +1,5 @@
 -- One statement after others.
-use Rattle.std.proofs.Common.{◌≡◌, ℕ, ◌+◌, List, [], length, Ok, Err, ap, ◌∙◌, arith, length-append}
+use Rattle.std.proofs.Common.{◌≡◌, ℕ, ◌+◌, List, length, Ok, Err, ap, ◌∙◌, arith, length-append}
 use Rattle.cyc_lex.specs.Word.{Word}
 use Rattle.cyc_grammar.specs.Syntax.{Reading, ◌>>=◌}
 use Rattle.proof_statements.specs.Left.{Part, At, left_of, Statement, statement_of, next, join, joined}

@@ -1,12 +1,10 @@
 -- What stands before the nodes of a proof file, and its first node.
-use Rattle.std.specs.Prelude.{◌≡◌, ℕ, false, List, [], ◌++◌, length, map, Option, Some, None, Result, Ok, Err}
-use Rattle.cyc_lex.specs.declared.fault.ReadFault.{ReadFault}
+use Rattle.std.specs.Prelude.{◌≡◌, false, List, [], ◌++◌, length, map, None, Result, Ok, Err}
 use Rattle.cyc_lex.specs.Placed.{Placed}
 use Rattle.cyc_lex.specs.Word.{Word, word_of}
 use Rattle.cyc_grammar.specs.Giving.{Fails}
 use Rattle.cyc_grammar.specs.declared.cursor.Refusal.{Refusal}
 use Rattle.proof_syntax.specs.Grammar.{file}
-use Rattle.proof_file.specs.declared.building.FileFront.{FileFront}
 use Rattle.proof_file.specs.Flaws.{file_flaw}
 use Rattle.file_reader.specs.declared.first_node.Beginning.{Beginning}
 use Rattle.file_reader.specs.declared.front.Front.{Front}

@@ -1,21 +1,19 @@
 -- What stands before the nodes of a proof file, as it is read statement by statement.
-use Rattle.std.specs.Prelude.{◌≡◌, ℕ, ◌+◌, Bool, true, false, List, [], ◌∷◌, ◌++◌, length, map, Some, None, Result, Ok, Err, ◌⊎◌}
+use Rattle.std.specs.Prelude.{◌≡◌, ℕ, ◌+◌, Bool, true, false, List, [], ◌∷◌, ◌++◌, length, map, Result, Ok, Err, ◌⊎◌}
 use Rattle.std.proofs.Common.{inl, inr}
 use Rattle.cyc_lex.specs.Word.{Word}
 use Rattle.cyc_limits.specs.declared.TheConstants.{MOST_PURE}
-use Rattle.cyc_grammar.specs.Syntax.{Reading, read_whole}
+use Rattle.cyc_grammar.specs.Syntax.{Reading}
 use Rattle.cyc_grammar.specs.Giving.{Fails}
 use Rattle.cyc_grammar.specs.declared.cursor.Refusal.{Refusal}
 use Rattle.heap_syntax.specs.declared.keep.Keep.{Keep}
 use Rattle.heap_syntax.specs.declared.keep.Keep.TheVariants.{Beyond}
 use Rattle.heap_syntax.specs.declared.version.Version.{Version}
-use Rattle.heap_reader.specs.Trees.{Heading}
 use Rattle.heap_reader.specs.Spans.{total, line_span}
 use Rattle.proof_syntax.specs.Trees.{Definition, Line, Node, File, definition_of, node_of}
 use Rattle.proof_syntax.specs.Grammar.{node, file}
 use Rattle.proof_syntax.specs.Keeping.{definition_front, node_front}
-use Rattle.proof_statements.specs.Left.{Preds, Lines, Nodes, Reached, At, Left, left_of, statement_of, kept_statement, joined}
-use Rattle.proof_file.specs.Flaws.{node_flaw, file_flaw}
+use Rattle.proof_statements.specs.Left.{Preds, Lines, Nodes, Reached, At, Left, statement_of, kept_statement, joined}
 use Rattle.proof_file.specs.Spans.{definition_span, variable_span, node_span}
 use Rattle.file_reader.specs.declared.front.Front.{Front}
 use Rattle.file_reader.specs.Steps.{Leads, tree_of}

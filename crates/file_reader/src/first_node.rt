@@ -1,15 +1,10 @@
 //! A text up to its first node, and that too.
 
-ghost use Rattle.std.specs.Prelude.{◌≡◌, ◌+◌, ◌≤◌, ◌<◌, ◌^◌, [], IfOk, None, length, map};
+ghost use Rattle.std.specs.Prelude.{◌≡◌, ◌≤◌, ◌<◌, ◌^◌, [], IfOk, length, map};
 ghost use Rattle.cyc_lex.specs.Word.{word_of};
-ghost use Rattle.cyc_limits.specs.declared.TheConstants.{MOST_PREDICATES};
-ghost use Rattle.proof_syntax.specs.Grammar.{node};
-ghost use Rattle.proof_syntax.specs.Trees.{node_of};
 ghost use Rattle.proof_file.specs.Flaws.{headings, first_node};
-ghost use Rattle.proof_file.specs.Spans.{node_span};
 ghost use Rattle.file_reader.specs.Stretches.{IsStretch, tokens_of};
 ghost use Rattle.file_reader.specs.Fronts.{front_defs, IsBegun};
-ghost use Rattle.file_reader.specs.Knowns.{IsAdded};
 ghost use Rattle.file_reader.specs.Steps.{tree_of};
 ghost use Rattle.file_reader.specs.Beginnings.{IsOpened, IsOpen, IsBeginning, Begins};
 
@@ -22,7 +17,6 @@ use cyc_lex::{OutOfMemory, ReadFault};
 use heap_reader::Heads;
 use pred_reader::heads;
 use proof_file::{FileFront, front_flaw, front_values};
-use proof_syntax::NodeTree;
 use std::alloc::Global;
 
 /// What stands before the nodes of a text and what the first node says.
@@ -77,33 +71,16 @@ fn open(
     match front_flaw(heads, front.version, &front.definitions, &front.lines) {
         Some(flaw) => Ok(opened(alloc, front, Some(stretch.flaw(flaw)), None)),
         None => {
-            let values = front_values(alloc, heads, front.version, &front.definitions, &front.lines)?;
+            let values = front_values(
+                alloc,
+                heads,
+                front.version,
+                &front.definitions,
+                &front.lines,
+            )?;
             Ok(opened(alloc, front, None, Some(values)))
         }
     }
-}
-
-/// Adds what the first node says, where no flaw stands before it.
-fn add_first(
-    alloc: Global,
-    known: &Known,
-    heads: &Heads<'_>,
-    stretch: Stretch<'_>,
-    tree: &NodeTree<'_>,
-    found: &mut Found,
-) -> Result<(), OutOfMemory>
-    requires stretch { IsStretch stretch }
-    requires few { found.old.flaw ≡ None → length heads.now ≤ MOST_PREDICATES }
-    requires fits { node.fits (node_of tree.now) }
-    requires later { stretch.before ≤ found.old.tokens }
-    requires within { found.old.tokens + node_span (node_of tree.now) ≤ stretch.before + stretch.count }
-    ensures { IfOk result (λ _. IsAdded known.now heads.now stretch.entry.before (tokens_of stretch.entry) (node_of tree.now)
-        found.old found.new) }
-{
-    if found.flaw.is_some() {
-        return Ok(());
-    }
-    add_node(alloc, known, heads, stretch, tree, found)
 }
 
 /// What stands before the nodes and the first node say, which were read of the text up to the cursor.
@@ -120,7 +97,14 @@ fn begun(
 {
     let heads = heads(alloc, &front.definitions)?;
     let mut beginning = open(alloc, stretch, &heads, front)?;
-    add_first(alloc, &beginning.known, &heads, stretch, &front.first, &mut beginning.found)?;
+    add_node(
+        alloc,
+        &beginning.known,
+        &heads,
+        stretch,
+        &front.first,
+        &mut beginning.found,
+    )?;
     beginning.found.tokens = (stretch.count - cursor.left()) as u32;
     Ok(beginning)
 }

@@ -66,7 +66,7 @@ fn take_node(
     requires stretch { IsStretch stretch }
     requires heads { IsHeads known.now heads.now }
     requires steady { IsSteady known.now found.old }
-    requires cursor { cursor.entry ≡ map word_of (tokens_of stretch) }
+    requires cursor { cursor ≡ map word_of (tokens_of stretch) }
     requires here { stretch.before ≡ found.old.tokens }
     requires going { found.old.ended ≡ false }
     ensures { IfOk result (IsStep known.now (tokens_of stretch.entry) found.old found.new) }
@@ -100,7 +100,7 @@ fn take_step(
     requires stretch { IsStretch stretch }
     requires heads { IsHeads known.now heads.now }
     requires steady { IsSteady known.now found.old }
-    requires cursor { cursor.entry ≡ map word_of (tokens_of stretch) }
+    requires cursor { cursor ≡ map word_of (tokens_of stretch) }
     requires here { stretch.before ≡ found.old.tokens }
     ensures { IfOk result (IsStep known.now (tokens_of stretch.entry) found.old found.new) }
 {

@@ -8,8 +8,8 @@ use Rattle.proof_statements.specs.declared.tree.PredOrLater.TheVariants as parts
 use Rattle.proof_statements.specs.Left.{First}
 use Rattle.proof_statements.specs.Trees.{pred_or_later_of}
 use Rattle.file_reader.specs.declared.front.Front.{Front}
-use Rattle.file_reader.specs.Wholes.{kept_part, IsFront}
-use Rattle.file_reader.proofs.WholeLaws.{lead-none, step-fails, part-shrinks, part-fails, front-open, front-pred, front-line, front-node}
+use Rattle.file_reader.specs.Fronts.{kept_part, IsFront}
+use Rattle.file_reader.proofs.FrontLaws.{lead-none, step-fails, part-shrinks, part-fails, front-open, front-pred, front-line, front-node}
 use Rattle.file_reader.proofs.front.read_front.Goals as goal
 
 pub returns-in_err-version : goal.returns-in_err-version

@@ -1,6 +1,6 @@
 use Rattle.std.proofs.Common.{◌≡◌, length, map}
 use Rattle.proof_syntax.specs.Trees.{definition_of}
-use Rattle.file_reader.specs.Wholes.{IsFront}
+use Rattle.file_reader.specs.Fronts.{IsFront}
 use Rattle.file_reader.proofs.front.read_front.Given as goal
 
 abbrev pub invariant-parts : goal.invariant-parts
