@@ -1,5 +1,5 @@
 -- What a reader holds keeps what the text comes to.
-use Rattle.std.proofs.Common.{◌≡◌, ℕ, zero, suc, ◌+◌, ◌≤◌, ◌<◌, Bool, true, false, List, [], ◌++◌, length, Option, Some, None, refl, sym, ap, subst, ◌∙◌, arith, length-append, append_assoc, take}
+use Rattle.std.proofs.Common.{◌≡◌, ℕ, zero, suc, ◌+◌, ◌-◌, ◌^◌, ◌≤◌, ◌<◌, Bool, true, false, List, [], ◌∷◌, ◌++◌, length, Option, Some, None, Err, refl, sym, ap, subst, ◌∙◌, arith, length-append, append_assoc, take}
 use Rattle.std.specs.Prelude.{map}
 use Rattle.std.specs.Global.{Vec}
 use Rattle.std.specs.Str.{chars, encode_utf8_all, IsUtf8}
@@ -32,13 +32,14 @@ use Rattle.file_reader.specs.declared.nodes.Ran.{Ran}
 use Rattle.file_reader.specs.declared.passing.Passed.{Passed}
 use Rattle.file_reader.specs.Beginnings.{IsBeginning}
 use Rattle.file_reader.specs.Helds.{parts_of, IsAfter, IsKept, IsRunning, IsStopped}
-use Rattle.file_reader.specs.Knowns.{begun_in}
+use Rattle.file_reader.specs.Knowns.{begun_in, IsSteady}
 use Rattle.file_reader.specs.Outcomes.{Faulty as Bears, syntax_fault}
 use Rattle.file_reader.specs.Passing.{IsPassed}
 use Rattle.file_reader.specs.Pieces.{parts, bytes_fed, Comes, IsBad, IsOpen}
 use Rattle.file_reader.specs.Runs.{stage_in, IsRun}
 use Rattle.file_reader.specs.Stages.{Stage, Head, Nodes, Dead, Parts, outcome}
 use Rattle.file_reader.specs.Steps.{Takes}
+use Rattle.file_reader.specs.Stretches.{IsStretch}
 use Rattle.file_reader.proofs.PieceLaws.{tokens-taken, bad-place, statement-comes, statement-bad, bytes-bad}
 use Rattle.file_reader.proofs.StepLaws.{head-step, head-fault-step, dead-step, fault-within}
 
@@ -100,6 +101,13 @@ module _ (stage : Stage) (p q : Place) (c d : Bool) (v : Valid) (rest new : List
 
 -- ---- the first node
 
+pub front-stretch : (v : Valid) (s : Span) → IsUtf8 v.text.now → IsFront (reading start false v.text.now) s → length v.text.now + length v.tail.now < 2 ^ 32 - 1 → IsStretch (record { before = 0; place = start; comment = false; text = v.text; count = s.tokens })
+front-stretch v s utf8 h room = record {
+  room = record { offset = omega (arith, room); line = omega arith; column = omega arith };
+  within = h.within;
+  few = omega (arith, room, h.count, ap length (encodes-chars v.text.now utf8));
+}
+
 module _ (v : Valid) (s : Span) (utf8 : IsUtf8 v.text.now) (h : IsFront (reading start false v.text.now) s) (bytes : Vec ℕ) (is : bytes.items ≡ s.rest.now ++ v.tail.now) where
   abbrev us : List Placed
   us = front_tokens s.tokens (reading start false v.text.now)
@@ -118,7 +126,7 @@ module _ (v : Valid) (s : Span) (utf8 : IsUtf8 v.text.now) (h : IsFront (reading
       steady = begun.steady;
     };
     law = front-taken (Head []) start s.place false s.comment v s.rest.now bytes.items us utf8 h.utf8 h.taken is (Nodes (begun_in b.known b.found)) tt tt (subst (λ (ts : List Placed). Takes (Head []) ts (Nodes (begun_in b.known b.found))) all begun.takes);
-    count = front-count (Head []) start s.place false s.comment v s.rest.now bytes.items us utf8 h.utf8 h.taken is;
+    count = omega (arith, front-count (Head []) start s.place false s.comment v s.rest.now bytes.items us utf8 h.utf8 h.taken is);
   }
     where
       none : (ts : List Placed) → [] ≡ map word_of ts → ts ≡ []
@@ -136,7 +144,7 @@ module _ (v : Valid) (s : Span) (utf8 : IsUtf8 v.text.now) (h : IsFront (reading
   begins-faulty left fault enough some e told = record {
     held = (h.room.line, h.room.column);
     law = front-taken (Head []) start s.place false s.comment v s.rest.now bytes.items us utf8 h.utf8 h.taken is (Dead fault) tt tt (dead-takes left fault some e (sym told));
-    count = front-count (Head []) start s.place false s.comment v s.rest.now bytes.items us utf8 h.utf8 h.taken is;
+    count = omega (arith, front-count (Head []) start s.place false s.comment v s.rest.now bytes.items us utf8 h.utf8 h.taken is);
   }
 
 -- ---- nodes
@@ -150,8 +158,8 @@ module _ (r : Running) (v : Valid) (x : Ran) (f : Found) (bytes : List ℕ) (utf
       ap (λ (b : List ℕ). outcome (parts (Nodes (begun_in r.known r.found)) r.place r.comment b) more) (sym whole)
       ∙ front-taken (Nodes (begun_in r.known r.found)) r.place x.place r.comment x.comment v x.rest.now bytes h.tokens utf8 h.utf8 h.taken is after tt going takes more
 
-  count-to : x.place.offset + length bytes ≡ r.place.offset + length r.waiting.items
-  count-to = omega (arith, front-count (Nodes (begun_in r.known r.found)) r.place x.place r.comment x.comment v x.rest.now bytes h.tokens utf8 h.utf8 h.taken is, ap length whole)
+  pub runs-count : x.place.offset + length bytes ≡ r.place.offset + length r.waiting.items
+  runs-count = omega (arith, front-count (Nodes (begun_in r.known r.found)) r.place x.place r.comment x.comment v x.rest.now bytes h.tokens utf8 h.utf8 h.taken is, ap length whole)
 
   pub runs-on : (new : Held) → IsAfter r.known f x bytes new → IsKept old [] new
   runs-on (kinds.Opening o) a = absurd a
@@ -164,7 +172,7 @@ module _ (r : Running) (v : Valid) (x : Ran) (f : Found) (bytes : List ℕ) (utf
       steady = subst (λ (g : Found). IsSteady y.known g) (sym found) (subst (λ k. IsSteady k f) (sym a.1) h.steady);
     };
     law = λ more. law-to (Nodes (begun_in r.known f)) tt (subst (λ (d : Option ReadFault). Takes (Nodes (begun_in r.known r.found)) h.tokens (stage_in r.known f d)) a.0 h.takes) more ∙ (λ i. outcome (parts (Nodes (begun_in (sym a.1 i) (sym found i))) (sym place i) (sym a.4 i) (sym a.5 i)) more);
-    count = omega (arith, count-to, ap length a.5, ap (λ (p : Place). p.offset) place);
+    count = omega (arith, runs-count, ap length a.5, ap (λ (p : Place). p.offset) place);
   }
     where
       found : y.found ≡ f
@@ -175,7 +183,7 @@ module _ (r : Running) (v : Valid) (x : Ran) (f : Found) (bytes : List ℕ) (utf
   runs-on (kinds.Faulty y) a = record {
     held = (omega (arith, h.room.line, ap (λ (p : Place). p.line) a.1, ap (λ (p : Place). p.offset) a.1), omega (arith, h.room.column, ap (λ (p : Place). p.column) a.1, ap (λ (p : Place). p.offset) a.1));
     law = λ more. law-to (Dead y.fault) tt (subst (λ (d : Option ReadFault). Takes (Nodes (begun_in r.known r.found)) h.tokens (stage_in r.known f d)) a.0 h.takes) more ∙ (λ i. outcome (parts (Dead y.fault) (sym a.1 i) (sym a.2 i) (sym a.3 i)) more);
-    count = omega (arith, count-to, ap length a.3, ap (λ (p : Place). p.offset) a.1);
+    count = omega (arith, runs-count, ap length a.3, ap (λ (p : Place). p.offset) a.1);
   }
 
 -- ---- tokens that are passed

@@ -3,6 +3,7 @@ use Rattle.std.proofs.Common.{◌≡◌, ℕ, ◌+◌, ◌-◌, ◌≤◌, ◌<�
 use Rattle.std.specs.Prelude.{map}
 use Rattle.std.proofs.lemmas.List.{append-nil, length-drop, length-map, drop-drop, drop_at, take-append-drop}
 use Rattle.cyc_lex.specs.declared.fault.ReadFault.{ReadFault}
+use Rattle.cyc_lex.specs.Lexing.{start}
 use Rattle.cyc_lex.specs.Placed.{Placed}
 use Rattle.cyc_lex.specs.Word.{Word, word_of}
 use Rattle.cyc_grammar.specs.Syntax.{Reading, ◌>>=◌, all_taken, one, read_class}
@@ -12,6 +13,7 @@ use Rattle.cyc_grammar.specs.declared.cursor.Refusal.{Refusal}
 use Rattle.cyc_grammar.specs.declared.cursor.Refusal.TheVariants as refusals
 use Rattle.cyc_grammar.proofs.Laws.{one-law}
 use Rattle.cyc_grammar.proofs.ClassLaws.{the_end-law}
+use Rattle.piecewise_lex.specs.Feeding.{tokens_from}
 use Rattle.proof_syntax.specs.Trees.{Node, File}
 use Rattle.proof_syntax.specs.Grammar.{file, more_nodes}
 use Rattle.proof_syntax.proofs.GrammarLaws.{file-law}
@@ -20,14 +22,20 @@ use Rattle.proof_statements.proofs.LeftLaws.{statement-law}
 use Rattle.proof_file.specs.declared.building.FileFront.{FileFront}
 use Rattle.proof_file.specs.declared.file.ProofFile.{ProofFile}
 use Rattle.proof_file.specs.Building.{AreSaid}
+use Rattle.file_reader.specs.declared.first_node.Beginning.{Beginning}
+use Rattle.file_reader.specs.declared.held.Running.{Running}
+use Rattle.file_reader.specs.declared.held.Held.TheVariants as kinds
 use Rattle.file_reader.specs.declared.known.Known.{Known}
 use Rattle.file_reader.specs.declared.known.Found.{Found}
 use Rattle.file_reader.specs.declared.stretch.Stretch.{Stretch}
 use Rattle.file_reader.specs.Fronts.{kept}
 use Rattle.file_reader.specs.Knowns.{begun_in, IsTold, IsSteady}
-use Rattle.file_reader.specs.Lasts.{left_from, StandsIn, comes_to, DiesAt, AreRead}
+use Rattle.file_reader.specs.Beginnings.{IsBeginning}
+use Rattle.file_reader.specs.Helds.{parts_of}
+use Rattle.file_reader.specs.Lasts.{left_from, StandsIn, comes_to, DiesAt, AreRead, IsLastStretch, LastStretches}
 use Rattle.file_reader.specs.Outcomes.{Outcome, Faulty, or_else, settled, syntax_fault}
-use Rattle.file_reader.specs.Stages.{Nodes, nodes_left, nodes_outcome, said_with, ahead}
+use Rattle.file_reader.specs.Pieces.{Tells, parts, IsOpen}
+use Rattle.file_reader.specs.Stages.{Head, Nodes, Parts, behind, outcome, nodes_left, nodes_outcome, said_with, ahead}
 use Rattle.file_reader.specs.Steps.{tree_of}
 use Rattle.file_reader.specs.Stretches.{IsStretch, tokens_of}
 use Rattle.file_reader.proofs.KeptParts.{dead-kept}
@@ -162,6 +170,32 @@ module _ (k : Known) (s : Stretch) (h : IsStretch s) (f : Found) (ws : List Word
 
 pub dies-same : (s : Stretch) (a b : Outcome) (e : Refusal) → a ≡ b → DiesAt s b e → DiesAt s a e
 dies-same s a b e same h = subst (λ (o : Outcome). DiesAt s o e) (sym same) h
+
+-- ---- all tokens that are left of a text
+
+left-after : (s : Stretch) (n : ℕ) (front left : List Placed) → tokens_of s ≡ front ++ left → n ≡ s.before + length front → left ≡ left_from s n
+left-after s n front left all count = sym (ap (drop (n - s.before)) all ∙ drop_at front left (n - s.before) (omega (arith, count)))
+
+pub opening-stands : (bytes : List ℕ) (s : Stretch) (ws : List Word) (b : Beginning) → IsLastStretch start false bytes 0 s → IsBeginning (tokens_of s) ws b → StandsIn s b.found.tokens ws
+opening-stands bytes s ws b h begun = stands-after s b.found.tokens ws begun.taken begun.left h.stretch begun.all (omega (arith, begun.tokens, h.before)) begun.words
+
+pub opening-comes : (bytes : List ℕ) (s : Stretch) (ws : List Word) (b : Beginning) → IsLastStretch start false bytes 0 s → IsBeginning (tokens_of s) ws b → outcome (parts (Head []) start false bytes) [] ≡ comes_to b.known b.found s
+opening-comes bytes s ws b h begun =
+    ap (λ (w : List ℕ). behind (Head []) (tokens_from start false w)) (append-nil bytes)
+    ∙ ap (behind (Head [])) h.tokens
+    ∙ ap (ahead (Head [])) begun.all
+    ∙ begun.takes begun.left
+    ∙ ap (ahead (Nodes (begun_in b.known b.found))) (left-after s b.found.tokens begun.taken begun.left begun.all (omega (arith, begun.tokens, h.before)))
+
+pub running-comes : (r : Running) (s : Stretch) → IsLastStretch r.place r.comment r.waiting.items r.found.tokens s → outcome (parts_of (kinds.Running r)) [] ≡ comes_to r.known r.found s
+running-comes r s h =
+    ap (λ (w : List ℕ). behind (Nodes (begun_in r.known r.found)) (tokens_from r.place r.comment w)) (append-nil r.waiting.items)
+    ∙ ap (behind (Nodes (begun_in r.known r.found))) h.tokens
+    ∙ ap (ahead (Nodes (begun_in r.known r.found))) (left-after s r.found.tokens [] (tokens_of s) refl (omega (arith, h.before)))
+
+-- a first bad place
+pub stops-outcome : (s : Parts) (fault : ReadFault) → IsOpen s.stage → LastStretches s.place s.comment s.pending 0 (Err fault) → Tells (outcome s []) (Err fault)
+stops-outcome s fault going h = subst (λ (w : List ℕ). Tells (behind s.stage (tokens_from s.place s.comment w)) (Err fault)) (sym (append-nil s.pending)) (h s.stage going)
 
 -- ---- what the file says
 

@@ -7,6 +7,7 @@ pub mod PieceLaws
 pub mod Sizes
 mod SameBegun
 mod NodeLaws
+mod RunLaws
 mod KeptParts
 mod LexEnds
 mod HeldLaws

@@ -72,19 +72,24 @@ fn take_node(
     ensures { IfOk result (IsStep known.now (tokens_of stretch.entry) found.old found.new) }
 {
     let mut cursor = cursor;
-    match kept_node_or_end(alloc, KEPT, &mut cursor) {
-        Ok(_) if cursor.left() > 0 => Ok(Step::Open),
-        Ok(NodeOrEnd::Node(tree)) => {
+    let statement = match kept_node_or_end(alloc, KEPT, &mut cursor) {
+        Ok(statement) => statement,
+        Err(refusal) => return refused(refusal),
+    };
+    if cursor.left() > 0 {
+        return Ok(Step::Open);
+    }
+    match statement {
+        NodeOrEnd::Node(tree) => {
             add_node(alloc, known, heads, stretch, &tree, found)?;
             found.tokens += stretch.count as u32;
             Ok(Step::Taken)
         }
-        Ok(NodeOrEnd::End) => {
+        NodeOrEnd::End => {
             found.tokens += stretch.count as u32;
             found.ended = true;
             Ok(Step::Taken)
         }
-        Err(refusal) => refused(refusal),
     }
 }
 

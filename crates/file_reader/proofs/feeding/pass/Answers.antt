@@ -2,18 +2,19 @@ use Rattle.std.proofs.Common.{List, [], ℕ, ◌+◌, ◌++◌, ap, subst, ◌�
 use Rattle.piecewise_lex.specs.Valid.{IsValid}
 use Rattle.file_reader.specs.declared.held.Held.TheVariants as kinds
 use Rattle.file_reader.specs.Helds.{parts_of, IsKept, IsStopped}
-use Rattle.file_reader.proofs.HeldLaws.{faulty-first, faulty-text, faulty-passes}
+use Rattle.file_reader.proofs.HeldLaws.{bad-first, bad-text, faulty-passes}
 use Rattle.file_reader.proofs.feeding.pass.Goals as goal
 use Rattle.std.proofs.lemmas.Result.{IfOk-weaker}
 
 pub returns-then-not-valid : goal.returns-then-not-valid
 returns-then-not-valid c =
     let f = c.args.faulty in
+    let old = parts_of (kinds.Faulty f) in
     let v = c.valid_front-valid.result in
     let fed = f.place.offset + c.len.result in
     let valid = subst (λ (b : List ℕ). IsValid b v) c.deref.ensures.value c.valid_front-valid.ensures in
-    IfOk-weaker c.stopped.result (IsStopped c.first_bad.result fed) (IsKept (parts_of (kinds.Faulty f)) [])
-    (λ new h. faulty-first f v c.first_bad.result fed new valid c.if-not-valid.true (omega (arith, c.len.ensures)) c.first_bad.ensures h) c.stopped.ensures
+    IfOk-weaker c.stopped.result (IsStopped c.first_bad.result fed) (IsKept old [])
+    (λ new h. bad-first old tt v valid fed (omega (arith, c.len.ensures)) new c.first_bad.result c.if-not-valid.true c.first_bad.ensures h) c.stopped.ensures
 
 pub returns-in-Ok : goal.returns-in-Ok
 returns-in-Ok c =
@@ -24,8 +25,9 @@ returns-in-Ok c =
 pub returns : goal.returns
 returns c =
     let f = c.args.faulty in
+    let old = parts_of (kinds.Faulty f) in
     let v = c.valid_front-valid.result in
     let fed = f.place.offset + c.len.result in
     let valid = subst (λ (b : List ℕ). IsValid b v) c.deref.ensures.value c.valid_front-valid.ensures in
-    IfOk-weaker c.stopped-in-Err.result (IsStopped c.in-Err.stop fed) (IsKept (parts_of (kinds.Faulty f)) [])
-    (λ new h. faulty-text f v c.in-Err.stop fed new valid c.if-not-valid.false (omega (arith, c.len.ensures)) c.in-Err.ensures h) c.stopped-in-Err.ensures
+    IfOk-weaker c.stopped-in-Err.result (IsStopped c.in-Err.stop fed) (IsKept old [])
+    (λ new h. bad-text old tt v valid fed (omega (arith, c.len.ensures)) new c.in-Err.stop c.if-not-valid.false c.in-Err.ensures h) c.stopped-in-Err.ensures
