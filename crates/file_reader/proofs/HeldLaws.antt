@@ -1,9 +1,9 @@
 -- What a reader holds keeps what the text comes to.
-use Rattle.std.proofs.Common.{◌≡◌, ℕ, zero, suc, ◌+◌, ◌-◌, ◌^◌, ◌≤◌, ◌<◌, Bool, true, false, List, [], ◌∷◌, ◌++◌, length, Option, Some, None, Err, refl, sym, ap, subst, ◌∙◌, arith, length-append, append_assoc, take}
+use Rattle.std.proofs.Common.{◌≡◌, ℕ, zero, suc, ◌+◌, ◌-◌, ◌^◌, ◌<◌, Bool, true, false, List, [], ◌∷◌, ◌++◌, length, Option, Err, refl, sym, ap, subst, ◌∙◌, arith, length-append, append_assoc}
 use Rattle.std.specs.Prelude.{map}
 use Rattle.std.specs.Global.{Vec}
-use Rattle.std.specs.Str.{chars, encode_utf8_all, IsUtf8}
-use Rattle.std.proofs.lemmas.List.{append-nil, length-map, length-take-le}
+use Rattle.std.specs.Str.{chars, IsUtf8}
+use Rattle.std.proofs.lemmas.List.{append-nil}
 use Rattle.std.proofs.lemmas.Str.{encodes-chars}
 use Rattle.cyc_lex.specs.declared.fault.ReadFault.{ReadFault}
 use Rattle.cyc_lex.specs.declared.place.Bad.{Bad}
@@ -11,7 +11,7 @@ use Rattle.cyc_lex.specs.declared.place.Place.{Place}
 use Rattle.cyc_lex.specs.declared.place.Stop.{Stop}
 use Rattle.cyc_lex.specs.declared.place.Stop.TheVariants as stops
 use Rattle.cyc_lex.specs.Answer.{fault_of}
-use Rattle.cyc_lex.specs.Lexing.{HasRoom, Stops, start, lex, comment_len, with_tokens}
+use Rattle.cyc_lex.specs.Lexing.{Stops, start, lex, comment_len, with_tokens}
 use Rattle.cyc_lex.specs.Placed.{Placed}
 use Rattle.cyc_lex.specs.Word.{word_of}
 use Rattle.piecewise_lex.specs.declared.spans.Span.{Span}
@@ -31,7 +31,7 @@ use Rattle.file_reader.specs.declared.known.Found.{Found}
 use Rattle.file_reader.specs.declared.nodes.Ran.{Ran}
 use Rattle.file_reader.specs.declared.passing.Passed.{Passed}
 use Rattle.file_reader.specs.Beginnings.{IsBeginning}
-use Rattle.file_reader.specs.Helds.{parts_of, IsAfter, IsKept, IsRunning, IsStopped}
+use Rattle.file_reader.specs.Helds.{parts_of, IsAfter, IsKept, IsStopped}
 use Rattle.file_reader.specs.Knowns.{begun_in, IsSteady}
 use Rattle.file_reader.specs.Outcomes.{Faulty as Bears, syntax_fault}
 use Rattle.file_reader.specs.Passing.{IsPassed}
@@ -41,7 +41,8 @@ use Rattle.file_reader.specs.Stages.{Stage, Head, Nodes, Dead, Parts, outcome}
 use Rattle.file_reader.specs.Steps.{Takes}
 use Rattle.file_reader.specs.Stretches.{IsStretch}
 use Rattle.file_reader.proofs.PieceLaws.{tokens-taken, bad-place, statement-comes, statement-bad, bytes-bad}
-use Rattle.file_reader.proofs.StepLaws.{head-step, head-fault-step, dead-step, fault-within}
+use Rattle.file_reader.proofs.RunLaws.{span-size}
+use Rattle.file_reader.proofs.StepLaws.{head-step, head-fault-step, dead-step}
 
 -- ---- bytes that were fed
 
@@ -115,8 +116,8 @@ module _ (v : Valid) (s : Span) (utf8 : IsUtf8 v.text.now) (h : IsFront (reading
   abbrev before : Parts
   before = parts (Head []) start false (v.text.now ++ v.tail.now)
 
-  pub front-size : length us ≡ s.tokens
-  front-size = length-take-le s.tokens _ h.within
+  front-size : length us ≡ s.tokens
+  front-size = span-size (reading start false v.text.now) s h
 
   pub begins-running : (b : Beginning) (enough : ℕ) → IsBeginning us [] b → IsKept before [] (kinds.Running (record { known = b.known; found = b.found; place = s.place; comment = s.comment; waiting = bytes; enough = enough }))
   begins-running b enough begun = record {

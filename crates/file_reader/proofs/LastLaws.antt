@@ -1,5 +1,5 @@
 -- The last statements of a text, and its end.
-use Rattle.std.proofs.Common.{◌≡◌, ℕ, ◌+◌, ◌-◌, ◌≤◌, ◌<◌, Bool, true, false, List, [], ◌∷◌, ◌++◌, length, take, drop, Some, None, Option, Result, Ok, Err, refl, sym, ap, subst, ◌∙◌, arith, length-append, length-take-le, inl, inr, ◌⊎◌}
+use Rattle.std.proofs.Common.{◌≡◌, ℕ, ◌+◌, ◌-◌, ◌≤◌, ◌<◌, Bool, true, false, List, [], ◌∷◌, ◌++◌, length, take, drop, Some, None, Option, Result, Ok, Err, refl, sym, ap, subst, ◌∙◌, arith, length-append, length-take-le, ◌⊎◌}
 use Rattle.std.specs.Prelude.{map}
 use Rattle.std.proofs.lemmas.List.{append-nil, length-drop, length-map, drop-drop, drop_at, take-append-drop}
 use Rattle.cyc_lex.specs.declared.fault.ReadFault.{ReadFault}
@@ -20,7 +20,6 @@ use Rattle.proof_syntax.proofs.GrammarLaws.{file-law}
 use Rattle.proof_statements.specs.Left.{Nodes as Among, At, left_of, statement_of, kept_statement, joined}
 use Rattle.proof_statements.proofs.LeftLaws.{statement-law}
 use Rattle.proof_file.specs.declared.building.FileFront.{FileFront}
-use Rattle.proof_file.specs.declared.file.ProofFile.{ProofFile}
 use Rattle.proof_file.specs.Building.{AreSaid}
 use Rattle.file_reader.specs.declared.first_node.Beginning.{Beginning}
 use Rattle.file_reader.specs.declared.held.Running.{Running}
@@ -29,7 +28,7 @@ use Rattle.file_reader.specs.declared.known.Known.{Known}
 use Rattle.file_reader.specs.declared.known.Found.{Found}
 use Rattle.file_reader.specs.declared.stretch.Stretch.{Stretch}
 use Rattle.file_reader.specs.Fronts.{kept}
-use Rattle.file_reader.specs.Knowns.{begun_in, IsTold, IsSteady}
+use Rattle.file_reader.specs.Knowns.{begun_in, IsTold}
 use Rattle.file_reader.specs.Beginnings.{IsBeginning}
 use Rattle.file_reader.specs.Helds.{parts_of}
 use Rattle.file_reader.specs.Lasts.{left_from, StandsIn, comes_to, DiesAt, AreRead, IsLastStretch, LastStretches}
@@ -40,7 +39,6 @@ use Rattle.file_reader.specs.Steps.{tree_of}
 use Rattle.file_reader.specs.Stretches.{IsStretch, tokens_of}
 use Rattle.file_reader.proofs.KeptParts.{dead-kept}
 use Rattle.file_reader.proofs.NodeLaws.{NodeTaken}
-use Rattle.file_reader.proofs.Sizes.{end-says}
 use Rattle.file_reader.proofs.StatementLaws.{left-dead}
 use Rattle.file_reader.proofs.StepLaws.{nodes-lawful, fault-within}
 use Rattle.file_reader.proofs.Tokens.{syntax-later}
@@ -212,11 +210,15 @@ module _ (k : Known) (f : Found) (t : IsTold k f) where
 
   pub told-said : (front : FileFront) → k.front ≡ Some front → AreSaid k.version front.defs front.program f.nodes.items
   told-said front is =
-      let same : t.values.front ≡ front = cc in
-      (tree, fits, t.clean, record {
-        version = refl;
-        most = ap (λ (x : FileFront). x.defs.most) (sym same) ∙ t.values.most;
-        definitions = ap (λ (x : FileFront). x.defs.list) (sym same) ∙ t.values.definitions;
-        program = ap (λ (x : FileFront). x.program) (sym same) ∙ t.values.program;
-        nodes = t.nodes;
-      })
+      let same : t.values.front ≡ front = cc in (
+        tree,
+        fits,
+        t.clean,
+        record {
+          version = refl;
+          most = ap (λ (x : FileFront). x.defs.most) (sym same) ∙ t.values.most;
+          definitions = ap (λ (x : FileFront). x.defs.list) (sym same) ∙ t.values.definitions;
+          program = ap (λ (x : FileFront). x.program) (sym same) ∙ t.values.program;
+          nodes = t.nodes;
+        },
+      )

@@ -1,5 +1,5 @@
 -- The tokens of any text, from any place on: they are lexemes and then the end, and no more than its bytes and one.
-use Rattle.std.proofs.Common.{◌≡◌, ℕ, zero, suc, ◌+◌, ◌≤◌, Bool, true, false, List, [], ◌∷◌, ◌++◌, length, take, refl, ap, sym, subst, arith, inl, inr, length-append}
+use Rattle.std.proofs.Common.{◌≡◌, ℕ, zero, suc, ◌+◌, ◌≤◌, true, List, [], ◌∷◌, length, take, refl, ap, sym, subst, arith, inl, inr, length-append}
 use Rattle.std.specs.Prelude.{map}
 use Rattle.std.specs.Str.{encode_utf8_all, all_scalars}
 use Rattle.std.specs.Char.{encode_utf8}

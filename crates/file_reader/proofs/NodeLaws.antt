@@ -1,5 +1,5 @@
 -- Nodes as they come.
-use Rattle.std.proofs.Common.{◌≡◌, ℕ, suc, ◌+◌, ◌-◌, ◌≤◌, ◌<◌, Bool, true, false, List, [], ◌∷◌, ◌++◌, length, take, drop, Option, Some, None, Ok, refl, sym, ap, subst, ◌∙◌, arith, length-append, append_assoc, inl, inr}
+use Rattle.std.proofs.Common.{◌≡◌, ℕ, suc, ◌+◌, ◌-◌, ◌≤◌, ◌<◌, true, false, List, [], ◌∷◌, ◌++◌, length, take, drop, Option, Some, None, Ok, refl, sym, ap, subst, ◌∙◌, arith, length-append, append_assoc, inl, inr}
 use Rattle.std.specs.Prelude.{map, slice_get}
 use Rattle.std.proofs.lemmas.List.{append-nil, take-append-drop, take-map, drop-map, take_at, drop_at, length-map, map_push, map-append}
 use Rattle.cyc_lex.specs.declared.fault.ReadFault.{ReadFault}
@@ -30,7 +30,7 @@ use Rattle.file_reader.specs.Fronts.{kept}
 use Rattle.file_reader.specs.Knowns.{def_heading, defs_in, program_in, begun_in, IsHeads, HasValues, IsTold, IsSteady, IsAdded}
 use Rattle.file_reader.proofs.After.{After, node_after}
 use Rattle.file_reader.proofs.Beginning.{lead-more, file-flaws}
-use Rattle.file_reader.proofs.KeptParts.{later-kept, end-kept, dead-kept, same-flaw, same-node}
+use Rattle.file_reader.proofs.KeptParts.{later-kept, end-kept, same-flaw, same-node}
 use Rattle.file_reader.proofs.SameBegun.{begun-same}
 use Rattle.file_reader.proofs.Sizes.{statement-words}
 use Rattle.file_reader.proofs.StatementLaws.{statement-size}

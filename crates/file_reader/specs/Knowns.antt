@@ -1,5 +1,5 @@
 -- What a reader holds of a proof file from the first node on.
-use Rattle.std.specs.Prelude.{◌≡◌, ℕ, ◌+◌, ◌≤◌, Bool, false, List, [], ◌∷◌, ◌++◌, length, map, Option, Some, None}
+use Rattle.std.specs.Prelude.{◌≡◌, ℕ, ◌≤◌, false, List, [], ◌∷◌, ◌++◌, length, map, Option, Some, None}
 use Rattle.cyc_lex.specs.Placed.{Placed}
 use Rattle.cyc_limits.specs.declared.TheConstants.{MOST_PREDICATES}
 use Rattle.heap_syntax.specs.Versions.{most_spatial}

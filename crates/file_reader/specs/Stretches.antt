@@ -1,5 +1,5 @@
 -- Tokens of a text that stand next to one another.
-use Rattle.std.specs.Prelude.{ℕ, ◌+◌, ◌<◌, ◌≤◌, ◌^◌, List, length, take}
+use Rattle.std.specs.Prelude.{◌+◌, ◌<◌, ◌≤◌, ◌^◌, List, length, take}
 use Rattle.cyc_lex.specs.Lexing.{HasRoom}
 use Rattle.cyc_lex.specs.Cutting.{cut_text}
 use Rattle.cyc_lex.specs.Placed.{Placed}

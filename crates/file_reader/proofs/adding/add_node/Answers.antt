@@ -1,4 +1,4 @@
-use Rattle.std.proofs.Common.{◌≡◌, ◌≤◌, ◌+◌, ◌<◌, Some, Err, subst, arith}
+use Rattle.std.proofs.Common.{◌≡◌, ◌+◌, Some, Err, subst, arith}
 use Rattle.heap_syntax.specs.Versions.{most_spatial}
 use Rattle.heap_reader.proofs.WithinSpans.{flaw_within}
 use Rattle.proof_syntax.specs.Trees.{node_of}

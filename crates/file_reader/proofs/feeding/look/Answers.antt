@@ -1,4 +1,4 @@
-use Rattle.std.proofs.Common.{List, [], ℕ, ◌+◌, ◌++◌, length, ap, subst, sym, ◌∙◌, arith, length-append}
+use Rattle.std.proofs.Common.{List, [], ℕ, ◌+◌, ◌++◌, ap, subst, ◌∙◌, arith}
 use Rattle.std.proofs.lemmas.Result.{IfOk-weaker}
 use Rattle.piecewise_lex.specs.Valid.{IsValid}
 use Rattle.file_reader.specs.declared.held.Held.TheVariants as kinds

@@ -1,4 +1,4 @@
-use Rattle.std.proofs.Common.{◌≡◌, ◌≤◌, ◌<◌, false, List, [], ℕ, ◌++◌, length, map, sym, ap, subst, ◌∙◌, arith}
+use Rattle.std.proofs.Common.{◌≡◌, ◌≤◌, false, List, [], ℕ, ◌++◌, map, sym, ap, subst, ◌∙◌, arith}
 use Rattle.std.proofs.lemmas.List.{length-map, nil_from_length}
 use Rattle.cyc_lex.specs.Lexing.{start}
 use Rattle.cyc_lex.specs.Word.{Word, word_of}
@@ -9,8 +9,9 @@ use Rattle.piecewise_lex.specs.Taking.{reading}
 use Rattle.proof_syntax.specs.Grammar.{file}
 use Rattle.proof_syntax.proofs.GrammarLaws.{file-law}
 use Rattle.file_reader.specs.Beginnings.{IsBeginning}
-use Rattle.file_reader.proofs.HeldLaws.{front-stretch, front-size, begins-running, begins-faulty}
-use Rattle.file_reader.proofs.RunLaws.{tokens-of-lexemes}
+use Rattle.file_reader.specs.Outcomes.{syntax_fault}
+use Rattle.file_reader.proofs.HeldLaws.{front-stretch, begins-running, begins-faulty}
+use Rattle.file_reader.proofs.RunLaws.{tokens-of-lexemes, span-size}
 use Rattle.file_reader.proofs.StepLaws.{fault-within}
 use Rattle.file_reader.proofs.feeding.opened.Goals as goal
 
@@ -31,7 +32,7 @@ dead-requires-clause-within c =
     let ts = front_tokens c.args.span.tokens (reading start false c.args.valid.text.now) in
     let e = subst (λ (r : Refusal). Fails r (file.read (map word_of ts))) c.in-Err-Dead.field-0-is c.in-Err-Dead.ensures in
     let within = fault-within file file-law (map word_of ts) c.in-Err-Dead.left e in
-    subst (λ (n : ℕ). n ≤ c.args.span.tokens) (sym c.in-Err-Dead.left-is) (omega (arith, within, length-map ts word_of, front-size c.args.valid c.args.span c.requires.utf8 c.requires.passed))
+    subst (λ (n : ℕ). n ≤ c.args.span.tokens) (sym c.in-Err-Dead.left-is) (omega (arith, within, length-map ts word_of, span-size (reading start false c.args.valid.text.now) c.args.span c.requires.passed))
 
 pub returns-in_ok-joined-in-Ok : goal.returns-in_ok-joined-in-Ok
 returns-in_ok-joined-in-Ok c =
@@ -47,4 +48,4 @@ returns-in_ok-joined-in-Err-Dead c =
     let ts = front_tokens c.args.span.tokens (reading start false v.text.now) in
     let e = subst (λ (r : Refusal). Fails r (file.read (map word_of ts))) c.in-Err-Dead.field-0-is c.in-Err-Dead.ensures in
     begins-faulty v c.args.span c.requires.utf8 c.requires.passed c.in_ok-joined-in-Err-Dead.field-0 (c.in_ok-joined-in-Err-Dead.ensures ∙ ap (λ (b : List ℕ). b ++ v.tail.now) c.as_bytes-in-Err-Dead.ensures.value) c.in-Err-Dead.left c.dead.result 0
-    (omega (arith, c.if-left-eq0.false)) e ?
+    (omega (arith, c.if-left-eq0.false, c.in-Err-Dead.left-is)) e (c.dead.ensures ∙ ap (λ (n : ℕ). syntax_fault 0 ts n) c.in-Err-Dead.left-is)

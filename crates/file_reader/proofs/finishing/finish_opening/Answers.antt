@@ -1,4 +1,4 @@
-use Rattle.std.proofs.Common.{◌≡◌, ◌≤◌, false, List, ℕ, length, map, sym, subst, arith}
+use Rattle.std.proofs.Common.{◌≤◌, false, List, ℕ, map, sym, subst, arith}
 use Rattle.std.proofs.lemmas.List.{length-map}
 use Rattle.cyc_lex.specs.Lexing.{start}
 use Rattle.cyc_lex.specs.Word.{word_of}

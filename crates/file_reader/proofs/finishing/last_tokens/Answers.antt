@@ -1,4 +1,4 @@
-use Rattle.std.proofs.Common.{List, [], ◌++◌, ◌≡◌, ℕ, sym, refl, subst, ◌∙◌, eqb-true}
+use Rattle.std.proofs.Common.{[], ◌≡◌, sym, refl, subst, ◌∙◌, eqb-true}
 use Rattle.std.proofs.lemmas.List.{nil_from_length}
 use Rattle.cyc_lex.specs.Lexing.{Stops}
 use Rattle.file_reader.specs.declared.stretch.Stretch.{Stretch}

@@ -1,4 +1,4 @@
-use Rattle.std.proofs.Common.{◌≡◌, ◌+◌, ◌-◌, true, length, Ok, inl, inr, arith, ap, ◌∙◌, sym, subst, refl}
+use Rattle.std.proofs.Common.{◌≡◌, ◌+◌, ◌-◌, true, Ok, arith, ◌∙◌, subst, refl}
 use Rattle.std.proofs.lemmas.Result.{err_from_is_err_and}
 use Rattle.proof_syntax.specs.Trees.{node_of}
 use Rattle.proof_statements.specs.declared.tree.NodeOrEnd.{NodeOrEnd}

@@ -1,4 +1,3 @@
-use Rattle.proof_file.specs.Building.{AreSaid}
 use Rattle.file_reader.proofs.LastLaws.{told-said}
 use Rattle.file_reader.proofs.last.said.Goals as goal
 
