@@ -1,5 +1,5 @@
 -- A reader that was fed nothing stands for what is read of the bytes that it will be fed.
-use Rattle.std.proofs.Common.{◌≡◌, ℕ, ◌+◌, ◌-◌, ◌≤◌, List, [], length, take, false, Some, None, Result, Ok, Err, refl, sym, ap, subst, ◌∙◌, arith, inl, inr, ◌⊎◌}
+use Rattle.std.proofs.Common.{◌≡◌, ℕ, ◌+◌, ◌-◌, List, [], length, take, Some, None, Result, Ok, Err, refl, sym, ap, subst, ◌∙◌, arith, inl, inr, ◌⊎◌}
 use Rattle.std.specs.Prelude.{map, slice_get}
 use Rattle.std.specs.Str.{chars, IsUtf8, IsValidUpTo}
 use Rattle.std.specs.Str.Lossy.{utf8_valid_len}
@@ -58,19 +58,6 @@ tokens-end bytes ts e = by (valid-cases bytes)
     by (inr v) =
         let n = utf8_valid_len bytes in
         (unknown {X = List Placed} (λ x. x) bytes (take n bytes) (Ok ts) (ap (λ b. lex b start 0 (chars (take n bytes))) (whole-not bytes n refl v.short) ∙ e)).words
-
-pub tokens-few : (bytes : List ℕ) (ts : List Placed) → tokens_of bytes ≡ Ok ts → length ts ≤ length bytes + 1
-tokens-few bytes ts e = by (valid-cases bytes)
-  where
-    by : IsUtf8 bytes ⊎ IsValidUpTo bytes (utf8_valid_len bytes) → length ts ≤ length bytes + 1
-    by (inl u) = (known {X = List Placed} (λ x. x) bytes bytes (Ok ts) refl u (whole-text bytes bytes refl u ∙ e)).few
-    by (inr v) =
-        let n = utf8_valid_len bytes in
-        (unknown {X = List Placed} (λ x. x) bytes (take n bytes) (Ok ts) (ap (λ b. lex b start 0 (chars (take n bytes))) (whole-not bytes n refl v.short) ∙ e)).few
-
-pub from-start : (bytes : List ℕ) → tokens_from start false bytes ≡ tokens_of bytes
-unfolding tokens_from comment_len valid_chars
-from-start bytes = refl
 
 -- ---- faults, as they are told
 

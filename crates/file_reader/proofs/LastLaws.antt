@@ -48,17 +48,6 @@ use Rattle.file_reader.proofs.Tokens.{syntax-later}
 pub stretch-size : (s : Stretch) → IsStretch s → length (tokens_of s) ≡ s.count
 stretch-size s h = length-take-le s.count _ h.within
 
--- at the first of the tokens
-pub stands-first : (s : Stretch) (n : ℕ) (ws : List Word) → n ≡ s.before → ws ≡ map word_of (tokens_of s) → StandsIn s n ws
-stands-first s n ws here words = record {
-  later = omega (arith, here);
-  within = omega (arith, here);
-  words = words ∙ ap (λ (k : ℕ). map word_of (drop k (tokens_of s))) (none (n - s.before) (omega (arith, here)));
-}
-  where
-    none : (k : ℕ) → k ≡ 0 → 0 ≡ k
-    none k e = sym e
-
 -- after others
 pub stands-after : (s : Stretch) (n : ℕ) (ws : List Word) (front left : List Placed) → IsStretch s → tokens_of s ≡ front ++ left → n ≡ s.before + length front → ws ≡ map word_of left → StandsIn s n ws
 stands-after s n ws front left h all count words = record {

@@ -7,10 +7,7 @@ use Rattle.proof_statements.proofs.LeftLaws.{begins-with, statement-law}
 use Rattle.file_reader.specs.Steps.{span_of}
 use Rattle.file_reader.proofs.Sizes.{statement-words}
 
--- what is left is read as a statement, and then as what is left after that
-pub left-step : (p : Part) (vs rest : List Word) (t : Statement p) → (statement_of p).read vs ≡ Ok (t, rest) → (left_of (At p)).read vs ≡ joined (join p t) ((left_of (next p t)).read rest)
-left-step p vs rest t e = begins-with p vs ∙ ap (λ (q : Reading (Statement p)). q >>= λ x. joined (join p x.0) ((left_of (next p x.0)).read x.1)) e
-
+-- a statement that is not read
 pub left-dead : (p : Part) (vs : List Word) (left : ℕ) → (statement_of p).read vs ≡ Err left → (left_of (At p)).read vs ≡ Err left
 left-dead p vs left e = begins-with p vs ∙ ap (λ (q : Reading (Statement p)). q >>= λ x. joined (join p x.0) ((left_of (next p x.0)).read x.1)) e
 
