@@ -33,6 +33,7 @@ use Rattle.file_reader.specs.Steps.{Takes}
 use Rattle.file_reader.specs.Fronts.{kept}
 use Rattle.file_reader.specs.Knowns.{begun_in, IsSteady}
 use Rattle.file_reader.specs.Runs.{IsStep, IsStepTaken, IsStepDead, IsRefused, IsRun}
+use Rattle.file_reader.specs.Stretches.{IsStretch}
 use Rattle.file_reader.proofs.KeptParts.{dead-kept}
 use Rattle.file_reader.proofs.NodeLaws.{NodeTaken}
 use Rattle.file_reader.proofs.StepLaws.{fault-within, node-fault-step, ended-step}
@@ -162,7 +163,7 @@ module _ (p : Place) (comment : Bool) (text : List ℕ) (k : Known) (old : Found
     pub span-bytes : s.tokens + length s.rest.now ≤ length rest
     span-bytes = omega (arith, f.count, ap length (encodes-chars rest h.utf8))
 
-    pub span-few : mid.tokens + s.tokens < 2 ^ 32
+    span-few : mid.tokens + s.tokens < 2 ^ 32
     span-few = omega (arith, h.few, span-bytes, h.room.offset)
 
     taken-on : HasTaken (reading p comment text) (h.tokens ++ us) (reading s.place s.comment s.rest.now)
@@ -189,3 +190,7 @@ module _ (p : Place) (comment : Bool) (text : List ℕ) (k : Known) (old : Found
       takes = subst (λ (e : ReadFault). Takes (Nodes (begun_in k old)) (h.tokens ++ us) (Dead e)) (sym is) (takes-more (Nodes (begun_in k old)) (Nodes (begun_in k mid)) (Dead (syntax_fault mid.tokens us left)) h.tokens us h.takes step.takes);
       steady = subst (λ (x : Found). IsSteady k x) (sym step.same) h.steady;
     }
+
+  -- the tokens of the next statement
+  pub run-stretch : (mid : Found) (q : Place) (d : Bool) (rest : Bor (List ℕ)) (h : SoFar p comment text k old mid q d rest.now) (s : Span) → IsFront (reading q d rest.now) s → IsStretch (record { before = mid.tokens; place = q; comment = d; text = rest; count = s.tokens })
+  run-stretch mid q d rest h s f = record { room = h.room; within = f.within; few = span-few mid q d rest.now h s f }

@@ -5,7 +5,7 @@ use Rattle.piecewise_lex.specs.Spans.{front_tokens}
 use Rattle.piecewise_lex.specs.Taking.{reading}
 use Rattle.piecewise_lex.proofs.TakingLaws.{taken-stops}
 use Rattle.file_reader.specs.Runs.{IsStep}
-use Rattle.file_reader.proofs.RunLaws.{tokens-of-lexemes, ended-some, span-size, run-none, run-told, span-bytes, span-few, run-on, run-dies}
+use Rattle.file_reader.proofs.RunLaws.{tokens-of-lexemes, ended-some, span-size, run-none, run-told, run-stretch, span-bytes, run-on, run-dies}
 use Rattle.file_reader.proofs.nodes.read_nodes.Goals as goal
 
 pub statements-init : goal.statements-init
@@ -20,12 +20,7 @@ returns-in_err-span c =
 pub cursor_of-cursor-requires-clause-stretch : goal.cursor_of-cursor-requires-clause-stretch
 cursor_of-cursor-requires-clause-stretch c =
     let l = c.statements in
-    let f = c.in_ok-span.ensures.taken.front in
-    record {
-      room = l.invariant.room;
-      within = f.within;
-      few = span-few c.args.place c.args.comment c.args.text.now c.args.known.now c.args.found.now l.found l.place l.comment l.rest.now l.invariant c.in_ok-span.span f;
-    }
+    run-stretch c.args.place c.args.comment c.args.text.now c.args.known.now c.args.found.now l.found l.place l.comment l.rest l.invariant c.in_ok-span.span c.in_ok-span.ensures.taken.front
 
 pub cursor_of-cursor-requires-clause-tokens : goal.cursor_of-cursor-requires-clause-tokens
 cursor_of-cursor-requires-clause-tokens c =
@@ -36,22 +31,12 @@ cursor_of-cursor-requires-clause-tokens c =
 pub take_step-requires-clause-stretch : goal.take_step-requires-clause-stretch
 take_step-requires-clause-stretch c =
     let l = c.statements in
-    let f = c.in_ok-span.ensures.taken.front in
-    record {
-      room = l.invariant.room;
-      within = f.within;
-      few = span-few c.args.place c.args.comment c.args.text.now c.args.known.now c.args.found.now l.found l.place l.comment l.rest.now l.invariant c.in_ok-span.span f;
-    }
+    run-stretch c.args.place c.args.comment c.args.text.now c.args.known.now c.args.found.now l.found l.place l.comment l.rest l.invariant c.in_ok-span.span c.in_ok-span.ensures.taken.front
 
 pub dead-requires-clause-stretch : goal.dead-requires-clause-stretch
 dead-requires-clause-stretch c =
     let l = c.statements in
-    let f = c.in_ok-span.ensures.taken.front in
-    record {
-      room = l.invariant.room;
-      within = f.within;
-      few = span-few c.args.place c.args.comment c.args.text.now c.args.known.now c.args.found.now l.found l.place l.comment l.rest.now l.invariant c.in_ok-span.span f;
-    }
+    run-stretch c.args.place c.args.comment c.args.text.now c.args.known.now c.args.found.now l.found l.place l.comment l.rest l.invariant c.in_ok-span.span c.in_ok-span.ensures.taken.front
 
 pub returns-in-Dead : goal.returns-in-Dead
 returns-in-Dead c =
