@@ -142,3 +142,102 @@ fn texts_come_in_pieces(rt: HostRuntime) -> Result<(), Fail> {
     }
     Ok(())
 }
+
+const NODE: &[u8] = b"node true : emp |- true : emp by Done;\n";
+
+/// A text with so many times the same between its start and its end.
+fn long_text(
+    alloc: Global,
+    start: &[u8],
+    part: &[u8],
+    count: usize,
+    end: &[u8],
+) -> Result<Vec<u8>, Fail> {
+    let mut text = Vec::new(alloc);
+    text.extend_from_slice(start)?;
+    for _ in 0..count {
+        text.extend_from_slice(part)?;
+    }
+    text.extend_from_slice(end)?;
+    Ok(text)
+}
+
+/// What stands before and after 400 nodes, and what the text comes to: nothing where it is a file as it is written.
+static LONG_ROWS: &[(&[u8], &[u8], &[u8])] = &[
+    (b"cyclist proof 1;\n", b"end;\n", b""),
+    (
+        b"cyclist proof 1;\n",
+        b"node true : a() |- true : emp by Done;\nend;\n",
+        b"ill-formed unknown token 4407 line 402 column 13\n",
+    ),
+    (
+        b"cyclist proof 1;\n",
+        b"end;\nend;\n",
+        b"unreadable syntax token 4406 line 403 column 1\n",
+    ),
+    (
+        b"cyclist proof 1;\n",
+        b"",
+        b"unreadable syntax token 4404 line 402 column 1\n",
+    ),
+    (
+        b"cyclist proof 1;\n",
+        b"node true : emp |- true emp by Done;\nend;\n",
+        b"unreadable syntax token 4410 line 402 column 25\n",
+    ),
+    (
+        b"cyclist proof 1;\npred a(0) { true : b() };\n",
+        b"end;\n",
+        b"ill-formed unknown token 12 line 2 column 20\n",
+    ),
+    (
+        b"cyclist proof 1;\nnode true : a() |- true : emp by Done;\n",
+        b"end;\n@",
+        b"unreadable byte offset 15661 line 404 column 1\n",
+    ),
+];
+
+static LONG_SIZES: &[usize] = &[1, 7, 4096, 5000, 65536];
+
+#[test]
+fn long_texts_come_in_pieces(rt: HostRuntime) -> Result<(), Fail> {
+    let alloc = rt.alloc();
+    for (start, end, answer) in LONG_ROWS {
+        let text = long_text(alloc, start, NODE, 400, end)?;
+        for size in LONG_SIZES {
+            let found = of_pieces(alloc, &text, *size)?;
+            if answer.is_empty() {
+                assert_eq!(rt; found.as_slice(), text.as_slice());
+            } else {
+                assert_eq!(rt; found.as_slice(), *answer);
+            }
+        }
+    }
+    Ok(())
+}
+
+/// What stands after a node of 6,014 tokens, and what the text comes to.
+static AFTER_ROWS: &[(&[u8], &[u8])] = &[
+    (
+        b"nil) |- true : emp by Done;\nend;\n",
+        b"ill-formed unknown token 7 line 2 column 13\n",
+    ),
+    (
+        b"nil) |- true : emp by Done;\nnode true emp;\n",
+        b"unreadable syntax token 6020 line 3 column 11\n",
+    ),
+];
+
+#[test]
+fn long_statements_come_in_pieces(rt: HostRuntime) -> Result<(), Fail> {
+    let alloc = rt.alloc();
+    for (end, answer) in AFTER_ROWS {
+        let start = b"cyclist proof 1;\nnode true : a(";
+        let text = long_text(alloc, start, b"nil, ", 3000, end)?;
+        for size in LONG_SIZES {
+            let found = of_pieces(alloc, &text, *size)?;
+            assert_eq!(rt; found.as_slice(), *answer);
+        }
+    }
+    Ok(())
+}
