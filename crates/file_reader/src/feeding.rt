@@ -1,10 +1,11 @@
 //! What a reader holds after a piece of the text.
 
-ghost use Rattle.std.specs.Prelude.{◌≡◌, ◌+◌, ◌++◌, ◌-◌, ◌<◌, ◌≤◌, ◌^◌, [], length, false, IfOk, OnOk};
+ghost use Rattle.std.specs.Prelude.{◌≡◌, ◌+◌, ◌++◌, ◌-◌, ◌<◌, ◌≤◌, ◌^◌, [], length, false, map, IfOk, OnOk};
 ghost use Rattle.std.specs.Str.{IsUtf8};
 ghost use Rattle.cyc_lex.specs.Lexing.{HasRoom, start};
+ghost use Rattle.cyc_lex.specs.Placed.{placed};
 ghost use Rattle.piecewise_lex.specs.Taking.{reading};
-ghost use Rattle.piecewise_lex.specs.Spans.{IsFront};
+ghost use Rattle.piecewise_lex.specs.Spans.{IsFront, front_tokens};
 ghost use Rattle.file_reader.specs.Pieces.{IsLost, bytes_fed};
 ghost use Rattle.file_reader.specs.Knowns.{IsSteady};
 ghost use Rattle.file_reader.specs.Runs.{Runs};
@@ -18,8 +19,8 @@ use crate::nodes::{Ran, read_nodes};
 use crate::passing::pass_tokens;
 use crate::stretch::Stretch;
 use cyc_grammar::Refusal;
-use cyc_lex::{OutOfMemory, Place, Stop, fault_at};
-use piecewise_lex::{Span, Valid, first_bad, joined, pass_statements, valid_front};
+use cyc_lex::{OutOfMemory, Place, Stop, Token, fault_at};
+use piecewise_lex::{Span, Valid, first_bad, joined, take_statements, valid_front};
 use std::alloc::Global;
 
 /// So many bytes are taken at a time.
@@ -59,11 +60,18 @@ fn enough_after(left: usize) -> usize
     LEAST.max(left + left)
 }
 
-/// What is held once the first node came, or a syntax fault; none where neither did. So many tokens of the text were passed.
-fn opened(alloc: Global, valid: Valid<'_>, span: Span<'_>) -> Result<Option<Held>, OutOfMemory>
+/// What is held once the first node came, or a syntax fault; none where neither did. So many tokens of the text were taken.
+fn opened<'a>(
+    alloc: Global,
+    valid: Valid<'a>,
+    span: Span<'a>,
+    kept: &[Token<'a>],
+) -> Result<Option<Held>, OutOfMemory>
     requires utf8 { IsUtf8 valid.text.now }
     requires room { length valid.text.now + length valid.tail.now < 2 ^ 32 - 1 }
-    requires passed { IsFront (reading start false valid.text.now) span }
+    requires taken { IsFront (reading start false valid.text.now) span }
+    requires kept { length kept.now ≡ span.tokens
+        → map placed kept.now ≡ front_tokens span.tokens (reading start false valid.text.now) }
     ensures { IfOk result (IsOpenedTo (valid.entry.text.now ++ valid.entry.tail.now)) }
 {
     let stretch = Stretch {
@@ -73,7 +81,7 @@ fn opened(alloc: Global, valid: Valid<'_>, span: Span<'_>) -> Result<Option<Held
         text: valid.text,
         count: span.tokens,
     };
-    let mut cursor = stretch.cursor();
+    let mut cursor = stretch.cursor_over(kept);
     match begin(alloc, stretch, &mut cursor) {
         Ok(beginning) => {
             if cursor.left() > 0 {
@@ -114,8 +122,9 @@ fn open(alloc: Global, opening: Opening) -> Result<Held, OutOfMemory>
     if !valid.cut {
         return stopped(first_bad(Place::START, false, valid.text), fed);
     }
-    match pass_statements("node", Place::START, false, valid.text) {
-        Ok(span) => match opened(alloc, valid, span)? {
+    let mut kept = Vec::new(alloc);
+    match take_statements(&mut kept, "node", Place::START, false, valid.text) {
+        Ok(span) => match opened(alloc, valid, span, &kept)? {
             Some(held) => Ok(held),
             None => Ok(Held::Opening(Opening {
                 enough: enough_after(opening.all.len()),

@@ -14,7 +14,7 @@ use crate::known::{Found, Known};
 use crate::part::KEPT;
 use crate::stretch::Stretch;
 use cyc_grammar::{Cursor, Refusal};
-use cyc_lex::{OutOfMemory, Place, ReadFault, Stop, Token};
+use cyc_lex::{OutOfMemory, Place, ReadFault, Stop};
 use heap_reader::Heads;
 use piecewise_lex::take_statement;
 use proof_statements::{NodeOrEnd, kept_node_or_end};
@@ -119,19 +119,6 @@ fn take_step(
     }
 }
 
-/// The tokens, which need not be cut again where all of them were kept.
-fn cursor_of<'s, 'a>(stretch: Stretch<'a>, kept: &'s [Token<'a>]) -> Cursor<'s, 'a>
-    requires stretch { IsStretch stretch }
-    requires tokens { are_tokens (map word_of (tokens_of stretch)) ≡ true }
-    requires kept { length kept.now ≡ stretch.count → map placed kept.now ≡ tokens_of stretch }
-    ensures { result ≡ map word_of (tokens_of stretch.entry) }
-{
-    if kept.len() == stretch.count {
-        return Cursor::new(kept);
-    }
-    stretch.cursor()
-}
-
 /// Reads the statements at the front of a text from the first node on, which stands at a place, where a comment goes on or
 /// none does. What is no whole statement yet is left.
 pub fn read_nodes<'a>(
@@ -162,7 +149,7 @@ pub fn read_nodes<'a>(
             text: rest,
             count: span.tokens,
         };
-        let cursor = cursor_of(stretch, &tokens);
+        let cursor = stretch.cursor_over(&tokens);
         match take_step(alloc, known, heads, stretch, cursor, found)? {
             Step::Open => {
                 return Ok(Ran {

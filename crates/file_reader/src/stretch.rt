@@ -1,13 +1,14 @@
 //! Tokens of a text that stand next to one another, and the faults at them.
 
-ghost use Rattle.std.specs.Prelude.{◌≡◌, ◌≤◌, ◌+◌, ◌<◌, map, true};
+ghost use Rattle.std.specs.Prelude.{◌≡◌, ◌≤◌, ◌+◌, ◌<◌, length, map, true};
+ghost use Rattle.cyc_lex.specs.Placed.{placed};
 ghost use Rattle.cyc_lex.specs.Word.{word_of};
 ghost use Rattle.cyc_grammar.specs.Classes.{are_tokens};
 ghost use Rattle.file_reader.specs.Outcomes.{flaw_fault, syntax_fault};
 ghost use Rattle.file_reader.specs.Stretches.{IsStretch, tokens_of};
 
 use cyc_grammar::Cursor;
-use cyc_lex::{Place, ReadFault, token_at};
+use cyc_lex::{Place, ReadFault, Token, token_at};
 use heap_reader::{Flaw, Item};
 
 /// So many of the first tokens of a text that stands at a place, where a comment goes on or none does; `before` others stand
@@ -29,6 +30,19 @@ impl<'a> Stretch<'a> {
         ensures { result ≡ map word_of (tokens_of self.entry) }
     {
         Cursor::of_text(self.place, self.comment, self.text, self.count)
+    }
+
+    /// All of the tokens, which need not be cut again where they were kept.
+    pub fn cursor_over<'s>(self, kept: &'s [Token<'a>]) -> Cursor<'s, 'a>
+        requires stretch { IsStretch self }
+        requires tokens { are_tokens (map word_of (tokens_of self)) ≡ true }
+        requires kept { length kept.now ≡ self.count → map placed kept.now ≡ tokens_of self }
+        ensures { result ≡ map word_of (tokens_of self.entry) }
+    {
+        if kept.len() == self.count {
+            return Cursor::new(kept);
+        }
+        self.cursor()
     }
 
     /// The fault of a text whose first flaw is this one.

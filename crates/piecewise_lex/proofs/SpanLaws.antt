@@ -26,15 +26,16 @@ pub record ArePassed (r : Reading) (ts : List Placed) (n : ℕ) (p : Place) (com
   pub lexemes : are_lexemes (map word_of ts) ≡ true
   pub count : n + length rest ≤ length (encode_utf8_all r.chars)
 
--- some tokens, so many, were passed
-pub record IsOn (r : Reading) (n : ℕ) (p : Place) (comment : Bool) (rest : List ℕ) : Type 0 where
-  pub ts : List Placed
-  pub passed : ArePassed r ts n p comment rest
-
 -- at most so many are kept, and where so many are, they are all
 pub record AreKept (ts : List Placed) (n : ℕ) (kept : List Token) : Type 0 where
   pub few : length kept ≤ n
   pub all : length kept ≡ n → map placed kept ≡ ts
+
+-- some tokens, so many, were passed
+pub record IsOn (r : Reading) (n : ℕ) (p : Place) (comment : Bool) (rest : List ℕ) (held : List Token) : Type 0 where
+  pub ts : List Placed
+  pub passed : ArePassed r ts n p comment rest
+  pub kept : AreKept ts n held
 
 -- none of them is a ';'
 pub record IsPassing (r : Reading) (n : ℕ) (p : Place) (comment : Bool) (rest : List ℕ) (held : List Token) : Type 0 where
@@ -54,15 +55,18 @@ none-passed-yet p comment text room utf8 = record {
   count = omega (arith, ap length (encodes-chars text utf8));
 }
 
-pub on-start : (p : Place) (comment : Bool) (text : List ℕ) → HasRoom p (length text) → IsUtf8 text → IsOn (reading p comment text) 0 p comment text
-on-start p comment text room utf8 = record { ts = []; passed = none-passed-yet p comment text room utf8 }
+none-kept : (kept : List Token) → kept ≡ [] → AreKept [] 0 kept
+none-kept kept empty = record { few = omega (arith, ap length empty); all = λ _. ap (map placed) empty }
+
+pub on-start : (p : Place) (comment : Bool) (text : List ℕ) (kept : List Token) → HasRoom p (length text) → IsUtf8 text → kept ≡ [] → IsOn (reading p comment text) 0 p comment text kept
+on-start p comment text kept room utf8 empty = record { ts = []; passed = none-passed-yet p comment text room utf8; kept = none-kept kept empty }
 
 pub passing-start : (p : Place) (comment : Bool) (text : List ℕ) (kept : List Token) → HasRoom p (length text) → IsUtf8 text → kept ≡ [] → IsPassing (reading p comment text) 0 p comment text kept
 passing-start p comment text kept room utf8 empty = record {
   ts = [];
   passed = none-passed-yet p comment text room utf8;
   none = refl;
-  kept = record { few = omega (arith, ap length empty); all = λ _. ap (map placed) empty };
+  kept = none-kept kept empty;
 }
 
 -- a token more, which is kept or not

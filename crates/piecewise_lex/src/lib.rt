@@ -16,7 +16,7 @@ pub use bytes::joined;
 pub use fronts::first_bad;
 pub use lexer::{Lexer, feed_law};
 pub use owned::OwnedToken;
-pub use spans::{Span, pass_statements, take_statement};
+pub use spans::{Span, take_statement, take_statements};
 pub use taking::{Taken, take_token};
 pub use text::Text;
 pub use valid::{Valid, valid_front};

@@ -24,7 +24,10 @@ fn is_semicolon(token: &Token<'_>) -> bool
     ensures { result ≡ is_semicolon (placed token.now) }
 {
     match token.kind {
-        Kind::Symbol => token.text == ";",
+        Kind::Symbol => {
+            let bytes = token.text.as_bytes();
+            bytes.len() == 1 && bytes[0] == b';'
+        }
         _ => false,
     }
 }
@@ -39,8 +42,8 @@ fn begins_with(token: &Token<'_>, name: &str) -> bool
     }
 }
 
-/// So many tokens of a statement are kept at most; a caller cuts those of a longer one once more.
-const MOST_KEPT: usize = 4_096;
+/// So many tokens are kept at most; a caller cuts those of a longer text once more.
+const MOST_KEPT: usize = 65_536;
 
 /// Takes the tokens of a statement at the front of a text that stands at a place, where a comment goes on or none
 /// does, and keeps as many as fit, in place of those kept before. What has no `;` may go on with the bytes that come
@@ -85,17 +88,22 @@ pub fn take_statement<'a>(
     }
 }
 
-/// Passes statements at the front of a text up to the end of the first that begins with this name, or all tokens that
-/// do not wait where none does, and keeps none.
-pub fn pass_statements<'a>(
+/// Takes statements at the front of a text up to the end of the first that begins with this name, or all tokens that do
+/// not wait where none does, and keeps as many tokens as fit, in place of those kept before.
+pub fn take_statements<'a>(
+    kept: &mut Vec<Token<'a>>,
     name: &str,
     place: Place,
     comment: bool,
     text: &'a str,
 ) -> Result<Span<'a>, Stop>
     requires { HasRoom place (length text.now) }
-    ensures { Passes (reading place comment text.now) result }
+    ensures taken { Passes (reading place comment text.now) result }
+    // Where so many were kept, these are all.
+    ensures kept { IfOk result (λ s. length kept.new.items ≡ s.tokens
+        → map placed kept.new.items ≡ front_tokens s.tokens (reading place comment text.now)) }
 {
+    kept.clear();
     let mut span = Span {
         tokens: 0,
         ended: false,
@@ -115,6 +123,9 @@ pub fn pass_statements<'a>(
             Some(token) => token,
         };
         span.tokens += 1;
+        if kept.len() < MOST_KEPT {
+            kept.push(token)?;
+        }
         is_last = is_last || starts && begins_with(&token, name);
         starts = is_semicolon(&token);
         if starts && is_last {

@@ -1,5 +1,5 @@
 use cyc_lex::{LexFault, Token, tokens};
-use piecewise_lex::{Lexer, OwnedToken, pass_statements, take_statement};
+use piecewise_lex::{Lexer, OwnedToken, take_statements, take_statement};
 use std::alloc::Global;
 use std::test::Fail;
 
@@ -254,7 +254,7 @@ fn takes_statement_after_statement(rt: HostRuntime) -> Result<(), Fail> {
 #[test]
 fn passes_statements_up_to_a_name(rt: HostRuntime) -> Result<(), Fail> {
     let start = cyc_lex::Place::START;
-    let found = match pass_statements("node", start, false, "pred a; node b; node c;") {
+    let found = match take_statements("node", start, false, "pred a; node b; node c;") {
         Ok(found) => found,
         Err(_) => return Err(Fail::from("refused")),
     };
@@ -262,7 +262,7 @@ fn passes_statements_up_to_a_name(rt: HostRuntime) -> Result<(), Fail> {
         (found.tokens, found.ended, found.rest),
         (6, true, " node c;")
     );
-    let none = match pass_statements("node", start, false, "pred node; end; no") {
+    let none = match take_statements("node", start, false, "pred node; end; no") {
         Ok(none) => none,
         Err(_) => return Err(Fail::from("refused")),
     };

@@ -17,13 +17,13 @@ returns-in_err-span c =
     let l = c.statements in
     rw (p.1, p.2) (taken-stops (reading c.args.place c.args.comment c.args.text.now) (reading l.place l.comment l.rest.now) l.invariant.tokens c.in_err-span.field-0.0 l.invariant.taken c.in_err-span.ensures.taken)
 
-pub cursor_of-cursor-requires-clause-stretch : goal.cursor_of-cursor-requires-clause-stretch
-cursor_of-cursor-requires-clause-stretch c =
+pub cursor_over-cursor-requires-clause-stretch : goal.cursor_over-cursor-requires-clause-stretch
+cursor_over-cursor-requires-clause-stretch c =
     let l = c.statements in
     run-stretch c.args.place c.args.comment c.args.text.now c.args.known.now c.args.found.now l.found l.place l.comment l.rest l.invariant c.in_ok-span.span c.in_ok-span.ensures.taken.front
 
-pub cursor_of-cursor-requires-clause-tokens : goal.cursor_of-cursor-requires-clause-tokens
-cursor_of-cursor-requires-clause-tokens c =
+pub cursor_over-cursor-requires-clause-tokens : goal.cursor_over-cursor-requires-clause-tokens
+cursor_over-cursor-requires-clause-tokens c =
     let l = c.statements in
     let s = c.in_ok-span.span in
     tokens-of-lexemes (map word_of (front_tokens s.tokens (reading l.place l.comment l.rest.now))) c.in_ok-span.ensures.taken.front.lexemes

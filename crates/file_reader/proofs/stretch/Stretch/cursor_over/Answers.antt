@@ -4,7 +4,7 @@ use Rattle.cyc_lex.specs.declared.token.Token.{Token}
 use Rattle.cyc_lex.specs.Placed.{placed}
 use Rattle.cyc_lex.specs.Word.{Word, word, word_of}
 use Rattle.cyc_grammar.specs.Classes.{are_tokens}
-use Rattle.file_reader.proofs.nodes.cursor_of.Goals as goal
+use Rattle.file_reader.proofs.stretch.Stretch.cursor_over.Goals as goal
 
 placed-words : (ts : List Token) → map word ts ≡ map word_of (map placed ts)
 placed-words [] = refl
