@@ -1,12 +1,13 @@
 -- What a reader holds, as contracts see it.
-use Rattle.std.specs.Prelude.{◌≡◌, ℕ, ◌+◌, ◌≤◌, false, List, [], length, Option, Some, None}
+use Rattle.std.specs.Prelude.{◌≡◌, ℕ, ◌+◌, ◌≤◌, false, List, [], ◌++◌, length, Option, Some, None, Result, Ok, Err}
 use Rattle.cyc_lex.specs.declared.place.Place.{Place}
 use Rattle.cyc_lex.specs.declared.place.Stop.{Stop}
 use Rattle.cyc_lex.specs.declared.place.Stop.TheVariants as stops
 use Rattle.cyc_lex.specs.declared.fault.ReadFault.{ReadFault}
 use Rattle.cyc_lex.specs.declared.fault.ReadFault.TheVariants as faults
 use Rattle.cyc_lex.specs.Answer.{fault_of}
-use Rattle.cyc_lex.specs.Lexing.{start}
+use Rattle.cyc_lex.specs.Lexing.{Stops, start}
+use Rattle.piecewise_lex.specs.Taking.{reading, tokens_in}
 use Rattle.file_reader.specs.declared.held.Running.{Running}
 use Rattle.file_reader.specs.declared.held.Held.{Held}
 use Rattle.file_reader.specs.declared.held.Held.TheVariants as kinds
@@ -74,3 +75,8 @@ IsAfter k f r bytes (kinds.Lost n) = ⊥
 abbrev pub IsOpenedTo : List ℕ → Option Held → Type 0
 IsOpenedTo bytes None = Unit {0}
 IsOpenedTo bytes (Some h) = IsKept (parts (Head []) start false bytes) [] h
+
+-- or the first bad place of the tokens that do not wait
+abbrev pub Opens : List ℕ → List ℕ → Result (Option Held) Stop → Type 0
+Opens text tail (Ok o) = IsOpenedTo (text ++ tail) o
+Opens text tail (Err e) = Stops e (tokens_in (reading start false text))

@@ -9,7 +9,7 @@ ghost use Rattle.piecewise_lex.specs.Spans.{IsFront, front_tokens};
 ghost use Rattle.file_reader.specs.Pieces.{IsLost, bytes_fed};
 ghost use Rattle.file_reader.specs.Knowns.{IsSteady};
 ghost use Rattle.file_reader.specs.Runs.{Runs};
-ghost use Rattle.file_reader.specs.Helds.{parts_of, IsAfter, IsHeld, IsKept, IsOpenedTo, IsRunning, IsSmall, IsStopped};
+ghost use Rattle.file_reader.specs.Helds.{parts_of, IsAfter, IsHeld, IsKept, IsOpenedTo, Opens, IsRunning, IsSmall, IsStopped};
 ghost use Rattle.file_reader.specs.declared.held.Held.TheVariants as kinds;
 
 use crate::first_node::begin;
@@ -61,7 +61,7 @@ fn enough_after(left: usize) -> usize
 }
 
 /// What is held once the first node came, or a syntax fault; none where neither did. So many tokens of the text were taken.
-fn opened<'a>(
+fn opened_at<'a>(
     alloc: Global,
     valid: Valid<'a>,
     span: Span<'a>,
@@ -112,6 +112,17 @@ fn opened<'a>(
     }
 }
 
+/// What is held once the first node came, or a syntax fault; none where neither did.
+fn opened(alloc: Global, valid: Valid<'_>) -> Result<Option<Held>, Stop>
+    requires utf8 { IsUtf8 valid.text.now }
+    requires room { length valid.text.now + length valid.tail.now < 2 ^ 32 - 1 }
+    ensures { Opens valid.entry.text.now valid.entry.tail.now result }
+{
+    let mut kept = Vec::new(alloc);
+    let span = take_statements(&mut kept, "node", Place::START, false, valid.text)?;
+    Ok(opened_at(alloc, valid, span, &kept)?)
+}
+
 /// Reads a text up to its first node, and that too.
 fn open(alloc: Global, opening: Opening) -> Result<Held, OutOfMemory>
     requires { length opening.all.items < 2 ^ 32 - 1 }
@@ -122,15 +133,12 @@ fn open(alloc: Global, opening: Opening) -> Result<Held, OutOfMemory>
     if !valid.cut {
         return stopped(first_bad(Place::START, false, valid.text), fed);
     }
-    let mut kept = Vec::new(alloc);
-    match take_statements(&mut kept, "node", Place::START, false, valid.text) {
-        Ok(span) => match opened(alloc, valid, span, &kept)? {
-            Some(held) => Ok(held),
-            None => Ok(Held::Opening(Opening {
-                enough: enough_after(opening.all.len()),
-                all: opening.all,
-            })),
-        },
+    match opened(alloc, valid) {
+        Ok(Some(held)) => Ok(held),
+        Ok(None) => Ok(Held::Opening(Opening {
+            enough: enough_after(opening.all.len()),
+            all: opening.all,
+        })),
         Err(stop) => stopped(stop, fed),
     }
 }

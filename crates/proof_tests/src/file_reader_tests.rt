@@ -216,7 +216,7 @@ fn long_texts_come_in_pieces(rt: HostRuntime) -> Result<(), Fail> {
     Ok(())
 }
 
-/// What stands after a node of 6,014 tokens, and what the text comes to.
+/// What stands after a node of 80,014 tokens, more than a reader keeps, and what the text comes to.
 static AFTER_ROWS: &[(&[u8], &[u8])] = &[
     (
         b"nil) |- true : emp by Done;\nend;\n",
@@ -224,7 +224,7 @@ static AFTER_ROWS: &[(&[u8], &[u8])] = &[
     ),
     (
         b"nil) |- true : emp by Done;\nnode true emp;\n",
-        b"unreadable syntax token 6020 line 3 column 11\n",
+        b"unreadable syntax token 80020 line 3 column 11\n",
     ),
 ];
 
@@ -233,7 +233,7 @@ fn long_statements_come_in_pieces(rt: HostRuntime) -> Result<(), Fail> {
     let alloc = rt.alloc();
     for (end, answer) in AFTER_ROWS {
         let start = b"cyclist proof 1;\nnode true : a(";
-        let text = long_text(alloc, start, b"nil, ", 3000, end)?;
+        let text = long_text(alloc, start, b"nil, ", 40000, end)?;
         for size in LONG_SIZES {
             let found = of_pieces(alloc, &text, *size)?;
             assert_eq!(rt; found.as_slice(), *answer);

@@ -1,5 +1,5 @@
 use cyc_lex::{LexFault, Token, tokens};
-use piecewise_lex::{Lexer, OwnedToken, take_statements, take_statement};
+use piecewise_lex::{Lexer, OwnedToken, take_statement, take_statements};
 use std::alloc::Global;
 use std::test::Fail;
 
@@ -250,11 +250,18 @@ fn takes_statement_after_statement(rt: HostRuntime) -> Result<(), Fail> {
     Ok(())
 }
 
-/// Statements are passed up to the end of the first with a name, which stands at its front, or all that do not wait.
+/// Statements are taken up to the end of the first that begins with a name, or all tokens that do not wait.
 #[test]
-fn passes_statements_up_to_a_name(rt: HostRuntime) -> Result<(), Fail> {
+fn takes_statements_up_to_a_name(rt: HostRuntime) -> Result<(), Fail> {
+    let mut tokens = Vec::new(rt.alloc());
     let start = cyc_lex::Place::START;
-    let found = match take_statements("node", start, false, "pred a; node b; node c;") {
+    let found = match take_statements(
+        &mut tokens,
+        "node",
+        start,
+        false,
+        "pred a; node b; node c;",
+    ) {
         Ok(found) => found,
         Err(_) => return Err(Fail::from("refused")),
     };
@@ -262,7 +269,7 @@ fn passes_statements_up_to_a_name(rt: HostRuntime) -> Result<(), Fail> {
         (found.tokens, found.ended, found.rest),
         (6, true, " node c;")
     );
-    let none = match take_statements("node", start, false, "pred node; end; no") {
+    let none = match take_statements(&mut tokens, "node", start, false, "pred node; end; no") {
         Ok(none) => none,
         Err(_) => return Err(Fail::from("refused")),
     };

@@ -12,8 +12,8 @@ placed-words (t ∷ ts) = λ i. word t ∷ placed-words ts i
 
 pub new-requires : goal.new-requires
 new-requires c =
-    let same = placed-words c.args.kept.now ∙ ap (map word_of) (c.requires.kept c.if-kept-stretch.true) in
+    let same = placed-words c.args.kept.now ∙ ap (map word_of) (c.requires.kept c.if-kept-self.true) in
     subst (λ (ws : List Word). are_tokens ws ≡ true) (sym same) c.requires.tokens
 
-pub returns-then-kept-stretch : goal.returns-then-kept-stretch
-returns-then-kept-stretch c = c.new.ensures ∙ placed-words c.args.kept.now ∙ ap (map word_of) (c.requires.kept c.if-kept-stretch.true)
+pub returns-then-kept-self : goal.returns-then-kept-self
+returns-then-kept-self c = c.new.ensures ∙ placed-words c.args.kept.now ∙ ap (map word_of) (c.requires.kept c.if-kept-self.true)

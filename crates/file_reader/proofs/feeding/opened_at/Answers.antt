@@ -13,7 +13,7 @@ use Rattle.file_reader.specs.Outcomes.{syntax_fault}
 use Rattle.file_reader.proofs.HeldLaws.{front-stretch, begins-running, begins-faulty}
 use Rattle.file_reader.proofs.RunLaws.{tokens-of-lexemes, span-size}
 use Rattle.file_reader.proofs.StepLaws.{fault-within}
-use Rattle.file_reader.proofs.feeding.opened.Goals as goal
+use Rattle.file_reader.proofs.feeding.opened_at.Goals as goal
 
 pub cursor_over-cursor-requires-clause-stretch : goal.cursor_over-cursor-requires-clause-stretch
 cursor_over-cursor-requires-clause-stretch c = front-stretch c.args.valid c.args.span c.requires.utf8 c.requires.taken c.requires.room
