@@ -5,6 +5,7 @@ pub mod TakingLaws
 pub mod SpanLaws
 pub mod Fed
 pub mod ShortTokens
+mod FirstBytes
 pub mod FrontLaws
 pub mod ValidLaws
 pub mod RunLaws

@@ -24,6 +24,7 @@ use Rattle.piecewise_lex.specs.Feeding.{may_grow, is_held, taken_chars, held_cha
 use Rattle.cyc_lex.specs.Lexing.{comment_len}
 use Rattle.piecewise_lex.specs.Owned.{IsShort}
 use Rattle.piecewise_lex.specs.Taking.{Reading, reading, tokens_in, cut_in, IsTail, HasTaken, Waits, stays}
+use Rattle.piecewise_lex.proofs.FirstBytes.{first-byte-is}
 use Rattle.piecewise_lex.proofs.ShortTokens.{short-piece, lexeme-piece}
 use Rattle.cyc_lex.specs.Word.{word, word_of, is_lexeme}
 use Rattle.cyc_lex.proofs.Pieces.{comment_len-false}
@@ -146,13 +147,28 @@ module _ (p0 : Place) (b0 : Bool) (cs0 : List ℕ) (p : Place) (b : Bool) (rest 
         by [] some r = absurd (omega (arith, some))
         by (c ∷ cs) some r = omega (arith, ap length r, length-dropped (piece_at c cs).1 cs)
 
-    fewer-bytes : length after < length rest
+    pub fewer-bytes : length after < length rest
     fewer-bytes = by (chars rest) first-chars n.rest (ap length (sym (encodes-chars rest h.utf8)))
       where
         by : (cs : List ℕ) → 0 < length cs → chars after ≡ piece_rest cs → length rest ≡ length (encode_utf8_all cs) → length after < length rest
         by [] some r e = absurd (omega (arith, some))
         by (c ∷ cs) some r e =
             omega (arith, e, ap length (sym (encodes-chars after n.utf8)), ap (λ (x : List ℕ). length (encode_utf8_all x)) r, dropped-bytes (piece_at c cs).1 cs, length-append (encode_utf8 c) (encode_utf8_all cs), length-encode c, (len_utf8_bounds c).0)
+
+    -- a piece has a byte, and begins a comment where that is a '#'
+    pub front-some : 0 < length front
+    front-some = by (chars rest) first-chars n.front
+      where
+        by : (cs : List ℕ) → 0 < length cs → front ≡ encode_utf8_all (piece_chars cs) → 0 < length front
+        by [] some f = absurd (omega (arith, some))
+        by (c ∷ cs) some f = omega (arith, ap length f, length-append (encode_utf8 c) (encode_utf8_all (take (piece_at c cs).1 cs)), length-encode c, (len_utf8_bounds c).0)
+
+    pub front-hash : (slice_index front 0 == 35) ≡ (slice_index (chars front) 0 == 35)
+    front-hash = by (chars rest) first-chars n.front ∙ ap (λ (x : ℕ). x == 35) (sym head-is)
+      where
+        by : (cs : List ℕ) → 0 < length cs → front ≡ encode_utf8_all (piece_chars cs) → (slice_index front 0 == 35) ≡ (slice_index cs 0 == 35)
+        by [] some f = absurd (omega (arith, some))
+        by (c ∷ cs) some f = first-byte-is front c (take (piece_at c cs).1 cs) 35 f front-some (omega arith)
 
     left-tail : IsTail (chars after) cs0
     left-tail = by (chars rest) first-chars n.rest h.tail

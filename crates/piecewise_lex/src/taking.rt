@@ -1,7 +1,8 @@
 //! Taking tokens off the front of a text, of which more may come.
 
-ghost use Rattle.std.specs.Prelude.{◌≡◌, ◌==◌, ◌||◌, length, false};
+ghost use Rattle.std.specs.Prelude.{◌≡◌, ◌<◌, length, false};
 ghost use Rattle.cyc_lex.specs.Lexing.{HasRoom};
+ghost use Rattle.cyc_lex.proofs.Lexed.{IsNext};
 ghost use Rattle.piecewise_lex.specs.Taking.{Takes, stays};
 
 use cyc_lex::{Bad, Kind, Piece, Place, Stop, Token, check_len, next, next_char, skip_comment};
@@ -35,6 +36,20 @@ fn stays(piece: Piece, front: &str, after: &str) -> bool
     }
 }
 
+/// Takes the first piece off a text, as `next` does, and a space at once.
+#[inline(always)]
+fn next_piece(place: Place, text: &str) -> (Piece, &str, &str, Place)
+    requires room { HasRoom place (length text.now) }
+    requires some { 0 < length text.now }
+    ensures { IsNext place text.now result.0 result.1.now result.2.now result.3 }
+{
+    if text.as_bytes()[0] == b' ' {
+        let (front, rest) = text.split_at(1);
+        return (Piece::Gap, front, rest, place.pass(' '));
+    }
+    next(place, text)
+}
+
 /// Takes the next token of a text that stands at a place, where a comment goes on or none does. A token that reaches the end
 /// of the text is not taken: it waits, as a `!` or a `-` does there.
 #[inline(always)]
@@ -45,7 +60,7 @@ pub fn take_token(place: Place, comment: bool, text: &str) -> Result<Taken<'_>, 
     let (mut rest, mut place) = skip_comment(place, comment, text);
     let mut in_comment = comment;
     'pieces: while !rest.is_empty() {
-        let (piece, front, after, behind) = next(place, rest);
+        let (piece, front, after, behind) = next_piece(place, rest);
         if stays(piece, front, after) {
             return Ok(Taken {
                 token: None,
@@ -55,7 +70,7 @@ pub fn take_token(place: Place, comment: bool, text: &str) -> Result<Taken<'_>, 
             });
         }
         match piece {
-            Piece::Gap => in_comment = next_char(front) == '#',
+            Piece::Gap => in_comment = front.as_bytes()[0] == b'#',
             Piece::Stray => return Err(Stop::At(Bad::Byte, place)),
             Piece::Token(kind) => {
                 check_len(kind, place, front)?;
