@@ -8,7 +8,7 @@ use Rattle.cyc_lex.specs.declared.place.Stop.{Stop}
 use Rattle.cyc_lex.specs.declared.token.Token.{Token}
 use Rattle.cyc_lex.specs.Placed.{Placed, placed}
 use Rattle.cyc_lex.specs.Word.{word, is_lexeme}
-use Rattle.cyc_lex.specs.Lexing.{pass_all, with_tokens, HasRoom, Stops, comment_len}
+use Rattle.cyc_lex.specs.Lexing.{piece_at, pass_all, with_tokens, HasRoom, Stops, comment_len}
 use Rattle.cyc_lex.specs.Cutting.{cut_tokens}
 use Rattle.piecewise_lex.specs.declared.taking.Taken.{Taken}
 use Rattle.piecewise_lex.specs.Owned.{IsShort}
@@ -67,6 +67,12 @@ pub record Waits (r : Reading) : Type 0 where
   pub comment : comment_in r ≡ r.comment
 
 -- ---- one token
+
+-- an ASCII character, which ends no line, is such a piece alone, whatever comes after it
+pub record IsSingle (c : ℕ) (piece : Piece) : Type 0 where
+  pub ascii : c < 128
+  pub same_line : (c == 10) ≡ false
+  pub alone : (cs : List ℕ) → piece_at c cs ≡ (piece, 0)
 
 -- whether the piece with these bytes waits, where these are after it
 abbrev pub stays : Piece → List ℕ → List ℕ → Bool

@@ -1,9 +1,10 @@
 //! Taking tokens off the front of a text, of which more may come.
 
-ghost use Rattle.std.specs.Prelude.{◌≡◌, ◌<◌, length, false};
+ghost use Rattle.std.specs.Prelude.{◌≡◌, ◌<◌, length, slice_index, false};
 ghost use Rattle.cyc_lex.specs.Lexing.{HasRoom};
 ghost use Rattle.cyc_lex.proofs.Lexed.{IsNext};
-ghost use Rattle.piecewise_lex.specs.Taking.{Takes, stays};
+ghost use Rattle.cyc_lex.specs.Characters.{is_plain};
+ghost use Rattle.piecewise_lex.specs.Taking.{IsSingle, Takes, stays};
 
 use cyc_lex::{Bad, Kind, Piece, Place, Stop, Token, check_len, next, next_char, skip_comment};
 use std::alloc::Global;
@@ -36,16 +37,55 @@ fn stays(piece: Piece, front: &str, after: &str) -> bool
     }
 }
 
-/// Takes the first piece off a text, as `next` does, and a space at once.
+/// Whether a byte is a symbol with which none of two characters begins.
+#[inline(always)]
+fn is_plain(byte: u8) -> bool
+    ensures { result ≡ is_plain byte }
+{
+    matches!(
+        byte,
+        b'(' | b'['
+            | b'{'
+            | b')'
+            | b']'
+            | b'}'
+            | b','
+            | b';'
+            | b'*'
+            | b'='
+            | b'.'
+            | b'$'
+            | b'?'
+            | b'\''
+    )
+}
+
+/// Takes a piece of one byte off a text.
+#[inline(always)]
+fn single(piece: Piece, byte: u8, place: Place, text: &str) -> (Piece, &str, &str, Place)
+    requires room { HasRoom place (length text.now) }
+    requires some { 0 < length text.now }
+    requires first { slice_index text.now 0 ≡ byte }
+    requires alone { IsSingle byte piece }
+    ensures { IsNext place text.now result.0 result.1.now result.2.now result.3 }
+{
+    let (front, rest) = text.split_at(1);
+    (piece, front, rest, place.pass(byte as char))
+}
+
+/// Takes the first piece off a text, as `next` does, and a space or a symbol of one byte at once.
 #[inline(always)]
 fn next_piece(place: Place, text: &str) -> (Piece, &str, &str, Place)
     requires room { HasRoom place (length text.now) }
     requires some { 0 < length text.now }
     ensures { IsNext place text.now result.0 result.1.now result.2.now result.3 }
 {
-    if text.as_bytes()[0] == b' ' {
-        let (front, rest) = text.split_at(1);
-        return (Piece::Gap, front, rest, place.pass(' '));
+    let byte = text.as_bytes()[0];
+    if byte == b' ' {
+        return single(Piece::Gap, byte, place, text);
+    }
+    if is_plain(byte) {
+        return single(Piece::Token(Kind::Symbol), byte, place, text);
     }
     next(place, text)
 }
