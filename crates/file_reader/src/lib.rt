@@ -73,7 +73,7 @@ pub fn tokens_may_be_taken()
         → new.stage ≡ Unlexed (fault_of bad p) → (rest : List ℕ) → outcome old rest ≡ outcome new rest }
 {}
 
-/// What `pass_statement` passes of a text, after which bytes stand that make no character yet, stands at the front of what
+/// What `take_statement` takes of a text, after which bytes stand that make no character yet, stands at the front of what
 /// waits; and the bad place that it finds, or `first_bad` where no bytes can make a character, is the first whatever comes.
 pub fn statements_stand_at_the_front()
     ensures taken { (stage after : Stage) (p q : Place) (c d : Bool) (text rest tail : List ℕ) (ts : List Placed)
