@@ -30,8 +30,8 @@ pub fn add_node(
     requires fits { node.fits (node_of tree.now) }
     requires later { stretch.before ≤ found.old.tokens }
     requires within { found.old.tokens + node_span (node_of tree.now) ≤ stretch.before + stretch.count }
-    ensures { IfOk result (λ _. IsAdded known.now heads.now stretch.entry.before (tokens_of stretch.entry) (node_of tree.now)
-        found.old found.new) }
+    ensures { IfOk result (λ _. IsAdded known.now heads.now stretch.entry.before (tokens_of stretch.entry)
+        (node_of tree.now) found.old found.new) }
 {
     if found.flaw.is_some() {
         return Ok(());
