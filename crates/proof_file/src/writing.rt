@@ -8,7 +8,7 @@ ghost use Rattle.proof_file.specs.Reading.{AreSame, IsRead, Reads, IsReadAgain};
 use crate::file::ProofFile;
 use crate::trees::file_tree;
 use cyc_memory::OutOfMemory;
-use proof_syntax::write_tree;
+use proof_writing::write_tree;
 use std::alloc::Global;
 
 /// The text of a file in the written form: its tokens with one space between neighbours but where the format has none,

@@ -14,7 +14,8 @@ use cyc_lex::{Tokens, tokens};
 use cyc_memory::OutOfMemory;
 use heap_syntax::Version;
 use proof_file::{ProofFile, write_file};
-use proof_syntax::{FileTree, NodeTree, read_tree, write_tree};
+use proof_syntax::{FileTree, NodeTree, read_tree};
+use proof_writing::write_tree;
 use std::alloc::Global;
 use std::collections::VecDeque;
 

@@ -1,7 +1,6 @@
 pub mod GrammarLaws
 pub mod GrammarEnds
 pub mod ReasonParts
-pub mod WrittenFiles
 pub mod SeenTrees
 pub mod NodeFronts
 pub mod FrontFits

@@ -242,44 +242,6 @@ reason = reason_over parts
 unfoldable pub kept_reason : Keep → Syntax Reason
 kept_reason k = reason_over (kept_parts k)
 
--- the words after a rule's word, case by case
-abbrev pub behind_word : Reason → List Word
-behind_word Absurd = []
-behind_word (Rewrite k s) = rewrite.words (k, s)
-behind_word (Split t u) = split.words (t, u)
-behind_word (Distinct i j) = two_numbers.words (i, j)
-behind_word (Weaken k) = (one number).words k
-behind_word (Unfold k) = (one number).words k
-behind_word (Cut positions formula) = cut.words (positions, formula)
-behind_word Done = []
-behind_word (Choose j) = (one number).words j
-behind_word (PureRight k) = (one number).words k
-behind_word (Instantiate v t) = instantiate.words (v, t)
-behind_word (Frame i j) = two_numbers.words (i, j)
-behind_word (UnfoldRight j c) = two_numbers.words (j, c)
-behind_word Exec = []
-behind_word (Drop k) = (one number).words k
-behind_word (Link l) = link.words l
-
--- these words have a text
-abbrev pub FitsBehind : Reason → Type 0
-FitsBehind Absurd = Unit {0}
-FitsBehind (Rewrite k s) = rewrite.fits (k, s)
-FitsBehind (Split t u) = split.fits (t, u)
-FitsBehind (Distinct i j) = two_numbers.fits (i, j)
-FitsBehind (Weaken k) = (one number).fits k
-FitsBehind (Unfold k) = (one number).fits k
-FitsBehind (Cut positions formula) = cut.fits (positions, formula)
-FitsBehind Done = Unit {0}
-FitsBehind (Choose j) = (one number).fits j
-FitsBehind (PureRight k) = (one number).fits k
-FitsBehind (Instantiate v t) = instantiate.fits (v, t)
-FitsBehind (Frame i j) = two_numbers.fits (i, j)
-FitsBehind (UnfoldRight j c) = two_numbers.fits (j, c)
-FitsBehind Exec = Unit {0}
-FitsBehind (Drop k) = (one number).fits k
-FitsBehind (Link l) = link.fits l
-
 -- ---- node = "node" judgement "by" reason premises
 
 abbrev pub to_node : Judgement × (Reason × List ℕ) → Node

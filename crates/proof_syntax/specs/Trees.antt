@@ -12,8 +12,6 @@ use Rattle.proof_syntax.specs.declared.tree.PairTree.{PairTree}
 use Rattle.proof_syntax.specs.declared.tree.LinkTree.{LinkTree}
 use Rattle.proof_syntax.specs.declared.tree.ReasonTree.{ReasonTree}
 use Rattle.proof_syntax.specs.declared.tree.ReasonTree.TheVariants as reasons
-use Rattle.proof_syntax.specs.declared.reason_word.ReasonWord.{ReasonWord}
-use Rattle.proof_syntax.specs.declared.reason_word.ReasonWord.TheVariants as words
 use Rattle.proof_syntax.specs.declared.tree.NodeTree.{NodeTree}
 use Rattle.proof_syntax.specs.declared.tree.FileTree.{FileTree}
 
@@ -93,25 +91,6 @@ reason_of (reasons.UnfoldRight j c) = UnfoldRight j c
 reason_of reasons.Exec = Exec
 reason_of (reasons.Drop k) = Drop k
 reason_of (reasons.Link l) = Link (link_of l)
-
--- the word with which a reason begins
-abbrev pub word_of_reason : Reason → ReasonWord
-word_of_reason Absurd = words.Absurd
-word_of_reason (Rewrite k side) = words.Rewrite
-word_of_reason (Split t u) = words.Split
-word_of_reason (Distinct i j) = words.Distinct
-word_of_reason (Weaken k) = words.Weaken
-word_of_reason (Unfold k) = words.Unfold
-word_of_reason (Cut positions formula) = words.Cut
-word_of_reason Done = words.Done
-word_of_reason (Choose j) = words.Choose
-word_of_reason (PureRight k) = words.PureRight
-word_of_reason (Instantiate v t) = words.Instantiate
-word_of_reason (Frame i j) = words.Frame
-word_of_reason (UnfoldRight j c) = words.UnfoldRight
-word_of_reason Exec = words.Exec
-word_of_reason (Drop k) = words.Drop
-word_of_reason (Link l) = words.Link
 
 abbrev pub node_of : NodeTree → Node
 node_of n = record { judgement = judgement_of n.judgement; reason = reason_of n.reason; premises = n.premises.items }

@@ -1,4 +1,4 @@
-//! Proof files as trees: their grammar, reading a tree from tokens with the exact syntax fault, and writing a tree.
+//! Proof files as trees: their grammar, and reading a tree from tokens with the exact syntax fault.
 #![tactic(auto)]
 
 mod form;
@@ -7,13 +7,12 @@ mod read_files;
 mod read_reasons;
 mod reason_word;
 mod tree;
-mod write_files;
-mod write_reasons;
 
+pub use form::DollarVariables;
 pub use line_lists::line;
 pub use read_files::{kept_node, read_tree};
+pub use reason_word::{ReasonWord, text_of_side};
 pub use tree::{
     DefinitionTree, EntailmentTree, FileTree, HeapTree, JudgementTree, LineTree, LinkTree,
     NodeTree, PairTree, PureTree, ReasonTree, SideTree, SpatialTree, TermTree,
 };
-pub use write_files::write_tree;

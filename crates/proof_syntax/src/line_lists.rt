@@ -1,7 +1,5 @@
-//! Reading and writing the lines of proof files.
+//! Reading the lines of proof files.
 
-ghost use Rattle.std.specs.Prelude.{◌≡◌, OnOk};
-ghost use Rattle.cyc_lex.specs.Writing.{write_all};
 ghost use Rattle.cyc_grammar.specs.Giving.{Gives};
 ghost use Rattle.command_syntax.specs.Grammar as commands;
 ghost use Rattle.proof_syntax.specs.Grammar.{lines, variable};
@@ -9,8 +7,6 @@ ghost use Rattle.proof_syntax.specs.Grammar.{lines, variable};
 use crate::form::DollarVariables;
 use crate::tree::LineTree;
 use cyc_grammar::{Cursor, Refusal};
-use cyc_lex::WordWriter;
-use cyc_memory::OutOfMemory;
 use heap_syntax::Version;
 use std::alloc::Global;
 
@@ -30,16 +26,4 @@ pub fn lines(
     ensures { Gives (λ x. (x.items, cursor.new)) result ((lines version).read cursor.old) }
 {
     command_syntax::lines(alloc, &DollarVariables, version, cursor)
-}
-
-/// Writes the lines of the program.
-pub fn write_lines(
-    version: Version,
-    trees: &[LineTree],
-    writer: &mut WordWriter,
-) -> Result<(), OutOfMemory>
-    requires { (lines version).fits trees.now }
-    ensures { OnOk result (writer.new ≡ write_all writer.old ((lines version).words trees.now)) }
-{
-    command_syntax::write_lines(&DollarVariables, version, trees, writer)
 }

@@ -2,12 +2,12 @@
 use crate::texts::{cut, dead, start};
 use command_syntax::{
     ChangeTree, CommandTree, LineTree, OperandTree, VariableForm, WrittenVariable, lines,
-    write_lines,
 };
 use cyc_grammar::{Cursor, Refusal};
 use cyc_lex::WordWriter;
 use cyc_memory::OutOfMemory;
 use heap_syntax::Version;
+use proof_writing::write_lines;
 use std::alloc::Global;
 use std::test::Fail;
 

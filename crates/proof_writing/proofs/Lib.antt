@@ -1,0 +1,2 @@
+mod ReasonParts
+mod WrittenFiles
