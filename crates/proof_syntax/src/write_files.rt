@@ -12,8 +12,8 @@ use crate::tree::{EntailmentTree, FileTree, HeapTree, JudgementTree, NodeTree};
 use crate::write_reasons::write_reason;
 use cyc_lex::WordWriter;
 use cyc_memory::OutOfMemory;
-use heap_syntax::{Mark, write_premises, write_version};
-use pred_syntax::{write_definitions, write_heap, write_heaps};
+use heap_syntax::{Mark, write_version};
+use heap_writing::{write_definitions, write_heap, write_heaps, write_premises};
 use std::alloc::Global;
 
 #[tactic(auto, unfolding(crate::specs::Grammar::disjuncts))]

@@ -10,8 +10,8 @@ use crate::reason_word::{ReasonWord, text_of_side};
 use crate::tree::{LinkTree, PairTree, ReasonTree, TermTree};
 use cyc_lex::WordWriter;
 use cyc_memory::OutOfMemory;
-use heap_syntax::write_bracketed;
-use pred_syntax::{write_heap, write_universal_term};
+use heap_writing::{write_bracketed, write_heap};
+use pred_syntax::write_universal_term;
 
 #[tactic(auto, unfolding(crate::specs::Grammar::pair, cyc_lex::specs::Writing::write_all))]
 fn write_pair(tree: PairTree, writer: &mut WordWriter) -> Result<(), OutOfMemory>
