@@ -13,7 +13,8 @@ use cyc_grammar::{Cursor, Refusal};
 use cyc_lex::WordWriter;
 use cyc_memory::OutOfMemory;
 use fo_problem_syntax::{Item, more_statements, sequent, write_sequent, write_statements};
-use heap_syntax::{premises, write_premises};
+use heap_syntax::premises;
+use heap_writing::write_premises;
 use std::alloc::Global;
 
 #[tactic(auto, unfolding(crate::specs::Grammar::node))]

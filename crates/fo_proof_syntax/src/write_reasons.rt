@@ -11,7 +11,7 @@ use crate::tree::{LinkTree, ReasonTree};
 use cyc_lex::WordWriter;
 use cyc_memory::OutOfMemory;
 use fo_term_syntax::{SignTree, write_atom};
-use heap_syntax::write_bracketed;
+use heap_writing::write_bracketed;
 use std::alloc::Global;
 
 #[tactic(auto, unfolding(crate::specs::Grammar::right_rule, cyc_lex::specs::Writing::write_all))]

@@ -1,13 +1,11 @@
--- The grammar of numbers and premises is lawful, their texts are of lexemes, and what is written for premises.
+-- The grammar of numbers and premises is lawful, and their texts are of lexemes.
 use Rattle.std.proofs.Common.{◌≡◌, ℕ, false, List, [], ◌∷◌, ◌++◌, refl, inl, inr, ◌⊎◌}
 use Rattle.cyc_lex.specs.Word.{Word}
-use Rattle.cyc_lex.specs.Writing.{Written, write, write_all}
 use Rattle.cyc_grammar.specs.Syntax.{one, seq, after, before, is_one}
 use Rattle.cyc_grammar.specs.Classes.{number}
 use Rattle.cyc_grammar.proofs.Laws.{Lawful, one-law, seq-law, shaped-law, alt-law, many-law, after-law, before-law, Stops-never}
 use Rattle.cyc_grammar.proofs.ClassLaws.{symbol-law, keyword-law, number-law}
 use Rattle.cyc_grammar.proofs.Ends.{Inner, one-inner, seq-inner, after-inner, before-inner, alt-inner, many-inner, shaped-inner, number-inner}
-use Rattle.cyc_grammar.proofs.WrittenTexts.{wrote-behind, wrote-both}
 use Rattle.heap_syntax.specs.Words.{to_word, semicolon, opening_bracket, closing_bracket}
 use Rattle.heap_syntax.specs.Grammar.{Any}
 use Rattle.heap_syntax.specs.Numbers.{numbers, bracketed, two_numbers, to_premises, from_premises, premises}
@@ -76,10 +74,3 @@ premises-closed (n ∷ ns) d = refl
 pub premises-inner : Inner premises
 unfolding premises
 premises-inner = shaped-inner {A = (ℕ × List ℕ) ⊎ Unit {0}} to_premises from_premises Any _ (alt-inner (is_one to_word) _ _ (after-inner to_word _ to-word (seq-inner (one number) _ number-inner (before-inner numbers semicolon syms.semicolon_word numbers-inner))) (one-inner semicolon (λ u f. syms.semicolon_word)))
-
--- what is written for premises
-pub premises-wrote : (old a b c d : Written) (n : ℕ) (ns : List ℕ) → a ≡ write old (to_word.word tt) → b ≡ write a (number.word n) → c ≡ write_all b (numbers.words ns) → d ≡ write c (semicolon.word tt) → d ≡ write_all old (premises.words (n ∷ ns))
-unfolding premises write_all
-premises-wrote old a b c d n ns ha hb hc hd =
-    let rest : List Word = numbers.words ns ++ semicolon.word tt ∷ [] in
-    wrote-behind old a d (to_word.word tt) (number.word n ∷ rest) ha (wrote-behind a b d (number.word n) rest hb (wrote-both b c d (numbers.words ns) (semicolon.word tt ∷ []) hc hd))

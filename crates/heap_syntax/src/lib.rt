@@ -1,9 +1,7 @@
-//! Symbolic heaps as trees over terms of any form: their grammar, reading them from tokens and writing them.
+//! Symbolic heaps as trees over terms of any form: their grammar, and reading them from tokens.
 #![tactic(auto)]
 
-mod atom_writing;
 mod form;
-mod heap_writing;
 mod keep;
 mod mark;
 mod number_list;
@@ -14,10 +12,9 @@ mod version;
 mod word;
 
 pub use form::{AtomForm, TermForm, WrittenForm};
-pub use heap_writing::{write_heap, write_heaps};
 pub use keep::Keep;
 pub use mark::Mark;
-pub use number_list::{bracketed, premises, two_numbers, write_bracketed, write_premises};
+pub use number_list::{bracketed, premises, two_numbers};
 pub use read_atoms::{arguments, fields, sign, spatial};
 pub use read_heaps::{heap, heaps, kept_heap, kept_heaps};
 pub use tree::{HeapTree, PureTree, SpatialTree};

@@ -14,7 +14,8 @@ use crate::tree::{CellTree, ModelTree};
 use cyc_lex::WordWriter;
 use cyc_memory::OutOfMemory;
 use heap_syntax::write_first_version;
-use pred_syntax::{HeapTree, write_definitions, write_heap};
+use heap_writing::{write_definitions, write_heap};
+use pred_syntax::HeapTree;
 use std::alloc::Global;
 
 #[tactic(auto, using(cyc_lex::proofs::WritingLaws::write_all_on), unfolding(crate::specs::Grammar::state, cyc_lex::specs::Writing::write_all))]

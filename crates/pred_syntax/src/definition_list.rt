@@ -1,16 +1,13 @@
-//! Reading and writing the definitions of predicates.
+//! Reading the definitions of predicates.
 
-ghost use Rattle.std.specs.Prelude.{◌≡◌, map, OnOk};
-ghost use Rattle.cyc_lex.specs.Writing.{write_all};
+ghost use Rattle.std.specs.Prelude.{map};
 ghost use Rattle.cyc_grammar.specs.Giving.{Gives, with_front};
 ghost use Rattle.pred_syntax.specs.Grammar.{cases, kept_cases, definition, kept_definition, definitions};
 ghost use Rattle.pred_syntax.specs.Trees.{heap_of, definition_of};
 
-use crate::term_heaps::{kept_heaps, write_heaps};
+use crate::term_heaps::kept_heaps;
 use crate::tree::{DefinitionTree, HeapTree};
 use cyc_grammar::{Cursor, Refusal};
-use cyc_lex::WordWriter;
-use cyc_memory::OutOfMemory;
 use heap_syntax::{Keep, Mark, free_name};
 use std::alloc::Global;
 
@@ -86,42 +83,4 @@ pub fn definitions<'a>(
     ensures { Gives (λ x. (map definition_of x.items, cursor.new)) result (definitions.read cursor.old) }
 {
     more_definitions(alloc, Vec::new(alloc), cursor)
-}
-
-#[tactic(auto, unfolding(crate::specs::Grammar::cases))]
-fn write_cases(trees: &[HeapTree<'_>], writer: &mut WordWriter) -> Result<(), OutOfMemory>
-    requires { cases.fits (map heap_of trees.now) }
-    ensures { OnOk result (writer.new ≡ write_all writer.old (cases.words (map heap_of trees.now))) }
-{
-    write_heaps(&Mark::Symbol("|"), &Mark::Symbol("}"), trees, writer)
-}
-
-#[tactic(auto, using(cyc_lex::proofs::WritingLaws::write_all_on), unfolding(crate::specs::Grammar::definition, cyc_lex::specs::Writing::write_all))]
-fn write_definition(tree: &DefinitionTree<'_>, writer: &mut WordWriter) -> Result<(), OutOfMemory>
-    requires { definition.fits (definition_of tree.now) }
-    ensures { OnOk result (writer.new ≡ write_all writer.old (definition.words (definition_of tree.now))) }
-{
-    writer.name("pred")?;
-    writer.name(tree.name)?;
-    writer.symbol("(")?;
-    writer.number(tree.arity)?;
-    writer.symbol(")")?;
-    writer.symbol("{")?;
-    write_cases(&tree.cases, writer)?;
-    writer.symbol(";")
-}
-
-/// Writes definitions that have a text.
-#[tactic(auto, unfolding(crate::specs::Grammar::definitions))]
-pub fn write_definitions(
-    trees: &[DefinitionTree<'_>],
-    writer: &mut WordWriter,
-) -> Result<(), OutOfMemory>
-    requires { definitions.fits (map definition_of trees.now) }
-    ensures { OnOk result (writer.new ≡ write_all writer.old (definitions.words (map definition_of trees.now))) }
-{
-    for tree in trees {
-        write_definition(tree, writer)?;
-    }
-    Ok(())
 }

@@ -1,5 +1,5 @@
-//! Heaps and definitions of predicates with numbered variables: their trees and grammar, reading them from tokens and
-//! writing them.
+//! Heaps and definitions of predicates with numbered variables: their trees and grammar, and reading them
+//! from tokens.
 #![tactic(auto)]
 
 mod definition_list;
@@ -7,7 +7,7 @@ mod form;
 mod term_heaps;
 mod tree;
 
-pub use definition_list::{definition, definitions, kept_definition, write_definitions};
-pub use form::{universal_term, write_universal_term};
-pub use term_heaps::{heap, heaps, kept_heap, kept_heaps, write_heap, write_heaps};
+pub use definition_list::{definition, definitions, kept_definition};
+pub use form::{NumberedForm, universal_term, write_universal_term};
+pub use term_heaps::{heap, heaps, kept_heap, kept_heaps};
 pub use tree::{DefinitionTree, HeapTree, PureTree, SpatialTree, TermTree};

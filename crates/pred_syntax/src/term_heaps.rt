@@ -1,7 +1,6 @@
-//! Reading and writing heaps.
+//! Reading heaps.
 
-ghost use Rattle.std.specs.Prelude.{◌≡◌, map, OnOk};
-ghost use Rattle.cyc_lex.specs.Writing.{write_all};
+ghost use Rattle.std.specs.Prelude.{map};
 ghost use Rattle.cyc_grammar.specs.Giving.{Gives};
 ghost use Rattle.heap_syntax.specs.Words.{marked};
 ghost use Rattle.pred_syntax.specs.Grammar.{terms, heap, kept_heap, heaps, kept_heaps};
@@ -10,8 +9,6 @@ ghost use Rattle.pred_syntax.specs.Trees.{heap_of};
 use crate::form::NumberedForm;
 use crate::tree::HeapTree;
 use cyc_grammar::{Cursor, Refusal};
-use cyc_lex::WordWriter;
-use cyc_memory::OutOfMemory;
 use heap_syntax::{Keep, Mark};
 use std::alloc::Global;
 
@@ -75,38 +72,5 @@ pub fn heaps<'a>(
         between,
         behind,
         cursor,
-    )
-}
-
-/// Writes a heap that has a text, without existential variables where `universal` says so.
-pub fn write_heap(
-    universal: bool,
-    tree: &HeapTree<'_>,
-    writer: &mut WordWriter,
-) -> Result<(), OutOfMemory>
-    requires { (heap (terms universal)).fits (heap_of tree.now) }
-    ensures { OnOk result (writer.new ≡ write_all writer.old ((heap (terms universal)).words (heap_of tree.now))) }
-{
-    heap_syntax::write_heap(&NumberedForm { universal }, tree, writer)
-}
-
-/// Writes one heap or more, with a word between neighbours and one after the last.
-pub fn write_heaps(
-    between: &Mark<'_>,
-    behind: &Mark<'_>,
-    trees: &[HeapTree<'_>],
-    writer: &mut WordWriter,
-) -> Result<(), OutOfMemory>
-    requires { (heaps (marked between.now) (marked behind.now)).fits (map heap_of trees.now) }
-    ensures { OnOk result
-        (writer.new ≡ write_all writer.old
-        ((heaps (marked between.now) (marked behind.now)).words (map heap_of trees.now))) }
-{
-    heap_syntax::write_heaps(
-        &NumberedForm { universal: false },
-        between,
-        behind,
-        trees,
-        writer,
     )
 }

@@ -6,8 +6,9 @@ use cyc_memory::OutOfMemory;
 use cyc_texts::Line;
 use heap_syntax::{
     AtomForm, Mark, PureTree, SpatialTree, TermForm, WrittenForm, arguments, fields, free_name,
-    heap, heaps, reserved_words, sign, spatial, write_heap, write_heaps,
+    heap, heaps, reserved_words, sign, spatial,
 };
+use heap_writing::heaps::{write_heap, write_heaps};
 use std::alloc::Global;
 use std::test::Fail;
 

@@ -1,0 +1,12 @@
+//! Writing symbolic heaps, lists of numbers and definitions of predicates, as the grammar has them.
+#![tactic(auto)]
+
+mod atoms;
+mod definitions;
+pub mod heaps;
+mod numbers;
+mod term_heaps;
+
+pub use definitions::write_definitions;
+pub use numbers::{write_bracketed, write_premises};
+pub use term_heaps::{write_heap, write_heaps};
