@@ -1,1 +1,1 @@
-mod ReasonParts
+pub mod ReasonParts
