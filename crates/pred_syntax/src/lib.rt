@@ -1,5 +1,4 @@
-//! Heaps and definitions of predicates with numbered variables: their trees and grammar, and reading them
-//! from tokens.
+//! Heaps and definitions of predicates with numbered variables: their trees and grammar, and reading them from tokens.
 #![tactic(auto)]
 
 mod definition_list;
