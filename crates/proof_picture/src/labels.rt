@@ -13,8 +13,9 @@ use crate::piece::{Label, Piece};
 use cyc_lex::{Tokens, tokens};
 use cyc_memory::OutOfMemory;
 use heap_syntax::Version;
-use proof_file::{ProofFile, write_file};
+use proof_file::ProofFile;
 use proof_syntax::{FileTree, NodeTree, read_tree, write_tree};
+use proof_text::write_file;
 use std::alloc::Global;
 use std::collections::VecDeque;
 
