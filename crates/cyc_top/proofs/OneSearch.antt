@@ -11,7 +11,7 @@ use Rattle.formula_reader.specs.Reading.{AreSame}
 use Rattle.proof_file.specs.declared.file.ProofFile.{ProofFile}
 use Rattle.proof_file.specs.Reading.{IsRead}
 use Rattle.proof_file.specs.Written.{text_of_file}
-use Rattle.proof_file.proofs.Readings.{text_is_read}
+use Rattle.proof_text.proofs.Readings.{text_is_read}
 use Rattle.proof_check.specs.declared.verdict.Verdict.TheVariants.{Accepted}
 use Rattle.proof_check.specs.Files.{node_of}
 use Rattle.tableaux.specs.Tableau.{replay}

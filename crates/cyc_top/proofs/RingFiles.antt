@@ -5,7 +5,7 @@ use Rattle.cyc_lex.specs.declared.fault.ReadFault.TheVariants as faults
 use Rattle.pred_defs.specs.Book.{DefinitionBook}
 use Rattle.proof_file.specs.declared.file.ProofFile.{ProofFile}
 use Rattle.proof_file.specs.Reading.{Reads}
-use Rattle.proof_file.proofs.Readings.{text_read_again}
+use Rattle.proof_text.proofs.Readings.{text_read_again}
 use Rattle.proof_check.specs.declared.verdict.Verdict.{Verdict}
 use Rattle.proof_check.specs.declared.verdict.Verdict.TheVariants.{Accepted}
 use Rattle.proof_check.specs.Files.{nodes_of}

@@ -8,7 +8,7 @@ use Rattle.cyc_lex.specs.declared.fault.ReadFault.{ReadFault}
 use Rattle.proof_file.specs.declared.file.ProofFile.{ProofFile}
 use Rattle.proof_file.specs.Reading.{AreSame, IsRead}
 use Rattle.proof_file.specs.Upgrades.{IsUpgrade}
-use Rattle.proof_file.proofs.Readings.{text_is_read}
+use Rattle.proof_text.proofs.Readings.{text_is_read}
 use Rattle.proof_check.specs.declared.verdict.Verdict.{Verdict}
 use Rattle.proof_check.specs.declared.verdict.Verdict.TheVariants.{Accepted, RuleRefused, PathRefused, TooManyStates}
 use Rattle.proof_check.specs.Files.{nodes_of}

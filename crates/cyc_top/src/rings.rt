@@ -9,7 +9,8 @@ use cyc_memory::OutOfMemory;
 use cyc_runs::{Answer, Status};
 use cyc_texts::ring_line;
 use proof_check::{Verdict, check};
-use proof_file::{ProofFile, read_file, write_file};
+use proof_file::ProofFile;
+use proof_text::{read_file, write_file};
 use ring_family::ring_file;
 use std::alloc::Global;
 

@@ -8,8 +8,8 @@ use cyc_runs::{Answer, Status, Tool, answer_to_fault, fixed_answer};
 use cyc_texts::not_found_line;
 use derivation_search::DERIVATION_LIMIT;
 use formula_reader::read_problem;
-use proof_file::write_file;
 use proof_search::{Proved, prove};
+use proof_text::write_file;
 use std::alloc::Global;
 
 // The proof that was found, as a file has it, or the line that says why there is none.

@@ -2,7 +2,7 @@
 
 use cyc_memory::OutOfMemory;
 use cyc_runs::{Answer, Status, Tool, answer_to_fault};
-use proof_file::{read_file, upgrade, write_file};
+use proof_text::{read_file, upgrade, write_file};
 use std::alloc::Global;
 
 /// The command `upgrade`: a file is written as one of version 2, whether it is correct or not.

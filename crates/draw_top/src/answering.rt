@@ -7,8 +7,9 @@ use crate::writing::write_graph;
 use cyc_memory::OutOfMemory;
 use cyc_runs::{Answer, Status, Tool, answer_to_fault};
 use proof_check::check;
-use proof_file::{ProofFile, read_file};
+use proof_file::ProofFile;
 use proof_picture::picture_of;
+use proof_text::read_file;
 use std::alloc::Global;
 
 /// The text of the picture of a file, with what the check says of it in red.

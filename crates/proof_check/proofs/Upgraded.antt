@@ -22,7 +22,7 @@ use Rattle.proof_graph.specs.Traces.{positions_of, graph_edge}
 use Rattle.proof_graph.proofs.Joined.{mapped_at}
 use Rattle.proof_file.specs.declared.file.ProofFile.{ProofFile}
 use Rattle.proof_file.specs.Upgrades.{IsUpgrade}
-use Rattle.proof_file.proofs.Wider.{node_is_few}
+use Rattle.proof_file.proofs.FewAtoms.{node_is_few}
 use Rattle.proof_check.specs.Files.{graph_node, graph_of, node_of, nodes_of, AreRight}
 use Rattle.proof_check.specs.Verdicts.{file_graph, IsCorrect}
 use Rattle.heap_reader.specs.Small.{is_short_heap}

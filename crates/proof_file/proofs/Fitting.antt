@@ -1,5 +1,5 @@
 -- A file without a flaw fits the values' types.
-use Rattle.std.proofs.Common.{◌≡◌, ℕ, suc, ◌+◌, ◌<◌, ◌≤◌, List, [], ◌∷◌, false, length, None, refl, arith, ap}
+use Rattle.std.proofs.Common.{◌≡◌, ℕ, suc, ◌+◌, ◌<◌, ◌≤◌, List, [], ◌∷◌, false, length, None, arith, ap}
 use Rattle.std.specs.Prelude.{◌||◌, nat_eq, nat_lt, nat_le}
 use Rattle.heap_formula.specs.Words.{Each}
 use Rattle.cyc_lex.specs.declared.fault.What.TheVariants.{Disjuncts, Nodes, ProgramVariables, Variable}
@@ -10,12 +10,11 @@ use Rattle.heap_syntax.specs.Versions.{most_spatial}
 use Rattle.heap_reader.specs.Trees.{Heading}
 use Rattle.heap_reader.specs.Spans.{heap_span}
 use Rattle.heap_reader.specs.Flaws.{ill_if, over_if, or_later, listed_flaw, heap_flaw, heaps_flaw}
-use Rattle.heap_reader.proofs.NoFlaw.{neither, none_later, not_over, at_most, below, each_of, few_all}
+use Rattle.heap_reader.proofs.NoFlaw.{neither, not_over, at_most, below, each_of, few_all}
 use Rattle.heap_reader.proofs.Fitting.{most_fits, heaps_small}
 use Rattle.pred_reader.specs.declared.scope.Scope.TheVariants.{Outside as InNode}
 use Rattle.pred_reader.proofs.Fitting.{term_small, outside_small, definitions_small}
 use Rattle.proof_file.specs.Spans.{term_span, definition_span, judgement_span, pair_span, node_span}
-use Rattle.proof_file.specs.Building.{front_of}
 use Rattle.proof_file.specs.Flaws.{heading, headings, term_flaw, variable_flaw, program_flaw, definition_flaw, entailment_flaw, judgement_flaw, pair_flaw, reason_flaw, node_flaw, first_line, first_node, nodes_flaw, file_flaw}
 use Rattle.heap_reader.specs.Values.{variable_value}
 use Rattle.proof_file.specs.Values.{term_value}
@@ -103,14 +102,6 @@ file_parts f e =
     let a = neither definitions (or_later (program_flaw (first_line f) f.lines) (nodes_flaw f)) e in
     let b = neither (program_flaw (first_line f) f.lines) (nodes_flaw f) a.1 in
     (a.0, b.0, b.1)
-
--- what stands before the nodes of a file without a flaw has none
-pub front_right : (f : File) → file_flaw f ≡ None → file_flaw (front_of f.version f.definitions f.lines) ≡ None
-front_right f e =
-    let definitions = listed_flaw (definition_flaw (most_spatial f.version) (headings f.definitions)) definition_span 0 4 f.definitions in
-    let program = program_flaw (first_line f) f.lines in
-    let parts = file_parts f e in
-    none_later definitions (or_later program None) parts.0 (none_later program None parts.1 refl)
 
 -- a file without a flaw is small
 pub file_small : (f : File) → Each (λ (x : Node). HasDisjunct x.judgement) f.nodes → file_flaw f ≡ None → IsSmallFile f

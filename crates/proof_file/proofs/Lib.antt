@@ -1,11 +1,10 @@
-mod Fitting
+pub mod Fitting
 pub mod SpanLaws
-mod ReadableNodes
+pub mod ReadableNodes
 pub mod WithinSpans
 mod TreesAgain
-pub mod ValuesAgain
 pub mod Readings
-pub mod Wider
+pub mod FewAtoms
 pub mod NodeFlaws
 pub mod FrontSpans
 pub mod Universal

@@ -13,8 +13,8 @@ ghost use Rattle.proof_file.specs.Values.{definition_value, node_value};
 use crate::file::ProofFile;
 use crate::node::{FileNode, FileNodes};
 use crate::scope::ProgramVariables;
-use crate::values::node;
-use crate::walk;
+use crate::values::value_of_node;
+use crate::walk::walk_node;
 use cyc_limits::MOST_PREDICATES;
 use cyc_memory::OutOfMemory;
 use goto_lang::Program;
@@ -107,8 +107,8 @@ pub fn node_of_tree(
     ensures { IsNodeMade (node_flaw (most_spatial version) heads.now lines n at (node_of tree.now))
         (node_value heads.now (node_of tree.now)) result }
 {
-    match walk::node(heads, version.most_spatial(), lines, n, at, tree) {
-        Ok(_) => match node(alloc, heads, tree) {
+    match walk_node(heads, version.most_spatial(), lines, n, at, tree) {
+        Ok(_) => match value_of_node(alloc, heads, tree) {
             Ok(value) => Ok(value),
             Err(OutOfMemory) => Err(NodeFault::OutOfMemory),
         },

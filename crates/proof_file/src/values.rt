@@ -118,7 +118,12 @@ fn reason(alloc: Global, heads: &Heads<'_>, tree: &ReasonTree<'_>) -> Result<Rea
     Ok(Reason::Step(rule))
 }
 
-pub fn node(alloc: Global, heads: &Heads<'_>, tree: &NodeTree<'_>) -> Result<FileNode, OutOfMemory>
+/// What a node says.
+pub fn value_of_node(
+    alloc: Global,
+    heads: &Heads<'_>,
+    tree: &NodeTree<'_>,
+) -> Result<FileNode, OutOfMemory>
     requires small { IsSmallNode (node_of tree.now) }
     requires few { length heads.now ≤ MOST_PREDICATES }
     ensures { IfOk result (λ n. n ≡ node_value heads.now (node_of tree.now)) }
@@ -131,21 +136,4 @@ pub fn node(alloc: Global, heads: &Heads<'_>, tree: &NodeTree<'_>) -> Result<Fil
         reason,
         premises,
     })
-}
-
-/// The nodes of a file.
-pub fn nodes(
-    alloc: Global,
-    heads: &Heads<'_>,
-    trees: &[NodeTree<'_>],
-) -> Result<Vec<FileNode>, OutOfMemory>
-    requires small { Each IsSmallNode (map node_of trees.now) }
-    requires few { length heads.now ≤ MOST_PREDICATES }
-    ensures { IfOk result (λ v. v.items ≡ map (node_value heads.now) (map node_of trees.now)) }
-{
-    let mut nodes = Vec::with_capacity(alloc, trees.len())?;
-    for tree in trees {
-        nodes.push(node(alloc, heads, tree)?)?;
-    }
-    Ok(nodes)
 }

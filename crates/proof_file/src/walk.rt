@@ -1,23 +1,21 @@
-// A walk over a file's tree in the order of its tokens, up to the first flaw. Each function is given the number of the
+// A walk over a node's tree in the order of its tokens, up to the first flaw. Each function is given the number of the
 // part's first token and gives that of the token after it and the one that follows every part of its kind. A heap has at
 // most `most` spatial atoms.
-ghost use Rattle.std.specs.Prelude.{◌≡◌, ◌+◌, ◌<◌, ◌^◌, map, nat_lt};
+ghost use Rattle.std.specs.Prelude.{◌≡◌, ◌+◌, ◌<◌, ◌^◌, nat_lt};
 ghost use Rattle.cyc_lex.specs.declared.fault.What.TheVariants.{Variable};
-ghost use Rattle.proof_syntax.specs.Trees.{heap_of, entailment_of, judgement_of, link_of, reason_of, node_of, file_of};
+ghost use Rattle.proof_syntax.specs.Trees.{heap_of, entailment_of, judgement_of, link_of, reason_of, node_of};
 ghost use Rattle.heap_reader.specs.Spans.{total, total_or, heap_span, premises_rest};
 ghost use Rattle.heap_reader.specs.Flaws.{or_later, over_if, listed_flaw, IsWalk};
 ghost use Rattle.proof_file.specs.Spans.{term_span, entailment_span, judgement_span, pair_span, link_span, reason_span, node_span};
-ghost use Rattle.proof_file.specs.Flaws.{headings, term_flaw, entailment_flaw, state_flaw, judgement_flaw, pair_flaw, reason_flaw, node_flaw, first_node, file_flaw as first_flaw};
+ghost use Rattle.proof_file.specs.Flaws.{term_flaw, entailment_flaw, state_flaw, judgement_flaw, pair_flaw, reason_flaw, node_flaw};
 ghost use Rattle.pred_reader.specs.declared.scope.Scope.TheVariants.{Outside};
 
-use crate::scope::ProgramVariables;
 use cyc_lex::{IllFault, What};
 use cyc_limits::{GREATEST_VARIABLE, MOST_NODES};
-use heap_reader::{Flaw, Heads, TermReader, ill, over, walk_heap, walk_heaps, walk_lines};
-use pred_reader::{Scope, walk_definitions};
+use heap_reader::{Flaw, Heads, TermReader, ill, over, walk_heap, walk_heaps};
+use pred_reader::Scope;
 use proof_syntax::{
-    EntailmentTree, FileTree, HeapTree, JudgementTree, LinkTree, NodeTree, PairTree, ReasonTree,
-    TermTree,
+    EntailmentTree, HeapTree, JudgementTree, LinkTree, NodeTree, PairTree, ReasonTree, TermTree,
 };
 
 fn entailment(
@@ -176,7 +174,7 @@ fn premises(at: usize, numbers: &[u32]) -> usize
 }
 
 /// A node of a file that has so many lines.
-pub fn node(
+pub fn walk_node(
     heads: &Heads<'_>,
     most: u8,
     count: usize,
@@ -194,44 +192,4 @@ pub fn node(
     let by = judgement(heads, most, count, at + 1, &tree.judgement)?;
     let behind = reason(heads, most, by, &tree.reason)?;
     Ok(premises(behind, &tree.premises))
-}
-
-fn nodes(
-    heads: &Heads<'_>,
-    most: u8,
-    count: usize,
-    at: usize,
-    trees: &[NodeTree<'_>],
-) -> Result<usize, Flaw>
-    requires { at + total node_span (map node_of trees.now) < 2 ^ 64 }
-    ensures { IsWalk result (listed_flaw (node_flaw most heads.now count) node_span 0 at (map node_of trees.now))
-        (at + total node_span (map node_of trees.now)) }
-{
-    let mut next = at;
-    for (n, tree) in trees.iter().enumerate() {
-        next = node(heads, most, count, n, next, tree)?;
-    }
-    Ok(next)
-}
-
-/// Definitions, lines and nodes, from the fourth token on.
-fn statements(heads: &Heads<'_>, tree: &FileTree<'_>) -> Result<usize, Flaw>
-    requires known { heads.now ≡ headings (file_of tree.now).definitions }
-    requires fits { first_node (file_of tree.now) + total node_span (map node_of tree.now.nodes.items) < 2 ^ 64 }
-    ensures { IsWalk result (first_flaw (file_of tree.now))
-        (first_node (file_of tree.now) + total node_span (map node_of tree.now.nodes.items)) }
-{
-    let most = tree.version.most_spatial();
-    let first_line = walk_definitions(heads, most, 4, &tree.definitions)?;
-    let first_node = walk_lines(&ProgramVariables, first_line, &tree.lines)?;
-    nodes(heads, most, tree.lines.len(), first_node, &tree.nodes)
-}
-
-/// The first flaw of a file, by its token; the heads are those of its definitions.
-pub fn file_flaw(heads: &Heads<'_>, tree: &FileTree<'_>) -> Option<Flaw>
-    requires known { heads.now ≡ headings (file_of tree.now).definitions }
-    requires fits { first_node (file_of tree.now) + total node_span (map node_of tree.now.nodes.items) < 2 ^ 64 }
-    ensures { result ≡ first_flaw (file_of tree.now) }
-{
-    statements(heads, tree).err()
 }

@@ -2,7 +2,7 @@
 use cyc_memory::OutOfMemory;
 use cyc_runs::answer_to_fault;
 use file_reader::FileReader;
-use proof_file::write_file;
+use proof_text::write_file;
 use std::alloc::Global;
 use std::test::Fail;
 

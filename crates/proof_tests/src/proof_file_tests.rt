@@ -1,6 +1,6 @@
 // What is written of the files that texts spell.
 use crate::texts::file;
-use proof_file::{upgrade, write_file};
+use proof_text::{upgrade, write_file};
 use std::alloc::Global;
 use std::test::Fail;
 

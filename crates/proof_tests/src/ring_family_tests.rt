@@ -1,5 +1,6 @@
 // The text of a ring.
-use proof_file::{ProofFile, write_file};
+use proof_file::ProofFile;
+use proof_text::write_file;
 use ring_family::ring_file;
 use std::alloc::Global;
 use std::test::Fail;

@@ -1,5 +1,6 @@
 // Proof files as texts.
-use proof_file::{ProofFile, read_file};
+use proof_file::ProofFile;
+use proof_text::read_file;
 use std::alloc::Global;
 use std::test::Fail;
 

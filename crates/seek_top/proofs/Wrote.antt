@@ -13,7 +13,7 @@ use Rattle.formula_reader.specs.declared.problem.Problem.{Problem}
 use Rattle.formula_reader.specs.Reading as problems
 use Rattle.proof_file.specs.declared.file.ProofFile.{ProofFile}
 use Rattle.proof_file.specs.Reading as files
-use Rattle.proof_file.proofs.Readings.{text_is_read}
+use Rattle.proof_text.proofs.Readings.{text_is_read}
 use Rattle.seek_top.specs.Found.{IsSought}
 use Rattle.seek_top.specs.Answers.{IsAnswer, IsReadAnswer, IsSearched, WroteProof, sought_status, sought_text, usage_text}
 

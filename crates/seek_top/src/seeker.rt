@@ -7,7 +7,8 @@ use crate::seeking::seek;
 use cyc_memory::OutOfMemory;
 use cyc_runs::{Answer, Status, Tool, answer_to_fault, fixed_answer};
 use formula_reader::read_problem;
-use proof_file::{ProofFile, write_file};
+use proof_file::ProofFile;
+use proof_text::write_file;
 use std::alloc::Global;
 
 // The proof that was found, as a file has it, or the line that says that there is none.

@@ -1,0 +1,4 @@
+mod Fronts
+mod ValuesAgain
+pub mod Readings
+mod Wider
