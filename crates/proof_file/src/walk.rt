@@ -13,7 +13,8 @@ ghost use Rattle.pred_reader.specs.declared.scope.Scope.TheVariants.{Outside};
 use crate::scope::ProgramVariables;
 use cyc_lex::{IllFault, What};
 use cyc_limits::{GREATEST_VARIABLE, MOST_NODES};
-use heap_reader::{Flaw, Heads, TermReader, ill, over, walk_heap, walk_heaps, walk_lines};
+use heap_reader::{Flaw, Heads, TermReader, ill, over, walk_heap, walk_heaps};
+use line_reader::walk_lines;
 use pred_reader::{Scope, walk_definitions};
 use proof_syntax::{
     EntailmentTree, FileTree, HeapTree, JudgementTree, LinkTree, NodeTree, PairTree, ReasonTree,
