@@ -1,6 +1,6 @@
 -- A flaw stands at a token of its part.
 use Rattle.std.proofs.Common.{◌≡◌, ℕ, suc, ◌+◌, ◌<◌, ◌≤◌, Bool, true, false, List, [], ◌∷◌, length, Option, Some, None, subst, arith}
-use Rattle.std.specs.Prelude.{nat_eq, nat_lt, nat_le, not, ◌&&◌, ◌||◌}
+use Rattle.std.specs.Prelude.{nat_eq, nat_le, not}
 use Rattle.cyc_lex.specs.declared.fault.IllFault.{IllFault}
 use Rattle.cyc_lex.specs.declared.fault.IllFault.TheVariants.{Arity}
 use Rattle.cyc_lex.specs.declared.fault.What.{What}
