@@ -8,7 +8,7 @@ use Rattle.heap_syntax.specs.Versions.{most_spatial}
 use Rattle.heap_reader.specs.Trees.{Heading}
 use Rattle.heap_reader.specs.Spans.{total}
 use Rattle.heap_reader.specs.Flaws.{Found as Flaws, or_later}
-use Rattle.heap_reader.specs.Values.{program_value}
+use Rattle.line_reader.specs.Values.{program_value}
 use Rattle.heap_reader.specs.declared.flaw.Flaw.{Flaw}
 use Rattle.heap_reader.proofs.NoFlaw.{neither}
 use Rattle.heap_reader.proofs.WithinSpans.{Before, flaw_within}

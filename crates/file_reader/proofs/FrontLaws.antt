@@ -10,7 +10,8 @@ use Rattle.heap_syntax.specs.declared.version.Version.{Version}
 use Rattle.heap_syntax.specs.Versions.{most_spatial}
 use Rattle.heap_reader.specs.Trees.{Heading}
 use Rattle.heap_reader.specs.Flaws.{or_later, listed_flaw}
-use Rattle.heap_reader.specs.Spans.{total, line_span}
+use Rattle.heap_reader.specs.Spans.{total}
+use Rattle.line_reader.specs.Spans.{line_span}
 use Rattle.heap_reader.proofs.Fitting.{most_fits}
 use Rattle.heap_reader.proofs.NoFlaw.{neither}
 use Rattle.proof_syntax.specs.Trees.{Definition, Line, Node, File, node_of}

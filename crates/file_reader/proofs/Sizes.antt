@@ -8,8 +8,8 @@ use Rattle.cyc_grammar.specs.Syntax.{◌>>=◌, read_one, all_taken}
 use Rattle.cyc_grammar.specs.Classes.{the_end}
 use Rattle.command_syntax.specs.Grammar as commands
 use Rattle.heap_syntax.specs.declared.version.Version.{Version}
-use Rattle.heap_reader.specs.Spans.{line_span}
-use Rattle.heap_reader.proofs.SpanLaws.{lines_words}
+use Rattle.line_reader.specs.Spans.{line_span}
+use Rattle.line_reader.proofs.SpanLaws.{lines_words}
 use Rattle.pred_reader.proofs.SpanLaws.{definition_words}
 use Rattle.proof_syntax.specs.Trees.{Line, Node}
 use Rattle.proof_syntax.specs.Grammar.{variable}

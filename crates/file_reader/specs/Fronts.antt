@@ -9,7 +9,8 @@ use Rattle.cyc_grammar.specs.declared.cursor.Refusal.{Refusal}
 use Rattle.heap_syntax.specs.declared.keep.Keep.{Keep}
 use Rattle.heap_syntax.specs.declared.keep.Keep.TheVariants.{Beyond}
 use Rattle.heap_syntax.specs.declared.version.Version.{Version}
-use Rattle.heap_reader.specs.Spans.{total, line_span}
+use Rattle.heap_reader.specs.Spans.{total}
+use Rattle.line_reader.specs.Spans.{line_span}
 use Rattle.proof_syntax.specs.Trees.{Definition, Line, Node, File, definition_of, node_of}
 use Rattle.proof_syntax.specs.Grammar.{node, file}
 use Rattle.proof_syntax.specs.Keeping.{definition_front, node_front}

@@ -6,7 +6,7 @@ use Rattle.heap_syntax.specs.Versions.{most_spatial}
 use Rattle.heap_formula.specs.declared.commands.Command.{Command}
 use Rattle.heap_formula.specs.Definitions.{Definition as DefinitionValue}
 use Rattle.heap_reader.specs.Trees.{Heading}
-use Rattle.heap_reader.specs.Values.{program_value}
+use Rattle.line_reader.specs.Values.{program_value}
 use Rattle.proof_syntax.specs.Trees.{Definition, Line, Node}
 use Rattle.proof_file.specs.declared.building.FileFront.{FileFront}
 use Rattle.proof_file.specs.Flaws.{headings, node_flaw, file_flaw}

@@ -5,13 +5,14 @@ use Rattle.cyc_lex.specs.Placed.{Placed}
 use Rattle.cyc_lex.specs.Word.{Word, word_of}
 use Rattle.heap_syntax.specs.declared.version.Version.{Version}
 use Rattle.heap_syntax.specs.Versions.{most_spatial}
-use Rattle.heap_reader.specs.Spans.{total, line_span}
+use Rattle.heap_reader.specs.Spans.{total}
+use Rattle.line_reader.specs.Spans.{line_span}
 use Rattle.proof_syntax.specs.Trees.{Definition, Line, Node, File}
 use Rattle.proof_syntax.specs.Grammar.{file}
 use Rattle.proof_statements.specs.Left.{Part, First, Preds, Lines, Nodes as Among, Reached, At, Left, left_of, Statement, joined}
 use Rattle.proof_file.specs.Flaws.{headings, node_flaw, first_node, file_flaw}
 use Rattle.proof_file.specs.Spans.{definition_span, variable_span, node_span}
-use Rattle.heap_reader.specs.Values.{program_value}
+use Rattle.line_reader.specs.Values.{program_value}
 use Rattle.proof_file.specs.Values.{definition_value, node_value}
 use Rattle.file_reader.specs.Outcomes.{or_else, told_flaw}
 use Rattle.file_reader.specs.Stages.{Begun, Stage, ahead}

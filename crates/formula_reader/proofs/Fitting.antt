@@ -9,11 +9,11 @@ use Rattle.heap_syntax.specs.Versions.{most_spatial}
 use Rattle.heap_reader.specs.Trees.{Heading}
 use Rattle.heap_reader.specs.Spans.{heap_span}
 use Rattle.heap_reader.specs.Flaws.{ill_if, over_if, or_later, arity_in, heap_flaw, heaps_flaw}
-use Rattle.heap_reader.specs.LineFlaws.{lines_flaw}
+use Rattle.line_reader.specs.LineFlaws.{lines_flaw}
 use Rattle.heap_reader.specs.Small.{IsSmall, IsSmallHeap}
 use Rattle.heap_reader.proofs.NoFlaw.{neither, not_over, not_ill, at_most, below, each_of, few_all}
 use Rattle.heap_reader.proofs.Fitting.{most_fits, heap_small, heaps_small}
-use Rattle.heap_reader.proofs.Programs.{lines_are_program}
+use Rattle.line_reader.proofs.Programs.{lines_are_program}
 use Rattle.name_numbers.specs.declared.tree.NumberedTerm.{NumberedTerm}
 use Rattle.name_numbers.specs.declared.tree.NumberedTerm.TheVariants.{Nil, Universal, Existential}
 use Rattle.name_numbers.specs.Numbered.{Heap, Definition, Goal, Entailment, From, Problem}
@@ -21,7 +21,7 @@ use Rattle.formula_reader.specs.declared.terms.Scope.{Scope}
 use Rattle.formula_reader.specs.declared.terms.Scope.TheVariants.{Goal as InGoal, Case as InCase}
 use Rattle.formula_reader.specs.Spans.{term_span, variable_span, lines_span, parameter_span, parameters_span, definition_span, definitions_span}
 use Rattle.formula_reader.specs.Flaws.{headings, term_flaw, variable_flaw, parameter_flaw, parameters_flaw, head_flaw, cases_flaw, definition_flaw, definitions_flaw, goal_flaw, problem_flaw}
-use Rattle.heap_reader.specs.Values.{variable_value}
+use Rattle.line_reader.specs.Values.{variable_value}
 use Rattle.formula_reader.specs.Values.{term_value}
 use Rattle.formula_reader.specs.Small.{IsSmallDefinition, HasDisjunct, IsSmallGoal, IsSmallProblem}
 

@@ -22,8 +22,9 @@ use Rattle.heap_syntax.specs.Versions.{most_spatial}
 use Rattle.heap_reader.specs.Trees.{Heading}
 use Rattle.heap_reader.specs.Spans.{heap_span, pure_span, pures_span, spatial_span}
 use Rattle.heap_reader.specs.Flaws.{ill_if, over_if, or_later, listed_flaw, arguments_flaw, pure_flaw, spatial_flaw, arity_in, use_flaw, heap_flaw, counted_flaw, heaps_flaw}
-use Rattle.heap_reader.specs.LineFlaws.{lines_flaw}
-use Rattle.heap_reader.specs.Values.{place_of, pure_value, spatial_value, heap_value, line_value, variable_value, program_value}
+use Rattle.line_reader.specs.LineFlaws.{lines_flaw}
+use Rattle.heap_reader.specs.Values.{place_of, pure_value, spatial_value, heap_value}
+use Rattle.line_reader.specs.Values.{line_value, variable_value, program_value}
 use Rattle.heap_reader.proofs.Fitting.{heap_few, heaps_few}
 use Rattle.heap_reader.proofs.NoFlaw.{neither, not_ill, each_of}
 use Rattle.name_numbers.specs.Names.{Name}

@@ -19,8 +19,10 @@ use Rattle.command_syntax.specs.Trees.{operand_of, change_of, command_of}
 use Rattle.problem_syntax.specs.Trees as named
 use Rattle.problem_syntax.specs.Trees.{Named, Nil, Plain, Primed}
 use Rattle.problem_syntax.specs.Grammar.{primes, term, terms, behind_address, behind_name, spatial, heap, parameters, cases, definition, disjuncts, state, entailment, goal, definitions, lines, last_part, body, problem}
-use Rattle.heap_reader.specs.Spans.{total, total_or, pure_span, spatial_span, heap_span, operand_span, change_span, command_span, line_span}
-use Rattle.heap_reader.proofs.SpanLaws.{listed_words, alone, heap_words, heaps_words, lines_words}
+use Rattle.heap_reader.specs.Spans.{total, total_or, pure_span, spatial_span, heap_span}
+use Rattle.line_reader.specs.Spans.{operand_span, change_span, command_span, line_span}
+use Rattle.heap_reader.proofs.SpanLaws.{listed_words, alone, heap_words, heaps_words}
+use Rattle.line_reader.proofs.SpanLaws.{lines_words}
 use Rattle.name_numbers.specs.Names.{Name, has, firsts, place_of}
 use Rattle.name_numbers.specs.Occurrences.{plain, primed_names}
 use Rattle.name_numbers.specs.Numbering as numbers

@@ -9,8 +9,9 @@ use Rattle.heap_syntax.specs.Versions.{most_spatial}
 use Rattle.heap_reader.specs.Trees.{Heading}
 use Rattle.heap_reader.specs.Spans.{heap_span}
 use Rattle.heap_reader.specs.Flaws.{ill_if, over_if, or_later, arity_in, heap_flaw, heaps_flaw}
-use Rattle.heap_reader.specs.LineFlaws.{lines_flaw}
-use Rattle.heap_reader.proofs.WithinSpans.{Before, first_before, over_before, ill_before, later, listed_before, listed_or_before, heap_before, heaps_before, lines_before}
+use Rattle.line_reader.specs.LineFlaws.{lines_flaw}
+use Rattle.heap_reader.proofs.WithinSpans.{Before, first_before, over_before, ill_before, later, listed_before, listed_or_before, heap_before, heaps_before}
+use Rattle.line_reader.proofs.WithinSpans.{lines_before}
 use Rattle.name_numbers.specs.declared.tree.NumberedTerm.{NumberedTerm}
 use Rattle.name_numbers.specs.declared.tree.NumberedTerm.TheVariants.{Nil, Universal, Existential}
 use Rattle.name_numbers.specs.Numbered.{Definition, Goal, Entailment, From, Problem}

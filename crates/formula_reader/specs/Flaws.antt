@@ -9,7 +9,7 @@ use Rattle.heap_syntax.specs.Versions.{most_spatial}
 use Rattle.heap_reader.specs.Trees.{Heading}
 use Rattle.heap_reader.specs.Spans.{heap_span}
 use Rattle.heap_reader.specs.Flaws.{Found, ill_if, over_if, or_later, listed_flaw, arity_in, heap_flaw, heaps_flaw}
-use Rattle.heap_reader.specs.LineFlaws.{lines_flaw}
+use Rattle.line_reader.specs.LineFlaws.{lines_flaw}
 use Rattle.name_numbers.specs.declared.tree.NumberedTerm.{NumberedTerm}
 use Rattle.name_numbers.specs.declared.tree.NumberedTerm.TheVariants.{Nil, Universal, Existential}
 use Rattle.name_numbers.specs.Numbered.{Heap, Definition, Goal, Entailment, From, Problem}

@@ -10,7 +10,7 @@ use Rattle.name_numbers.specs.Numbered as numbers
 use Rattle.name_numbers.specs.Numbering.{numbered}
 use Rattle.formula_reader.specs.declared.problem.Problem.{Problem}
 use Rattle.formula_reader.specs.Flaws.{headings, problem_flaw}
-use Rattle.heap_reader.specs.Values.{program_value}
+use Rattle.line_reader.specs.Values.{program_value}
 use Rattle.formula_reader.specs.Values.{definition_value, goal_value}
 
 -- the problem that a numbered tree says

@@ -4,7 +4,7 @@ use Rattle.cyc_limits.specs.declared.TheConstants.{MOST_ARGUMENTS, MOST_CASES, M
 use Rattle.heap_formula.specs.Words.{Each}
 use Rattle.goto_lang.specs.Faults.{program_fault}
 use Rattle.heap_reader.specs.Small.{IsSmallHeap}
-use Rattle.heap_reader.specs.Values.{line_value, variable_value}
+use Rattle.line_reader.specs.Values.{line_value, variable_value}
 use Rattle.name_numbers.specs.Numbered.{Heap, Definition, Goal, Entailment, From, Problem}
 use Rattle.formula_reader.specs.Values.{term_value}
 

@@ -14,7 +14,7 @@ use Rattle.problem_syntax.specs.Trees as named
 use Rattle.name_numbers.specs.Numbered as numbers
 use Rattle.name_numbers.specs.Numbering.{numbered}
 use Rattle.formula_reader.specs.Flaws.{headings, problem_flaw}
-use Rattle.heap_reader.specs.Values.{program_value}
+use Rattle.line_reader.specs.Values.{program_value}
 use Rattle.formula_reader.specs.Values.{definition_value, goal_value}
 
 -- the numbers are those of a tree with names that the grammar has

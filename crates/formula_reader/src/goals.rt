@@ -10,7 +10,8 @@ ghost use Rattle.formula_reader.specs.Flaws.{headings, goal_flaw, problem_flaw a
 use crate::terms::{Scope, Variables};
 use crate::walk::definitions;
 use cyc_lex::{IllFault, What};
-use heap_reader::{Flaw, Heads, ill, walk_heap, walk_heaps, walk_lines};
+use heap_reader::{Flaw, Heads, ill, walk_heap, walk_heaps};
+use line_reader::walk_lines;
 use name_numbers::{NumberedGoal, NumberedHeap, NumberedProblem};
 
 fn entailment(

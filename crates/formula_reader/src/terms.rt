@@ -8,7 +8,8 @@ ghost use Rattle.formula_reader.specs.Spans.{name_span};
 use cyc_lex::{IllFault, What};
 use cyc_limits::{GREATEST_LOCAL, GREATEST_PROGRAM_VARIABLE, GREATEST_VARIABLE};
 use heap_formula::Term;
-use heap_reader::{Flaw, TermReader, VariableReader, ill, over};
+use heap_reader::{Flaw, TermReader, ill, over};
+use line_reader::VariableReader;
 use name_numbers::NumberedTerm;
 
 /// Where a term stands: in the goal, or in a case of a predicate with so many parameters.

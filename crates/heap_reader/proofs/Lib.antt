@@ -1,13 +1,12 @@
 mod TokenPlaces
 pub mod NoFlaw
 pub mod Fitting
-pub mod Programs
 pub mod WithinSpans
 pub mod SpanLaws
 pub mod Readings
 pub mod Wider
 mod Indexes
-mod Loops
+pub mod Loops
 pub mod Members
 pub mod FirstPlaces
 pub mod FlawFronts

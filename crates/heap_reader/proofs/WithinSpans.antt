@@ -1,24 +1,16 @@
 -- A flaw stands at a token of its part.
 use Rattle.std.proofs.Common.{◌≡◌, ℕ, suc, ◌+◌, ◌<◌, ◌≤◌, Bool, true, false, List, [], ◌∷◌, length, Option, Some, None, subst, arith}
-use Rattle.std.specs.Prelude.{nat_eq, nat_lt, nat_le, not, ◌&&◌, ◌||◌}
+use Rattle.std.specs.Prelude.{nat_eq, nat_le, not}
 use Rattle.cyc_lex.specs.declared.fault.IllFault.{IllFault}
-use Rattle.cyc_lex.specs.declared.fault.IllFault.TheVariants.{Arity, FallsOff, Numbering, Jump}
+use Rattle.cyc_lex.specs.declared.fault.IllFault.TheVariants.{Arity}
 use Rattle.cyc_lex.specs.declared.fault.What.{What}
-use Rattle.cyc_lex.specs.declared.fault.What.TheVariants.{Arguments, Pure, Spatial as SpatialAtoms, Lines, Fields}
+use Rattle.cyc_lex.specs.declared.fault.What.TheVariants.{Arguments, Pure, Spatial as SpatialAtoms}
 use Rattle.heap_syntax.specs.declared.tree.PureTree.{PureTree}
 use Rattle.heap_syntax.specs.Trees.{Spatial, Cell, Predicate, Heap}
-use Rattle.command_syntax.specs.declared.tree.OperandTree.{OperandTree}
-use Rattle.command_syntax.specs.declared.tree.OperandTree.TheVariants.{Nil, Variable}
-use Rattle.command_syntax.specs.declared.tree.ChangeTree.{ChangeTree}
-use Rattle.command_syntax.specs.declared.tree.ChangeTree.TheVariants.{New, Assign, Load, Store}
-use Rattle.command_syntax.specs.declared.tree.CommandTree.{CommandTree}
-use Rattle.command_syntax.specs.declared.tree.CommandTree.TheVariants.{Stop, Goto, Free, IfAny, If, StoreAtNil, Change}
-use Rattle.command_syntax.specs.declared.tree.LineTree.{LineTree}
 use Rattle.heap_reader.specs.declared.flaw.Flaw.{Flaw}
 use Rattle.heap_reader.specs.Trees.{Heading}
-use Rattle.heap_reader.specs.Spans.{total, total_or, pure_span, pures_span, spatial_span, spatials_span, heap_span, operand_span, change_span, command_span, line_span}
+use Rattle.heap_reader.specs.Spans.{total, total_or, pure_span, pures_span, spatial_span, spatials_span, heap_span}
 use Rattle.heap_reader.specs.Flaws.{Found, ill_if, over_if, or_later, listed_flaw, argument_flaw, arguments_flaw, pure_flaw, arity_in, use_flaw, cell_flaw, spatial_flaw, heap_flaw, counted_flaw, heaps_flaw}
-use Rattle.heap_reader.specs.LineFlaws.{field_flaw, jump_flaw, goes_on, operand_flaw, change_flaw, branch_flaw, command_flaw, line_head_flaw, line_flaw, lines_flaw}
 
 -- each flaw stands before token m
 abbrev pub Before : Found → ℕ → Type 0
@@ -110,63 +102,3 @@ module _ {T : Type 0} (flaw : ℕ → T → Found) (span : T → ℕ) (some_span
 
     pub heaps_before : (what : What) (k : ℕ) (heaps : List (Heap T)) → Before (heaps_flaw flaw span most hs what k heaps) (k + total (heap_span span) heaps)
     heaps_before what k heaps = listed_before (counted_flaw flaw span most hs what) (heap_span span) (counted_before what) 0 k heaps
-
--- ---- lines
-
-field_before : (k n m : ℕ) → k < m → Before (field_flaw k n) m
-field_before k n m h = over_before (nat_eq n 0 || nat_lt 8 n) Fields k m h
-
-jump_before : (count k n m : ℕ) → k < m → Before (jump_flaw count k n) m
-jump_before count k n m h = ill_before (nat_eq n 0 || nat_lt count n) Jump k m h
-
-line_head_before : (count n k number m : ℕ) (follows : Bool) → k + 1 < m → Before (line_head_flaw count n k number follows) m
-line_head_before count n k number m follows h =
-    let falls = nat_eq (suc n) count && follows in
-    let other = not (nat_eq number (suc n)) in
-    first_before (ill_if falls FallsOff k) (or_later (over_if (nat_le 4096 n) Lines k) (ill_if other Numbering (k + 1))) m (ill_before falls FallsOff k m (omega arith)) (first_before (over_if (nat_le 4096 n) Lines k) (ill_if other Numbering (k + 1)) m (over_before (nat_le 4096 n) Lines k m (omega arith)) (ill_before other Numbering (k + 1) m h))
-
-module _ {V : Type 0} (flaw : ℕ → V → Found) (span : V → ℕ) (variable_before : (k : ℕ) (v : V) → Before (flaw k v) (k + span v)) where
-  operand_before : (k : ℕ) (t : OperandTree V) → Before (operand_flaw flaw span k t) (k + operand_span span t)
-  operand_before k Nil = tt
-  operand_before k (Variable v) = variable_before k v
-
-  change_before : (k : ℕ) (c : ChangeTree V) → Before (change_flaw flaw span k c) (k + change_span span c)
-  change_before k (New n) = field_before (k + 1) n (k + 3) (omega arith)
-  change_before k (Assign t) = operand_before k t
-  change_before k (Load t n) =
-      let p = k + operand_span span t in
-      let m = k + change_span span (Load t n) in
-      first_before (operand_flaw flaw span k t) (field_flaw p n) m (later (operand_flaw flaw span k t) p m (omega arith) (operand_before k t)) (field_before p n m (omega arith))
-  change_before k (Store n t) =
-      let m = k + change_span span (Store n t) in
-      first_before (field_flaw k n) (operand_flaw flaw span (k + 2) t) m (field_before k n m (omega arith)) (later (operand_flaw flaw span (k + 2) t) (k + 2 + operand_span span t) m (omega arith) (operand_before (k + 2) t))
-
-  branch_before : (count k : ℕ) (t u : OperandTree V) (n : ℕ) → Before (branch_flaw flaw span count k t u n) (k + operand_span span t + operand_span span u + 2)
-  branch_before count k t u n =
-      let p = k + operand_span span t in
-      let q = p + operand_span span u in
-      let m = q + 2 in
-      first_before (operand_flaw flaw span k t) (or_later (operand_flaw flaw span p u) (jump_flaw count q n)) m (later (operand_flaw flaw span k t) p m (omega arith) (operand_before k t)) (first_before (operand_flaw flaw span p u) (jump_flaw count q n) m (later (operand_flaw flaw span p u) q m (omega arith) (operand_before p u)) (jump_before count q n m (omega arith)))
-
-  command_before : (count k : ℕ) (c : CommandTree V) → Before (command_flaw flaw span count k c) (k + command_span span c)
-  command_before count k Stop = tt
-  command_before count k (IfAny n) = jump_before count (k + 3) n (k + 5) (omega arith)
-  command_before count k (Goto n) = jump_before count (k + 1) n (k + 3) (omega arith)
-  command_before count k (Free t) = later (operand_flaw flaw span (k + 1) t) (k + 1 + operand_span span t) (k + command_span span (Free t)) (omega arith) (operand_before (k + 1) t)
-  command_before count k (If t b u n) = later (branch_flaw flaw span count (k + 1) t u n) (k + 1 + operand_span span t + operand_span span u + 2) (k + command_span span (If t b u n)) (omega arith) (branch_before count (k + 1) t u n)
-  command_before count k (StoreAtNil n t) =
-      let m = k + command_span span (StoreAtNil n t) in
-      first_before (field_flaw (k + 2) n) (operand_flaw flaw span (k + 4) t) m (field_before (k + 2) n m (omega arith)) (later (operand_flaw flaw span (k + 4) t) (k + 4 + operand_span span t) m (omega arith) (operand_before (k + 4) t))
-  command_before count k (Change v c) =
-      let p = k + span v in
-      let m = k + command_span span (Change v c) in
-      first_before (flaw k v) (change_flaw flaw span p c) m (later (flaw k v) p m (omega arith) (variable_before k v)) (later (change_flaw flaw span p c) (p + change_span span c) m (omega arith) (change_before p c))
-
-  line_before : (count n k : ℕ) (l : LineTree V) → Before (line_flaw flaw span count n k l) (k + line_span span l)
-  line_before count n k l =
-      let m = k + line_span span l in
-      let c = command_flaw flaw span count (k + 3) l.command in
-      first_before (line_head_flaw count n k l.number (goes_on l.command)) c m (line_head_before count n k l.number m (goes_on l.command) (omega arith)) (later c (k + 3 + command_span span l.command) m (omega arith) (command_before count (k + 3) l.command))
-
-  pub lines_before : (k : ℕ) (ls : List (LineTree V)) → Before (lines_flaw flaw span k ls) (k + total (line_span span) ls)
-  lines_before k ls = listed_before (line_flaw flaw span (length ls)) (line_span span) (line_before (length ls)) 0 k ls

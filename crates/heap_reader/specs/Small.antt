@@ -3,8 +3,6 @@ use Rattle.std.specs.Prelude.{ℕ, ◌<◌, ◌≤◌, List, length, Bool, nat_l
 use Rattle.cyc_limits.specs.declared.TheConstants.{MOST_ARGUMENTS, MOST_PURE, MOST_SPATIAL}
 use Rattle.heap_formula.specs.declared.terms.Term.{Term}
 use Rattle.heap_formula.specs.declared.terms.Term.TheVariants.{Nil, Univ, Exist}
-use Rattle.heap_formula.specs.declared.commands.Command.{Command}
-use Rattle.heap_formula.specs.declared.commands.Command.TheVariants.{Assign, Load, Store, New, Free, IfEq, IfNeq, IfAny, Goto, Stop}
 use Rattle.heap_formula.specs.Symbolic.{SymbolicHeap}
 use Rattle.heap_formula.specs.Words.{Each}
 use Rattle.heap_syntax.specs.declared.tree.PureTree.{PureTree}
@@ -34,23 +32,6 @@ module _ {T : Type 0} (value : T → Term) where
     pub pure_few : length h.pure ≤ MOST_PURE
     pub spatial : Each IsSmallSpatial h.spatial
     pub spatial_few : length h.spatial ≤ MOST_SPATIAL
-
--- ---- lines
-
-abbrev pub IsSmallCommand : Command → Type 0
-IsSmallCommand (Assign x t) = (x < 65536) × IsSmallTerm t
-IsSmallCommand (Load x t k) = (x < 65536) × IsSmallTerm t × (k < 256)
-IsSmallCommand (Store t k u) = IsSmallTerm t × (k < 256) × IsSmallTerm u
-IsSmallCommand (New x k) = (x < 65536) × (k < 256)
-IsSmallCommand (Free t) = IsSmallTerm t
-IsSmallCommand (IfEq t u j) = IsSmallTerm t × IsSmallTerm u
-IsSmallCommand (IfNeq t u j) = IsSmallTerm t × IsSmallTerm u
-IsSmallCommand (IfAny j) = Unit {0}
-IsSmallCommand (Goto j) = Unit {0}
-IsSmallCommand Stop = Unit {0}
-
-abbrev pub IsSmallLine : ℕ × Command → Type 0
-IsSmallLine l = IsSmallCommand l.1
 
 -- at most so many spatial atoms
 abbrev pub is_short_heap : ℕ → SymbolicHeap → Bool

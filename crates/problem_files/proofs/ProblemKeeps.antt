@@ -31,10 +31,11 @@ use Rattle.problem_syntax.specs.Grammar.{heap, cases, definition, definitions, d
 use Rattle.heap_reader.specs.Trees.{Heading}
 use Rattle.heap_reader.specs.Spans.{heap_span}
 use Rattle.heap_reader.specs.Flaws.{ill_if, over_if, or_later, heap_flaw, counted_flaw, heaps_flaw}
-use Rattle.heap_reader.specs.LineFlaws.{lines_flaw}
+use Rattle.line_reader.specs.LineFlaws.{lines_flaw}
 use Rattle.heap_reader.specs.Small.{IsSmallHeap}
-use Rattle.heap_reader.specs.Values.{heap_value, line_value, variable_value, program_value}
-use Rattle.heap_reader.proofs.Programs.{lines_universal}
+use Rattle.heap_reader.specs.Values.{heap_value}
+use Rattle.line_reader.specs.Values.{line_value, variable_value, program_value}
+use Rattle.line_reader.proofs.Programs.{lines_universal}
 use Rattle.heap_syntax.specs.declared.version.Version.{Version}
 use Rattle.heap_syntax.specs.Versions.{most_spatial}
 use Rattle.heap_reader.proofs.Fitting.{most_fits, heap_few, heaps_few}

@@ -11,7 +11,7 @@ use Rattle.command_syntax.specs.Trees.{command_of}
 use Rattle.command_syntax.specs.Grammar as syntax
 use Rattle.problem_syntax.specs.Trees as named
 use Rattle.problem_syntax.specs.Grammar.{lines}
-use Rattle.heap_reader.specs.Values.{command_value, variable_value, program_value}
+use Rattle.line_reader.specs.Values.{command_value, variable_value, program_value}
 use Rattle.name_numbers.specs.Names.{Name, place_of}
 use Rattle.name_numbers.specs.Occurrences.{plain}
 use Rattle.name_numbers.specs.Numbering as numbers

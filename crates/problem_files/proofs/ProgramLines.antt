@@ -20,9 +20,9 @@ use Rattle.cyc_grammar.specs.Syntax.{fits_many}
 use Rattle.heap_syntax.specs.Grammar as shared
 use Rattle.heap_syntax.specs.declared.version.Version.{Version}
 use Rattle.command_syntax.specs.Grammar as syntax
-use Rattle.heap_reader.specs.Spans.{operand_span, line_span}
+use Rattle.line_reader.specs.Spans.{operand_span, line_span}
 use Rattle.heap_reader.specs.Flaws.{ill_if, over_if, or_later, listed_flaw}
-use Rattle.heap_reader.specs.LineFlaws.{field_flaw, jump_flaw, goes_on, operand_flaw, command_flaw, line_head_flaw, line_flaw}
+use Rattle.line_reader.specs.LineFlaws.{field_flaw, jump_flaw, goes_on, operand_flaw, command_flaw, line_head_flaw, line_flaw}
 use Rattle.proof_syntax.specs.Trees.{Line}
 use Rattle.proof_syntax.specs.Grammar.{variable}
 use Rattle.proof_syntax.specs.Grammar as grammar

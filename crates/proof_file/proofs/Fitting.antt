@@ -16,7 +16,7 @@ use Rattle.pred_reader.specs.declared.scope.Scope.TheVariants.{Outside as InNode
 use Rattle.pred_reader.proofs.Fitting.{term_small, outside_small, definitions_small}
 use Rattle.proof_file.specs.Spans.{term_span, definition_span, judgement_span, pair_span, node_span}
 use Rattle.proof_file.specs.Flaws.{heading, headings, term_flaw, variable_flaw, program_flaw, definition_flaw, entailment_flaw, judgement_flaw, pair_flaw, reason_flaw, node_flaw, first_line, first_node, nodes_flaw, file_flaw}
-use Rattle.heap_reader.specs.Values.{variable_value}
+use Rattle.line_reader.specs.Values.{variable_value}
 use Rattle.proof_file.specs.Values.{term_value}
 use Rattle.proof_file.specs.Small.{IsSmallEntailment, IsSmallJudgement, IsSmallPair, IsSmallReason, IsSmallNode, IsSmallFile}
 use Rattle.std.proofs.lemmas.List.{length-map}

@@ -23,7 +23,8 @@ use Rattle.proof_syntax.specs.Grammar.{uterm, terms, pure, pures, spatial, heap,
 use Rattle.heap_syntax.specs.Versions.{most_spatial}
 use Rattle.heap_reader.specs.Trees.{Heading}
 use Rattle.heap_reader.specs.Flaws.{ill_if, listed_flaw, heap_flaw}
-use Rattle.heap_reader.specs.Values.{pure_value, spatial_value, heap_value, operand_value, command_value, variable_value, program_value}
+use Rattle.heap_reader.specs.Values.{pure_value, spatial_value, heap_value}
+use Rattle.line_reader.specs.Values.{operand_value, command_value, variable_value, program_value}
 use Rattle.heap_reader.proofs.Fitting.{most_fits}
 use Rattle.heap_reader.proofs.NoFlaw.{neither, not_ill, positive}
 use Rattle.proof_file.proofs.Fitting.{node_parts, file_parts}

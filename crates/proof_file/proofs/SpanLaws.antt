@@ -4,8 +4,10 @@ use Rattle.heap_formula.specs.Words.{Each}
 use Rattle.cyc_grammar.specs.Classes.{the_end}
 use Rattle.cyc_grammar.specs.Syntax.{words_many, fits_many, list1}
 use Rattle.heap_syntax.specs.Grammar as shared
-use Rattle.heap_reader.specs.Spans.{total, total_or, line_span, premises_rest}
-use Rattle.heap_reader.proofs.SpanLaws.{between, alone, lines_words}
+use Rattle.heap_reader.specs.Spans.{total, total_or, premises_rest}
+use Rattle.line_reader.specs.Spans.{line_span}
+use Rattle.heap_reader.proofs.SpanLaws.{between, alone}
+use Rattle.line_reader.proofs.SpanLaws.{lines_words}
 use Rattle.pred_reader.proofs.SpanLaws.{uterm_words, heap_words, heaps_words, definition_words}
 use Rattle.proof_syntax.specs.declared.tree.PairTree.{PairTree}
 use Rattle.proof_syntax.specs.Trees.{Entailment, Judgement, Entails, From, LinkData, Reason, Absurd, Rewrite, Split, Distinct, Weaken, Unfold, Cut, Done, Choose, PureRight, Instantiate, Frame, UnfoldRight, Exec, Drop, Link, Node, File}

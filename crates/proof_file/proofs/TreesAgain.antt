@@ -15,10 +15,12 @@ use Rattle.proof_syntax.specs.declared.tree.PairTree.{PairTree}
 use Rattle.proof_syntax.specs.Trees.{Line, Judgement, Entails, From, Reason, Absurd, Rewrite, Split, Distinct, Weaken, Unfold, Cut, Done, Choose, PureRight, Instantiate, Frame, UnfoldRight, Exec, Drop, Link, Node, File}
 use Rattle.heap_syntax.specs.Versions.{most_spatial}
 use Rattle.heap_reader.specs.Trees.{Heading}
-use Rattle.heap_reader.specs.Spans.{heap_span, line_span}
+use Rattle.heap_reader.specs.Spans.{heap_span}
+use Rattle.line_reader.specs.Spans.{line_span}
 use Rattle.heap_reader.specs.Flaws.{ill_if, over_if, or_later, listed_flaw, arity_in, use_flaw, heap_flaw, heaps_flaw}
-use Rattle.heap_reader.specs.LineFlaws.{goes_on, line_head_flaw, command_flaw, line_flaw}
-use Rattle.heap_reader.specs.Values.{place_of, operand_value, command_value, variable_value, program_value}
+use Rattle.line_reader.specs.LineFlaws.{goes_on, line_head_flaw, command_flaw, line_flaw}
+use Rattle.heap_reader.specs.Values.{place_of}
+use Rattle.line_reader.specs.Values.{operand_value, command_value, variable_value, program_value}
 use Rattle.heap_reader.proofs.Fitting.{most_fits}
 use Rattle.heap_reader.proofs.NoFlaw.{neither, not_ill}
 use Rattle.pred_reader.specs.declared.scope.Scope.TheVariants.{Outside as InNode}

@@ -9,7 +9,8 @@ use Rattle.heap_syntax.specs.Versions.{most_spatial}
 use Rattle.heap_reader.specs.Trees.{Heading}
 use Rattle.heap_reader.specs.Spans.{total, total_or, heap_span}
 use Rattle.heap_reader.specs.Flaws.{ill_if, over_if, or_later, listed_flaw, heap_flaw, heaps_flaw}
-use Rattle.heap_reader.proofs.WithinSpans.{Before, first_before, over_before, ill_before, later, listed_before, listed_or_before, heaps_before, lines_before}
+use Rattle.heap_reader.proofs.WithinSpans.{Before, first_before, over_before, ill_before, later, listed_before, listed_or_before, heaps_before}
+use Rattle.line_reader.proofs.WithinSpans.{lines_before}
 use Rattle.pred_reader.specs.declared.scope.Scope.TheVariants.{Outside as InNode}
 use Rattle.pred_reader.proofs.WithinSpans.{term_before, some_span, outside_before, definition_before}
 use Rattle.proof_file.specs.Spans.{term_span, variable_span, definition_span, entailment_span, judgement_span, pair_span, reason_span, node_span}

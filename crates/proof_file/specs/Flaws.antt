@@ -5,9 +5,10 @@ use Rattle.cyc_lex.specs.declared.fault.IllFault.TheVariants.{NoLine}
 use Rattle.cyc_lex.specs.declared.fault.What.TheVariants.{Disjuncts, ProgramVariables, Nodes, Variable}
 use Rattle.heap_syntax.specs.Versions.{most_spatial}
 use Rattle.heap_reader.specs.Trees.{Heading}
-use Rattle.heap_reader.specs.Spans.{total, heap_span, line_span}
+use Rattle.heap_reader.specs.Spans.{total, heap_span}
+use Rattle.line_reader.specs.Spans.{line_span}
 use Rattle.heap_reader.specs.Flaws.{Found, ill_if, over_if, or_later, listed_flaw, heap_flaw, heaps_flaw}
-use Rattle.heap_reader.specs.LineFlaws.{lines_flaw}
+use Rattle.line_reader.specs.LineFlaws.{lines_flaw}
 use Rattle.proof_syntax.specs.declared.tree.PairTree.{PairTree}
 use Rattle.proof_syntax.specs.Trees.{Heap, Line, Entailment, Judgement, Entails, From, Reason, Absurd, Rewrite, Split, Distinct, Weaken, Unfold, Cut, Done, Choose, PureRight, Instantiate, Frame, UnfoldRight, Exec, Drop, Link, Node, File}
 use Rattle.pred_reader.specs.declared.scope.Scope.TheVariants.{Outside as InNode}

@@ -7,7 +7,7 @@ ghost use Rattle.proof_syntax.specs.Trees.{definition_of, node_of};
 ghost use Rattle.proof_file.specs.Building.{front_of, AreSaid, IsNodeMade};
 ghost use Rattle.proof_file.specs.Flaws.{headings, node_flaw, first_node, file_flaw};
 ghost use Rattle.proof_file.specs.Spans.{node_span};
-ghost use Rattle.heap_reader.specs.Values.{program_value};
+ghost use Rattle.line_reader.specs.Values.{program_value};
 ghost use Rattle.proof_file.specs.Values.{definition_value, node_value};
 
 use crate::file::ProofFile;
@@ -18,7 +18,8 @@ use crate::walk::walk_node;
 use cyc_limits::MOST_PREDICATES;
 use cyc_memory::OutOfMemory;
 use goto_lang::Program;
-use heap_reader::{Flaw, Heads, program, walk_lines};
+use heap_reader::{Flaw, Heads};
+use line_reader::{program, walk_lines};
 use heap_syntax::Version;
 use pred_defs::Defs;
 use pred_reader::{definition_values, walk_definitions};

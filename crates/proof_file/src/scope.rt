@@ -2,7 +2,8 @@
 
 use cyc_lex::What;
 use cyc_limits::GREATEST_PROGRAM_VARIABLE;
-use heap_reader::{Flaw, VariableReader, over};
+use heap_reader::{Flaw, over};
+use line_reader::VariableReader;
 
 /// Universal variables as program variables, of which there are at most 64.
 #[derive(Clone, Copy)]

@@ -19,7 +19,8 @@ use Rattle.proof_syntax.specs.Grammar.{reserved, uterm, definition, disjuncts, e
 use Rattle.proof_file.specs.declared.node.FileNode.{FileNode}
 use Rattle.proof_file.specs.declared.file.ProofFile.{ProofFile}
 use Rattle.heap_reader.specs.Trees.{Heading}
-use Rattle.heap_reader.specs.Values.{place_of, operand_value, command_value, variable_value, program_value}
+use Rattle.heap_reader.specs.Values.{place_of}
+use Rattle.line_reader.specs.Values.{operand_value, command_value, variable_value, program_value}
 use Rattle.pred_reader.proofs.ValuesAgain.{each_known, found_place, term_known, heap_known, heaps_known, definition_known, definitions_fit}
 use Rattle.proof_file.specs.Flaws.{headings}
 use Rattle.proof_file.specs.Values.{definition_value, judgement_value, side_value, pair_value, reason_value, node_value}

@@ -8,7 +8,8 @@ ghost use Rattle.heap_reader.specs.Flaws.{listed_flaw, IsWalk};
 ghost use Rattle.proof_file.specs.Spans.{node_span};
 ghost use Rattle.proof_file.specs.Flaws.{headings, node_flaw, first_node, file_flaw as first_flaw};
 
-use heap_reader::{Flaw, Heads, walk_lines};
+use heap_reader::{Flaw, Heads};
+use line_reader::walk_lines;
 use pred_reader::walk_definitions;
 use proof_file::{ProgramVariables, walk_node};
 use proof_syntax::{FileTree, NodeTree};

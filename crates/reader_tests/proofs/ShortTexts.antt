@@ -11,12 +11,13 @@ use Rattle.command_syntax.specs.declared.tree.ChangeTree.TheVariants.{New, Assig
 use Rattle.command_syntax.specs.declared.tree.CommandTree.{CommandTree}
 use Rattle.command_syntax.specs.declared.tree.CommandTree.TheVariants.{Stop, Goto, Free, IfAny, If, StoreAtNil, Change}
 use Rattle.command_syntax.specs.declared.tree.LineTree.{LineTree}
-use Rattle.heap_reader.specs.Spans.{total, heap_span, operand_span, change_span, command_span, line_span}
+use Rattle.heap_reader.specs.Spans.{total, heap_span}
+use Rattle.line_reader.specs.Spans.{operand_span, change_span, command_span, line_span}
 use Rattle.heap_reader.specs.Flaws.{Found, over_if}
-use Rattle.heap_reader.specs.LineFlaws.{lines_flaw}
-use Rattle.heap_reader.specs.Values.{line_value}
+use Rattle.line_reader.specs.LineFlaws.{lines_flaw}
+use Rattle.line_reader.specs.Values.{line_value}
 use Rattle.heap_reader.proofs.NoFlaw.{not_over, at_most}
-use Rattle.heap_reader.proofs.Programs.{lines_are_program}
+use Rattle.line_reader.proofs.Programs.{lines_are_program}
 
 abbrev pub three : ℕ → ℕ
 three n = 3

@@ -8,10 +8,8 @@ use cyc_lex::{IllFault, ReadFault, Tokens, What, tokens};
 use cyc_memory::OutOfMemory;
 use goto_lang::Program;
 use heap_formula::{Command, Heap, Spatial, Term};
-use heap_reader::{
-    Flaw, Head, Heads, Item, TermReader, VariableReader, commands, flaw_fault, heap_value,
-    heap_values, ill, over, program, walk_heap, walk_heaps, walk_lines,
-};
+use heap_reader::{Flaw, Head, Heads, Item, TermReader, flaw_fault, heap_value, heap_values, ill, over, walk_heap, walk_heaps};
+use line_reader::{VariableReader, commands, program, walk_lines};
 use heap_syntax::{HeapTree, SpatialTree};
 use std::alloc::Global;
 use std::test::Fail;

@@ -7,7 +7,7 @@ use Rattle.pred_defs.specs.Book.{DefinitionBook}
 use Rattle.pred_defs.specs.Faults.{closed_fault}
 use Rattle.goto_lang.specs.Faults.{program_fault}
 use Rattle.heap_syntax.specs.Versions.{most_spatial}
-use Rattle.heap_reader.specs.Values.{line_value, variable_value, program_value}
+use Rattle.line_reader.specs.Values.{line_value, variable_value, program_value}
 use Rattle.name_numbers.specs.declared.tree.NumberedDefinition.{NumberedDefinition}
 use Rattle.name_numbers.specs.Numbered.{definition_of, problem_of}
 use Rattle.formula_reader.specs.Flaws.{heading}

@@ -9,7 +9,7 @@ use Rattle.proof_file.specs.declared.node.FileNode.{FileNode}
 use Rattle.proof_file.specs.Readable.{are_readable, are_universal_commands, are_at_lines, all_have_few_cases}
 use Rattle.proof_file.specs.Flaws.{headings, file_flaw}
 use Rattle.proof_file.specs.Written.{tree_of}
-use Rattle.heap_reader.specs.Values.{program_value}
+use Rattle.line_reader.specs.Values.{program_value}
 use Rattle.proof_file.specs.Values.{node_value}
 use Rattle.proof_file.proofs.Fitting.{file_small}
 use Rattle.proof_file.proofs.SpanLaws.{nodes_some, file_some}

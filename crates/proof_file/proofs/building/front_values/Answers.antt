@@ -1,11 +1,11 @@
 use Rattle.std.proofs.Common.{map, arith}
 use Rattle.std.proofs.lemmas.List.{length-map}
-use Rattle.heap_reader.proofs.Programs.{lines_are_program}
+use Rattle.line_reader.proofs.Programs.{lines_are_program}
 use Rattle.proof_syntax.specs.Trees.{definition_of}
 use Rattle.proof_file.specs.Building.{front_of}
 use Rattle.proof_file.specs.Flaws.{variable_flaw, first_line}
 use Rattle.proof_file.specs.Spans.{variable_span}
-use Rattle.heap_reader.specs.Values.{variable_value}
+use Rattle.line_reader.specs.Values.{variable_value}
 use Rattle.proof_file.proofs.Fitting.{variable_few, file_parts, file_small, few_heads}
 use Rattle.proof_file.proofs.building.front_values.Goals as goal
 

@@ -7,7 +7,7 @@ use Rattle.proof_syntax.specs.Trees.{definition_of, node_of, file_of}
 use Rattle.proof_file.specs.Building.{front_of}
 use Rattle.proof_file.specs.Small.{IsSmallNode}
 use Rattle.proof_file.specs.Flaws.{headings, file_flaw}
-use Rattle.heap_reader.specs.Values.{program_value}
+use Rattle.line_reader.specs.Values.{program_value}
 use Rattle.proof_file.specs.Values.{definition_value, node_value}
 use Rattle.proof_file.proofs.Fitting.{file_small, few_heads}
 use Rattle.proof_file.proofs.SpanLaws.{nodes_some}

@@ -1,15 +1,16 @@
 // A walk over the lines of a program in the order of their tokens, up to the first flaw.
 ghost use Rattle.std.specs.Prelude.{◌≡◌, ◌+◌, ◌<◌, ◌^◌};
 ghost use Rattle.command_syntax.specs.declared.tree.ChangeTree.TheVariants.{Load, Store};
-ghost use Rattle.heap_reader.specs.Spans.{total, operand_span, change_span, command_span, line_span};
+ghost use Rattle.heap_reader.specs.Spans.{total};
+ghost use Rattle.line_reader.specs.Spans.{operand_span, change_span, command_span, line_span};
 ghost use Rattle.heap_reader.specs.Flaws.{IsName, IsWalk};
-ghost use Rattle.heap_reader.specs.LineFlaws.{field_flaw as flaw_of_field, jump_flaw as flaw_of_jump, goes_on as may_go_on, operand_flaw, change_flaw, branch_flaw, command_flaw, line_head_flaw, line_flaw, lines_flaw};
+ghost use Rattle.line_reader.specs.LineFlaws.{field_flaw as flaw_of_field, jump_flaw as flaw_of_jump, goes_on as may_go_on, operand_flaw, change_flaw, branch_flaw, command_flaw, line_head_flaw, line_flaw, lines_flaw};
 
-use crate::flaw::{Flaw, ill, over};
 use crate::form::VariableReader;
 use command_syntax::{ChangeTree, CommandTree, LineTree, OperandTree};
 use cyc_lex::{IllFault, What};
 use cyc_limits::{MOST_ARGUMENTS, MOST_LINES};
+use heap_reader::{Flaw, ill, over};
 
 /// A number of fields, or of a field, at a token.
 fn field_number(at: usize, number: u32) -> Result<(), Flaw>

@@ -1,8 +1,8 @@
 use Rattle.std.proofs.Common.{length}
 use Rattle.std.specs.Prelude.{map}
-use Rattle.heap_reader.specs.Values.{line_value}
-use Rattle.heap_reader.proofs.Programs.{lines_universal, lines_small}
-use Rattle.heap_reader.proofs.command_values.commands.Goals as goal
+use Rattle.line_reader.specs.Values.{line_value}
+use Rattle.line_reader.proofs.Programs.{lines_universal, lines_small}
+use Rattle.line_reader.proofs.command_values.commands.Goals as goal
 
 pub numbered_commands-requires : goal.numbered_commands-requires
 numbered_commands-requires g c =

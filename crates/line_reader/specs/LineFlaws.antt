@@ -10,7 +10,7 @@ use Rattle.command_syntax.specs.declared.tree.ChangeTree.TheVariants.{New, Assig
 use Rattle.command_syntax.specs.declared.tree.CommandTree.{CommandTree}
 use Rattle.command_syntax.specs.declared.tree.CommandTree.TheVariants.{Stop, Goto, Free, IfAny, If, StoreAtNil, Change}
 use Rattle.command_syntax.specs.declared.tree.LineTree.{LineTree}
-use Rattle.heap_reader.specs.Spans.{operand_span, line_span}
+use Rattle.line_reader.specs.Spans.{operand_span, line_span}
 use Rattle.heap_reader.specs.Flaws.{Found, ill_if, over_if, or_later, listed_flaw}
 
 -- a number of fields, or of a field, is 1 to 8

@@ -1,8 +1,9 @@
 use Rattle.std.proofs.Common.{◌≡◌, ◌+◌, length, drop}
-use Rattle.heap_reader.specs.Spans.{total, line_span}
+use Rattle.heap_reader.specs.Spans.{total}
+use Rattle.line_reader.specs.Spans.{line_span}
 use Rattle.heap_reader.specs.Flaws.{listed_flaw}
-use Rattle.heap_reader.specs.LineFlaws.{line_flaw}
-use Rattle.heap_reader.proofs.line_walk.walk_lines.Given as goal
+use Rattle.line_reader.specs.LineFlaws.{line_flaw}
+use Rattle.line_reader.proofs.line_walk.walk_lines.Given as goal
 
 abbrev pub invariant-loop-n : goal.invariant-loop-n
 invariant-loop-n g l =

@@ -1,8 +1,8 @@
 use Rattle.std.proofs.Common.{◌≡◌, drop, take, map}
 use Rattle.heap_formula.specs.Words.{Each}
-use Rattle.heap_reader.specs.Small.{IsSmallLine}
-use Rattle.heap_reader.specs.Values.{line_value}
-use Rattle.heap_reader.proofs.command_values.numbered_commands.Given as goal
+use Rattle.line_reader.specs.Small.{IsSmallLine}
+use Rattle.line_reader.specs.Values.{line_value}
+use Rattle.line_reader.proofs.command_values.numbered_commands.Given as goal
 
 abbrev pub invariant-loop-line : goal.invariant-loop-line
 invariant-loop-line g l =

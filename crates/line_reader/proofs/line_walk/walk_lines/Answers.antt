@@ -1,8 +1,8 @@
 use Rattle.std.proofs.Common.{length}
-use Rattle.heap_reader.specs.Spans.{line_span}
-use Rattle.heap_reader.specs.LineFlaws.{line_flaw}
+use Rattle.line_reader.specs.Spans.{line_span}
+use Rattle.line_reader.specs.LineFlaws.{line_flaw}
 use Rattle.heap_reader.proofs.Loops.{passed, fits}
-use Rattle.heap_reader.proofs.line_walk.walk_lines.Goals as goal
+use Rattle.line_reader.proofs.line_walk.walk_lines.Goals as goal
 
 pub loop-n-preserved : goal.loop-n-preserved
 loop-n-preserved g c =

@@ -1,8 +1,8 @@
 use Rattle.std.proofs.Common.{ap}
-use Rattle.heap_reader.specs.Small.{IsSmallLine}
-use Rattle.heap_reader.specs.Values.{line_value}
+use Rattle.line_reader.specs.Small.{IsSmallLine}
+use Rattle.line_reader.specs.Values.{line_value}
 use Rattle.heap_reader.proofs.Loops.{made, left_of}
-use Rattle.heap_reader.proofs.command_values.numbered_commands.Goals as goal
+use Rattle.line_reader.proofs.command_values.numbered_commands.Goals as goal
 
 pub loop-line-preserved : goal.loop-line-preserved
 loop-line-preserved g c =

@@ -4,8 +4,9 @@ ghost use Rattle.heap_formula.specs.Words.{Each};
 ghost use Rattle.command_syntax.specs.declared.tree.CommandTree.TheVariants.{If};
 ghost use Rattle.goto_lang.specs.Faults.{program_fault};
 ghost use Rattle.goto_lang.specs.Lines.{commands_of};
-ghost use Rattle.heap_reader.specs.Small.{IsSmallTerm, IsSmallCommand, IsSmallLine};
-ghost use Rattle.heap_reader.specs.Values.{operand_value, change_value, command_value, line_value};
+ghost use Rattle.heap_reader.specs.Small.{IsSmallTerm};
+ghost use Rattle.line_reader.specs.Small.{IsSmallCommand, IsSmallLine};
+ghost use Rattle.line_reader.specs.Values.{operand_value, change_value, command_value, line_value};
 
 use crate::form::VariableReader;
 use command_syntax::{ChangeTree, CommandTree, LineTree, OperandTree};

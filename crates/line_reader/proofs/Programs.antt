@@ -21,11 +21,12 @@ use Rattle.command_syntax.specs.declared.tree.ChangeTree.TheVariants.{New, Assig
 use Rattle.command_syntax.specs.declared.tree.CommandTree.{CommandTree}
 use Rattle.command_syntax.specs.declared.tree.CommandTree.TheVariants.{Stop, Goto, Free, IfAny, If, StoreAtNil, Change}
 use Rattle.command_syntax.specs.declared.tree.LineTree.{LineTree}
-use Rattle.heap_reader.specs.Spans.{operand_span, line_span}
+use Rattle.line_reader.specs.Spans.{operand_span, line_span}
 use Rattle.heap_reader.specs.Flaws.{Found, ill_if, over_if, or_later, listed_flaw}
-use Rattle.heap_reader.specs.LineFlaws.{field_flaw, jump_flaw, goes_on, operand_flaw, change_flaw, branch_flaw, command_flaw, line_head_flaw, line_flaw, lines_flaw}
-use Rattle.heap_reader.specs.Small.{IsSmallTerm, IsSmallCommand, IsSmallLine}
-use Rattle.heap_reader.specs.Values.{operand_value, change_value, command_value, line_value}
+use Rattle.line_reader.specs.LineFlaws.{field_flaw, jump_flaw, goes_on, operand_flaw, change_flaw, branch_flaw, command_flaw, line_head_flaw, line_flaw, lines_flaw}
+use Rattle.heap_reader.specs.Small.{IsSmallTerm}
+use Rattle.line_reader.specs.Small.{IsSmallCommand, IsSmallLine}
+use Rattle.line_reader.specs.Values.{operand_value, change_value, command_value, line_value}
 use Rattle.heap_reader.proofs.NoFlaw.{neither, not_over, not_ill, below}
 use Rattle.list_facts.proofs.Options.{neither_some}
 

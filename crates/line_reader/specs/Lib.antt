@@ -1,0 +1,4 @@
+pub mod Spans
+pub mod LineFlaws
+pub mod Values
+pub mod Small
