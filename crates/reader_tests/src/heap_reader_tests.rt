@@ -8,9 +8,12 @@ use cyc_lex::{IllFault, ReadFault, Tokens, What, tokens};
 use cyc_memory::OutOfMemory;
 use goto_lang::Program;
 use heap_formula::{Command, Heap, Spatial, Term};
-use heap_reader::{Flaw, Head, Heads, Item, TermReader, flaw_fault, heap_value, heap_values, ill, over, walk_heap, walk_heaps};
-use line_reader::{VariableReader, commands, program, walk_lines};
+use heap_reader::{
+    Flaw, Head, Heads, Item, TermReader, flaw_fault, heap_value, heap_values, ill, over, walk_heap,
+    walk_heaps,
+};
 use heap_syntax::{HeapTree, SpatialTree};
+use line_reader::{VariableReader, commands, program, walk_lines};
 use std::alloc::Global;
 use std::test::Fail;
 
