@@ -1,7 +1,7 @@
 //! A run of a program that answers its whole input: bytes in, one text and a status out.
 #![tactic(auto)]
 
-ghost use Rattle.std.specs.Prelude.{◌≡◌, ◌≢◌, ◌+◌, ◌≤◌, ℕ, List, length, IfOk, true};
+ghost use Rattle.std.specs.Prelude.{◌≡◌, ◌≢◌, ◌+◌, ◌≤◌, ℕ, List, length, IfOk, OnOk, true};
 ghost use Rattle.std.specs.Io.KnownBytes.{Appends};
 ghost use Rattle.cyc_io.specs.Bytes.{AppendsProperPrefix, CameAtMost};
 ghost use Rattle.cyc_io.specs.Causes.{Rose};
@@ -68,6 +68,7 @@ pub fn give_made<K: Sink>(made: Result<Answer, OutOfMemory>, out: &mut K) -> Sta
     ensures cause { result ≡ Status.WriteFault → Rose (K.faults out.old) (K.faults out.new) }
     ensures read_fault { result ≢ Status.ReadFault }
     ensures memory { result ≡ Status.OutOfMemory → out.new ≡ out.old }
+    ensures wanting { OnOk made (result ≢ Status.OutOfMemory) }
     ensures calm { is_answer result ≡ true → K.faults out.new ≡ K.faults out.old }
     ensures counted { K.faults out.old ≤ K.faults out.new }
 {
