@@ -86,7 +86,7 @@ pub struct Variables;
 impl VariableReader for Variables {
     ghost use Rattle.formula_reader.specs.Spans as spans;
     ghost use Rattle.formula_reader.specs.Flaws as flaws;
-    ghost use Rattle.heap_reader.specs.Values as values;
+    ghost use Rattle.line_reader.specs.Values as values;
 
     type Variable = usize;
 

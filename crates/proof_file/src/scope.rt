@@ -12,7 +12,7 @@ pub struct ProgramVariables;
 impl VariableReader for ProgramVariables {
     ghost use Rattle.proof_file.specs.Spans as spans;
     ghost use Rattle.proof_file.specs.Flaws as flaws;
-    ghost use Rattle.heap_reader.specs.Values as values;
+    ghost use Rattle.line_reader.specs.Values as values;
 
     type Variable = u32;
 
