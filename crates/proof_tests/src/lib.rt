@@ -1,8 +1,16 @@
-//! Tests of proof files, links and proof graphs; there is nothing else here.
+//! Tests of proof files, links and proof graphs, of sources and sinks, of words and of printed lines; there is nothing else here.
 #![tactic(auto)]
 
 #[cfg(test)]
 mod back_links_tests;
+#[cfg(test)]
+mod check_answers_tests;
+#[cfg(test)]
+mod cyc_io_tests;
+#[cfg(test)]
+mod cyc_texts_tests;
+#[cfg(test)]
+mod cyc_words_tests;
 #[cfg(test)]
 mod file_reader_tests;
 #[cfg(test)]

@@ -1,3 +1,5 @@
 mod NumberTerms
 mod NumberVariables
 mod ReadTexts
+mod ShortTexts
+mod SmallDollars

@@ -1,4 +1,4 @@
-//! Tests of tokens, grammars and trees; there is nothing else here.
+//! Tests of tokens, grammars and trees, of what heaps, lines and models say, and of names and their numbers; there is nothing else here.
 #![tactic(auto)]
 
 #[cfg(test)]
@@ -8,7 +8,17 @@ mod cyc_grammar_tests;
 #[cfg(test)]
 mod cyc_lex_tests;
 #[cfg(test)]
+mod heap_reader_tests;
+#[cfg(test)]
 mod heap_syntax_tests;
+#[cfg(test)]
+mod item_reader_tests;
+#[cfg(test)]
+mod long_list_tests;
+#[cfg(test)]
+mod model_file_tests;
+#[cfg(test)]
+mod name_numbers_tests;
 #[cfg(test)]
 mod piecewise_lex_tests;
 #[cfg(test)]

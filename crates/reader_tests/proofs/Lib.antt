@@ -1,2 +1,0 @@
-mod ShortTexts
-mod SmallDollars
