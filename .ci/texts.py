@@ -9,7 +9,9 @@ sys.dont_write_bytecode = True
 import checks
 import first_order
 import models
+import parts
 import problems
+import rules
 import searches
 
 program = os.path.abspath(sys.argv[1])
@@ -18,7 +20,7 @@ checker = os.path.abspath(sys.argv[2])
 
 def rows():
     """Yields the words, the input, the status and what is to be written; a line without its end."""
-    for table in checks.TABLES:
+    for table in [*checks.TABLES, parts.ROWS, rules.ROWS]:
         for text, status, line in table:
             yield "check", text, status, line
     for text in checks.IN_WRITTEN_FORM:
@@ -34,8 +36,10 @@ def rows():
         yield "model", text, status, line
     for cells, text, status, written in models.REFUTED:
         yield f"disprove --cells {cells}", text, status, written
-    for text, status, line in first_order.FLAWS:
+    for text, status, line in first_order.FLAWS + first_order.DEAD_TOKENS + first_order.DEEP:
         yield "fo-check", text, status, line
+    for text, status, line in first_order.DEAD_TOKENS_OF_PROBLEMS:
+        yield "fo", text, status, line
     yield from searches.RUNS
 
 

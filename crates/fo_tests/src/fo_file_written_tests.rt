@@ -36,10 +36,36 @@ node q() |- q() by Link 0 { $1 := s($0), $65534 := z() } [0 1 0] [];
 end;
 ";
 
-/// A text in the written form is written as it stands.
+const ALL_REASONS: &[u8] = b"cyclist fo 1;
+con z 0;
+con s 1;
+con pair 2;
+pred nat(1) { $0 = z() | $0 = s(?0), nat(?0) };
+pred even(1) { $0 = z() | $0 = s(s(?0)), even(?0) };
+pred flag(0) { true };
+node even($0), s(z()) = pair(s($1), pair(z(), $12)) |- nat($0), flag() by Axiom 0 1 to 1 2;
+node true |- false by Refl 0;
+node true |- false by Clash 3;
+node true |- false by Decompose 0 to 0;
+node true |- false by Replace 1 left to 2;
+node true |- false by Replace 0 right;
+node true |- false by WeakenLeft 0;
+node true |- false by WeakenRight 999999999;
+node true |- false by Contract 2 to 12;
+node true |- false by Unfold 0 to 1 2;
+node true |- false by Cut nat(s(s($3))) to 1 2;
+node true |- false by Cut $0 = pair($1, $2);
+node true |- false by Right 0 1 [];
+node true |- false by Right 0 1 [z(), s($4), $5];
+node true |- false by Link 0 { } [] [];
+node true |- false by Link 12 { $0 := s(z()), $3 := $1 } [1 0] [0 0 3];
+end;
+";
+
+/// A text in the written form, with every kind of atom and every reason, is written as it stands.
 #[test]
 fn writes_what_it_reads(rt: HostRuntime) -> Result<(), Fail> {
-    for text in [SHORT, ADDITION] {
+    for text in [SHORT, ADDITION, ALL_REASONS] {
         let written = again(rt.alloc(), text)?;
         assert_eq!(rt; written.as_slice(), text);
     }

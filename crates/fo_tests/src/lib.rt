@@ -7,7 +7,3 @@ mod fo_file_value_tests;
 mod fo_file_written_tests;
 #[cfg(test)]
 mod fo_moves_tests;
-#[cfg(test)]
-mod fo_problem_syntax_tests;
-#[cfg(test)]
-mod fo_proof_syntax_tests;

@@ -1,8 +1,8 @@
-// Each cause of a fault, and the links of small judgements.
+// The links of small judgements.
 use crate::texts::file;
-use back_links::{all_links, link_fault};
+use back_links::all_links;
 use cyc_memory::OutOfMemory;
-use heap_formula::{Link, Reason, RuleFault};
+use heap_formula::{Link, Reason};
 use proof_file::{FileNode, ProofFile};
 use std::alloc::Global;
 use std::test::Fail;
@@ -45,101 +45,7 @@ fn push_node(
 /// A bud and its companion.
 type Ends = (&'static [u8], &'static [u8]);
 
-const MIXED: Ends = (
-    b"$2 != $3, $3 = $4 : p($2) * $4 -> (nil) |- $3 = $2 : p($2) or true : p($2) * p($2) or $2 = nil : p($2) or nil = nil : p($2)",
-    b"$0 != $1 : p($0) * $1 -> (nil) |- $0 = $1 : p($0)",
-);
-
 const TWICE: &[u8] = b"true : p($0) * p($0) |- true : emp";
-
-const ONCE: &[u8] = b"true : p($0) |- true : emp";
-
-const FROM_1: &[u8] = b"from 1 given true : p($0)";
-
-const FROM_2: &[u8] = b"from 2 given true : p($0)";
-
-const PURE_0: Option<RuleFault> = Some(RuleFault::LinkPure(0));
-
-const SPATIAL_0: Option<RuleFault> = Some(RuleFault::LinkSpatial(0));
-
-const SPATIAL_1: Option<RuleFault> = Some(RuleFault::LinkSpatial(1));
-
-const SPATIAL_2: Option<RuleFault> = Some(RuleFault::LinkSpatial(2));
-
-const DISJUNCT_0: Option<RuleFault> = Some(RuleFault::LinkDisjunct(0));
-
-const DISJUNCT_1: Option<RuleFault> = Some(RuleFault::LinkDisjunct(1));
-
-/// A bud and its companion, a link, and its fault, where there is one program variable.
-static FAULTS: &[(Ends, &[u8], Option<RuleFault>)] = &[
-    // pure and spatial atoms
-    (MIXED, b"{ $0 := $2, $1 := $3 } [0 1] [0]", None),
-    (MIXED, b"{ $0 := $2, $1 := $3, $1 := nil } [0 1] [0]", None),
-    (
-        MIXED,
-        b"{ $0 := $2, $1 := nil, $1 := $3 } [0 1] [0]",
-        PURE_0,
-    ),
-    (MIXED, b"{ $0 := $2, $1 := $2 } [0 1] [0]", PURE_0),
-    (MIXED, b"{ $0 := $2, $1 := $3 } [] [0]", SPATIAL_0),
-    (MIXED, b"{ $0 := $2, $1 := $3 } [0] [0]", SPATIAL_1),
-    (MIXED, b"{ $0 := $2, $1 := $3 } [0 2] [0]", SPATIAL_1),
-    (MIXED, b"{ $0 := $2, $1 := $3 } [1 0] [0]", SPATIAL_0),
-    (MIXED, b"{ $0 := $2, $1 := $3 } [0 1 1] [0]", SPATIAL_2),
-    // disjuncts
-    (MIXED, b"{ $0 := $2, $1 := $3 } [0 1] [3]", None),
-    (MIXED, b"{ $0 := $2, $1 := $3 } [0 1] []", DISJUNCT_0),
-    (MIXED, b"{ $0 := $2, $1 := $3 } [0 1] [4]", DISJUNCT_0),
-    (MIXED, b"{ $0 := $2, $1 := $3 } [0 1] [1]", DISJUNCT_0),
-    (MIXED, b"{ $0 := $2, $1 := $3 } [0 1] [2]", DISJUNCT_0),
-    (MIXED, b"{ $0 := $2, $1 := $3 } [0 1] [0 0]", DISJUNCT_1),
-    // an atom that is left
-    ((TWICE, TWICE), b"{ $0 := $0 } [0 0] [0]", SPATIAL_1),
-    ((TWICE, ONCE), b"{ $0 := $0 } [0] [0]", SPATIAL_1),
-    // claims of termination
-    (
-        (ONCE, FROM_1),
-        b"{ $0 := $0 } [0] []",
-        Some(RuleFault::WrongJudgement),
-    ),
-    (
-        (FROM_1, ONCE),
-        b"{ $0 := $0 } [0] [0]",
-        Some(RuleFault::WrongJudgement),
-    ),
-    (
-        (FROM_1, FROM_2),
-        b"{ $0 := $0 } [0] []",
-        Some(RuleFault::LineDiffers),
-    ),
-    (
-        (FROM_1, FROM_1),
-        b"{ $0 := nil } [0] []",
-        Some(RuleFault::LinkProgramVariable),
-    ),
-    ((FROM_1, FROM_1), b"{ $0 := $0 } [0] [0]", DISJUNCT_0),
-    ((FROM_1, FROM_1), b"{ $0 := $0 } [0] []", None),
-];
-
-fn fault(alloc: Global, ends: Ends, link: &[u8]) -> Result<Option<RuleFault>, Fail> {
-    let file = file_of(alloc, ends, &[link])?;
-    let [companion, _, bud] = file.nodes.as_slice() else {
-        return Err(Fail::from("not three nodes"));
-    };
-    match &bud.reason {
-        Reason::Back(link) => Ok(link_fault(&bud.judgement, &companion.judgement, link, 1)),
-        Reason::Step(_) => Err(Fail::from("no link")),
-    }
-}
-
-#[test]
-fn faults_of_links(rt: HostRuntime) -> Result<(), Fail> {
-    let alloc = rt.alloc();
-    for (ends, link, wanted) in FAULTS {
-        assert_eq!(rt; fault(alloc, *ends, link)?, *wanted);
-    }
-    Ok(())
-}
 
 const CELL: Ends = (
     b"$1 = $2 : $1 -> (nil) |- true : emp",

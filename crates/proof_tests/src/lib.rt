@@ -1,4 +1,4 @@
-//! Tests of proof files, links and proof graphs, of sources and sinks, of words and of printed lines; there is nothing else here.
+//! Tests of links, proof graphs and rings, of files fed in pieces, of sources and sinks, and of words; there is nothing else here.
 #![tactic(auto)]
 
 #[cfg(test)]
@@ -8,15 +8,11 @@ mod check_answers_tests;
 #[cfg(test)]
 mod cyc_io_tests;
 #[cfg(test)]
-mod cyc_texts_tests;
-#[cfg(test)]
 mod cyc_words_tests;
 #[cfg(test)]
 mod file_reader_tests;
 #[cfg(test)]
 mod node_reasons_tests;
-#[cfg(test)]
-mod proof_file_tests;
 #[cfg(test)]
 mod proof_graph_tests;
 #[cfg(test)]

@@ -1,16 +1,10 @@
-//! Tests of tokens, grammars and trees, of what heaps, lines and models say, and of names and their numbers; there is nothing else here.
+//! Tests of tokens and statements, of parts of texts and models, and of names and their numbers; there is nothing else here.
 #![tactic(auto)]
 
-#[cfg(test)]
-mod command_syntax_tests;
 #[cfg(test)]
 mod cyc_grammar_tests;
 #[cfg(test)]
 mod cyc_lex_tests;
-#[cfg(test)]
-mod heap_reader_tests;
-#[cfg(test)]
-mod heap_syntax_tests;
 #[cfg(test)]
 mod item_reader_tests;
 #[cfg(test)]

@@ -2,7 +2,7 @@
 ghost use Rattle.std.specs.Prelude.{map, length, ◌≤◌, IfOk};
 ghost use Rattle.cyc_lex.specs.Word.{word_of, EndsOnce};
 
-use cyc_grammar::{Cursor, Refusal};
+use cyc_grammar::Cursor;
 use cyc_lex::{Tokens, tokens};
 use std::alloc::Global;
 
@@ -25,12 +25,4 @@ pub fn start<'s, 'a>(list: &'s Tokens<'a>) -> Cursor<'s, 'a>
     requires { EndsOnce (map word_of list.now) }
 {
     Cursor::new(list.as_slice())
-}
-
-/// How many tokens there are from the dead one on; none where there is no dead one.
-pub fn dead<T: Drop>(answer: Result<T, Refusal>) -> Option<usize> {
-    match answer {
-        Err(Refusal::Dead(left)) => Some(left),
-        _ => None,
-    }
 }

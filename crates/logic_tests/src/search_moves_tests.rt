@@ -3,16 +3,15 @@ ghost use Rattle.std.specs.Prelude.{◌≤◌, ◌<◌, IfOk, length};
 ghost use Rattle.heap_formula.specs.Words.{Each};
 ghost use Rattle.search_moves.specs.Limits.{IsSmall};
 
+use crate::given::{HeapRow, Shape, atom, heap};
 use bumpalo::Bump;
 use cyc_memory::OutOfMemory;
 use goto_lang::{Program, ProgramFault};
 use heap_formula::{
-    Args, Command, Disjuncts, Heap, Judgement, Link, Pairs, Positions, Pure, Reason, Rule, Side,
-    Spatial, Term, is_same_spatial,
+    Command, Disjuncts, Heap, Judgement, Link, Pairs, Positions, Pure, Reason, Rule, Side, Term,
 };
 use pred_defs::Defs;
-use proof_graph::{Graph, GraphFault, PremisePairs};
-use rule_table::same_term;
+use proof_graph::{Graph, PremisePairs};
 use search_moves::{Offers, offers};
 use std::alloc::Global;
 use std::test::Fail;
@@ -30,18 +29,6 @@ const W: Term = Term::Univ(3);
 const E: Term = Term::Exist(0);
 
 const F: Term = Term::Exist(1);
-
-/// A spatial atom: a cell with its fields, a list, or a segment of a list.
-#[derive(Clone, Copy)]
-enum Shape {
-    At(Term, &'static [Term]),
-    List(Term),
-    Segment(Term, Term),
-}
-
-/// The pure and the spatial atoms of a heap.
-#[derive(Clone, Copy)]
-struct HeapRow(&'static [Pure], &'static [Shape]);
 
 /// A judgement: an entailment, or a line with a symbolic state.
 #[derive(Clone, Copy)]
@@ -188,7 +175,7 @@ static LATER_ENTAILMENTS: &[Alone] = &[
     Alone(
         Said::Entails(
             HeapRow(&[], X_TO_Y_AND_LIST),
-            &[HeapRow(&[], &[Shape::Segment(X, E), Shape::List(Y)])],
+            &[HeapRow(&[], &[Shape::Pred(1, &[X, E]), Shape::List(Y)])],
         ),
         &[Named::Frame(1, 1)],
     ),
@@ -198,12 +185,12 @@ static LATER_ENTAILMENTS: &[Alone] = &[
             HeapRow(
                 &[],
                 &[
-                    Shape::Segment(X, Y),
-                    Shape::Segment(X, Y),
-                    Shape::Segment(Y, Z),
+                    Shape::Pred(1, &[X, Y]),
+                    Shape::Pred(1, &[X, Y]),
+                    Shape::Pred(1, &[Y, Z]),
                 ],
             ),
-            &[HeapRow(&[], &[Shape::Segment(X, E)])],
+            &[HeapRow(&[], &[Shape::Pred(1, &[X, E])])],
         ),
         &[
             Named::Instantiate(0, Y),
@@ -232,14 +219,14 @@ static LATER_ENTAILMENTS: &[Alone] = &[
     Alone(
         Said::Entails(
             HeapRow(&[], &[Shape::At(X, &[Y]), Shape::At(Z, &[Y])]),
-            &[HeapRow(&[], &[Shape::Segment(X, Z)])],
+            &[HeapRow(&[], &[Shape::Pred(1, &[X, Z])])],
         ),
         &[Named::UnfoldRight(0, 1)],
     ),
     Alone(
         Said::Entails(
             HeapRow(&[], &[Shape::At(X, &[Y])]),
-            &[HeapRow(&[], &[Shape::Segment(X, Z)])],
+            &[HeapRow(&[], &[Shape::Pred(1, &[X, Z])])],
         ),
         &[],
     ),
@@ -288,7 +275,7 @@ static STATES: &[Alone] = &[
             1,
             HeapRow(
                 &[Pure::Eq(X, Y)],
-                &[Shape::Segment(Z, Y), Shape::List(Z), Shape::List(Y)],
+                &[Shape::Pred(1, &[Z, Y]), Shape::List(Z), Shape::List(Y)],
             ),
         ),
         &[Named::Unfold(0), Named::Unfold(2)],
@@ -371,52 +358,18 @@ static DERIVATIONS: &[Row] = &[
     },
 ];
 
-fn terms(fields: &[Term]) -> Args {
-    if fields.len() <= 8 {
-        Args::from_slice(fields)
-    } else {
-        Args::from_slice(&fields[..8])
-    }
-}
-
-fn atom(shape: Shape) -> Spatial {
-    match shape {
-        Shape::At(t, fields) => Spatial::Cell(t, terms(fields)),
-        Shape::List(t) => Spatial::Pred(0, Args::from_slice(&[t])),
-        Shape::Segment(t, u) => Spatial::Pred(1, Args::from_slice(&[t, u])),
-    }
-}
-
-fn atoms(alloc: Global, shapes: &[Shape]) -> Result<Vec<Spatial>, OutOfMemory> {
-    let mut all = Vec::new(alloc);
-    for shape in shapes {
-        all.push(atom(*shape))?;
-    }
-    Ok(all)
-}
-
-// The empty heap, where there are too many atoms.
-fn heap(alloc: Global, made_of: HeapRow) -> Result<Heap, OutOfMemory> {
-    let pure = Vec::from_slice(alloc, made_of.0)?;
-    let spatial = atoms(alloc, made_of.1)?;
-    if pure.len() > 64 || spatial.len() > 32 {
-        return Ok(Heap::new(alloc));
-    }
-    Ok(Heap::from_lists(pure, spatial))
-}
-
-fn disjuncts(alloc: Global, rows: &[HeapRow]) -> Result<Disjuncts, OutOfMemory> {
+fn disjuncts(alloc: Global, rows: &[HeapRow]) -> Result<Disjuncts, Fail> {
     let mut heaps = Vec::new(alloc);
     for row in rows {
         heaps.push(heap(alloc, *row)?)?;
     }
     if heaps.is_empty() || heaps.len() > 16 {
-        return Disjuncts::single(alloc, Heap::new(alloc));
+        return Err("no disjunct, or too many".into());
     }
     Ok(Disjuncts::from_vec(heaps))
 }
 
-fn judgement(alloc: Global, said: Said) -> Result<Judgement, OutOfMemory> {
+fn judgement(alloc: Global, said: Said) -> Result<Judgement, Fail> {
     match said {
         Said::Entails(left, right) => {
             let left = heap(alloc, left)?;
@@ -439,7 +392,7 @@ fn definitions(alloc: Global) -> Result<Defs, Fail>
         alloc,
         HeapRow(
             &[Pure::Neq(X, Y)],
-            &[Shape::At(X, &[E]), Shape::Segment(E, Y)],
+            &[Shape::At(X, &[E]), Shape::Pred(1, &[E, Y])],
         ),
     )?;
     defs.push("segment", 2, &[same, longer])?;
@@ -473,7 +426,7 @@ fn one_premise(alloc: Global) -> Result<PremisePairs, OutOfMemory> {
     Ok(PremisePairs::from_vec(lists))
 }
 
-fn push_earlier(graph: &mut Graph<'_>, alloc: Global, earlier: Earlier) -> Result<(), GraphFault> {
+fn push_earlier(graph: &mut Graph<'_>, alloc: Global, earlier: Earlier) -> Result<(), Fail> {
     let node = graph.push_node(&judgement(alloc, earlier.0)?)?;
     let pairs = one_premise(alloc)?;
     graph.set_reason(node, &Reason::Step(rule_of(earlier.1)), &pairs)?;
@@ -491,7 +444,7 @@ fn fill(graph: &mut Graph<'_>, node: u32, child: u32) -> Result<(), OutOfMemory>
     graph.set_premise(node, 0, child)
 }
 
-fn graph_of<'a>(alloc: Global, arena: &'a Bump, row: Row) -> Result<Graph<'a>, GraphFault> {
+fn graph_of<'a>(alloc: Global, arena: &'a Bump, row: Row) -> Result<Graph<'a>, Fail> {
     let mut graph = Graph::new_in(alloc, arena);
     for earlier in row.before {
         push_earlier(&mut graph, alloc, *earlier)?;
@@ -514,7 +467,7 @@ fn fill_slots(graph: &mut Graph<'_>, before: &[Earlier]) -> Result<(), OutOfMemo
 fn is_fold(places: &Positions, heap: &Heap, wanted: &[u32], shape: Shape) -> bool {
     heap.pure().is_empty()
         && heap.spatial().len() == 1
-        && is_same_spatial(&heap.spatial()[0], &atom(shape))
+        && heap.spatial()[0] == atom(shape)
         && places.as_slice() == wanted
 }
 
@@ -530,7 +483,7 @@ fn is_rule(rule: &Rule, named: Named) -> bool {
         (Rule::Done, Named::Done) => true,
         (Rule::Choose(k), Named::Choose(l)) => *k == l,
         (Rule::PureRight(k), Named::PureRight(l)) => *k == l,
-        (Rule::Instantiate(v, t), Named::Instantiate(w, u)) => *v == w && same_term(*t, u),
+        (Rule::Instantiate(v, t), Named::Instantiate(w, u)) => *v == w && *t == u,
         (Rule::Frame(i, k), Named::Frame(j, l)) => *i == j && *k == l,
         (Rule::UnfoldRight(k, c), Named::UnfoldRight(l, d)) => *k == l && *c == d,
         (Rule::Exec, Named::Exec) => true,

@@ -3,7 +3,7 @@ use Rattle.std.specs.Option.{option_to_list}
 use Rattle.std.proofs.lemmas.List.{append-nil, length-take}
 use Rattle.derivation_search.specs.Stack.{front}
 use Rattle.derivation_search.proofs.Members.{front-after}
-use Rattle.search_tests.proofs.derivation_search_tests.WordMoves.undo.Goals as goal
+use Rattle.logic_tests.proofs.derivation_search_tests.WordMoves.undo.Goals as goal
 
 without_last : {X : Type 0} (old new : List X) (last : Option X) → old ≡ new ++ option_to_list last → new ≡ take (length old - 1) old → new ≡ front old
 without_last [] new None is rest = rest

@@ -26,8 +26,8 @@ struct Word {
 }
 
 impl Moves for Word {
-    ghost use Rattle.search_tests.specs.declared.derivation_search_tests.Letter.{Letter};
-    ghost use Rattle.search_tests.specs.declared.derivation_search_tests.Letter.TheVariants.{A, B, Link};
+    ghost use Rattle.logic_tests.specs.declared.derivation_search_tests.Letter.{Letter};
+    ghost use Rattle.logic_tests.specs.declared.derivation_search_tests.Letter.TheVariants.{A, B, Link};
 
     type Reason = Letter;
 

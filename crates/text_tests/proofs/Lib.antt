@@ -1,5 +1,0 @@
-mod NumberTerms
-mod NumberVariables
-mod ReadTexts
-mod ShortTexts
-mod SmallDollars
