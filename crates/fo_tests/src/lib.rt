@@ -2,8 +2,6 @@
 #![tactic(auto)]
 
 #[cfg(test)]
-mod fo_file_value_tests;
-#[cfg(test)]
 mod fo_file_written_tests;
 #[cfg(test)]
 mod fo_moves_tests;
