@@ -1,4 +1,4 @@
-//! Tests of the texts and values of first-order logic; there is nothing else here.
+//! Tests of the texts and the offers of first-order logic; there is nothing else here.
 #![tactic(auto)]
 
 #[cfg(test)]
