@@ -24,9 +24,11 @@ fn sources_in_memory(rt: HostRuntime) -> Result<(), Fail> {
         let bytes = Vec::from_slice(alloc, DIGITS)?;
         let mut src = MemSource::new(bytes, 4, vec![in alloc; failing]?);
         let read = read_all(alloc, &mut src, limit).map(|all| all.len());
-        assert_eq!(rt; read, answer, "call {failing}, limit {limit}");
         let state = (src.left().len(), src.calls(), src.faults());
-        assert_eq!(rt; state, (left, calls, faults), "call {failing}");
+        assert!(rt;
+            read == answer && state == (left, calls, faults),
+            "call {failing}, limit {limit}"
+        );
     }
     Ok(())
 }
@@ -45,10 +47,13 @@ fn sinks_in_memory(rt: HostRuntime) -> Result<(), Fail> {
     ] {
         let mut sink = MemSink::new(alloc, room, 4, vec![in alloc; failing]?)?;
         let wrote = write_all(&mut sink, DIGITS);
-        assert_eq!(rt; wrote, answer, "call {failing}, room {room}");
-        assert!(rt; DIGITS.starts_with(sink.written()));
         let state = (sink.written().len(), sink.calls(), sink.faults());
-        assert_eq!(rt; state, (written, calls, faults), "call {failing}");
+        assert!(rt;
+            wrote == answer
+                && DIGITS.starts_with(sink.written())
+                && state == (written, calls, faults),
+            "call {failing}, room {room}"
+        );
     }
     Ok(())
 }

@@ -1,4 +1,4 @@
-//! Tests of links, proof graphs and rings, of files fed in pieces, of sources and sinks, and of words; there is nothing else here.
+//! Tests of links and proof graphs, of files fed in pieces, of sources and sinks, and of words; there is nothing else here.
 #![tactic(auto)]
 
 #[cfg(test)]
@@ -15,7 +15,5 @@ mod file_reader_tests;
 mod node_reasons_tests;
 #[cfg(test)]
 mod proof_graph_tests;
-#[cfg(test)]
-mod ring_family_tests;
 #[cfg(test)]
 mod texts;

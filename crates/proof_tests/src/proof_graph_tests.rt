@@ -8,10 +8,7 @@ use heap_formula::{
     Args, Disjuncts, Heap, Judgement, Link, Pair, Pairs, Positions, Reason, Rule, Spatial, Subst,
     Term, is_same_judgement,
 };
-use proof_graph::{
-    Graph, GraphFault, GraphPremise, GraphPremises, OutOfMemory, PremisePairs, predicate_positions,
-    trace_edge,
-};
+use proof_graph::{Graph, GraphFault, OutOfMemory, PremisePairs};
 use std::alloc::Global;
 use std::test::Fail;
 use trace_pairs::Edge;
@@ -220,56 +217,5 @@ fn the_limit(rt: HostRuntime) -> Result<(), Fail> {
     ];
     let many = Err(GraphFault::TooManyNodes);
     assert_eq!(rt; answers, [many, Ok(19999), many]);
-    Ok(())
-}
-
-/// The positions of a judgement, and one edge.
-#[test]
-fn parts_of_a_trace_graph(rt: HostRuntime) -> Result<(), Fail> {
-    let alloc = rt.alloc();
-    let positions = predicate_positions(alloc, &judgement_of(alloc)?)?;
-    let runs = predicate_positions(alloc, &Judgement::Term(1, Heap::new(alloc)))?;
-    assert!(rt; positions.as_slice() == [0, 2].as_slice() && runs.is_empty());
-    let pairs = [
-        Pair {
-            old: 0,
-            new: 2,
-            progress: true,
-        },
-        Pair {
-            old: 2,
-            new: 1,
-            progress: false,
-        },
-    ];
-    let edge = trace_edge(alloc, 7, &pairs)?;
-    assert!(rt; edge.target() == 7);
-    assert_eq!(rt; edge.pairs(), [(0, 2, true), (2, 1, false)].as_slice());
-    Ok(())
-}
-
-/// The lists of pairs and of premises as they were given, and the emptiness of a graph.
-#[test]
-fn parts_of_a_graph(rt: HostRuntime) -> Result<(), Fail> {
-    let alloc = rt.alloc();
-    let arena = Bump::new(alloc);
-    let mut graph = Graph::new_in(alloc, &arena);
-    let was_empty = graph.is_empty();
-    let number = graph.push_node(&judgement_of(alloc)?)?;
-    assert!(rt; was_empty && number == 0 && !graph.is_empty());
-    let lists = pairs_of(alloc)?;
-    let [first, second] = lists.as_slice() else {
-        return Err(Fail::from("not two lists"));
-    };
-    assert!(rt; first.as_slice().is_empty() && second.as_slice().len() == 1);
-    let premise = GraphPremise {
-        pairs: Pairs::new(alloc),
-        slot: Some(3),
-    };
-    let premises = GraphPremises::from_vec(vec![in alloc; premise]?);
-    let [only] = premises.as_slice() else {
-        return Err(Fail::from("not one premise"));
-    };
-    assert!(rt; only.slot == Some(3));
     Ok(())
 }
