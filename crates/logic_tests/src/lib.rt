@@ -6,8 +6,6 @@ mod buchi_core_tests;
 #[cfg(test)]
 mod buchi_inclusion_tests;
 #[cfg(test)]
-mod derivation_moves_tests;
-#[cfg(test)]
 mod derivation_search_tests;
 #[cfg(test)]
 mod fold_offers_tests;

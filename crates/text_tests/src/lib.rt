@@ -1,4 +1,4 @@
-//! Tests of tokens and statements, of parts of texts and models, and of names and their numbers; there is nothing else here.
+//! Tests of tokens and statements, of models, of names and their numbers, and of first-order texts and offers; there is nothing else here.
 #![tactic(auto)]
 
 #[cfg(test)]
@@ -6,7 +6,9 @@ mod cyc_grammar_tests;
 #[cfg(test)]
 mod cyc_lex_tests;
 #[cfg(test)]
-mod item_reader_tests;
+mod fo_file_written_tests;
+#[cfg(test)]
+mod fo_moves_tests;
 #[cfg(test)]
 mod long_list_tests;
 #[cfg(test)]
