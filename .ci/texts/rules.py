@@ -167,6 +167,10 @@ PREMISES = [
         STOPS, f"from 2 given true : {TWO_CELLS}", "Split $0 $1",
         [f"from 2 given $0 = $1 : {TWO_CELLS}", f"from 2 given $0 != $1 : {TWO_CELLS}"],
     ),
+    (
+        "", "true : emp |- $0 = $1 : emp or $0 != $1 : emp", "Split $0 $1",
+        ["$0 = $1 : emp |- $0 = $1 : emp or $0 != $1 : emp", "$0 != $1 : emp |- $0 = $1 : emp or $0 != $1 : emp"],
+    ),
     (STOPS, f"from 2 given true : {TWO_CELLS}", "Distinct 0 2", [f"from 2 given $0 != $1 : {TWO_CELLS}"]),
     (STOPS, f"from 2 given true : {TWO_CELLS}", "Distinct 2 2", [f"from 2 given $1 != nil : {TWO_CELLS}"]),
     (STOPS, f"from 2 given true : {TWO_CELLS}", "Drop 0", ["from 2 given true : list($0) * $1 -> ($1)"]),

@@ -157,6 +157,9 @@ REFLEXIVELY = (
     b"end;\n"
 )
 
+# A term 2,000 deep.
+DEEP = b"s(" * 2000 + b"z()" + b")" * 2000
+
 CLASHING = b"cyclist foproblem 1; con z 0; con s 1; goal $0 = z(), z() = s($1) |- false; end;"
 
 CLASHED = (
@@ -195,6 +198,10 @@ RUNS = [
     ("fo --depth 5", EVEN, 0, NATURAL),
     ("fo --depth 4", EVEN, 6, b"not found depth 4"),
     ("fo --depth 1", REFLEXIVE, 0, REFLEXIVELY),
+    (
+        "fo --depth 1", b"cyclist foproblem 1; con z 0; con s 1; goal true |- " + DEEP + b" = " + DEEP + b"; end;",
+        0, b"cyclist fo 1;\ncon z 0;\ncon s 1;\nnode true |- " + DEEP + b" = " + DEEP + b" by Refl 0;\nend;\n",
+    ),
     ("fo --depth 1", CLASHING, 0, CLASHED),
     ("fo --depth 0", EVEN, 2, USAGE),
     ("fo-check", NATURAL, 0, b"accepted first-order nodes 10 links 1"),

@@ -77,8 +77,9 @@ fn a_source_that_fails_at_a_call(rt: HostRuntime) -> Result<(), Fail> {
             let fails = call <= *calls as u64;
             let wanted = if fails { 7 } else { *code };
             let told = if fails { b"".as_slice() } else { line };
+            let failed = if fails { 1 } else { 0 };
             assert!(rt;
-                found == wanted && written.as_slice() == told && (faults == 1) == fails,
+                found == wanted && written.as_slice() == told && faults == failed,
                 "at call {call}"
             );
         }
