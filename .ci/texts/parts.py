@@ -105,6 +105,8 @@ LINES = [
 
 ROWS = [at_token(of_lines([line, "stop"]), 5, words, token) for line, words, token in LIMITS]
 ROWS += [(of_lines([line, "stop"]), 0, b"accepted entailment nodes 1 links 0") for line in WITHIN]
+ROWS += [(of_lines(["stop"] * 4096), 0, b"accepted entailment nodes 1 links 0")]
+ROWS += [at_token(of_lines(["stop"] * 4097), 5, "limit lines", 4 + 5 * 4096)]
 ROWS += [at_token(f"cyclist proof 1;\n{it}\n{NODE}".encode(), 4, f"ill-formed {flaw}", token) for it, flaw, token in PROGRAMS]
 ROWS += [
     at_token(f"cyclist proof 1;\n{DEFINITIONS}node {judgement} by Done;\nend;\n".encode(), status, words, token)

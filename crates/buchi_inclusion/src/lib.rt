@@ -55,7 +55,7 @@ pub fn included(alloc: Global, graph: &TraceGraph, limit: u32) -> Result<Inclusi
 
 /// What is known of a graph where no lasso is asked for: every lasso progresses; some lasso doesn't; or there are more
 /// product states than the limit.
-#[derive(Clone, Copy, PartialEq, Eq, Debug)]
+#[derive(Clone, Copy)]
 pub enum Progress {
     Progresses,
     DoesNot,

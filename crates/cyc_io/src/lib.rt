@@ -21,7 +21,7 @@ use thiserror::Error;
 pub use words::command_words;
 
 /// A call to the outside failed: it took or appended nothing, and the count of faults rose.
-#[derive(Clone, Copy, Debug, PartialEq, Eq)]
+#[derive(Clone, Copy)]
 pub struct Failed;
 
 /// Where bytes come from. A contract sees the bytes still to come, in order, and a count of faults.

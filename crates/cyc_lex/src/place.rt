@@ -10,7 +10,7 @@ use cyc_memory::OutOfMemory;
 use std::alloc::AllocFailed;
 
 /// A place in a text: how many bytes stand before it, and its line and column, counted from 1, the column in characters.
-#[derive(Clone, Copy, Debug, PartialEq, Eq)]
+#[derive(Clone, Copy)]
 pub struct Place {
     pub offset: u32,
     pub line: u32,
@@ -34,7 +34,7 @@ pub enum Piece {
 }
 
 /// What is bad at a place.
-#[derive(Clone, Copy, Debug, PartialEq, Eq)]
+#[derive(Clone, Copy)]
 pub enum Bad {
     Byte,
     Utf8,

@@ -14,7 +14,7 @@ use cyc_memory::OutOfMemory;
 use std::alloc::Global;
 
 /// Why there is no answer.
-#[derive(Clone, Copy, Debug, PartialEq, Eq)]
+#[derive(Clone, Copy)]
 pub enum NoAnswer {
     ReadFault,
     OutOfMemory,
@@ -61,7 +61,7 @@ pub trait PiecewiseTool {
 }
 
 /// What one turn of reading came to.
-#[derive(Clone, Copy, Debug, PartialEq, Eq)]
+#[derive(Clone, Copy)]
 pub enum Turn {
     /// A piece was fed. The number is that of all bytes so far.
     Fed(usize),
@@ -72,7 +72,7 @@ pub enum Turn {
 }
 
 /// Whether all of an input was fed.
-#[derive(Clone, Copy, Debug, PartialEq, Eq)]
+#[derive(Clone, Copy)]
 pub enum Extent {
     Whole,
     TooLong,

@@ -2,7 +2,7 @@
 
 /// How a run of a label looks: as the rest does, or bold in a colour, which DOT names by a word as `blue` or by `#` and
 /// six digits.
-#[derive(Clone, Copy, Debug, PartialEq, Eq)]
+#[derive(Clone, Copy)]
 pub enum Style {
     Plain,
     Bold(&'static str),

@@ -7,7 +7,7 @@ use crate::sequents::FoSequent;
 use crate::terms::{Sign, Term};
 
 /// Which signs are asked for.
-#[derive(Clone, Copy, PartialEq, Eq, Debug)]
+#[derive(Clone, Copy)]
 pub enum Kind {
     Variables,
     Locals,

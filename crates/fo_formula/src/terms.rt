@@ -6,7 +6,7 @@ use std::marker::Model;
 
 /// A sign of a term: a variable `$n`, to which a valuation gives a term; a local `?n` of a case; or a constructor, with
 /// its number in the order of the constructors (from 0) and how many arguments it takes.
-#[derive(Clone, Copy, PartialEq, Eq, Debug)]
+#[derive(Clone, Copy, PartialEq, Eq)]
 pub enum Sign {
     Universal(u16),
     Local(u16),

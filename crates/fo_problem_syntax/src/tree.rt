@@ -4,7 +4,7 @@
 use fo_term_syntax::AtomTree;
 
 /// A constructor: its name and its number of arguments.
-#[derive(Clone, Copy, Debug, PartialEq, Eq)]
+#[derive(Clone, Copy)]
 pub struct ConstructorTree<'a> {
     pub name: &'a str,
     pub arguments: u32,

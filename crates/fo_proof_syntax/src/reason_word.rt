@@ -7,7 +7,7 @@ ghost use Rattle.fo_proof_syntax.specs.Words.{reason_text, reason_words, side_te
 use crate::tree::SideTree;
 
 /// The word with which a reason begins.
-#[derive(Clone, Copy, Debug, PartialEq, Eq)]
+#[derive(Clone, Copy)]
 pub enum ReasonWord {
     Axiom,
     Refl,

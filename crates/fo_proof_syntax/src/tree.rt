@@ -4,7 +4,7 @@ use fo_problem_syntax::{ConstructorTree, DefinitionTree, SequentTree};
 use fo_term_syntax::{AtomTree, SignTree};
 
 /// A side of an equation.
-#[derive(Clone, Copy, Debug, PartialEq, Eq)]
+#[derive(Clone, Copy)]
 pub enum SideTree {
     Left,
     Right,

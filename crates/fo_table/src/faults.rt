@@ -7,7 +7,7 @@ use std::alloc::AllocError;
 
 /// What is wrong with a node. `LinkLeft` and `LinkRight` carry the companion's position that has no match, and
 /// `PremiseDiffers` the premise's place in the rule's list, from 0.
-#[derive(Clone, Copy, PartialEq, Eq, Debug)]
+#[derive(Clone, Copy)]
 pub enum FoFault {
     NoSuchAtom,
     NotEquation,
@@ -27,7 +27,7 @@ pub enum FoFault {
 }
 
 /// Why a rule gives no premises.
-#[derive(Clone, Copy, PartialEq, Eq, Debug)]
+#[derive(Clone, Copy)]
 pub enum FoRuleError {
     Fault(FoFault),
     OutOfMemory,

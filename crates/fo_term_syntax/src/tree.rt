@@ -2,7 +2,7 @@
 
 /// A sign of a term in prefix notation (Łukasiewicz 1929): a variable `$n`, a local `?n` of a case, or a name with its
 /// number of arguments, which come next, one after the other.
-#[derive(Clone, Copy, Debug, PartialEq, Eq)]
+#[derive(Clone, Copy)]
 pub enum SignTree<'a> {
     Variable(u32),
     Local(u32),

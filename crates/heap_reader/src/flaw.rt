@@ -5,14 +5,14 @@ ghost use Rattle.heap_reader.specs.declared.flaw.Item.TheVariants.{Ill, Over};
 use cyc_lex::{IllFault, What};
 
 /// What is ill-formed, or which limit is passed.
-#[derive(Clone, Copy, Debug, PartialEq, Eq)]
+#[derive(Clone, Copy)]
 pub enum Item {
     Ill(IllFault),
     Over(What),
 }
 
 /// What is wrong, and the number of the token at which it stands.
-#[derive(Clone, Copy, Debug, PartialEq, Eq)]
+#[derive(Clone, Copy)]
 pub struct Flaw {
     pub item: Item,
     pub token: usize,

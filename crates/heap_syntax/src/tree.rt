@@ -1,7 +1,7 @@
 //! Trees of symbolic heaps: what a text of the grammar says, with lists of any length.
 
 /// A pure atom, `left = right` or `left != right`.
-#[derive(Clone, Copy, Debug, PartialEq, Eq)]
+#[derive(Clone, Copy)]
 pub struct PureTree<T> {
     pub left: T,
     pub is_equation: bool,

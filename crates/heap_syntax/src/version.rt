@@ -14,7 +14,7 @@ use cyc_limits::MOST_SPATIAL;
 use cyc_memory::OutOfMemory;
 
 /// A version of the formats of proof files and of problem files, which the first statement of a file names.
-#[derive(Clone, Copy, Debug, PartialEq, Eq)]
+#[derive(Clone, Copy)]
 pub enum Version {
     One,
     Two,

@@ -1,12 +1,12 @@
-// Programs that are refused, single steps, and runs.
+// Single steps, and runs.
 ghost use Rattle.std.specs.Prelude.{IfOk};
 ghost use Rattle.heap_formula.specs.Closedness.{IsUniversal};
 ghost use Rattle.heap_formula.specs.Words.{Each};
 ghost use Rattle.goto_lang.specs.Lines.{IsUniversalCommand, commands_of};
 
 use cyc_memory::OutOfMemory;
-use goto_lang::{Cells, Config, Program, ProgramFault, Ran, Stack, Stepped, run_lowest, step};
-use heap_formula::{Command, Count, Term};
+use goto_lang::{Cells, Config, Program, Ran, Stack, Stepped, run_lowest, step};
+use heap_formula::{Command, Term};
 use std::alloc::Global;
 use std::test::Fail;
 
@@ -15,9 +15,6 @@ const NIL: Term = Term::Nil;
 const X: Term = Term::Univ(0);
 
 const Y: Term = Term::Univ(1);
-
-/// A variable that no program has.
-const FAR: Term = Term::Univ(64);
 
 /// A line's number and its command, of which no term is an existential.
 type Line = (u32, Command);
@@ -56,85 +53,6 @@ fn lines_of(alloc: Global, lines: &[Line]) -> Result<Vec<Line>, OutOfMemory>
         copies.push((*number, universal(*command)))?;
     }
     Ok(copies)
-}
-
-fn fault(alloc: Global, lines: &[Line]) -> Result<Option<ProgramFault>, OutOfMemory> {
-    let lines = lines_of(alloc, lines)?;
-    match Program::new(alloc, &lines) {
-        Ok(_) => Ok(None),
-        Err(fault) => Ok(Some(fault)),
-    }
-}
-
-const VARIABLES: Option<ProgramFault> = Some(ProgramFault::Limit(Count::ProgramVariables));
-
-const FIELDS: Option<ProgramFault> = Some(ProgramFault::Limit(Count::Fields));
-
-/// Lines, and the first fault of the program that they are.
-static FAULTS: &[(&[Line], Option<ProgramFault>)] = &[
-    (&[], None),
-    (&[(1, Command::Free(X)), (2, Command::Goto(1))], None),
-    (&[(1, Command::Goto(0))], Some(ProgramFault::Jump(1))),
-    (&[(1, Command::Goto(2))], Some(ProgramFault::Jump(1))),
-    (
-        &[(1, Command::IfAny(0)), (2, Command::Stop)],
-        Some(ProgramFault::Jump(1)),
-    ),
-    (&[(1, Command::Free(X))], Some(ProgramFault::FallsOff)),
-    (&[(1, Command::IfAny(1))], Some(ProgramFault::FallsOff)),
-    (&[(0, Command::Stop)], Some(ProgramFault::Numbering(1))),
-    (&[(1, Command::Free(FAR)), (2, Command::Stop)], VARIABLES),
-    (&[(1, Command::New(0, 0)), (2, Command::Stop)], FIELDS),
-    (&[(1, Command::Load(0, X, 9)), (2, Command::Stop)], FIELDS),
-    // the first of several
-    (&[(2, Command::Free(FAR))], Some(ProgramFault::FallsOff)),
-    (
-        &[(1, Command::Goto(3)), (2, Command::Free(X))],
-        Some(ProgramFault::Jump(1)),
-    ),
-    (
-        &[(1, Command::Free(X)), (3, Command::Goto(0))],
-        Some(ProgramFault::Numbering(2)),
-    ),
-    (&[(1, Command::New(64, 0)), (2, Command::Stop)], VARIABLES),
-    (
-        &[(1, Command::Store(X, 0, FAR)), (2, Command::Stop)],
-        FIELDS,
-    ),
-    (
-        &[(1, Command::IfEq(X, FAR, 0)), (2, Command::Stop)],
-        VARIABLES,
-    ),
-];
-
-#[test]
-fn the_first_fault_is_told(rt: HostRuntime) -> Result<(), Fail> {
-    let alloc = rt.alloc();
-    for (lines, wanted) in FAULTS {
-        assert_eq!(rt; fault(alloc, lines)?, *wanted);
-    }
-    Ok(())
-}
-
-fn stops(alloc: Global, count: u32) -> Result<Vec<Line>, OutOfMemory> {
-    let mut lines = Vec::new(alloc);
-    for i in 0..count {
-        lines.push((i + 1, Command::Stop))?;
-    }
-    Ok(lines)
-}
-
-#[test]
-fn lines_are_counted(rt: HostRuntime) -> Result<(), Fail> {
-    let alloc = rt.alloc();
-    for (count, wanted) in [
-        (4096, None),
-        (4097, Some(ProgramFault::Limit(Count::Lines))),
-    ] {
-        let lines = stops(alloc, count)?;
-        assert_eq!(rt; fault(alloc, &lines)?, wanted);
-    }
-    Ok(())
 }
 
 /// A line, the values of x and y, and one cell, or none where the address is 0.

@@ -1,4 +1,4 @@
-//! Tests of formulas, definitions, programs, satisfiability, paths and searches; there is nothing else here.
+//! Tests of programs, satisfiability, paths and searches; there is nothing else here.
 #![tactic(auto)]
 
 #[cfg(test)]
@@ -15,8 +15,6 @@ mod given;
 mod goto_lang_tests;
 #[cfg(test)]
 mod position_sets_tests;
-#[cfg(test)]
-mod pred_defs_tests;
 #[cfg(test)]
 mod sat_pairs_tests;
 #[cfg(test)]

@@ -12,7 +12,7 @@ use pred_defs::Defs;
 use std::alloc::Global;
 
 /// A place where some variable is not known: a case of a predicate, both from 0, or one of the asked formulas, from 0.
-#[derive(Clone, Copy, PartialEq, Eq, Debug)]
+#[derive(Clone, Copy)]
 pub enum Place {
     Case(u16, u32),
     Ask(u32),

@@ -14,7 +14,7 @@ use heap_formula::{Args, Heap, Pure, Spatial, Term};
 use std::alloc::Global;
 
 /// What the locals of a case become: universal or existential variables from a number on.
-#[derive(Clone, Copy, PartialEq, Eq, Debug)]
+#[derive(Clone, Copy)]
 pub enum Fresh {
     Univ(u16),
     Exist(u16),

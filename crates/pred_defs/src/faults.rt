@@ -6,7 +6,7 @@ use std::alloc::{AllocError, AllocFailed};
 /// Why a definition is not taken, or a list of definitions is not closed: the name is there already, a predicate that is
 /// used has no definition, it is used with another number of arguments, a count is passed, or a case has a universal
 /// variable that is no parameter.
-#[derive(Clone, Copy, PartialEq, Eq, Debug)]
+#[derive(Clone, Copy, Debug)]
 pub enum DefFault {
     Duplicate,
     Unknown,

@@ -13,7 +13,7 @@ use heap_reader::{Flaw, TermReader, ill, over};
 use pred_syntax::TermTree;
 
 /// Where a term stands: outside cases, or in a case of a predicate with so many parameters.
-#[derive(Clone, Copy, Debug, PartialEq, Eq)]
+#[derive(Clone, Copy)]
 pub enum Scope {
     Outside,
     Case(u32),

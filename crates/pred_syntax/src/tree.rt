@@ -2,7 +2,7 @@
 //! numbers of at most nine digits.
 
 /// A term: `nil`, a universal variable `$n` or an existential variable `?n`; in a case of a definition `$n` is parameter n and `?n` local n.
-#[derive(Clone, Copy, Debug, PartialEq, Eq)]
+#[derive(Clone, Copy)]
 pub enum TermTree {
     Nil,
     Univ(u32),

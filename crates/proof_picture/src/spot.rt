@@ -5,7 +5,7 @@ ghost use Rattle.proof_picture.specs.Places.{place_of};
 
 /// What stands before a word: nothing that is not between words of a piece, a space where another piece begins, or the
 /// end of the line.
-#[derive(Clone, Copy, Debug, PartialEq, Eq)]
+#[derive(Clone, Copy)]
 pub enum Gap {
     Within,
     Space,

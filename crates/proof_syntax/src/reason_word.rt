@@ -7,7 +7,7 @@ ghost use Rattle.proof_syntax.specs.ReasonWords.{reason_text, reason_words, side
 use crate::tree::SideTree;
 
 /// The word with which a reason begins.
-#[derive(Clone, Copy, Debug, PartialEq, Eq)]
+#[derive(Clone, Copy)]
 pub enum ReasonWord {
     Absurd,
     Rewrite,

@@ -22,14 +22,14 @@ pub enum JudgementTree<'a> {
 }
 
 /// The side of an equation that is replaced.
-#[derive(Clone, Copy, Debug, PartialEq, Eq)]
+#[derive(Clone, Copy)]
 pub enum SideTree {
     Left,
     Right,
 }
 
 /// An entry of a substitution, `$variable := value`, with a universal variable or `nil` as its value.
-#[derive(Clone, Copy, Debug, PartialEq, Eq)]
+#[derive(Clone, Copy)]
 pub struct PairTree {
     pub variable: u32,
     pub value: TermTree,

@@ -1,8 +1,6 @@
-//! Tests of tokens and statements, of models, of names and their numbers, and of first-order texts and offers; there is nothing else here.
+//! Tests of tokens, of models, of names and their numbers, and of first-order texts and offers; there is nothing else here.
 #![tactic(auto)]
 
-#[cfg(test)]
-mod cyc_grammar_tests;
 #[cfg(test)]
 mod cyc_lex_tests;
 #[cfg(test)]
@@ -17,7 +15,3 @@ mod model_file_tests;
 mod name_numbers_tests;
 #[cfg(test)]
 mod piecewise_lex_tests;
-#[cfg(test)]
-mod proof_statements_tests;
-#[cfg(test)]
-mod texts;
