@@ -1,8 +1,12 @@
 """texts.py PROGRAM CHECKER: runs the built program on the texts of texts/, and the checker alone on those for `check`, and compares
-their status and what they write."""
+their status and what they write. Each short text comes whole, and then a byte at a time."""
+from concurrent.futures import ProcessPoolExecutor
+import array
+import fcntl
 import os
 import subprocess
 import sys
+import termios
 
 sys.path.insert(0, os.path.join(os.path.dirname(os.path.abspath(__file__)), "texts"))
 sys.dont_write_bytecode = True
@@ -10,12 +14,17 @@ import checks
 import first_order
 import models
 import parts
+import pieces
 import problems
 import rules
 import searches
+import words
 
 program = os.path.abspath(sys.argv[1])
 checker = os.path.abspath(sys.argv[2])
+
+# The length up to which a text comes a byte at a time too.
+SHORT = 2000
 
 
 def rows():
@@ -23,6 +32,8 @@ def rows():
     for table in [*checks.TABLES, parts.ROWS, rules.ROWS]:
         for text, status, line in table:
             yield "check", text, status, line
+    for text, status, line in pieces.FIRST + pieces.BYTES:
+        yield "check", text, status, line
     for text in checks.IN_WRITTEN_FORM:
         yield "upgrade", text, 0, text.replace(b"proof 1;", b"proof 2;", 1)
     for text, status, written in checks.WRITTEN:
@@ -41,27 +52,63 @@ def rows():
     for text, status, line in first_order.DEAD_TOKENS_OF_PROBLEMS:
         yield "fo", text, status, line
     yield from searches.RUNS
+    yield from words.ROWS
 
 
-def answer(words, text):
-    both = {"stdout": subprocess.PIPE, "stderr": subprocess.STDOUT}
-    ran = subprocess.run(words, input=text, timeout=120, **both)
-    return ran.returncode, ran.stdout
+def waiting(pipe):
+    """Returns how many bytes of the pipe are not read yet."""
+    count = array.array("i", [0])
+    fcntl.ioctl(pipe, termios.FIONREAD, count)
+    return count[0]
 
 
-def fault(words, text, status, written):
+def feed(ran, text, size):
+    """Gives a running program so many bytes a read: the next ones come when it has read those before."""
+    pipe = ran.stdin.fileno()
+    for at in range(0, len(text), size):
+        os.write(pipe, text[at : at + size])
+        while waiting(pipe):
+            if ran.poll() is not None:
+                return
+            os.sched_yield()
+
+
+def answer(command, text, size=None):
+    """Returns the status of a run and what it writes, to either stream; the text comes whole, or in pieces of that size."""
+    with subprocess.Popen(command, stdin=subprocess.PIPE, stdout=subprocess.PIPE, stderr=subprocess.STDOUT) as ran:
+        if size:
+            try:
+                feed(ran, text, size)
+            except BrokenPipeError:
+                pass
+        written, _ = ran.communicate(None if size else text, timeout=120)
+        return ran.returncode, written
+
+
+def fault(row):
     """Returns how the program, or for a check the checker too, answers otherwise, or None."""
+    said, text, status, written, sizes = row
+    line = said.split() if isinstance(said, str) else said
     wanted = written if written.endswith(b"\n") else written + b"\n"
-    for each in [[program, *words.split()]] + [[checker]] * (words == "check"):
-        got = answer(each, text)
-        if got != (status, wanted):
-            shown = f"{' '.join([os.path.basename(each[0]), *each[1:]])} < {text[:60]!r}: status {got[0]}, {got[1][:200]!r}"
-            return f"{shown}; wanted status {status}, {wanted[:200]!r}"
+    for command in [[program, *line]] + [[checker]] * (line == ["check"]):
+        for size in sizes:
+            got = answer(command, text, size)
+            if got != (status, wanted):
+                shown = f"{' '.join([os.path.basename(command[0]), *command[1:]])} < {text[:60]!r}, {size or 'all'} at a time"
+                return f"{shown}: status {got[0]}, {got[1][:200]!r}; wanted status {status}, {wanted[:200]!r}"
     return None
 
 
-tried = list(rows())
-tried += [(second, answer([program, *first.split()], text)[1], status, line) for first, text, second, status, line in searches.AGAIN]
-faults = [it for row in tried if (it := fault(*row))]
-print("\n".join(faults) if faults else f"texts: each of the {len(tried)} is answered as it should be")
-sys.exit(1 if faults else 0)
+def sized(row):
+    return *row, (None, 1) if len(row[1]) <= SHORT else (None,)
+
+
+if __name__ == "__main__":
+    tried = list(map(sized, rows()))
+    tried += [sized((second, answer([program, *first.split()], text)[1], status, line)) for first, text, second, status, line in searches.AGAIN]
+    in_pieces = [("check", text, status, line, (size,)) for size, text, status, line in pieces.rows()]
+    with ProcessPoolExecutor() as pool:
+        faults = [it for it in pool.map(fault, tried + in_pieces, chunksize=4) if it]
+    done = f"texts: each of the {len(tried)} is answered as it should be, and of the {len(in_pieces)} in pieces"
+    print("\n".join(faults) if faults else done)
+    sys.exit(1 if faults else 0)

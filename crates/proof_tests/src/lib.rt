@@ -1,4 +1,4 @@
-//! Tests of links and proof graphs, of files fed in pieces, of sources and sinks, and of words; there is nothing else here.
+//! Tests of links and proof graphs, and of sources and sinks; there is nothing else here.
 #![tactic(auto)]
 
 #[cfg(test)]
@@ -7,10 +7,6 @@ mod back_links_tests;
 mod check_answers_tests;
 #[cfg(test)]
 mod cyc_io_tests;
-#[cfg(test)]
-mod cyc_words_tests;
-#[cfg(test)]
-mod file_reader_tests;
 #[cfg(test)]
 mod node_reasons_tests;
 #[cfg(test)]

@@ -1,8 +1,6 @@
-//! Tests of tokens, of models, of names and their numbers, and of first-order texts and offers; there is nothing else here.
+//! Tests of models, and of first-order texts and offers; there is nothing else here.
 #![tactic(auto)]
 
-#[cfg(test)]
-mod cyc_lex_tests;
 #[cfg(test)]
 mod fo_file_written_tests;
 #[cfg(test)]
@@ -11,7 +9,3 @@ mod fo_moves_tests;
 mod long_list_tests;
 #[cfg(test)]
 mod model_file_tests;
-#[cfg(test)]
-mod name_numbers_tests;
-#[cfg(test)]
-mod piecewise_lex_tests;
