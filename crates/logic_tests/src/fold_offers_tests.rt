@@ -2,7 +2,7 @@
 ghost use Rattle.std.specs.Prelude.{◌≡◌, ◌≤◌, IfOk, length};
 
 use cyc_memory::OutOfMemory;
-use fold_offers::{folds, is_cell, is_predicate};
+use fold_offers::folds;
 use heap_formula::{Args, Cases, Def, DefName, Heap, Pure, Rule, Spatial, Term};
 use std::alloc::Global;
 use std::test::Fail;
@@ -35,41 +35,49 @@ fn definition(alloc: Global) -> Result<Def, OutOfMemory>
     })
 }
 
-fn is_only(rules: &[Rule], places: &[u32], formula: &Heap) -> bool {
-    if rules.len() != 1 {
+// The variables of the states.
+const A: Term = Term::Univ(5);
+
+const B: Term = Term::Univ(6);
+
+const C: Term = Term::Univ(7);
+
+/// Whether the only rule folds the atoms at 0 and 1 into the segment from a to c.
+fn is_segment(rules: &[Rule]) -> bool {
+    let [Rule::Cut(places, formula)] = rules else {
         return false;
-    }
-    match &rules[0] {
-        Rule::Cut(cut, other) => cut.as_slice() == places && *other == *formula,
-        _ => false,
-    }
+    };
+    places.as_slice() == [0, 1].as_slice()
+        && formula.pure().is_empty()
+        && formula.spatial() == [segment(A, C)].as_slice()
 }
 
-fn folded(alloc: Global, pure: &[Pure], atoms: &[Spatial]) -> Result<Vec<Rule>, OutOfMemory>
+/// What the folds of a state come to: the segment, nothing, or something else.
+fn folded(alloc: Global, pure: &[Pure], atoms: &[Spatial]) -> Result<&'static str, OutOfMemory>
     requires pure_fits { length pure.now ≤ 64 }
     requires atoms_fit { length atoms.now ≤ 32 }
 {
     let state = Heap::from_slices(alloc, pure, atoms)?;
-    folds(alloc, &state, &[definition(alloc)?])
+    let rules = folds(alloc, &state, &[definition(alloc)?])?;
+    if is_segment(&rules) {
+        return Ok("the segment");
+    }
+    Ok(if rules.is_empty() {
+        "nothing"
+    } else {
+        "something else"
+    })
 }
 
 // A cell is folded with the segment that begins at its field, where the case's disequation follows, and else not.
 #[test]
 fn cells_fold_into_segments(rt: HostRuntime) -> Result<(), Fail> {
     let alloc = rt.alloc();
-    assert!(rt;
-        is_cell(&cell(X, Y))
-            && is_predicate(&segment(X, Y))
-            && !is_cell(&segment(X, Y))
-            && !is_predicate(&cell(X, Y))
-    );
-    let (a, b, c) = (Term::Univ(5), Term::Univ(6), Term::Univ(7));
-    let apart = [Pure::Neq(c, a)];
-    let joined = [segment(b, c), cell(a, b)];
-    let whole = Heap::from_slices(alloc, &[], &[segment(a, c)])?;
-    assert!(rt; is_only(&folded(alloc, &apart, &joined)?, &[0, 1], &whole));
-    assert!(rt; folded(alloc, &[], &joined)?.is_empty());
-    assert!(rt; folded(alloc, &apart, &[segment(c, b), cell(a, b)])?.is_empty());
-    assert!(rt; folded(alloc, &apart, &[segment(b, c)])?.is_empty());
+    let apart = [Pure::Neq(C, A)];
+    let joined = [segment(B, C), cell(A, B)];
+    assert!(rt; folded(alloc, &apart, &joined)? == "the segment");
+    assert!(rt; folded(alloc, &[], &joined)? == "nothing");
+    assert!(rt; folded(alloc, &apart, &[segment(C, B), cell(A, B)])? == "nothing");
+    assert!(rt; folded(alloc, &apart, &[segment(B, C)])? == "nothing");
     Ok(())
 }

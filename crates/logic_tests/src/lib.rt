@@ -2,8 +2,6 @@
 #![tactic(auto)]
 
 #[cfg(test)]
-mod buchi_core_tests;
-#[cfg(test)]
 mod buchi_inclusion_tests;
 #[cfg(test)]
 mod derivation_search_tests;
@@ -13,8 +11,6 @@ mod fold_offers_tests;
 mod given;
 #[cfg(test)]
 mod goto_lang_tests;
-#[cfg(test)]
-mod position_sets_tests;
 #[cfg(test)]
 mod sat_pairs_tests;
 #[cfg(test)]

@@ -12,7 +12,7 @@ use heap_formula::{
 };
 use pred_defs::Defs;
 use proof_graph::{Graph, PremisePairs};
-use search_moves::{Offers, offers};
+use search_moves::offers;
 use std::alloc::Global;
 use std::test::Fail;
 
@@ -426,11 +426,21 @@ fn one_premise(alloc: Global) -> Result<PremisePairs, OutOfMemory> {
     Ok(PremisePairs::from_vec(lists))
 }
 
-fn push_earlier(graph: &mut Graph<'_>, alloc: Global, earlier: Earlier) -> Result<(), Fail> {
-    let node = graph.push_node(&judgement(alloc, earlier.0)?)?;
+fn push_goal(graph: &mut Graph<'_>, alloc: Global, said: Said) -> Result<u32, Fail> {
+    let judgement = judgement(alloc, said)?;
+    Ok(graph.push_node(&judgement)?)
+}
+
+fn give_rule(graph: &mut Graph<'_>, alloc: Global, node: u32, made: Made) -> Result<(), Fail> {
     let pairs = one_premise(alloc)?;
-    graph.set_reason(node, &Reason::Step(rule_of(earlier.1)), &pairs)?;
+    let reason = Reason::Step(rule_of(made));
+    graph.set_reason(node, &reason, &pairs)?;
     Ok(())
+}
+
+fn push_earlier(graph: &mut Graph<'_>, alloc: Global, earlier: Earlier) -> Result<(), Fail> {
+    let node = push_goal(graph, alloc, earlier.0)?;
+    give_rule(graph, alloc, node, earlier.1)
 }
 
 // Fills the slot, if there is one.
@@ -444,12 +454,13 @@ fn fill(graph: &mut Graph<'_>, node: u32, child: u32) -> Result<(), OutOfMemory>
     graph.set_premise(node, 0, child)
 }
 
-fn graph_of<'a>(alloc: Global, arena: &'a Bump, row: Row) -> Result<Graph<'a>, Fail> {
+// The nodes before the goal, and the goal.
+fn nodes_of<'a>(alloc: Global, arena: &'a Bump, row: Row) -> Result<Graph<'a>, Fail> {
     let mut graph = Graph::new_in(alloc, arena);
     for earlier in row.before {
         push_earlier(&mut graph, alloc, *earlier)?;
     }
-    graph.push_node(&judgement(alloc, row.goal)?)?;
+    push_goal(&mut graph, alloc, row.goal)?;
     Ok(graph)
 }
 
@@ -515,33 +526,38 @@ fn are_targets(links: &[Link], wanted: &[u32]) -> bool {
     true
 }
 
-fn offered(alloc: Global, row: Row) -> Result<Option<Offers>, Fail> {
-    let defs = definitions(alloc)?;
-    let program = program(alloc)?;
-    let arena = Bump::new(alloc);
-    let mut graph = graph_of(alloc, &arena, row)?;
-    if row.before.len() > 64 || row.before.len() >= graph.len() {
-        return Ok(None);
+// Whether the goal, the last node of the graph, is offered just what the row says.
+fn is_offered(
+    alloc: Global,
+    defs: &Defs,
+    program: &Program,
+    graph: &Graph<'_>,
+    row: Row,
+) -> Result<bool, Fail>
+    requires { Each IsSmall defs.now.list }
+{
+    let goal = row.before.len();
+    if goal > 64 || goal >= graph.len() {
+        return Ok(false);
     }
-    let goal = row.before.len() as u32;
-    fill_slots(&mut graph, row.before)?;
-    if goal as usize >= graph.len() {
-        return Ok(None);
-    }
-    Ok(Some(offers(alloc, &defs, &program, &graph, goal)?))
+    let offers = offers(alloc, defs, program, graph, goal as u32)?;
+    Ok(are_targets(&offers.links, row.links) && are_rules(&offers.rules, row.rules))
 }
 
 fn is_right(alloc: Global, row: Row) -> Result<bool, Fail> {
-    match offered(alloc, row)? {
-        None => Ok(false),
-        Some(offers) => {
-            Ok(are_targets(&offers.links, row.links) && are_rules(&offers.rules, row.rules))
-        }
+    if row.before.len() > 64 {
+        return Ok(false);
     }
+    let defs = definitions(alloc)?;
+    let program = program(alloc)?;
+    let arena = Bump::new(alloc);
+    let mut graph = nodes_of(alloc, &arena, row)?;
+    fill_slots(&mut graph, row.before)?;
+    is_offered(alloc, &defs, &program, &graph, row)
 }
 
-// The number of the first row that is wrong.
-fn first_wrong_alone(alloc: Global, rows: &[Alone]) -> Result<Option<usize>, Fail> {
+// The number of the first row that is wrong, or of rows where none is.
+fn first_wrong_alone(alloc: Global, rows: &[Alone]) -> Result<usize, Fail> {
     for (i, alone) in rows.iter().enumerate() {
         let row = Row {
             before: &[],
@@ -550,41 +566,34 @@ fn first_wrong_alone(alloc: Global, rows: &[Alone]) -> Result<Option<usize>, Fai
             rules: alone.1,
         };
         if !is_right(alloc, row)? {
-            return Ok(Some(i));
+            return Ok(i);
         }
     }
-    Ok(None)
+    Ok(rows.len())
 }
 
-fn first_wrong(alloc: Global, rows: &[Row]) -> Result<Option<usize>, Fail> {
+fn first_wrong(alloc: Global, rows: &[Row]) -> Result<usize, Fail> {
     for (i, row) in rows.iter().enumerate() {
         if !is_right(alloc, *row)? {
-            return Ok(Some(i));
+            return Ok(i);
         }
     }
-    Ok(None)
+    Ok(rows.len())
 }
 
 #[test]
-fn the_first_lines_at_entailments(rt: HostRuntime) -> Result<(), Fail> {
-    assert_eq!(rt; first_wrong_alone(rt.alloc(), FIRST_ENTAILMENTS)?, None);
-    Ok(())
-}
-
-#[test]
-fn the_later_lines_at_entailments(rt: HostRuntime) -> Result<(), Fail> {
-    assert_eq!(rt; first_wrong_alone(rt.alloc(), LATER_ENTAILMENTS)?, None);
-    Ok(())
-}
-
-#[test]
-fn the_lines_at_states(rt: HostRuntime) -> Result<(), Fail> {
-    assert_eq!(rt; first_wrong_alone(rt.alloc(), STATES)?, None);
+fn the_lines_of_both_tables(rt: HostRuntime) -> Result<(), Fail> {
+    let alloc = rt.alloc();
+    for rows in [FIRST_ENTAILMENTS, LATER_ENTAILMENTS, STATES] {
+        let wrong = first_wrong_alone(alloc, rows)?;
+        assert!(rt; wrong == rows.len(), "row {wrong} of {}", rows.len());
+    }
     Ok(())
 }
 
 #[test]
 fn folds_and_links(rt: HostRuntime) -> Result<(), Fail> {
-    assert_eq!(rt; first_wrong(rt.alloc(), DERIVATIONS)?, None);
+    let wrong = first_wrong(rt.alloc(), DERIVATIONS)?;
+    assert!(rt; wrong == DERIVATIONS.len(), "row {wrong}");
     Ok(())
 }
