@@ -432,6 +432,9 @@ fn push_goal(graph: &mut Graph<'_>, alloc: Global, said: Said) -> Result<u32, Fa
 }
 
 fn give_rule(graph: &mut Graph<'_>, alloc: Global, node: u32, made: Made) -> Result<(), Fail> {
+    if node as usize >= graph.len() {
+        return Err("no node".into());
+    }
     let pairs = one_premise(alloc)?;
     let reason = Reason::Step(rule_of(made));
     graph.set_reason(node, &reason, &pairs)?;
