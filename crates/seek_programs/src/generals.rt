@@ -78,8 +78,21 @@ fn push_generals(
     Ok(())
 }
 
-fn tail(alloc: Global, general: &General) -> Result<Vec<Rule>, OutOfMemory> {
+/// The Cut that brings what comes in place of the atoms, where there is one.
+fn push_cut(alloc: Global, rules: &mut Vec<Rule>, general: &General) -> Result<(), OutOfMemory> {
+    if general.pure.is_empty() && general.by.is_empty() {
+        return Ok(());
+    }
+    let cut = general.cut.clone()?;
+    let formula = heap_of(alloc, &general.pure, &general.by)?;
+    rules.push(Rule::Cut(Positions::from_vec(cut), formula))?;
+    Ok(())
+}
+
+/// The rules that lead to the more general state.
+fn rules_to(alloc: Global, general: &General) -> Result<Vec<Rule>, OutOfMemory> {
     let mut rules = Vec::new(alloc);
+    push_cut(alloc, &mut rules, general)?;
     for place in general.dropped.iter().rev() {
         rules.push(Rule::Drop(*place))?;
     }
@@ -89,19 +102,9 @@ fn tail(alloc: Global, general: &General) -> Result<Vec<Rule>, OutOfMemory> {
     Ok(rules)
 }
 
-/// The rules that lead to the more general state.
-fn move_to(alloc: Global, general: General, then: Aim) -> Result<Move, OutOfMemory> {
-    let mut rules = Vec::new(alloc);
-    let formula = heap_of(alloc, &general.pure, &general.by)?;
-    let tail = tail(alloc, &general)?;
-    if !formula.pure().is_empty() || !formula.spatial().is_empty() {
-        rules.push(Rule::Cut(Positions::from_vec(general.cut), formula))?;
-    }
-    for rule in tail {
-        rules.push(rule)?;
-    }
+fn move_to(alloc: Global, general: &General, then: Aim) -> Result<Move, OutOfMemory> {
     Ok(Move::Step(Step {
-        rules,
+        rules: rules_to(alloc, general)?,
         side: Some(Aim::Aside(4)),
         aim: then,
     }))
@@ -127,7 +130,7 @@ pub fn general_moves(
     all.sort_by_key(|general| general.score)?;
     all.truncate(MOST_STATES);
     let mut moves = Vec::new(alloc);
-    for general in all {
+    for general in &all {
         moves.push(move_to(alloc, general, then)?)?;
     }
     Ok(moves)
