@@ -1,24 +1,12 @@
 // Candidates for a more general state.
 use crate::commons::{Commons, is_fixed};
 use crate::folds::atoms_at;
-use crate::remainders::Plan;
+use crate::remainders::{General, Plan};
 use crate::state_folds::StateFold;
 use cyc_memory::OutOfMemory;
 use heap_formula::{Heap, Pure, Spatial, Term};
 use rule_table::{equated, follows, has_pure};
 use std::alloc::Global;
-
-/// A change of the state at a head: atoms that are cut away, in ascending order, what comes in their place, and the pure
-/// atoms, and then spatial atoms after the Cut, that are left out.
-#[derive(Drop)]
-pub struct General {
-    pub cut: Vec<u32>,
-    pub pure: Vec<Pure>,
-    pub by: Vec<Spatial>,
-    pub weakened: Vec<u32>,
-    pub dropped: Vec<u32>,
-    pub score: u32,
-}
 
 /// The place of the cell with this address, up to equations.
 fn cell_at(pure: &[Pure], spatial: &[Spatial], term: Term) -> Option<usize> {
@@ -73,15 +61,14 @@ fn is_kept(second: &Heap, atom: Pure) -> bool {
     }
 }
 
-/// The places of the first state's pure atoms that the second has not.
-fn weakened(alloc: Global, commons: &Commons<'_>) -> Result<Vec<u32>, OutOfMemory> {
-    let mut places = Vec::new(alloc);
+/// Leaves out the first state's pure atoms that the second has not.
+fn weaken(general: &mut General, commons: &Commons<'_>) -> Result<(), OutOfMemory> {
     for (k, atom) in commons.first.pure().iter().enumerate() {
         if !is_kept(commons.second, *atom) {
-            places.push(k as u32)?;
+            general.weakened.push(k as u32)?;
         }
     }
-    Ok(places)
+    Ok(())
 }
 
 fn has_kept(first: &Heap, weakened: &[u32], atom: Pure) -> bool {
@@ -103,24 +90,23 @@ fn is_common(commons: &Commons<'_>, seen: &[Spatial], t: Term, u: Term) -> bool 
         && differ(second.pure(), second.spatial(), t, u)
 }
 
-/// The disequations of fixed terms that both states have, and that do not stay as written.
-fn disequations(
+/// Brings the disequations of fixed terms that both states have, and that do not stay as written.
+fn push_disequations(
     alloc: Global,
+    general: &mut General,
     commons: &Commons<'_>,
-    cut: &[u32],
-    weakened: &[u32],
-) -> Result<Vec<Pure>, OutOfMemory> {
-    let mut pure = Vec::new(alloc);
-    let seen = atoms_at(alloc, commons.first.spatial(), cut)?;
+) -> Result<(), OutOfMemory> {
+    let seen = atoms_at(alloc, commons.first.spatial(), &general.cut)?;
     for (i, t) in commons.terms.iter().enumerate() {
-        for u in commons.terms.iter().take(i) {
+        for (k, u) in commons.terms.iter().enumerate() {
             let atom = Pure::Neq(*t, *u);
-            if is_common(commons, &seen, *t, *u) && !has_kept(commons.first, weakened, atom) {
-                pure.push(atom)?;
+            let is_apart = k < i && is_common(commons, &seen, *t, *u);
+            if is_apart && !has_kept(commons.first, &general.weakened, atom) {
+                general.pure.push(atom)?;
             }
         }
     }
-    Ok(pure)
+    Ok(())
 }
 
 /// Whether the fold's atom stands in the first state already.
@@ -143,9 +129,9 @@ fn take_fold(
     if stands(commons, fold) {
         return Ok(());
     }
-    plan.cut.extend_from_slice(&fold.of_first)?;
+    plan.general.cut.extend_from_slice(&fold.of_first)?;
     let atom = plan.joined(alloc, commons, &fold.first, &fold.second)?;
-    plan.by.push(atom)?;
+    plan.general.by.push(atom)?;
     let others = fold.of_second.len().saturating_sub(1);
     plan.pay(others.min(64) as u32 * 2);
     Ok(())
@@ -162,67 +148,46 @@ fn count_before(places: &[u32], place: u32) -> u32 {
     count
 }
 
-/// The places after those that are cut away are gone.
-fn after_cut(alloc: Global, dropped: &[u32], cut: &[u32]) -> Result<Vec<u32>, OutOfMemory> {
-    let mut places = Vec::new(alloc);
-    for place in dropped {
-        places.push(place.saturating_sub(count_before(cut, *place)))?;
-    }
-    Ok(places)
-}
-
-impl General {
-    fn is_idle(&self) -> bool {
-        self.by.is_empty()
-            && self.dropped.is_empty()
-            && self.weakened.is_empty()
-            && self.pure.is_empty()
+/// Lowers the places by how many are cut away before each.
+fn lower(places: &mut [u32], cut: &[u32]) {
+    for place in places {
+        *place = place.saturating_sub(count_before(cut, *place));
     }
 }
 
-/// The plan with these folds, its places in ascending order.
-fn plan_of(
+/// What is left to say once it is known which atoms are cut away: the places in ascending order, and the pure atoms.
+fn finish(alloc: Global, general: &mut General, commons: &Commons<'_>) -> Result<(), OutOfMemory> {
+    general.cut.sort()?;
+    general.dropped.sort()?;
+    lower(&mut general.dropped, &general.cut);
+    weaken(general, commons)?;
+    push_disequations(alloc, general, commons)
+}
+
+/// Takes the folds into the plan, and what they leave.
+fn fill(
     alloc: Global,
+    plan: &mut Plan,
     commons: &Commons<'_>,
     folds: &[&StateFold],
-) -> Result<Plan, OutOfMemory> {
-    let mut plan = Plan::new(alloc);
-    let mut folded = Vec::new(alloc);
+) -> Result<(), OutOfMemory> {
     for fold in folds {
-        folded.extend_from_slice(&fold.of_first)?;
-        take_fold(alloc, &mut plan, commons, fold)?;
+        take_fold(alloc, plan, commons, fold)?;
     }
-    plan.settle(alloc, commons, &folded)?;
+    plan.settle(alloc, commons, folds)?;
     let atoms = commons.second.spatial().len();
     let lost = atoms.saturating_sub(plan.used.len());
     plan.pay(lost.min(64) as u32 * 2);
-    plan.cut.sort()?;
-    plan.dropped.sort()?;
-    Ok(plan)
+    finish(alloc, &mut plan.general, commons)
 }
 
-/// The candidate with these folds; none if it changes nothing.
+/// The candidate with these folds.
 pub fn candidate(
     alloc: Global,
     commons: &Commons<'_>,
     folds: &[&StateFold],
-) -> Result<Option<General>, OutOfMemory> {
-    let plan = plan_of(alloc, commons, folds)?;
-    let weakened = weakened(alloc, commons)?;
-    let pure = disequations(alloc, commons, &plan.cut, &weakened)?;
-    let dropped = after_cut(alloc, &plan.dropped, &plan.cut)?;
-    let Plan { cut, by, score, .. } = plan;
-    let general = General {
-        cut,
-        pure,
-        by,
-        weakened,
-        dropped,
-        score,
-    };
-    if general.is_idle() {
-        Ok(None)
-    } else {
-        Ok(Some(general))
-    }
+) -> Result<General, OutOfMemory> {
+    let mut plan = Plan::new(alloc);
+    fill(alloc, &mut plan, commons, folds)?;
+    Ok(plan.general)
 }

@@ -46,18 +46,29 @@ fn push_commons(
     Ok(())
 }
 
+/// The terms that are fixed or in both lists, each once.
+fn commons_of(
+    alloc: Global,
+    earlier: &[Term],
+    later: &[Term],
+    variables: u16,
+) -> Result<Vec<Term>, OutOfMemory> {
+    let mut terms = Vec::new(alloc);
+    push_commons(&mut terms, later, earlier, later, variables)?;
+    push_commons(&mut terms, earlier, earlier, later, variables)?;
+    push_commons(&mut terms, &[Term::Nil], earlier, later, variables)?;
+    Ok(terms)
+}
+
 fn common_terms(
     alloc: Global,
     first: &Heap,
     second: &Heap,
     variables: u16,
 ) -> Result<Vec<Term>, OutOfMemory> {
-    let (earlier, later) = (terms_of(alloc, first)?, terms_of(alloc, second)?);
-    let mut terms = Vec::new(alloc);
-    push_commons(&mut terms, &later, &earlier, &later, variables)?;
-    push_commons(&mut terms, &earlier, &earlier, &later, variables)?;
-    push_commons(&mut terms, &[Term::Nil], &earlier, &later, variables)?;
-    Ok(terms)
+    let earlier = terms_of(alloc, first)?;
+    let later = terms_of(alloc, second)?;
+    commons_of(alloc, &earlier, &later, variables)
 }
 
 fn has_pair(pairs: &[(Term, Term)], pair: (Term, Term)) -> bool {
@@ -76,9 +87,11 @@ fn push_field_pairs(
     if *t != *u || f.len() != g.len() {
         return Ok(());
     }
-    for (v, w) in f.as_slice().iter().zip(g.as_slice()) {
-        if *v != *w && pairs.len() < most && !has_pair(pairs, (*v, *w)) {
-            pairs.push((*v, *w))?;
+    for (i, v) in f.as_slice().iter().enumerate() {
+        if let Some(w) = g.as_slice().get(i) {
+            if *v != *w && pairs.len() < most && !has_pair(pairs, (*v, *w)) {
+                pairs.push((*v, *w))?;
+            }
         }
     }
     Ok(())

@@ -93,6 +93,13 @@ fn first_binding(heap: &Heap) -> Option<(u16, Term)> {
     None
 }
 
+/// The heap with a term for a variable.
+fn bound(alloc: Global, heap: &Heap, binding: (u16, Term)) -> Result<Heap, OutOfMemory> {
+    let mut pairs = Vec::new(alloc);
+    pairs.push(binding)?;
+    apply_to_heap(alloc, heap, &Subst::from_vec(pairs))
+}
+
 /// The heap with one term for the sides of each equation.
 fn settled(alloc: Global, heap: &Heap) -> Result<Heap, OutOfMemory> {
     let mut heap = heap.clone()?;
@@ -100,9 +107,7 @@ fn settled(alloc: Global, heap: &Heap) -> Result<Heap, OutOfMemory> {
         let Some(binding) = first_binding(&heap) else {
             return Ok(heap);
         };
-        let mut pairs = Vec::new(alloc);
-        pairs.push(binding)?;
-        heap = apply_to_heap(alloc, &heap, &Subst::from_vec(pairs))?;
+        heap = bound(alloc, &heap, binding)?;
     }
     Ok(heap)
 }

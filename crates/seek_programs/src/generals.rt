@@ -1,12 +1,13 @@
 // More general states at the head of a loop.
-use crate::candidates::{General, candidate};
+use crate::candidates::candidate;
 use crate::commons::Commons;
 use crate::folds::{Fitting, heap_of};
-use crate::state_folds::{StateFold, state_folds};
+use crate::remainders::General;
+use crate::state_folds::{Parts, StateFold, state_folds};
 use crate::witnesses::witnesses;
 use cyc_memory::OutOfMemory;
 use heap_formula::{Heap, Positions, Rule};
-use seek_engine::{Aim, Entailments, Move, Setting, Step};
+use seek_engine::{Aim, Entailments, Move, Step};
 use std::alloc::Global;
 
 /// How many states are tried.
@@ -40,6 +41,7 @@ fn has_same(all: &[General], general: &General) -> bool {
     false
 }
 
+/// Adds the candidate with these folds, unless it changes nothing or is there already.
 fn push_general(
     alloc: Global,
     all: &mut Vec<General>,
@@ -49,10 +51,9 @@ fn push_general(
     if all.len() >= MOST_SETS {
         return Ok(());
     }
-    if let Some(general) = candidate(alloc, commons, folds)? {
-        if !has_same(all, &general) {
-            all.push(general)?;
-        }
+    let general = candidate(alloc, commons, folds)?;
+    if !general.is_idle() && !has_same(all, &general) {
+        all.push(general)?;
     }
     Ok(())
 }
@@ -69,8 +70,8 @@ fn push_generals(
         push_general(alloc, all, commons, &[fold])?;
     }
     for (i, fold) in folds.iter().enumerate() {
-        for other in folds.iter().take(i) {
-            if are_disjoint(other, fold) {
+        for (k, other) in folds.iter().enumerate() {
+            if k < i && are_disjoint(other, fold) {
                 push_general(alloc, all, commons, &[other, fold])?;
             }
         }
@@ -110,9 +111,60 @@ fn move_to(alloc: Global, general: &General, then: Aim) -> Result<Move, OutOfMem
     }))
 }
 
+/// Adds the candidates that two states lead to.
+fn push_for(
+    all: &mut Vec<General>,
+    entailments: &Entailments<'_>,
+    fitting: &mut Fitting,
+    commons: &Commons<'_>,
+) -> Result<(), OutOfMemory> {
+    let alloc = entailments.setting.alloc;
+    let parts = Parts::of(alloc, commons)?;
+    let folds = state_folds(entailments, fitting, commons, &parts)?;
+    push_generals(alloc, all, commons, &folds)
+}
+
+/// Adds the candidates that the state at a head and a later one there lead to.
+fn push_later(
+    all: &mut Vec<General>,
+    entailments: &Entailments<'_>,
+    fitting: &mut Fitting,
+    state: &Heap,
+    later: &Heap,
+    variables: u16,
+) -> Result<(), OutOfMemory> {
+    let commons = Commons::new(entailments.setting.alloc, state, later, variables)?;
+    push_for(all, entailments, fitting, &commons)
+}
+
+/// The candidates at a head, the strongest states first.
+fn generals(
+    entailments: &Entailments<'_>,
+    fitting: &mut Fitting,
+    head: u32,
+    state: &Heap,
+    variables: u16,
+) -> Result<Vec<General>, OutOfMemory> {
+    let states = witnesses(&entailments.setting, head, state, variables)?;
+    let mut all: Vec<General> = Vec::new(entailments.setting.alloc);
+    for later in &states {
+        push_later(&mut all, entailments, fitting, state, later, variables)?;
+    }
+    all.sort_by_key(|general| general.score)?;
+    all.truncate(MOST_STATES);
+    Ok(all)
+}
+
+fn moves_to(alloc: Global, generals: &[General], then: Aim) -> Result<Vec<Move>, OutOfMemory> {
+    let mut moves = Vec::new(alloc);
+    for general in generals {
+        moves.push(move_to(alloc, general, then)?)?;
+    }
+    Ok(moves)
+}
+
 /// The moves to more general states at a head, the strongest states first.
 pub fn general_moves(
-    setting: &Setting<'_>,
     entailments: &Entailments<'_>,
     fitting: &mut Fitting,
     head: u32,
@@ -120,18 +172,6 @@ pub fn general_moves(
     variables: u16,
     then: Aim,
 ) -> Result<Vec<Move>, OutOfMemory> {
-    let alloc = setting.alloc;
-    let mut all: Vec<General> = Vec::new(alloc);
-    for later in witnesses(setting, head, state, variables)? {
-        let commons = Commons::new(alloc, state, &later, variables)?;
-        let folds = state_folds(setting, entailments, fitting, &commons)?;
-        push_generals(alloc, &mut all, &commons, &folds)?;
-    }
-    all.sort_by_key(|general| general.score)?;
-    all.truncate(MOST_STATES);
-    let mut moves = Vec::new(alloc);
-    for general in &all {
-        moves.push(move_to(alloc, general, then)?)?;
-    }
-    Ok(moves)
+    let all = generals(entailments, fitting, head, state, variables)?;
+    moves_to(entailments.setting.alloc, &all, then)
 }

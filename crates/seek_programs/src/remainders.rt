@@ -1,44 +1,82 @@
 // Atoms of a state beside its folds: kept, generalised, or dropped.
 use crate::commons::Commons;
 use crate::forced::is_predicate;
+use crate::state_folds::StateFold;
 use cyc_memory::OutOfMemory;
-use heap_formula::{Args, Spatial, Term};
+use heap_formula::{Args, Pure, Spatial, Term};
 use seek_engine::{args_of, arguments, is_alike};
 use std::alloc::Global;
 
-/// A more general state on its way: places of the first state that are cut away, the atoms that come in their place, the
-/// places that are dropped, the places of the second state that are accounted for, the pairs of terms that became
-/// existentials, and a score, of which a low one is good.
+/// A change of the state at a head: atoms that are cut away, in ascending order, what comes in their place, and the pure
+/// atoms, and then spatial atoms after the Cut, that are left out; and a score, of which a low one is good.
+#[derive(Drop)]
+pub struct General {
+    pub cut: Vec<u32>,
+    pub pure: Vec<Pure>,
+    pub by: Vec<Spatial>,
+    pub weakened: Vec<u32>,
+    pub dropped: Vec<u32>,
+    pub score: u32,
+}
+
+impl General {
+    /// The change of nothing.
+    fn none(alloc: Global) -> General {
+        General {
+            cut: Vec::new(alloc),
+            pure: Vec::new(alloc),
+            by: Vec::new(alloc),
+            weakened: Vec::new(alloc),
+            dropped: Vec::new(alloc),
+            score: 0,
+        }
+    }
+
+    /// Whether nothing comes in and nothing is left out.
+    pub fn is_idle(&self) -> bool {
+        self.by.is_empty()
+            && self.dropped.is_empty()
+            && self.weakened.is_empty()
+            && self.pure.is_empty()
+    }
+}
+
+/// A more general state on its way, the places of the second state that are accounted for, and the pairs of terms that
+/// became existentials.
 #[derive(Drop)]
 pub struct Plan {
-    pub cut: Vec<u32>,
-    pub by: Vec<Spatial>,
-    pub dropped: Vec<u32>,
+    pub general: General,
     pub used: Vec<u32>,
     pub unknown: Vec<(Term, Term)>,
-    pub score: u32,
 }
 
 fn has_place(places: &[u32], place: u32) -> bool {
     places.contains(&place)
 }
 
+/// Whether a fold takes the place of the first state.
+fn is_folded(folds: &[&StateFold], place: u32) -> bool {
+    for fold in folds {
+        if has_place(&fold.of_first, place) {
+            return true;
+        }
+    }
+    false
+}
+
 impl Plan {
     /// The plan that changes nothing.
     pub fn new(alloc: Global) -> Plan {
         Plan {
-            cut: Vec::new(alloc),
-            by: Vec::new(alloc),
-            dropped: Vec::new(alloc),
+            general: General::none(alloc),
             used: Vec::new(alloc),
             unknown: Vec::new(alloc),
-            score: 0,
         }
     }
 
     /// Adds to the score.
     pub fn pay(&mut self, score: u32) {
-        self.score = self.score.saturating_add(score);
+        self.general.score = self.general.score.saturating_add(score);
     }
 
     fn has_unknown(&self, pair: (Term, Term)) -> bool {
@@ -81,8 +119,10 @@ impl Plan {
         us: &[Term],
     ) -> Result<Args, OutOfMemory> {
         let mut terms: Vec<Term> = Vec::new(alloc);
-        for (t, u) in ts.iter().zip(us) {
-            terms.push(self.joined_term(commons, *t, *u)?)?;
+        for (i, t) in ts.iter().enumerate() {
+            if let Some(u) = us.get(i) {
+                terms.push(self.joined_term(commons, *t, *u)?)?;
+            }
         }
         Ok(args_of(&terms))
     }
@@ -121,9 +161,11 @@ impl Plan {
 }
 
 fn are_like(commons: &Commons<'_>, ts: &[Term], us: &[Term]) -> bool {
-    for (t, u) in ts.iter().zip(us) {
-        if commons.meeting(*t, *u).is_none() {
-            return false;
+    for (i, t) in ts.iter().enumerate() {
+        if let Some(u) = us.get(i) {
+            if commons.meeting(*t, *u).is_none() {
+                return false;
+            }
         }
     }
     ts.len() == us.len()
@@ -140,9 +182,11 @@ fn is_same(commons: &Commons<'_>, x: &Spatial, y: &Spatial) -> bool {
 
 impl Plan {
     fn some_is_like(&self, commons: &Commons<'_>, ts: &[Term], us: &[Term]) -> bool {
-        for (t, u) in ts.iter().zip(us) {
-            if commons.meeting(*t, *u).is_some() || self.has_unknown((*t, *u)) {
-                return true;
+        for (i, t) in ts.iter().enumerate() {
+            if let Some(u) = us.get(i) {
+                if commons.meeting(*t, *u).is_some() || self.has_unknown((*t, *u)) {
+                    return true;
+                }
             }
         }
         false
@@ -188,8 +232,8 @@ impl Plan {
         self.used.push(k)?;
         let joined = self.joined(alloc, commons, x, &y)?;
         if joined != *x {
-            self.cut.push(i)?;
-            self.by.push(joined)?;
+            self.general.cut.push(i)?;
+            self.general.by.push(joined)?;
         }
         Ok(true)
     }
@@ -203,14 +247,14 @@ impl Plan {
         x: &Spatial,
     ) -> Result<(), OutOfMemory> {
         let Some((k, y)) = self.find(commons, x, false) else {
-            self.dropped.push(i)?;
+            self.general.dropped.push(i)?;
             self.pay(3);
             return Ok(());
         };
         self.used.push(k)?;
         let joined = self.joined(alloc, commons, x, &y)?;
-        self.by.push(joined)?;
-        self.cut.push(i)?;
+        self.general.by.push(joined)?;
+        self.general.cut.push(i)?;
         self.pay(1);
         Ok(())
     }
@@ -237,12 +281,12 @@ impl Plan {
         &mut self,
         alloc: Global,
         commons: &Commons<'_>,
-        folded: &[u32],
+        folds: &[&StateFold],
     ) -> Result<(), OutOfMemory> {
         let mut left: Vec<u32> = Vec::new(alloc);
         for (i, x) in commons.first.spatial().iter().enumerate() {
             let i = i as u32;
-            if !has_place(folded, i) && !self.keep(alloc, commons, i, x)? {
+            if !is_folded(folds, i) && !self.keep(alloc, commons, i, x)? {
                 left.push(i)?;
             }
         }

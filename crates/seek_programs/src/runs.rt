@@ -1,4 +1,5 @@
 // Steps of a run: Exec, or the Unfold that may lay bare its cell.
+use crate::forced::is_predicate;
 use crate::heads::command_of;
 use cyc_memory::OutOfMemory;
 use heap_formula::{Command, Heap, Judgement, Rule, Spatial, Term};
@@ -28,20 +29,20 @@ fn place_in(state: &Heap, atom: &Spatial, term: Term) -> Option<u32> {
     None
 }
 
+/// Whether the atom is a predicate's that has the term first at the place.
+fn is_at(state: &Heap, atom: &Spatial, term: Term, place: u32) -> bool {
+    is_predicate(atom) && place_in(state, atom, term) == Some(place)
+}
+
 /// Unfold of each predicate atom that has the term, those first that have it first.
 fn unfolds(alloc: Global, state: &Heap, term: Term) -> Result<Vec<Rule>, OutOfMemory> {
-    let mut places: Vec<(u32, u32)> = Vec::new(alloc);
-    for (k, atom) in state.spatial().iter().enumerate() {
-        if matches!(atom, Spatial::Pred(_, _)) {
-            if let Some(place) = place_in(state, atom, term) {
-                places.push((place, k as u32))?;
+    let mut rules = Vec::new(alloc);
+    for place in 0..8 {
+        for (k, atom) in state.spatial().iter().enumerate() {
+            if is_at(state, atom, term, place) {
+                rules.push(Rule::Unfold(k as u32))?;
             }
         }
-    }
-    places.sort()?;
-    let mut rules = Vec::new(alloc);
-    for (_, k) in places {
-        rules.push(Rule::Unfold(k))?;
     }
     Ok(rules)
 }

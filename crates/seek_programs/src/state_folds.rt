@@ -1,11 +1,11 @@
 // Atoms of common terms that a part of each of two states entails.
 use crate::commons::Commons;
-use crate::folds::{Fitting, atoms_at, heap_of, subsets};
+use crate::folds::{Fitting, first_places, subsets};
 use crate::forced::is_predicate;
 use cyc_memory::OutOfMemory;
-use heap_formula::{Heap, Spatial, Term};
+use heap_formula::{Atom, Heap, Spatial, Term};
 use rule_table::equated;
-use seek_engine::{Entailments, Setting, args_of, is_alike, mentions};
+use seek_engine::{Entailments, args_of, arguments, is_alike, mentions};
 use std::alloc::Global;
 
 /// The most tuples of arguments that are tried for a predicate.
@@ -22,17 +22,46 @@ pub struct StateFold {
 
 impl StateFold {
     fn copied(
-        first: Spatial,
-        second: Spatial,
+        first: &Spatial,
+        second: &Spatial,
         of_first: &Vec<u32>,
         of_second: &Vec<u32>,
     ) -> Result<StateFold, OutOfMemory> {
         let of_first = of_first.clone()?;
         Ok(StateFold {
-            first,
-            second,
+            first: *first,
+            second: *second,
             of_first,
             of_second: of_second.clone()?,
+        })
+    }
+}
+
+/// The parts of both states that may be folded, smaller ones first.
+#[derive(Drop)]
+pub struct Parts {
+    of_first: Vec<Vec<u32>>,
+    of_second: Vec<Vec<u32>>,
+}
+
+/// The sets of `least` to `most` of the heap's atoms.
+fn parts_of(
+    alloc: Global,
+    heap: &Heap,
+    least: usize,
+    most: usize,
+) -> Result<Vec<Vec<u32>>, OutOfMemory> {
+    let places = first_places(alloc, heap.spatial().len())?;
+    subsets(alloc, &places, least, most)
+}
+
+impl Parts {
+    /// The parts of these two states.
+    pub fn of(alloc: Global, commons: &Commons<'_>) -> Result<Parts, OutOfMemory> {
+        let of_first = parts_of(alloc, commons.first, 0, 3)?;
+        Ok(Parts {
+            of_first,
+            of_second: parts_of(alloc, commons.second, 1, 4)?,
         })
     }
 }
@@ -43,8 +72,7 @@ struct Folding<'a> {
     commons: &'a Commons<'a>,
     entailments: &'a Entailments<'a>,
     fitting: &'a mut Fitting,
-    parts_of_first: Vec<Vec<u32>>,
-    parts_of_second: Vec<Vec<u32>>,
+    parts: &'a Parts,
 }
 
 fn count_of_tuples(count: usize, arity: u32) -> u32 {
@@ -55,37 +83,23 @@ fn count_of_tuples(count: usize, arity: u32) -> u32 {
     total
 }
 
-/// The tuple with this number.
-fn tuple(
-    alloc: Global,
-    pairs: &[(Term, Term)],
-    arity: u32,
-    number: u32,
-) -> Result<Vec<(Term, Term)>, OutOfMemory> {
-    let mut rest = number as usize;
-    let mut chosen = Vec::new(alloc);
-    let count = pairs.len();
-    if count == 0 {
-        return Ok(chosen);
-    }
-    for _ in 0..arity.min(8) {
-        if let Some(pair) = pairs.get(rest % count) {
-            chosen.push(*pair)?;
-        }
-        rest = rest / count;
-    }
-    Ok(chosen)
-}
-
+/// The predicate's atom with the tuple that has this number, in the terms of the first state or of the second.
 fn atom_of(
     alloc: Global,
-    predicate: u16,
-    chosen: &[(Term, Term)],
+    pairs: &[(Term, Term)],
+    def: (u16, u32),
+    number: u32,
     is_second: bool,
 ) -> Result<Spatial, OutOfMemory> {
+    let (predicate, arity) = def;
     let mut terms: Vec<Term> = Vec::new(alloc);
-    for (t, u) in chosen {
-        terms.push(if is_second { *u } else { *t })?;
+    let mut rest = number as usize;
+    let count = pairs.len().max(1);
+    for _ in 0..arity.min(8) {
+        if let Some((t, u)) = pairs.get(rest % count) {
+            terms.push(if is_second { *u } else { *t })?;
+        }
+        rest = rest / count;
     }
     Ok(Spatial::Pred(predicate, args_of(&terms)))
 }
@@ -103,23 +117,21 @@ fn has_smaller(parts: &[Vec<u32>], part: &[u32]) -> bool {
     false
 }
 
-fn has_atom(atoms: &[Spatial], atom: &Spatial) -> bool {
-    atoms.contains(atom)
-}
-
-/// Whether one of the atoms is not of the first state.
-fn has_new(commons: &Commons<'_>, atoms: &[Spatial]) -> bool {
-    for atom in atoms {
-        if !has_atom(commons.first.spatial(), atom) {
-            return true;
+/// Whether one of the second state's atoms at the places is not of the first.
+fn has_new(commons: &Commons<'_>, part: &[u32]) -> bool {
+    for place in part {
+        if let Some(atom) = commons.second.spatial_at(*place) {
+            if !commons.first.spatial().contains(atom) {
+                return true;
+            }
         }
     }
     false
 }
 
-/// Whether the atom has a term of the tuple other than `nil`, up to the second state's equations.
-fn touches(commons: &Commons<'_>, atom: &Spatial, chosen: &[(Term, Term)]) -> bool {
-    for (_, term) in chosen {
+/// Whether the atom has one of the terms other than `nil`, up to the second state's equations.
+fn touches(commons: &Commons<'_>, atom: &Spatial, terms: &[Term]) -> bool {
+    for term in terms {
         for other in commons.terms.iter() {
             let is_same = equated(commons.second.pure(), *other, *term);
             if *other != Term::Nil && is_same && mentions(atom, *other) {
@@ -133,70 +145,33 @@ fn touches(commons: &Commons<'_>, atom: &Spatial, chosen: &[(Term, Term)]) -> bo
     false
 }
 
-fn some_touches(commons: &Commons<'_>, atoms: &[Spatial], chosen: &[(Term, Term)]) -> bool {
-    for atom in atoms {
-        if touches(commons, atom, chosen) {
-            return true;
+fn some_touches(commons: &Commons<'_>, part: &[u32], terms: &[Term]) -> bool {
+    for place in part {
+        if let Some(atom) = commons.second.spatial_at(*place) {
+            if touches(commons, atom, terms) {
+                return true;
+            }
         }
     }
     false
 }
 
-/// Whether the part of the second state entails the formula; a part that says nothing new is not asked.
-fn second_fits(
-    entailments: &Entailments<'_>,
-    fitting: &mut Fitting,
-    commons: &Commons<'_>,
-    part: &[u32],
-    formula: &Heap,
-    chosen: &[(Term, Term)],
-) -> Result<bool, OutOfMemory> {
-    let alloc = entailments.setting.alloc;
-    let atoms = atoms_at(alloc, commons.second.spatial(), part)?;
-    if !has_new(commons, &atoms) || !some_touches(commons, &atoms, chosen) {
-        return Ok(false);
-    }
-    let heap = heap_of(alloc, commons.second.pure(), &atoms)?;
-    fitting.fits(entailments, heap, formula)
-}
-
-/// Whether the part of the first state entails the formula.
-fn first_fits(
-    entailments: &Entailments<'_>,
-    fitting: &mut Fitting,
-    commons: &Commons<'_>,
-    part: &[u32],
-    formula: &Heap,
-) -> Result<bool, OutOfMemory> {
-    let alloc = entailments.setting.alloc;
-    let atoms = atoms_at(alloc, commons.first.spatial(), part)?;
-    let heap = heap_of(alloc, commons.first.pure(), &atoms)?;
-    fitting.fits(entailments, heap, formula)
-}
-
 impl Folding<'_> {
-    /// The smallest parts of the second state that entail the atom.
-    fn parts_for_second(
-        &mut self,
-        atom: &Spatial,
-        chosen: &[(Term, Term)],
-    ) -> Result<Vec<Vec<u32>>, OutOfMemory> {
-        let alloc = self.entailments.setting.alloc;
-        let formula = heap_of(alloc, &[], &[*atom])?;
+    /// Whether the part of the second state entails the atom; a part that says nothing new is not asked.
+    fn second_fits(&mut self, part: &[u32], atom: &Spatial) -> Result<bool, OutOfMemory> {
         let commons = self.commons;
-        let mut found: Vec<Vec<u32>> = Vec::new(alloc);
-        for part in self.parts_of_second.iter() {
-            if part.is_empty() || has_smaller(&found, part) {
-                continue;
-            }
-            if second_fits(
-                self.entailments,
-                self.fitting,
-                commons,
-                part,
-                &formula,
-                chosen,
-            )? {
+        if !has_new(commons, part) || !some_touches(commons, part, arguments(atom)) {
+            return Ok(false);
+        }
+        self.fitting.fits(self.entailments, commons.second, part, Atom::Spatial(*atom))
+    }
+
+    /// The smallest parts of the second state that entail the atom.
+    fn parts_for_second(&mut self, atom: &Spatial) -> Result<Vec<Vec<u32>>, OutOfMemory> {
+        let mut found: Vec<Vec<u32>> = Vec::new(self.entailments.setting.alloc);
+        let parts = self.parts;
+        for part in parts.of_second.iter() {
+            if !has_smaller(&found, part) && self.second_fits(part, atom)? {
                 found.push(part.clone()?)?;
             }
         }
@@ -205,11 +180,13 @@ impl Folding<'_> {
 
     /// The first part of the first state that entails the atom.
     fn part_for_first(&mut self, atom: &Spatial) -> Result<Option<Vec<u32>>, OutOfMemory> {
-        let alloc = self.entailments.setting.alloc;
-        let formula = heap_of(alloc, &[], &[*atom])?;
-        let commons = self.commons;
-        for part in self.parts_of_first.iter() {
-            if first_fits(self.entailments, self.fitting, commons, part, &formula)? {
+        let (commons, parts) = (self.commons, self.parts);
+        for part in parts.of_first.iter() {
+            let atom = Atom::Spatial(*atom);
+            if self
+                .fitting
+                .fits(self.entailments, commons.first, part, atom)?
+            {
                 return Ok(Some(part.clone()?));
             }
         }
@@ -230,28 +207,48 @@ impl Folding<'_> {
         }
     }
 
-    fn push_fold(
-        &mut self,
+    /// Adds the folds of the second state's parts with this one of the first.
+    fn push_each(
+        &self,
         folds: &mut Vec<StateFold>,
-        predicate: u16,
-        chosen: &[(Term, Term)],
+        parts: &[Vec<u32>],
+        of_first: &Vec<u32>,
+        first: &Spatial,
+        second: &Spatial,
     ) -> Result<(), OutOfMemory> {
-        let alloc = self.entailments.setting.alloc;
-        let first = atom_of(alloc, predicate, chosen, false)?;
-        let second = atom_of(alloc, predicate, chosen, true)?;
-        let parts = self.parts_for_second(&second, chosen)?;
-        if parts.is_empty() {
-            return Ok(());
-        }
-        let Some(of_first) = self.part_for_first(&first)? else {
-            return Ok(());
-        };
-        for of_second in parts.iter() {
-            if !self.is_idle(&of_first, of_second) {
-                folds.push(StateFold::copied(first, second, &of_first, of_second)?)?;
+        for of_second in parts {
+            if !self.is_idle(of_first, of_second) {
+                folds.push(StateFold::copied(first, second, of_first, of_second)?)?;
             }
         }
         Ok(())
+    }
+
+    /// Adds the folds of the second state's parts, if a part of the first state entails its atom.
+    fn push_with(
+        &mut self,
+        folds: &mut Vec<StateFold>,
+        parts: &[Vec<u32>],
+        first: &Spatial,
+        second: &Spatial,
+    ) -> Result<(), OutOfMemory> {
+        if parts.is_empty() {
+            return Ok(());
+        }
+        match self.part_for_first(first)? {
+            Some(of_first) => self.push_each(folds, parts, &of_first, first, second),
+            None => Ok(()),
+        }
+    }
+
+    fn push_fold(
+        &mut self,
+        folds: &mut Vec<StateFold>,
+        first: &Spatial,
+        second: &Spatial,
+    ) -> Result<(), OutOfMemory> {
+        let parts = self.parts_for_second(second)?;
+        self.push_with(folds, &parts, first, second)
     }
 
     fn push_folds(
@@ -261,13 +258,25 @@ impl Folding<'_> {
         arity: u32,
     ) -> Result<(), OutOfMemory> {
         let alloc = self.entailments.setting.alloc;
-        let total = count_of_tuples(self.commons.pairs.len(), arity);
+        let pairs = &self.commons.pairs;
+        let total = count_of_tuples(pairs.len(), arity);
         if total > MOST_TUPLES {
             return Ok(());
         }
         for number in 0..total {
-            let chosen = tuple(alloc, &self.commons.pairs, arity, number)?;
-            self.push_fold(folds, predicate, &chosen)?;
+            let first = atom_of(alloc, pairs, (predicate, arity), number, false)?;
+            let second = atom_of(alloc, pairs, (predicate, arity), number, true)?;
+            self.push_fold(folds, &first, &second)?;
+        }
+        Ok(())
+    }
+
+    fn push_all(&mut self, folds: &mut Vec<StateFold>) -> Result<(), OutOfMemory> {
+        let mut predicate: u16 = 0;
+        let setting = self.entailments.setting;
+        for def in setting.defs.as_slice() {
+            self.push_folds(folds, predicate, def.arity)?;
+            predicate = predicate.saturating_add(1);
         }
         Ok(())
     }
@@ -275,24 +284,18 @@ impl Folding<'_> {
 
 /// The folds of two states: each predicate with each tuple of common terms or pairs.
 pub fn state_folds(
-    setting: &Setting<'_>,
     entailments: &Entailments<'_>,
     fitting: &mut Fitting,
     commons: &Commons<'_>,
+    parts: &Parts,
 ) -> Result<Vec<StateFold>, OutOfMemory> {
-    let alloc = setting.alloc;
-    let mut folds = Vec::new(alloc);
+    let mut folds = Vec::new(entailments.setting.alloc);
     let mut folding = Folding {
         commons,
         entailments,
         fitting,
-        parts_of_first: subsets(alloc, commons.first.spatial().len(), 3)?,
-        parts_of_second: subsets(alloc, commons.second.spatial().len(), 4)?,
+        parts,
     };
-    let mut predicate: u16 = 0;
-    for def in setting.defs.as_slice() {
-        folding.push_folds(&mut folds, predicate, def.arity)?;
-        predicate = predicate.saturating_add(1);
-    }
+    folding.push_all(&mut folds)?;
     Ok(folds)
 }

@@ -151,14 +151,13 @@ impl<'a> Programs<'a> {
             visits: most,
             changes: changes + 1,
         };
-        let (setting, entailments) = (self.setting, self.folds.entailments);
+        let entailments = self.folds.entailments;
         let moves = general_moves(
-            &setting,
             &entailments,
             &mut self.folds.fitting,
             place.line,
             place.state,
-            setting.variables(place.judgement),
+            self.setting.variables(place.judgement),
             then,
         )?;
         let mut stage = last_stage(moves);

@@ -60,6 +60,22 @@ fn path_after(point: &Point, is_exec: bool) -> Result<Vec<u32>, OutOfMemory> {
     Ok(path)
 }
 
+/// Adds a point that comes after one.
+fn push_point(
+    points: &mut Vec<Point>,
+    point: &Point,
+    judgement: &Judgement,
+    is_exec: bool,
+) -> Result<(), OutOfMemory> {
+    let path = path_after(point, is_exec)?;
+    points.push(Point {
+        judgement: judgement.clone()?,
+        path,
+        is_first: point.is_first && !is_exec,
+    })?;
+    Ok(())
+}
+
 /// Keeps the state, each once.
 fn keep_state(found: &mut Vec<Heap>, judgement: &Judgement) -> Result<(), OutOfMemory> {
     if let Judgement::Term(_, state) = judgement {
@@ -115,18 +131,12 @@ impl Run<'_> {
         point: &Point,
         rule: &Rule,
     ) -> Result<(), OutOfMemory> {
-        let Some(mut premises) = self.setting.premises(&point.judgement, rule)? else {
+        let Some(premises) = self.setting.premises(&point.judgement, rule)? else {
             return Ok(());
         };
-        premises.reverse();
         let is_exec = matches!(rule, Rule::Exec);
-        let is_first = point.is_first && !is_exec;
-        for premise in premises {
-            points.push(Point {
-                judgement: premise.judgement,
-                path: path_after(point, is_exec)?,
-                is_first,
-            })?;
+        for premise in premises.iter().rev() {
+            push_point(points, point, &premise.judgement, is_exec)?;
         }
         Ok(())
     }
@@ -153,23 +163,33 @@ impl Run<'_> {
         self.go_on(points, point)
     }
 
-    fn states(&self, start: Heap) -> Result<Vec<Heap>, OutOfMemory> {
-        let alloc = self.setting.alloc;
-        let mut found = Vec::new(alloc);
-        let mut points = Vec::new(alloc);
+    /// Goes on from the latest point, if there is one and states are wanted.
+    fn step(&self, points: &mut Vec<Point>, found: &mut Vec<Heap>) -> Result<(), OutOfMemory> {
+        if found.len() >= MOST_STATES {
+            return Ok(());
+        }
+        match points.pop() {
+            Some(point) => self.visit(points, found, &point),
+            None => Ok(()),
+        }
+    }
+
+    /// The point from which the run begins.
+    fn start(&self, state: &Heap) -> Result<Vec<Point>, OutOfMemory> {
+        let mut points = Vec::new(self.setting.alloc);
         points.push(Point {
-            judgement: Judgement::Term(self.head, start),
-            path: Vec::new(alloc),
+            judgement: Judgement::Term(self.head, state.clone()?),
+            path: Vec::new(self.setting.alloc),
             is_first: true,
         })?;
+        Ok(points)
+    }
+
+    fn states(&self, start: &Heap) -> Result<Vec<Heap>, OutOfMemory> {
+        let mut points = self.start(start)?;
+        let mut found = Vec::new(self.setting.alloc);
         for _ in 0..MOST_STEPS {
-            if found.len() >= MOST_STATES {
-                return Ok(found);
-            }
-            let Some(point) = points.pop() else {
-                return Ok(found);
-            };
-            self.visit(&mut points, &mut found, &point)?;
+            self.step(&mut points, &mut found)?;
         }
         Ok(found)
     }
@@ -199,22 +219,42 @@ fn lowered(alloc: Global, states: &[Heap], back: &Subst) -> Result<Vec<Heap>, Ou
 }
 
 /// The states of a run that leaves out the lines below the head; where there are none, of one that does not.
-fn run_states(setting: &Setting<'_>, head: u32, start: Heap) -> Result<Vec<Heap>, OutOfMemory> {
-    let run = Run {
+fn run_states(setting: &Setting<'_>, head: u32, start: &Heap) -> Result<Vec<Heap>, OutOfMemory> {
+    let mut run = Run {
         setting: *setting,
         head,
         floor: head,
     };
-    let states = run.states(start.clone()?)?;
+    let states = run.states(start)?;
     if !states.is_empty() {
         return Ok(states);
     }
-    let run = Run {
-        setting: *setting,
-        head,
-        floor: 0,
-    };
+    run.floor = 0;
     run.states(start)
+}
+
+/// The states of a run from the state with its logic variables lifted.
+fn far_states(
+    setting: &Setting<'_>,
+    head: u32,
+    state: &Heap,
+    variables: u16,
+) -> Result<Vec<Heap>, OutOfMemory> {
+    let lift = lift(setting.alloc, state, variables, false)?;
+    let far = apply_to_heap(setting.alloc, state, &lift)?;
+    run_states(setting, head, &far)
+}
+
+/// The same with the logic variables lowered again.
+fn near_states(
+    setting: &Setting<'_>,
+    head: u32,
+    state: &Heap,
+    variables: u16,
+) -> Result<Vec<Heap>, OutOfMemory> {
+    let states = far_states(setting, head, state, variables)?;
+    let back = lift(setting.alloc, state, variables, true)?;
+    lowered(setting.alloc, &states, &back)
 }
 
 /// The states in which a run from the state comes to the line again, by the first Unfold only; those with the most atoms
@@ -225,11 +265,7 @@ pub fn witnesses(
     state: &Heap,
     variables: u16,
 ) -> Result<Vec<Heap>, OutOfMemory> {
-    let alloc = setting.alloc;
-    let far = apply_to_heap(alloc, state, &lift(alloc, state, variables, false)?)?;
-    let states = run_states(setting, head, far)?;
-    let back = lift(alloc, state, variables, true)?;
-    let mut states = lowered(alloc, &states, &back)?;
+    let mut states = near_states(setting, head, state, variables)?;
     states.sort_by_key(|state| 64 - state.spatial().len().min(64))?;
     Ok(states)
 }

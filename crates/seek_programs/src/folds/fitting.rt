@@ -1,7 +1,8 @@
 // Whether a part of a state entails an atom, by a short search of its own.
 use crate::folds::fingerprints::fingerprint;
+use crate::folds::parts::{heap_of_atom, part_of};
 use cyc_memory::OutOfMemory;
-use heap_formula::{Disjuncts, Heap, Judgement, Subst, Term, apply};
+use heap_formula::{Atom, Disjuncts, Heap, Judgement, Subst, Term, apply_to_heap};
 use seek_engine::{Aim, Draft, Entailments, Outcome, search, terms_of, value_of};
 use std::alloc::Global;
 
@@ -32,8 +33,9 @@ pub struct Fitting {
 
 /// Names for the heap's universal variables in the order in which they come.
 fn push_names(alloc: Global, pairs: &mut Vec<(u16, Term)>, heap: &Heap) -> Result<(), OutOfMemory> {
-    for term in terms_of(alloc, heap)? {
-        if let Term::Univ(n) = term {
+    let terms = terms_of(alloc, heap)?;
+    for term in &terms {
+        if let Term::Univ(n) = *term {
             if value_of(pairs, n).is_none() {
                 let next = pairs.len().min(65534) as u16;
                 pairs.push((n, Term::Univ(next)))?;
@@ -43,13 +45,40 @@ fn push_names(alloc: Global, pairs: &mut Vec<(u16, Term)>, heap: &Heap) -> Resul
     Ok(())
 }
 
-/// The entailment with other names, so that those are one which differ in names alone.
-fn canonical(alloc: Global, part: Heap, formula: &Heap) -> Result<Judgement, OutOfMemory> {
+/// Names for the variables of both heaps.
+fn names_of(alloc: Global, part: &Heap, formula: &Heap) -> Result<Subst, OutOfMemory> {
     let mut pairs = Vec::new(alloc);
-    push_names(alloc, &mut pairs, &part)?;
+    push_names(alloc, &mut pairs, part)?;
     push_names(alloc, &mut pairs, formula)?;
-    let judgement = Judgement::Entail(part, Disjuncts::single(alloc, formula.clone()?)?);
-    apply(alloc, &judgement, &Subst::from_vec(pairs))
+    Ok(Subst::from_vec(pairs))
+}
+
+fn renamed(
+    alloc: Global,
+    part: &Heap,
+    formula: &Heap,
+    names: &Subst,
+) -> Result<Judgement, OutOfMemory> {
+    let formula = Disjuncts::single(alloc, apply_to_heap(alloc, formula, names)?)?;
+    Ok(Judgement::Entail(apply_to_heap(alloc, part, names)?, formula))
+}
+
+/// The entailment with other names, so that those are one which differ in names alone.
+fn canonical(alloc: Global, part: &Heap, formula: &Heap) -> Result<Judgement, OutOfMemory> {
+    let names = names_of(alloc, part, formula)?;
+    renamed(alloc, part, formula, &names)
+}
+
+/// The entailment of an atom by a part of a state.
+fn question(
+    alloc: Global,
+    state: &Heap,
+    places: &[u32],
+    atom: Atom,
+) -> Result<Judgement, OutOfMemory> {
+    let part = part_of(alloc, state, places)?;
+    let formula = heap_of_atom(alloc, atom)?;
+    canonical(alloc, &part, &formula)
 }
 
 fn short_search(strategy: &Entailments<'_>, judgement: &Judgement) -> Result<Outcome, OutOfMemory> {
@@ -105,36 +134,45 @@ impl Fitting {
     fn keep(
         &mut self,
         fingerprint: u32,
-        judgement: Judgement,
+        judgement: &Judgement,
         is_found: bool,
     ) -> Result<(), OutOfMemory> {
         if self.known.len() < MOST_KNOWN {
             self.known.push(Known {
                 fingerprint,
-                judgement,
+                judgement: judgement.clone()?,
                 is_found,
             })?;
         }
         Ok(())
     }
 
-    /// Whether the part entails the formula, as far as a short search tells.
-    pub fn fits(
+    /// The answer that is known, or that of a short search.
+    fn find_out(
         &mut self,
         strategy: &Entailments<'_>,
-        part: Heap,
-        formula: &Heap,
+        judgement: &Judgement,
     ) -> Result<bool, OutOfMemory> {
-        let alloc = strategy.setting.alloc;
-        self.ask();
-        let judgement = canonical(alloc, part, formula)?;
-        let fingerprint = fingerprint(&judgement);
-        if let Some(answer) = self.answer(fingerprint, &judgement) {
+        let fingerprint = fingerprint(judgement);
+        if let Some(answer) = self.answer(fingerprint, judgement) {
             return Ok(answer);
         }
-        let outcome = short_search(strategy, &judgement)?;
+        let outcome = short_search(strategy, judgement)?;
         self.spend(outcome.steps / 4);
         self.keep(fingerprint, judgement, outcome.is_found)?;
         Ok(outcome.is_found)
+    }
+
+    /// Whether the state's pure atoms and its spatial atoms at the places entail the atom, as far as a short search tells.
+    pub fn fits(
+        &mut self,
+        strategy: &Entailments<'_>,
+        state: &Heap,
+        places: &[u32],
+        atom: Atom,
+    ) -> Result<bool, OutOfMemory> {
+        self.ask();
+        let judgement = question(strategy.setting.alloc, state, places, atom)?;
+        self.find_out(strategy, &judgement)
     }
 }

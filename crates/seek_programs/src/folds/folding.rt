@@ -1,9 +1,10 @@
 // The folds after which a companion may cover a goal.
 use crate::folds::fitting::Fitting;
-use crate::folds::places::{atoms_at, subsets};
-use crate::folds::pures::{missing_pure, pure_heap};
+use crate::folds::parts::heap_of_atom;
+use crate::folds::places::subsets;
+use crate::folds::pures::missing_pure;
 use cyc_memory::OutOfMemory;
-use heap_formula::{Heap, HeapFault, Judgement, Positions, Pure, Rule, Spatial, Term};
+use heap_formula::{Atom, Heap, Judgement, Positions, Pure, Rule, Spatial, Term};
 use rule_table::antecedent;
 use seek_engine::{
     Aim, Draft, Entailments, Matcher, Matching, Move, Step, args_of, distinct_for, is_alike,
@@ -30,96 +31,91 @@ pub struct Cover<'a> {
     pub then: Aim,
 }
 
-/// A heap of these atoms, without those for which it has no room.
-pub fn heap_of(alloc: Global, pure: &[Pure], spatial: &[Spatial]) -> Result<Heap, OutOfMemory> {
-    let mut heap = Heap::new(alloc);
-    for atom in pure {
-        if let Err(HeapFault::OutOfMemory) = heap.push_pure(*atom) {
-            return Err(OutOfMemory);
-        }
-    }
-    for atom in spatial {
-        if let Err(HeapFault::OutOfMemory) = heap.push_spatial(*atom, 16) {
-            return Err(OutOfMemory);
-        }
-    }
-    Ok(heap)
+fn cut_rule(alloc: Global, places: &[u32], atom: Atom) -> Result<Rule, OutOfMemory> {
+    let places = Vec::from_slice(alloc, places)?;
+    let formula = heap_of_atom(alloc, atom)?;
+    Ok(Rule::Cut(Positions::from_vec(places), formula))
 }
 
+/// The Cut of the atoms at the places by an atom, with so much fuel for its own proof.
 fn cut(
     alloc: Global,
     places: &[u32],
-    formula: Heap,
-    side: Aim,
+    atom: Atom,
+    fuel: u32,
     then: Aim,
 ) -> Result<Move, OutOfMemory> {
-    let places = Positions::from_vec(Vec::from_slice(alloc, places)?);
     let mut rules = Vec::new(alloc);
-    rules.push(Rule::Cut(places, formula))?;
+    rules.push(cut_rule(alloc, places, atom)?)?;
     Ok(Move::Step(Step {
         rules,
-        side: Some(side),
+        side: Some(Aim::Aside(fuel)),
         aim: then,
     }))
 }
 
-/// A Cut of no atoms that makes a pure atom, if it is seen to go.
-fn pure_cut(
+/// Adds the Cut, if it is seen to go.
+fn push_cut(
+    moves: &mut Vec<Move>,
     strategy: &Entailments<'_>,
     fitting: &mut Fitting,
     cover: &Cover<'_>,
-    atom: Pure,
-) -> Result<Option<Move>, OutOfMemory> {
-    let alloc = strategy.setting.alloc;
-    let Some(formula) = pure_heap(alloc, atom)? else {
-        return Ok(None);
-    };
-    let part = heap_of(alloc, cover.goal.pure(), &[])?;
-    if !fitting.fits(strategy, part, &formula)? {
-        return Ok(None);
+    places: &[u32],
+    atom: Atom,
+    fuel: u32,
+) -> Result<(), OutOfMemory> {
+    if fitting.fits(strategy, cover.goal, places, atom)? {
+        moves.push(cut(strategy.setting.alloc, places, atom, fuel, cover.then)?)?;
     }
-    Ok(Some(cut(alloc, &[], formula, Aim::Aside(1), cover.then)?))
+    Ok(())
 }
 
-/// The moves that make a pure atom: a Cut of no atoms, and Distinct; none where neither is seen to go.
-fn pure_moves(
+/// Adds the moves that make a pure atom: a Cut of no atoms, and Distinct; none where neither is seen to go.
+fn push_pure_moves(
+    moves: &mut Vec<Move>,
     strategy: &Entailments<'_>,
     fitting: &mut Fitting,
     cover: &Cover<'_>,
     atom: Pure,
-) -> Result<Vec<Move>, OutOfMemory> {
-    let alloc = strategy.setting.alloc;
-    let mut moves = Vec::new(alloc);
-    if let Some(next) = pure_cut(strategy, fitting, cover, atom)? {
-        moves.push(next)?;
-    }
+) -> Result<(), OutOfMemory> {
+    push_cut(moves, strategy, fitting, cover, &[], Atom::Pure(atom), 1)?;
     if let Some(rule) = distinct_for(cover.goal, atom, cover.goal.pure()) {
-        moves.push(one_rule(alloc, rule, cover.then)?)?;
+        moves.push(one_rule(strategy.setting.alloc, rule, cover.then)?)?;
     }
-    Ok(moves)
+    Ok(())
 }
 
-/// The atom that is missing: with the map's terms, and existentials for variables that have none.
-fn missing_atom(
+/// An atom of the companion with the map's terms, and existentials for variables that have none.
+fn image_of(
     cover: &Cover<'_>,
     matching: &Matching,
-    alloc: Global,
+    predicate: u16,
+    args: &[Term],
 ) -> Result<Option<Spatial>, OutOfMemory> {
+    let alloc = cover.matcher.alloc;
     let mut unknown: Vec<u16> = Vec::new(alloc);
-    let Some(k) = matching.places.iter().position(|place| place.is_none()) else {
-        return Ok(None);
-    };
-    let Some(Spatial::Pred(predicate, args)) = cover.companion.spatial().get(k) else {
-        return Ok(None);
-    };
     let mut terms: Vec<Term> = Vec::new(alloc);
-    for term in args.as_slice() {
+    for term in args {
         terms.push(image(cover, matching, *term, &mut unknown)?)?;
     }
-    if cover.is_whole && !unknown.is_empty() {
-        return Ok(None);
+    let is_lost = cover.is_whole && !unknown.is_empty();
+    let atom = Spatial::Pred(predicate, args_of(&terms));
+    Ok(if is_lost { None } else { Some(atom) })
+}
+
+/// The atom that is missing.
+fn missing_atom(cover: &Cover<'_>, matching: &Matching) -> Result<Option<Spatial>, OutOfMemory> {
+    for (k, place) in matching.places.iter().enumerate() {
+        if place.is_none() {
+            return match cover.companion.spatial().get(k) {
+                Some(Spatial::Pred(predicate, args)) => {
+                    image_of(cover, matching, *predicate, args.as_slice())
+                }
+                _ => Ok(None),
+            };
+        }
     }
-    Ok(Some(Spatial::Pred(*predicate, args_of(&terms))))
+    Ok(None)
 }
 
 fn place_of(unknown: &[u16], variable: u16) -> Option<u16> {
@@ -171,43 +167,15 @@ fn free_places(
     Ok(free)
 }
 
-fn numbers_at(alloc: Global, numbers: &[u32], places: &[u32]) -> Result<Vec<u32>, OutOfMemory> {
-    let mut chosen = Vec::new(alloc);
-    for place in places {
-        if let Some(number) = numbers.get(*place as usize) {
-            chosen.push(*number)?;
-        }
-    }
-    Ok(chosen)
-}
-
 /// One atom for another of its kind folds nothing.
-fn is_idle(atoms: &[Spatial], missing: &Spatial) -> bool {
-    match atoms {
-        [only] => is_alike(only, missing),
+fn is_idle(goal: &Heap, places: &[u32], missing: &Spatial) -> bool {
+    match places {
+        [only] => match goal.spatial_at(*only) {
+            Some(atom) => is_alike(atom, missing),
+            None => false,
+        },
         _ => false,
     }
-}
-
-/// The Cut of the atoms at the places by the one that is missing, if it is seen to go.
-fn fold_at(
-    strategy: &Entailments<'_>,
-    fitting: &mut Fitting,
-    cover: &Cover<'_>,
-    missing: &Spatial,
-    places: &[u32],
-) -> Result<Option<Move>, OutOfMemory> {
-    let alloc = strategy.setting.alloc;
-    let atoms = atoms_at(alloc, cover.goal.spatial(), places)?;
-    if is_idle(&atoms, missing) {
-        return Ok(None);
-    }
-    let formula = heap_of(alloc, &[], &[*missing])?;
-    let part = heap_of(alloc, cover.goal.pure(), &atoms)?;
-    if !fitting.fits(strategy, part, &formula)? {
-        return Ok(None);
-    }
-    Ok(Some(cut(alloc, places, formula, Aim::Aside(cover.fuel), cover.then)?))
 }
 
 /// The sets of free places whose atoms may be folded: all of them, where every atom is to be covered by the one that is missing.
@@ -218,14 +186,8 @@ fn choices(
 ) -> Result<Vec<Vec<u32>>, OutOfMemory> {
     let free = free_places(alloc, cover, matching)?;
     let takes_all = cover.is_whole && matching.skipped == 1;
-    let sets = subsets(alloc, free.len(), MOST_FOLDED)?;
-    let mut choices = Vec::new(alloc);
-    for chosen in sets.iter() {
-        if !takes_all || chosen.len() == free.len() {
-            choices.push(numbers_at(alloc, &free, chosen)?)?;
-        }
-    }
-    Ok(choices)
+    let least = if takes_all { free.len() } else { 0 };
+    subsets(alloc, &free, least, MOST_FOLDED)
 }
 
 fn push_folds(
@@ -235,14 +197,21 @@ fn push_folds(
     cover: &Cover<'_>,
     matching: &Matching,
 ) -> Result<(), OutOfMemory> {
-    let alloc = strategy.setting.alloc;
-    let Some(missing) = missing_atom(cover, matching, alloc)? else {
+    let Some(missing) = missing_atom(cover, matching)? else {
         return Ok(());
     };
-    let choices = choices(alloc, cover, matching)?;
-    for places in choices.iter() {
-        if let Some(next) = fold_at(strategy, fitting, cover, &missing, places)? {
-            moves.push(next)?;
+    let choices = choices(strategy.setting.alloc, cover, matching)?;
+    for places in &choices {
+        if !is_idle(cover.goal, places, &missing) {
+            push_cut(
+                moves,
+                strategy,
+                fitting,
+                cover,
+                places,
+                Atom::Spatial(missing),
+                cover.fuel,
+            )?;
         }
     }
     Ok(())
@@ -257,19 +226,30 @@ fn maps(cover: &Cover<'_>) -> Result<Vec<Matching>, OutOfMemory> {
     Ok(maps)
 }
 
-/// The folds of atoms into those that the companion has and the goal has not; first the pure atoms that it asks for.
+/// Adds the folds of atoms into those that the companion has and the goal has not.
+fn push_all_folds(
+    moves: &mut Vec<Move>,
+    strategy: &Entailments<'_>,
+    fitting: &mut Fitting,
+    cover: &Cover<'_>,
+) -> Result<(), OutOfMemory> {
+    let maps = maps(cover)?;
+    for matching in &maps {
+        push_folds(moves, strategy, fitting, cover, matching)?;
+    }
+    Ok(())
+}
+
+/// The moves that make a pure atom that the companion asks for; where there is none, the folds.
 fn folds_for(
     strategy: &Entailments<'_>,
     fitting: &mut Fitting,
     cover: &Cover<'_>,
 ) -> Result<Vec<Move>, OutOfMemory> {
-    if let Some(atom) = missing_pure(&cover.matcher, cover.goal, cover.companion) {
-        return pure_moves(strategy, fitting, cover, atom);
-    }
     let mut moves = Vec::new(strategy.setting.alloc);
-    let maps = maps(cover)?;
-    for matching in maps.iter() {
-        push_folds(&mut moves, strategy, fitting, cover, matching)?;
+    match missing_pure(&cover.matcher, cover.goal, cover.companion) {
+        Some(atom) => push_pure_moves(&mut moves, strategy, fitting, cover, atom)?,
+        None => push_all_folds(&mut moves, strategy, fitting, cover)?,
     }
     Ok(moves)
 }

@@ -5,11 +5,12 @@
 mod fingerprints;
 mod fitting;
 mod folding;
+mod parts;
 mod places;
 mod pures;
 mod strategy;
 
 pub use fitting::Fitting;
-pub use folding::heap_of;
-pub use places::{atoms_at, subsets};
+pub use parts::heap_of;
+pub use places::{atoms_at, first_places, subsets};
 pub use strategy::Folds;

@@ -3,13 +3,27 @@ use cyc_memory::OutOfMemory;
 use heap_formula::Spatial;
 use std::alloc::Global;
 
-/// The sets of at most `most` places below `count`, where only the first eight places are taken, smaller sets first.
-pub fn subsets(alloc: Global, count: usize, most: usize) -> Result<Vec<Vec<u32>>, OutOfMemory> {
+/// The places below `count`, the first eight at most.
+pub fn first_places(alloc: Global, count: usize) -> Result<Vec<u32>, OutOfMemory> {
+    let mut places = Vec::new(alloc);
+    for place in 0..count.min(8) as u32 {
+        places.push(place)?;
+    }
+    Ok(places)
+}
+
+/// The sets of `least` to `most` of the places, where only the first eight places are taken, smaller sets first.
+pub fn subsets(
+    alloc: Global,
+    places: &[u32],
+    least: usize,
+    most: usize,
+) -> Result<Vec<Vec<u32>>, OutOfMemory> {
     let mut all: Vec<Vec<u32>> = Vec::new(alloc);
-    for size in 0..most.min(8) + 1 {
-        for mask in 0..1u32 << count.min(8) {
+    for size in least..most.min(8) + 1 {
+        for mask in 0..1u32 << places.len().min(8) {
             if mask.count_ones() as usize == size {
-                all.push(places_of(alloc, mask)?)?;
+                all.push(masked(alloc, places, mask)?)?;
             }
         }
     }
@@ -17,14 +31,14 @@ pub fn subsets(alloc: Global, count: usize, most: usize) -> Result<Vec<Vec<u32>>
 }
 
 /// The places that a mask of eight bits has.
-fn places_of(alloc: Global, mask: u32) -> Result<Vec<u32>, OutOfMemory> {
-    let mut places = Vec::new(alloc);
-    for place in 0..8u32 {
-        if mask >> place & 1 == 1 {
-            places.push(place)?;
+fn masked(alloc: Global, places: &[u32], mask: u32) -> Result<Vec<u32>, OutOfMemory> {
+    let mut chosen = Vec::new(alloc);
+    for (i, place) in places.iter().enumerate() {
+        if i < 8 && mask >> i & 1 == 1 {
+            chosen.push(*place)?;
         }
     }
-    Ok(places)
+    Ok(chosen)
 }
 
 /// The atoms at the places.

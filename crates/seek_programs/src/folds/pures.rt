@@ -1,9 +1,7 @@
 // Pure atoms that a companion asks for.
-use cyc_memory::OutOfMemory;
-use heap_formula::{Heap, HeapFault, Pure};
+use heap_formula::{Heap, Pure};
 use rule_table::follows;
 use seek_engine::Matcher;
-use std::alloc::Global;
 
 /// The first pure atom of the companion, of terms that stay, that does not follow as it is written.
 pub fn missing_pure(matcher: &Matcher<'_>, state: &Heap, companion: &Heap) -> Option<Pure> {
@@ -14,14 +12,4 @@ pub fn missing_pure(matcher: &Matcher<'_>, state: &Heap, companion: &Heap) -> Op
         }
     }
     None
-}
-
-/// The heap of one pure atom.
-pub fn pure_heap(alloc: Global, atom: Pure) -> Result<Option<Heap>, OutOfMemory> {
-    let mut heap = Heap::new(alloc);
-    match heap.push_pure(atom) {
-        Ok(()) => Ok(Some(heap)),
-        Err(HeapFault::OutOfMemory) => Err(OutOfMemory),
-        Err(_) => Ok(None),
-    }
 }

@@ -20,6 +20,17 @@ fn is_no_longer(companion: &Heap, goal: &Heap) -> bool {
     companion.spatial().len() <= goal.spatial().len()
 }
 
+/// Whether the companion is an entailment and its antecedent no longer than the node's.
+fn may_cover(draft: &Draft, companion: u32, node: u32) -> bool {
+    match (draft.node(companion), draft.node(node)) {
+        (Some(above), Some(below)) => {
+            matches!(&above.judgement, Judgement::Entail(_, _))
+                && is_no_longer(antecedent(&above.judgement), antecedent(&below.judgement))
+        }
+        _ => false,
+    }
+}
+
 impl<'a> Folds<'a> {
     /// The moves of a whole search.
     pub fn new(setting: Setting<'a>) -> Folds<'a> {
@@ -61,24 +72,15 @@ impl<'a> Folds<'a> {
     /// Folds to each companion, the latest first.
     fn fold_turns(&self, draft: &Draft, node: u32, fuel: u32) -> Result<Vec<Move>, OutOfMemory> {
         let alloc = self.entailments.setting.alloc;
+        let all = companions(alloc, draft)?;
         let mut moves = Vec::new(alloc);
-        let Some(goal) = draft.node(node) else {
-            return Ok(moves);
-        };
-        if fuel == 0 {
-            return Ok(moves);
-        }
-        for companion in companions(alloc, draft)? {
-            if let Some(above) = draft.node(companion) {
-                if matches!(&above.judgement, Judgement::Entail(_, _))
-                    && is_no_longer(antecedent(&above.judgement), antecedent(&goal.judgement))
-                {
-                    moves.push(Move::Turn(Aim::Fold {
-                        companion,
-                        folds: 2,
-                        fuel: fuel - 1,
-                    }))?;
-                }
+        for companion in &all {
+            if fuel > 0 && may_cover(draft, *companion, node) {
+                moves.push(Move::Turn(Aim::Fold {
+                    companion: *companion,
+                    folds: 2,
+                    fuel: fuel - 1,
+                }))?;
             }
         }
         Ok(moves)
