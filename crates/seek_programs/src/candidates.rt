@@ -155,12 +155,14 @@ fn lower(places: &mut [u32], cut: &[u32]) {
     }
 }
 
-/// What is left to say once it is known which atoms are cut away: the places in ascending order, and the pure atoms.
+/// What is left to say once it is known which atoms are cut away: the order of the places, and the pure atoms.
 fn finish(alloc: Global, general: &mut General, commons: &Commons<'_>) -> Result<(), OutOfMemory> {
     general.cut.sort()?;
     general.dropped.sort()?;
+    general.dropped.reverse();
     lower(&mut general.dropped, &general.cut);
     weaken(general, commons)?;
+    general.weakened.reverse();
     push_disequations(alloc, general, commons)
 }
 

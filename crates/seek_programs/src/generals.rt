@@ -17,7 +17,12 @@ const MOST_STATES: usize = 10;
 const MOST_SETS: usize = 400;
 
 fn is_disjoint(x: &[u32], y: &[u32]) -> bool {
-    x.iter().all(|place| !y.contains(place))
+    for place in x {
+        if y.contains(place) {
+            return false;
+        }
+    }
+    true
 }
 
 fn are_disjoint(x: &StateFold, y: &StateFold) -> bool {
@@ -94,10 +99,10 @@ fn push_cut(alloc: Global, rules: &mut Vec<Rule>, general: &General) -> Result<(
 fn rules_to(alloc: Global, general: &General) -> Result<Vec<Rule>, OutOfMemory> {
     let mut rules = Vec::new(alloc);
     push_cut(alloc, &mut rules, general)?;
-    for place in general.dropped.iter().rev() {
+    for place in &general.dropped {
         rules.push(Rule::Drop(*place))?;
     }
-    for place in general.weakened.iter().rev() {
+    for place in &general.weakened {
         rules.push(Rule::Weaken(*place))?;
     }
     Ok(rules)

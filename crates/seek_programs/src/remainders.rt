@@ -8,7 +8,8 @@ use seek_engine::{args_of, arguments, is_alike};
 use std::alloc::Global;
 
 /// A change of the state at a head: atoms that are cut away, in ascending order, what comes in their place, and the pure
-/// atoms, and then spatial atoms after the Cut, that are left out; and a score, of which a low one is good.
+/// atoms, and then spatial atoms after the Cut, that are left out, the last ones first; and a score, of which a low one is
+/// good.
 #[derive(Drop)]
 pub struct General {
     pub cut: Vec<u32>,

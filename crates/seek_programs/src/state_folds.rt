@@ -105,7 +105,12 @@ fn atom_of(
 }
 
 fn is_within(part: &[u32], other: &[u32]) -> bool {
-    part.iter().all(|place| other.contains(place))
+    for place in part {
+        if !other.contains(place) {
+            return false;
+        }
+    }
+    true
 }
 
 fn has_smaller(parts: &[Vec<u32>], part: &[u32]) -> bool {

@@ -131,11 +131,12 @@ impl Run<'_> {
         point: &Point,
         rule: &Rule,
     ) -> Result<(), OutOfMemory> {
-        let Some(premises) = self.setting.premises(&point.judgement, rule)? else {
+        let Some(mut premises) = self.setting.premises(&point.judgement, rule)? else {
             return Ok(());
         };
         let is_exec = matches!(rule, Rule::Exec);
-        for premise in premises.iter().rev() {
+        premises.reverse();
+        for premise in &premises {
             push_point(points, point, &premise.judgement, is_exec)?;
         }
         Ok(())

@@ -147,8 +147,9 @@ fn image(
     if let Some(place) = place_of(unknown, n) {
         return Ok(Term::Exist(place));
     }
+    let place = unknown.len().min(65535) as u16;
     unknown.push(n)?;
-    Ok(place_of(unknown, n).map_or(term, |place| Term::Exist(place)))
+    Ok(Term::Exist(place))
 }
 
 /// The places of the goal's atoms that the map does not use.
