@@ -54,9 +54,9 @@ fn commons_of(
     variables: u16,
 ) -> Result<Vec<Term>, OutOfMemory> {
     let mut terms = Vec::new(alloc);
-    push_commons(&mut terms, later, earlier, later, variables)?;
-    push_commons(&mut terms, earlier, earlier, later, variables)?;
-    push_commons(&mut terms, &[Term::Nil], earlier, later, variables)?;
+    for candidates in &[later, earlier, &[Term::Nil]] {
+        push_commons(&mut terms, candidates, earlier, later, variables)?;
+    }
     Ok(terms)
 }
 

@@ -54,13 +54,13 @@ pub fn steps(
     line: u32,
     state: &Heap,
 ) -> Result<Vec<Rule>, OutOfMemory> {
-    let mut rules = Vec::new(setting.alloc);
     if setting.goes(judgement, &Rule::Exec)? {
+        let mut rules = Vec::new(setting.alloc);
         rules.push(Rule::Exec)?;
         return Ok(rules);
     }
     match wanted_address(command_of(setting.program, line)) {
         Some(term) => unfolds(setting.alloc, state, term),
-        None => Ok(rules),
+        None => Ok(Vec::new(setting.alloc)),
     }
 }

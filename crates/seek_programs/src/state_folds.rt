@@ -1,6 +1,6 @@
 // Atoms of common terms that a part of each of two states entails.
 use crate::commons::Commons;
-use crate::folds::{Fitting, first_places, subsets};
+use crate::folds::{Fitting, subsets};
 use crate::forced::is_predicate;
 use cyc_memory::OutOfMemory;
 use heap_formula::{Atom, Heap, Spatial, Term};
@@ -22,17 +22,18 @@ pub struct StateFold {
 
 impl StateFold {
     fn copied(
+        alloc: Global,
         first: &Spatial,
         second: &Spatial,
-        of_first: &Vec<u32>,
-        of_second: &Vec<u32>,
+        of_first: &[u32],
+        of_second: &[u32],
     ) -> Result<StateFold, OutOfMemory> {
-        let of_first = of_first.clone()?;
+        let of_first = Vec::from_slice(alloc, of_first)?;
         Ok(StateFold {
             first: *first,
             second: *second,
             of_first,
-            of_second: of_second.clone()?,
+            of_second: Vec::from_slice(alloc, of_second)?,
         })
     }
 }
@@ -44,15 +45,16 @@ pub struct Parts {
     of_second: Vec<Vec<u32>>,
 }
 
-/// The sets of `least` to `most` of the heap's atoms.
+/// The sets of `least` to `most` of the heap's first eight atoms.
 fn parts_of(
     alloc: Global,
     heap: &Heap,
     least: usize,
     most: usize,
 ) -> Result<Vec<Vec<u32>>, OutOfMemory> {
-    let places = first_places(alloc, heap.spatial().len())?;
-    subsets(alloc, &places, least, most)
+    let places: [u32; 8] = [0, 1, 2, 3, 4, 5, 6, 7];
+    let count = heap.spatial().len().min(8);
+    subsets(alloc, &places[..count], least, most)
 }
 
 impl Parts {
@@ -68,11 +70,11 @@ impl Parts {
 
 /// What the search for folds is about.
 #[derive(Drop)]
-struct Folding<'a> {
+struct Folding<'a, 'p> {
     commons: &'a Commons<'a>,
     entailments: &'a Entailments<'a>,
     fitting: &'a mut Fitting,
-    parts: &'a Parts,
+    parts: &'p Parts,
 }
 
 fn count_of_tuples(count: usize, arity: u32) -> u32 {
@@ -113,7 +115,7 @@ fn is_within(part: &[u32], other: &[u32]) -> bool {
     true
 }
 
-fn has_smaller(parts: &[Vec<u32>], part: &[u32]) -> bool {
+fn has_smaller(parts: &[&[u32]], part: &[u32]) -> bool {
     for other in parts {
         if is_within(other, part) {
             return true;
@@ -161,7 +163,7 @@ fn some_touches(commons: &Commons<'_>, part: &[u32], terms: &[Term]) -> bool {
     false
 }
 
-impl Folding<'_> {
+impl<'p> Folding<'_, 'p> {
     /// Whether the part of the second state entails the atom; a part that says nothing new is not asked.
     fn second_fits(&mut self, part: &[u32], atom: &Spatial) -> Result<bool, OutOfMemory> {
         let commons = self.commons;
@@ -172,19 +174,19 @@ impl Folding<'_> {
     }
 
     /// The smallest parts of the second state that entail the atom.
-    fn parts_for_second(&mut self, atom: &Spatial) -> Result<Vec<Vec<u32>>, OutOfMemory> {
-        let mut found: Vec<Vec<u32>> = Vec::new(self.entailments.setting.alloc);
+    fn parts_for_second(&mut self, atom: &Spatial) -> Result<Vec<&'p [u32]>, OutOfMemory> {
+        let mut found: Vec<&'p [u32]> = Vec::new(self.entailments.setting.alloc);
         let parts = self.parts;
         for part in parts.of_second.iter() {
             if !has_smaller(&found, part) && self.second_fits(part, atom)? {
-                found.push(part.clone()?)?;
+                found.push(part.as_slice())?;
             }
         }
         Ok(found)
     }
 
     /// The first part of the first state that entails the atom.
-    fn part_for_first(&mut self, atom: &Spatial) -> Result<Option<Vec<u32>>, OutOfMemory> {
+    fn part_for_first(&mut self, atom: &Spatial) -> Result<Option<&'p [u32]>, OutOfMemory> {
         let (commons, parts) = (self.commons, self.parts);
         for part in parts.of_first.iter() {
             let atom = Atom::Spatial(*atom);
@@ -192,7 +194,7 @@ impl Folding<'_> {
                 .fitting
                 .fits(self.entailments, commons.first, part, atom)?
             {
-                return Ok(Some(part.clone()?));
+                return Ok(Some(part.as_slice()));
             }
         }
         Ok(None)
@@ -216,14 +218,15 @@ impl Folding<'_> {
     fn push_each(
         &self,
         folds: &mut Vec<StateFold>,
-        parts: &[Vec<u32>],
-        of_first: &Vec<u32>,
+        parts: &[&[u32]],
+        of_first: &[u32],
         first: &Spatial,
         second: &Spatial,
     ) -> Result<(), OutOfMemory> {
+        let alloc = self.entailments.setting.alloc;
         for of_second in parts {
             if !self.is_idle(of_first, of_second) {
-                folds.push(StateFold::copied(first, second, of_first, of_second)?)?;
+                folds.push(StateFold::copied(alloc, first, second, of_first, of_second)?)?;
             }
         }
         Ok(())
@@ -233,7 +236,7 @@ impl Folding<'_> {
     fn push_with(
         &mut self,
         folds: &mut Vec<StateFold>,
-        parts: &[Vec<u32>],
+        parts: &[&[u32]],
         first: &Spatial,
         second: &Spatial,
     ) -> Result<(), OutOfMemory> {
@@ -241,7 +244,7 @@ impl Folding<'_> {
             return Ok(());
         }
         match self.part_for_first(first)? {
-            Some(of_first) => self.push_each(folds, parts, &of_first, first, second),
+            Some(of_first) => self.push_each(folds, parts, of_first, first, second),
             None => Ok(()),
         }
     }

@@ -167,14 +167,10 @@ impl<'a> Programs<'a> {
 
     /// The rounds with one, two, .. visits.
     fn round(&self, most: u32, stage: u32) -> Result<Stage, OutOfMemory> {
-        let mut moves = Vec::new(self.setting.alloc);
         let visits = stage.saturating_add(1);
-        moves.push(Move::Turn(Aim::Run(visits)))?;
-        Ok(Stage {
-            moves,
-            is_last: visits >= most,
-            cost: 0,
-        })
+        let mut turn = one_move(self.setting.alloc, Move::Turn(Aim::Run(visits)))?;
+        turn.is_last = visits >= most;
+        Ok(turn)
     }
 }
 

@@ -202,21 +202,17 @@ fn lift(alloc: Global, heap: &Heap, variables: u16, is_back: bool) -> Result<Sub
     let bound = bound_of_heap(heap).min(MOST_LIFTED) as u16;
     for n in variables..bound.max(variables) {
         let far = n.saturating_add(LIFT);
-        if is_back {
-            pairs.push((far, Term::Univ(n)))?;
-        } else {
-            pairs.push((n, Term::Univ(far)))?;
-        }
+        let (from, to) = if is_back { (far, n) } else { (n, far) };
+        pairs.push((from, Term::Univ(to)))?;
     }
     Ok(Subst::from_vec(pairs))
 }
 
-fn lowered(alloc: Global, states: &[Heap], back: &Subst) -> Result<Vec<Heap>, OutOfMemory> {
-    let mut all = Vec::new(alloc);
+fn lower(alloc: Global, states: &mut [Heap], back: &Subst) -> Result<(), OutOfMemory> {
     for state in states {
-        all.push(apply_to_heap(alloc, state, back)?)?;
+        *state = apply_to_heap(alloc, state, back)?;
     }
-    Ok(all)
+    Ok(())
 }
 
 /// The states of a run that leaves out the lines below the head; where there are none, of one that does not.
@@ -246,18 +242,6 @@ fn far_states(
     run_states(setting, head, &far)
 }
 
-/// The same with the logic variables lowered again.
-fn near_states(
-    setting: &Setting<'_>,
-    head: u32,
-    state: &Heap,
-    variables: u16,
-) -> Result<Vec<Heap>, OutOfMemory> {
-    let states = far_states(setting, head, state, variables)?;
-    let back = lift(setting.alloc, state, variables, true)?;
-    lowered(setting.alloc, &states, &back)
-}
-
 /// The states in which a run from the state comes to the line again, by the first Unfold only; those with the most atoms
 /// first. Lines below the head are left out at first.
 pub fn witnesses(
@@ -266,7 +250,9 @@ pub fn witnesses(
     state: &Heap,
     variables: u16,
 ) -> Result<Vec<Heap>, OutOfMemory> {
-    let mut states = near_states(setting, head, state, variables)?;
+    let back = lift(setting.alloc, state, variables, true)?;
+    let mut states = far_states(setting, head, state, variables)?;
+    lower(setting.alloc, &mut states, &back)?;
     states.sort_by_key(|state| 64 - state.spatial().len().min(64))?;
     Ok(states)
 }

@@ -12,5 +12,5 @@ mod strategy;
 
 pub use fitting::Fitting;
 pub use parts::heap_of;
-pub use places::{atoms_at, first_places, subsets};
+pub use places::{atoms_at, subsets};
 pub use strategy::Folds;

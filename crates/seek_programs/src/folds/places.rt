@@ -3,15 +3,6 @@ use cyc_memory::OutOfMemory;
 use heap_formula::Spatial;
 use std::alloc::Global;
 
-/// The places below `count`, the first eight at most.
-pub fn first_places(alloc: Global, count: usize) -> Result<Vec<u32>, OutOfMemory> {
-    let mut places = Vec::new(alloc);
-    for place in 0..count.min(8) as u32 {
-        places.push(place)?;
-    }
-    Ok(places)
-}
-
 /// The sets of `least` to `most` of the places, where only the first eight places are taken, smaller sets first.
 pub fn subsets(
     alloc: Global,
