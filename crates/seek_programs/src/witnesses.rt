@@ -77,54 +77,14 @@ fn push_point(
 }
 
 /// Keeps the state, each once.
-fn keep_state(found: &mut Vec<Heap>, judgement: &Judgement) -> Result<(), OutOfMemory> {
-    if let Judgement::Term(_, state) = judgement {
-        if !found.contains(state) {
-            found.push(state.clone()?)?;
-        }
+fn keep_state(found: &mut Vec<Heap>, state: &Heap) -> Result<(), OutOfMemory> {
+    if !found.contains(state) {
+        found.push(state.clone()?)?;
     }
     Ok(())
 }
 
 impl Run<'_> {
-    /// The rule with which the run goes on: `None` where it ends.
-    fn rule_at(&self, point: &Point) -> Result<Option<Rule>, OutOfMemory> {
-        let Judgement::Term(line, state) = &point.judgement else {
-            return Ok(None);
-        };
-        if let Some(rule) = forced_rule(&self.setting, &point.judgement, *line, state)? {
-            return Ok(Some(rule));
-        }
-        if *line == self.head && !point.is_first {
-            return Ok(None);
-        }
-        if is_head(self.setting.program, *line) && count_of(&point.path, *line) > 1 {
-            return Ok(None);
-        }
-        let mut rules = steps(&self.setting, &point.judgement, *line, state)?;
-        rules.truncate(1);
-        Ok(rules.pop())
-    }
-
-    /// Whether the run has come to the head again, its state being settled.
-    fn is_again(&self, point: &Point) -> Result<bool, OutOfMemory> {
-        let Judgement::Term(line, state) = &point.judgement else {
-            return Ok(false);
-        };
-        if *line != self.head || point.is_first {
-            return Ok(false);
-        }
-        let rule = forced_rule(&self.setting, &point.judgement, *line, state)?;
-        Ok(rule.is_none())
-    }
-
-    fn is_beyond(&self, point: &Point) -> bool {
-        match &point.judgement {
-            Judgement::Term(line, _) => *line < self.floor || point.path.len() > MOST_LINES,
-            Judgement::Entail(_, _) => true,
-        }
-    }
-
     fn push_next(
         &self,
         points: &mut Vec<Point>,
@@ -142,26 +102,44 @@ impl Run<'_> {
         Ok(())
     }
 
-    fn go_on(&self, points: &mut Vec<Point>, point: &Point) -> Result<(), OutOfMemory> {
-        match self.rule_at(point)? {
-            Some(rule) => self.push_next(points, point, &rule),
+    /// Goes on by a step, unless the head of a loop has come twice.
+    fn go_on(
+        &self,
+        points: &mut Vec<Point>,
+        point: &Point,
+        line: u32,
+        state: &Heap,
+    ) -> Result<(), OutOfMemory> {
+        if is_head(self.setting.program, line) && count_of(&point.path, line) > 1 {
+            return Ok(());
+        }
+        let rules = steps(&self.setting, &point.judgement, line, state)?;
+        match rules.first() {
+            Some(rule) => self.push_next(points, point, rule),
             None => Ok(()),
         }
     }
 
+    /// Goes on from the point; where the run has come to the head again, its state being settled, the state is kept.
     fn visit(
         &self,
         points: &mut Vec<Point>,
         found: &mut Vec<Heap>,
         point: &Point,
     ) -> Result<(), OutOfMemory> {
-        if self.is_beyond(point) {
+        let Judgement::Term(line, state) = &point.judgement else {
+            return Ok(());
+        };
+        if *line < self.floor || point.path.len() > MOST_LINES {
             return Ok(());
         }
-        if self.is_again(point)? {
-            return keep_state(found, &point.judgement);
+        if let Some(rule) = forced_rule(&self.setting, &point.judgement, *line, state)? {
+            return self.push_next(points, point, &rule);
         }
-        self.go_on(points, point)
+        if *line == self.head && !point.is_first {
+            return keep_state(found, state);
+        }
+        self.go_on(points, point, *line, state)
     }
 
     /// Goes on from the latest point, if there is one and states are wanted.
