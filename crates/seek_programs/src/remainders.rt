@@ -86,9 +86,6 @@ impl Plan {
 
     /// The existential of a pair of terms.
     fn existential(&mut self, pair: (Term, Term)) -> Result<Term, OutOfMemory> {
-        if !self.has_unknown(pair) {
-            self.unknown.push(pair)?;
-        }
         let mut number: u16 = 0;
         for other in self.unknown.iter() {
             if *other == pair {
@@ -96,7 +93,8 @@ impl Plan {
             }
             number = number.saturating_add(1);
         }
-        Ok(pair.0)
+        self.unknown.push(pair)?;
+        Ok(Term::Exist(number))
     }
 
     /// One term for two: the common one, or an existential.
@@ -219,20 +217,22 @@ impl Plan {
         None
     }
 
-    /// Keeps the atom if the second state has it, up to equations.
-    fn keep(
+    /// Puts what the atom and one of the second state have in common in the atom's place, if there is one: the same up to
+    /// equations if `is_whole`, and then nothing changes where both are written alike.
+    fn join(
         &mut self,
         alloc: Global,
         commons: &Commons<'_>,
         i: u32,
         x: &Spatial,
+        is_whole: bool,
     ) -> Result<bool, OutOfMemory> {
-        let Some((k, y)) = self.find(commons, x, true) else {
+        let Some((k, y)) = self.find(commons, x, is_whole) else {
             return Ok(false);
         };
         self.used.push(k)?;
         let joined = self.joined(alloc, commons, x, &y)?;
-        if joined != *x {
+        if !is_whole || joined != *x {
             self.general.cut.push(i)?;
             self.general.by.push(joined)?;
         }
@@ -247,16 +247,12 @@ impl Plan {
         i: u32,
         x: &Spatial,
     ) -> Result<(), OutOfMemory> {
-        let Some((k, y)) = self.find(commons, x, false) else {
+        if self.join(alloc, commons, i, x, false)? {
+            self.pay(1);
+        } else {
             self.general.dropped.push(i)?;
             self.pay(3);
-            return Ok(());
-        };
-        self.used.push(k)?;
-        let joined = self.joined(alloc, commons, x, &y)?;
-        self.general.by.push(joined)?;
-        self.general.cut.push(i)?;
-        self.pay(1);
+        }
         Ok(())
     }
 
@@ -287,7 +283,7 @@ impl Plan {
         let mut left: Vec<u32> = Vec::new(alloc);
         for (i, x) in commons.first.spatial().iter().enumerate() {
             let i = i as u32;
-            if !is_folded(folds, i) && !self.keep(alloc, commons, i, x)? {
+            if !is_folded(folds, i) && !self.join(alloc, commons, i, x, true)? {
                 left.push(i)?;
             }
         }

@@ -118,15 +118,17 @@ fn missing_atom(cover: &Cover<'_>, matching: &Matching) -> Result<Option<Spatial
     Ok(None)
 }
 
-fn place_of(unknown: &[u16], variable: u16) -> Option<u16> {
-    let mut place: u16 = 0;
-    for other in unknown {
+/// The existential for a variable that has no term.
+fn existential(unknown: &mut Vec<u16>, variable: u16) -> Result<Term, OutOfMemory> {
+    let mut number: u16 = 0;
+    for other in unknown.iter() {
         if *other == variable {
-            return Some(place);
+            return Ok(Term::Exist(number));
         }
-        place = place.saturating_add(1);
+        number = number.saturating_add(1);
     }
-    None
+    unknown.push(variable)?;
+    Ok(Term::Exist(number))
 }
 
 fn image(
@@ -141,15 +143,10 @@ fn image(
     if cover.matcher.is_fixed(term) {
         return Ok(term);
     }
-    if let Some(value) = value_of(&matching.pairs, n) {
-        return Ok(value);
+    match value_of(&matching.pairs, n) {
+        Some(value) => Ok(value),
+        None => existential(unknown, n),
     }
-    if let Some(place) = place_of(unknown, n) {
-        return Ok(Term::Exist(place));
-    }
-    let place = unknown.len().min(65535) as u16;
-    unknown.push(n)?;
-    Ok(Term::Exist(place))
 }
 
 /// The places of the goal's atoms that the map does not use.
