@@ -4,6 +4,7 @@ ghost use Rattle.std.specs.Prelude.{◌<◌};
 use cyc_memory::OutOfMemory;
 use heap_formula::{Judgement, Pairs, Premise, Reason, Rule};
 use std::alloc::Global;
+use std::mem::swap;
 
 /// The greatest number of nodes of a draft.
 pub const MOST_NODES: usize = 3000;
@@ -79,12 +80,29 @@ impl Draft {
         Ok(Some(number as u32))
     }
 
+    /// Gives a node this reason, or none, and these edges; what it had before goes.
+    fn settle(&mut self, node: u32, mut reason: Option<Reason>, mut edges: Vec<DraftEdge>) {
+        if let Some(node) = self.nodes.get_mut(node as usize) {
+            swap(&mut node.reason, &mut reason);
+            swap(&mut node.edges, &mut edges);
+        }
+    }
+
     /// Gives a node a reason and edges for its premises.
     pub fn close(&mut self, node: u32, reason: Reason, edges: Vec<DraftEdge>) {
-        if let Some(node) = self.nodes.get_mut(node as usize) {
-            node.reason = Some(reason);
-            node.edges = edges;
-        }
+        self.settle(node, Some(reason), edges);
+    }
+
+    /// Gives a node a rule as its reason, and edges to premises that have no nodes yet.
+    pub fn close_by_rule(
+        &mut self,
+        node: u32,
+        rule: &Rule,
+        premises: &[Premise],
+    ) -> Result<(), OutOfMemory> {
+        let edges = edges_to(self.alloc, premises, None)?;
+        self.close(node, Reason::Step(rule.clone()?), edges);
+        Ok(())
     }
 
     /// Lets the edge of a node lead to another.
@@ -99,21 +117,21 @@ impl Draft {
     /// Opens a node again, and cuts off all nodes from a number on.
     pub fn reopen(&mut self, node: u32, kept: usize) {
         self.nodes.truncate(kept);
-        let edges = Vec::new(self.alloc);
-        if let Some(node) = self.nodes.get_mut(node as usize) {
-            node.reason = None;
-            node.edges = edges;
-        }
+        self.settle(node, None, Vec::new(self.alloc));
     }
 }
 
-/// Edges to premises that have no nodes yet.
-pub fn open_edges(alloc: Global, premises: &[Premise]) -> Result<Vec<DraftEdge>, OutOfMemory> {
+/// Edges to premises that have this node, or none yet.
+pub fn edges_to(
+    alloc: Global,
+    premises: &[Premise],
+    target: Option<u32>,
+) -> Result<Vec<DraftEdge>, OutOfMemory> {
     let mut edges = Vec::new(alloc);
     for premise in premises {
         edges.push(DraftEdge {
             pairs: premise.pairs.clone()?,
-            target: None,
+            target,
         })?;
     }
     Ok(edges)

@@ -1,11 +1,11 @@
 // The search itself, with an explicit stack.
-use crate::draft::{Draft, open_edges};
-use crate::frames::{Frame, Goal, Task, goals_of};
+use crate::draft::Draft;
+use crate::frames::{Frame, Task, goals_of};
 use crate::moves::{Aim, Move, Step, Strategy};
 use crate::setting::Setting;
 use crate::traces::link;
 use cyc_memory::OutOfMemory;
-use heap_formula::{Premise, Reason};
+use heap_formula::{Premise, Rule};
 
 /// The greatest number of turns of a search, whatever they do.
 const MOST_TURNS: u32 = 4_000_000;
@@ -30,6 +30,19 @@ struct Attempt {
     frames: Vec<Frame>,
     steps: u32,
     links: u32,
+}
+
+/// The premises of a rule at a node, where it has no fault.
+fn premises_at(
+    setting: &Setting<'_>,
+    draft: &Draft,
+    node: u32,
+    rule: &Rule,
+) -> Result<Option<Vec<Premise>>, OutOfMemory> {
+    match draft.node(node) {
+        Some(node) => setting.premises(&node.judgement, rule),
+        None => Ok(None),
+    }
 }
 
 impl Attempt {
@@ -72,8 +85,7 @@ impl Attempt {
             return Turn::Failed;
         };
         draft.reopen(frame.node, frame.kept);
-        frame.is_moving = false;
-        frame.goals.clear();
+        frame.give_up_move();
         Turn::On
     }
 
@@ -87,39 +99,23 @@ impl Attempt {
         }
     }
 
-    /// Makes a node of the next premise.
-    fn descend(
-        &mut self,
-        setting: &Setting<'_>,
-        draft: &mut Draft,
-        goal: Goal,
-    ) -> Result<(), OutOfMemory> {
-        let Goal {
-            place,
-            premise,
-            task,
-        } = goal;
-        let Premise {
-            judgement,
-            pairs: _pairs,
-        } = premise;
+    /// Makes a node of the next premise; without one the last node is closed.
+    fn descend(&mut self, setting: &Setting<'_>, draft: &mut Draft) -> Result<Turn, OutOfMemory> {
         let Some(frame) = self.frames.last_mut() else {
-            return Ok(());
+            return Ok(Turn::Failed);
+        };
+        let Some(goal) = frame.goals.pop() else {
+            return Ok(self.succeed());
         };
         let (parent, most) = (frame.node, frame.most);
-        match draft.push(judgement, parent)? {
-            None => {
-                draft.reopen(parent, frame.kept);
-                frame.is_moving = false;
-                frame.goals.clear();
-                Ok(())
-            }
-            Some(node) => {
-                draft.lead(parent, place, node);
-                let kept = draft.len();
-                self.enter(setting, node, task, kept, most)
-            }
-        }
+        let Some(node) = draft.push(goal.judgement, parent)? else {
+            draft.reopen(parent, frame.kept);
+            frame.give_up_move();
+            return Ok(Turn::On);
+        };
+        draft.lead(parent, goal.place, node);
+        self.enter(setting, node, goal.task, draft.len(), most)?;
+        Ok(Turn::On)
     }
 
     /// Gives the last node the first rule of a step.
@@ -127,7 +123,7 @@ impl Attempt {
         &mut self,
         setting: &Setting<'_>,
         draft: &mut Draft,
-        step: Step,
+        step: &Step,
     ) -> Result<(), OutOfMemory> {
         let Some(frame) = self.frames.last_mut() else {
             return Ok(());
@@ -135,15 +131,11 @@ impl Attempt {
         let Some((rule, rest)) = step.rules.split_first() else {
             return Ok(());
         };
-        let Some(node) = draft.node(frame.node) else {
+        let Some(premises) = premises_at(setting, draft, frame.node, rule)? else {
             return Ok(());
         };
-        let Some(premises) = setting.premises(&node.judgement, rule)? else {
-            return Ok(());
-        };
-        let edges = open_edges(setting.alloc, &premises)?;
-        draft.close(frame.node, Reason::Step(rule.clone()?), edges);
-        frame.goals = goals_of(setting.alloc, premises, rest, step.side, step.aim)?;
+        draft.close_by_rule(frame.node, rule, &premises)?;
+        frame.goals = goals_of(setting.alloc, premises, rest, step)?;
         frame.is_moving = true;
         Ok(())
     }
@@ -183,7 +175,7 @@ impl Attempt {
         next: Move,
     ) -> Result<(), OutOfMemory> {
         match next {
-            Move::Step(step) => self.make_step(setting, draft, step),
+            Move::Step(step) => self.make_step(setting, draft, &step),
             Move::Link(companion) => self.make_link(setting, draft, companion),
             Move::Turn(aim) => self.turn_to(setting, aim),
         }
@@ -220,26 +212,34 @@ impl Attempt {
             return Ok(Turn::Failed);
         };
         if frame.is_moving {
-            return match frame.goals.pop() {
-                Some(goal) => {
-                    self.descend(setting, draft, goal)?;
-                    Ok(Turn::On)
-                }
-                None => Ok(self.succeed()),
-            };
+            return self.descend(setting, draft);
         }
         if steps > frame.most {
             return Ok(self.fail(draft));
         }
-        if let Some(next) = frame.moves.pop() {
-            self.make(setting, draft, next)?;
-            return Ok(Turn::On);
+        match frame.moves.pop() {
+            Some(next) => self.make(setting, draft, next)?,
+            None if frame.is_last => return Ok(self.fail(draft)),
+            None => self.next_stage(strategy, draft)?,
         }
-        if frame.is_last {
-            return Ok(self.fail(draft));
-        }
-        self.next_stage(strategy, draft)?;
         Ok(Turn::On)
+    }
+
+    /// Turns until a proof is found or there is nothing left to try.
+    fn run<S: Strategy>(
+        &mut self,
+        setting: &Setting<'_>,
+        strategy: &mut S,
+        draft: &mut Draft,
+    ) -> Result<bool, OutOfMemory> {
+        for _ in 0..MOST_TURNS {
+            match self.turn(setting, strategy, draft)? {
+                Turn::On => {}
+                Turn::Found => return Ok(true),
+                Turn::Failed => return Ok(false),
+            }
+        }
+        Ok(false)
     }
 }
 
@@ -267,23 +267,10 @@ pub fn search<S: Strategy>(
         rules: Vec::new(setting.alloc),
         aim,
     };
-    let kept = draft.len();
-    attempt.enter(setting, 0, task, kept, most)?;
-    for _ in 0..MOST_TURNS {
-        match attempt.turn(setting, strategy, draft)? {
-            Turn::On => {}
-            Turn::Found => return Ok(Outcome {
-                is_found: true,
-                steps: attempt.steps,
-            }),
-            Turn::Failed => return Ok(Outcome {
-                is_found: false,
-                steps: attempt.steps,
-            }),
-        }
-    }
+    attempt.enter(setting, 0, task, draft.len(), most)?;
+    let is_found = attempt.run(setting, strategy, draft)?;
     Ok(Outcome {
-        is_found: false,
+        is_found,
         steps: attempt.steps,
     })
 }

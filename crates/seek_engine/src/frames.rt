@@ -11,11 +11,11 @@ pub struct Task {
     pub aim: Aim,
 }
 
-/// A premise that has no node yet, with its place, and what is to be done there.
+/// The judgement of a premise that has no node yet, with its place, and what is to be done there.
 #[derive(Drop)]
 pub struct Goal {
     pub place: usize,
-    pub premise: Premise,
+    pub judgement: Judgement,
     pub task: Task,
 }
 
@@ -71,14 +71,12 @@ impl Frame {
             most,
         })
     }
-}
 
-fn copied(rules: &[Rule], alloc: Global) -> Result<Vec<Rule>, OutOfMemory> {
-    let mut copies = Vec::new(alloc);
-    for rule in rules {
-        copies.push(rule.clone()?)?;
+    /// The move that is being made has failed.
+    pub fn give_up_move(&mut self) {
+        self.is_moving = false;
+        self.goals.clear();
     }
-    Ok(copies)
 }
 
 fn line_of(judgement: &Judgement) -> u32 {
@@ -88,32 +86,53 @@ fn line_of(judgement: &Judgement) -> u32 {
     }
 }
 
+/// What is to be done at a premise: the rules are for all but a side premise.
+fn task_at(alloc: Global, is_side: bool, rest: &[Rule], step: &Step) -> Result<Task, OutOfMemory> {
+    if is_side {
+        return Ok(Task {
+            rules: Vec::new(alloc),
+            aim: step.side.unwrap_or(step.aim),
+        });
+    }
+    Ok(Task {
+        rules: Vec::from_clones(alloc, rest)?,
+        aim: step.aim,
+    })
+}
+
+/// The premises as goals, the first one at the end.
+fn push_goals(
+    goals: &mut Vec<Goal>,
+    alloc: Global,
+    mut premises: Vec<Premise>,
+    rest: &[Rule],
+    step: &Step,
+) -> Result<(), OutOfMemory> {
+    let count = premises.len();
+    for _ in 0..count {
+        let place = premises.len().saturating_sub(1);
+        let task = task_at(alloc, count > 1 && place == 0, rest, step)?;
+        if let Some(premise) = premises.pop() {
+            goals.push(Goal {
+                place,
+                judgement: premise.judgement,
+                task,
+            })?;
+        }
+    }
+    Ok(())
+}
+
 /// The premises of a step's first rule as goals, the first one at the end. Of two lines the lower one comes first, so that
 /// a loop is settled before the code after it.
 pub fn goals_of(
     alloc: Global,
     premises: Vec<Premise>,
     rest: &[Rule],
-    side: Option<Aim>,
-    aim: Aim,
+    step: &Step,
 ) -> Result<Vec<Goal>, OutOfMemory> {
-    let count = premises.len();
     let mut goals = Vec::new(alloc);
-    for (place, premise) in premises.into_iter().enumerate() {
-        let is_side = count > 1 && place == 0;
-        let rules = if is_side {
-            Vec::new(alloc)
-        } else {
-            copied(rest, alloc)?
-        };
-        let aim = if is_side { side.unwrap_or(aim) } else { aim };
-        goals.push(Goal {
-            place,
-            premise,
-            task: Task { rules, aim },
-        })?;
-    }
-    goals.reverse();
-    goals.sort_by_key(|goal| u32::MAX - line_of(&goal.premise.judgement))?;
+    push_goals(&mut goals, alloc, premises, rest, step)?;
+    goals.sort_by_key(|goal| u32::MAX - line_of(&goal.judgement))?;
     Ok(goals)
 }

@@ -1,5 +1,5 @@
 // Whether every lasso of a draft progresses, and the links that keep it so.
-use crate::draft::{Draft, DraftEdge, DraftNode};
+use crate::draft::{Draft, DraftEdge, DraftNode, edges_to};
 use crate::setting::Setting;
 use back_links::all_links;
 use buchi_inclusion::{Inclusion, included};
@@ -36,14 +36,20 @@ fn triples(alloc: Global, pairs: &[Pair]) -> Result<Vec<(u8, u8, bool)>, OutOfMe
     Ok(triples)
 }
 
-fn trace_node(alloc: Global, node: &DraftNode) -> Result<Node, OutOfMemory> {
-    let mut edges = Vec::new(alloc);
-    for edge in node.edges.iter() {
+/// The edges that have a node already.
+fn trace_edges(alloc: Global, edges: &[DraftEdge]) -> Result<Vec<Edge>, OutOfMemory> {
+    let mut found = Vec::new(alloc);
+    for edge in edges {
         if let Some(target) = edge.target {
-            edges.push(Edge::new(target, triples(alloc, edge.pairs.as_slice())?))?;
+            found.push(Edge::new(target, triples(alloc, edge.pairs.as_slice())?))?;
         }
     }
-    Ok(Node::new(positions(alloc, antecedent(&node.judgement))?, edges))
+    Ok(found)
+}
+
+fn trace_node(alloc: Global, node: &DraftNode) -> Result<Node, OutOfMemory> {
+    let places = positions(alloc, antecedent(&node.judgement))?;
+    Ok(Node::new(places, trace_edges(alloc, &node.edges)?))
 }
 
 fn trace_graph(alloc: Global, draft: &Draft) -> Result<TraceGraph, OutOfMemory> {
@@ -94,9 +100,8 @@ fn link_edges(
     reason: &Reason,
     companion: u32,
 ) -> Result<Vec<DraftEdge>, OutOfMemory> {
-    let mut edges = Vec::new(setting.alloc);
     let (Some(below), Some(above)) = (draft.node(bud), draft.node(companion)) else {
-        return Ok(edges);
+        return Ok(Vec::new(setting.alloc));
     };
     match premises_by_reason(
         setting.alloc,
@@ -106,16 +111,23 @@ fn link_edges(
         reason,
         Some(&above.judgement),
     ) {
-        Ok(premises) => for premise in premises {
-            edges.push(DraftEdge {
-                pairs: premise.pairs,
-                target: Some(companion),
-            })?;
-        },
-        Err(RuleError::Fault(_)) => {}
-        Err(RuleError::OutOfMemory) => return Err(OutOfMemory),
+        Ok(premises) => edges_to(setting.alloc, &premises, Some(companion)),
+        Err(RuleError::Fault(_)) => Ok(Vec::new(setting.alloc)),
+        Err(RuleError::OutOfMemory) => Err(OutOfMemory),
     }
-    Ok(edges)
+}
+
+/// Closes a node by a link, and says whether every lasso of the draft progresses with it.
+fn closes_by(
+    setting: &Setting<'_>,
+    draft: &mut Draft,
+    bud: u32,
+    companion: u32,
+    reason: Reason,
+) -> Result<bool, OutOfMemory> {
+    let edges = link_edges(setting, draft, bud, &reason, companion)?;
+    draft.close(bud, reason, edges);
+    progresses(setting.alloc, draft)
 }
 
 /// Closes a node by the first link to a companion with which every lasso of the draft progresses, if there is one.
@@ -127,10 +139,7 @@ pub fn link(
 ) -> Result<bool, OutOfMemory> {
     let kept = draft.len();
     for link in links(setting, draft, bud, companion)? {
-        let reason = Reason::Back(link);
-        let edges = link_edges(setting, draft, bud, &reason, companion)?;
-        draft.close(bud, reason, edges);
-        if progresses(setting.alloc, draft)? {
+        if closes_by(setting, draft, bud, companion, Reason::Back(link))? {
             return Ok(true);
         }
         draft.reopen(bud, kept);

@@ -1,7 +1,7 @@
 // A companion as a lemma: what it entails comes in the place of atoms that its antecedent covers.
 use crate::entailments::atoms::{address, arguments};
 use crate::entailments::matching::{Matcher, Matching, value_of};
-use crate::entailments::offers::companions;
+use crate::entailments::offers::{companions, only};
 use crate::entailments::sequents::Sequent;
 use crate::{Aim, Draft, Move, Step};
 use cyc_memory::OutOfMemory;
@@ -68,9 +68,10 @@ fn is_known_heap(pairs: &[(u16, Term)], heap: &Heap) -> bool {
 }
 
 /// Whether the companion's pure atoms follow, with the terms in place of its variables.
-fn has_pures(left: &Heap, lemma: &Heap, pairs: &[(u16, Term)], subst: &Subst) -> bool {
+fn has_pures(left: &Heap, lemma: &Heap, subst: &Subst) -> bool {
     for atom in lemma.pure() {
-        if !is_known_pure(pairs, *atom) || !follows(left.pure(), apply_to_pure(*atom, subst)) {
+        let is_known = is_known_pure(subst.pairs(), *atom);
+        if !is_known || !follows(left.pure(), apply_to_pure(*atom, subst)) {
             return false;
         }
     }
@@ -115,26 +116,50 @@ fn is_cut(next: &Move, places: &[u32], formula: &Heap) -> bool {
     }
 }
 
-/// The atoms that a map of a companion's antecedent covers, and what its succedent says of them, unless that is known here.
-fn application(
+fn has_cut(moves: &[Move], places: &[u32], formula: &Heap) -> bool {
+    for next in moves {
+        if is_cut(next, places, formula) {
+            return true;
+        }
+    }
+    false
+}
+
+/// What a companion's succedent says here under a map of its antecedent, if the map has terms for all of it.
+fn conclusion(
     sequent: &Sequent<'_>,
     matcher: &Matcher<'_>,
     lemma: (&Heap, &Heap),
-    matching: Matching,
-) -> Result<Option<(Vec<u32>, Heap)>, OutOfMemory> {
+    pairs: &[(u16, Term)],
+) -> Result<Option<Heap>, OutOfMemory> {
     let alloc = matcher.alloc;
     let (antecedent, succedent) = lemma;
-    let places = places_of(alloc, &matching.places)?;
-    let pairs = completed(matcher, matching.pairs, succedent, sequent.right)?;
-    let subst = Subst::from_vec(Vec::from_slice(alloc, &pairs)?);
-    if !is_known_heap(&pairs, succedent) || !has_pures(sequent.left, antecedent, &pairs, &subst) {
+    let pairs = Vec::from_slice(alloc, pairs)?;
+    let subst = Subst::from_vec(completed(matcher, pairs, succedent, sequent.right)?);
+    if !is_known_heap(subst.pairs(), succedent) || !has_pures(sequent.left, antecedent, &subst) {
         return Ok(None);
     }
-    let formula = apply_to_heap(alloc, succedent, &subst)?;
-    if is_idle(sequent.left, &places, &formula) {
-        return Ok(None);
+    Ok(Some(apply_to_heap(alloc, succedent, &subst)?))
+}
+
+/// The Cut of atoms by a formula that a companion gives, unless it is idle or offered already.
+fn push_cut(
+    moves: &mut Vec<Move>,
+    sequent: &Sequent<'_>,
+    companion: u32,
+    places: Vec<u32>,
+    formula: Heap,
+) -> Result<(), OutOfMemory> {
+    if is_idle(sequent.left, &places, &formula) || has_cut(moves, &places, &formula) {
+        return Ok(());
     }
-    Ok(Some((places, formula)))
+    let rule = Rule::Cut(Positions::from_vec(places), formula);
+    moves.push(Move::Step(Step {
+        rules: only(sequent.setting.alloc, rule)?,
+        side: Some(Aim::Link(companion)),
+        aim: sequent.less(),
+    }))?;
+    Ok(())
 }
 
 /// The Cut by a companion's succedent under a map of its antecedent.
@@ -144,22 +169,13 @@ fn push_application(
     matcher: &Matcher<'_>,
     companion: u32,
     lemma: (&Heap, &Heap),
-    matching: Matching,
+    matching: &Matching,
 ) -> Result<(), OutOfMemory> {
-    let Some((places, formula)) = application(sequent, matcher, lemma, matching)? else {
-        return Ok(());
-    };
-    if moves.iter().any(|next| is_cut(next, &places, &formula)) {
-        return Ok(());
+    let places = places_of(matcher.alloc, &matching.places)?;
+    match conclusion(sequent, matcher, lemma, &matching.pairs)? {
+        Some(formula) => push_cut(moves, sequent, companion, places, formula),
+        None => Ok(()),
     }
-    let mut rules = Vec::new(matcher.alloc);
-    rules.push(Rule::Cut(Positions::from_vec(places), formula))?;
-    moves.push(Move::Step(Step {
-        rules,
-        side: Some(Aim::Link(companion)),
-        aim: sequent.less(),
-    }))?;
-    Ok(())
 }
 
 fn push_applications(
@@ -183,7 +199,8 @@ fn push_applications(
     let [succedent] = succedents.heaps() else {
         return Ok(());
     };
-    for matching in matcher.matchings(antecedent.spatial(), sequent.left.spatial())? {
+    let matchings = matcher.matchings(antecedent.spatial(), sequent.left.spatial())?;
+    for matching in &matchings {
         push_application(
             moves,
             sequent,
@@ -203,8 +220,9 @@ pub fn applications(sequent: &Sequent<'_>, draft: &Draft) -> Result<Vec<Move>, O
     if sequent.fuel == 0 {
         return Ok(moves);
     }
-    for companion in companions(sequent.setting.alloc, draft)? {
-        push_applications(&mut moves, sequent, draft, companion)?;
+    let numbers = companions(sequent.setting.alloc, draft)?;
+    for companion in &numbers {
+        push_applications(&mut moves, sequent, draft, *companion)?;
     }
     Ok(moves)
 }

@@ -89,12 +89,20 @@ pub fn args_of(terms: &[Term]) -> Args {
     }
 }
 
-fn push_spatial_terms(terms: &mut Vec<Term>, atom: &Spatial) -> Result<(), OutOfMemory> {
-    if let Spatial::Cell(term, _) = atom {
-        terms.push(*term)?;
+fn push_pure_terms(terms: &mut Vec<Term>, atoms: &[Pure]) -> Result<(), OutOfMemory> {
+    for atom in atoms {
+        let (Pure::Eq(t, u) | Pure::Neq(t, u)) = *atom;
+        terms.extend_from_slice(&[t, u])?;
     }
-    for term in arguments(atom) {
-        terms.push(*term)?;
+    Ok(())
+}
+
+fn push_spatial_terms(terms: &mut Vec<Term>, atoms: &[Spatial]) -> Result<(), OutOfMemory> {
+    for atom in atoms {
+        if let Spatial::Cell(term, _) = atom {
+            terms.push(*term)?;
+        }
+        terms.extend_from_slice(arguments(atom))?;
     }
     Ok(())
 }
@@ -102,13 +110,7 @@ fn push_spatial_terms(terms: &mut Vec<Term>, atom: &Spatial) -> Result<(), OutOf
 /// The terms of a heap, as often as they stand there.
 pub fn terms_of(alloc: Global, heap: &Heap) -> Result<Vec<Term>, OutOfMemory> {
     let mut terms = Vec::new(alloc);
-    for atom in heap.pure() {
-        let (Pure::Eq(t, u) | Pure::Neq(t, u)) = *atom;
-        terms.push(t)?;
-        terms.push(u)?;
-    }
-    for atom in heap.spatial() {
-        push_spatial_terms(&mut terms, atom)?;
-    }
+    push_pure_terms(&mut terms, heap.pure())?;
+    push_spatial_terms(&mut terms, heap.spatial())?;
     Ok(terms)
 }

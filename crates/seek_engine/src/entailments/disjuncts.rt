@@ -1,5 +1,5 @@
 // Moves at an entailment of several disjuncts.
-use crate::entailments::offers::{last_stage, no_moves, one_rule, stage_of};
+use crate::entailments::offers::{last_stage, no_moves, push_rule, stage_of};
 use crate::entailments::unfolding::unfolds;
 use crate::{Aim, Move, Stage};
 use cyc_memory::OutOfMemory;
@@ -11,7 +11,7 @@ fn chooses(alloc: Global, count: usize, fuel: u32) -> Result<Vec<Move>, OutOfMem
     let mut moves = Vec::new(alloc);
     let mut k: u32 = 0;
     for _ in 0..count {
-        moves.push(one_rule(alloc, Rule::Choose(k), Aim::Entail(fuel))?)?;
+        push_rule(&mut moves, alloc, Rule::Choose(k), Aim::Entail(fuel))?;
         k = k.saturating_add(1);
     }
     Ok(moves)
@@ -26,18 +26,29 @@ fn is_undecided(left: &Heap, atom: Pure) -> bool {
         && !has_pure(left.pure(), Pure::Neq(t, u))
 }
 
+fn push_splits(
+    moves: &mut Vec<Move>,
+    alloc: Global,
+    left: &Heap,
+    atoms: &[Pure],
+    aim: Aim,
+) -> Result<(), OutOfMemory> {
+    for atom in atoms {
+        let (Pure::Eq(t, u) | Pure::Neq(t, u)) = *atom;
+        if is_undecided(left, *atom) {
+            push_rule(moves, alloc, Rule::Split(t, u), aim)?;
+        }
+    }
+    Ok(())
+}
+
 fn splits(alloc: Global, left: &Heap, heaps: &[Heap], fuel: u32) -> Result<Vec<Move>, OutOfMemory> {
     let mut moves = Vec::new(alloc);
     if fuel == 0 {
         return Ok(moves);
     }
     for heap in heaps {
-        for atom in heap.pure() {
-            let (Pure::Eq(t, u) | Pure::Neq(t, u)) = *atom;
-            if is_undecided(left, *atom) {
-                moves.push(one_rule(alloc, Rule::Split(t, u), Aim::Entail(fuel - 1))?)?;
-            }
-        }
+        push_splits(&mut moves, alloc, left, heap.pure(), Aim::Entail(fuel - 1))?;
     }
     Ok(moves)
 }

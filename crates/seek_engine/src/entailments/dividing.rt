@@ -1,43 +1,29 @@
 // One atom of the antecedent for one predicate of the succedent, and the rest for the rest.
 use crate::entailments::atoms::shares_variable;
+use crate::entailments::offers::only;
 use crate::entailments::sequents::Sequent;
 use crate::{Move, Step};
 use cyc_memory::OutOfMemory;
-use heap_formula::{Heap, HeapFault, Positions, Rule, Spatial};
+use heap_formula::{Heap, Positions, Rule, Spatial};
 use rule_table::is_universal_spatial;
 use std::alloc::Global;
 
-/// The heap of one atom; `None` is never given.
-pub fn single_atom(alloc: Global, atom: &Spatial) -> Result<Option<Heap>, OutOfMemory> {
-    let mut heap = Heap::new(alloc);
-    match heap.push_spatial(*atom, 16) {
-        Ok(()) => Ok(Some(heap)),
-        Err(HeapFault::OutOfMemory) => Err(OutOfMemory),
-        Err(_) => Ok(None),
-    }
+/// A list of one rule: Cut of the atom at a place by another atom.
+fn cut_alone(alloc: Global, place: u32, atom: &Spatial) -> Result<Vec<Rule>, OutOfMemory> {
+    let places = Vec::from_slice(alloc, &[place])?;
+    let formula = Heap::from_slices(alloc, &[], &[*atom])?;
+    only(alloc, Rule::Cut(Positions::from_vec(places), formula))
 }
 
-fn division(
-    sequent: &Sequent<'_>,
-    i: u32,
-    k: u32,
-    atom: &Spatial,
-) -> Result<Option<Move>, OutOfMemory> {
-    let alloc = sequent.setting.alloc;
-    let Some(formula) = single_atom(alloc, atom)? else {
-        return Ok(None);
-    };
-    let mut places = Vec::new(alloc);
-    places.push(i)?;
-    let mut rules = Vec::new(alloc);
-    rules.push(Rule::Cut(Positions::from_vec(places), formula))?;
+fn division(sequent: &Sequent<'_>, i: u32, k: u32, atom: &Spatial) -> Result<Move, OutOfMemory> {
+    let mut rules = cut_alone(sequent.setting.alloc, i, atom)?;
     let last = (sequent.left.spatial().len() as u32).saturating_sub(1);
     rules.push(Rule::Frame(last, k))?;
-    Ok(Some(Move::Step(Step {
+    Ok(Move::Step(Step {
         rules,
         side: Some(sequent.less()),
         aim: sequent.less(),
-    })))
+    }))
 }
 
 fn push_divisions(
@@ -48,9 +34,7 @@ fn push_divisions(
 ) -> Result<(), OutOfMemory> {
     for (i, atom) in sequent.left.spatial().iter().enumerate() {
         if *atom != *wanted && shares_variable(atom, wanted) {
-            if let Some(next) = division(sequent, i as u32, k, wanted)? {
-                moves.push(next)?;
-            }
+            moves.push(division(sequent, i as u32, k, wanted)?)?;
         }
     }
     Ok(())

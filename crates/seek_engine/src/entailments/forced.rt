@@ -1,6 +1,7 @@
 // Moves that lose nothing, so that no others are offered beside them.
 use crate::entailments::atoms::unifies;
-use crate::entailments::offers::{companions, one_move, one_rule, stage_of};
+use crate::entailments::offers::{companions, push_rule, rule_alone, stage_of};
+use crate::entailments::predicates::first_existential;
 use crate::entailments::sequents::Sequent;
 use crate::{Aim, Draft, Move, Setting, Stage};
 use cyc_memory::OutOfMemory;
@@ -32,12 +33,17 @@ fn first_equation(heap: &Heap) -> Option<Rule> {
     None
 }
 
+fn push_links(moves: &mut Vec<Move>, companions: &[u32]) -> Result<(), OutOfMemory> {
+    for companion in companions {
+        moves.push(Move::Link(*companion))?;
+    }
+    Ok(())
+}
+
 fn done_and_links(alloc: Global, draft: &Draft, aim: Aim) -> Result<Vec<Move>, OutOfMemory> {
     let mut moves = Vec::new(alloc);
-    moves.push(one_rule(alloc, Rule::Done, aim)?)?;
-    for companion in companions(alloc, draft)? {
-        moves.push(Move::Link(companion))?;
-    }
+    push_rule(&mut moves, alloc, Rule::Done, aim)?;
+    push_links(&mut moves, &companions(alloc, draft)?)?;
     Ok(moves)
 }
 
@@ -51,10 +57,10 @@ pub fn first_stage(
 ) -> Result<Stage, OutOfMemory> {
     let alloc = setting.alloc;
     if setting.goes(judgement, &Rule::Absurd)? {
-        return one_move(alloc, one_rule(alloc, Rule::Absurd, aim)?);
+        return rule_alone(alloc, Rule::Absurd, aim);
     }
     if let Some(rule) = first_equation(left) {
-        return one_move(alloc, one_rule(alloc, rule, aim)?);
+        return rule_alone(alloc, rule, aim);
     }
     Ok(stage_of(done_and_links(alloc, draft, aim)?))
 }
@@ -131,23 +137,13 @@ fn look_at_pures(left: &Heap, right: &Heap) -> Sight {
     Sight::Open
 }
 
-/// The first existential among fields, with the field at its place.
-fn first_instance(fields: &[Term], wanted: &[Term]) -> Option<Rule> {
-    for (field, term) in fields.iter().zip(wanted) {
-        if let Term::Exist(v) = *term {
-            return Some(Rule::Instantiate(v, *field));
-        }
-    }
-    None
-}
-
 /// Cells with one address: their fields have to be the same.
 fn look_at_cells(is_shy: bool, i: u32, fields: &[Term], k: u32, wanted: &[Term]) -> Sight {
     if !unifies(fields, wanted) {
         return Sight::Dead;
     }
-    if let Some(rule) = first_instance(fields, wanted) {
-        return Sight::Go(rule);
+    if let Some((variable, field)) = first_existential(wanted, fields) {
+        return Sight::Go(Rule::Instantiate(variable, field));
     }
     if is_shy {
         Sight::Open

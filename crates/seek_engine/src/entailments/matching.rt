@@ -49,26 +49,28 @@ impl Matching {
         }
     }
 
-    /// The map with a place for one more atom, and these terms.
-    fn with_place(&self, place: u32, pairs: Vec<(u16, Term)>) -> Result<Matching, OutOfMemory> {
+    /// The places with that of one more atom.
+    fn places_with(&self, place: Option<u32>) -> Result<Vec<Option<u32>>, OutOfMemory> {
         let mut places = self.places.clone()?;
-        places.push(Some(place))?;
-        Ok(Matching {
-            places,
-            pairs,
-            skipped: self.skipped,
-        })
+        places.push(place)?;
+        Ok(places)
     }
 
-    /// The map without a place for one more atom.
-    fn without_place(&self) -> Result<Matching, OutOfMemory> {
-        let mut places = self.places.clone()?;
-        places.push(None)?;
-        Ok(Matching {
+    /// Adds to a list the map with one more atom, at a place or without one, and these terms.
+    fn push_with(
+        &self,
+        found: &mut Vec<Matching>,
+        place: Option<u32>,
+        pairs: Vec<(u16, Term)>,
+    ) -> Result<(), OutOfMemory> {
+        let places = self.places_with(place)?;
+        let skipped = self.skipped.saturating_add(u32::from(place.is_none()));
+        found.push(Matching {
             places,
-            pairs: self.pairs.clone()?,
-            skipped: self.skipped.saturating_add(1),
-        })
+            pairs,
+            skipped,
+        })?;
+        Ok(())
     }
 }
 
@@ -117,6 +119,21 @@ impl Matcher<'_> {
         Ok(from.len() == to.len())
     }
 
+    /// Adds the terms that send one atom to another of its kind, and says whether there are such.
+    fn add_atom(
+        &self,
+        pairs: &mut Vec<(u16, Term)>,
+        from: &Spatial,
+        to: &Spatial,
+    ) -> Result<bool, OutOfMemory> {
+        if let (Some(t), Some(u)) = (address(from), address(to)) {
+            if !self.match_term(pairs, t, u)? {
+                return Ok(false);
+            }
+        }
+        self.match_terms(pairs, arguments(from), arguments(to))
+    }
+
     /// These terms with those that send one atom to the other, if there are such.
     pub fn match_atom(
         &self,
@@ -128,18 +145,29 @@ impl Matcher<'_> {
             return Ok(None);
         }
         let mut longer = Vec::from_slice(self.alloc, pairs)?;
-        if let (Some(t), Some(u)) = (address(from), address(to)) {
-            if !self.match_term(&mut longer, t, u)? {
-                return Ok(None);
-            }
-        }
-        if self.match_terms(&mut longer, arguments(from), arguments(to))? {
+        if self.add_atom(&mut longer, from, to)? {
             Ok(Some(longer))
         } else {
             Ok(None)
         }
     }
 
+    /// The map with one more atom at this place, if the terms go together.
+    fn push_placed(
+        &self,
+        found: &mut Vec<Matching>,
+        shorter: &Matching,
+        atom: &Spatial,
+        place: u32,
+        target: &Spatial,
+    ) -> Result<(), OutOfMemory> {
+        match self.match_atom(&shorter.pairs, atom, target)? {
+            Some(pairs) => shorter.push_with(found, Some(place), pairs),
+            None => Ok(()),
+        }
+    }
+
+    /// The map with one more atom, at each place in turn, and without a place if that may be.
     fn push_longer(
         &self,
         found: &mut Vec<Matching>,
@@ -150,16 +178,29 @@ impl Matcher<'_> {
         let mut place: u32 = 0;
         for target in targets {
             if !has_place(&shorter.places, place) {
-                if let Some(pairs) = self.match_atom(&shorter.pairs, atom, target)? {
-                    found.push(shorter.with_place(place, pairs)?)?;
-                }
+                self.push_placed(found, shorter, atom, place, target)?;
             }
             place = place.saturating_add(1);
         }
         if shorter.skipped < self.may_skip && matches!(atom, Spatial::Pred(_, _)) {
-            found.push(shorter.without_place()?)?;
+            shorter.push_with(found, None, shorter.pairs.clone()?)?;
         }
         Ok(())
+    }
+
+    /// The maps with one more atom, no more than 64.
+    fn longer(
+        &self,
+        found: &[Matching],
+        atom: &Spatial,
+        targets: &[Spatial],
+    ) -> Result<Vec<Matching>, OutOfMemory> {
+        let mut longer = Vec::new(self.alloc);
+        for shorter in found {
+            self.push_longer(&mut longer, shorter, atom, targets)?;
+        }
+        longer.truncate(MOST_MATCHINGS);
+        Ok(longer)
     }
 
     /// The maps of the first atoms into the others, each to a place of its own, where no more than 64 are kept at a time.
@@ -171,12 +212,7 @@ impl Matcher<'_> {
         let mut found = Vec::new(self.alloc);
         found.push(Matching::empty(self.alloc))?;
         for atom in atoms {
-            let mut longer = Vec::new(self.alloc);
-            for shorter in found.iter() {
-                self.push_longer(&mut longer, shorter, atom, targets)?;
-            }
-            longer.truncate(MOST_MATCHINGS);
-            found = longer;
+            found = self.longer(&found, atom, targets)?;
         }
         Ok(found)
     }

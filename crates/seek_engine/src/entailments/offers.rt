@@ -27,15 +27,31 @@ pub fn no_moves(alloc: Global) -> Stage {
     last_stage(Vec::new(alloc))
 }
 
-/// One rule, and an aim at each of its premises.
-pub fn one_rule(alloc: Global, rule: Rule, aim: Aim) -> Result<Move, OutOfMemory> {
+/// A list of one rule.
+pub fn only(alloc: Global, rule: Rule) -> Result<Vec<Rule>, OutOfMemory> {
     let mut rules = Vec::new(alloc);
     rules.push(rule)?;
+    Ok(rules)
+}
+
+/// One rule, and an aim at each of its premises.
+pub fn one_rule(alloc: Global, rule: Rule, aim: Aim) -> Result<Move, OutOfMemory> {
     Ok(Move::Step(Step {
-        rules,
+        rules: only(alloc, rule)?,
         side: None,
         aim,
     }))
+}
+
+/// Offers one more rule, and an aim at each of its premises.
+pub fn push_rule(
+    moves: &mut Vec<Move>,
+    alloc: Global,
+    rule: Rule,
+    aim: Aim,
+) -> Result<(), OutOfMemory> {
+    moves.push(one_rule(alloc, rule, aim)?)?;
+    Ok(())
 }
 
 /// One move and no other.
@@ -43,6 +59,11 @@ pub fn one_move(alloc: Global, only: Move) -> Result<Stage, OutOfMemory> {
     let mut moves = Vec::new(alloc);
     moves.push(only)?;
     Ok(last_stage(moves))
+}
+
+/// One rule and no other move.
+pub fn rule_alone(alloc: Global, rule: Rule, aim: Aim) -> Result<Stage, OutOfMemory> {
+    one_move(alloc, one_rule(alloc, rule, aim)?)
 }
 
 /// The nodes to which links may lead, the latest first.

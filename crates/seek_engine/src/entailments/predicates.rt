@@ -1,6 +1,6 @@
 // Cells and predicates of the succedent.
 use crate::entailments::atoms::{address, arguments, unifies};
-use crate::entailments::offers::one_rule;
+use crate::entailments::offers::push_rule;
 use crate::entailments::sequents::Sequent;
 use crate::{Aim, Move};
 use cyc_memory::OutOfMemory;
@@ -18,7 +18,7 @@ fn push_frames(
     for (k, wanted) in sequent.right.spatial().iter().enumerate() {
         if *atom == *wanted {
             let rule = Rule::Frame(i, k as u32);
-            moves.push(one_rule(sequent.setting.alloc, rule, sequent.same())?)?;
+            push_rule(moves, sequent.setting.alloc, rule, sequent.same())?;
         }
     }
     Ok(())
@@ -61,7 +61,7 @@ fn push_addresses(
         if let Spatial::Cell(term, fields) = atom {
             if unifies(fields.as_slice(), wanted) {
                 let rule = Rule::Instantiate(variable, *term);
-                moves.push(one_rule(sequent.setting.alloc, rule, sequent.same())?)?;
+                push_rule(moves, sequent.setting.alloc, rule, sequent.same())?;
             }
         }
     }
@@ -101,7 +101,8 @@ pub fn is_all_cells(heap: &Heap) -> bool {
     !heap.spatial().is_empty()
 }
 
-fn first_existential(terms: &[Term], fields: &[Term]) -> Option<(u16, Term)> {
+/// The first existential among terms, with the field at its place.
+pub fn first_existential(terms: &[Term], fields: &[Term]) -> Option<(u16, Term)> {
     for (term, field) in terms.iter().zip(fields) {
         if let Term::Exist(variable) = *term {
             return Some((variable, *field));
@@ -169,42 +170,46 @@ fn has_cell(heap: &Heap) -> bool {
     false
 }
 
-/// What a case costs on the right, if it may be tried: each cell needs a partner, and no pure atom is false on sight. One
-/// without a cell but with predicates costs one.
-fn cost_of(sequent: &Sequent<'_>, case: &Heap, args: &Args) -> Result<Option<u32>, OutOfMemory> {
-    let alloc = sequent.setting.alloc;
-    let change = Change::Right(*args, exists_in_heap(sequent.right));
-    let body = changed_heap(alloc, &change, case)?;
+/// What a case's body costs on the right, if it may be tried: each cell needs a partner, and no pure atom is false on sight.
+/// One without a cell but with predicates costs one.
+fn cost_of_body(left: &Heap, body: &Heap) -> Option<u32> {
     for atom in body.spatial() {
-        if !has_partner(sequent.left, atom) {
-            return Ok(None);
+        if !has_partner(left, atom) {
+            return None;
         }
     }
     for atom in body.pure() {
         if is_false(*atom) {
-            return Ok(None);
+            return None;
         }
     }
-    let is_dear = !has_cell(&body) && !body.spatial().is_empty();
-    Ok(Some(u32::from(is_dear)))
+    let is_dear = !has_cell(body) && !body.spatial().is_empty();
+    Some(u32::from(is_dear))
+}
+
+/// What a case costs on the right, if it may be tried.
+fn cost_of(sequent: &Sequent<'_>, case: &Heap, args: &Args) -> Result<Option<u32>, OutOfMemory> {
+    let change = Change::Right(*args, exists_in_heap(sequent.right));
+    let body = changed_heap(sequent.setting.alloc, &change, case)?;
+    Ok(cost_of_body(sequent.left, &body))
 }
 
 /// The move by which a case comes on the right, if it may be tried.
-fn case_move(
+fn push_case(
+    moves: &mut Vec<Move>,
     sequent: &Sequent<'_>,
     k: u32,
     c: u32,
     case: &Heap,
     args: &Args,
-) -> Result<Option<Move>, OutOfMemory> {
-    let Some(cost) = cost_of(sequent, case, args)? else {
-        return Ok(None);
-    };
-    if cost > sequent.fuel {
-        return Ok(None);
+) -> Result<(), OutOfMemory> {
+    match cost_of(sequent, case, args)? {
+        Some(cost) if cost <= sequent.fuel => {
+            let aim = Aim::Entail(sequent.fuel - cost);
+            push_rule(moves, sequent.setting.alloc, Rule::UnfoldRight(k, c), aim)
+        }
+        _ => Ok(()),
     }
-    let aim = Aim::Entail(sequent.fuel - cost);
-    Ok(Some(one_rule(sequent.setting.alloc, Rule::UnfoldRight(k, c), aim)?))
 }
 
 /// The cases of a predicate atom that may be tried, those with cells or those without.
@@ -219,37 +224,49 @@ fn push_cases(
     let mut c: u32 = 0;
     for case in sequent.setting.defs.cases(predicate) {
         if has_cell(case) == with_cells {
-            if let Some(next) = case_move(sequent, k, c, case, args)? {
-                moves.push(next)?;
-            }
+            push_case(moves, sequent, k, c, case, args)?;
         }
         c = c.saturating_add(1);
     }
     Ok(())
 }
 
-fn moves_for(sequent: &Sequent<'_>, k: u32, wanted: &Spatial) -> Result<Vec<Move>, OutOfMemory> {
-    let alloc = sequent.setting.alloc;
-    let mut moves = Vec::new(alloc);
-    let Spatial::Pred(predicate, args) = wanted else {
-        return Ok(moves);
-    };
-    for (variable, term) in instances(sequent, wanted)? {
-        let rule = Rule::Instantiate(variable, term);
-        moves.push(one_rule(alloc, rule, sequent.same())?)?;
+fn push_instances(
+    moves: &mut Vec<Move>,
+    sequent: &Sequent<'_>,
+    wanted: &Spatial,
+) -> Result<(), OutOfMemory> {
+    let found = instances(sequent, wanted)?;
+    for (variable, term) in &found {
+        let rule = Rule::Instantiate(*variable, *term);
+        push_rule(moves, sequent.setting.alloc, rule, sequent.same())?;
     }
-    push_cases(&mut moves, sequent, k, *predicate, args, true)?;
-    push_cases(&mut moves, sequent, k, *predicate, args, false)?;
-    Ok(moves)
+    Ok(())
+}
+
+/// The instances of a predicate atom, then its cases, those with cells first.
+fn push_moves(
+    moves: &mut Vec<Move>,
+    sequent: &Sequent<'_>,
+    k: u32,
+    wanted: &Spatial,
+) -> Result<(), OutOfMemory> {
+    let Spatial::Pred(predicate, args) = wanted else {
+        return Ok(());
+    };
+    push_instances(moves, sequent, wanted)?;
+    push_cases(moves, sequent, k, *predicate, args, true)?;
+    push_cases(moves, sequent, k, *predicate, args, false)
 }
 
 /// The instances and the cases of the first predicate atom of the succedent that has any.
 pub fn predicate_moves(sequent: &Sequent<'_>) -> Result<Vec<Move>, OutOfMemory> {
+    let mut moves = Vec::new(sequent.setting.alloc);
     for (k, wanted) in sequent.right.spatial().iter().enumerate() {
-        let moves = moves_for(sequent, k as u32, wanted)?;
+        push_moves(&mut moves, sequent, k as u32, wanted)?;
         if !moves.is_empty() {
-            return Ok(moves);
+            break;
         }
     }
-    Ok(Vec::new(sequent.setting.alloc))
+    Ok(moves)
 }

@@ -3,12 +3,14 @@ use crate::entailments::applying::applications;
 use crate::entailments::disjuncts::disjunct_stage;
 use crate::entailments::dividing::divisions;
 use crate::entailments::forced::{Sight, first_stage, look_at};
-use crate::entailments::offers::{deepening, last_stage, no_moves, one_move, one_rule, stage_of};
+use crate::entailments::offers::{
+    deepening, last_stage, no_moves, one_move, push_rule, rule_alone, stage_of,
+};
 use crate::entailments::predicates::{
     addresses, frames, is_all_cells, predicate_moves, wanted_address, wanted_disequation,
 };
 use crate::entailments::sequents::Sequent;
-use crate::entailments::unfolding::unfolds;
+use crate::entailments::unfolding::{push_unfolds, unfolds};
 use crate::{Aim, Draft, Move, Setting, Stage, Strategy};
 use cyc_memory::OutOfMemory;
 use heap_formula::{Heap, Judgement, Pure, Rule};
@@ -76,7 +78,7 @@ impl<'a> Entailments<'a> {
     fn forced(&self, sequent: &Sequent<'_>) -> Result<Stage, OutOfMemory> {
         let alloc = self.setting.alloc;
         match look_at(sequent, self.is_shy) {
-            Sight::Go(rule) => one_move(alloc, one_rule(alloc, rule, sequent.same())?),
+            Sight::Go(rule) => rule_alone(alloc, rule, sequent.same()),
             Sight::Dead => Ok(no_moves(alloc)),
             Sight::Open if self.is_shy => Ok(stage_of(frames(sequent, true)?)),
             Sight::Open => Ok(stage_of(Vec::new(alloc))),
@@ -99,16 +101,14 @@ impl<'a> Entailments<'a> {
 
     fn split(&self, sequent: &Sequent<'_>, heaps: &[Heap]) -> Result<Stage, OutOfMemory> {
         let alloc = self.setting.alloc;
+        let mut moves = Vec::new(alloc);
         let Some((t, u)) = wanted_disequation(sequent.right) else {
-            return Ok(stage_of(Vec::new(alloc)));
+            return Ok(stage_of(moves));
         };
-        let mut moves: Vec<Move> = Vec::new(alloc);
         if sequent.fuel > 0 {
-            moves.push(one_rule(alloc, Rule::Split(t, u), sequent.less())?)?;
+            push_rule(&mut moves, alloc, Rule::Split(t, u), sequent.less())?;
         }
-        for next in unfolds(alloc, sequent.left, heaps, None, sequent.fuel)? {
-            moves.push(next)?;
-        }
+        push_unfolds(&mut moves, alloc, sequent.left, heaps, None, sequent.fuel)?;
         Ok(last_stage(moves))
     }
 
@@ -127,11 +127,20 @@ impl<'a> Entailments<'a> {
         self.unfold(sequent, heaps)
     }
 
-    fn divide(&self, sequent: &Sequent<'_>) -> Result<Stage, OutOfMemory> {
-        if self.is_narrow {
-            return Ok(stage_of(Vec::new(self.setting.alloc)));
+    /// The moves of the stages that leave the later ones open.
+    fn open_moves(
+        &self,
+        sequent: &Sequent<'_>,
+        draft: &Draft,
+        stage: u32,
+    ) -> Result<Vec<Move>, OutOfMemory> {
+        match stage {
+            5 => frames(sequent, false),
+            6 if self.is_narrow => Ok(Vec::new(self.setting.alloc)),
+            6 => divisions(sequent),
+            7 => predicate_moves(sequent),
+            _ => applications(sequent, draft),
         }
-        Ok(stage_of(divisions(sequent)?))
     }
 
     /// The moves at one disjunct.
@@ -147,10 +156,7 @@ impl<'a> Entailments<'a> {
             2 => self.cells(sequent, heaps),
             3 => self.split(sequent, heaps),
             4 => self.empty(sequent, heaps),
-            5 => Ok(stage_of(frames(sequent, false)?)),
-            6 => self.divide(sequent),
-            7 => Ok(stage_of(predicate_moves(sequent)?)),
-            8 => Ok(stage_of(applications(sequent, draft)?)),
+            5..=8 => Ok(stage_of(self.open_moves(sequent, draft, stage)?)),
             _ => self.unfold(sequent, heaps),
         }
     }

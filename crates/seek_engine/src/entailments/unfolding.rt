@@ -1,6 +1,6 @@
 // Unfolding on the left.
 use crate::entailments::atoms::{mentions, shared_terms};
-use crate::entailments::offers::one_rule;
+use crate::entailments::offers::push_rule;
 use crate::{Aim, Move, Step};
 use cyc_memory::OutOfMemory;
 use heap_formula::{Heap, Rule, Spatial, Term};
@@ -55,7 +55,41 @@ fn bare_unfold(alloc: Global, left: &Heap, k: u32, aim: Aim) -> Result<Move, Out
     }))
 }
 
-/// Unfold of each predicate atom, or of those in which a term stands; each also without the pure atoms.
+/// Unfold of an atom, and the same without the pure atoms if there are any.
+fn push_unfold(
+    moves: &mut Vec<Move>,
+    alloc: Global,
+    left: &Heap,
+    k: u32,
+    aim: Aim,
+) -> Result<(), OutOfMemory> {
+    push_rule(moves, alloc, Rule::Unfold(k), aim)?;
+    if !left.pure().is_empty() {
+        moves.push(bare_unfold(alloc, left, k, aim)?)?;
+    }
+    Ok(())
+}
+
+/// Offers Unfold of each predicate atom, or of those in which a term stands; each also without the pure atoms.
+pub fn push_unfolds(
+    moves: &mut Vec<Move>,
+    alloc: Global,
+    left: &Heap,
+    right: &[Heap],
+    wanted: Option<Term>,
+    fuel: u32,
+) -> Result<(), OutOfMemory> {
+    if fuel == 0 {
+        return Ok(());
+    }
+    let places = order(alloc, left, right, wanted)?;
+    for (_, k) in &places {
+        push_unfold(moves, alloc, left, *k, Aim::Entail(fuel - 1))?;
+    }
+    Ok(())
+}
+
+/// These moves and no others.
 pub fn unfolds(
     alloc: Global,
     left: &Heap,
@@ -64,15 +98,6 @@ pub fn unfolds(
     fuel: u32,
 ) -> Result<Vec<Move>, OutOfMemory> {
     let mut moves = Vec::new(alloc);
-    if fuel == 0 {
-        return Ok(moves);
-    }
-    let aim = Aim::Entail(fuel - 1);
-    for (_, k) in order(alloc, left, right, wanted)? {
-        moves.push(one_rule(alloc, Rule::Unfold(k), aim)?)?;
-        if !left.pure().is_empty() {
-            moves.push(bare_unfold(alloc, left, k, aim)?)?;
-        }
-    }
+    push_unfolds(&mut moves, alloc, left, right, wanted, fuel)?;
     Ok(moves)
 }
