@@ -86,6 +86,7 @@ impl Draft {
             swap(&mut node.reason, &mut reason);
             swap(&mut node.edges, &mut edges);
         }
+        drop(reason);
     }
 
     /// Gives a node a reason and edges for its premises.

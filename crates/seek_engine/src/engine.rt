@@ -1,6 +1,6 @@
 // The search itself, with an explicit stack.
 use crate::draft::Draft;
-use crate::frames::{Frame, Task, goals_of};
+use crate::frames::{Frame, Task};
 use crate::moves::{Aim, Move, Step, Strategy};
 use crate::setting::Setting;
 use crate::traces::link;
@@ -135,9 +135,7 @@ impl Attempt {
             return Ok(());
         };
         draft.close_by_rule(frame.node, rule, &premises)?;
-        frame.goals = goals_of(setting.alloc, premises, rest, step)?;
-        frame.is_moving = true;
-        Ok(())
+        frame.begin_move(setting.alloc, premises, rest, step)
     }
 
     fn make_link(

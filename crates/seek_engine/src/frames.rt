@@ -72,6 +72,23 @@ impl Frame {
         })
     }
 
+    /// Begins a move: the premises of the step's first rule are the goals. Of two lines the lower one comes first, so that a
+    /// loop is settled before the code after it.
+    pub fn begin_move(
+        &mut self,
+        alloc: Global,
+        premises: Vec<Premise>,
+        rest: &[Rule],
+        step: &Step,
+    ) -> Result<(), OutOfMemory> {
+        self.is_moving = true;
+        self.goals.clear();
+        push_goals(&mut self.goals, alloc, premises, rest, step)?;
+        self.goals
+            .sort_by_key(|goal| u32::MAX - line_of(&goal.judgement))?;
+        Ok(())
+    }
+
     /// The move that is being made has failed.
     pub fn give_up_move(&mut self) {
         self.is_moving = false;
@@ -121,18 +138,4 @@ fn push_goals(
         }
     }
     Ok(())
-}
-
-/// The premises of a step's first rule as goals, the first one at the end. Of two lines the lower one comes first, so that
-/// a loop is settled before the code after it.
-pub fn goals_of(
-    alloc: Global,
-    premises: Vec<Premise>,
-    rest: &[Rule],
-    step: &Step,
-) -> Result<Vec<Goal>, OutOfMemory> {
-    let mut goals = Vec::new(alloc);
-    push_goals(&mut goals, alloc, premises, rest, step)?;
-    goals.sort_by_key(|goal| u32::MAX - line_of(&goal.judgement))?;
-    Ok(goals)
 }

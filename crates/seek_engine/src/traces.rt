@@ -66,10 +66,8 @@ fn progresses(alloc: Global, draft: &Draft) -> Result<bool, OutOfMemory> {
     if !is_graph(&graph) {
         return Ok(false);
     }
-    match included(alloc, &graph, MOST_STATES)? {
-        Inclusion::Included => Ok(true),
-        Inclusion::Counter(_) | Inclusion::TooManyStates => Ok(false),
-    }
+    let inclusion = included(alloc, &graph, MOST_STATES)?;
+    Ok(matches!(inclusion, Inclusion::Included))
 }
 
 fn links(

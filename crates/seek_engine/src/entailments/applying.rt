@@ -1,9 +1,9 @@
 // A companion as a lemma: what it entails comes in the place of atoms that its antecedent covers.
 use crate::entailments::atoms::{address, arguments};
 use crate::entailments::matching::{Matcher, Matching, value_of};
-use crate::entailments::offers::{companions, only};
+use crate::entailments::offers::{companions, only, push_step};
 use crate::entailments::sequents::Sequent;
-use crate::{Aim, Draft, Move, Step};
+use crate::{Aim, Draft, Move};
 use cyc_memory::OutOfMemory;
 use heap_formula::{
     Heap, Judgement, Positions, Pure, Rule, Spatial, Subst, Term, apply_to_heap, apply_to_pure,
@@ -154,12 +154,8 @@ fn push_cut(
         return Ok(());
     }
     let rule = Rule::Cut(Positions::from_vec(places), formula);
-    moves.push(Move::Step(Step {
-        rules: only(sequent.setting.alloc, rule)?,
-        side: Some(Aim::Link(companion)),
-        aim: sequent.less(),
-    }))?;
-    Ok(())
+    let rules = only(sequent.setting.alloc, rule)?;
+    push_step(moves, rules, Some(Aim::Link(companion)), sequent.less())
 }
 
 /// The Cut by a companion's succedent under a map of its antecedent.

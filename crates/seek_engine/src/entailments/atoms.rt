@@ -72,8 +72,8 @@ pub fn unifies(terms: &[Term], others: &[Term]) -> bool {
     if terms.len() != others.len() {
         return false;
     }
-    for (term, other) in terms.iter().zip(others) {
-        if !matches!(other, Term::Exist(_)) && *term != *other {
+    for (place, other) in others.iter().enumerate() {
+        if !matches!(other, Term::Exist(_)) && terms.get(place) != Some(other) {
             return false;
         }
     }

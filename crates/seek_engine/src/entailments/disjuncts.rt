@@ -1,5 +1,5 @@
 // Moves at an entailment of several disjuncts.
-use crate::entailments::offers::{last_stage, no_moves, push_rule, stage_of};
+use crate::entailments::offers::{no_moves, push_rule, stage_of};
 use crate::entailments::unfolding::unfolds;
 use crate::{Aim, Move, Stage};
 use cyc_memory::OutOfMemory;
@@ -7,14 +7,14 @@ use heap_formula::{Heap, Pure, Rule};
 use rule_table::{has_pure, is_universal_pure};
 use std::alloc::Global;
 
-fn chooses(alloc: Global, count: usize, fuel: u32) -> Result<Vec<Move>, OutOfMemory> {
+fn chooses(alloc: Global, count: usize, fuel: u32) -> Result<Stage, OutOfMemory> {
     let mut moves = Vec::new(alloc);
     let mut k: u32 = 0;
     for _ in 0..count {
         push_rule(&mut moves, alloc, Rule::Choose(k), Aim::Entail(fuel))?;
         k = k.saturating_add(1);
     }
-    Ok(moves)
+    Ok(stage_of(moves))
 }
 
 /// Whether the antecedent has neither the equation nor the disequation.
@@ -42,15 +42,15 @@ fn push_splits(
     Ok(())
 }
 
-fn splits(alloc: Global, left: &Heap, heaps: &[Heap], fuel: u32) -> Result<Vec<Move>, OutOfMemory> {
+fn splits(alloc: Global, left: &Heap, heaps: &[Heap], fuel: u32) -> Result<Stage, OutOfMemory> {
     let mut moves = Vec::new(alloc);
     if fuel == 0 {
-        return Ok(moves);
+        return Ok(stage_of(moves));
     }
     for heap in heaps {
         push_splits(&mut moves, alloc, left, heap.pure(), Aim::Entail(fuel - 1))?;
     }
-    Ok(moves)
+    Ok(stage_of(moves))
 }
 
 /// Each disjunct; then Split on what they leave open; then Unfold.
@@ -62,9 +62,9 @@ pub fn disjunct_stage(
     stage: u32,
 ) -> Result<Stage, OutOfMemory> {
     match stage {
-        1 => Ok(stage_of(chooses(alloc, heaps.len(), fuel)?)),
-        2 => Ok(stage_of(splits(alloc, left, heaps, fuel)?)),
-        3 => Ok(last_stage(unfolds(alloc, left, heaps, None, fuel)?)),
+        1 => chooses(alloc, heaps.len(), fuel),
+        2 => splits(alloc, left, heaps, fuel),
+        3 => unfolds(alloc, left, heaps, None, fuel),
         _ => Ok(no_moves(alloc)),
     }
 }

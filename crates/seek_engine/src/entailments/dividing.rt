@@ -1,8 +1,8 @@
 // One atom of the antecedent for one predicate of the succedent, and the rest for the rest.
+use crate::Move;
 use crate::entailments::atoms::shares_variable;
-use crate::entailments::offers::only;
+use crate::entailments::offers::{only, push_step};
 use crate::entailments::sequents::Sequent;
-use crate::{Move, Step};
 use cyc_memory::OutOfMemory;
 use heap_formula::{Heap, Positions, Rule, Spatial};
 use rule_table::is_universal_spatial;
@@ -15,15 +15,17 @@ fn cut_alone(alloc: Global, place: u32, atom: &Spatial) -> Result<Vec<Rule>, Out
     only(alloc, Rule::Cut(Positions::from_vec(places), formula))
 }
 
-fn division(sequent: &Sequent<'_>, i: u32, k: u32, atom: &Spatial) -> Result<Move, OutOfMemory> {
+fn push_division(
+    moves: &mut Vec<Move>,
+    sequent: &Sequent<'_>,
+    i: u32,
+    k: u32,
+    atom: &Spatial,
+) -> Result<(), OutOfMemory> {
     let mut rules = cut_alone(sequent.setting.alloc, i, atom)?;
     let last = (sequent.left.spatial().len() as u32).saturating_sub(1);
     rules.push(Rule::Frame(last, k))?;
-    Ok(Move::Step(Step {
-        rules,
-        side: Some(sequent.less()),
-        aim: sequent.less(),
-    }))
+    push_step(moves, rules, Some(sequent.less()), sequent.less())
 }
 
 fn push_divisions(
@@ -34,7 +36,7 @@ fn push_divisions(
 ) -> Result<(), OutOfMemory> {
     for (i, atom) in sequent.left.spatial().iter().enumerate() {
         if *atom != *wanted && shares_variable(atom, wanted) {
-            moves.push(division(sequent, i as u32, k, wanted)?)?;
+            push_division(moves, sequent, i as u32, k, wanted)?;
         }
     }
     Ok(())

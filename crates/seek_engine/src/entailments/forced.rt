@@ -40,11 +40,11 @@ fn push_links(moves: &mut Vec<Move>, companions: &[u32]) -> Result<(), OutOfMemo
     Ok(())
 }
 
-fn done_and_links(alloc: Global, draft: &Draft, aim: Aim) -> Result<Vec<Move>, OutOfMemory> {
+fn done_and_links(alloc: Global, draft: &Draft, aim: Aim) -> Result<Stage, OutOfMemory> {
     let mut moves = Vec::new(alloc);
     push_rule(&mut moves, alloc, Rule::Done, aim)?;
     push_links(&mut moves, &companions(alloc, draft)?)?;
-    Ok(moves)
+    Ok(stage_of(moves))
 }
 
 /// Absurd, Rewrite by the first equation; else Done and links.
@@ -62,7 +62,7 @@ pub fn first_stage(
     if let Some(rule) = first_equation(left) {
         return rule_alone(alloc, rule, aim);
     }
-    Ok(stage_of(done_and_links(alloc, draft, aim)?))
+    done_and_links(alloc, draft, aim)
 }
 
 /// Whether the two terms are the sides of the atom, up to equations of the list.

@@ -111,9 +111,11 @@ impl Matcher<'_> {
         from: &[Term],
         to: &[Term],
     ) -> Result<bool, OutOfMemory> {
-        for (t, u) in from.iter().zip(to) {
-            if !self.match_term(pairs, *t, *u)? {
-                return Ok(false);
+        for (place, t) in from.iter().enumerate() {
+            if let Some(u) = to.get(place) {
+                if !self.match_term(pairs, *t, *u)? {
+                    return Ok(false);
+                }
             }
         }
         Ok(from.len() == to.len())

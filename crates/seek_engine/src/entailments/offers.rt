@@ -43,6 +43,17 @@ pub fn one_rule(alloc: Global, rule: Rule, aim: Aim) -> Result<Move, OutOfMemory
     }))
 }
 
+/// Offers one more step.
+pub fn push_step(
+    moves: &mut Vec<Move>,
+    rules: Vec<Rule>,
+    side: Option<Aim>,
+    aim: Aim,
+) -> Result<(), OutOfMemory> {
+    moves.push(Move::Step(Step { rules, side, aim }))?;
+    Ok(())
+}
+
 /// Offers one more rule, and an aim at each of its premises.
 pub fn push_rule(
     moves: &mut Vec<Move>,
@@ -50,8 +61,7 @@ pub fn push_rule(
     rule: Rule,
     aim: Aim,
 ) -> Result<(), OutOfMemory> {
-    moves.push(one_rule(alloc, rule, aim)?)?;
-    Ok(())
+    push_step(moves, only(alloc, rule)?, None, aim)
 }
 
 /// One move and no other.

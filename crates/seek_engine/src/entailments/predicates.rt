@@ -103,8 +103,8 @@ pub fn is_all_cells(heap: &Heap) -> bool {
 
 /// The first existential among terms, with the field at its place.
 pub fn first_existential(terms: &[Term], fields: &[Term]) -> Option<(u16, Term)> {
-    for (term, field) in terms.iter().zip(fields) {
-        if let Term::Exist(variable) = *term {
+    for (place, term) in terms.iter().enumerate() {
+        if let (Term::Exist(variable), Some(field)) = (*term, fields.get(place)) {
             return Some((variable, *field));
         }
     }

@@ -89,13 +89,13 @@ impl<'a> Entailments<'a> {
     fn cells(&self, sequent: &Sequent<'_>, heaps: &[Heap]) -> Result<Stage, OutOfMemory> {
         match wanted_address(sequent) {
             None => Ok(stage_of(addresses(sequent)?)),
-            address => Ok(last_stage(unfolds(
+            address => unfolds(
                 self.setting.alloc,
                 sequent.left,
                 heaps,
                 address,
                 sequent.fuel,
-            )?)),
+            ),
         }
     }
 
@@ -113,7 +113,7 @@ impl<'a> Entailments<'a> {
     }
 
     fn unfold(&self, sequent: &Sequent<'_>, heaps: &[Heap]) -> Result<Stage, OutOfMemory> {
-        Ok(last_stage(unfolds(self.setting.alloc, sequent.left, heaps, None, sequent.fuel)?))
+        unfolds(self.setting.alloc, sequent.left, heaps, None, sequent.fuel)
     }
 
     /// Without spatial atoms on the right cells of the left stay for ever.

@@ -1,7 +1,7 @@
 // Unfolding on the left.
 use crate::entailments::atoms::{mentions, shared_terms};
-use crate::entailments::offers::push_rule;
-use crate::{Aim, Move, Step};
+use crate::entailments::offers::{last_stage, push_rule, push_step};
+use crate::{Aim, Move, Stage};
 use cyc_memory::OutOfMemory;
 use heap_formula::{Heap, Rule, Spatial, Term};
 use std::alloc::Global;
@@ -42,17 +42,13 @@ fn order(
 }
 
 /// Unfold after all pure atoms were weakened, so that a companion asks for none.
-fn bare_unfold(alloc: Global, left: &Heap, k: u32, aim: Aim) -> Result<Move, OutOfMemory> {
+fn bare_unfold(alloc: Global, left: &Heap, k: u32) -> Result<Vec<Rule>, OutOfMemory> {
     let mut rules = Vec::new(alloc);
     for _ in left.pure() {
         rules.push(Rule::Weaken(0))?;
     }
     rules.push(Rule::Unfold(k))?;
-    Ok(Move::Step(Step {
-        rules,
-        side: None,
-        aim,
-    }))
+    Ok(rules)
 }
 
 /// Unfold of an atom, and the same without the pure atoms if there are any.
@@ -64,10 +60,10 @@ fn push_unfold(
     aim: Aim,
 ) -> Result<(), OutOfMemory> {
     push_rule(moves, alloc, Rule::Unfold(k), aim)?;
-    if !left.pure().is_empty() {
-        moves.push(bare_unfold(alloc, left, k, aim)?)?;
+    if left.pure().is_empty() {
+        return Ok(());
     }
-    Ok(())
+    push_step(moves, bare_unfold(alloc, left, k)?, None, aim)
 }
 
 /// Offers Unfold of each predicate atom, or of those in which a term stands; each also without the pure atoms.
@@ -89,15 +85,15 @@ pub fn push_unfolds(
     Ok(())
 }
 
-/// These moves and no others.
+/// These moves as the last stage.
 pub fn unfolds(
     alloc: Global,
     left: &Heap,
     right: &[Heap],
     wanted: Option<Term>,
     fuel: u32,
-) -> Result<Vec<Move>, OutOfMemory> {
+) -> Result<Stage, OutOfMemory> {
     let mut moves = Vec::new(alloc);
     push_unfolds(&mut moves, alloc, left, right, wanted, fuel)?;
-    Ok(moves)
+    Ok(last_stage(moves))
 }
