@@ -80,7 +80,7 @@ impl Attempt {
 
     /// The work on the last node has come to its end without success.
     fn fail(&mut self, draft: &mut Draft) -> Turn {
-        let _ = self.frames.pop();
+        drop(self.frames.pop());
         let Some(frame) = self.frames.last_mut() else {
             return Turn::Failed;
         };
@@ -91,7 +91,7 @@ impl Attempt {
 
     /// The last node is closed.
     fn succeed(&mut self) -> Turn {
-        let _ = self.frames.pop();
+        drop(self.frames.pop());
         if self.frames.is_empty() {
             Turn::Found
         } else {
