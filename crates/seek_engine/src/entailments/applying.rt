@@ -130,16 +130,14 @@ fn conclusion(
     sequent: &Sequent<'_>,
     matcher: &Matcher<'_>,
     lemma: (&Heap, &Heap),
-    pairs: &[(u16, Term)],
+    pairs: Vec<(u16, Term)>,
 ) -> Result<Option<Heap>, OutOfMemory> {
-    let alloc = matcher.alloc;
     let (antecedent, succedent) = lemma;
-    let pairs = Vec::from_slice(alloc, pairs)?;
     let subst = Subst::from_vec(completed(matcher, pairs, succedent, sequent.right)?);
     if !is_known_heap(subst.pairs(), succedent) || !has_pures(sequent.left, antecedent, &subst) {
         return Ok(None);
     }
-    Ok(Some(apply_to_heap(alloc, succedent, &subst)?))
+    Ok(Some(apply_to_heap(matcher.alloc, succedent, &subst)?))
 }
 
 /// The Cut of atoms by a formula that a companion gives, unless it is idle or offered already.
@@ -147,14 +145,16 @@ fn push_cut(
     moves: &mut Vec<Move>,
     sequent: &Sequent<'_>,
     companion: u32,
-    places: Vec<u32>,
+    places: &[Option<u32>],
     formula: Heap,
 ) -> Result<(), OutOfMemory> {
+    let alloc = sequent.setting.alloc;
+    let places = places_of(alloc, places)?;
     if is_idle(sequent.left, &places, &formula) || has_cut(moves, &places, &formula) {
         return Ok(());
     }
     let rule = Rule::Cut(Positions::from_vec(places), formula);
-    let rules = only(sequent.setting.alloc, rule)?;
+    let rules = only(alloc, rule)?;
     push_step(moves, rules, Some(Aim::Link(companion)), sequent.less())
 }
 
@@ -165,16 +165,15 @@ fn push_application(
     matcher: &Matcher<'_>,
     companion: u32,
     lemma: (&Heap, &Heap),
-    matching: &Matching,
+    matching: Matching,
 ) -> Result<(), OutOfMemory> {
-    let places = places_of(matcher.alloc, &matching.places)?;
-    match conclusion(sequent, matcher, lemma, &matching.pairs)? {
-        Some(formula) => push_cut(moves, sequent, companion, places, formula),
+    match conclusion(sequent, matcher, lemma, matching.pairs)? {
+        Some(formula) => push_cut(moves, sequent, companion, &matching.places, formula),
         None => Ok(()),
     }
 }
 
-fn push_applications(
+fn push_applications_of(
     moves: &mut Vec<Move>,
     sequent: &Sequent<'_>,
     draft: &Draft,
@@ -195,8 +194,7 @@ fn push_applications(
     let [succedent] = succedents.heaps() else {
         return Ok(());
     };
-    let matchings = matcher.matchings(antecedent.spatial(), sequent.left.spatial())?;
-    for matching in &matchings {
+    for matching in matcher.matchings(antecedent.spatial(), sequent.left.spatial())? {
         push_application(
             moves,
             sequent,
@@ -211,14 +209,17 @@ fn push_applications(
 
 /// Cut by what each companion entails, the latest first; the atoms that its antecedent covers are cut away, and a link
 /// proves that they entail it.
-pub fn applications(sequent: &Sequent<'_>, draft: &Draft) -> Result<Vec<Move>, OutOfMemory> {
-    let mut moves = Vec::new(sequent.setting.alloc);
+pub fn push_applications(
+    moves: &mut Vec<Move>,
+    sequent: &Sequent<'_>,
+    draft: &Draft,
+) -> Result<(), OutOfMemory> {
     if sequent.fuel == 0 {
-        return Ok(moves);
+        return Ok(());
     }
     let numbers = companions(sequent.setting.alloc, draft)?;
     for companion in &numbers {
-        push_applications(&mut moves, sequent, draft, *companion)?;
+        push_applications_of(moves, sequent, draft, *companion)?;
     }
-    Ok(moves)
+    Ok(())
 }

@@ -1,20 +1,24 @@
 // Moves at an entailment of several disjuncts.
-use crate::entailments::offers::{no_moves, push_rule, stage_of};
-use crate::entailments::unfolding::unfolds;
+use crate::entailments::offers::push_rule;
+use crate::entailments::unfolding::offer_unfolds;
 use crate::{Aim, Move, Stage};
 use cyc_memory::OutOfMemory;
 use heap_formula::{Heap, Pure, Rule};
 use rule_table::{has_pure, is_universal_pure};
 use std::alloc::Global;
 
-fn chooses(alloc: Global, count: usize, fuel: u32) -> Result<Stage, OutOfMemory> {
-    let mut moves = Vec::new(alloc);
+fn push_chooses(
+    moves: &mut Vec<Move>,
+    alloc: Global,
+    count: usize,
+    fuel: u32,
+) -> Result<(), OutOfMemory> {
     let mut k: u32 = 0;
     for _ in 0..count {
-        push_rule(&mut moves, alloc, Rule::Choose(k), Aim::Entail(fuel))?;
+        push_rule(moves, alloc, Rule::Choose(k), Aim::Entail(fuel))?;
         k = k.saturating_add(1);
     }
-    Ok(stage_of(moves))
+    Ok(())
 }
 
 /// Whether the antecedent has neither the equation nor the disequation.
@@ -26,7 +30,7 @@ fn is_undecided(left: &Heap, atom: Pure) -> bool {
         && !has_pure(left.pure(), Pure::Neq(t, u))
 }
 
-fn push_splits(
+fn push_splits_of(
     moves: &mut Vec<Move>,
     alloc: Global,
     left: &Heap,
@@ -42,29 +46,38 @@ fn push_splits(
     Ok(())
 }
 
-fn splits(alloc: Global, left: &Heap, heaps: &[Heap], fuel: u32) -> Result<Stage, OutOfMemory> {
-    let mut moves = Vec::new(alloc);
+fn push_splits(
+    moves: &mut Vec<Move>,
+    alloc: Global,
+    left: &Heap,
+    heaps: &[Heap],
+    fuel: u32,
+) -> Result<(), OutOfMemory> {
     if fuel == 0 {
-        return Ok(stage_of(moves));
+        return Ok(());
     }
     for heap in heaps {
-        push_splits(&mut moves, alloc, left, heap.pure(), Aim::Entail(fuel - 1))?;
+        push_splits_of(moves, alloc, left, heap.pure(), Aim::Entail(fuel - 1))?;
     }
-    Ok(stage_of(moves))
+    Ok(())
 }
 
 /// Each disjunct; then Split on what they leave open; then Unfold.
 pub fn disjunct_stage(
+    offered: &mut Stage,
     alloc: Global,
     left: &Heap,
     heaps: &[Heap],
     fuel: u32,
     stage: u32,
-) -> Result<Stage, OutOfMemory> {
+) -> Result<(), OutOfMemory> {
     match stage {
-        1 => chooses(alloc, heaps.len(), fuel),
-        2 => splits(alloc, left, heaps, fuel),
-        3 => unfolds(alloc, left, heaps, None, fuel),
-        _ => Ok(no_moves(alloc)),
+        1 => push_chooses(&mut offered.moves, alloc, heaps.len(), fuel),
+        2 => push_splits(&mut offered.moves, alloc, left, heaps, fuel),
+        3 => offer_unfolds(offered, alloc, left, heaps, None, fuel),
+        _ => {
+            offered.is_last = true;
+            Ok(())
+        }
     }
 }

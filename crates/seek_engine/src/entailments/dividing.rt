@@ -28,7 +28,7 @@ fn push_division(
     push_step(moves, rules, Some(sequent.less()), sequent.less())
 }
 
-fn push_divisions(
+fn push_divisions_for(
     moves: &mut Vec<Move>,
     sequent: &Sequent<'_>,
     k: u32,
@@ -43,16 +43,15 @@ fn push_divisions(
 }
 
 /// Cut of one atom of the antecedent by one of the succedent that shares a term with it, which is then framed.
-pub fn divisions(sequent: &Sequent<'_>) -> Result<Vec<Move>, OutOfMemory> {
-    let mut moves = Vec::new(sequent.setting.alloc);
+pub fn push_divisions(moves: &mut Vec<Move>, sequent: &Sequent<'_>) -> Result<(), OutOfMemory> {
     let (left, right) = (sequent.left.spatial(), sequent.right.spatial());
     if sequent.fuel == 0 || left.len() < 2 || right.len() < 2 {
-        return Ok(moves);
+        return Ok(());
     }
     for (k, wanted) in right.iter().enumerate() {
         if matches!(wanted, Spatial::Pred(_, _)) && is_universal_spatial(wanted) {
-            push_divisions(&mut moves, sequent, k as u32, wanted)?;
+            push_divisions_for(moves, sequent, k as u32, wanted)?;
         }
     }
-    Ok(moves)
+    Ok(())
 }

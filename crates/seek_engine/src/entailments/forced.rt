@@ -1,6 +1,6 @@
 // Moves that lose nothing, so that no others are offered beside them.
 use crate::entailments::atoms::unifies;
-use crate::entailments::offers::{companions, push_rule, rule_alone, stage_of};
+use crate::entailments::offers::{companions, offer_alone, push_rule};
 use crate::entailments::predicates::first_existential;
 use crate::entailments::sequents::Sequent;
 use crate::{Aim, Draft, Move, Setting, Stage};
@@ -40,29 +40,34 @@ fn push_links(moves: &mut Vec<Move>, companions: &[u32]) -> Result<(), OutOfMemo
     Ok(())
 }
 
-fn done_and_links(alloc: Global, draft: &Draft, aim: Aim) -> Result<Stage, OutOfMemory> {
-    let mut moves = Vec::new(alloc);
-    push_rule(&mut moves, alloc, Rule::Done, aim)?;
-    push_links(&mut moves, &companions(alloc, draft)?)?;
-    Ok(stage_of(moves))
+fn push_done_and_links(
+    moves: &mut Vec<Move>,
+    alloc: Global,
+    draft: &Draft,
+    aim: Aim,
+) -> Result<(), OutOfMemory> {
+    push_rule(moves, alloc, Rule::Done, aim)?;
+    let numbers = companions(alloc, draft)?;
+    push_links(moves, &numbers)
 }
 
 /// Absurd, Rewrite by the first equation; else Done and links.
 pub fn first_stage(
+    offered: &mut Stage,
     setting: &Setting<'_>,
     draft: &Draft,
     judgement: &Judgement,
     left: &Heap,
     aim: Aim,
-) -> Result<Stage, OutOfMemory> {
+) -> Result<(), OutOfMemory> {
     let alloc = setting.alloc;
     if setting.goes(judgement, &Rule::Absurd)? {
-        return rule_alone(alloc, Rule::Absurd, aim);
+        return offer_alone(offered, alloc, Rule::Absurd, aim);
     }
-    if let Some(rule) = first_equation(left) {
-        return rule_alone(alloc, rule, aim);
+    match first_equation(left) {
+        Some(rule) => offer_alone(offered, alloc, rule, aim),
+        None => push_done_and_links(&mut offered.moves, alloc, draft, aim),
     }
-    done_and_links(alloc, draft, aim)
 }
 
 /// Whether the two terms are the sides of the atom, up to equations of the list.

@@ -71,9 +71,15 @@ pub fn one_move(alloc: Global, only: Move) -> Result<Stage, OutOfMemory> {
     Ok(last_stage(moves))
 }
 
-/// One rule and no other move.
-pub fn rule_alone(alloc: Global, rule: Rule, aim: Aim) -> Result<Stage, OutOfMemory> {
-    one_move(alloc, one_rule(alloc, rule, aim)?)
+/// Offers one rule, and nothing after it.
+pub fn offer_alone(
+    offered: &mut Stage,
+    alloc: Global,
+    rule: Rule,
+    aim: Aim,
+) -> Result<(), OutOfMemory> {
+    offered.is_last = true;
+    push_rule(&mut offered.moves, alloc, rule, aim)
 }
 
 /// The nodes to which links may lead, the latest first.

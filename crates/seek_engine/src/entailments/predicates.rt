@@ -9,7 +9,7 @@ use rule_table::{Change, changed_heap, is_universal, is_universal_pure};
 use std::alloc::Global;
 
 /// Frame of one atom with each that is equal.
-fn push_frames(
+fn push_frames_of(
     moves: &mut Vec<Move>,
     sequent: &Sequent<'_>,
     i: u32,
@@ -25,14 +25,17 @@ fn push_frames(
 }
 
 /// Frame of equal atoms: cells, or predicates.
-pub fn frames(sequent: &Sequent<'_>, of_cells: bool) -> Result<Vec<Move>, OutOfMemory> {
-    let mut moves = Vec::new(sequent.setting.alloc);
+pub fn push_frames(
+    moves: &mut Vec<Move>,
+    sequent: &Sequent<'_>,
+    of_cells: bool,
+) -> Result<(), OutOfMemory> {
     for (i, atom) in sequent.left.spatial().iter().enumerate() {
         if address(atom).is_some() == of_cells {
-            push_frames(&mut moves, sequent, i as u32, atom)?;
+            push_frames_of(moves, sequent, i as u32, atom)?;
         }
     }
-    Ok(moves)
+    Ok(())
 }
 
 fn has_atom(heap: &Heap, wanted: &Spatial) -> bool {
@@ -51,7 +54,7 @@ pub fn wanted_address(sequent: &Sequent<'_>) -> Option<Term> {
     None
 }
 
-fn push_addresses(
+fn push_addresses_for(
     moves: &mut Vec<Move>,
     sequent: &Sequent<'_>,
     variable: u16,
@@ -69,14 +72,13 @@ fn push_addresses(
 }
 
 /// For a cell whose address is an existential: the address of each cell whose fields agree.
-pub fn addresses(sequent: &Sequent<'_>) -> Result<Vec<Move>, OutOfMemory> {
-    let mut moves = Vec::new(sequent.setting.alloc);
+pub fn push_addresses(moves: &mut Vec<Move>, sequent: &Sequent<'_>) -> Result<(), OutOfMemory> {
     for wanted in sequent.right.spatial() {
         if let Spatial::Cell(Term::Exist(variable), fields) = wanted {
-            push_addresses(&mut moves, sequent, *variable, fields.as_slice())?;
+            push_addresses_for(moves, sequent, *variable, fields.as_slice())?;
         }
     }
-    Ok(moves)
+    Ok(())
 }
 
 /// The first disequation without existentials of the succedent.
@@ -259,14 +261,16 @@ fn push_moves(
     push_cases(moves, sequent, k, *predicate, args, false)
 }
 
-/// The instances and the cases of the first predicate atom of the succedent that has any.
-pub fn predicate_moves(sequent: &Sequent<'_>) -> Result<Vec<Move>, OutOfMemory> {
-    let mut moves = Vec::new(sequent.setting.alloc);
+/// The instances and the cases of the first predicate atom of the succedent that has any, where there are no moves yet.
+pub fn push_predicate_moves(
+    moves: &mut Vec<Move>,
+    sequent: &Sequent<'_>,
+) -> Result<(), OutOfMemory> {
     for (k, wanted) in sequent.right.spatial().iter().enumerate() {
-        push_moves(&mut moves, sequent, k as u32, wanted)?;
+        push_moves(moves, sequent, k as u32, wanted)?;
         if !moves.is_empty() {
             break;
         }
     }
-    Ok(moves)
+    Ok(())
 }

@@ -1,19 +1,18 @@
 // The moves at an entailment, stage by stage.
-use crate::entailments::applying::applications;
+use crate::entailments::applying::push_applications;
 use crate::entailments::disjuncts::disjunct_stage;
-use crate::entailments::dividing::divisions;
+use crate::entailments::dividing::push_divisions;
 use crate::entailments::forced::{Sight, first_stage, look_at};
-use crate::entailments::offers::{
-    deepening, last_stage, no_moves, one_move, push_rule, rule_alone, stage_of,
-};
+use crate::entailments::offers::{deepening, no_moves, offer_alone, one_move, push_rule, stage_of};
 use crate::entailments::predicates::{
-    addresses, frames, is_all_cells, predicate_moves, wanted_address, wanted_disequation,
+    is_all_cells, push_addresses, push_frames, push_predicate_moves, wanted_address,
+    wanted_disequation,
 };
 use crate::entailments::sequents::Sequent;
-use crate::entailments::unfolding::{push_unfolds, unfolds};
+use crate::entailments::unfolding::offer_unfolds;
 use crate::{Aim, Draft, Move, Setting, Stage, Strategy};
 use cyc_memory::OutOfMemory;
-use heap_formula::{Heap, Judgement, Pure, Rule};
+use heap_formula::{Heap, Judgement, Pure, Rule, Term};
 use pred_defs::Defs;
 
 /// The moves at entailments. A shy search does not frame cells by itself, since a framed cell can no longer give a
@@ -75,89 +74,128 @@ impl<'a> Entailments<'a> {
         }
     }
 
-    fn forced(&self, sequent: &Sequent<'_>) -> Result<Stage, OutOfMemory> {
-        let alloc = self.setting.alloc;
+    fn forced(&self, offered: &mut Stage, sequent: &Sequent<'_>) -> Result<(), OutOfMemory> {
         match look_at(sequent, self.is_shy) {
-            Sight::Go(rule) => rule_alone(alloc, rule, sequent.same()),
-            Sight::Dead => Ok(no_moves(alloc)),
-            Sight::Open if self.is_shy => Ok(stage_of(frames(sequent, true)?)),
-            Sight::Open => Ok(stage_of(Vec::new(alloc))),
+            Sight::Go(rule) => offer_alone(offered, self.setting.alloc, rule, sequent.same()),
+            Sight::Dead => {
+                offered.is_last = true;
+                Ok(())
+            }
+            Sight::Open if self.is_shy => push_frames(&mut offered.moves, sequent, true),
+            Sight::Open => Ok(()),
         }
+    }
+
+    fn unfold(
+        &self,
+        offered: &mut Stage,
+        sequent: &Sequent<'_>,
+        heaps: &[Heap],
+        wanted: Option<Term>,
+    ) -> Result<(), OutOfMemory> {
+        let alloc = self.setting.alloc;
+        offer_unfolds(offered, alloc, sequent.left, heaps, wanted, sequent.fuel)
     }
 
     /// A cell of the succedent without a partner, if there is one; else cells whose addresses are existentials.
-    fn cells(&self, sequent: &Sequent<'_>, heaps: &[Heap]) -> Result<Stage, OutOfMemory> {
+    fn cells(
+        &self,
+        offered: &mut Stage,
+        sequent: &Sequent<'_>,
+        heaps: &[Heap],
+    ) -> Result<(), OutOfMemory> {
         match wanted_address(sequent) {
-            None => Ok(stage_of(addresses(sequent)?)),
-            address => unfolds(
-                self.setting.alloc,
-                sequent.left,
-                heaps,
-                address,
-                sequent.fuel,
-            ),
+            None => push_addresses(&mut offered.moves, sequent),
+            address => self.unfold(offered, sequent, heaps, address),
         }
     }
 
-    fn split(&self, sequent: &Sequent<'_>, heaps: &[Heap]) -> Result<Stage, OutOfMemory> {
-        let alloc = self.setting.alloc;
-        let mut moves = Vec::new(alloc);
+    fn split(
+        &self,
+        offered: &mut Stage,
+        sequent: &Sequent<'_>,
+        heaps: &[Heap],
+    ) -> Result<(), OutOfMemory> {
         let Some((t, u)) = wanted_disequation(sequent.right) else {
-            return Ok(stage_of(moves));
+            return Ok(());
         };
         if sequent.fuel > 0 {
-            push_rule(&mut moves, alloc, Rule::Split(t, u), sequent.less())?;
+            let rule = Rule::Split(t, u);
+            push_rule(&mut offered.moves, self.setting.alloc, rule, sequent.less())?;
         }
-        push_unfolds(&mut moves, alloc, sequent.left, heaps, None, sequent.fuel)?;
-        Ok(last_stage(moves))
-    }
-
-    fn unfold(&self, sequent: &Sequent<'_>, heaps: &[Heap]) -> Result<Stage, OutOfMemory> {
-        unfolds(self.setting.alloc, sequent.left, heaps, None, sequent.fuel)
+        self.unfold(offered, sequent, heaps, None)
     }
 
     /// Without spatial atoms on the right cells of the left stay for ever.
-    fn empty(&self, sequent: &Sequent<'_>, heaps: &[Heap]) -> Result<Stage, OutOfMemory> {
+    fn empty(
+        &self,
+        offered: &mut Stage,
+        sequent: &Sequent<'_>,
+        heaps: &[Heap],
+    ) -> Result<(), OutOfMemory> {
         if !sequent.right.spatial().is_empty() {
-            return Ok(stage_of(Vec::new(self.setting.alloc)));
+            return Ok(());
         }
         if is_all_cells(sequent.left) {
-            return Ok(no_moves(self.setting.alloc));
+            offered.is_last = true;
+            return Ok(());
         }
-        self.unfold(sequent, heaps)
-    }
-
-    /// The moves of the stages that leave the later ones open.
-    fn open_moves(
-        &self,
-        sequent: &Sequent<'_>,
-        draft: &Draft,
-        stage: u32,
-    ) -> Result<Vec<Move>, OutOfMemory> {
-        match stage {
-            5 => frames(sequent, false),
-            6 if self.is_narrow => Ok(Vec::new(self.setting.alloc)),
-            6 => divisions(sequent),
-            7 => predicate_moves(sequent),
-            _ => applications(sequent, draft),
-        }
+        self.unfold(offered, sequent, heaps, None)
     }
 
     /// The moves at one disjunct.
     fn single_stage(
         &self,
+        offered: &mut Stage,
         sequent: &Sequent<'_>,
         draft: &Draft,
         heaps: &[Heap],
         stage: u32,
-    ) -> Result<Stage, OutOfMemory> {
+    ) -> Result<(), OutOfMemory> {
         match stage {
-            1 => self.forced(sequent),
-            2 => self.cells(sequent, heaps),
-            3 => self.split(sequent, heaps),
-            4 => self.empty(sequent, heaps),
-            5..=8 => Ok(stage_of(self.open_moves(sequent, draft, stage)?)),
-            _ => self.unfold(sequent, heaps),
+            1 => self.forced(offered, sequent),
+            2 => self.cells(offered, sequent, heaps),
+            3 => self.split(offered, sequent, heaps),
+            4 => self.empty(offered, sequent, heaps),
+            5 => push_frames(&mut offered.moves, sequent, false),
+            6 if self.is_narrow => Ok(()),
+            6 => push_divisions(&mut offered.moves, sequent),
+            7 => push_predicate_moves(&mut offered.moves, sequent),
+            8 => push_applications(&mut offered.moves, sequent, draft),
+            _ => self.unfold(offered, sequent, heaps, None),
+        }
+    }
+
+    /// Adds the moves of a stage, and says so if no others come after them.
+    fn offer(
+        &self,
+        offered: &mut Stage,
+        draft: &Draft,
+        judgement: &Judgement,
+        fuel: u32,
+        stage: u32,
+    ) -> Result<(), OutOfMemory> {
+        let Judgement::Entail(left, succedents) = judgement else {
+            offered.is_last = true;
+            return Ok(());
+        };
+        let setting = self.setting;
+        if stage == 0 {
+            return first_stage(offered, &setting, draft, judgement, left, Aim::Entail(fuel));
+        }
+        let heaps = succedents.heaps();
+        match heaps {
+            [right] => {
+                let sequent = Sequent {
+                    setting,
+                    judgement,
+                    left,
+                    right,
+                    fuel,
+                };
+                self.single_stage(offered, &sequent, draft, heaps, stage)
+            }
+            _ => disjunct_stage(offered, setting.alloc, left, heaps, fuel, stage),
         }
     }
 
@@ -168,27 +206,9 @@ impl<'a> Entailments<'a> {
         fuel: u32,
         stage: u32,
     ) -> Result<Stage, OutOfMemory> {
-        let alloc = self.setting.alloc;
-        let Judgement::Entail(left, succedents) = judgement else {
-            return Ok(no_moves(alloc));
-        };
-        let heaps = succedents.heaps();
-        if stage == 0 {
-            return first_stage(&self.setting, draft, judgement, left, Aim::Entail(fuel));
-        }
-        match heaps {
-            [right] => {
-                let sequent = Sequent {
-                    setting: self.setting,
-                    judgement,
-                    left,
-                    right,
-                    fuel,
-                };
-                self.single_stage(&sequent, draft, heaps, stage)
-            }
-            _ => disjunct_stage(alloc, left, heaps, fuel, stage),
-        }
+        let mut offered = stage_of(Vec::new(self.setting.alloc));
+        self.offer(&mut offered, draft, judgement, fuel, stage)?;
+        Ok(offered)
     }
 }
 

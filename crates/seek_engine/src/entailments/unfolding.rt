@@ -1,6 +1,6 @@
 // Unfolding on the left.
 use crate::entailments::atoms::{mentions, shared_terms};
-use crate::entailments::offers::{last_stage, push_rule, push_step};
+use crate::entailments::offers::{push_rule, push_step};
 use crate::{Aim, Move, Stage};
 use cyc_memory::OutOfMemory;
 use heap_formula::{Heap, Rule, Spatial, Term};
@@ -66,8 +66,8 @@ fn push_unfold(
     push_step(moves, bare_unfold(alloc, left, k)?, None, aim)
 }
 
-/// Offers Unfold of each predicate atom, or of those in which a term stands; each also without the pure atoms.
-pub fn push_unfolds(
+/// Unfold of each predicate atom, or of those in which a term stands; each also without the pure atoms.
+fn push_unfolds(
     moves: &mut Vec<Move>,
     alloc: Global,
     left: &Heap,
@@ -85,15 +85,15 @@ pub fn push_unfolds(
     Ok(())
 }
 
-/// These moves as the last stage.
-pub fn unfolds(
+/// Offers these moves, and nothing after them.
+pub fn offer_unfolds(
+    offered: &mut Stage,
     alloc: Global,
     left: &Heap,
     right: &[Heap],
     wanted: Option<Term>,
     fuel: u32,
-) -> Result<Stage, OutOfMemory> {
-    let mut moves = Vec::new(alloc);
-    push_unfolds(&mut moves, alloc, left, right, wanted, fuel)?;
-    Ok(last_stage(moves))
+) -> Result<(), OutOfMemory> {
+    offered.is_last = true;
+    push_unfolds(&mut offered.moves, alloc, left, right, wanted, fuel)
 }
