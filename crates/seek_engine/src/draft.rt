@@ -69,6 +69,7 @@ impl Draft {
     pub fn push(&mut self, judgement: Judgement, parent: u32) -> Result<Option<u32>, OutOfMemory> {
         let number = self.nodes.len();
         if number >= MOST_NODES {
+            drop(judgement);
             return Ok(None);
         }
         self.nodes.push(DraftNode {

@@ -74,7 +74,7 @@ impl Attempt {
             _ => most,
         };
         self.frames
-            .push(Frame::new(setting.alloc, node, task, kept, most)?)?;
+            .push(Frame::new(setting.alloc, node, task, kept, most))?;
         Ok(())
     }
 
@@ -160,7 +160,7 @@ impl Attempt {
         frame.is_moving = true;
         let (node, kept, most) = (frame.node, frame.kept, frame.most);
         let task = Task {
-            rules: Vec::new(setting.alloc),
+            moves: Vec::new(setting.alloc),
             aim,
         };
         self.enter(setting, node, task, kept, most)
@@ -262,7 +262,7 @@ pub fn search<S: Strategy>(
         links: 0,
     };
     let task = Task {
-        rules: Vec::new(setting.alloc),
+        moves: Vec::new(setting.alloc),
         aim,
     };
     attempt.enter(setting, 0, task, draft.len(), most)?;

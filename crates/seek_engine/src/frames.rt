@@ -4,10 +4,10 @@ use cyc_memory::OutOfMemory;
 use heap_formula::{Judgement, Premise, Rule};
 use std::alloc::Global;
 
-/// What is to be done at a node: rules first, of which the next one is the last of the list, and then an aim.
+/// What is to be done at a node: these moves and no others, if there are any, else those for the aim.
 #[derive(Drop)]
 pub struct Task {
-    pub rules: Vec<Rule>,
+    pub moves: Vec<Move>,
     pub aim: Aim,
 }
 
@@ -35,45 +35,24 @@ pub struct Frame {
     pub most: u32,
 }
 
-/// The moves of a task: its rules, or none yet.
-fn moves_of_task(alloc: Global, task: Task) -> Result<Vec<Move>, OutOfMemory> {
-    let mut moves = Vec::new(alloc);
-    if !task.rules.is_empty() {
-        moves.push(Move::Step(Step {
-            rules: task.rules,
-            side: None,
-            aim: task.aim,
-        }))?;
-    }
-    Ok(moves)
-}
-
 impl Frame {
     /// The work on a node that has just been made.
-    pub fn new(
-        alloc: Global,
-        node: u32,
-        task: Task,
-        kept: usize,
-        most: u32,
-    ) -> Result<Frame, OutOfMemory> {
-        let aim = task.aim;
-        let is_last = !task.rules.is_empty();
-        Ok(Frame {
+    pub fn new(alloc: Global, node: u32, task: Task, kept: usize, most: u32) -> Frame {
+        Frame {
             node,
-            aim,
+            aim: task.aim,
             stage: 0,
-            is_last,
-            moves: moves_of_task(alloc, task)?,
+            is_last: !task.moves.is_empty(),
+            moves: task.moves,
             is_moving: false,
             goals: Vec::new(alloc),
             kept,
             most,
-        })
+        }
     }
 
-    /// Begins a move: the premises of the step's first rule are the goals. Of two lines the lower one comes first, so that a
-    /// loop is settled before the code after it.
+    /// Begins a move: the premises of the step's first rule are the goals. Of two lines the lower one comes first, so
+    /// that a loop is settled before the code after it.
     pub fn begin_move(
         &mut self,
         alloc: Global,
@@ -103,16 +82,24 @@ fn line_of(judgement: &Judgement) -> u32 {
     }
 }
 
-/// What is to be done at a premise: the rules are for all but a side premise.
+/// What is to be done at a premise: the rest of the step's rules, but not at a side premise.
 fn task_at(alloc: Global, is_side: bool, rest: &[Rule], step: &Step) -> Result<Task, OutOfMemory> {
+    let mut moves = Vec::new(alloc);
     if is_side {
         return Ok(Task {
-            rules: Vec::new(alloc),
+            moves,
             aim: step.side.unwrap_or(step.aim),
         });
     }
+    if !rest.is_empty() {
+        moves.push(Move::Step(Step {
+            rules: Vec::from_clones(alloc, rest)?,
+            side: None,
+            aim: step.aim,
+        }))?;
+    }
     Ok(Task {
-        rules: Vec::from_clones(alloc, rest)?,
+        moves,
         aim: step.aim,
     })
 }
