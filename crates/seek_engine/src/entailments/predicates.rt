@@ -6,7 +6,6 @@ use crate::{Aim, Move};
 use cyc_memory::OutOfMemory;
 use heap_formula::{Args, Heap, Pure, Rule, Spatial, Term, exists_in_heap};
 use rule_table::{Change, changed_heap, is_universal, is_universal_pure};
-use std::alloc::Global;
 
 /// Frame of one atom with each that is equal.
 fn push_frames_of(
@@ -128,16 +127,23 @@ fn instance(atom: &Spatial, wanted: &Spatial) -> Option<(u16, Term)> {
 }
 
 /// The same by each such atom, each once.
-fn instances(sequent: &Sequent<'_>, wanted: &Spatial) -> Result<Vec<(u16, Term)>, OutOfMemory> {
-    let mut found = Vec::new(sequent.setting.alloc);
+fn push_instances(
+    moves: &mut Vec<Move>,
+    sequent: &Sequent<'_>,
+    wanted: &Spatial,
+) -> Result<(), OutOfMemory> {
+    let alloc = sequent.setting.alloc;
+    let mut found = Vec::new(alloc);
     for atom in sequent.left.spatial() {
-        if let Some(instance) = instance(atom, wanted) {
-            if !found.contains(&instance) {
-                found.push(instance)?;
+        if let Some((variable, term)) = instance(atom, wanted) {
+            if !found.contains(&(variable, term)) {
+                found.push((variable, term))?;
+                let rule = Rule::Instantiate(variable, term);
+                push_rule(moves, alloc, rule, sequent.same())?;
             }
         }
     }
-    Ok(found)
+    Ok(())
 }
 
 fn has_partner(left: &Heap, wanted: &Spatial) -> bool {
@@ -229,19 +235,6 @@ fn push_cases(
             push_case(moves, sequent, k, c, case, args)?;
         }
         c = c.saturating_add(1);
-    }
-    Ok(())
-}
-
-fn push_instances(
-    moves: &mut Vec<Move>,
-    sequent: &Sequent<'_>,
-    wanted: &Spatial,
-) -> Result<(), OutOfMemory> {
-    let found = instances(sequent, wanted)?;
-    for (variable, term) in &found {
-        let rule = Rule::Instantiate(*variable, *term);
-        push_rule(moves, sequent.setting.alloc, rule, sequent.same())?;
     }
     Ok(())
 }

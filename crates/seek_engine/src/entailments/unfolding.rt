@@ -43,10 +43,7 @@ fn order(
 
 /// Unfold after all pure atoms were weakened, so that a companion asks for none.
 fn bare_unfold(alloc: Global, left: &Heap, k: u32) -> Result<Vec<Rule>, OutOfMemory> {
-    let mut rules = Vec::new(alloc);
-    for _ in left.pure() {
-        rules.push(Rule::Weaken(0))?;
-    }
+    let mut rules = vec![in alloc; Rule::Weaken(0); left.pure().len()]?;
     rules.push(Rule::Unfold(k))?;
     Ok(rules)
 }
