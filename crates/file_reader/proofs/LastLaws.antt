@@ -1,7 +1,7 @@
 -- The last statements of a text, and its end.
 use Rattle.std.proofs.Common.{◌≡◌, ℕ, ◌+◌, ◌-◌, ◌≤◌, ◌<◌, Bool, true, false, List, [], ◌∷◌, ◌++◌, length, take, drop, Some, None, Option, Result, Ok, Err, refl, sym, ap, subst, ◌∙◌, arith, length-append, length-take-le, ◌⊎◌}
 use Rattle.std.specs.Prelude.{map}
-use Rattle.std.proofs.lemmas.List.{append-nil, length-drop, length-map, drop-drop, drop_at, take-append-drop}
+use Rattle.std.proofs.lemmas.List.{append-nil, length-drop, length-map, drop-drop, drop_at, take_all, take_at, take-append-drop}
 use Rattle.cyc_lex.specs.declared.fault.ReadFault.{ReadFault}
 use Rattle.cyc_lex.specs.Lexing.{start}
 use Rattle.cyc_lex.specs.Placed.{Placed}
@@ -35,7 +35,8 @@ use Rattle.file_reader.specs.Lasts.{left_from, StandsIn, comes_to, DiesAt, AreRe
 use Rattle.file_reader.specs.Outcomes.{Outcome, Faulty, or_else, settled, syntax_fault}
 use Rattle.file_reader.specs.Pieces.{Tells, parts, IsOpen}
 use Rattle.file_reader.specs.Stages.{Head, Nodes, Parts, behind, outcome, nodes_left, nodes_outcome, said_with, ahead}
-use Rattle.file_reader.specs.Steps.{tree_of}
+use Rattle.file_reader.specs.Runs.{IsStepTaken}
+use Rattle.file_reader.specs.Steps.{Takes, tree_of}
 use Rattle.file_reader.specs.Stretches.{IsStretch, tokens_of}
 use Rattle.file_reader.proofs.KeptParts.{dead-kept}
 use Rattle.file_reader.proofs.NodeLaws.{NodeTaken}
@@ -70,28 +71,67 @@ module _ (s : Stretch) (h : IsStretch s) (n : ℕ) (ws : List Word) (stands : St
 pub read-words : (s : Stretch) (n : ℕ) (ws : List Word) → StandsIn s n ws → (q : Reading (Node ⊎ Unit {0})) → (kept_statement kept Among).read ws ≡ q → (kept_statement kept Among).read (map word_of (left_from s n)) ≡ q
 read-words s n ws stands q e = ap (λ (vs : List Word). (kept_statement kept Among).read vs) (sym stands.words) ∙ e
 
--- ---- nodes
+-- ---- statements
 
-module _ (k : Known) (s : Stretch) (h : IsStretch s) (old mid new : Found) (vs ws : List Word) (read : AreRead k s old mid vs) where
-  pub node-read : NodeTaken k (left_from s mid.tokens) ws mid new → new.tokens ≡ s.before + (s.count - length ws) → AreRead k s old new ws
-  node-read t count = record {
-    same = read.same ∙ ap (ahead (Nodes (begun_in k mid))) t.all ∙ t.takes t.rest ∙ ap (ahead (Nodes (begun_in k new))) rest;
-    stands = record {
-      later = omega (arith, count);
-      within = omega (arith, count);
-      words = t.words ∙ ap (map word_of) rest;
-    };
+pub left-stands : (s : Stretch) (n : ℕ) → s.before ≤ n → n ≤ s.before + s.count → StandsIn s n (map word_of (left_from s n))
+left-stands s n later within = record { later = later; within = within; words = refl }
+
+-- one was read of the tokens that are left
+module _ (k : Known) (s : Stretch) (h : IsStretch s) (old new : Found) (ws : List Word) (later : s.before ≤ old.tokens) (within : old.tokens ≤ s.before + s.count) (t : NodeTaken k (left_from s old.tokens) ws old new) where
+  abbrev here : ℕ
+  here = old.tokens - s.before
+
+  sizes : length (left_from s old.tokens) + here ≡ s.count
+  sizes = left-size s h old.tokens (map word_of (left_from s old.tokens)) (left-stands s old.tokens later within)
+
+  pub step-taken : IsStepTaken k (take (new.tokens - old.tokens) (left_from s old.tokens)) old new
+  step-taken = record {
+    takes = subst (λ (us : List Placed). Takes (Nodes (begun_in k old)) us (Nodes (begun_in k new))) (sym front) t.takes;
+    tokens = omega (arith, t.tokens, ap length front);
     steady = t.steady;
   }
     where
-      here : ℕ
-      here = mid.tokens - s.before
+      front : take (new.tokens - old.tokens) (left_from s old.tokens) ≡ t.front
+      front = ap (take (new.tokens - old.tokens)) t.all ∙ take_at t.front t.rest (new.tokens - old.tokens) (omega (arith, t.tokens))
 
-      sizes : here + length t.front ≡ new.tokens - s.before
-      sizes = omega (arith, count, left-size s h mid.tokens vs read.stands, ap length t.all, length-append t.front t.rest, ap length t.words, length-map t.rest word_of, read.stands.later)
-
+  pub step-stands : StandsIn s new.tokens ws
+  step-stands = record {
+    later = omega (arith, t.tokens, later);
+    within = omega (arith, t.tokens, t.size, sizes, later);
+    words = t.words ∙ ap (map word_of) rest;
+  }
+    where
       rest : t.rest ≡ left_from s new.tokens
-      rest = sym (drop_at t.front t.rest (length t.front) refl) ∙ ap (drop (length t.front)) (sym t.all) ∙ drop-drop (length t.front) here (tokens_of s) ∙ ap (λ (n : ℕ). drop n (tokens_of s)) sizes
+      rest = sym (drop_at t.front t.rest (length t.front) refl) ∙ ap (drop (length t.front)) (sym t.all) ∙ drop-drop (length t.front) here (tokens_of s) ∙ ap (λ (n : ℕ). drop n (tokens_of s)) (omega (arith, t.tokens, later))
+
+-- one more was read
+pub step-read : (k : Known) (s : Stretch) (old mid new : Found) (vs ws : List Word) → AreRead k s old mid vs → IsStepTaken k (take (new.tokens - mid.tokens) (left_from s mid.tokens)) mid new → StandsIn s new.tokens ws → AreRead k s old new ws
+step-read k s old mid new vs ws read step stands = record {
+  same = read.same ∙ ap (ahead (Nodes (begun_in k mid))) (sym (take-append-drop count us)) ∙ step.takes (drop count us) ∙ ap (ahead (Nodes (begun_in k new))) rest;
+  stands = stands;
+  steady = step.steady;
+}
+  where
+    count : ℕ
+    count = new.tokens - mid.tokens
+
+    us : List Placed
+    us = left_from s mid.tokens
+
+    rest : drop count us ≡ left_from s new.tokens
+    rest = drop-drop count (mid.tokens - s.before) (tokens_of s) ∙ ap (λ (n : ℕ). drop n (tokens_of s)) (omega (arith, step.tokens, read.stands.later))
+
+-- where none is left, all tokens were taken
+pub all-taken : (k : Known) (s : Stretch) → IsStretch s → (old new : Found) (ws : List Word) → s.before ≡ old.tokens → length ws ≡ 0 → IsStepTaken k (take (new.tokens - old.tokens) (left_from s old.tokens)) old new → StandsIn s new.tokens ws → IsStepTaken k (tokens_of s) old new
+all-taken k s h old new ws at none step stands = subst (λ (us : List Placed). IsStepTaken k us old new) all step
+  where
+    first : old.tokens - s.before ≡ 0
+    first = omega (arith, at)
+
+    all : take (new.tokens - old.tokens) (left_from s old.tokens) ≡ tokens_of s
+    all =
+        ap (λ (n : ℕ). take (new.tokens - old.tokens) (drop n (tokens_of s))) first
+        ∙ take_all (new.tokens - old.tokens) (tokens_of s) (omega (arith, stretch-size s h, words-size s h new.tokens ws stands, at, none))
 
 -- the first dead token
 module _ (k : Known) (s : Stretch) (h : IsStretch s) (f : Found) (ws : List Word) (stands : StandsIn s f.tokens ws) where

@@ -1,5 +1,5 @@
 -- Nodes as they come.
-use Rattle.std.proofs.Common.{◌≡◌, ℕ, suc, ◌+◌, ◌-◌, ◌≤◌, ◌<◌, true, false, List, [], ◌∷◌, ◌++◌, length, take, drop, Option, Some, None, Ok, refl, sym, ap, subst, ◌∙◌, arith, length-append, append_assoc, inl, inr}
+use Rattle.std.proofs.Common.{◌≡◌, ℕ, suc, ◌+◌, ◌-◌, ◌≤◌, ◌<◌, true, false, List, [], ◌∷◌, ◌++◌, length, take, drop, Option, Some, None, Ok, refl, sym, ap, subst, ◌∙◌, arith, length-append, append_assoc, inl, inr, ◌⊎◌}
 use Rattle.std.specs.Prelude.{map, slice_get}
 use Rattle.std.proofs.lemmas.List.{append-nil, take-append-drop, take-map, drop-map, take_at, drop_at, length-map, map_push, map-append}
 use Rattle.cyc_lex.specs.declared.fault.ReadFault.{ReadFault}
@@ -47,7 +47,7 @@ later-span vs rest tree e =
     let x = later-kept vs rest tree e in
     omega (arith, statement-size Among vs rest (inl x.0) x.1, ap node_span x.2, node-span 64 x.0)
 
-pub later-shrinks : (vs rest : List Word) (tree : Node) → (kept_statement kept Among).read vs ≡ Ok (inl tree, rest) → length rest < length vs
+later-shrinks : (vs rest : List Word) (tree : Node) → (kept_statement kept Among).read vs ≡ Ok (inl tree, rest) → length rest < length vs
 later-shrinks vs rest tree e =
     let x = later-kept vs rest tree e in
     omega (arith, statement-size Among vs rest (inl x.0) x.1)
@@ -335,5 +335,9 @@ pub end-comes : (k : Known) (us : List Placed) (ws : List Word) (old new : Found
 end-comes k us ws old new e steady going flaw nodes ended tokens =
     end-taken k us ws old new (end-kept (map word_of us) ws e) steady going flaw nodes ended tokens
 
-pub end-shrinks : (vs rest : List Word) → (kept_statement kept Among).read vs ≡ Ok (inr tt, rest) → length rest < length vs
+end-shrinks : (vs rest : List Word) → (kept_statement kept Among).read vs ≡ Ok (inr tt, rest) → length rest < length vs
 end-shrinks vs rest e = omega (arith, statement-size Among vs rest (inr tt) (end-kept vs rest e))
+
+pub statement-shrinks : (vs rest : List Word) (x : Node ⊎ Unit {0}) → (kept_statement kept Among).read vs ≡ Ok (x, rest) → length rest < length vs
+statement-shrinks vs rest (inl tree) e = later-shrinks vs rest tree e
+statement-shrinks vs rest (inr u) e = end-shrinks vs rest e

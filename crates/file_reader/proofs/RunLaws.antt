@@ -3,7 +3,7 @@ use Rattle.std.proofs.Common.{◌≡◌, ℕ, zero, suc, ◌+◌, ◌≤◌, ◌
 use Rattle.std.specs.Prelude.{map, IfOk}
 use Rattle.std.specs.Borrow.{Bor}
 use Rattle.std.specs.Str.{IsUtf8}
-use Rattle.std.proofs.lemmas.List.{append-nil, length-map, length-take-le, nil_from_length}
+use Rattle.std.proofs.lemmas.List.{length-map, length-take-le}
 use Rattle.std.proofs.lemmas.Str.{encodes-chars}
 use Rattle.cyc_lex.specs.declared.fault.ReadFault.{ReadFault}
 use Rattle.cyc_lex.specs.declared.place.Place.{Place}
@@ -35,24 +35,9 @@ use Rattle.file_reader.specs.Knowns.{begun_in, IsSteady}
 use Rattle.file_reader.specs.Runs.{IsStep, IsStepTaken, IsStepDead, IsRefused, IsRun}
 use Rattle.file_reader.specs.Stretches.{IsStretch}
 use Rattle.file_reader.proofs.KeptParts.{dead-kept}
-use Rattle.file_reader.proofs.NodeLaws.{NodeTaken}
 use Rattle.file_reader.proofs.StepLaws.{fault-within, node-fault-step, ended-step}
 
 -- ---- one statement
-
--- where no word is left, all tokens were taken
-pub all-taken : (k : Known) (ts : List Placed) (old new : Found) → NodeTaken k ts [] old new → IsStepTaken k ts old new
-all-taken k ts old new t = record {
-  takes = subst (λ (us : List Placed). Takes (Nodes (begun_in k old)) us (Nodes (begun_in k new))) (sym all) t.takes;
-  tokens = omega (arith, t.tokens, ap length all);
-  steady = t.steady;
-}
-  where
-    none : t.rest ≡ []
-    none = nil_from_length t.rest (omega (arith, length-map t.rest word_of, ap length t.words))
-
-    all : ts ≡ t.front
-    all = t.all ∙ ap (λ (us : List Placed). t.front ++ us) none ∙ append-nil t.front
 
 -- a dead token
 node-dies : (k : Known) (ts : List Placed) (old : Found) (left : ℕ) → old.ended ≡ false → (statement_of Among).read (map word_of ts) ≡ Err left → 0 < left → IsStepDead k ts old old left

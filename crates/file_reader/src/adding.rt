@@ -1,18 +1,26 @@
-//! A node as it comes: its value, or its first flaw.
+//! A statement as it comes: a node's value, or its first flaw; or the end of the nodes.
 
-ghost use Rattle.std.specs.Prelude.{◌≡◌, ◌≤◌, ◌+◌, IfOk, None, length};
+ghost use Rattle.std.specs.Prelude.{◌≡◌, ◌≤◌, ◌+◌, ◌-◌, IfOk, None, Ok, false, length, map, take};
+ghost use Rattle.cyc_lex.specs.Word.{word_of};
 ghost use Rattle.cyc_limits.specs.declared.TheConstants.{MOST_PREDICATES};
 ghost use Rattle.proof_syntax.specs.Grammar.{node};
 ghost use Rattle.proof_syntax.specs.Trees.{node_of};
 ghost use Rattle.proof_file.specs.Spans.{node_span};
 ghost use Rattle.file_reader.specs.Stretches.{IsStretch, tokens_of};
-ghost use Rattle.file_reader.specs.Knowns.{IsAdded};
+ghost use Rattle.file_reader.specs.Knowns.{IsAdded, IsHeads, IsSteady};
+ghost use Rattle.proof_statements.specs.Left.{Nodes, kept_statement};
+ghost use Rattle.proof_statements.specs.Trees.{node_or_end_of};
+ghost use Rattle.file_reader.specs.Fronts.{kept};
+ghost use Rattle.file_reader.specs.Runs.{IsStepTaken};
+ghost use Rattle.file_reader.specs.Lasts.{StandsIn, left_from};
 
 use crate::known::{Found, Known};
 use crate::stretch::Stretch;
+use cyc_grammar::Cursor;
 use cyc_lex::OutOfMemory;
 use heap_reader::Heads;
 use proof_file::{NodeFault, node_of_tree};
+use proof_statements::NodeOrEnd;
 use proof_syntax::NodeTree;
 use std::alloc::Global;
 
@@ -48,5 +56,42 @@ pub fn add_node(
             Ok(())
         }
         Err(NodeFault::OutOfMemory) => Err(OutOfMemory),
+    }
+}
+
+/// Takes a node, or the last statement, which was read of the next of these tokens up to the cursor.
+pub fn add_statement(
+    alloc: Global,
+    known: &Known,
+    heads: &Heads<'_>,
+    stretch: Stretch<'_>,
+    statement: &NodeOrEnd<'_>,
+    cursor: &Cursor<'_, '_>,
+    found: &mut Found,
+) -> Result<(), OutOfMemory>
+    requires stretch { IsStretch stretch }
+    requires heads { IsHeads known.now heads.now }
+    requires steady { IsSteady known.now found.old }
+    requires going { found.old.ended ≡ false }
+    requires later { stretch.before ≤ found.old.tokens }
+    requires within { found.old.tokens ≤ stretch.before + stretch.count }
+    requires read { (kept_statement kept Nodes).read (map word_of (left_from stretch found.old.tokens))
+        ≡ Ok (node_or_end_of statement.now, cursor.now) }
+    ensures taken { IfOk result (λ _. IsStepTaken known.now
+        (take (found.new.tokens - found.old.tokens) (left_from stretch.entry found.old.tokens)) found.old found.new) }
+    ensures stands { IfOk result (λ _. StandsIn stretch.entry found.new.tokens cursor.now) }
+{
+    let tokens = stretch.before + (stretch.count - cursor.left()) as u32;
+    match statement {
+        NodeOrEnd::Node(tree) => {
+            add_node(alloc, known, heads, stretch, tree, found)?;
+            found.tokens = tokens;
+            Ok(())
+        }
+        NodeOrEnd::End => {
+            found.tokens = tokens;
+            found.ended = true;
+            Ok(())
+        }
     }
 }

@@ -83,6 +83,33 @@ fn open(
     }
 }
 
+/// What stands before the nodes and the first node say, where uses are compared with these heads.
+fn begun_with(
+    alloc: Global,
+    stretch: Stretch<'_>,
+    heads: &Heads<'_>,
+    front: &Front<'_>,
+    cursor: &Cursor<'_, '_>,
+) -> Result<Beginning, OutOfMemory>
+    requires stretch { IsStretch stretch }
+    requires first { stretch.before ≡ 0 }
+    requires known { heads.now ≡ headings (front_defs front.now) }
+    requires read { IsBegun (map word_of (tokens_of stretch)) front.now cursor.now }
+    ensures { IfOk result (IsBeginning (tokens_of stretch.entry) cursor.now) }
+{
+    let mut beginning = open(alloc, stretch, heads, front)?;
+    add_node(
+        alloc,
+        &beginning.known,
+        heads,
+        stretch,
+        &front.first,
+        &mut beginning.found,
+    )?;
+    beginning.found.tokens = (stretch.count - cursor.left()) as u32;
+    Ok(beginning)
+}
+
 /// What stands before the nodes and the first node say, which were read of the text up to the cursor.
 fn begun(
     alloc: Global,
@@ -96,17 +123,7 @@ fn begun(
     ensures { IfOk result (IsBeginning (tokens_of stretch.entry) cursor.now) }
 {
     let heads = heads(alloc, &front.definitions)?;
-    let mut beginning = open(alloc, stretch, &heads, front)?;
-    add_node(
-        alloc,
-        &beginning.known,
-        &heads,
-        stretch,
-        &front.first,
-        &mut beginning.found,
-    )?;
-    beginning.found.tokens = (stretch.count - cursor.left()) as u32;
-    Ok(beginning)
+    begun_with(alloc, stretch, &heads, front, cursor)
 }
 
 /// Reads a text up to its first node, and that too: what stands there.
@@ -120,8 +137,11 @@ pub fn begin(
     requires cursor { cursor.old ≡ map word_of (tokens_of stretch) }
     ensures { Begins (tokens_of stretch.entry) cursor.new result }
 {
-    let front = read_front(alloc, cursor)?;
-    match begun(alloc, stretch, &front, cursor) {
+    let begun = {
+        let front = read_front(alloc, cursor)?;
+        begun(alloc, stretch, &front, cursor)
+    };
+    match begun {
         Ok(beginning) => Ok(beginning),
         Err(OutOfMemory) => Err(Refusal::OutOfMemory),
     }

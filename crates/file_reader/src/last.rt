@@ -8,7 +8,7 @@ ghost use Rattle.file_reader.specs.Knowns.{begun_in, IsHeads, IsSteady};
 ghost use Rattle.file_reader.specs.Stretches.{IsStretch};
 ghost use Rattle.file_reader.specs.Lasts.{StandsIn, Lasts, Ends, comes_to};
 
-use crate::adding::add_node;
+use crate::adding::add_statement;
 use crate::known::{Found, Known, known_heads};
 use crate::part::KEPT;
 use crate::stretch::Stretch;
@@ -16,7 +16,7 @@ use cyc_grammar::{Cursor, Refusal};
 use cyc_lex::{OutOfMemory, ReadFault};
 use heap_reader::Heads;
 use proof_file::{ProofFile, file_of_values};
-use proof_statements::{NodeOrEnd, kept_node_or_end};
+use proof_statements::kept_node_or_end;
 use std::alloc::Global;
 
 /// Reads the nodes that are left, and the last statement.
@@ -32,25 +32,19 @@ fn read_left(
     requires heads { IsHeads known.now heads.now }
     requires steady { IsSteady known.now found.old }
     requires stands { StandsIn stretch found.old.tokens cursor.old }
-    requires going { found.old.ended ≡ false }
     ensures { Lasts known.now stretch.entry found.old found.new cursor.new result }
 {
-    'nodes: loop {
-        match kept_node_or_end(alloc, KEPT, cursor)? {
-            NodeOrEnd::Node(tree) => {
-                match add_node(alloc, known, heads, stretch, &tree, found) {
-                    Ok(()) => {}
-                    Err(OutOfMemory) => return Err(Refusal::OutOfMemory),
-                }
-                found.tokens = stretch.before + (stretch.count - cursor.left()) as u32;
-            }
-            NodeOrEnd::End => {
-                found.tokens = stretch.before + (stretch.count - cursor.left()) as u32;
-                found.ended = true;
-                return Ok(());
-            }
+    'nodes: while !found.ended {
+        let added = {
+            let statement = kept_node_or_end(alloc, KEPT, cursor)?;
+            add_statement(alloc, known, heads, stretch, &statement, cursor, found)
+        };
+        match added {
+            Ok(()) => {}
+            Err(OutOfMemory) => return Err(Refusal::OutOfMemory),
         }
     }
+    Ok(())
 }
 
 /// Reads the statements that are left, if the last one did not come.

@@ -1,15 +1,18 @@
 //! Nodes as they come, statement by statement.
 
-ghost use Rattle.std.specs.Prelude.{◌≡◌, ◌≤◌, IfOk, false, length, map, true};
+ghost use Rattle.std.specs.Prelude.{◌≡◌, ◌≤◌, IfOk, Ok, false, length, map, true};
 ghost use Rattle.cyc_lex.specs.Lexing.{HasRoom};
 ghost use Rattle.cyc_lex.specs.Placed.{placed};
 ghost use Rattle.cyc_lex.specs.Word.{word_of};
 ghost use Rattle.cyc_grammar.specs.Classes.{are_tokens};
+ghost use Rattle.proof_statements.specs.Left.{Nodes, kept_statement};
+ghost use Rattle.proof_statements.specs.Trees.{node_or_end_of};
+ghost use Rattle.file_reader.specs.Fronts.{kept};
 ghost use Rattle.file_reader.specs.Stretches.{IsStretch, tokens_of};
 ghost use Rattle.file_reader.specs.Knowns.{IsHeads, IsSteady};
 ghost use Rattle.file_reader.specs.Runs.{IsRefused, IsStep, Runs};
 
-use crate::adding::add_node;
+use crate::adding::add_statement;
 use crate::known::{Found, Known};
 use crate::part::KEPT;
 use crate::stretch::Stretch;
@@ -54,6 +57,32 @@ fn refused(refusal: Refusal) -> Result<Step, OutOfMemory>
     }
 }
 
+/// Takes a statement that was read of these tokens up to the cursor, if none is left.
+fn take_whole(
+    alloc: Global,
+    known: &Known,
+    heads: &Heads<'_>,
+    stretch: Stretch<'_>,
+    statement: &NodeOrEnd<'_>,
+    cursor: &Cursor<'_, '_>,
+    found: &mut Found,
+) -> Result<Step, OutOfMemory>
+    requires stretch { IsStretch stretch }
+    requires heads { IsHeads known.now heads.now }
+    requires steady { IsSteady known.now found.old }
+    requires here { stretch.before ≡ found.old.tokens }
+    requires going { found.old.ended ≡ false }
+    requires read { (kept_statement kept Nodes).read (map word_of (tokens_of stretch))
+        ≡ Ok (node_or_end_of statement.now, cursor.now) }
+    ensures { IfOk result (IsStep known.now (tokens_of stretch.entry) found.old found.new) }
+{
+    if cursor.left() > 0 {
+        return Ok(Step::Open);
+    }
+    add_statement(alloc, known, heads, stretch, statement, cursor, found)?;
+    Ok(Step::Taken)
+}
+
 /// Takes a node, or the last statement.
 fn take_node(
     alloc: Global,
@@ -72,24 +101,9 @@ fn take_node(
     ensures { IfOk result (IsStep known.now (tokens_of stretch.entry) found.old found.new) }
 {
     let mut cursor = cursor;
-    let statement = match kept_node_or_end(alloc, KEPT, &mut cursor) {
-        Ok(statement) => statement,
-        Err(refusal) => return refused(refusal),
-    };
-    if cursor.left() > 0 {
-        return Ok(Step::Open);
-    }
-    match statement {
-        NodeOrEnd::Node(tree) => {
-            add_node(alloc, known, heads, stretch, &tree, found)?;
-            found.tokens += stretch.count as u32;
-            Ok(Step::Taken)
-        }
-        NodeOrEnd::End => {
-            found.tokens += stretch.count as u32;
-            found.ended = true;
-            Ok(Step::Taken)
-        }
+    match kept_node_or_end(alloc, KEPT, &mut cursor) {
+        Ok(statement) => take_whole(alloc, known, heads, stretch, &statement, &cursor, found),
+        Err(refusal) => refused(refusal),
     }
 }
 
