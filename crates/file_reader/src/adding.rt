@@ -1,16 +1,16 @@
-//! A statement as it comes: a node's value, or its first flaw; or the end of the nodes.
+//! A statement as it comes: the value of a node, or its first flaw; or the last statement.
 
 ghost use Rattle.std.specs.Prelude.{◌≡◌, ◌≤◌, ◌+◌, ◌-◌, IfOk, None, Ok, false, length, map, take};
 ghost use Rattle.cyc_lex.specs.Word.{word_of};
 ghost use Rattle.cyc_limits.specs.declared.TheConstants.{MOST_PREDICATES};
 ghost use Rattle.proof_syntax.specs.Grammar.{node};
 ghost use Rattle.proof_syntax.specs.Trees.{node_of};
-ghost use Rattle.proof_file.specs.Spans.{node_span};
-ghost use Rattle.file_reader.specs.Stretches.{IsStretch, tokens_of};
-ghost use Rattle.file_reader.specs.Knowns.{IsAdded, IsHeads, IsSteady};
 ghost use Rattle.proof_statements.specs.Left.{Nodes, kept_statement};
 ghost use Rattle.proof_statements.specs.Trees.{node_or_end_of};
+ghost use Rattle.proof_file.specs.Spans.{node_span};
 ghost use Rattle.file_reader.specs.Fronts.{kept};
+ghost use Rattle.file_reader.specs.Stretches.{IsStretch, tokens_of};
+ghost use Rattle.file_reader.specs.Knowns.{IsAdded, IsHeads, IsSteady};
 ghost use Rattle.file_reader.specs.Runs.{IsStepTaken};
 ghost use Rattle.file_reader.specs.Lasts.{StandsIn, left_from};
 

@@ -137,10 +137,9 @@ pub fn begin(
     requires cursor { cursor.old ≡ map word_of (tokens_of stretch) }
     ensures { Begins (tokens_of stretch.entry) cursor.new result }
 {
-    let begun = {
-        let front = read_front(alloc, cursor)?;
-        begun(alloc, stretch, &front, cursor)
-    };
+    let front = read_front(alloc, cursor)?;
+    let begun = begun(alloc, stretch, &front, cursor);
+    drop(front);
     match begun {
         Ok(beginning) => Ok(beginning),
         Err(OutOfMemory) => Err(Refusal::OutOfMemory),

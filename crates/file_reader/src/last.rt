@@ -35,10 +35,9 @@ fn read_left(
     ensures { Lasts known.now stretch.entry found.old found.new cursor.new result }
 {
     'nodes: while !found.ended {
-        let added = {
-            let statement = kept_node_or_end(alloc, KEPT, cursor)?;
-            add_statement(alloc, known, heads, stretch, &statement, cursor, found)
-        };
+        let statement = kept_node_or_end(alloc, KEPT, cursor)?;
+        let added = add_statement(alloc, known, heads, stretch, &statement, cursor, found);
+        drop(statement);
         match added {
             Ok(()) => {}
             Err(OutOfMemory) => return Err(Refusal::OutOfMemory),

@@ -102,7 +102,11 @@ fn take_node(
 {
     let mut cursor = cursor;
     match kept_node_or_end(alloc, KEPT, &mut cursor) {
-        Ok(statement) => take_whole(alloc, known, heads, stretch, &statement, &cursor, found),
+        Ok(statement) => {
+            let taken = take_whole(alloc, known, heads, stretch, &statement, &cursor, found);
+            drop(statement);
+            taken
+        }
         Err(refusal) => refused(refusal),
     }
 }

@@ -1,4 +1,3 @@
-use Rattle.std.proofs.Common.{◌≡◌, ◌∙◌}
 use Rattle.std.proofs.lemmas.Result.{err_from_is_err_and}
 use Rattle.proof_statements.specs.Trees.{node_or_end_of}
 use Rattle.file_reader.specs.Lasts.{comes_to}

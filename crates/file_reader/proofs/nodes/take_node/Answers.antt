@@ -7,8 +7,8 @@ use Rattle.file_reader.specs.Stretches.{tokens_of}
 use Rattle.file_reader.proofs.RunLaws.{node-refused}
 use Rattle.file_reader.proofs.nodes.take_node.Goals as goal
 
-pub take_whole-requires-clause-read : goal.take_whole-requires-clause-read
-take_whole-requires-clause-read c = ap (λ (ws : List Word). (kept_statement kept Nodes).read ws) (sym c.requires.cursor) ∙ c.in-Ok.ensures
+pub take_whole-taken-requires-clause-read : goal.take_whole-taken-requires-clause-read
+take_whole-taken-requires-clause-read c = ap (λ (ws : List Word). (kept_statement kept Nodes).read ws) (sym c.requires.cursor) ∙ c.in-Ok.ensures
 
 pub returns-in-Err : goal.returns-in-Err
 returns-in-Err c =
