@@ -33,21 +33,28 @@ fn cells(alloc: Global, last: u64, end: u64) -> Result<Cells, OutOfMemory> {
     Ok(cells)
 }
 
+/// Whether so many cells, of which the last leads to the end, are the list that is asked for.
+fn holds(alloc: Global, model: &Model, last: u64, end: u64) -> Result<bool, Fail> {
+    if constructive(alloc, &model.defs, &model.ask)?.is_some() {
+        return Err(Fail::from("not constructive"));
+    }
+    let cells = cells(alloc, last, end)?;
+    Ok(satisfied(alloc, &model.defs, &model.stack, &cells, &model.ask)?)
+}
+
+fn is_list(alloc: Global, last: u64, end: u64) -> Result<bool, Fail> {
+    let model = list(alloc, LIST)?;
+    holds(alloc, &model, last, end)
+}
+
 /// Where the last of so many cells leads, and whether the list holds.
 static ENDS: &[(u64, u64, bool)] = &[(2000, 0, true), (2000, 7, false)];
 
 /// A list of 2,000 cells is one where it ends, in little time.
 #[test]
 fn a_long_list_is_one(rt: HostRuntime) -> Result<(), Fail> {
-    let alloc = rt.alloc();
-    let model = list(alloc, LIST)?;
-    if constructive(alloc, &model.defs, &model.ask)?.is_some() {
-        return Err(Fail::from("not constructive"));
-    }
     for (last, end, wanted) in ENDS {
-        let cells = cells(alloc, *last, *end)?;
-        let holds = satisfied(alloc, &model.defs, &model.stack, &cells, &model.ask)?;
-        assert_eq!(rt; holds, *wanted);
+        assert!(rt; is_list(rt.alloc(), *last, *end)? == *wanted);
     }
     Ok(())
 }
