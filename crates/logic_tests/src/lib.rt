@@ -12,6 +12,8 @@ mod given;
 #[cfg(test)]
 mod goto_lang_tests;
 #[cfg(test)]
+mod graphs;
+#[cfg(test)]
 mod sat_pairs_tests;
 #[cfg(test)]
 mod search_moves_tests;

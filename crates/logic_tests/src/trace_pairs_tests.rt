@@ -1,34 +1,11 @@
 //! Lassos of small graphs, and of graphs of proofs.
+use crate::graphs::{Nodes, graph_of};
 use std::alloc::Global;
 use std::test::Fail;
-use trace_pairs::{
-    Edge, Lasso, Node, OutOfMemory, Step, TraceGraph, is_graph, is_lasso, lasso_progresses,
-};
-
-/// For each edge of a node its target and its pairs.
-type Edges = &'static [(u32, &'static [(u8, u8, bool)])];
-
-/// For each node its positions and its edges.
-type Nodes = &'static [(&'static [u8], Edges)];
+use trace_pairs::{Lasso, OutOfMemory, Step, TraceGraph, is_graph, is_lasso, lasso_progresses};
 
 /// A stem, a cycle, and whether they progress; none where they are no lasso.
 type Case = (&'static [(u32, u8)], &'static [(u32, u8)], Option<bool>);
-
-fn node_of(alloc: Global, positions: &[u8], edges: Edges) -> Result<Node, OutOfMemory> {
-    let mut list = Vec::new(alloc);
-    for (target, pairs) in edges {
-        list.push(Edge::new(*target, pairs.to_vec(alloc)?))?;
-    }
-    Ok(Node::new(positions.to_vec(alloc)?, list))
-}
-
-fn graph_of(alloc: Global, nodes: Nodes) -> Result<TraceGraph, OutOfMemory> {
-    let mut graph = TraceGraph::new(alloc);
-    for (positions, edges) in nodes {
-        graph.push(node_of(alloc, positions, edges)?)?;
-    }
-    Ok(graph)
-}
 
 fn steps_of(alloc: Global, steps: &[(u32, u8)]) -> Result<Vec<Step>, OutOfMemory> {
     let mut list = Vec::new(alloc);
@@ -64,7 +41,7 @@ fn all_right(alloc: Global, nodes: Nodes, cases: &'static [Case]) -> Result<bool
     Ok(true)
 }
 
-static MIXED: Nodes = &[
+const MIXED: Nodes = &[
     (&[0, 1], &[(1, &[(0, 0, false)]), (1, &[(0, 1, true)])]),
     (
         &[0, 1],
@@ -73,7 +50,7 @@ static MIXED: Nodes = &[
     (&[0, 1], &[(1, &[(1, 0, false)]), (1, &[(0, 0, true)])]),
 ];
 
-static MIXED_CASES: &[Case] = &[
+const MIXED_CASES: &[Case] = &[
     (&[(0, 0)], &[(1, 0)], Some(true)),
     (&[(0, 1)], &[(1, 1), (2, 0)], Some(true)),
     (&[(0, 1)], &[(1, 1), (2, 1)], Some(false)),
@@ -87,16 +64,8 @@ static MIXED_CASES: &[Case] = &[
     (&[(3, 0)], &[(1, 0)], None),
 ];
 
-#[test]
-fn lassos(rt: HostRuntime) -> Result<(), Fail> {
-    let alloc = rt.alloc();
-    assert!(rt; !is_graph(&TraceGraph::new(alloc)));
-    assert!(rt; all_right(alloc, MIXED, MIXED_CASES)?);
-    Ok(())
-}
-
 // Two segments of a list make one: the unfolded segment comes back, one cell shorter, as the first of the two.
-static SEGMENTS: Nodes = &[
+const SEGMENTS: Nodes = &[
     (
         &[0, 1],
         &[(1, &[(1, 0, false)]), (4, &[(1, 0, false), (0, 2, true)])],
@@ -110,7 +79,7 @@ static SEGMENTS: Nodes = &[
     (&[0, 1], &[(0, &[(1, 0, false), (0, 1, false)])]),
 ];
 
-static SEGMENTS_CASES: &[Case] = &[
+const SEGMENTS_CASES: &[Case] = &[
     (&[], &[(0, 1), (4, 0), (5, 0), (6, 0), (7, 0)], Some(true)),
     (
         &[(0, 1), (4, 0)],
@@ -120,33 +89,19 @@ static SEGMENTS_CASES: &[Case] = &[
     (&[], &[(0, 0), (1, 0), (2, 0)], None),
 ];
 
-#[test]
-fn segments_compose(rt: HostRuntime) -> Result<(), Fail> {
-    let alloc = rt.alloc();
-    assert!(rt; all_right(alloc, SEGMENTS, SEGMENTS_CASES)?);
-    Ok(())
-}
-
 // A list is weakened and linked back, and nothing is unfolded.
-static WEAKENED: Nodes = &[
+const WEAKENED: Nodes = &[
     (&[0], &[(1, &[(0, 0, false)])]),
     (&[0], &[(0, &[(0, 0, false)])]),
 ];
 
-static WEAKENED_CASES: &[Case] = &[
+const WEAKENED_CASES: &[Case] = &[
     (&[], &[(0, 0), (1, 0)], Some(false)),
     (&[(0, 0)], &[(1, 0), (0, 0)], Some(false)),
 ];
 
-#[test]
-fn weakened_for_ever(rt: HostRuntime) -> Result<(), Fail> {
-    let alloc = rt.alloc();
-    assert!(rt; all_right(alloc, WEAKENED, WEAKENED_CASES)?);
-    Ok(())
-}
-
 // Two lists hand each other their cells: each loop alone progresses, and taken in turn they don't.
-static ALTERNATING: Nodes = &[
+const ALTERNATING: Nodes = &[
     (
         &[0, 1],
         &[(1, &[(1, 0, false)]), (12, &[(1, 0, false), (0, 2, true)])],
@@ -172,7 +127,7 @@ static ALTERNATING: Nodes = &[
     (&[0, 1], &[(0, &[(0, 0, false), (1, 1, false)])]),
 ];
 
-static ALTERNATING_CASES: &[Case] = &[
+const ALTERNATING_CASES: &[Case] = &[
     (&[], &[(0, 1), (12, 1), (19, 0)], Some(true)),
     (&[], &[(0, 0), (1, 1), (3, 1), (11, 0)], Some(true)),
     (
@@ -183,9 +138,19 @@ static ALTERNATING_CASES: &[Case] = &[
     (&[(0, 1), (12, 1)], &[(19, 0), (0, 1), (12, 1)], Some(true)),
 ];
 
+static GRAPHS: &[(Nodes, &[Case])] = &[
+    (MIXED, MIXED_CASES),
+    (SEGMENTS, SEGMENTS_CASES),
+    (WEAKENED, WEAKENED_CASES),
+    (ALTERNATING, ALTERNATING_CASES),
+];
+
 #[test]
-fn lists_that_alternate(rt: HostRuntime) -> Result<(), Fail> {
+fn lassos(rt: HostRuntime) -> Result<(), Fail> {
     let alloc = rt.alloc();
-    assert!(rt; all_right(alloc, ALTERNATING, ALTERNATING_CASES)?);
+    assert!(rt; !is_graph(&TraceGraph::new(alloc)));
+    for (number, (nodes, cases)) in GRAPHS.iter().enumerate() {
+        assert!(rt; all_right(alloc, nodes, cases)?, "graph {number}");
+    }
     Ok(())
 }
