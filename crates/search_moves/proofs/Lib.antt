@@ -7,3 +7,6 @@ pub mod Unlinked
 pub mod LeftNumbers
 mod LeftOpen
 mod OfferedParts
+mod OnceEach
+mod Keeping
+mod OneDisjunct

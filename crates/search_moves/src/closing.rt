@@ -75,6 +75,5 @@ pub fn closing_rules(
     if heaps.len() != 1 {
         return Ok(Vec::new(alloc));
     }
-    let rules = rule_alone(alloc, at, Rule::Done)?;
-    Ok(rules)
+    rule_alone(alloc, at, Rule::Done)
 }

@@ -1,29 +1,58 @@
 // The rules at an entailment, line by line: the first line that applies gives all offers.
-ghost use Rattle.std.specs.Prelude.{◌≡◌, ◌≤◌, ◌++◌, ◌∷◌, [], ℕ, IfOk, length};
+ghost use Rattle.std.specs.Prelude.{◌≡◌, ◌≤◌, ◌∷◌, [], ℕ, IfOk, length};
 ghost use Rattle.std.specs.List.{filter};
 ghost use Rattle.heap_formula.specs.Meaning.{cases_of};
 ghost use Rattle.search_moves.specs.Trying.{goes as goes_at};
 ghost use Rattle.search_moves.specs.Settings.{theory_of};
-ghost use Rattle.search_moves.specs.Entailments.{last_line, instance_line, single_line, several_line, entailment_before, entailment_after};
+ghost use Rattle.search_moves.specs.Entailments.{last_line, several_line, entailment_before, entailment_after};
+ghost use Rattle.search_moves.specs.Lines.{rules_on as rules_on_line, offered_from};
 
 use crate::distincts::distincts;
-use crate::instances::{argument_instances, equation_instances, field_instances, instance_rules};
-use crate::places::{cell_frames, choices, predicate_frames, pure_rights, rewrites, unfolds};
-use crate::right_cases::right_unfolds;
-use crate::setting::{Setting, first_that_goes, goes, those_that_go};
+use crate::instances::{argument_rules, equation_rules, field_rules};
+use crate::places::{cell_frames, choices, predicate_frames, pure_rights, push_unfolds, rewrites};
+use crate::right_cases::push_right_unfolds;
+use crate::setting::{Setting, first_that_goes, those_that_go};
 use cyc_memory::OutOfMemory;
 use heap_formula::{Heap, Rule};
 use std::alloc::Global;
+
+/// A line of rules with one disjunct, of which the first without a fault is offered.
+#[derive(Clone, Copy)]
+enum Line {
+    End,
+    PureRights,
+    Distincts,
+    CellFrames,
+    Equations,
+    Fields,
+    PredicateFrames,
+}
+
+/// The lines in their order.
+const LINES: [Line; 7] = [
+    Line::End,
+    Line::PureRights,
+    Line::Distincts,
+    Line::CellFrames,
+    Line::Equations,
+    Line::Fields,
+    Line::PredicateFrames,
+];
+
+fn alone(alloc: Global, rule: Rule) -> Result<Vec<Rule>, OutOfMemory>
+    ensures { IfOk result (λ v. v.items ≡ rule ∷ []) }
+{
+    let mut rules = Vec::new(alloc);
+    rules.push(rule)?;
+    Ok(rules)
+}
 
 /// The one rule, if it has no fault.
 pub fn rule_alone(alloc: Global, at: &Setting<'_>, rule: Rule) -> Result<Vec<Rule>, OutOfMemory>
     ensures { IfOk result (λ v. v.items ≡ filter (goes_at (theory_of at.now) at.now.judgement.now) (rule ∷ [])) }
 {
-    let mut rules = Vec::new(alloc);
-    if goes(alloc, at, &rule)? {
-        rules.push(rule)?;
-    }
-    Ok(rules)
+    let rules = alone(alloc, rule)?;
+    those_that_go(alloc, at, rules)
 }
 
 /// What goes before links at an entailment.
@@ -37,19 +66,6 @@ pub fn rules_before(alloc: Global, at: &Setting<'_>, left: &Heap) -> Result<Vec<
     rewrites(alloc, left.pure())
 }
 
-/// The rules after others.
-pub fn joined(mut rules: Vec<Rule>, more: Vec<Rule>) -> Result<Vec<Rule>, OutOfMemory>
-    ensures { IfOk result (λ v. v.items ≡ rules.items ++ more.items) }
-{
-    if rules.is_empty() {
-        return Ok(more);
-    }
-    for rule in more {
-        rules.push(rule)?;
-    }
-    Ok(rules)
-}
-
 /// Instances by arguments, cases of the right side, and unfolding on the left.
 fn last_rules(
     alloc: Global,
@@ -60,69 +76,46 @@ fn last_rules(
     requires cases { (q : ℕ) → length (cases_of at.now.defs.now.list q) ≤ 65536 }
     ensures { IfOk result (λ v. v.items ≡ last_line (theory_of at.now) at.now.judgement.now left.now right.now) }
 {
-    let instances = argument_instances(alloc, left.spatial(), right.spatial())?;
-    let rules = instance_rules(alloc, &instances)?;
-    let rules = joined(rules, right_unfolds(alloc, at, left, right.spatial())?)?;
-    let rules = joined(rules, unfolds(alloc, left.spatial())?)?;
+    let mut rules = argument_rules(alloc, left.spatial(), right.spatial())?;
+    push_right_unfolds(&mut rules, alloc, at, left, right.spatial())?;
+    push_unfolds(&mut rules, left.spatial())?;
     those_that_go(alloc, at, rules)
 }
 
-/// Instances by equations, by fields, predicates that are framed, and the last rules.
-fn instance_offers(
-    alloc: Global,
-    at: &Setting<'_>,
-    left: &Heap,
-    right: &Heap,
-) -> Result<Vec<Rule>, OutOfMemory>
-    requires cases { (q : ℕ) → length (cases_of at.now.defs.now.list q) ≤ 65536 }
-    ensures { IfOk result (λ v. v.items ≡ instance_line (theory_of at.now) at.now.judgement.now left.now right.now) }
+/// The rules of a line, with and without a fault.
+fn rules_on(alloc: Global, left: &Heap, right: &Heap, line: Line) -> Result<Vec<Rule>, OutOfMemory>
+    ensures { IfOk result (λ v. v.items ≡ rules_on_line left.now right.now line) }
 {
-    let instances = equation_instances(alloc, right.pure())?;
-    let rules = first_that_goes(alloc, at, instance_rules(alloc, &instances)?)?;
-    if !rules.is_empty() {
-        return Ok(rules);
+    match line {
+        Line::End => alone(alloc, Rule::Done),
+        Line::PureRights => pure_rights(alloc, right.pure()),
+        Line::Distincts => distincts(alloc, left.spatial(), right.pure()),
+        Line::CellFrames => cell_frames(alloc, left.spatial(), right.spatial()),
+        Line::Equations => equation_rules(alloc, right.pure()),
+        Line::Fields => field_rules(alloc, left.spatial(), right.spatial()),
+        Line::PredicateFrames => predicate_frames(alloc, left.spatial(), right.spatial()),
     }
-    let instances = field_instances(alloc, left.spatial(), right.spatial())?;
-    let rules = first_that_goes(alloc, at, instance_rules(alloc, &instances)?)?;
-    if !rules.is_empty() {
-        return Ok(rules);
-    }
-    let frames = predicate_frames(alloc, left.spatial(), right.spatial())?;
-    let rules = first_that_goes(alloc, at, frames)?;
-    if !rules.is_empty() {
-        return Ok(rules);
-    }
-    last_rules(alloc, at, left, right)
 }
 
-/// The rules with one disjunct.
-fn single_offers(
+/// The rules with one disjunct, from these lines on.
+fn offers_from(
     alloc: Global,
     at: &Setting<'_>,
     left: &Heap,
     right: &Heap,
+    lines: &[Line],
 ) -> Result<Vec<Rule>, OutOfMemory>
     requires cases { (q : ℕ) → length (cases_of at.now.defs.now.list q) ≤ 65536 }
-    ensures { IfOk result (λ v. v.items ≡ single_line (theory_of at.now) at.now.judgement.now left.now right.now) }
+    ensures { IfOk result (λ v. v.items
+        ≡ offered_from (theory_of at.now) at.now.judgement.now left.now right.now lines.now) }
 {
-    let rules = rule_alone(alloc, at, Rule::Done)?;
-    if !rules.is_empty() {
-        return Ok(rules);
+    for line in lines {
+        let rules = first_that_goes(alloc, at, rules_on(alloc, left, right, *line)?)?;
+        if !rules.is_empty() {
+            return Ok(rules);
+        }
     }
-    let rules = first_that_goes(alloc, at, pure_rights(alloc, right.pure())?)?;
-    if !rules.is_empty() {
-        return Ok(rules);
-    }
-    let rules = first_that_goes(alloc, at, distincts(alloc, left.spatial(), right.pure())?)?;
-    if !rules.is_empty() {
-        return Ok(rules);
-    }
-    let frames = cell_frames(alloc, left.spatial(), right.spatial())?;
-    let rules = first_that_goes(alloc, at, frames)?;
-    if !rules.is_empty() {
-        return Ok(rules);
-    }
-    instance_offers(alloc, at, left, right)
+    last_rules(alloc, at, left, right)
 }
 
 /// The rules with several disjuncts.
@@ -135,7 +128,8 @@ fn several_offers(
     requires few { length heaps.now ≤ 64 }
     ensures { IfOk result (λ v. v.items ≡ several_line (theory_of at.now) at.now.judgement.now left.now heaps.now) }
 {
-    let rules = joined(choices(alloc, heaps)?, unfolds(alloc, left.spatial())?)?;
+    let mut rules = choices(alloc, heaps)?;
+    push_unfolds(&mut rules, left.spatial())?;
     those_that_go(alloc, at, rules)
 }
 
@@ -152,7 +146,7 @@ pub fn rules_after(
 {
     match heaps {
         [] => Ok(Vec::new(alloc)),
-        [right] => single_offers(alloc, at, left, right),
+        [right] => offers_from(alloc, at, left, right, &LINES),
         _ => several_offers(alloc, at, left, heaps),
     }
 }

@@ -3,7 +3,7 @@ ghost use Rattle.std.specs.Prelude.{◌≡◌, ◌++◌, ◌||◌, not, IfOk, On
 ghost use Rattle.rule_table.specs.Tests.{is_universal as is_universal_term, same_term as same_terms};
 ghost use Rattle.std.specs.List.{list_any};
 ghost use Rattle.fold_offers.specs.Places.{each_of};
-ghost use Rattle.search_moves.specs.Entailments.{equation_instance as equation_instance_of, equation_instances as equation_instances_of, instance_at as instance_at_place, first_instance as first_instance_of, field_instance as field_instance_of, fields_with, field_instances as field_instances_of, agree as agree_on, argument_instance as argument_instance_of, arguments_with, same_instance, once, argument_instances as argument_instances_of, instance_rule};
+ghost use Rattle.search_moves.specs.Entailments.{equation_instance as equation_instance_of, equation_instances, instance_at as instance_at_place, first_instance as first_instance_of, field_instance as field_instance_of, fields_with, field_instances, agree as agree_on, argument_instance as argument_instance_of, arguments_with, same_instance, once, argument_instances as argument_instances_of, instance_rule};
 
 use cyc_memory::OutOfMemory;
 use heap_formula::{Pure, Rule, Spatial, Term};
@@ -105,76 +105,47 @@ fn argument_instance(left: &Spatial, right: &Spatial) -> Option<Instance>
     }
 }
 
-/// By each such equation.
-pub fn equation_instances(alloc: Global, pures: &[Pure]) -> Result<Vec<Instance>, OutOfMemory>
-    ensures { IfOk result (λ v. v.items ≡ equation_instances_of pures.now) }
+/// Instantiate by each such equation.
+pub fn equation_rules(alloc: Global, pures: &[Pure]) -> Result<Vec<Rule>, OutOfMemory>
+    ensures { IfOk result (λ v. v.items ≡ map instance_rule (equation_instances pures.now)) }
 {
-    let mut instances = Vec::new(alloc);
+    let mut rules = Vec::new(alloc);
     for atom in pures {
         if let Some(instance) = equation_instance(*atom) {
-            instances.push(instance)?;
+            rules.push(Rule::Instantiate(instance.variable, instance.term))?;
         }
     }
-    Ok(instances)
+    Ok(rules)
 }
 
-fn push_field_instances(
-    instances: &mut Vec<Instance>,
+fn push_field_rules(
+    rules: &mut Vec<Rule>,
     left: &Spatial,
     right: &[Spatial],
 ) -> Result<(), OutOfMemory>
-    ensures { OnOk result (instances.new.items ≡ instances.old.items ++ fields_with right.now left.now) }
+    ensures { OnOk result (rules.new.items ≡ rules.old.items ++ map instance_rule (fields_with right.now left.now)) }
 {
     for atom in right {
         if let Some(instance) = field_instance(left, atom) {
-            instances.push(instance)?;
+            rules.push(Rule::Instantiate(instance.variable, instance.term))?;
         }
     }
     Ok(())
 }
 
-/// By the fields of the left cells, for those of the right cells.
-pub fn field_instances(
+/// Instantiate by the fields of the left cells, for those of the right cells.
+pub fn field_rules(
     alloc: Global,
     left: &[Spatial],
     right: &[Spatial],
-) -> Result<Vec<Instance>, OutOfMemory>
-    ensures { IfOk result (λ v. v.items ≡ field_instances_of left.now right.now) }
+) -> Result<Vec<Rule>, OutOfMemory>
+    ensures { IfOk result (λ v. v.items ≡ map instance_rule (field_instances left.now right.now)) }
 {
-    let mut instances = Vec::new(alloc);
+    let mut rules = Vec::new(alloc);
     for atom in left {
-        push_field_instances(&mut instances, atom, right)?;
+        push_field_rules(&mut rules, atom, right)?;
     }
-    Ok(instances)
-}
-
-fn push_argument_instances(
-    instances: &mut Vec<Instance>,
-    left: &[Spatial],
-    right: &Spatial,
-) -> Result<(), OutOfMemory>
-    ensures { OnOk result (instances.new.items ≡ instances.old.items ++ arguments_with left.now right.now) }
-{
-    for atom in left {
-        if let Some(instance) = argument_instance(atom, right) {
-            instances.push(instance)?;
-        }
-    }
-    Ok(())
-}
-
-fn all_argument_instances(
-    alloc: Global,
-    left: &[Spatial],
-    right: &[Spatial],
-) -> Result<Vec<Instance>, OutOfMemory>
-    ensures { IfOk result (λ v. v.items ≡ each_of (arguments_with left.now) right.now) }
-{
-    let mut instances = Vec::new(alloc);
-    for atom in right {
-        push_argument_instances(&mut instances, left, atom)?;
-    }
-    Ok(instances)
+    Ok(rules)
 }
 
 fn is_among(instances: &[Instance], instance: Instance) -> bool
@@ -188,26 +159,53 @@ fn is_among(instances: &[Instance], instance: Instance) -> bool
     false
 }
 
+/// Appends the instances by the left atoms that are not among them yet.
+fn push_argument_instances(
+    instances: &mut Vec<Instance>,
+    left: &[Spatial],
+    right: &Spatial,
+) -> Result<(), OutOfMemory>
+    ensures { OnOk result (instances.new.items ≡ once instances.old.items (arguments_with left.now right.now)) }
+{
+    for atom in left {
+        if let Some(instance) = argument_instance(atom, right) {
+            if !is_among(instances.as_slice(), instance) {
+                instances.push(instance)?;
+            }
+        }
+    }
+    Ok(())
+}
+
 /// By the arguments of the left atoms, for those of the right atoms; each instance once.
-pub fn argument_instances(
+fn argument_instances(
     alloc: Global,
     left: &[Spatial],
     right: &[Spatial],
 ) -> Result<Vec<Instance>, OutOfMemory>
     ensures { IfOk result (λ v. v.items ≡ argument_instances_of left.now right.now) }
 {
-    let all = all_argument_instances(alloc, left, right)?;
     let mut instances = Vec::new(alloc);
-    for instance in &all {
-        if !is_among(&instances, *instance) {
-            instances.push(*instance)?;
-        }
+    for atom in right {
+        push_argument_instances(&mut instances, left, atom)?;
     }
     Ok(instances)
 }
 
+/// Instantiate by the arguments of the left atoms, for those of the right atoms; each rule once.
+pub fn argument_rules(
+    alloc: Global,
+    left: &[Spatial],
+    right: &[Spatial],
+) -> Result<Vec<Rule>, OutOfMemory>
+    ensures { IfOk result (λ v. v.items ≡ map instance_rule (argument_instances_of left.now right.now)) }
+{
+    let instances = argument_instances(alloc, left, right)?;
+    instance_rules(alloc, &instances)
+}
+
 /// The instances as rules.
-pub fn instance_rules(alloc: Global, instances: &[Instance]) -> Result<Vec<Rule>, OutOfMemory>
+fn instance_rules(alloc: Global, instances: &[Instance]) -> Result<Vec<Rule>, OutOfMemory>
     ensures { IfOk result (λ v. v.items ≡ map instance_rule instances.now) }
 {
     let mut rules = Vec::new(alloc);

@@ -7,7 +7,7 @@ ghost use Rattle.proof_graph.specs.Nodes.{HasJudgement};
 ghost use Rattle.search_moves.specs.Closing.{CloseAlike, IsPart, OffersClosing, OffersPart};
 ghost use Rattle.search_moves.specs.Limits.{IsSmall};
 ghost use Rattle.search_moves.specs.Settings.{theory_of, theory};
-ghost use Rattle.search_moves.specs.Offering.{rules_before as rules_before_links, rules_after as rules_after_links, OffersLinks, OffersRules};
+ghost use Rattle.search_moves.specs.Offering.{candidates as candidates_of, rules_before as rules_before_links, rules_after as rules_after_links, OffersLinks, OffersRules};
 
 use crate::closing::{closing_rules, have_cases};
 use crate::companions::candidates;
@@ -70,11 +70,25 @@ fn closing_rules_after(
         Judgement::Entail(left, right) if have_cases(at.defs, left.spatial()) => {
             closing_rules(alloc, at, left, right.heaps())
         }
-        _ => {
-            let rules = rules_after(alloc, at, graph, goal)?;
-            Ok(rules)
-        }
+        _ => rules_after(alloc, at, graph, goal),
     }
+}
+
+/// These rules, beside the links to be tried.
+fn beside_links(
+    alloc: Global,
+    at: &Setting<'_>,
+    graph: &Graph<'_>,
+    goal: u32,
+    rules: Vec<Rule>,
+) -> Result<Offers, OutOfMemory>
+    requires goal { goal < length graph.now }
+    ensures links { IfOk result (λ o. o.links.items
+        ≡ candidates_of at.now.program.now graph.now goal at.now.judgement.now) }
+    ensures rules { IfOk result (λ o. o.rules.items ≡ rules.items) }
+{
+    let links = candidates(alloc, at.program, graph, goal, at.judgement)?;
+    Ok(Offers { links, rules })
 }
 
 /// The links and the rules that the goal, a node without a reason, is offered in the partial derivation that the graph
@@ -93,8 +107,7 @@ pub fn offers(
     ensures rules { IfOk result (λ o. OffersRules (theory defs.now program.now) graph.now goal o.rules.items) }
 {
     let judgement = graph.judgement(goal)?;
-    let offers = offers_of(alloc, defs, program, graph, goal, &judgement)?;
-    Ok(offers)
+    offers_of(alloc, defs, program, graph, goal, &judgement)
 }
 
 /// The same of a goal whose judgement is at hand.
@@ -124,10 +137,9 @@ pub fn offers_of(
             rules,
         });
     }
-    Ok(Offers {
-        links: candidates(alloc, program, graph, goal, at.judgement)?,
-        rules: rules_after(alloc, &at, graph, goal)?,
-    })
+    drop(rules);
+    let rules = rules_after(alloc, &at, graph, goal)?;
+    beside_links(alloc, &at, graph, goal, rules)
 }
 
 /// The same, but for rules that leave premises: those may be left out.
@@ -158,8 +170,7 @@ pub fn closing_offers(
             rules,
         });
     }
-    Ok(Offers {
-        links: candidates(alloc, program, graph, goal, at.judgement)?,
-        rules: closing_rules_after(alloc, &at, graph, goal)?,
-    })
+    drop(rules);
+    let rules = closing_rules_after(alloc, &at, graph, goal)?;
+    beside_links(alloc, &at, graph, goal, rules)
 }

@@ -51,18 +51,17 @@ pub fn choices(alloc: Global, heaps: &[Heap]) -> Result<Vec<Rule>, OutOfMemory>
     Ok(rules)
 }
 
-/// Unfold, for each predicate atom.
-pub fn unfolds(alloc: Global, atoms: &[Spatial]) -> Result<Vec<Rule>, OutOfMemory>
+/// Appends Unfold, for each predicate atom.
+pub fn push_unfolds(rules: &mut Vec<Rule>, atoms: &[Spatial]) -> Result<(), OutOfMemory>
     requires { length atoms.now ≤ 64 }
-    ensures { IfOk result (λ v. v.items ≡ unfolds_of atoms.now) }
+    ensures { OnOk result (rules.new.items ≡ rules.old.items ++ unfolds_of atoms.now) }
 {
-    let mut rules = Vec::new(alloc);
     for (k, atom) in atoms.iter().enumerate() {
         if is_predicate(atom) {
             rules.push(Rule::Unfold(k as u32))?;
         }
     }
-    Ok(rules)
+    Ok(())
 }
 
 /// PureRight, for each pure atom.

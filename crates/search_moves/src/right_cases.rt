@@ -128,7 +128,8 @@ fn may_unfold(
     may_all_follow(alloc, at, left, args, case.pure())
 }
 
-fn push_right_unfolds(
+/// Appends UnfoldRight of the predicate atom at a place, for each case that passes both tests.
+fn push_cases(
     rules: &mut Vec<Rule>,
     alloc: Global,
     at: &Setting<'_>,
@@ -149,23 +150,23 @@ fn push_right_unfolds(
     Ok(())
 }
 
-/// UnfoldRight for each predicate atom of the right side and each case that passes both tests.
-pub fn right_unfolds(
+/// Appends UnfoldRight for each predicate atom of the right side and each case that passes both tests.
+pub fn push_right_unfolds(
+    rules: &mut Vec<Rule>,
     alloc: Global,
     at: &Setting<'_>,
     left: &Heap,
     right: &[Spatial],
-) -> Result<Vec<Rule>, OutOfMemory>
+) -> Result<(), OutOfMemory>
     requires cases { (q : ℕ) → length (cases_of at.now.defs.now.list q) ≤ 65536 }
     requires few { length right.now ≤ 64 }
-    ensures { IfOk result (λ v. v.items ≡ right_unfolds_of (theory_of at.now) at.now.judgement.now left.now right.now) }
+    ensures { OnOk result (rules.new.items ≡ rules.old.items
+        ++ right_unfolds_of (theory_of at.now) at.now.judgement.now left.now right.now) }
 {
-    let mut rules = Vec::new(alloc);
     for (k, atom) in right.iter().enumerate() {
         if let Spatial::Pred(q, args) = atom {
-            let cases = at.defs.cases(*q);
-            push_right_unfolds(&mut rules, alloc, at, left, k as u32, args, cases)?;
+            push_cases(rules, alloc, at, left, k as u32, args, at.defs.cases(*q))?;
         }
     }
-    Ok(rules)
+    Ok(())
 }

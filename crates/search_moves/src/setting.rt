@@ -1,5 +1,5 @@
 // What is assumed, and which rules have no fault.
-ghost use Rattle.std.specs.Prelude.{◌≡◌, IfOk, false};
+ghost use Rattle.std.specs.Prelude.{◌≡◌, IfOk, false, take};
 ghost use Rattle.std.specs.List.{filter, list_any};
 ghost use Rattle.fold_offers.specs.Places.{first_that};
 ghost use Rattle.search_moves.specs.Trying.{goes as goes_at};
@@ -50,6 +50,27 @@ fn has_answer(alloc: Global, at: &Setting<'_>, rule: &Rule) -> Result<bool, OutO
     }
 }
 
+/// The first rules without a fault, at most so many.
+fn first_that_go(
+    alloc: Global,
+    at: &Setting<'_>,
+    mut rules: Vec<Rule>,
+    most: usize,
+) -> Result<Vec<Rule>, OutOfMemory>
+    ensures { IfOk result (λ v. v.items
+        ≡ take most (filter (goes_at (theory_of at.now) at.now.judgement.now) rules.items)) }
+{
+    let mut kept = 0;
+    for k in 0..rules.len() {
+        if kept < most && goes(alloc, at, &rules[k])? {
+            rules.swap(kept, k);
+            kept += 1;
+        }
+    }
+    rules.truncate(kept);
+    Ok(rules)
+}
+
 /// The rules without a fault.
 pub fn those_that_go(
     alloc: Global,
@@ -58,13 +79,8 @@ pub fn those_that_go(
 ) -> Result<Vec<Rule>, OutOfMemory>
     ensures { IfOk result (λ v. v.items ≡ filter (goes_at (theory_of at.now) at.now.judgement.now) rules.items) }
 {
-    let mut kept = Vec::with_capacity(alloc, rules.len())?;
-    for rule in rules {
-        if goes(alloc, at, &rule)? {
-            kept.push(rule)?;
-        }
-    }
-    Ok(kept)
+    let most = rules.len();
+    first_that_go(alloc, at, rules, most)
 }
 
 /// The first rule without a fault.
@@ -75,17 +91,7 @@ pub fn first_that_goes(
 ) -> Result<Vec<Rule>, OutOfMemory>
     ensures { IfOk result (λ v. v.items ≡ first_that (goes_at (theory_of at.now) at.now.judgement.now) rules.items) }
 {
-    if rules.is_empty() {
-        return Ok(rules);
-    }
-    let mut kept = Vec::new(alloc);
-    for rule in rules {
-        if goes(alloc, at, &rule)? {
-            kept.push(rule)?;
-            return Ok(kept);
-        }
-    }
-    Ok(kept)
+    first_that_go(alloc, at, rules, 1)
 }
 
 /// Whether one of the rules has no fault.

@@ -1,5 +1,5 @@
 // The rules at a symbolic state of a program, line by line.
-ghost use Rattle.std.specs.Prelude.{◌≡◌, ◌<◌, IfOk, length};
+ghost use Rattle.std.specs.Prelude.{◌≡◌, ◌<◌, ◌++◌, IfOk, OnOk, length};
 ghost use Rattle.std.specs.List.{list_any};
 ghost use Rattle.heap_formula.specs.Programs.{counted_from_one};
 ghost use Rattle.rule_table.specs.Tests.{equated as are_equated};
@@ -8,7 +8,7 @@ ghost use Rattle.search_moves.specs.States.{is_stop as is_stop_command, wanted_c
 ghost use Rattle.heap_formula.specs.Words.{Each};
 ghost use Rattle.fold_offers.specs.Limits.{HasFewParameters};
 
-use crate::entailments::{joined, rule_alone};
+use crate::entailments::rule_alone;
 use crate::equations::state_rewrites;
 use crate::setting::{Setting, those_that_go};
 use crate::ways::{came_by_exec, was_worked_on};
@@ -67,17 +67,16 @@ fn reaches(pures: &[Pure], term: Term, atom: &Spatial) -> bool
     }
 }
 
-/// Unfold for each predicate that may have a cell at the term.
-fn unfolds_at(alloc: Global, state: &Heap, term: Term) -> Result<Vec<Rule>, OutOfMemory>
-    ensures { IfOk result (λ v. v.items ≡ unfolds_at_term state.now term) }
+/// Appends Unfold for each predicate that may have a cell at the term.
+fn push_unfolds_at(rules: &mut Vec<Rule>, state: &Heap, term: Term) -> Result<(), OutOfMemory>
+    ensures { OnOk result (rules.new.items ≡ rules.old.items ++ unfolds_at_term state.now term) }
 {
-    let mut rules = Vec::new(alloc);
     for (k, atom) in state.spatial().iter().enumerate() {
         if reaches(state.pure(), term, atom) {
             rules.push(Rule::Unfold(k as u32))?;
         }
     }
-    Ok(rules)
+    Ok(())
 }
 
 fn misses_cell(alloc: Global, at: &Setting<'_>) -> Result<bool, OutOfMemory>
@@ -90,21 +89,23 @@ fn misses_cell(alloc: Global, at: &Setting<'_>) -> Result<bool, OutOfMemory>
     }
 }
 
-/// Where Exec wants a cell and there is none: Unfold for the predicates that may have it.
-fn missing_unfolds(
+/// Where Exec wants a cell and there is none: appends Unfold for the predicates that may have it.
+fn push_missing_unfolds(
+    rules: &mut Vec<Rule>,
     alloc: Global,
     at: &Setting<'_>,
     line: u32,
     state: &Heap,
-) -> Result<Vec<Rule>, OutOfMemory>
-    ensures { IfOk result (λ v. v.items ≡ cell_unfolds (theory_of at.now) at.now.judgement.now line state.now) }
+) -> Result<(), OutOfMemory>
+    ensures { OnOk result (rules.new.items ≡ rules.old.items
+        ++ cell_unfolds (theory_of at.now) at.now.judgement.now line state.now) }
 {
     if !misses_cell(alloc, at)? {
-        return Ok(Vec::new(alloc));
+        return Ok(());
     }
     match wanted_cell(command_at(at.program, line)) {
-        None => Ok(Vec::new(alloc)),
-        Some(term) => unfolds_at(alloc, state, term),
+        None => Ok(()),
+        Some(term) => push_unfolds_at(rules, state, term),
     }
 }
 
@@ -173,6 +174,6 @@ pub fn rules_after(
 {
     let mut rules = folds_behind_exec(alloc, at, graph, goal, line, state)?;
     rules.push(Rule::Exec)?;
-    let rules = joined(rules, missing_unfolds(alloc, at, line, state)?)?;
+    push_missing_unfolds(&mut rules, alloc, at, line, state)?;
     those_that_go(alloc, at, rules)
 }

@@ -1,4 +1,5 @@
 use Rattle.std.proofs.Common.{[], ◌∷◌, ◌∙◌, refl, ap}
+use Rattle.std.proofs.lemmas.Result.{IfOk-weaker}
 use Rattle.std.specs.List.{filter}
 use Rattle.heap_formula.specs.declared.proof_rules.Rule.TheVariants.{Done}
 use Rattle.search_moves.specs.Trying.{goes}
@@ -20,10 +21,11 @@ returns-then-heaps-ne1-clause-offered c =
 
 pub returns-clause-closing : goal.returns-clause-closing
 returns-clause-closing c =
-    ap (filter (closes (theory_of c.args.at.now) c.args.at.now.judgement.now)) c.in_ok-rules.ensures
-    ∙ one_closes (theory_of c.args.at.now) c.args.at.now.judgement.now c.args.left.now c.requires.judgement c.requires.cases c.args.heaps.now c.if-heaps-ne1.false
+    IfOk-weaker c.rule_alone.result _ _ (λ rules is. ap (filter (closes (theory_of c.args.at.now) c.args.at.now.judgement.now)) is
+    ∙ one_closes (theory_of c.args.at.now) c.args.at.now.judgement.now c.args.left.now c.requires.judgement c.requires.cases c.args.heaps.now c.if-heaps-ne1.false) c.rule_alone.ensures
 
 pub returns-clause-offered : goal.returns-clause-offered
 returns-clause-offered c =
-    closing_part (theory_of c.args.at.now) c.args.at.now.judgement.now _ (filter (goes (theory_of c.args.at.now) c.args.at.now.judgement.now) (Done ∷ [])) _ c.in_ok-rules.ensures (done_kept (theory_of c.args.at.now) c.args.at.now.judgement.now)
-    (one_closes (theory_of c.args.at.now) c.args.at.now.judgement.now c.args.left.now c.requires.judgement c.requires.cases c.args.heaps.now c.if-heaps-ne1.false)
+    IfOk-weaker c.rule_alone.result _ _ (λ rules is.
+    closing_part (theory_of c.args.at.now) c.args.at.now.judgement.now _ (filter (goes (theory_of c.args.at.now) c.args.at.now.judgement.now) (Done ∷ [])) _ is (done_kept (theory_of c.args.at.now) c.args.at.now.judgement.now)
+    (one_closes (theory_of c.args.at.now) c.args.at.now.judgement.now c.args.left.now c.requires.judgement c.requires.cases c.args.heaps.now c.if-heaps-ne1.false)) c.rule_alone.ensures
