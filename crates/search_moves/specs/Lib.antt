@@ -2,6 +2,7 @@ pub mod Trying
 pub mod Settings
 pub mod Entailments
 pub mod Lines
+pub mod Instances
 pub mod Limits
 pub mod States
 pub mod Ways

@@ -3,7 +3,7 @@ ghost use Rattle.std.specs.Prelude.{◌≡◌, ◌<◌, ◌++◌, Some, true, If
 ghost use Rattle.proof_graph.specs.declared.nodes.GraphNode.{GraphNode};
 ghost use Rattle.proof_graph.specs.HeapViews.{judgement_of};
 ghost use Rattle.search_moves.specs.Lengths.{is_as_long as has_length_of};
-ghost use Rattle.search_moves.specs.Offering.{is_companion as is_companion_of, is_entailment as is_entailment_judgement, links_to as links_to_node, candidates as candidates_of};
+ghost use Rattle.search_moves.specs.Offering.{is_companion as is_companion_of, links_to as links_to_node, candidates as candidates_of};
 
 use crate::ways::{unfolds, works_on};
 use back_links::all_links;
@@ -15,12 +15,6 @@ use proof_graph::{Graph, JudgementView};
 use rule_book::variables_of;
 use std::alloc::Global;
 
-fn is_entailment(judgement: &JudgementView<'_>) -> bool
-    ensures { result ≡ is_entailment_judgement (judgement_of judgement.now) }
-{
-    matches!(judgement, JudgementView::Entail(_, _))
-}
-
 /// Whether a bud with the judgement may link back to node `v`.
 fn is_companion(graph: &Graph<'_>, v: u32, judgement: &Judgement) -> bool
     requires { v < length graph.now }
@@ -28,7 +22,9 @@ fn is_companion(graph: &Graph<'_>, v: u32, judgement: &Judgement) -> bool
 {
     let node = graph.node(v);
     match judgement {
-        Judgement::Entail(_, _) => is_entailment(node.judgement) && unfolds(node.reason),
+        Judgement::Entail(_, _) => {
+            matches!(node.judgement, JudgementView::Entail(_, _)) && unfolds(node.reason)
+        }
         Judgement::Term(line, _) => works_on(node, *line),
     }
 }
@@ -67,15 +63,6 @@ fn links_to(
     all_links(alloc, judgement, &companion, v, p, MOST_LINKS)
 }
 
-fn push_links(links: &mut Vec<Link>, more: Vec<Link>) -> Result<(), OutOfMemory>
-    ensures { OnOk result (links.new.items ≡ links.old.items ++ more.items) }
-{
-    for link in more {
-        links.push(link)?;
-    }
-    Ok(())
-}
-
 /// Appends the links to node `v`, none if it is no companion.
 fn push_links_to(
     links: &mut Vec<Link>,
@@ -92,8 +79,8 @@ fn push_links_to(
     if !is_companion(graph, v, judgement) {
         return Ok(());
     }
-    let found = links_to(alloc, program, graph, v, judgement)?;
-    push_links(links, found)?;
+    let mut found = links_to(alloc, program, graph, v, judgement)?;
+    links.append(&mut found)?;
     Ok(())
 }
 

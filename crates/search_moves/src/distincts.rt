@@ -68,7 +68,8 @@ fn push_distincts(
     Ok(())
 }
 
-fn push_distincts_for(
+/// Appends the Distincts that append the atom or its mirror image.
+pub fn push_distincts_for(
     rules: &mut Vec<Rule>,
     atoms: &[Spatial],
     wanted: Pure,
@@ -80,20 +81,6 @@ fn push_distincts_for(
         push_distincts(rules, wanted, i, left, atoms)?;
     }
     Ok(())
-}
-
-/// The Distincts that append the atom or its mirror image.
-pub fn distincts_for(
-    alloc: Global,
-    atoms: &[Spatial],
-    wanted: Pure,
-) -> Result<Vec<Rule>, OutOfMemory>
-    requires { length atoms.now ≤ 64 }
-    ensures { IfOk result (λ v. v.items ≡ distincts_for_of atoms.now wanted) }
-{
-    let mut rules = Vec::new(alloc);
-    push_distincts_for(&mut rules, atoms, wanted)?;
-    Ok(rules)
 }
 
 /// The Distincts that append one of the pure atoms without existentials, or its mirror image.

@@ -9,7 +9,9 @@ ghost use Rattle.search_moves.specs.Lines.{rules_on as rules_on_line, offered_fr
 
 use crate::distincts::distincts;
 use crate::instances::{argument_rules, equation_rules, field_rules};
-use crate::places::{cell_frames, choices, predicate_frames, pure_rights, push_unfolds, rewrites};
+use crate::places::{
+    alone, cell_frames, choices, predicate_frames, pure_rights, push_unfolds, rewrites,
+};
 use crate::right_cases::push_right_unfolds;
 use crate::setting::{Setting, first_that_goes, those_that_go};
 use cyc_memory::OutOfMemory;
@@ -38,14 +40,6 @@ const LINES: [Line; 7] = [
     Line::Fields,
     Line::PredicateFrames,
 ];
-
-fn alone(alloc: Global, rule: Rule) -> Result<Vec<Rule>, OutOfMemory>
-    ensures { IfOk result (λ v. v.items ≡ rule ∷ []) }
-{
-    let mut rules = Vec::new(alloc);
-    rules.push(rule)?;
-    Ok(rules)
-}
 
 /// The one rule, if it has no fault.
 pub fn rule_alone(alloc: Global, at: &Setting<'_>, rule: Rule) -> Result<Vec<Rule>, OutOfMemory>

@@ -1,7 +1,8 @@
 // Equations of a symbolic state.
 ghost use Rattle.std.specs.Prelude.{◌≡◌, ◌&&◌, ◌||◌, IfOk};
-ghost use Rattle.search_moves.specs.States.{stands_in_others, some_other_has, stands_elsewhere as stands_outside, is_logical as is_logical_term, occurs_elsewhere as occurs_outside, state_side, state_rewrites as state_rewrites_of};
+ghost use Rattle.search_moves.specs.States.{stands_in_others, some_other_has, is_logical as is_logical_term, occurs_elsewhere as occurs_outside, state_side, state_rewrites as state_rewrites_of};
 
+use crate::places::alone;
 use back_links::{some_spatial_has, stands_in_pure};
 use cyc_memory::OutOfMemory;
 use heap_formula::{Heap, Pure, Rule, Side, Spatial, Term};
@@ -25,13 +26,6 @@ fn another_has(n: u16, k: usize, atoms: &[Pure]) -> bool
     false
 }
 
-/// Whether the variable stands in the state outside a pure atom.
-fn stands_elsewhere(state: &Heap, k: usize, n: u16) -> bool
-    ensures { result ≡ stands_outside state.now k n }
-{
-    another_has(n, k, state.pure()) || some_spatial_has(n, state.spatial())
-}
-
 fn is_logical(p: u16, term: Term) -> bool
     ensures { result ≡ is_logical_term p term }
 {
@@ -41,11 +35,12 @@ fn is_logical(p: u16, term: Term) -> bool
     }
 }
 
+/// Whether the term is a variable that stands in the state outside a pure atom.
 fn occurs_elsewhere(state: &Heap, k: usize, term: Term) -> bool
     ensures { result ≡ occurs_outside state.now k term }
 {
     match term {
-        Term::Univ(n) => stands_elsewhere(state, k, n),
+        Term::Univ(n) => another_has(n, k, state.pure()) || some_spatial_has(n, state.spatial()),
         Term::Nil | Term::Exist(_) => false,
     }
 }
@@ -76,12 +71,10 @@ fn side(p: u16, state: &Heap, k: usize, atom: Pure) -> Option<Side>
 pub fn state_rewrites(alloc: Global, p: u16, state: &Heap) -> Result<Vec<Rule>, OutOfMemory>
     ensures { IfOk result (λ v. v.items ≡ state_rewrites_of p state.now) }
 {
-    let mut rules = Vec::new(alloc);
     for (k, atom) in state.pure().iter().enumerate() {
         if let Some(side) = side(p, state, k, *atom) {
-            rules.push(Rule::Rewrite(k as u32, side))?;
-            return Ok(rules);
+            return alone(alloc, Rule::Rewrite(k as u32, side));
         }
     }
-    Ok(rules)
+    Ok(Vec::new(alloc))
 }

@@ -3,7 +3,8 @@ ghost use Rattle.std.specs.Prelude.{◌≡◌, ◌++◌, ◌||◌, not, IfOk, On
 ghost use Rattle.rule_table.specs.Tests.{is_universal as is_universal_term, same_term as same_terms};
 ghost use Rattle.std.specs.List.{list_any};
 ghost use Rattle.fold_offers.specs.Places.{each_of};
-ghost use Rattle.search_moves.specs.Entailments.{equation_instance as equation_instance_of, equation_instances, instance_at as instance_at_place, first_instance as first_instance_of, field_instance as field_instance_of, fields_with, field_instances, agree as agree_on, argument_instance as argument_instance_of, arguments_with, same_instance, once, argument_instances as argument_instances_of, instance_rule};
+ghost use Rattle.search_moves.specs.Entailments.{equation_instance as equation_instance_of, equation_instances, instance_at as instance_at_place, first_instance as first_instance_of, field_instance as field_instance_of, fields_with, field_instances, agree as agree_on, argument_instance as argument_instance_of, arguments_with, argument_instances, instance_rule};
+ghost use Rattle.search_moves.specs.Instances.{is_rule_by, rules_once};
 
 use cyc_memory::OutOfMemory;
 use heap_formula::{Pure, Rule, Spatial, Term};
@@ -148,48 +149,43 @@ pub fn field_rules(
     Ok(rules)
 }
 
-fn is_among(instances: &[Instance], instance: Instance) -> bool
-    ensures { result ≡ list_any (same_instance instance) instances.now }
+/// Whether the rule is to instantiate by the instance.
+fn is_rule_of(instance: Instance, rule: &Rule) -> bool
+    ensures { result ≡ is_rule_by instance rule.now }
 {
-    for other in instances {
-        if instance.variable == other.variable && same_term(instance.term, other.term) {
+    match rule {
+        Rule::Instantiate(v, term) => instance.variable == *v && same_term(instance.term, *term),
+        _ => false,
+    }
+}
+
+fn is_among(rules: &[Rule], instance: Instance) -> bool
+    ensures { result ≡ list_any (is_rule_by instance) rules.now }
+{
+    for rule in rules {
+        if is_rule_of(instance, rule) {
             return true;
         }
     }
     false
 }
 
-/// Appends the instances by the left atoms that are not among them yet.
-fn push_argument_instances(
-    instances: &mut Vec<Instance>,
+/// Appends the rules of the instances by the left atoms that are not among the rules yet.
+fn push_argument_rules(
+    rules: &mut Vec<Rule>,
     left: &[Spatial],
     right: &Spatial,
 ) -> Result<(), OutOfMemory>
-    ensures { OnOk result (instances.new.items ≡ once instances.old.items (arguments_with left.now right.now)) }
+    ensures { OnOk result (rules.new.items ≡ rules_once rules.old.items (arguments_with left.now right.now)) }
 {
     for atom in left {
         if let Some(instance) = argument_instance(atom, right) {
-            if !is_among(instances.as_slice(), instance) {
-                instances.push(instance)?;
+            if !is_among(rules.as_slice(), instance) {
+                rules.push(Rule::Instantiate(instance.variable, instance.term))?;
             }
         }
     }
     Ok(())
-}
-
-/// By the arguments of the left atoms, for those of the right atoms; each instance once.
-fn argument_instances(
-    alloc: Global,
-    left: &[Spatial],
-    right: &[Spatial],
-) -> Result<Vec<Instance>, OutOfMemory>
-    ensures { IfOk result (λ v. v.items ≡ argument_instances_of left.now right.now) }
-{
-    let mut instances = Vec::new(alloc);
-    for atom in right {
-        push_argument_instances(&mut instances, left, atom)?;
-    }
-    Ok(instances)
 }
 
 /// Instantiate by the arguments of the left atoms, for those of the right atoms; each rule once.
@@ -198,19 +194,11 @@ pub fn argument_rules(
     left: &[Spatial],
     right: &[Spatial],
 ) -> Result<Vec<Rule>, OutOfMemory>
-    ensures { IfOk result (λ v. v.items ≡ map instance_rule (argument_instances_of left.now right.now)) }
-{
-    let instances = argument_instances(alloc, left, right)?;
-    instance_rules(alloc, &instances)
-}
-
-/// The instances as rules.
-fn instance_rules(alloc: Global, instances: &[Instance]) -> Result<Vec<Rule>, OutOfMemory>
-    ensures { IfOk result (λ v. v.items ≡ map instance_rule instances.now) }
+    ensures { IfOk result (λ v. v.items ≡ map instance_rule (argument_instances left.now right.now)) }
 {
     let mut rules = Vec::new(alloc);
-    for instance in instances {
-        rules.push(Rule::Instantiate(instance.variable, instance.term))?;
+    for atom in right {
+        push_argument_rules(&mut rules, left, atom)?;
     }
     Ok(rules)
 }

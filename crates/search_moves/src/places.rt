@@ -1,5 +1,5 @@
 // Rules that name atoms by their places.
-ghost use Rattle.std.specs.Prelude.{◌≡◌, ◌≤◌, ◌++◌, IfOk, OnOk, length};
+ghost use Rattle.std.specs.Prelude.{◌≡◌, ◌≤◌, [], ◌∷◌, ◌++◌, IfOk, OnOk, length};
 ghost use Rattle.search_moves.specs.Entailments.{choices as choices_of, unfolds as unfolds_of, pure_rights as pure_rights_of, rewrites as rewrites_of, side_of, frames_from, cell_frames as cell_frames_of, predicate_frames as predicate_frames_of};
 
 use cyc_limits::MOST_PURE;
@@ -24,19 +24,26 @@ fn side(atom: Pure) -> Option<Side>
     }
 }
 
+/// The one rule.
+pub fn alone(alloc: Global, rule: Rule) -> Result<Vec<Rule>, OutOfMemory>
+    ensures { IfOk result (λ v. v.items ≡ rule ∷ []) }
+{
+    let mut rules = Vec::new(alloc);
+    rules.push(rule)?;
+    Ok(rules)
+}
+
 /// Rewrite by the first equation.
 pub fn rewrites(alloc: Global, pures: &[Pure]) -> Result<Vec<Rule>, OutOfMemory>
     requires { length pures.now ≤ MOST_PURE }
     ensures { IfOk result (λ v. v.items ≡ rewrites_of pures.now) }
 {
-    let mut rules = Vec::new(alloc);
     for (k, atom) in pures.iter().enumerate() {
         if let Some(side) = side(*atom) {
-            rules.push(Rule::Rewrite(k as u32, side))?;
-            return Ok(rules);
+            return alone(alloc, Rule::Rewrite(k as u32, side));
         }
     }
-    Ok(rules)
+    Ok(Vec::new(alloc))
 }
 
 /// Choose, for each disjunct.

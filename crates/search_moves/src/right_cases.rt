@@ -9,7 +9,7 @@ ghost use Rattle.fold_offers.specs.Places.{each_place};
 ghost use Rattle.search_moves.specs.Settings.{theory_of};
 ghost use Rattle.search_moves.specs.Entailments.{may_stand as may_stand_at, has_place as has_place_at, may_follow as may_follow_at, all_may_follow, may_unfold_case, right_unfold_at, right_unfolds as right_unfolds_of};
 
-use crate::distincts::distincts_for;
+use crate::distincts::push_distincts_for;
 use crate::setting::{Setting, some_goes};
 use cyc_memory::OutOfMemory;
 use heap_formula::{Args, Heap, Pure, Rule, Spatial, Term};
@@ -91,7 +91,8 @@ fn may_follow(alloc: Global, at: &Setting<'_>, left: &Heap, atom: Pure) -> Resul
     if !is_universal_pure(atom) || follows(left.pure(), atom) {
         return Ok(true);
     }
-    let rules = distincts_for(alloc, left.spatial(), atom)?;
+    let mut rules = Vec::new(alloc);
+    push_distincts_for(&mut rules, left.spatial(), atom)?;
     some_goes(alloc, at, &rules)
 }
 

@@ -4,7 +4,7 @@ ghost use Rattle.std.specs.List.{list_any};
 ghost use Rattle.heap_formula.specs.Programs.{counted_from_one};
 ghost use Rattle.rule_table.specs.Tests.{equated as are_equated};
 ghost use Rattle.search_moves.specs.Settings.{theory_of};
-ghost use Rattle.search_moves.specs.States.{is_stop as is_stop_command, wanted_cell as wanted_by, reaches as reaches_term, unfolds_at as unfolds_at_term, lacks_cell, cell_unfolds, stops_that_go, folds_if, state_before, state_after};
+ghost use Rattle.search_moves.specs.States.{wanted_cell as wanted_by, reaches as reaches_term, unfolds_at as unfolds_at_term, lacks_cell, cell_unfolds, stops_that_go, folds_if, state_before, state_after};
 ghost use Rattle.heap_formula.specs.Words.{Each};
 ghost use Rattle.fold_offers.specs.Limits.{HasFewParameters};
 
@@ -29,12 +29,6 @@ pub fn command_at(program: &Program, line: u32) -> Option<Command>
         return None;
     }
     program.lines().get(line as usize - 1).copied()
-}
-
-fn is_stop(command: Option<Command>) -> bool
-    ensures { result ≡ is_stop_command command }
-{
-    matches!(command, Some(Command::Stop))
 }
 
 /// The address at which a command wants a cell.
@@ -113,7 +107,7 @@ fn push_missing_unfolds(
 fn stops(alloc: Global, at: &Setting<'_>, line: u32) -> Result<Vec<Rule>, OutOfMemory>
     ensures { IfOk result (λ v. v.items ≡ stops_that_go (theory_of at.now) at.now.judgement.now line) }
 {
-    if !is_stop(command_at(at.program, line)) {
+    if !matches!(command_at(at.program, line), Some(Command::Stop)) {
         return Ok(Vec::new(alloc));
     }
     rule_alone(alloc, at, Rule::Exec)
@@ -132,6 +126,7 @@ pub fn rules_before(
     if !rules.is_empty() {
         return Ok(rules);
     }
+    drop(rules);
     let rules = stops(alloc, at, line)?;
     if !rules.is_empty() {
         return Ok(rules);

@@ -17,45 +17,20 @@ pub enum Way {
     Elsewhere,
 }
 
-fn is_unfold(rule: &RuleView<'_>) -> bool
-    ensures { result ≡ is_unfold_rule (rule_of rule.now) }
-{
-    matches!(rule, RuleView::Unfold(_))
-}
-
-fn is_work(rule: &RuleView<'_>) -> bool
-    ensures { result ≡ is_work_rule (rule_of rule.now) }
-{
-    matches!(rule, RuleView::Unfold(_) | RuleView::Exec)
-}
-
 /// Whether the reason is Unfold.
 pub fn unfolds(reason: Option<&ReasonView<'_>>) -> bool
     ensures { result ≡ has_rule is_unfold_rule (option_map reason_of (option_copied reason.entry)) }
 {
-    match reason {
-        Some(ReasonView::Step(rule)) => is_unfold(rule),
-        Some(ReasonView::Back(_)) | None => false,
-    }
+    matches!(reason, Some(ReasonView::Step(RuleView::Unfold(_))))
 }
 
 fn works(reason: Option<&ReasonView<'_>>) -> bool
     ensures { result ≡ has_rule is_work_rule (option_map reason_of (option_copied reason.entry)) }
 {
-    match reason {
-        Some(ReasonView::Step(rule)) => is_work(rule),
-        Some(ReasonView::Back(_)) | None => false,
-    }
-}
-
-fn way_of_rule(rule: &RuleView<'_>) -> Way
-    ensures { (above : Bool) → by_exec above (rule_of rule.now) ≡ said_by above result }
-{
-    match rule {
-        RuleView::Exec => Way::AtExec,
-        RuleView::Rewrite(_, _) | RuleView::Cut(_, _) => Way::Above,
-        _ => Way::Elsewhere,
-    }
+    matches!(
+        reason,
+        Some(ReasonView::Step(RuleView::Unfold(_) | RuleView::Exec))
+    )
 }
 
 fn way_of(reason: Option<&ReasonView<'_>>) -> Way
@@ -63,8 +38,9 @@ fn way_of(reason: Option<&ReasonView<'_>>) -> Way
         ≡ said_by above result }
 {
     match reason {
-        Some(ReasonView::Step(rule)) => way_of_rule(rule),
-        Some(ReasonView::Back(_)) | None => Way::Elsewhere,
+        Some(ReasonView::Step(RuleView::Exec)) => Way::AtExec,
+        Some(ReasonView::Step(RuleView::Rewrite(_, _) | RuleView::Cut(_, _))) => Way::Above,
+        _ => Way::Elsewhere,
     }
 }
 
@@ -110,21 +86,15 @@ pub fn came_by_exec(graph: &Graph<'_>, goal: u32) -> bool
     false
 }
 
-fn is_on_line(judgement: &JudgementView<'_>, line: u32) -> bool
-    ensures { result ≡ is_on_line_judgement line (judgement_of judgement.now) }
-{
-    match judgement {
-        JudgementView::Entail(_, _) => false,
-        JudgementView::Term(other, _) => *other == line,
-    }
-}
-
 /// Whether a node of the line unfolds or executes.
 pub fn works_on(node: NodeView<'_>, line: u32) -> bool
     ensures { result ≡ (is_on_line_judgement line (judgement_of node.entry.judgement.now)
         && has_rule is_work_rule (option_map reason_of (option_copied node.entry.reason))) }
 {
-    is_on_line(node.judgement, line) && works(node.reason)
+    match node.judgement {
+        JudgementView::Entail(_, _) => false,
+        JudgementView::Term(other, _) => *other == line && works(node.reason),
+    }
 }
 
 /// Whether a node before the goal is of the line, and unfolds or executes.
