@@ -8,11 +8,15 @@ use Rattle.heap_formula.specs.declared.atoms.Spatial.{Spatial}
 use Rattle.heap_formula.specs.declared.judgements.Judgement.{Judgement}
 use Rattle.heap_formula.specs.declared.judgements.Judgement.TheVariants.{Entail, Term as Runs}
 use Rattle.heap_formula.specs.declared.proof_rules.Rule.{Rule}
-use Rattle.heap_formula.specs.declared.proof_rules.Rule.TheVariants.{Done}
+use Rattle.heap_formula.specs.declared.proof_rules.Rule.TheVariants.{Absurd, Done}
 use Rattle.rule_table.specs.Table.{are_empty}
 use Rattle.proof_graph.specs.declared.nodes.GraphNode.{GraphNode}
 use Rattle.proof_graph.specs.Nodes.{HasJudgement}
+use Rattle.heap_formula.specs.Programs.{program_variables}
+use Rattle.fold_offers.specs.Places.{first_line}
 use Rattle.list_facts.specs.Words.{or_else}
+use Rattle.search_moves.specs.Entailments.{rewrites}
+use Rattle.search_moves.specs.States.{stops_that_go, state_rewrites}
 use Rattle.search_moves.specs.Trying.{Theory, has_premises, goes}
 use Rattle.search_moves.specs.Offering.{rules_before, rules_after, rules_offered}
 use Rattle.search_moves.specs.Closing.{has_no_premise, closes, CloseAlike, IsPart, OffersPart}
@@ -32,6 +36,11 @@ closing_part t j rules part offered same all alike = (closes t j, same ∙ (sym 
 first_offered : (rules before after : List Rule) (n : ℕ) → rules ≡ before → n ≡ length rules → (n == 0) ≡ false → rules ≡ or_else before after
 first_offered rules [] after n same long some = absurd (both_ways (n == 0) some (ap (λ k. k == 0) (long ∙ ap length same)))
 first_offered rules (x ∷ xs) after n same long some = same
+
+-- where Absurd has no fault
+pub absurd_first : (t : Theory) (j : Judgement) (rules : List Rule) (n : ℕ) → rules ≡ filter (goes t j) (Absurd ∷ []) → n ≡ length rules → (n == 0) ≡ false → rules ≡ rules_before t j
+absurd_first t (Entail a bs) rules n same long some = first_offered rules (filter (goes t (Entail a bs)) (Absurd ∷ [])) (first_line (rewrites a.pure ∷ [])) n same long some
+absurd_first t (Runs i a) rules n same long some = first_offered rules (filter (goes t (Runs i a)) (Absurd ∷ [])) (first_line (stops_that_go t (Runs i a) i ∷ state_rewrites (program_variables t.lines) a ∷ [])) n same long some
 
 -- where some rule goes before links
 pub before_part : (t : Theory) (nodes : List GraphNode) (goal : ℕ) (j : Judgement) (rules : List Rule) (n : ℕ) → HasJudgement nodes goal j → rules ≡ rules_before t j → n ≡ length rules → (n == 0) ≡ false → OffersPart t nodes goal rules

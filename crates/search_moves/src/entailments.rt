@@ -4,14 +4,12 @@ ghost use Rattle.std.specs.List.{filter};
 ghost use Rattle.heap_formula.specs.Meaning.{cases_of};
 ghost use Rattle.search_moves.specs.Trying.{goes as goes_at};
 ghost use Rattle.search_moves.specs.Settings.{theory_of};
-ghost use Rattle.search_moves.specs.Entailments.{last_line, several_line, entailment_before, entailment_after};
+ghost use Rattle.search_moves.specs.Entailments.{last_line, several_line, entailment_after};
 ghost use Rattle.search_moves.specs.Lines.{rules_on as rules_on_line, offered_from};
 
 use crate::distincts::distincts;
 use crate::instances::{argument_rules, equation_rules, field_rules};
-use crate::places::{
-    alone, cell_frames, choices, predicate_frames, pure_rights, push_unfolds, rewrites,
-};
+use crate::places::{alone, cell_frames, choices, predicate_frames, pure_rights, push_unfolds};
 use crate::right_cases::push_right_unfolds;
 use crate::setting::{Setting, first_that_goes, those_that_go};
 use cyc_memory::OutOfMemory;
@@ -47,17 +45,6 @@ pub fn rule_alone(alloc: Global, at: &Setting<'_>, rule: Rule) -> Result<Vec<Rul
 {
     let rules = alone(alloc, rule)?;
     those_that_go(alloc, at, rules)
-}
-
-/// What goes before links at an entailment.
-pub fn rules_before(alloc: Global, at: &Setting<'_>, left: &Heap) -> Result<Vec<Rule>, OutOfMemory>
-    ensures { IfOk result (λ v. v.items ≡ entailment_before (theory_of at.now) at.now.judgement.now left.now) }
-{
-    let rules = rule_alone(alloc, at, Rule::Absurd)?;
-    if !rules.is_empty() {
-        return Ok(rules);
-    }
-    rewrites(alloc, left.pure())
 }
 
 /// Instances by arguments, cases of the right side, and unfolding on the left.

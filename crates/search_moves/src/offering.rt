@@ -11,7 +11,9 @@ ghost use Rattle.search_moves.specs.Offering.{candidates as candidates_of, rules
 
 use crate::closing::{closing_rules, have_cases};
 use crate::companions::candidates;
+use crate::entailments::rule_alone;
 use crate::offered::Offers;
+use crate::places::rewrites;
 use crate::setting::Setting;
 use crate::{entailments, states};
 use cyc_memory::OutOfMemory;
@@ -24,8 +26,13 @@ use std::alloc::Global;
 fn rules_before(alloc: Global, at: &Setting<'_>) -> Result<Vec<Rule>, OutOfMemory>
     ensures { IfOk result (λ v. v.items ≡ rules_before_links (theory_of at.now) at.now.judgement.now) }
 {
+    let rules = rule_alone(alloc, at, Rule::Absurd)?;
+    if !rules.is_empty() {
+        return Ok(rules);
+    }
+    drop(rules);
     match at.judgement {
-        Judgement::Entail(left, _) => entailments::rules_before(alloc, at, left),
+        Judgement::Entail(left, _) => rewrites(alloc, left.pure()),
         Judgement::Term(line, state) => states::rules_before(alloc, at, *line, state),
     }
 }

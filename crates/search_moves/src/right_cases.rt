@@ -7,7 +7,7 @@ ghost use Rattle.rule_table.specs.Table.{right_term};
 ghost use Rattle.rule_table.specs.Tests.{some_cell_at};
 ghost use Rattle.fold_offers.specs.Places.{each_place};
 ghost use Rattle.search_moves.specs.Settings.{theory_of};
-ghost use Rattle.search_moves.specs.Entailments.{may_stand as may_stand_at, has_place as has_place_at, may_follow as may_follow_at, all_may_follow, may_unfold_case, right_unfold_at, right_unfolds as right_unfolds_of};
+ghost use Rattle.search_moves.specs.Entailments.{has_place as has_place_at, may_follow as may_follow_at, all_may_follow, may_unfold_case, right_unfold_at, right_unfolds as right_unfolds_of};
 
 use crate::distincts::push_distincts_for;
 use crate::setting::{Setting, some_goes};
@@ -53,23 +53,17 @@ fn has_cell_at(atoms: &[Spatial], address: Term) -> bool
     false
 }
 
-/// Whether the address is an existential, or that of a cell of the left side.
-fn may_stand(atoms: &[Spatial], address: Term) -> bool
-    ensures { result ≡ may_stand_at atoms.now address }
-{
-    match address {
-        Term::Nil => false,
-        Term::Univ(_) => has_cell_at(atoms, address),
-        Term::Exist(_) => true,
-    }
-}
-
+/// Whether the atom is no cell, or its address is an existential or that of a cell of the left side.
 fn has_place(atoms: &[Spatial], args: &Args, atom: &Spatial) -> bool
     ensures { result ≡ has_place_at atoms.now (in_spatial (right_term args.now 0) atom.now) }
 {
     match atom {
-        Spatial::Cell(address, _) => may_stand(atoms, in_case(args, *address)),
         Spatial::Pred(_, _) => true,
+        Spatial::Cell(address, _) => match in_case(args, *address) {
+            Term::Nil => false,
+            Term::Univ(n) => has_cell_at(atoms, Term::Univ(n)),
+            Term::Exist(_) => true,
+        },
     }
 }
 

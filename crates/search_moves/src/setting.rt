@@ -27,14 +27,15 @@ pub struct Setting<'a> {
 pub fn goes(alloc: Global, at: &Setting<'_>, rule: &Rule) -> Result<bool, OutOfMemory>
     ensures { IfOk result (λ b. b ≡ goes_at (theory_of at.now) at.now.judgement.now rule.now) }
 {
+    let judgement = at.judgement;
     match rule {
-        Rule::Done => Ok(may_end(at.judgement)),
-        Rule::Choose(k) => Ok(may_choose(at.judgement, *k)),
-        Rule::PureRight(k) => Ok(may_drop_right(at.judgement, *k)),
-        Rule::Instantiate(_, _) => Ok(may_instantiate(at.judgement)),
-        Rule::Frame(i, k) => Ok(may_frame(at.judgement, *i, *k)),
-        Rule::Unfold(k) if has_room_left(at.defs, at.program, at.judgement, *k) => Ok(true),
-        Rule::UnfoldRight(k, c) if has_room_right(at.defs, at.judgement, *k, *c) => Ok(true),
+        Rule::Done => Ok(may_end(judgement)),
+        Rule::Choose(k) => Ok(may_choose(judgement, *k)),
+        Rule::PureRight(k) => Ok(may_drop_right(judgement, *k)),
+        Rule::Instantiate(_, _) => Ok(may_instantiate(judgement)),
+        Rule::Frame(i, k) => Ok(may_frame(judgement, *i, *k)),
+        Rule::Unfold(k) if has_room_left(at.defs, at.program, judgement, *k) => Ok(true),
+        Rule::UnfoldRight(k, c) if has_room_right(at.defs, judgement, *k, *c) => Ok(true),
         _ => has_answer(alloc, at, rule),
     }
 }

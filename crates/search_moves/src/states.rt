@@ -1,12 +1,13 @@
 // The rules at a symbolic state of a program, line by line.
-ghost use Rattle.std.specs.Prelude.{◌≡◌, ◌<◌, ◌++◌, IfOk, OnOk, length};
+ghost use Rattle.std.specs.Prelude.{◌≡◌, ◌<◌, [], ◌∷◌, ◌++◌, IfOk, OnOk, length};
 ghost use Rattle.std.specs.List.{list_any};
-ghost use Rattle.heap_formula.specs.Programs.{counted_from_one};
+ghost use Rattle.heap_formula.specs.Programs.{counted_from_one, program_variables};
 ghost use Rattle.rule_table.specs.Tests.{equated as are_equated};
 ghost use Rattle.search_moves.specs.Settings.{theory_of};
-ghost use Rattle.search_moves.specs.States.{wanted_cell as wanted_by, reaches as reaches_term, unfolds_at as unfolds_at_term, lacks_cell, cell_unfolds, stops_that_go, folds_if, state_before, state_after};
+ghost use Rattle.search_moves.specs.States.{wanted_cell as wanted_by, reaches as reaches_term, unfolds_at as unfolds_at_term, lacks_cell, cell_unfolds, stops_that_go, folds_if, state_rewrites as state_rewrites_of, state_after};
 ghost use Rattle.heap_formula.specs.Words.{Each};
 ghost use Rattle.fold_offers.specs.Limits.{HasFewParameters};
+ghost use Rattle.fold_offers.specs.Places.{first_line};
 
 use crate::entailments::rule_alone;
 use crate::equations::state_rewrites;
@@ -113,20 +114,16 @@ fn stops(alloc: Global, at: &Setting<'_>, line: u32) -> Result<Vec<Rule>, OutOfM
     rule_alone(alloc, at, Rule::Exec)
 }
 
-/// What goes before links at a state.
+/// What goes before links at a state, but for Absurd.
 pub fn rules_before(
     alloc: Global,
     at: &Setting<'_>,
     line: u32,
     state: &Heap,
 ) -> Result<Vec<Rule>, OutOfMemory>
-    ensures { IfOk result (λ v. v.items ≡ state_before (theory_of at.now) at.now.judgement.now line state.now) }
+    ensures { IfOk result (λ v. v.items ≡ first_line (stops_that_go (theory_of at.now) at.now.judgement.now line
+        ∷ state_rewrites_of (program_variables at.now.program.now) state.now ∷ [])) }
 {
-    let rules = rule_alone(alloc, at, Rule::Absurd)?;
-    if !rules.is_empty() {
-        return Ok(rules);
-    }
-    drop(rules);
     let rules = stops(alloc, at, line)?;
     if !rules.is_empty() {
         return Ok(rules);
