@@ -1,12 +1,11 @@
 // Candidates for a more general state.
 use crate::commons::{Commons, is_fixed};
-use crate::folds::atoms_at;
-use crate::remainders::{General, Plan};
+use crate::folds::part_of;
+use crate::remainders::General;
 use crate::state_folds::StateFold;
 use cyc_memory::OutOfMemory;
 use heap_formula::{Heap, Pure, Spatial, Term};
 use rule_table::{equated, follows, has_pure};
-use std::alloc::Global;
 
 /// The place of the cell with this address, up to equations.
 fn cell_at(pure: &[Pure], spatial: &[Spatial], term: Term) -> Option<usize> {
@@ -34,79 +33,35 @@ fn are_told_apart(pure: &[Pure], t: Term, u: Term) -> bool {
     false
 }
 
-/// Whether the terms differ by cells, up to equations.
-fn are_cells_apart(pure: &[Pure], spatial: &[Spatial], t: Term, u: Term) -> bool {
-    let other = cell_at(pure, spatial, u);
-    match cell_at(pure, spatial, t) {
-        Some(i) => match other {
-            Some(k) => i != k,
-            None => equated(pure, u, Term::Nil),
-        },
-        None => other.is_some() && equated(pure, t, Term::Nil),
-    }
-}
-
 /// Whether the terms differ by a disequation or by cells, up to equations.
-fn differ(pure: &[Pure], spatial: &[Spatial], t: Term, u: Term) -> bool {
-    are_told_apart(pure, t, u) || are_cells_apart(pure, spatial, t, u)
-}
-
-fn is_kept(second: &Heap, atom: Pure) -> bool {
-    if follows(second.pure(), atom) {
+fn differ(heap: &Heap, t: Term, u: Term) -> bool {
+    let (pure, spatial) = (heap.pure(), heap.spatial());
+    if are_told_apart(pure, t, u) {
         return true;
     }
-    match atom {
-        Pure::Neq(t, u) => differ(second.pure(), second.spatial(), t, u),
-        Pure::Eq(_, _) => false,
+    match (cell_at(pure, spatial, t), cell_at(pure, spatial, u)) {
+        (Some(i), Some(k)) => i != k,
+        (Some(_), None) => equated(pure, u, Term::Nil),
+        (None, Some(_)) => equated(pure, t, Term::Nil),
+        (None, None) => false,
     }
-}
-
-/// Leaves out the first state's pure atoms that the second has not.
-fn weaken(general: &mut General, commons: &Commons<'_>) -> Result<(), OutOfMemory> {
-    for (k, atom) in commons.first.pure().iter().enumerate() {
-        if !is_kept(commons.second, *atom) {
-            general.weakened.push(k as u32)?;
-        }
-    }
-    Ok(())
 }
 
 fn has_kept(first: &Heap, weakened: &[u32], atom: Pure) -> bool {
     for (k, other) in first.pure().iter().enumerate() {
-        let stays = !weakened.contains(&(k as u32));
-        if stays && has_pure(&[*other], atom) {
+        if !weakened.contains(&(k as u32)) && has_pure(&[*other], atom) {
             return true;
         }
     }
     false
 }
 
-/// Whether both states have the disequation of two fixed terms, of the first state by these spatial atoms.
-fn is_common(commons: &Commons<'_>, seen: &[Spatial], t: Term, u: Term) -> bool {
-    let second = commons.second;
+/// Whether both states have the disequation of two fixed terms, the first state by these of its atoms.
+fn is_common(commons: &Commons<'_>, seen: &Heap, t: Term, u: Term) -> bool {
     is_fixed(t, commons.variables)
         && is_fixed(u, commons.variables)
-        && differ(commons.first.pure(), seen, t, u)
-        && differ(second.pure(), second.spatial(), t, u)
-}
-
-/// Brings the disequations of fixed terms that both states have, and that do not stay as written.
-fn push_disequations(
-    alloc: Global,
-    general: &mut General,
-    commons: &Commons<'_>,
-) -> Result<(), OutOfMemory> {
-    let seen = atoms_at(alloc, commons.first.spatial(), &general.cut)?;
-    for (i, t) in commons.terms.iter().enumerate() {
-        for (k, u) in commons.terms.iter().enumerate() {
-            let atom = Pure::Neq(*t, *u);
-            let is_apart = k < i && is_common(commons, &seen, *t, *u);
-            if is_apart && !has_kept(commons.first, &general.weakened, atom) {
-                general.pure.push(atom)?;
-            }
-        }
-    }
-    Ok(())
+        && differ(seen, t, u)
+        && differ(commons.second, t, u)
 }
 
 /// Whether the fold's atom stands in the first state already.
@@ -115,26 +70,6 @@ fn stands(commons: &Commons<'_>, fold: &StateFold) -> bool {
         [i] => fold.first == fold.second && commons.first.spatial_at(*i) == Some(&fold.first),
         _ => false,
     }
-}
-
-/// Takes a fold into the plan.
-fn take_fold(
-    alloc: Global,
-    plan: &mut Plan,
-    commons: &Commons<'_>,
-    fold: &StateFold,
-) -> Result<(), OutOfMemory> {
-    plan.used.extend_from_slice(&fold.of_second)?;
-    plan.pay(1);
-    if stands(commons, fold) {
-        return Ok(());
-    }
-    plan.general.cut.extend_from_slice(&fold.of_first)?;
-    let atom = plan.joined(alloc, commons, &fold.first, &fold.second)?;
-    plan.general.by.push(atom)?;
-    let others = fold.of_second.len().saturating_sub(1);
-    plan.pay(others.min(64) as u32 * 2);
-    Ok(())
 }
 
 /// How many of the places come before one.
@@ -155,41 +90,67 @@ fn lower(places: &mut [u32], cut: &[u32]) {
     }
 }
 
-/// What is left to say once it is known which atoms are cut away: the order of the places, and the pure atoms.
-fn finish(alloc: Global, general: &mut General, commons: &Commons<'_>) -> Result<(), OutOfMemory> {
-    general.cut.sort()?;
-    general.dropped.sort()?;
-    general.dropped.reverse();
-    lower(&mut general.dropped, &general.cut);
-    weaken(general, commons)?;
-    general.weakened.reverse();
-    push_disequations(alloc, general, commons)
-}
-
-/// Takes the folds into the plan, and what they leave.
-fn fill(
-    alloc: Global,
-    plan: &mut Plan,
-    commons: &Commons<'_>,
-    folds: &[&StateFold],
-) -> Result<(), OutOfMemory> {
-    for fold in folds {
-        take_fold(alloc, plan, commons, fold)?;
+impl General {
+    /// Leaves out the first state's pure atoms that the second has not, the last ones first.
+    fn weaken(&mut self, commons: &Commons<'_>) -> Result<(), OutOfMemory> {
+        for (k, atom) in commons.first.pure().iter().enumerate() {
+            let stays = follows(commons.second.pure(), *atom)
+                || matches!(*atom, Pure::Neq(t, u) if differ(commons.second, t, u));
+            if !stays {
+                self.weakened.push(k as u32)?;
+            }
+        }
+        self.weakened.reverse();
+        Ok(())
     }
-    plan.settle(alloc, commons, folds)?;
-    let atoms = commons.second.spatial().len();
-    let lost = atoms.saturating_sub(plan.used.len());
-    plan.pay(lost.min(64) as u32 * 2);
-    finish(alloc, &mut plan.general, commons)
-}
 
-/// The candidate with these folds.
-pub fn candidate(
-    alloc: Global,
-    commons: &Commons<'_>,
-    folds: &[&StateFold],
-) -> Result<General, OutOfMemory> {
-    let mut plan = Plan::new(alloc);
-    fill(alloc, &mut plan, commons, folds)?;
-    Ok(plan.general)
+    /// Brings the disequations of fixed terms that both states have, and that do not stay as written. Those of the first state
+    /// are seen by the atoms that are cut away.
+    fn push_disequations(&mut self, commons: &Commons<'_>) -> Result<(), OutOfMemory> {
+        let seen = part_of(commons.alloc, commons.first, &self.cut)?;
+        for (i, t) in commons.terms.iter().enumerate() {
+            for u in commons.terms.iter().take(i) {
+                let atom = Pure::Neq(*t, *u);
+                let is_apart = is_common(commons, &seen, *t, *u);
+                if is_apart && !has_kept(commons.first, &self.weakened, atom) {
+                    self.pure.push(atom)?;
+                }
+            }
+        }
+        Ok(())
+    }
+
+    /// Takes a fold into the change.
+    fn take_fold(&mut self, commons: &Commons<'_>, fold: &StateFold) -> Result<(), OutOfMemory> {
+        let of_second = fold.of_second.as_slice();
+        self.used.extend_from_slice(of_second)?;
+        self.pay(1);
+        if stands(commons, fold) {
+            return Ok(());
+        }
+        self.cut.extend_from_slice(fold.of_first.as_slice())?;
+        let atom = self.joined(commons, &fold.first, &fold.second)?;
+        self.by.push(atom)?;
+        let others = of_second.len().saturating_sub(1);
+        self.pay(others.min(64) as u32 * 2);
+        Ok(())
+    }
+
+    /// Takes the folds into the change, and what they leave. Once it is known which atoms are cut away, what is left to say is
+    /// the order of the places, and the pure atoms.
+    pub fn fill(&mut self, commons: &Commons<'_>, folds: &[&StateFold]) -> Result<(), OutOfMemory> {
+        for fold in folds {
+            self.take_fold(commons, fold)?;
+        }
+        self.settle(commons, folds)?;
+        let atoms = commons.second.spatial().len();
+        let lost = atoms.saturating_sub(self.used.len());
+        self.pay(lost.min(64) as u32 * 2);
+        self.cut.sort_unstable();
+        self.dropped.sort_unstable();
+        self.dropped.reverse();
+        lower(&mut self.dropped, &self.cut);
+        self.weaken(commons)?;
+        self.push_disequations(commons)
+    }
 }

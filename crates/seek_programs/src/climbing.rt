@@ -2,21 +2,6 @@
 use heap_formula::{Judgement, Reason, Rule};
 use seek_engine::{Draft, DraftNode, MOST_NODES};
 
-fn is_exec(node: &DraftNode) -> bool {
-    matches!(&node.reason, Some(Reason::Step(Rule::Exec)))
-}
-
-fn is_unfold(node: &DraftNode) -> bool {
-    matches!(&node.reason, Some(Reason::Step(Rule::Unfold(_))))
-}
-
-fn is_on_line(judgement: &Judgement, line: u32) -> bool {
-    match judgement {
-        Judgement::Term(other, _) => *other == line,
-        Judgement::Entail(_, _) => false,
-    }
-}
-
 fn parent<'a>(draft: &'a Draft, node: Option<&'a DraftNode>) -> Option<&'a DraftNode> {
     match node?.parent {
         Some(number) => draft.node(number),
@@ -32,8 +17,13 @@ pub fn visits(draft: &Draft, node: u32, line: u32) -> u32 {
         let Some(at) = above else {
             return count;
         };
-        if is_on_line(&at.judgement, line) && is_exec(at) {
-            count = count.saturating_add(1);
+        if let (Some(Reason::Step(Rule::Exec)), Judgement::Term(other, _)) = (
+            &at.reason,
+            &at.judgement,
+        ) {
+            if *other == line {
+                count = count.saturating_add(1);
+            }
         }
         above = parent(draft, above);
     }
@@ -48,11 +38,10 @@ pub fn unfolds_here(draft: &Draft, node: u32) -> u32 {
         let Some(at) = above else {
             return count;
         };
-        if is_exec(at) {
-            return count;
-        }
-        if is_unfold(at) {
-            count = count.saturating_add(1);
+        match &at.reason {
+            Some(Reason::Step(Rule::Exec)) => return count,
+            Some(Reason::Step(Rule::Unfold(_))) => count = count.saturating_add(1),
+            _ => {}
         }
         above = parent(draft, above);
     }

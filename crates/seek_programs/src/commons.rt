@@ -9,16 +9,12 @@ use std::alloc::Global;
 /// one stands in the first state where the other stands in the second.
 #[derive(Drop)]
 pub struct Commons<'a> {
+    pub alloc: Global,
     pub first: &'a Heap,
     pub second: &'a Heap,
     pub variables: u16,
     pub terms: Vec<Term>,
     pub pairs: Vec<(Term, Term)>,
-}
-
-/// Whether the term is one of the list.
-pub fn has_term(terms: &[Term], term: Term) -> bool {
-    terms.contains(&term)
 }
 
 /// Whether the term means the same in every state: `nil`, or a program variable.
@@ -30,93 +26,6 @@ pub fn is_fixed(term: Term, variables: u16) -> bool {
     }
 }
 
-fn push_commons(
-    commons: &mut Vec<Term>,
-    candidates: &[Term],
-    first: &[Term],
-    second: &[Term],
-    variables: u16,
-) -> Result<(), OutOfMemory> {
-    for term in candidates {
-        let is_common = has_term(first, *term) && has_term(second, *term);
-        if (is_common || is_fixed(*term, variables)) && !has_term(commons, *term) {
-            commons.push(*term)?;
-        }
-    }
-    Ok(())
-}
-
-/// The terms that are fixed or in both lists, each once.
-fn commons_of(
-    alloc: Global,
-    earlier: &[Term],
-    later: &[Term],
-    variables: u16,
-) -> Result<Vec<Term>, OutOfMemory> {
-    let mut terms = Vec::new(alloc);
-    for candidates in &[later, earlier, &[Term::Nil]] {
-        push_commons(&mut terms, candidates, earlier, later, variables)?;
-    }
-    Ok(terms)
-}
-
-fn common_terms(
-    alloc: Global,
-    first: &Heap,
-    second: &Heap,
-    variables: u16,
-) -> Result<Vec<Term>, OutOfMemory> {
-    let earlier = terms_of(alloc, first)?;
-    let later = terms_of(alloc, second)?;
-    commons_of(alloc, &earlier, &later, variables)
-}
-
-fn has_pair(pairs: &[(Term, Term)], pair: (Term, Term)) -> bool {
-    pairs.contains(&pair)
-}
-
-fn push_field_pairs(
-    pairs: &mut Vec<(Term, Term)>,
-    most: usize,
-    x: &Spatial,
-    y: &Spatial,
-) -> Result<(), OutOfMemory> {
-    let (Spatial::Cell(t, f), Spatial::Cell(u, g)) = (x, y) else {
-        return Ok(());
-    };
-    if *t != *u || f.len() != g.len() {
-        return Ok(());
-    }
-    for (i, v) in f.as_slice().iter().enumerate() {
-        if let Some(w) = g.as_slice().get(i) {
-            if *v != *w && pairs.len() < most && !has_pair(pairs, (*v, *w)) {
-                pairs.push((*v, *w))?;
-            }
-        }
-    }
-    Ok(())
-}
-
-/// Each term with itself, and the fields at one place of cells with one address, two such pairs at most.
-fn common_pairs(
-    alloc: Global,
-    first: &Heap,
-    second: &Heap,
-    terms: &[Term],
-) -> Result<Vec<(Term, Term)>, OutOfMemory> {
-    let mut pairs = Vec::new(alloc);
-    for term in terms {
-        pairs.push((*term, *term))?;
-    }
-    let most = pairs.len().saturating_add(2);
-    for x in first.spatial() {
-        for y in second.spatial() {
-            push_field_pairs(&mut pairs, most, x, y)?;
-        }
-    }
-    Ok(pairs)
-}
-
 impl<'a> Commons<'a> {
     /// What the two states have in common.
     pub fn new(
@@ -125,15 +34,76 @@ impl<'a> Commons<'a> {
         second: &'a Heap,
         variables: u16,
     ) -> Result<Commons<'a>, OutOfMemory> {
-        let terms = common_terms(alloc, first, second, variables)?;
-        let pairs = common_pairs(alloc, first, second, &terms)?;
-        Ok(Commons {
+        let mut commons = Commons {
+            alloc,
             first,
             second,
             variables,
-            terms,
-            pairs,
-        })
+            terms: Vec::new(alloc),
+            pairs: Vec::new(alloc),
+        };
+        commons.push_all_terms()?;
+        commons.push_pairs()?;
+        Ok(commons)
+    }
+
+    /// Adds the terms of a list that are fixed or in both of the other lists, each once and paired with itself.
+    fn push_terms(
+        &mut self,
+        terms: &[Term],
+        earlier: &[Term],
+        later: &[Term],
+    ) -> Result<(), OutOfMemory> {
+        for term in terms {
+            let is_common = earlier.contains(term) && later.contains(term);
+            if (is_common || is_fixed(*term, self.variables)) && !self.terms.contains(term) {
+                self.terms.push(*term)?;
+                self.pairs.push((*term, *term))?;
+            }
+        }
+        Ok(())
+    }
+
+    fn push_all_terms(&mut self) -> Result<(), OutOfMemory> {
+        let earlier = terms_of(self.alloc, self.first)?;
+        let later = terms_of(self.alloc, self.second)?;
+        for terms in &[later.as_slice(), earlier.as_slice(), &[Term::Nil]] {
+            self.push_terms(terms, &earlier, &later)?;
+        }
+        Ok(())
+    }
+
+    /// Adds the terms at one place that differ, as long as there are fewer pairs.
+    fn push_field_pairs(
+        &mut self,
+        most: usize,
+        fields: &[Term],
+        others: &[Term],
+    ) -> Result<(), OutOfMemory> {
+        for (i, t) in fields.iter().enumerate() {
+            if let Some(u) = others.get(i) {
+                let pair = (*t, *u);
+                if *t != *u && self.pairs.len() < most && !self.pairs.contains(&pair) {
+                    self.pairs.push(pair)?;
+                }
+            }
+        }
+        Ok(())
+    }
+
+    /// Adds pairs for the fields of cells with one address, two at most.
+    fn push_pairs(&mut self) -> Result<(), OutOfMemory> {
+        let most = self.pairs.len().saturating_add(2);
+        for x in self.first.spatial() {
+            for y in self.second.spatial() {
+                if let (Spatial::Cell(t, fields), Spatial::Cell(u, others)) = (x, y) {
+                    if *t == *u && fields.len() == others.len() {
+                        self.push_field_pairs(most, fields.as_slice(), others.as_slice())?;
+                    }
+                }
+            }
+        }
+        Ok(())
     }
 
     /// The common term for a term of the first state and one of the second, up to their equations.

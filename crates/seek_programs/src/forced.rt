@@ -14,15 +14,11 @@ fn is_logic(term: Term, variables: u16) -> bool {
     }
 }
 
-fn is_side(atom: Pure, term: Term) -> bool {
-    let (Pure::Eq(t, u) | Pure::Neq(t, u)) = atom;
-    t == term || u == term
-}
-
 /// Whether the term stands in the heap outside the pure atom at a place.
 fn stands_elsewhere(heap: &Heap, place: usize, term: Term) -> bool {
     for (k, atom) in heap.pure().iter().enumerate() {
-        if k != place && is_side(*atom, term) {
+        let (Pure::Eq(t, u) | Pure::Neq(t, u)) = *atom;
+        if k != place && (t == term || u == term) {
             return true;
         }
     }
@@ -93,13 +89,6 @@ fn first_binding(heap: &Heap) -> Option<(u16, Term)> {
     None
 }
 
-/// The heap with a term for a variable.
-fn bound(alloc: Global, heap: &Heap, binding: (u16, Term)) -> Result<Heap, OutOfMemory> {
-    let mut pairs = Vec::new(alloc);
-    pairs.push(binding)?;
-    apply_to_heap(alloc, heap, &Subst::from_vec(pairs))
-}
-
 /// The heap with one term for the sides of each equation.
 fn settled(alloc: Global, heap: &Heap) -> Result<Heap, OutOfMemory> {
     let mut heap = heap.clone()?;
@@ -107,20 +96,19 @@ fn settled(alloc: Global, heap: &Heap) -> Result<Heap, OutOfMemory> {
         let Some(binding) = first_binding(&heap) else {
             return Ok(heap);
         };
-        heap = bound(alloc, &heap, binding)?;
+        let pairs = Vec::from_slice(alloc, &[binding])?;
+        heap = apply_to_heap(alloc, &heap, &Subst::from_vec(pairs))?;
     }
     Ok(heap)
 }
 
 /// Whether the state is absurd after its equations.
 fn is_contradictory(setting: &Setting<'_>, judgement: &Judgement) -> Result<bool, OutOfMemory> {
-    match judgement {
-        Judgement::Term(line, state) => {
-            let state = settled(setting.alloc, state)?;
-            setting.goes(&Judgement::Term(*line, state), &Rule::Absurd)
-        }
-        Judgement::Entail(_, _) => Ok(false),
-    }
+    let Judgement::Term(line, state) = judgement else {
+        return Ok(false);
+    };
+    let state = settled(setting.alloc, state)?;
+    setting.goes(&Judgement::Term(*line, state), &Rule::Absurd)
 }
 
 /// Whether Exec is a test of which one outcome is absurd.
@@ -128,15 +116,13 @@ pub fn is_decided(setting: &Setting<'_>, judgement: &Judgement) -> Result<bool, 
     let Some(premises) = setting.premises(judgement, &Rule::Exec)? else {
         return Ok(false);
     };
-    if premises.len() != 2 {
-        return Ok(false);
+    match premises.as_slice() {
+        [jump, next] => Ok(
+            is_contradictory(setting, &jump.judgement)?
+                || is_contradictory(setting, &next.judgement)?,
+        ),
+        _ => Ok(false),
     }
-    for premise in premises.iter() {
-        if is_contradictory(setting, &premise.judgement)? {
-            return Ok(true);
-        }
-    }
-    Ok(false)
 }
 
 /// Whether the atom is a predicate's.

@@ -1,12 +1,11 @@
 // More general states at the head of a loop.
-use crate::candidates::candidate;
 use crate::commons::Commons;
-use crate::folds::{Fitting, heap_of};
+use crate::folds::{Fitting, cut_rule, heap_of};
 use crate::remainders::General;
-use crate::state_folds::{Parts, StateFold, state_folds};
-use crate::witnesses::witnesses;
+use crate::state_folds::{StateFold, push_state_folds};
+use crate::witnesses::push_witnesses;
 use cyc_memory::OutOfMemory;
-use heap_formula::{Heap, Positions, Rule};
+use heap_formula::{Heap, Rule};
 use seek_engine::{Aim, Entailments, Move, Step};
 use std::alloc::Global;
 
@@ -26,20 +25,19 @@ fn is_disjoint(x: &[u32], y: &[u32]) -> bool {
 }
 
 fn are_disjoint(x: &StateFold, y: &StateFold) -> bool {
-    is_disjoint(&x.of_first, &y.of_first) && is_disjoint(&x.of_second, &y.of_second)
+    is_disjoint(x.of_first.as_slice(), y.of_first.as_slice())
+        && is_disjoint(x.of_second.as_slice(), y.of_second.as_slice())
 }
 
-fn is_same(x: &General, y: &General) -> bool {
-    x.cut == y.cut
-        && x.pure == y.pure
-        && x.by == y.by
-        && x.weakened == y.weakened
-        && x.dropped == y.dropped
-}
-
+/// Whether one of the changes is the same as another.
 fn has_same(all: &[General], general: &General) -> bool {
     for other in all {
-        if is_same(other, general) {
+        if other.cut == general.cut
+            && other.pure == general.pure
+            && other.by == general.by
+            && other.weakened == general.weakened
+            && other.dropped == general.dropped
+        {
             return true;
         }
     }
@@ -48,7 +46,6 @@ fn has_same(all: &[General], general: &General) -> bool {
 
 /// Adds the candidate with these folds, unless it changes nothing or is there already.
 fn push_general(
-    alloc: Global,
     all: &mut Vec<General>,
     commons: &Commons<'_>,
     folds: &[&StateFold],
@@ -56,7 +53,8 @@ fn push_general(
     if all.len() >= MOST_SETS {
         return Ok(());
     }
-    let general = candidate(alloc, commons, folds)?;
+    let mut general = General::none(commons.alloc);
+    general.fill(commons, folds)?;
     if !general.is_idle() && !has_same(all, &general) {
         all.push(general)?;
     }
@@ -65,68 +63,54 @@ fn push_general(
 
 /// Candidates with no fold, one, or two that are disjoint.
 fn push_generals(
-    alloc: Global,
     all: &mut Vec<General>,
     commons: &Commons<'_>,
     folds: &[StateFold],
 ) -> Result<(), OutOfMemory> {
-    push_general(alloc, all, commons, &[])?;
+    push_general(all, commons, &[])?;
     for fold in folds {
-        push_general(alloc, all, commons, &[fold])?;
+        push_general(all, commons, &[fold])?;
     }
     for (i, fold) in folds.iter().enumerate() {
-        for (k, other) in folds.iter().enumerate() {
-            if k < i && are_disjoint(other, fold) {
-                push_general(alloc, all, commons, &[other, fold])?;
+        for other in folds.iter().take(i) {
+            if are_disjoint(other, fold) {
+                push_general(all, commons, &[other, fold])?;
             }
         }
     }
     Ok(())
 }
 
-/// The Cut that brings what comes in place of the atoms, where there is one.
-fn push_cut(alloc: Global, rules: &mut Vec<Rule>, general: &General) -> Result<(), OutOfMemory> {
-    if general.pure.is_empty() && general.by.is_empty() {
-        return Ok(());
+/// Adds the rules that lead to the more general state: a Cut, where something comes in, and what leaves out atoms.
+fn push_rules(alloc: Global, rules: &mut Vec<Rule>, general: &General) -> Result<(), OutOfMemory> {
+    if !general.pure.is_empty() || !general.by.is_empty() {
+        let formula = heap_of(alloc, &general.pure, &general.by)?;
+        rules.push(cut_rule(alloc, &general.cut, formula)?)?;
     }
-    let cut = general.cut.clone()?;
-    let formula = heap_of(alloc, &general.pure, &general.by)?;
-    rules.push(Rule::Cut(Positions::from_vec(cut), formula))?;
-    Ok(())
-}
-
-/// The rules that lead to the more general state.
-fn rules_to(alloc: Global, general: &General) -> Result<Vec<Rule>, OutOfMemory> {
-    let mut rules = Vec::new(alloc);
-    push_cut(alloc, &mut rules, general)?;
     for place in &general.dropped {
         rules.push(Rule::Drop(*place))?;
     }
     for place in &general.weakened {
         rules.push(Rule::Weaken(*place))?;
     }
-    Ok(rules)
+    Ok(())
 }
 
-fn move_to(alloc: Global, general: &General, then: Aim) -> Result<Move, OutOfMemory> {
-    Ok(Move::Step(Step {
-        rules: rules_to(alloc, general)?,
+/// Adds the move to the more general state.
+fn push_move(
+    alloc: Global,
+    moves: &mut Vec<Move>,
+    general: &General,
+    then: Aim,
+) -> Result<(), OutOfMemory> {
+    let mut rules = Vec::new(alloc);
+    push_rules(alloc, &mut rules, general)?;
+    moves.push(Move::Step(Step {
+        rules,
         side: Some(Aim::Aside(4)),
         aim: then,
-    }))
-}
-
-/// Adds the candidates that two states lead to.
-fn push_for(
-    all: &mut Vec<General>,
-    entailments: &Entailments<'_>,
-    fitting: &mut Fitting,
-    commons: &Commons<'_>,
-) -> Result<(), OutOfMemory> {
-    let alloc = entailments.setting.alloc;
-    let parts = Parts::of(alloc, commons)?;
-    let folds = state_folds(entailments, fitting, commons, &parts)?;
-    push_generals(alloc, all, commons, &folds)
+    }))?;
+    Ok(())
 }
 
 /// Adds the candidates that the state at a head and a later one there lead to.
@@ -138,45 +122,46 @@ fn push_later(
     later: &Heap,
     variables: u16,
 ) -> Result<(), OutOfMemory> {
-    let commons = Commons::new(entailments.setting.alloc, state, later, variables)?;
-    push_for(all, entailments, fitting, &commons)
+    let alloc = entailments.setting.alloc;
+    let commons = Commons::new(alloc, state, later, variables)?;
+    let mut folds = Vec::new(alloc);
+    push_state_folds(&mut folds, entailments, fitting, &commons)?;
+    push_generals(all, &commons, &folds)
 }
 
-/// The candidates at a head, the strongest states first.
-fn generals(
+/// Adds the candidates at a head.
+fn push_all(
+    all: &mut Vec<General>,
     entailments: &Entailments<'_>,
     fitting: &mut Fitting,
     head: u32,
     state: &Heap,
     variables: u16,
-) -> Result<Vec<General>, OutOfMemory> {
-    let states = witnesses(&entailments.setting, head, state, variables)?;
-    let mut all: Vec<General> = Vec::new(entailments.setting.alloc);
+) -> Result<(), OutOfMemory> {
+    let mut states = Vec::new(entailments.setting.alloc);
+    push_witnesses(&mut states, &entailments.setting, head, state, variables)?;
     for later in &states {
-        push_later(&mut all, entailments, fitting, state, later, variables)?;
+        push_later(all, entailments, fitting, state, later, variables)?;
     }
-    all.sort_by_key(|general| general.score)?;
-    all.truncate(MOST_STATES);
-    Ok(all)
+    Ok(())
 }
 
-fn moves_to(alloc: Global, generals: &[General], then: Aim) -> Result<Vec<Move>, OutOfMemory> {
-    let mut moves = Vec::new(alloc);
-    for general in generals {
-        moves.push(move_to(alloc, general, then)?)?;
-    }
-    Ok(moves)
-}
-
-/// The moves to more general states at a head, the strongest states first.
-pub fn general_moves(
+/// Adds the moves to more general states at a head, the strongest states first.
+pub fn push_general_moves(
+    moves: &mut Vec<Move>,
     entailments: &Entailments<'_>,
     fitting: &mut Fitting,
     head: u32,
     state: &Heap,
     variables: u16,
     then: Aim,
-) -> Result<Vec<Move>, OutOfMemory> {
-    let all = generals(entailments, fitting, head, state, variables)?;
-    moves_to(entailments.setting.alloc, &all, then)
+) -> Result<(), OutOfMemory> {
+    let alloc = entailments.setting.alloc;
+    let mut all = Vec::new(alloc);
+    push_all(&mut all, entailments, fitting, head, state, variables)?;
+    all.sort_by_key(|general| general.score)?;
+    for general in all.iter().take(MOST_STATES) {
+        push_move(alloc, moves, general, then)?;
+    }
+    Ok(())
 }

@@ -4,7 +4,7 @@ use crate::heads::command_of;
 use cyc_memory::OutOfMemory;
 use heap_formula::{Command, Heap, Judgement, Rule, Spatial, Term};
 use rule_table::equated;
-use seek_engine::{Setting, arguments};
+use seek_engine::{Aim, Move, Setting, arguments, one_rule};
 use std::alloc::Global;
 
 /// The address of the cell that a command needs.
@@ -29,38 +29,49 @@ fn place_in(state: &Heap, atom: &Spatial, term: Term) -> Option<u32> {
     None
 }
 
-/// Whether the atom is a predicate's that has the term first at the place.
-fn is_at(state: &Heap, atom: &Spatial, term: Term, place: u32) -> bool {
-    is_predicate(atom) && place_in(state, atom, term) == Some(place)
+/// Adds a rule, and an aim at each of its premises.
+pub fn push_rule(
+    moves: &mut Vec<Move>,
+    alloc: Global,
+    rule: Rule,
+    aim: Aim,
+) -> Result<(), OutOfMemory> {
+    moves.push(one_rule(alloc, rule, aim)?)?;
+    Ok(())
 }
 
-/// Unfold of each predicate atom that has the term, those first that have it first.
-fn unfolds(alloc: Global, state: &Heap, term: Term) -> Result<Vec<Rule>, OutOfMemory> {
-    let mut rules = Vec::new(alloc);
+/// Adds Unfold of each predicate atom that has the term, those first that have it first.
+fn push_unfolds(
+    moves: &mut Vec<Move>,
+    alloc: Global,
+    state: &Heap,
+    term: Term,
+    aim: Aim,
+) -> Result<(), OutOfMemory> {
     for place in 0..8 {
         for (k, atom) in state.spatial().iter().enumerate() {
-            if is_at(state, atom, term, place) {
-                rules.push(Rule::Unfold(k as u32))?;
+            if is_predicate(atom) && place_in(state, atom, term) == Some(place) {
+                push_rule(moves, alloc, Rule::Unfold(k as u32), aim)?;
             }
         }
     }
-    Ok(rules)
+    Ok(())
 }
 
-/// Exec, if it goes; else the Unfolds of atoms that have the address of the cell that is missing.
-pub fn steps(
+/// Adds Exec, if it goes; else the Unfolds of atoms that have the address of the cell that is missing.
+pub fn push_steps(
+    moves: &mut Vec<Move>,
     setting: &Setting<'_>,
     judgement: &Judgement,
     line: u32,
     state: &Heap,
-) -> Result<Vec<Rule>, OutOfMemory> {
+    aim: Aim,
+) -> Result<(), OutOfMemory> {
     if setting.goes(judgement, &Rule::Exec)? {
-        let mut rules = Vec::new(setting.alloc);
-        rules.push(Rule::Exec)?;
-        return Ok(rules);
+        return push_rule(moves, setting.alloc, Rule::Exec, aim);
     }
     match wanted_address(command_of(setting.program, line)) {
-        Some(term) => unfolds(setting.alloc, state, term),
-        None => Ok(Vec::new(setting.alloc)),
+        Some(term) => push_unfolds(moves, setting.alloc, state, term, aim),
+        None => Ok(()),
     }
 }

@@ -1,6 +1,6 @@
 // Atoms of common terms that a part of each of two states entails.
 use crate::commons::Commons;
-use crate::folds::{Fitting, subsets};
+use crate::folds::{Fitting, Places, subsets};
 use crate::forced::is_predicate;
 use cyc_memory::OutOfMemory;
 use heap_formula::{Atom, Heap, Spatial, Term};
@@ -16,33 +16,8 @@ const MOST_TUPLES: u32 = 4000;
 pub struct StateFold {
     pub first: Spatial,
     pub second: Spatial,
-    pub of_first: Vec<u32>,
-    pub of_second: Vec<u32>,
-}
-
-impl StateFold {
-    fn copied(
-        alloc: Global,
-        first: &Spatial,
-        second: &Spatial,
-        of_first: &[u32],
-        of_second: &[u32],
-    ) -> Result<StateFold, OutOfMemory> {
-        let of_first = Vec::from_slice(alloc, of_first)?;
-        Ok(StateFold {
-            first: *first,
-            second: *second,
-            of_first,
-            of_second: Vec::from_slice(alloc, of_second)?,
-        })
-    }
-}
-
-/// The parts of both states that may be folded, smaller ones first.
-#[derive(Drop)]
-pub struct Parts {
-    of_first: Vec<Vec<u32>>,
-    of_second: Vec<Vec<u32>>,
+    pub of_first: Places,
+    pub of_second: Places,
 }
 
 /// The sets of `least` to `most` of the heap's first eight atoms.
@@ -51,30 +26,20 @@ fn parts_of(
     heap: &Heap,
     least: usize,
     most: usize,
-) -> Result<Vec<Vec<u32>>, OutOfMemory> {
+) -> Result<Vec<Places>, OutOfMemory> {
     let places: [u32; 8] = [0, 1, 2, 3, 4, 5, 6, 7];
     let count = heap.spatial().len().min(8);
     subsets(alloc, &places[..count], least, most)
 }
 
-impl Parts {
-    /// The parts of these two states.
-    pub fn of(alloc: Global, commons: &Commons<'_>) -> Result<Parts, OutOfMemory> {
-        let of_first = parts_of(alloc, commons.first, 0, 3)?;
-        Ok(Parts {
-            of_first,
-            of_second: parts_of(alloc, commons.second, 1, 4)?,
-        })
-    }
-}
-
-/// What the search for folds is about.
+/// What the search for folds is about: two states, and the parts of both that may be folded, smaller ones first.
 #[derive(Drop)]
 struct Folding<'a, 'p> {
     commons: &'a Commons<'a>,
     entailments: &'a Entailments<'a>,
     fitting: &'a mut Fitting,
-    parts: &'p Parts,
+    of_first: &'p [Places],
+    of_second: &'p [Places],
 }
 
 fn count_of_tuples(count: usize, arity: u32) -> u32 {
@@ -85,25 +50,24 @@ fn count_of_tuples(count: usize, arity: u32) -> u32 {
     total
 }
 
-/// The predicate's atom with the tuple that has this number, in the terms of the first state or of the second.
-fn atom_of(
-    alloc: Global,
-    pairs: &[(Term, Term)],
-    def: (u16, u32),
-    number: u32,
-    is_second: bool,
-) -> Result<Spatial, OutOfMemory> {
-    let (predicate, arity) = def;
-    let mut terms: Vec<Term> = Vec::new(alloc);
+/// The predicate's atom with the tuple that has this number, in the terms of the first state and in those of the second.
+fn atoms_of(pairs: &[(Term, Term)], predicate: u16, arity: u32, number: u32) -> (Spatial, Spatial) {
+    let mut first = [Term::Nil; 8];
+    let mut second = [Term::Nil; 8];
+    let arity = arity.min(8) as usize;
     let mut rest = number as usize;
     let count = pairs.len().max(1);
-    for _ in 0..arity.min(8) {
+    for i in 0..arity {
         if let Some((t, u)) = pairs.get(rest % count) {
-            terms.push(if is_second { *u } else { *t })?;
+            first[i] = *t;
+            second[i] = *u;
         }
         rest = rest / count;
     }
-    Ok(Spatial::Pred(predicate, args_of(&terms)))
+    (
+        Spatial::Pred(predicate, args_of(&first[..arity])),
+        Spatial::Pred(predicate, args_of(&second[..arity])),
+    )
 }
 
 fn is_within(part: &[u32], other: &[u32]) -> bool {
@@ -115,22 +79,10 @@ fn is_within(part: &[u32], other: &[u32]) -> bool {
     true
 }
 
-fn has_smaller(parts: &[&[u32]], part: &[u32]) -> bool {
+fn has_smaller(parts: &[Places], part: &[u32]) -> bool {
     for other in parts {
-        if is_within(other, part) {
+        if is_within(other.as_slice(), part) {
             return true;
-        }
-    }
-    false
-}
-
-/// Whether one of the second state's atoms at the places is not of the first.
-fn has_new(commons: &Commons<'_>, part: &[u32]) -> bool {
-    for place in part {
-        if let Some(atom) = commons.second.spatial_at(*place) {
-            if !commons.first.spatial().contains(atom) {
-                return true;
-            }
         }
     }
     false
@@ -152,49 +104,50 @@ fn touches(commons: &Commons<'_>, atom: &Spatial, terms: &[Term]) -> bool {
     false
 }
 
-fn some_touches(commons: &Commons<'_>, part: &[u32], terms: &[Term]) -> bool {
+/// Whether of the second state's atoms at the places one is not of the first state, and one has one of the terms.
+fn is_new(commons: &Commons<'_>, part: &[u32], terms: &[Term]) -> bool {
+    let mut has_new = false;
+    let mut has_term = false;
     for place in part {
         if let Some(atom) = commons.second.spatial_at(*place) {
-            if touches(commons, atom, terms) {
-                return true;
-            }
+            has_new = has_new || !commons.first.spatial().contains(atom);
+            has_term = has_term || touches(commons, atom, terms);
         }
     }
-    false
+    has_new && has_term
 }
 
-impl<'p> Folding<'_, 'p> {
+impl Folding<'_, '_> {
     /// Whether the part of the second state entails the atom; a part that says nothing new is not asked.
     fn second_fits(&mut self, part: &[u32], atom: &Spatial) -> Result<bool, OutOfMemory> {
         let commons = self.commons;
-        if !has_new(commons, part) || !some_touches(commons, part, arguments(atom)) {
+        if !is_new(commons, part, arguments(atom)) {
             return Ok(false);
         }
         self.fitting.fits(self.entailments, commons.second, part, Atom::Spatial(*atom))
     }
 
     /// The smallest parts of the second state that entail the atom.
-    fn parts_for_second(&mut self, atom: &Spatial) -> Result<Vec<&'p [u32]>, OutOfMemory> {
-        let mut found: Vec<&'p [u32]> = Vec::new(self.entailments.setting.alloc);
-        let parts = self.parts;
-        for part in parts.of_second.iter() {
-            if !has_smaller(&found, part) && self.second_fits(part, atom)? {
-                found.push(part.as_slice())?;
+    fn parts_for_second(&mut self, atom: &Spatial) -> Result<Vec<Places>, OutOfMemory> {
+        let mut found = Vec::new(self.entailments.setting.alloc);
+        for part in self.of_second {
+            if !has_smaller(&found, part.as_slice()) && self.second_fits(part.as_slice(), atom)? {
+                found.push(*part)?;
             }
         }
         Ok(found)
     }
 
     /// The first part of the first state that entails the atom.
-    fn part_for_first(&mut self, atom: &Spatial) -> Result<Option<&'p [u32]>, OutOfMemory> {
-        let (commons, parts) = (self.commons, self.parts);
-        for part in parts.of_first.iter() {
+    fn part_for_first(&mut self, atom: &Spatial) -> Result<Option<Places>, OutOfMemory> {
+        let first = self.commons.first;
+        for part in self.of_first {
             let atom = Atom::Spatial(*atom);
             if self
                 .fitting
-                .fits(self.entailments, commons.first, part, atom)?
+                .fits(self.entailments, first, part.as_slice(), atom)?
             {
-                return Ok(Some(part.as_slice()));
+                return Ok(Some(*part));
             }
         }
         Ok(None)
@@ -214,49 +167,31 @@ impl<'p> Folding<'_, 'p> {
         }
     }
 
-    /// Adds the folds of the second state's parts with this one of the first.
-    fn push_each(
-        &self,
-        folds: &mut Vec<StateFold>,
-        parts: &[&[u32]],
-        of_first: &[u32],
-        first: &Spatial,
-        second: &Spatial,
-    ) -> Result<(), OutOfMemory> {
-        let alloc = self.entailments.setting.alloc;
-        for of_second in parts {
-            if !self.is_idle(of_first, of_second) {
-                folds.push(StateFold::copied(alloc, first, second, of_first, of_second)?)?;
-            }
-        }
-        Ok(())
-    }
-
     /// Adds the folds of the second state's parts, if a part of the first state entails its atom.
-    fn push_with(
-        &mut self,
-        folds: &mut Vec<StateFold>,
-        parts: &[&[u32]],
-        first: &Spatial,
-        second: &Spatial,
-    ) -> Result<(), OutOfMemory> {
-        if parts.is_empty() {
-            return Ok(());
-        }
-        match self.part_for_first(first)? {
-            Some(of_first) => self.push_each(folds, parts, of_first, first, second),
-            None => Ok(()),
-        }
-    }
-
     fn push_fold(
         &mut self,
         folds: &mut Vec<StateFold>,
-        first: &Spatial,
-        second: &Spatial,
+        first: Spatial,
+        second: Spatial,
     ) -> Result<(), OutOfMemory> {
-        let parts = self.parts_for_second(second)?;
-        self.push_with(folds, &parts, first, second)
+        let parts = self.parts_for_second(&second)?;
+        if parts.is_empty() {
+            return Ok(());
+        }
+        let Some(of_first) = self.part_for_first(&first)? else {
+            return Ok(());
+        };
+        for of_second in &parts {
+            if !self.is_idle(of_first.as_slice(), of_second.as_slice()) {
+                folds.push(StateFold {
+                    first,
+                    second,
+                    of_first,
+                    of_second: *of_second,
+                })?;
+            }
+        }
+        Ok(())
     }
 
     fn push_folds(
@@ -265,16 +200,14 @@ impl<'p> Folding<'_, 'p> {
         predicate: u16,
         arity: u32,
     ) -> Result<(), OutOfMemory> {
-        let alloc = self.entailments.setting.alloc;
-        let pairs = &self.commons.pairs;
+        let pairs = self.commons.pairs.as_slice();
         let total = count_of_tuples(pairs.len(), arity);
         if total > MOST_TUPLES {
             return Ok(());
         }
         for number in 0..total {
-            let first = atom_of(alloc, pairs, (predicate, arity), number, false)?;
-            let second = atom_of(alloc, pairs, (predicate, arity), number, true)?;
-            self.push_fold(folds, &first, &second)?;
+            let (first, second) = atoms_of(pairs, predicate, arity, number);
+            self.push_fold(folds, first, second)?;
         }
         Ok(())
     }
@@ -290,20 +223,21 @@ impl<'p> Folding<'_, 'p> {
     }
 }
 
-/// The folds of two states: each predicate with each tuple of common terms or pairs.
-pub fn state_folds(
+/// Adds the folds of two states: each predicate with each tuple of common terms or pairs.
+pub fn push_state_folds(
+    folds: &mut Vec<StateFold>,
     entailments: &Entailments<'_>,
     fitting: &mut Fitting,
     commons: &Commons<'_>,
-    parts: &Parts,
-) -> Result<Vec<StateFold>, OutOfMemory> {
-    let mut folds = Vec::new(entailments.setting.alloc);
+) -> Result<(), OutOfMemory> {
+    let of_first = parts_of(commons.alloc, commons.first, 0, 3)?;
+    let of_second = parts_of(commons.alloc, commons.second, 1, 4)?;
     let mut folding = Folding {
         commons,
         entailments,
         fitting,
-        parts,
+        of_first: &of_first,
+        of_second: &of_second,
     };
-    folding.push_all(&mut folds)?;
-    Ok(folds)
+    folding.push_all(folds)
 }

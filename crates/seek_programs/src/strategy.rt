@@ -1,16 +1,13 @@
 // The moves at a `from` judgement, stage by stage.
 use crate::climbing::{unfolds_here, visits};
-use crate::folds::Folds;
+use crate::folds::{Folds, push_turns};
 use crate::forced::{forced_rule, is_decided};
-use crate::generals::general_moves;
+use crate::generals::push_general_moves;
 use crate::heads::is_head;
-use crate::runs::steps;
+use crate::runs::{push_rule, push_steps};
 use cyc_memory::OutOfMemory;
 use heap_formula::{Heap, Judgement};
-use seek_engine::{
-    Aim, Draft, DraftNode, Move, Setting, Stage, Strategy, companions, last_stage, no_moves,
-    one_move, one_rule, stage_of,
-};
+use seek_engine::{Aim, Draft, Move, Setting, Stage, Strategy, companions, stage_of};
 
 /// How often the state at one head is made more general.
 const MOST_CHANGES: u32 = 3;
@@ -36,23 +33,16 @@ struct Place<'a> {
 }
 
 fn place_of<'a>(draft: &'a Draft, node: u32) -> Option<Place<'a>> {
-    let at: &DraftNode = draft.node(node)?;
-    match &at.judgement {
+    let judgement = &draft.node(node)?.judgement;
+    match judgement {
         Judgement::Term(line, state) => Some(Place {
             draft,
             node,
-            judgement: &at.judgement,
+            judgement,
             line: *line,
             state,
         }),
         Judgement::Entail(_, _) => None,
-    }
-}
-
-fn is_on_line(draft: &Draft, node: u32, line: u32) -> bool {
-    match place_of(draft, node) {
-        Some(place) => place.line == line,
-        None => false,
     }
 }
 
@@ -70,34 +60,30 @@ impl<'a> Programs<'a> {
     }
 
     /// Links to the companions, and folds to those of the same line.
-    fn closings(&self, place: &Place<'_>) -> Result<Vec<Move>, OutOfMemory> {
-        let alloc = self.setting.alloc;
-        let mut moves = Vec::new(alloc);
-        let all = companions(alloc, place.draft)?;
-        for companion in all.iter() {
+    fn push_closings(&self, moves: &mut Vec<Move>, place: &Place<'_>) -> Result<(), OutOfMemory> {
+        let all = companions(self.setting.alloc, place.draft)?;
+        for companion in &all {
             moves.push(Move::Link(*companion))?;
         }
-        for companion in all.iter() {
-            if is_on_line(place.draft, *companion, place.line) {
-                moves.push(Move::Turn(Aim::Fold {
-                    companion: *companion,
-                    folds: 3,
-                    fuel: 4,
-                }))?;
-            }
-        }
-        Ok(moves)
+        push_turns(moves, place.draft, &all, place.node, 3, 4)
     }
 
-    fn first_stage(&self, place: &Place<'_>, aim: Aim) -> Result<Stage, OutOfMemory> {
-        let alloc = self.setting.alloc;
-        if let Some(rule) = forced_rule(&self.setting, place.judgement, place.line, place.state)? {
-            return one_move(alloc, one_rule(alloc, rule, aim)?);
+    /// A rule that loses nothing, and nothing else; else, at a head, what closes the node.
+    fn first_stage(
+        &self,
+        offered: &mut Stage,
+        place: &Place<'_>,
+        aim: Aim,
+    ) -> Result<(), OutOfMemory> {
+        let setting = &self.setting;
+        if let Some(rule) = forced_rule(setting, place.judgement, place.line, place.state)? {
+            offered.is_last = true;
+            return push_rule(&mut offered.moves, setting.alloc, rule, aim);
         }
         if self.is_at_head(place) {
-            return Ok(stage_of(self.closings(place)?));
+            return self.push_closings(&mut offered.moves, place);
         }
-        Ok(stage_of(Vec::new(alloc)))
+        Ok(())
     }
 
     /// Whether the line was visited as often as it may be. Two visits more are free where a test is decided.
@@ -109,68 +95,79 @@ impl<'a> Programs<'a> {
         Ok(count >= most.saturating_add(2) || !is_decided(&self.setting, place.judgement)?)
     }
 
-    fn step_moves(&self, place: &Place<'_>, most: u32) -> Result<Vec<Move>, OutOfMemory> {
-        let alloc = self.setting.alloc;
-        let mut moves = Vec::new(alloc);
-        for rule in steps(&self.setting, place.judgement, place.line, place.state)? {
-            moves.push(one_rule(alloc, rule, Aim::Run(most))?)?;
-        }
-        Ok(moves)
+    fn push_steps(
+        &self,
+        moves: &mut Vec<Move>,
+        place: &Place<'_>,
+        most: u32,
+    ) -> Result<(), OutOfMemory> {
+        let aim = Aim::Run(most);
+        push_steps(
+            moves,
+            &self.setting,
+            place.judgement,
+            place.line,
+            place.state,
+            aim,
+        )
     }
 
-    fn second_stage(&self, place: &Place<'_>, most: u32) -> Result<Stage, OutOfMemory> {
-        let alloc = self.setting.alloc;
+    fn second_stage(
+        &self,
+        offered: &mut Stage,
+        place: &Place<'_>,
+        most: u32,
+    ) -> Result<(), OutOfMemory> {
+        offered.is_last = true;
         if !self.is_at_head(place) {
             if unfolds_here(place.draft, place.node) > MOST_UNFOLDS {
-                return Ok(no_moves(alloc));
+                return Ok(());
             }
-            return Ok(last_stage(self.step_moves(place, most)?));
+            return self.push_steps(&mut offered.moves, place, most);
         }
-        if self.is_spent(place, most)? {
-            return Ok(no_moves(alloc));
-        }
-        one_move(
-            alloc,
-            Move::Turn(Aim::Head {
+        if !self.is_spent(place, most)? {
+            offered.moves.push(Move::Turn(Aim::Head {
                 visits: most,
                 changes: 0,
-            }),
-        )
+            }))?;
+        }
+        Ok(())
     }
 
     fn general_stage(
         &mut self,
+        offered: &mut Stage,
         place: &Place<'_>,
         most: u32,
         changes: u32,
-    ) -> Result<Stage, OutOfMemory> {
+    ) -> Result<(), OutOfMemory> {
+        offered.is_last = true;
         if changes >= MOST_CHANGES || visits(place.draft, place.node, place.line) > 0 {
-            return Ok(no_moves(self.setting.alloc));
+            return Ok(());
         }
-        let then = Aim::Head {
-            visits: most,
-            changes: changes + 1,
-        };
         let entailments = self.folds.entailments;
-        let moves = general_moves(
+        push_general_moves(
+            &mut offered.moves,
             &entailments,
             &mut self.folds.fitting,
             place.line,
             place.state,
             self.setting.variables(place.judgement),
-            then,
+            Aim::Head {
+                visits: most,
+                changes: changes + 1,
+            },
         )?;
-        let mut stage = last_stage(moves);
-        stage.cost = self.folds.fitting.take_cost();
-        Ok(stage)
+        offered.cost = self.folds.fitting.take_cost();
+        Ok(())
     }
 
     /// The rounds with one, two, .. visits.
-    fn round(&self, most: u32, stage: u32) -> Result<Stage, OutOfMemory> {
+    fn round(&self, offered: &mut Stage, most: u32, stage: u32) -> Result<(), OutOfMemory> {
         let visits = stage.saturating_add(1);
-        let mut turn = one_move(self.setting.alloc, Move::Turn(Aim::Run(visits)))?;
-        turn.is_last = visits >= most;
-        Ok(turn)
+        offered.is_last = visits >= most;
+        offered.moves.push(Move::Turn(Aim::Run(visits)))?;
+        Ok(())
     }
 }
 
@@ -185,15 +182,19 @@ impl Strategy for Programs<'_> {
         let Some(place) = place_of(draft, node) else {
             return self.folds.stage(draft, node, aim, stage);
         };
+        let mut offered = stage_of(Vec::new(self.setting.alloc));
         match aim {
-            Aim::Run(most) if stage == 0 => self.first_stage(&place, Aim::Run(most)),
-            Aim::Run(most) => self.second_stage(&place, most),
+            Aim::Run(_) if stage == 0 => self.first_stage(&mut offered, &place, aim),
+            Aim::Run(most) => self.second_stage(&mut offered, &place, most),
             Aim::Head { visits, .. } if stage == 0 => {
-                Ok(stage_of(self.step_moves(&place, visits)?))
+                self.push_steps(&mut offered.moves, &place, visits)
             }
-            Aim::Head { visits, changes } => self.general_stage(&place, visits, changes),
-            Aim::Rounds(most) => self.round(most, stage),
-            _ => self.folds.stage(draft, node, aim, stage),
-        }
+            Aim::Head { visits, changes } => {
+                self.general_stage(&mut offered, &place, visits, changes)
+            }
+            Aim::Rounds(most) => self.round(&mut offered, most, stage),
+            _ => return self.folds.stage(draft, node, aim, stage),
+        }?;
+        Ok(offered)
     }
 }

@@ -48,28 +48,13 @@ fn push_names(alloc: Global, pairs: &mut Vec<(u16, Term)>, heap: &Heap) -> Resul
 /// Names for the variables of both heaps.
 fn names_of(alloc: Global, part: &Heap, formula: &Heap) -> Result<Subst, OutOfMemory> {
     let mut pairs = Vec::new(alloc);
-    push_names(alloc, &mut pairs, part)?;
-    push_names(alloc, &mut pairs, formula)?;
+    for heap in &[part, formula] {
+        push_names(alloc, &mut pairs, heap)?;
+    }
     Ok(Subst::from_vec(pairs))
 }
 
-fn renamed(
-    alloc: Global,
-    part: &Heap,
-    formula: &Heap,
-    names: &Subst,
-) -> Result<Judgement, OutOfMemory> {
-    let formula = Disjuncts::single(alloc, apply_to_heap(alloc, formula, names)?)?;
-    Ok(Judgement::Entail(apply_to_heap(alloc, part, names)?, formula))
-}
-
-/// The entailment with other names, so that those are one which differ in names alone.
-fn canonical(alloc: Global, part: &Heap, formula: &Heap) -> Result<Judgement, OutOfMemory> {
-    let names = names_of(alloc, part, formula)?;
-    renamed(alloc, part, formula, &names)
-}
-
-/// The entailment of an atom by a part of a state.
+/// The entailment of an atom by a part of a state, with other names, so that those are one which differ in names alone.
 fn question(
     alloc: Global,
     state: &Heap,
@@ -78,7 +63,13 @@ fn question(
 ) -> Result<Judgement, OutOfMemory> {
     let part = part_of(alloc, state, places)?;
     let formula = heap_of_atom(alloc, atom)?;
-    canonical(alloc, &part, &formula)
+    let names = names_of(alloc, &part, &formula)?;
+    let left = apply_to_heap(alloc, &part, &names)?;
+    drop(part);
+    let right = apply_to_heap(alloc, &formula, &names)?;
+    drop(formula);
+    drop(names);
+    Ok(Judgement::Entail(left, Disjuncts::single(alloc, right)?))
 }
 
 fn short_search(strategy: &Entailments<'_>, judgement: &Judgement) -> Result<Outcome, OutOfMemory> {
@@ -114,14 +105,6 @@ impl Fitting {
         self.cost = self.cost.saturating_add(steps);
     }
 
-    fn ask(&mut self) {
-        self.asked = self.asked.saturating_add(1);
-        if self.asked >= 16 {
-            self.asked = 0;
-            self.spend(1);
-        }
-    }
-
     fn answer(&self, fingerprint: u32, judgement: &Judgement) -> Option<bool> {
         for known in self.known.iter() {
             if known.fingerprint == fingerprint && known.judgement == *judgement {
@@ -131,18 +114,10 @@ impl Fitting {
         None
     }
 
-    fn keep(
-        &mut self,
-        fingerprint: u32,
-        judgement: &Judgement,
-        is_found: bool,
-    ) -> Result<(), OutOfMemory> {
+    /// Keeps what became known, as long as there is room.
+    fn keep(&mut self, known: Known) -> Result<(), OutOfMemory> {
         if self.known.len() < MOST_KNOWN {
-            self.known.push(Known {
-                fingerprint,
-                judgement: judgement.clone()?,
-                is_found,
-            })?;
+            self.known.push(known)?;
         }
         Ok(())
     }
@@ -151,15 +126,19 @@ impl Fitting {
     fn find_out(
         &mut self,
         strategy: &Entailments<'_>,
-        judgement: &Judgement,
+        judgement: Judgement,
     ) -> Result<bool, OutOfMemory> {
-        let fingerprint = fingerprint(judgement);
-        if let Some(answer) = self.answer(fingerprint, judgement) {
+        let fingerprint = fingerprint(&judgement);
+        if let Some(answer) = self.answer(fingerprint, &judgement) {
             return Ok(answer);
         }
-        let outcome = short_search(strategy, judgement)?;
+        let outcome = short_search(strategy, &judgement)?;
         self.spend(outcome.steps / 4);
-        self.keep(fingerprint, judgement, outcome.is_found)?;
+        self.keep(Known {
+            fingerprint,
+            judgement,
+            is_found: outcome.is_found,
+        })?;
         Ok(outcome.is_found)
     }
 
@@ -171,8 +150,14 @@ impl Fitting {
         places: &[u32],
         atom: Atom,
     ) -> Result<bool, OutOfMemory> {
-        self.ask();
-        let judgement = question(strategy.setting.alloc, state, places, atom)?;
-        self.find_out(strategy, &judgement)
+        self.asked = self.asked.saturating_add(1);
+        if self.asked >= 16 {
+            self.asked = 0;
+            self.spend(1);
+        }
+        self.find_out(
+            strategy,
+            question(strategy.setting.alloc, state, places, atom)?,
+        )
     }
 }

@@ -1,19 +1,22 @@
 // The folds after which a companion may cover a goal.
 use crate::folds::fitting::Fitting;
-use crate::folds::parts::heap_of_atom;
-use crate::folds::places::subsets;
+use crate::folds::parts::{cut_rule, heap_of_atom};
+use crate::folds::places::{Places, subsets};
 use crate::folds::pures::missing_pure;
+use crate::runs::push_rule;
 use cyc_memory::OutOfMemory;
-use heap_formula::{Atom, Heap, Judgement, Positions, Pure, Rule, Spatial, Term};
+use heap_formula::{Atom, Heap, Judgement, Pure, Spatial, Subst, Term, apply_to_spatial};
 use rule_table::antecedent;
 use seek_engine::{
-    Aim, Draft, Entailments, Matcher, Matching, Move, Step, args_of, distinct_for, is_alike,
-    one_rule, value_of,
+    Aim, Draft, Entailments, Matcher, Matching, Move, Step, arguments, distinct_for, is_alike,
+    value_of,
 };
-use std::alloc::Global;
 
 /// The greatest number of maps of the companion's atoms whose missing atoms are folded.
 const MOST_MAPS: usize = 12;
+
+/// The greatest number of the companion's atoms that a map leaves out.
+const MOST_SKIPPED: u32 = 2;
 
 /// The greatest number of atoms that are folded into one.
 const MOST_FOLDED: usize = 6;
@@ -31,30 +34,7 @@ pub struct Cover<'a> {
     pub then: Aim,
 }
 
-fn cut_rule(alloc: Global, places: &[u32], atom: Atom) -> Result<Rule, OutOfMemory> {
-    let places = Vec::from_slice(alloc, places)?;
-    let formula = heap_of_atom(alloc, atom)?;
-    Ok(Rule::Cut(Positions::from_vec(places), formula))
-}
-
-/// The Cut of the atoms at the places by an atom, with so much fuel for its own proof.
-fn cut(
-    alloc: Global,
-    places: &[u32],
-    atom: Atom,
-    fuel: u32,
-    then: Aim,
-) -> Result<Move, OutOfMemory> {
-    let mut rules = Vec::new(alloc);
-    rules.push(cut_rule(alloc, places, atom)?)?;
-    Ok(Move::Step(Step {
-        rules,
-        side: Some(Aim::Aside(fuel)),
-        aim: then,
-    }))
-}
-
-/// Adds the Cut, if it is seen to go.
+/// Adds the Cut of the atoms at the places by an atom, with so much fuel for its own proof, if it is seen to go.
 fn push_cut(
     moves: &mut Vec<Move>,
     strategy: &Entailments<'_>,
@@ -64,9 +44,18 @@ fn push_cut(
     atom: Atom,
     fuel: u32,
 ) -> Result<(), OutOfMemory> {
-    if fitting.fits(strategy, cover.goal, places, atom)? {
-        moves.push(cut(strategy.setting.alloc, places, atom, fuel, cover.then)?)?;
+    if !fitting.fits(strategy, cover.goal, places, atom)? {
+        return Ok(());
     }
+    let alloc = strategy.setting.alloc;
+    let rule = cut_rule(alloc, places, heap_of_atom(alloc, atom)?)?;
+    let mut rules = Vec::new(alloc);
+    rules.push(rule)?;
+    moves.push(Move::Step(Step {
+        rules,
+        side: Some(Aim::Aside(fuel)),
+        aim: cover.then,
+    }))?;
     Ok(())
 }
 
@@ -80,89 +69,54 @@ fn push_pure_moves(
 ) -> Result<(), OutOfMemory> {
     push_cut(moves, strategy, fitting, cover, &[], Atom::Pure(atom), 1)?;
     if let Some(rule) = distinct_for(cover.goal, atom, cover.goal.pure()) {
-        moves.push(one_rule(strategy.setting.alloc, rule, cover.then)?)?;
+        return push_rule(moves, strategy.setting.alloc, rule, cover.then);
     }
     Ok(())
 }
 
-/// An atom of the companion with the map's terms, and existentials for variables that have none.
+/// An atom of the companion with the map's terms, and existentials for variables that have none; nothing, where every atom is
+/// to be covered and there is such a variable.
 fn image_of(
     cover: &Cover<'_>,
     matching: &Matching,
-    predicate: u16,
-    args: &[Term],
+    atom: &Spatial,
 ) -> Result<Option<Spatial>, OutOfMemory> {
-    let alloc = cover.matcher.alloc;
-    let mut unknown: Vec<u16> = Vec::new(alloc);
-    let mut terms: Vec<Term> = Vec::new(alloc);
-    for term in args {
-        terms.push(image(cover, matching, *term, &mut unknown)?)?;
+    let mut pairs = matching.pairs.clone()?;
+    let mut unknown: u16 = 0;
+    for term in arguments(atom) {
+        if let Term::Univ(n) = *term {
+            if n >= cover.matcher.fixed_below && value_of(&pairs, n).is_none() {
+                pairs.push((n, Term::Exist(unknown)))?;
+                unknown = unknown.saturating_add(1);
+            }
+        }
     }
-    let is_lost = cover.is_whole && !unknown.is_empty();
-    let atom = Spatial::Pred(predicate, args_of(&terms));
-    Ok(if is_lost { None } else { Some(atom) })
+    if cover.is_whole && unknown > 0 {
+        return Ok(None);
+    }
+    Ok(Some(apply_to_spatial(atom, &Subst::from_vec(pairs))))
 }
 
-/// The atom that is missing.
-fn missing_atom(cover: &Cover<'_>, matching: &Matching) -> Result<Option<Spatial>, OutOfMemory> {
+/// The companion's first atom that the map leaves out, which is a predicate's.
+fn missing_atom<'a>(cover: &Cover<'a>, matching: &Matching) -> Option<&'a Spatial> {
     for (k, place) in matching.places.iter().enumerate() {
         if place.is_none() {
-            return match cover.companion.spatial().get(k) {
-                Some(Spatial::Pred(predicate, args)) => {
-                    image_of(cover, matching, *predicate, args.as_slice())
-                }
-                _ => Ok(None),
-            };
+            return cover.companion.spatial().get(k);
         }
     }
-    Ok(None)
+    None
 }
 
-/// The existential for a variable that has no term.
-fn existential(unknown: &mut Vec<u16>, variable: u16) -> Result<Term, OutOfMemory> {
-    let mut number: u16 = 0;
-    for other in unknown.iter() {
-        if *other == variable {
-            return Ok(Term::Exist(number));
-        }
-        number = number.saturating_add(1);
-    }
-    unknown.push(variable)?;
-    Ok(Term::Exist(number))
-}
-
-fn image(
-    cover: &Cover<'_>,
-    matching: &Matching,
-    term: Term,
-    unknown: &mut Vec<u16>,
-) -> Result<Term, OutOfMemory> {
-    let Term::Univ(n) = term else {
-        return Ok(term);
-    };
-    if cover.matcher.is_fixed(term) {
-        return Ok(term);
-    }
-    match value_of(&matching.pairs, n) {
-        Some(value) => Ok(value),
-        None => existential(unknown, n),
-    }
-}
-
-/// The places of the goal's atoms that the map does not use.
-fn free_places(
-    alloc: Global,
-    cover: &Cover<'_>,
-    matching: &Matching,
-) -> Result<Vec<u32>, OutOfMemory> {
-    let mut free = Vec::new(alloc);
+/// The first eight places of the goal's atoms that the map does not use.
+fn free_places(cover: &Cover<'_>, matching: &Matching) -> Places {
+    let mut free = Places::none();
     for (place, _) in cover.goal.spatial().iter().enumerate() {
         let place = place as u32;
         if !matching.places.contains(&Some(place)) {
-            free.push(place)?;
+            free.push(place);
         }
     }
-    Ok(free)
+    free
 }
 
 /// One atom for another of its kind folds nothing.
@@ -177,17 +131,14 @@ fn is_idle(goal: &Heap, places: &[u32], missing: &Spatial) -> bool {
 }
 
 /// The sets of free places whose atoms may be folded: all of them, where every atom is to be covered by the one that is missing.
-fn choices(
-    alloc: Global,
-    cover: &Cover<'_>,
-    matching: &Matching,
-) -> Result<Vec<Vec<u32>>, OutOfMemory> {
-    let free = free_places(alloc, cover, matching)?;
+fn choices(cover: &Cover<'_>, matching: &Matching) -> Result<Vec<Places>, OutOfMemory> {
+    let free = free_places(cover, matching);
     let takes_all = cover.is_whole && matching.skipped == 1;
-    let least = if takes_all { free.len() } else { 0 };
-    subsets(alloc, &free, least, MOST_FOLDED)
+    let least = if takes_all { free.as_slice().len() } else { 0 };
+    subsets(cover.matcher.alloc, free.as_slice(), least, MOST_FOLDED)
 }
 
+/// Adds the folds of atoms into the one that a map leaves out.
 fn push_folds(
     moves: &mut Vec<Move>,
     strategy: &Entailments<'_>,
@@ -195,65 +146,48 @@ fn push_folds(
     cover: &Cover<'_>,
     matching: &Matching,
 ) -> Result<(), OutOfMemory> {
-    let Some(missing) = missing_atom(cover, matching)? else {
+    let Some(atom) = missing_atom(cover, matching) else {
         return Ok(());
     };
-    let choices = choices(strategy.setting.alloc, cover, matching)?;
-    for places in &choices {
+    let Some(missing) = image_of(cover, matching, atom)? else {
+        return Ok(());
+    };
+    for places in &choices(cover, matching)? {
+        let places = places.as_slice();
         if !is_idle(cover.goal, places, &missing) {
-            push_cut(
-                moves,
-                strategy,
-                fitting,
-                cover,
-                places,
-                Atom::Spatial(missing),
-                cover.fuel,
-            )?;
+            let atom = Atom::Spatial(missing);
+            push_cut(moves, strategy, fitting, cover, places, atom, cover.fuel)?;
         }
     }
     Ok(())
 }
 
-/// Maps of the companion's atoms, those that leave the fewest out first.
-fn maps(cover: &Cover<'_>) -> Result<Vec<Matching>, OutOfMemory> {
-    let matcher = &cover.matcher;
-    let mut maps = matcher.matchings(cover.companion.spatial(), cover.goal.spatial())?;
-    maps.sort_by_key(|map| map.skipped)?;
-    maps.truncate(MOST_MAPS);
-    Ok(maps)
-}
-
-/// Adds the folds of atoms into those that the companion has and the goal has not.
+/// Adds the folds of atoms into those that the companion has and the goal has not. Of the maps of the companion's atoms, those
+/// that leave the fewest out come first.
 fn push_all_folds(
     moves: &mut Vec<Move>,
     strategy: &Entailments<'_>,
     fitting: &mut Fitting,
     cover: &Cover<'_>,
 ) -> Result<(), OutOfMemory> {
-    let maps = maps(cover)?;
-    for matching in &maps {
-        push_folds(moves, strategy, fitting, cover, matching)?;
+    let matcher = &cover.matcher;
+    let maps = matcher.matchings(cover.companion.spatial(), cover.goal.spatial())?;
+    let mut left = MOST_MAPS;
+    for skipped in 0..MOST_SKIPPED + 1 {
+        for matching in &maps {
+            if matching.skipped == skipped && left > 0 {
+                left = left - 1;
+                push_folds(moves, strategy, fitting, cover, matching)?;
+            }
+        }
     }
     Ok(())
 }
 
-/// The moves that make a pure atom that the companion asks for; where there is none, the folds.
-fn folds_for(
-    strategy: &Entailments<'_>,
-    fitting: &mut Fitting,
-    cover: &Cover<'_>,
-) -> Result<Vec<Move>, OutOfMemory> {
-    let mut moves = Vec::new(strategy.setting.alloc);
-    match missing_pure(&cover.matcher, cover.goal, cover.companion) {
-        Some(atom) => push_pure_moves(&mut moves, strategy, fitting, cover, atom)?,
-        None => push_all_folds(&mut moves, strategy, fitting, cover)?,
-    }
-    Ok(moves)
-}
-
-/// The folds after which a link to the companion may cover the node; `folds` is how many are left, this one counted.
-pub fn folds(
+/// Adds the folds after which a link to the companion may cover the node: the moves that make a pure atom that the companion
+/// asks for; where there is none, the folds. `folds` is how many are left, this one counted.
+pub fn push_covers(
+    moves: &mut Vec<Move>,
     strategy: &Entailments<'_>,
     fitting: &mut Fitting,
     draft: &Draft,
@@ -261,13 +195,12 @@ pub fn folds(
     companion: u32,
     folds: u32,
     fuel: u32,
-) -> Result<Vec<Move>, OutOfMemory> {
-    let alloc = strategy.setting.alloc;
+) -> Result<(), OutOfMemory> {
     let (Some(below), Some(above)) = (draft.node(node), draft.node(companion)) else {
-        return Ok(Vec::new(alloc));
+        return Ok(());
     };
     if folds == 0 {
-        return Ok(Vec::new(alloc));
+        return Ok(());
     }
     let is_whole = matches!(&below.judgement, Judgement::Entail(_, _));
     let goal = antecedent(&below.judgement);
@@ -275,10 +208,10 @@ pub fn folds(
         goal,
         companion: antecedent(&above.judgement),
         matcher: Matcher {
-            alloc,
+            alloc: strategy.setting.alloc,
             fixed_below: strategy.setting.variables(&below.judgement),
             equations: goal.pure(),
-            may_skip: if is_whole { 1 } else { 2 },
+            may_skip: if is_whole { 1 } else { MOST_SKIPPED },
         },
         is_whole,
         fuel,
@@ -288,5 +221,8 @@ pub fn folds(
             fuel,
         },
     };
-    folds_for(strategy, fitting, &cover)
+    match missing_pure(&cover.matcher, cover.goal, cover.companion) {
+        Some(atom) => push_pure_moves(moves, strategy, fitting, &cover, atom),
+        None => push_all_folds(moves, strategy, fitting, &cover),
+    }
 }

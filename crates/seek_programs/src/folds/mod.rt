@@ -11,6 +11,6 @@ mod pures;
 mod strategy;
 
 pub use fitting::Fitting;
-pub use parts::heap_of;
-pub use places::{atoms_at, subsets};
-pub use strategy::Folds;
+pub use parts::{cut_rule, heap_of, part_of};
+pub use places::{Places, subsets};
+pub use strategy::{Folds, push_turns};

@@ -1,23 +1,22 @@
-// Heaps of some atoms of a state.
-use crate::folds::places::atoms_at;
+// Heaps of some atoms of a state, and Cuts by heaps.
 use cyc_memory::OutOfMemory;
-use heap_formula::{Atom, Heap, HeapFault, Pure, Spatial};
+use heap_formula::{Atom, Heap, HeapFault, Positions, Pure, Rule, Spatial};
 use std::alloc::Global;
+
+/// The most pure atoms of a heap.
+const MOST_PURE: usize = 64;
+
+/// The most spatial atoms of a heap that is made of given atoms.
+const MOST_GIVEN: usize = 16;
+
+/// The most spatial atoms of any heap.
+const MOST_SPATIAL: u8 = 32;
 
 /// A heap of these atoms, without those for which it has no room.
 pub fn heap_of(alloc: Global, pure: &[Pure], spatial: &[Spatial]) -> Result<Heap, OutOfMemory> {
-    let mut heap = Heap::new(alloc);
-    for atom in pure {
-        if let Err(HeapFault::OutOfMemory) = heap.push_pure(*atom) {
-            return Err(OutOfMemory);
-        }
-    }
-    for atom in spatial {
-        if let Err(HeapFault::OutOfMemory) = heap.push_spatial(*atom, 16) {
-            return Err(OutOfMemory);
-        }
-    }
-    Ok(heap)
+    let pure = &pure[..pure.len().min(MOST_PURE)];
+    let spatial = &spatial[..spatial.len().min(MOST_GIVEN)];
+    Heap::from_slices(alloc, pure, spatial)
 }
 
 /// The heap of one atom.
@@ -30,6 +29,19 @@ pub fn heap_of_atom(alloc: Global, atom: Atom) -> Result<Heap, OutOfMemory> {
 
 /// The state's pure atoms, and its spatial atoms at the places.
 pub fn part_of(alloc: Global, state: &Heap, places: &[u32]) -> Result<Heap, OutOfMemory> {
-    let atoms = atoms_at(alloc, state.spatial(), places)?;
-    heap_of(alloc, state.pure(), &atoms)
+    let mut part = heap_of(alloc, state.pure(), &[])?;
+    for place in places {
+        if let Some(atom) = state.spatial_at(*place) {
+            if let Err(HeapFault::OutOfMemory) = part.push_spatial(*atom, MOST_SPATIAL) {
+                return Err(OutOfMemory);
+            }
+        }
+    }
+    Ok(part)
+}
+
+/// The Cut of the atoms at the places by a formula.
+pub fn cut_rule(alloc: Global, places: &[u32], formula: Heap) -> Result<Rule, OutOfMemory> {
+    let places = Vec::from_slice(alloc, places)?;
+    Ok(Rule::Cut(Positions::from_vec(places), formula))
 }

@@ -1,7 +1,36 @@
 // Sets of places.
 use cyc_memory::OutOfMemory;
-use heap_formula::Spatial;
 use std::alloc::Global;
+
+/// At most eight places.
+#[derive(Clone, Copy)]
+pub struct Places {
+    count: usize,
+    places: [u32; 8],
+}
+
+impl Places {
+    /// No places.
+    pub fn none() -> Places {
+        Places {
+            count: 0,
+            places: [0; 8],
+        }
+    }
+
+    /// Adds a place, if there is room for it.
+    pub fn push(&mut self, place: u32) {
+        if let Some(slot) = self.places.get_mut(self.count) {
+            *slot = place;
+            self.count = self.count.saturating_add(1);
+        }
+    }
+
+    /// The places in the order in which they came.
+    pub fn as_slice(&self) -> &[u32] {
+        &self.places[..self.count.min(8)]
+    }
+}
 
 /// The sets of `least` to `most` of the places, where only the first eight places are taken, smaller sets first.
 pub fn subsets(
@@ -9,12 +38,12 @@ pub fn subsets(
     places: &[u32],
     least: usize,
     most: usize,
-) -> Result<Vec<Vec<u32>>, OutOfMemory> {
-    let mut all: Vec<Vec<u32>> = Vec::new(alloc);
+) -> Result<Vec<Places>, OutOfMemory> {
+    let mut all = Vec::new(alloc);
     for size in least..most.min(8) + 1 {
         for mask in 0..1u32 << places.len().min(8) {
             if mask.count_ones() as usize == size {
-                all.push(masked(alloc, places, mask)?)?;
+                all.push(masked(places, mask))?;
             }
         }
     }
@@ -22,27 +51,12 @@ pub fn subsets(
 }
 
 /// The places that a mask of eight bits has.
-fn masked(alloc: Global, places: &[u32], mask: u32) -> Result<Vec<u32>, OutOfMemory> {
-    let mut chosen = Vec::new(alloc);
+fn masked(places: &[u32], mask: u32) -> Places {
+    let mut chosen = Places::none();
     for (i, place) in places.iter().enumerate() {
         if i < 8 && mask >> i & 1 == 1 {
-            chosen.push(*place)?;
+            chosen.push(*place);
         }
     }
-    Ok(chosen)
-}
-
-/// The atoms at the places.
-pub fn atoms_at(
-    alloc: Global,
-    atoms: &[Spatial],
-    places: &[u32],
-) -> Result<Vec<Spatial>, OutOfMemory> {
-    let mut chosen = Vec::new(alloc);
-    for place in places {
-        if let Some(atom) = atoms.get(*place as usize) {
-            chosen.push(*atom)?;
-        }
-    }
-    Ok(chosen)
+    chosen
 }

@@ -1,12 +1,10 @@
 // The moves at an entailment, with folds to companions.
 use crate::folds::fitting::Fitting;
-use crate::folds::folding::folds;
+use crate::folds::folding::push_covers;
 use cyc_memory::OutOfMemory;
-use heap_formula::{Heap, Judgement};
-use rule_table::antecedent;
+use heap_formula::Judgement;
 use seek_engine::{
-    Aim, Draft, Entailments, LAST_STAGE, Move, Setting, Stage, Strategy, companions, last_stage,
-    stage_of,
+    Aim, Draft, Entailments, LAST_STAGE, Move, Setting, Stage, Strategy, companions, stage_of,
 };
 
 /// The moves at entailments and at goals that a companion is to cover.
@@ -16,19 +14,40 @@ pub struct Folds<'a> {
     pub fitting: Fitting,
 }
 
-fn is_no_longer(companion: &Heap, goal: &Heap) -> bool {
-    companion.spatial().len() <= goal.spatial().len()
-}
-
-/// Whether the companion is an entailment and its antecedent no longer than the node's.
+/// Whether the companion may cover the node: it is an entailment too, with an antecedent that is no longer, or a `from`
+/// judgement of the same line.
 fn may_cover(draft: &Draft, companion: u32, node: u32) -> bool {
-    match (draft.node(companion), draft.node(node)) {
-        (Some(above), Some(below)) => {
-            matches!(&above.judgement, Judgement::Entail(_, _))
-                && is_no_longer(antecedent(&above.judgement), antecedent(&below.judgement))
+    let (Some(above), Some(below)) = (draft.node(companion), draft.node(node)) else {
+        return false;
+    };
+    match (&above.judgement, &below.judgement) {
+        (Judgement::Entail(left, _), Judgement::Entail(goal, _)) => {
+            left.spatial().len() <= goal.spatial().len()
         }
+        (Judgement::Term(line, _), Judgement::Term(other, _)) => *line == *other,
         _ => false,
     }
+}
+
+/// Adds folds to each of the companions that may cover the node.
+pub fn push_turns(
+    moves: &mut Vec<Move>,
+    draft: &Draft,
+    companions: &[u32],
+    node: u32,
+    folds: u32,
+    fuel: u32,
+) -> Result<(), OutOfMemory> {
+    for companion in companions {
+        if may_cover(draft, *companion, node) {
+            moves.push(Move::Turn(Aim::Fold {
+                companion: *companion,
+                folds,
+                fuel,
+            }))?;
+        }
+    }
+    Ok(())
 }
 
 impl<'a> Folds<'a> {
@@ -41,70 +60,61 @@ impl<'a> Folds<'a> {
     }
 
     /// A link to the companion; then folds.
-    pub fn fold_stage(
+    fn offer_folds(
         &mut self,
+        offered: &mut Stage,
         draft: &Draft,
         node: u32,
         companion: u32,
-        left: u32,
+        folds: u32,
         fuel: u32,
         stage: u32,
-    ) -> Result<Stage, OutOfMemory> {
+    ) -> Result<(), OutOfMemory> {
+        let moves = &mut offered.moves;
         if stage == 0 {
-            let mut moves = Vec::new(self.entailments.setting.alloc);
             moves.push(Move::Link(companion))?;
-            return Ok(stage_of(moves));
+            return Ok(());
         }
-        let moves = folds(
+        let fitting = &mut self.fitting;
+        push_covers(
+            moves,
             &self.entailments,
-            &mut self.fitting,
+            fitting,
             draft,
             node,
             companion,
-            left,
+            folds,
             fuel,
         )?;
-        let mut stage = last_stage(moves);
-        stage.cost = self.fitting.take_cost();
-        Ok(stage)
+        offered.is_last = true;
+        offered.cost = self.fitting.take_cost();
+        Ok(())
     }
 
-    /// Folds to each companion, the latest first.
-    fn fold_turns(&self, draft: &Draft, node: u32, fuel: u32) -> Result<Vec<Move>, OutOfMemory> {
-        let alloc = self.entailments.setting.alloc;
-        let all = companions(alloc, draft)?;
-        let mut moves = Vec::new(alloc);
-        for companion in &all {
-            if fuel > 0 && may_cover(draft, *companion, node) {
-                moves.push(Move::Turn(Aim::Fold {
-                    companion: *companion,
-                    folds: 2,
-                    fuel: fuel - 1,
-                }))?;
-            }
-        }
-        Ok(moves)
-    }
-}
-
-impl Strategy for Folds<'_> {
-    fn stage(
+    /// The moves of a stage.
+    pub fn stage(
         &mut self,
         draft: &Draft,
         node: u32,
         aim: Aim,
         stage: u32,
     ) -> Result<Stage, OutOfMemory> {
+        let alloc = self.entailments.setting.alloc;
+        let mut offered = stage_of(Vec::new(alloc));
         match aim {
             Aim::Fold {
                 companion,
                 folds,
                 fuel,
-            } => self.fold_stage(draft, node, companion, folds, fuel, stage),
+            } => self.offer_folds(&mut offered, draft, node, companion, folds, fuel, stage)?,
             Aim::Entail(fuel) if stage == LAST_STAGE => {
-                Ok(stage_of(self.fold_turns(draft, node, fuel)?))
+                let all = companions(alloc, draft)?;
+                if fuel > 0 {
+                    push_turns(&mut offered.moves, draft, &all, node, 2, fuel - 1)?;
+                }
             }
-            _ => self.entailments.stage(draft, node, aim, stage),
+            _ => return self.entailments.stage(draft, node, aim, stage),
         }
+        Ok(offered)
     }
 }
