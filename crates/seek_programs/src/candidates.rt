@@ -104,14 +104,14 @@ impl General {
         Ok(())
     }
 
-    /// Brings the disequations of fixed terms that both states have, and that do not stay as written. Those of the first state
-    /// are seen by the atoms that are cut away.
-    fn push_disequations(&mut self, commons: &Commons<'_>) -> Result<(), OutOfMemory> {
-        let seen = part_of(commons.alloc, commons.first, &self.cut)?;
-        for (i, t) in commons.terms.iter().enumerate() {
-            for u in commons.terms.iter().take(i) {
+    /// Brings the disequations of fixed terms that both states have, the first one by these of its atoms, and that do not stay
+    /// as written.
+    fn push_disequations(&mut self, commons: &Commons<'_>, seen: &Heap) -> Result<(), OutOfMemory> {
+        let terms = commons.terms.as_slice();
+        for (i, t) in terms.iter().enumerate() {
+            for (k, u) in terms.iter().enumerate() {
                 let atom = Pure::Neq(*t, *u);
-                let is_apart = is_common(commons, &seen, *t, *u);
+                let is_apart = k < i && is_common(commons, seen, *t, *u);
                 if is_apart && !has_kept(commons.first, &self.weakened, atom) {
                     self.pure.push(atom)?;
                 }
@@ -151,6 +151,9 @@ impl General {
         self.dropped.reverse();
         lower(&mut self.dropped, &self.cut);
         self.weaken(commons)?;
-        self.push_disequations(commons)
+        let seen = part_of(commons.alloc, commons.first, &self.cut)?;
+        let pushed = self.push_disequations(commons, &seen);
+        drop(seen);
+        pushed
     }
 }

@@ -42,8 +42,7 @@ impl<'a> Commons<'a> {
             terms: Vec::new(alloc),
             pairs: Vec::new(alloc),
         };
-        commons.push_all_terms()?;
-        commons.push_pairs()?;
+        commons.fill()?;
         Ok(commons)
     }
 
@@ -60,15 +59,6 @@ impl<'a> Commons<'a> {
                 self.terms.push(*term)?;
                 self.pairs.push((*term, *term))?;
             }
-        }
-        Ok(())
-    }
-
-    fn push_all_terms(&mut self) -> Result<(), OutOfMemory> {
-        let earlier = terms_of(self.alloc, self.first)?;
-        let later = terms_of(self.alloc, self.second)?;
-        for terms in &[later.as_slice(), earlier.as_slice(), &[Term::Nil]] {
-            self.push_terms(terms, &earlier, &later)?;
         }
         Ok(())
     }
@@ -104,6 +94,16 @@ impl<'a> Commons<'a> {
             }
         }
         Ok(())
+    }
+
+    /// Adds the terms, and then the pairs.
+    fn fill(&mut self) -> Result<(), OutOfMemory> {
+        let earlier = terms_of(self.alloc, self.first)?;
+        let later = terms_of(self.alloc, self.second)?;
+        for terms in &[later.as_slice(), earlier.as_slice(), &[Term::Nil]] {
+            self.push_terms(terms, &earlier, &later)?;
+        }
+        self.push_pairs()
     }
 
     /// The common term for a term of the first state and one of the second, up to their equations.

@@ -89,6 +89,13 @@ fn first_binding(heap: &Heap) -> Option<(u16, Term)> {
     None
 }
 
+/// The heap with a term for a variable.
+fn bound(alloc: Global, heap: &Heap, binding: (u16, Term)) -> Result<Heap, OutOfMemory> {
+    let mut pairs = Vec::new(alloc);
+    pairs.push(binding)?;
+    apply_to_heap(alloc, heap, &Subst::from_vec(pairs))
+}
+
 /// The heap with one term for the sides of each equation.
 fn settled(alloc: Global, heap: &Heap) -> Result<Heap, OutOfMemory> {
     let mut heap = heap.clone()?;
@@ -96,8 +103,9 @@ fn settled(alloc: Global, heap: &Heap) -> Result<Heap, OutOfMemory> {
         let Some(binding) = first_binding(&heap) else {
             return Ok(heap);
         };
-        let pairs = Vec::from_slice(alloc, &[binding])?;
-        heap = apply_to_heap(alloc, &heap, &Subst::from_vec(pairs))?;
+        let next = bound(alloc, &heap, binding);
+        drop(heap);
+        heap = next?;
     }
     Ok(heap)
 }
@@ -107,8 +115,10 @@ fn is_contradictory(setting: &Setting<'_>, judgement: &Judgement) -> Result<bool
     let Judgement::Term(line, state) = judgement else {
         return Ok(false);
     };
-    let state = settled(setting.alloc, state)?;
-    setting.goes(&Judgement::Term(*line, state), &Rule::Absurd)
+    let settled = Judgement::Term(*line, settled(setting.alloc, state)?);
+    let goes = setting.goes(&settled, &Rule::Absurd);
+    drop(settled);
+    goes
 }
 
 /// Whether Exec is a test of which one outcome is absurd.
@@ -116,13 +126,15 @@ pub fn is_decided(setting: &Setting<'_>, judgement: &Judgement) -> Result<bool, 
     let Some(premises) = setting.premises(judgement, &Rule::Exec)? else {
         return Ok(false);
     };
-    match premises.as_slice() {
-        [jump, next] => Ok(
-            is_contradictory(setting, &jump.judgement)?
-                || is_contradictory(setting, &next.judgement)?,
-        ),
-        _ => Ok(false),
+    if premises.len() != 2 {
+        return Ok(false);
     }
+    for premise in premises.iter() {
+        if is_contradictory(setting, &premise.judgement)? {
+            return Ok(true);
+        }
+    }
+    Ok(false)
 }
 
 /// Whether the atom is a predicate's.

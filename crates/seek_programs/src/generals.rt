@@ -54,10 +54,12 @@ fn push_general(
         return Ok(());
     }
     let mut general = General::none(commons.alloc);
-    general.fill(commons, folds)?;
-    if !general.is_idle() && !has_same(all, &general) {
-        all.push(general)?;
+    let filled = general.fill(commons, folds);
+    if filled.is_err() || general.is_idle() || has_same(all, &general) {
+        drop(general);
+        return filled;
     }
+    all.push(general)?;
     Ok(())
 }
 
@@ -72,8 +74,8 @@ fn push_generals(
         push_general(all, commons, &[fold])?;
     }
     for (i, fold) in folds.iter().enumerate() {
-        for other in folds.iter().take(i) {
-            if are_disjoint(other, fold) {
+        for (k, other) in folds.iter().enumerate() {
+            if k < i && are_disjoint(other, fold) {
                 push_general(all, commons, &[other, fold])?;
             }
         }
@@ -160,7 +162,8 @@ pub fn push_general_moves(
     let mut all = Vec::new(alloc);
     push_all(&mut all, entailments, fitting, head, state, variables)?;
     all.sort_by_key(|general| general.score)?;
-    for general in all.iter().take(MOST_STATES) {
+    all.truncate(MOST_STATES);
+    for general in &all {
         push_move(alloc, moves, general, then)?;
     }
     Ok(())

@@ -131,7 +131,9 @@ impl Run<'_> {
             let Some(point) = self.points.pop() else {
                 return Ok(());
             };
-            self.visit(&point)?;
+            let visited = self.visit(&point);
+            drop(point);
+            visited?;
         }
         Ok(())
     }
@@ -186,11 +188,12 @@ fn push_far_states(
     let lift = lift(setting.alloc, state, variables, false)?;
     let far = apply_to_heap(setting.alloc, state, &lift)?;
     drop(lift);
-    push_states(found, setting, head, head, &far)?;
-    if !found.is_empty() {
-        return Ok(());
+    let mut ran = push_states(found, setting, head, head, &far);
+    if ran.is_ok() && found.is_empty() {
+        ran = push_states(found, setting, head, 0, &far);
     }
-    push_states(found, setting, head, 0, &far)
+    drop(far);
+    ran
 }
 
 /// Lowers the variables of the states that were lifted.

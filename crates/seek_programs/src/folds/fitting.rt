@@ -54,7 +54,16 @@ fn names_of(alloc: Global, part: &Heap, formula: &Heap) -> Result<Subst, OutOfMe
     Ok(Subst::from_vec(pairs))
 }
 
-/// The entailment of an atom by a part of a state, with other names, so that those are one which differ in names alone.
+/// The entailment with other names, so that those are one which differ in names alone.
+fn canonical(alloc: Global, part: &Heap, formula: &Heap) -> Result<Judgement, OutOfMemory> {
+    let names = names_of(alloc, part, formula)?;
+    let formula = apply_to_heap(alloc, formula, &names)?;
+    let formula = Disjuncts::single(alloc, formula)?;
+    let part = apply_to_heap(alloc, part, &names)?;
+    Ok(Judgement::Entail(part, formula))
+}
+
+/// The entailment of an atom by a part of a state.
 fn question(
     alloc: Global,
     state: &Heap,
@@ -63,13 +72,10 @@ fn question(
 ) -> Result<Judgement, OutOfMemory> {
     let part = part_of(alloc, state, places)?;
     let formula = heap_of_atom(alloc, atom)?;
-    let names = names_of(alloc, &part, &formula)?;
-    let left = apply_to_heap(alloc, &part, &names)?;
+    let question = canonical(alloc, &part, &formula);
     drop(part);
-    let right = apply_to_heap(alloc, &formula, &names)?;
     drop(formula);
-    drop(names);
-    Ok(Judgement::Entail(left, Disjuncts::single(alloc, right)?))
+    question
 }
 
 fn short_search(strategy: &Entailments<'_>, judgement: &Judgement) -> Result<Outcome, OutOfMemory> {
@@ -114,10 +120,18 @@ impl Fitting {
         None
     }
 
-    /// Keeps what became known, as long as there is room.
-    fn keep(&mut self, known: Known) -> Result<(), OutOfMemory> {
+    fn keep(
+        &mut self,
+        fingerprint: u32,
+        judgement: &Judgement,
+        is_found: bool,
+    ) -> Result<(), OutOfMemory> {
         if self.known.len() < MOST_KNOWN {
-            self.known.push(known)?;
+            self.known.push(Known {
+                fingerprint,
+                judgement: judgement.clone()?,
+                is_found,
+            })?;
         }
         Ok(())
     }
@@ -126,19 +140,15 @@ impl Fitting {
     fn find_out(
         &mut self,
         strategy: &Entailments<'_>,
-        judgement: Judgement,
+        judgement: &Judgement,
     ) -> Result<bool, OutOfMemory> {
-        let fingerprint = fingerprint(&judgement);
-        if let Some(answer) = self.answer(fingerprint, &judgement) {
+        let fingerprint = fingerprint(judgement);
+        if let Some(answer) = self.answer(fingerprint, judgement) {
             return Ok(answer);
         }
-        let outcome = short_search(strategy, &judgement)?;
+        let outcome = short_search(strategy, judgement)?;
         self.spend(outcome.steps / 4);
-        self.keep(Known {
-            fingerprint,
-            judgement,
-            is_found: outcome.is_found,
-        })?;
+        self.keep(fingerprint, judgement, outcome.is_found)?;
         Ok(outcome.is_found)
     }
 
@@ -155,9 +165,9 @@ impl Fitting {
             self.asked = 0;
             self.spend(1);
         }
-        self.find_out(
-            strategy,
-            question(strategy.setting.alloc, state, places, atom)?,
-        )
+        let judgement = question(strategy.setting.alloc, state, places, atom)?;
+        let found = self.find_out(strategy, &judgement);
+        drop(judgement);
+        found
     }
 }
