@@ -127,8 +127,13 @@ fn push_later(
     let alloc = entailments.setting.alloc;
     let commons = Commons::new(alloc, state, later, variables)?;
     let mut folds = Vec::new(alloc);
-    push_state_folds(&mut folds, entailments, fitting, &commons)?;
-    push_generals(all, &commons, &folds)
+    let mut ran = push_state_folds(&mut folds, entailments, fitting, &commons);
+    if ran.is_ok() {
+        ran = push_generals(all, &commons, &folds);
+    }
+    drop(folds);
+    drop(commons);
+    ran
 }
 
 /// Adds the candidates at a head.

@@ -224,7 +224,11 @@ impl General {
                 left.push(i)?;
             }
         }
-        self.generalise(commons, &left, false)?;
-        self.generalise(commons, &left, true)
+        let mut ran = self.generalise(commons, &left, false);
+        if ran.is_ok() {
+            ran = self.generalise(commons, &left, true);
+        }
+        drop(left);
+        ran
     }
 }
