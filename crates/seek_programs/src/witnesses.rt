@@ -83,21 +83,15 @@ impl Run<'_> {
             return Ok(());
         }
         let mut moves = Vec::new(self.setting.alloc);
-        push_steps(
-            &mut moves,
-            self.setting,
-            judgement,
-            line,
-            state,
-            Aim::Run(0),
-        )?;
-        match moves.first() {
-            Some(Move::Step(step)) => match step.rules.first() {
-                Some(rule) => self.push_next(judgement, line, rule),
-                None => Ok(()),
-            },
-            _ => Ok(()),
+        let aim = Aim::Run(0);
+        let mut ran = push_steps(&mut moves, self.setting, judgement, line, state, aim);
+        if let (Ok(()), Some(Move::Step(step))) = (ran, moves.first()) {
+            if let Some(rule) = step.rules.first() {
+                ran = self.push_next(judgement, line, rule);
+            }
         }
+        drop(moves);
+        ran
     }
 
     /// Goes on from the point; where the run has come to the head again, its state being settled, the state is kept, once.
@@ -111,7 +105,9 @@ impl Run<'_> {
             return Ok(());
         }
         if let Some(rule) = forced_rule(self.setting, &point.judgement, line, state)? {
-            return self.push_next(&point.judgement, line, &rule);
+            let pushed = self.push_next(&point.judgement, line, &rule);
+            drop(rule);
+            return pushed;
         }
         if line != self.head || point.depth == 0 {
             return self.go_on(&point.judgement, line, state);
@@ -161,7 +157,9 @@ fn push_states(
         path: Vec::new(setting.alloc),
         found,
     };
-    run.go()
+    let ran = run.go();
+    drop(run);
+    ran
 }
 
 /// The substitution that lifts the heap's logic variables, or lowers them again.
