@@ -1,9 +1,9 @@
 // The folds of small states into a list segment.
-ghost use Rattle.std.specs.Prelude.{◌≡◌, ◌≤◌, IfOk, length};
+ghost use Rattle.std.specs.Prelude.{◌≡◌, IfOk};
 
-use cyc_memory::OutOfMemory;
+use crate::given::{HeapRow, Shape, atom, heap};
 use fold_offers::folds;
-use heap_formula::{Args, Cases, Def, DefName, Heap, Pure, Rule, Spatial, Term};
+use heap_formula::{Cases, Def, DefName, Pure, Rule, Term};
 use std::alloc::Global;
 use std::test::Fail;
 
@@ -13,21 +13,18 @@ const Y: Term = Term::Univ(1);
 
 const E: Term = Term::Exist(0);
 
-fn segment(t: Term, u: Term) -> Spatial {
-    Spatial::Pred(0, Args::from_slice(&[t, u]))
-}
-
-fn cell(t: Term, u: Term) -> Spatial {
-    Spatial::Cell(t, Args::from_slice(&[u]))
-}
-
 // A segment from `$0` to `$1` is empty, where these are one, or a cell at `$0` and the segment from its field to `$1`.
-fn definition(alloc: Global) -> Result<Def, OutOfMemory>
+const EMPTY: HeapRow = HeapRow(&[Pure::Eq(X, Y)], &[]);
+
+const LONGER: HeapRow = HeapRow(
+    &[Pure::Neq(X, Y)],
+    &[Shape::At(X, &[E]), Shape::Pred(0, &[E, Y])],
+);
+
+fn definition(alloc: Global) -> Result<Def, Fail>
     ensures { IfOk result (λ d. d.arity ≡ 2) }
 {
-    let mut cases = Vec::new(alloc);
-    cases.push(Heap::from_slices(alloc, &[Pure::Eq(X, Y)], &[])?)?;
-    cases.push(Heap::from_slices(alloc, &[Pure::Neq(X, Y)], &[cell(X, E), segment(E, Y)])?)?;
+    let cases = vec![in alloc; heap(alloc, EMPTY)?, heap(alloc, LONGER)?]?;
     Ok(Def {
         name: DefName::from_text(String::from_str(alloc, "ls")?),
         arity: 2,
@@ -42,6 +39,35 @@ const B: Term = Term::Univ(6);
 
 const C: Term = Term::Univ(7);
 
+/// A state, and whether its only fold is the segment from a to c. Else it has none.
+struct Row(HeapRow, bool);
+
+// A cell is folded with the segment that begins at its field, where the case's disequation follows, and else not.
+static ROWS: &[Row] = &[
+    Row(
+        HeapRow(
+            &[Pure::Neq(C, A)],
+            &[Shape::Pred(0, &[B, C]), Shape::At(A, &[B])],
+        ),
+        true,
+    ),
+    Row(
+        HeapRow(&[], &[Shape::Pred(0, &[B, C]), Shape::At(A, &[B])]),
+        false,
+    ),
+    Row(
+        HeapRow(
+            &[Pure::Neq(C, A)],
+            &[Shape::Pred(0, &[C, B]), Shape::At(A, &[B])],
+        ),
+        false,
+    ),
+    Row(
+        HeapRow(&[Pure::Neq(C, A)], &[Shape::Pred(0, &[B, C])]),
+        false,
+    ),
+];
+
 /// Whether the only rule folds the atoms at 0 and 1 into the segment from a to c.
 fn is_segment(rules: &[Rule]) -> bool {
     let [Rule::Cut(places, formula)] = rules else {
@@ -49,35 +75,23 @@ fn is_segment(rules: &[Rule]) -> bool {
     };
     places.as_slice() == [0, 1].as_slice()
         && formula.pure().is_empty()
-        && formula.spatial() == [segment(A, C)].as_slice()
+        && formula.spatial() == [atom(Shape::Pred(0, &[A, C]))].as_slice()
 }
 
-/// What the folds of a state come to: the segment, nothing, or something else.
-fn folded(alloc: Global, pure: &[Pure], atoms: &[Spatial]) -> Result<&'static str, OutOfMemory>
-    requires pure_fits { length pure.now ≤ 64 }
-    requires atoms_fit { length atoms.now ≤ 32 }
-{
-    let state = Heap::from_slices(alloc, pure, atoms)?;
+fn is_right(alloc: Global, row: &Row) -> Result<bool, Fail> {
+    let state = heap(alloc, row.0)?;
     let rules = folds(alloc, &state, &[definition(alloc)?])?;
-    if is_segment(&rules) {
-        return Ok("the segment");
-    }
-    Ok(if rules.is_empty() {
-        "nothing"
+    Ok(if row.1 {
+        is_segment(&rules)
     } else {
-        "something else"
+        rules.is_empty()
     })
 }
 
-// A cell is folded with the segment that begins at its field, where the case's disequation follows, and else not.
 #[test]
 fn cells_fold_into_segments(rt: HostRuntime) -> Result<(), Fail> {
-    let alloc = rt.alloc();
-    let apart = [Pure::Neq(C, A)];
-    let joined = [segment(B, C), cell(A, B)];
-    assert!(rt; folded(alloc, &apart, &joined)? == "the segment");
-    assert!(rt; folded(alloc, &[], &joined)? == "nothing");
-    assert!(rt; folded(alloc, &apart, &[segment(C, B), cell(A, B)])? == "nothing");
-    assert!(rt; folded(alloc, &apart, &[segment(B, C)])? == "nothing");
+    for (number, row) in ROWS.iter().enumerate() {
+        assert!(rt; is_right(rt.alloc(), row)?, "row {number}");
+    }
     Ok(())
 }
