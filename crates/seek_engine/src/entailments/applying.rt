@@ -1,7 +1,7 @@
 // A companion as a lemma: what it entails comes in the place of atoms that its antecedent covers.
 use crate::entailments::atoms::{address, arguments};
 use crate::entailments::matching::{Matcher, Matching, value_of};
-use crate::entailments::offers::{companions, only, push_step};
+use crate::entailments::offers::{Offers, companions, only};
 use crate::entailments::sequents::Sequent;
 use crate::{Aim, Draft, Move};
 use cyc_memory::OutOfMemory;
@@ -9,24 +9,23 @@ use heap_formula::{
     Heap, Judgement, Positions, Pure, Rule, Spatial, Subst, Term, apply_to_heap, apply_to_pure,
 };
 use rule_table::follows;
-use std::alloc::Global;
 
-/// Terms for variables that only the companion's succedent has: those by which its atoms become atoms of the goal's.
-fn completed(
+/// Adds terms for variables that only the companion's succedent has: those by which its atoms become atoms of the goal's.
+fn complete(
     matcher: &Matcher<'_>,
-    mut pairs: Vec<(u16, Term)>,
+    pairs: &mut Vec<(u16, Term)>,
     lemma: &Heap,
     right: &Heap,
-) -> Result<Vec<(u16, Term)>, OutOfMemory> {
+) -> Result<(), OutOfMemory> {
     for from in lemma.spatial() {
         for to in right.spatial() {
-            if let Some(longer) = matcher.match_atom(&pairs, from, to)? {
-                pairs = longer;
+            if let Some(longer) = matcher.match_atom(pairs, from, to)? {
+                *pairs = longer;
                 break;
             }
         }
     }
-    Ok(pairs)
+    Ok(())
 }
 
 fn is_known(pairs: &[(u16, Term)], term: Term) -> bool {
@@ -79,15 +78,14 @@ fn has_pures(left: &Heap, lemma: &Heap, subst: &Subst) -> bool {
 }
 
 /// The places in ascending order.
-fn places_of(alloc: Global, places: &[Option<u32>]) -> Result<Vec<u32>, OutOfMemory> {
-    let mut numbers = Vec::new(alloc);
+fn push_sorted(numbers: &mut Vec<u32>, places: &[Option<u32>]) -> Result<(), OutOfMemory> {
     for place in places {
         if let Some(place) = place {
             numbers.push(*place)?;
         }
     }
     numbers.sort()?;
-    Ok(numbers)
+    Ok(())
 }
 
 /// Whether the formula has just the atoms at the places.
@@ -125,60 +123,50 @@ fn has_cut(moves: &[Move], places: &[u32], formula: &Heap) -> bool {
     false
 }
 
-/// What a companion's succedent says here under a map of its antecedent, if the map has terms for all of it.
-fn conclusion(
-    sequent: &Sequent<'_>,
-    matcher: &Matcher<'_>,
-    lemma: (&Heap, &Heap),
-    pairs: Vec<(u16, Term)>,
-) -> Result<Option<Heap>, OutOfMemory> {
-    let (antecedent, succedent) = lemma;
-    let subst = Subst::from_vec(completed(matcher, pairs, succedent, sequent.right)?);
-    if !is_known_heap(subst.pairs(), succedent) || !has_pures(sequent.left, antecedent, &subst) {
-        return Ok(None);
-    }
-    Ok(Some(apply_to_heap(matcher.alloc, succedent, &subst)?))
-}
-
 /// The Cut of atoms by a formula that a companion gives, unless it is idle or offered already.
 fn push_cut(
-    moves: &mut Vec<Move>,
+    offers: &mut Offers,
     sequent: &Sequent<'_>,
     companion: u32,
     places: &[Option<u32>],
     formula: Heap,
-) -> Result<(), OutOfMemory> {
-    let alloc = sequent.setting.alloc;
-    let places = places_of(alloc, places)?;
-    if is_idle(sequent.left, &places, &formula) || has_cut(moves, &places, &formula) {
-        return Ok(());
+) {
+    let mut numbers = Vec::new(offers.alloc);
+    if push_sorted(&mut numbers, places).is_err() {
+        return offers.lack_memory();
     }
-    let rule = Rule::Cut(Positions::from_vec(places), formula);
-    let rules = only(alloc, rule)?;
-    push_step(moves, rules, Some(Aim::Link(companion)), sequent.less())
+    if is_idle(sequent.left, &numbers, &formula) || has_cut(&offers.moves, &numbers, &formula) {
+        return;
+    }
+    let rule = Rule::Cut(Positions::from_vec(numbers), formula);
+    let rules = only(offers.alloc, rule);
+    offers.push_step(rules, Some(Aim::Link(companion)), sequent.less());
 }
 
-/// The Cut by a companion's succedent under a map of its antecedent.
+/// The Cut by what a companion's succedent says here under a map of its antecedent, if the map has terms for all of it.
 fn push_application(
-    moves: &mut Vec<Move>,
+    offers: &mut Offers,
     sequent: &Sequent<'_>,
     matcher: &Matcher<'_>,
     companion: u32,
     lemma: (&Heap, &Heap),
-    matching: Matching,
-) -> Result<(), OutOfMemory> {
-    match conclusion(sequent, matcher, lemma, matching.pairs)? {
-        Some(formula) => push_cut(moves, sequent, companion, &matching.places, formula),
-        None => Ok(()),
+    mut matching: Matching,
+) {
+    let (antecedent, succedent) = lemma;
+    if complete(matcher, &mut matching.pairs, succedent, sequent.right).is_err() {
+        return offers.lack_memory();
+    }
+    let subst = Subst::from_vec(matching.pairs);
+    if !is_known_heap(subst.pairs(), succedent) || !has_pures(sequent.left, antecedent, &subst) {
+        return;
+    }
+    match apply_to_heap(matcher.alloc, succedent, &subst) {
+        Ok(formula) => push_cut(offers, sequent, companion, &matching.places, formula),
+        Err(OutOfMemory) => offers.lack_memory(),
     }
 }
 
-fn push_applications_of(
-    moves: &mut Vec<Move>,
-    sequent: &Sequent<'_>,
-    draft: &Draft,
-    companion: u32,
-) -> Result<(), OutOfMemory> {
+fn push_applications_of(offers: &mut Offers, sequent: &Sequent<'_>, draft: &Draft, companion: u32) {
     let matcher = Matcher {
         alloc: sequent.setting.alloc,
         fixed_below: 0,
@@ -186,40 +174,33 @@ fn push_applications_of(
         may_skip: 0,
     };
     let Some(node) = draft.node(companion) else {
-        return Ok(());
+        return;
     };
     let Judgement::Entail(antecedent, succedents) = &node.judgement else {
-        return Ok(());
+        return;
     };
     let [succedent] = succedents.heaps() else {
-        return Ok(());
+        return;
     };
-    for matching in matcher.matchings(antecedent.spatial(), sequent.left.spatial())? {
-        push_application(
-            moves,
-            sequent,
-            &matcher,
-            companion,
-            (antecedent, succedent),
-            matching,
-        )?;
+    let Ok(matchings) = matcher.matchings(antecedent.spatial(), sequent.left.spatial()) else {
+        return offers.lack_memory();
+    };
+    let lemma = (antecedent, succedent);
+    for matching in matchings {
+        push_application(offers, sequent, &matcher, companion, lemma, matching);
     }
-    Ok(())
 }
 
 /// Cut by what each companion entails, the latest first; the atoms that its antecedent covers are cut away, and a link
 /// proves that they entail it.
-pub fn push_applications(
-    moves: &mut Vec<Move>,
-    sequent: &Sequent<'_>,
-    draft: &Draft,
-) -> Result<(), OutOfMemory> {
+pub fn push_applications(offers: &mut Offers, sequent: &Sequent<'_>, draft: &Draft) {
     if sequent.fuel == 0 {
-        return Ok(());
+        return;
     }
-    let numbers = companions(sequent.setting.alloc, draft)?;
+    let Ok(numbers) = companions(offers.alloc, draft) else {
+        return offers.lack_memory();
+    };
     for companion in &numbers {
-        push_applications_of(moves, sequent, draft, *companion)?;
+        push_applications_of(offers, sequent, draft, *companion);
     }
-    Ok(())
 }

@@ -1,13 +1,12 @@
 // Moves that lose nothing, so that no others are offered beside them.
 use crate::entailments::atoms::unifies;
-use crate::entailments::offers::{companions, offer_alone, push_rule};
+use crate::entailments::offers::{Offers, companions};
 use crate::entailments::predicates::first_existential;
 use crate::entailments::sequents::Sequent;
-use crate::{Aim, Draft, Move, Setting, Stage};
+use crate::{Aim, Draft, Move, Setting};
 use cyc_memory::OutOfMemory;
 use heap_formula::{Heap, Judgement, Pure, Rule, Side, Spatial, Term};
 use rule_table::{equated, follows, is_universal_pure};
-use std::alloc::Global;
 
 /// What a look at an entailment says.
 pub enum Sight {
@@ -22,10 +21,9 @@ pub enum Sight {
 fn first_equation(heap: &Heap) -> Option<Rule> {
     for (k, atom) in heap.pure().iter().enumerate() {
         if let Pure::Eq(t, u) = *atom {
-            let side = if t == Term::Nil && u != Term::Nil {
-                Side::Right
-            } else {
-                Side::Left
+            let side = match (t, u) {
+                (Term::Nil, Term::Univ(_) | Term::Exist(_)) => Side::Right,
+                _ => Side::Left,
             };
             return Some(Rule::Rewrite(k as u32, side));
         }
@@ -33,40 +31,32 @@ fn first_equation(heap: &Heap) -> Option<Rule> {
     None
 }
 
-fn push_links(moves: &mut Vec<Move>, companions: &[u32]) -> Result<(), OutOfMemory> {
-    for companion in companions {
-        moves.push(Move::Link(*companion))?;
+fn push_done_and_links(offers: &mut Offers, draft: &Draft, aim: Aim) {
+    offers.push_rule(Rule::Done, aim);
+    let Ok(numbers) = companions(offers.alloc, draft) else {
+        return offers.lack_memory();
+    };
+    for companion in &numbers {
+        offers.push(Move::Link(*companion));
     }
-    Ok(())
-}
-
-fn push_done_and_links(
-    moves: &mut Vec<Move>,
-    alloc: Global,
-    draft: &Draft,
-    aim: Aim,
-) -> Result<(), OutOfMemory> {
-    push_rule(moves, alloc, Rule::Done, aim)?;
-    let numbers = companions(alloc, draft)?;
-    push_links(moves, &numbers)
 }
 
 /// Absurd, Rewrite by the first equation; else Done and links.
 pub fn first_stage(
-    offered: &mut Stage,
+    offers: &mut Offers,
     setting: &Setting<'_>,
     draft: &Draft,
     judgement: &Judgement,
     left: &Heap,
     aim: Aim,
-) -> Result<(), OutOfMemory> {
-    let alloc = setting.alloc;
-    if setting.goes(judgement, &Rule::Absurd)? {
-        return offer_alone(offered, alloc, Rule::Absurd, aim);
-    }
-    match first_equation(left) {
-        Some(rule) => offer_alone(offered, alloc, rule, aim),
-        None => push_done_and_links(&mut offered.moves, alloc, draft, aim),
+) {
+    match setting.goes(judgement, &Rule::Absurd) {
+        Ok(true) => offers.push_alone(Rule::Absurd, aim),
+        Ok(false) => match first_equation(left) {
+            Some(rule) => offers.push_alone(rule, aim),
+            None => push_done_and_links(offers, draft, aim),
+        },
+        Err(OutOfMemory) => offers.lack_memory(),
     }
 }
 

@@ -1,51 +1,34 @@
 // Cells and predicates of the succedent.
 use crate::entailments::atoms::{address, arguments, unifies};
-use crate::entailments::offers::push_rule;
+use crate::entailments::offers::Offers;
 use crate::entailments::sequents::Sequent;
 use crate::{Aim, Move};
-use cyc_memory::OutOfMemory;
 use heap_formula::{Args, Heap, Pure, Rule, Spatial, Term, exists_in_heap};
 use rule_table::{Change, changed_heap, is_universal, is_universal_pure};
 
 /// Frame of one atom with each that is equal.
-fn push_frames_of(
-    moves: &mut Vec<Move>,
-    sequent: &Sequent<'_>,
-    i: u32,
-    atom: &Spatial,
-) -> Result<(), OutOfMemory> {
+fn push_frames_of(offers: &mut Offers, sequent: &Sequent<'_>, i: u32, atom: &Spatial) {
     for (k, wanted) in sequent.right.spatial().iter().enumerate() {
         if *atom == *wanted {
-            let rule = Rule::Frame(i, k as u32);
-            push_rule(moves, sequent.setting.alloc, rule, sequent.same())?;
+            offers.push_rule(Rule::Frame(i, k as u32), sequent.same());
         }
     }
-    Ok(())
 }
 
 /// Frame of equal atoms: cells, or predicates.
-pub fn push_frames(
-    moves: &mut Vec<Move>,
-    sequent: &Sequent<'_>,
-    of_cells: bool,
-) -> Result<(), OutOfMemory> {
+pub fn push_frames(offers: &mut Offers, sequent: &Sequent<'_>, of_cells: bool) {
     for (i, atom) in sequent.left.spatial().iter().enumerate() {
-        if address(atom).is_some() == of_cells {
-            push_frames_of(moves, sequent, i as u32, atom)?;
+        if matches!(atom, Spatial::Cell(_, _)) == of_cells {
+            push_frames_of(offers, sequent, i as u32, atom);
         }
     }
-    Ok(())
-}
-
-fn has_atom(heap: &Heap, wanted: &Spatial) -> bool {
-    heap.spatial().contains(wanted)
 }
 
 /// The address of the first cell of the succedent, without an existential, that is not in the antecedent.
 pub fn wanted_address(sequent: &Sequent<'_>) -> Option<Term> {
     for wanted in sequent.right.spatial() {
         if let Some(term) = address(wanted) {
-            if is_universal(term) && !has_atom(sequent.left, wanted) {
+            if is_universal(term) && !sequent.left.spatial().contains(wanted) {
                 return Some(term);
             }
         }
@@ -53,31 +36,23 @@ pub fn wanted_address(sequent: &Sequent<'_>) -> Option<Term> {
     None
 }
 
-fn push_addresses_for(
-    moves: &mut Vec<Move>,
-    sequent: &Sequent<'_>,
-    variable: u16,
-    wanted: &[Term],
-) -> Result<(), OutOfMemory> {
+fn push_addresses_for(offers: &mut Offers, sequent: &Sequent<'_>, variable: u16, wanted: &[Term]) {
     for atom in sequent.left.spatial() {
         if let Spatial::Cell(term, fields) = atom {
             if unifies(fields.as_slice(), wanted) {
-                let rule = Rule::Instantiate(variable, *term);
-                push_rule(moves, sequent.setting.alloc, rule, sequent.same())?;
+                offers.push_rule(Rule::Instantiate(variable, *term), sequent.same());
             }
         }
     }
-    Ok(())
 }
 
 /// For a cell whose address is an existential: the address of each cell whose fields agree.
-pub fn push_addresses(moves: &mut Vec<Move>, sequent: &Sequent<'_>) -> Result<(), OutOfMemory> {
+pub fn push_addresses(offers: &mut Offers, sequent: &Sequent<'_>) {
     for wanted in sequent.right.spatial() {
         if let Spatial::Cell(Term::Exist(variable), fields) = wanted {
-            push_addresses_for(moves, sequent, *variable, fields.as_slice())?;
+            push_addresses_for(offers, sequent, *variable, fields.as_slice());
         }
     }
-    Ok(())
 }
 
 /// The first disequation without existentials of the succedent.
@@ -126,24 +101,34 @@ fn instance(atom: &Spatial, wanted: &Spatial) -> Option<(u16, Term)> {
     }
 }
 
+fn instantiates(next: &Move, variable: u16, term: Term) -> bool {
+    match next {
+        Move::Step(step) => match step.rules.first() {
+            Some(Rule::Instantiate(v, t)) => *v == variable && *t == term,
+            _ => false,
+        },
+        _ => false,
+    }
+}
+
+fn is_instantiated(moves: &[Move], variable: u16, term: Term) -> bool {
+    for next in moves {
+        if instantiates(next, variable, term) {
+            return true;
+        }
+    }
+    false
+}
+
 /// The same by each such atom, each once.
-fn push_instances(
-    moves: &mut Vec<Move>,
-    sequent: &Sequent<'_>,
-    wanted: &Spatial,
-) -> Result<(), OutOfMemory> {
-    let alloc = sequent.setting.alloc;
-    let mut found = Vec::new(alloc);
+fn push_instances(offers: &mut Offers, sequent: &Sequent<'_>, wanted: &Spatial) {
     for atom in sequent.left.spatial() {
         if let Some((variable, term)) = instance(atom, wanted) {
-            if !found.contains(&(variable, term)) {
-                found.push((variable, term))?;
-                let rule = Rule::Instantiate(variable, term);
-                push_rule(moves, alloc, rule, sequent.same())?;
+            if !is_instantiated(&offers.moves, variable, term) {
+                offers.push_rule(Rule::Instantiate(variable, term), sequent.same());
             }
         }
     }
-    Ok(())
 }
 
 fn has_partner(left: &Heap, wanted: &Spatial) -> bool {
@@ -195,75 +180,48 @@ fn cost_of_body(left: &Heap, body: &Heap) -> Option<u32> {
     Some(u32::from(is_dear))
 }
 
-/// What a case costs on the right, if it may be tried.
-fn cost_of(sequent: &Sequent<'_>, case: &Heap, args: &Args) -> Result<Option<u32>, OutOfMemory> {
-    let change = Change::Right(*args, exists_in_heap(sequent.right));
-    let body = changed_heap(sequent.setting.alloc, &change, case)?;
-    Ok(cost_of_body(sequent.left, &body))
-}
-
 /// The move by which a case comes on the right, if it may be tried.
-fn push_case(
-    moves: &mut Vec<Move>,
-    sequent: &Sequent<'_>,
-    k: u32,
-    c: u32,
-    case: &Heap,
-    args: &Args,
-) -> Result<(), OutOfMemory> {
-    match cost_of(sequent, case, args)? {
-        Some(cost) if cost <= sequent.fuel => {
-            let aim = Aim::Entail(sequent.fuel - cost);
-            push_rule(moves, sequent.setting.alloc, Rule::UnfoldRight(k, c), aim)
+fn push_case(offers: &mut Offers, sequent: &Sequent<'_>, k: u32, c: u32, case: &Heap, args: &Args) {
+    let change = Change::Right(*args, exists_in_heap(sequent.right));
+    let Ok(body) = changed_heap(offers.alloc, &change, case) else {
+        return offers.lack_memory();
+    };
+    if let Some(cost) = cost_of_body(sequent.left, &body) {
+        if cost <= sequent.fuel {
+            offers.push_rule(Rule::UnfoldRight(k, c), Aim::Entail(sequent.fuel - cost));
         }
-        _ => Ok(()),
     }
 }
 
 /// The cases of a predicate atom that may be tried, those with cells or those without.
 fn push_cases(
-    moves: &mut Vec<Move>,
+    offers: &mut Offers,
     sequent: &Sequent<'_>,
     k: u32,
     predicate: u16,
     args: &Args,
     with_cells: bool,
-) -> Result<(), OutOfMemory> {
+) {
     let mut c: u32 = 0;
     for case in sequent.setting.defs.cases(predicate) {
         if has_cell(case) == with_cells {
-            push_case(moves, sequent, k, c, case, args)?;
+            push_case(offers, sequent, k, c, case, args);
         }
         c = c.saturating_add(1);
     }
-    Ok(())
 }
 
-/// The instances of a predicate atom, then its cases, those with cells first.
-fn push_moves(
-    moves: &mut Vec<Move>,
-    sequent: &Sequent<'_>,
-    k: u32,
-    wanted: &Spatial,
-) -> Result<(), OutOfMemory> {
-    let Spatial::Pred(predicate, args) = wanted else {
-        return Ok(());
-    };
-    push_instances(moves, sequent, wanted)?;
-    push_cases(moves, sequent, k, *predicate, args, true)?;
-    push_cases(moves, sequent, k, *predicate, args, false)
-}
-
-/// The instances and the cases of the first predicate atom of the succedent that has any, where there are no moves yet.
-pub fn push_predicate_moves(
-    moves: &mut Vec<Move>,
-    sequent: &Sequent<'_>,
-) -> Result<(), OutOfMemory> {
+/// The instances of a predicate atom, then its cases, those with cells first; of the first predicate atom of the succedent
+/// that has any, where there are no moves yet.
+pub fn push_predicate_moves(offers: &mut Offers, sequent: &Sequent<'_>) {
     for (k, wanted) in sequent.right.spatial().iter().enumerate() {
-        push_moves(moves, sequent, k as u32, wanted)?;
-        if !moves.is_empty() {
+        if let Spatial::Pred(predicate, args) = wanted {
+            push_instances(offers, sequent, wanted);
+            push_cases(offers, sequent, k as u32, *predicate, args, true);
+            push_cases(offers, sequent, k as u32, *predicate, args, false);
+        }
+        if !offers.moves.is_empty() {
             break;
         }
     }
-    Ok(())
 }

@@ -3,16 +3,16 @@ use crate::entailments::applying::push_applications;
 use crate::entailments::disjuncts::disjunct_stage;
 use crate::entailments::dividing::push_divisions;
 use crate::entailments::forced::{Sight, first_stage, look_at};
-use crate::entailments::offers::{deepening, no_moves, offer_alone, one_move, push_rule, stage_of};
+use crate::entailments::offers::{Offers, deepening, no_moves, one_move};
 use crate::entailments::predicates::{
     is_all_cells, push_addresses, push_frames, push_predicate_moves, wanted_address,
     wanted_disequation,
 };
 use crate::entailments::sequents::Sequent;
-use crate::entailments::unfolding::offer_unfolds;
+use crate::entailments::unfolding::push_unfolds;
 use crate::{Aim, Draft, Move, Setting, Stage, Strategy};
 use cyc_memory::OutOfMemory;
-use heap_formula::{Heap, Judgement, Pure, Rule, Term};
+use heap_formula::{Heap, Judgement, Pure, Rule};
 use pred_defs::Defs;
 
 /// The moves at entailments. A shy search does not frame cells by itself, since a framed cell can no longer give a
@@ -74,114 +74,54 @@ impl<'a> Entailments<'a> {
         }
     }
 
-    fn forced(&self, offered: &mut Stage, sequent: &Sequent<'_>) -> Result<(), OutOfMemory> {
+    fn forced(&self, offers: &mut Offers, sequent: &Sequent<'_>) {
         match look_at(sequent, self.is_shy) {
-            Sight::Go(rule) => offer_alone(offered, self.setting.alloc, rule, sequent.same()),
-            Sight::Dead => {
-                offered.is_last = true;
-                Ok(())
-            }
-            Sight::Open if self.is_shy => push_frames(&mut offered.moves, sequent, true),
-            Sight::Open => Ok(()),
+            Sight::Go(rule) => offers.push_alone(rule, sequent.same()),
+            Sight::Dead => offers.is_last = true,
+            Sight::Open if self.is_shy => push_frames(offers, sequent, true),
+            Sight::Open => {}
         }
-    }
-
-    fn unfold(
-        &self,
-        offered: &mut Stage,
-        sequent: &Sequent<'_>,
-        heaps: &[Heap],
-        wanted: Option<Term>,
-    ) -> Result<(), OutOfMemory> {
-        let alloc = self.setting.alloc;
-        offer_unfolds(offered, alloc, sequent.left, heaps, wanted, sequent.fuel)
-    }
-
-    /// A cell of the succedent without a partner, if there is one; else cells whose addresses are existentials.
-    fn cells(
-        &self,
-        offered: &mut Stage,
-        sequent: &Sequent<'_>,
-        heaps: &[Heap],
-    ) -> Result<(), OutOfMemory> {
-        match wanted_address(sequent) {
-            None => push_addresses(&mut offered.moves, sequent),
-            address => self.unfold(offered, sequent, heaps, address),
-        }
-    }
-
-    fn split(
-        &self,
-        offered: &mut Stage,
-        sequent: &Sequent<'_>,
-        heaps: &[Heap],
-    ) -> Result<(), OutOfMemory> {
-        let Some((t, u)) = wanted_disequation(sequent.right) else {
-            return Ok(());
-        };
-        if sequent.fuel > 0 {
-            let rule = Rule::Split(t, u);
-            push_rule(&mut offered.moves, self.setting.alloc, rule, sequent.less())?;
-        }
-        self.unfold(offered, sequent, heaps, None)
-    }
-
-    /// Without spatial atoms on the right cells of the left stay for ever.
-    fn empty(
-        &self,
-        offered: &mut Stage,
-        sequent: &Sequent<'_>,
-        heaps: &[Heap],
-    ) -> Result<(), OutOfMemory> {
-        if !sequent.right.spatial().is_empty() {
-            return Ok(());
-        }
-        if is_all_cells(sequent.left) {
-            offered.is_last = true;
-            return Ok(());
-        }
-        self.unfold(offered, sequent, heaps, None)
     }
 
     /// The moves at one disjunct.
     fn single_stage(
         &self,
-        offered: &mut Stage,
+        offers: &mut Offers,
         sequent: &Sequent<'_>,
         draft: &Draft,
         heaps: &[Heap],
         stage: u32,
-    ) -> Result<(), OutOfMemory> {
+    ) {
         match stage {
-            1 => self.forced(offered, sequent),
-            2 => self.cells(offered, sequent, heaps),
-            3 => self.split(offered, sequent, heaps),
-            4 => self.empty(offered, sequent, heaps),
-            5 => push_frames(&mut offered.moves, sequent, false),
-            6 if self.is_narrow => Ok(()),
-            6 => push_divisions(&mut offered.moves, sequent),
-            7 => push_predicate_moves(&mut offered.moves, sequent),
-            8 => push_applications(&mut offered.moves, sequent, draft),
-            _ => self.unfold(offered, sequent, heaps, None),
+            1 => self.forced(offers, sequent),
+            2 => push_for_cells(offers, sequent, heaps),
+            3 => push_split(offers, sequent, heaps),
+            4 => push_without_atoms(offers, sequent, heaps),
+            5 => push_frames(offers, sequent, false),
+            6 if self.is_narrow => {}
+            6 => push_divisions(offers, sequent),
+            7 => push_predicate_moves(offers, sequent),
+            8 => push_applications(offers, sequent, draft),
+            _ => push_unfolds(offers, sequent.left, heaps, None, sequent.fuel),
         }
     }
 
-    /// Adds the moves of a stage, and says so if no others come after them.
+    /// Offers the moves of a stage, and says so if no others come after them.
     fn offer(
         &self,
-        offered: &mut Stage,
+        offers: &mut Offers,
         draft: &Draft,
         judgement: &Judgement,
         fuel: u32,
         stage: u32,
-    ) -> Result<(), OutOfMemory> {
+    ) {
         let Judgement::Entail(left, succedents) = judgement else {
-            offered.is_last = true;
-            return Ok(());
+            offers.is_last = true;
+            return;
         };
         let setting = self.setting;
         if stage == 0 {
-            return first_stage(offered, &setting, draft, judgement, left, Aim::Entail(fuel));
+            return first_stage(offers, &setting, draft, judgement, left, Aim::Entail(fuel));
         }
         let heaps = succedents.heaps();
         match heaps {
@@ -193,9 +133,9 @@ impl<'a> Entailments<'a> {
                     right,
                     fuel,
                 };
-                self.single_stage(offered, &sequent, draft, heaps, stage)
+                self.single_stage(offers, &sequent, draft, heaps, stage)
             }
-            _ => disjunct_stage(offered, setting.alloc, left, heaps, fuel, stage),
+            _ => disjunct_stage(offers, left, heaps, fuel, stage),
         }
     }
 
@@ -206,10 +146,40 @@ impl<'a> Entailments<'a> {
         fuel: u32,
         stage: u32,
     ) -> Result<Stage, OutOfMemory> {
-        let mut offered = stage_of(Vec::new(self.setting.alloc));
-        self.offer(&mut offered, draft, judgement, fuel, stage)?;
-        Ok(offered)
+        let mut offers = Offers::new(self.setting.alloc);
+        self.offer(&mut offers, draft, judgement, fuel, stage);
+        offers.into_stage()
     }
+}
+
+/// A cell of the succedent without a partner, if there is one; else cells whose addresses are existentials.
+fn push_for_cells(offers: &mut Offers, sequent: &Sequent<'_>, heaps: &[Heap]) {
+    match wanted_address(sequent) {
+        None => push_addresses(offers, sequent),
+        address => push_unfolds(offers, sequent.left, heaps, address, sequent.fuel),
+    }
+}
+
+fn push_split(offers: &mut Offers, sequent: &Sequent<'_>, heaps: &[Heap]) {
+    let Some((t, u)) = wanted_disequation(sequent.right) else {
+        return;
+    };
+    if sequent.fuel > 0 {
+        offers.push_rule(Rule::Split(t, u), sequent.less());
+    }
+    push_unfolds(offers, sequent.left, heaps, None, sequent.fuel)
+}
+
+/// Without spatial atoms on the right cells of the left stay for ever.
+fn push_without_atoms(offers: &mut Offers, sequent: &Sequent<'_>, heaps: &[Heap]) {
+    if !sequent.right.spatial().is_empty() {
+        return;
+    }
+    if is_all_cells(sequent.left) {
+        offers.is_last = true;
+        return;
+    }
+    push_unfolds(offers, sequent.left, heaps, None, sequent.fuel)
 }
 
 impl Strategy for Entailments<'_> {

@@ -1,7 +1,7 @@
 // Unfolding on the left.
+use crate::Aim;
 use crate::entailments::atoms::{mentions, shared_terms};
-use crate::entailments::offers::{push_rule, push_step};
-use crate::{Aim, Move, Stage};
+use crate::entailments::offers::Offers;
 use cyc_memory::OutOfMemory;
 use heap_formula::{Heap, Rule, Spatial, Term};
 use std::alloc::Global;
@@ -25,20 +25,19 @@ fn is_wanted(atom: &Spatial, wanted: Option<Term>) -> bool {
 }
 
 /// The places of the predicate atoms, those first that share the most terms with the succedent.
-fn order(
-    alloc: Global,
+fn push_places(
+    places: &mut Vec<(u32, u32)>,
     left: &Heap,
     right: &[Heap],
     wanted: Option<Term>,
-) -> Result<Vec<(u32, u32)>, OutOfMemory> {
-    let mut places = Vec::new(alloc);
+) -> Result<(), OutOfMemory> {
     for (k, atom) in left.spatial().iter().enumerate() {
         if matches!(atom, Spatial::Pred(_, _)) && is_wanted(atom, wanted) {
             places.push((u32::MAX - nearness(atom, right), k as u32))?;
         }
     }
     places.sort()?;
-    Ok(places)
+    Ok(())
 }
 
 /// Unfold after all pure atoms were weakened, so that a companion asks for none.
@@ -48,49 +47,29 @@ fn bare_unfold(alloc: Global, left: &Heap, k: u32) -> Result<Vec<Rule>, OutOfMem
     Ok(rules)
 }
 
-/// Unfold of an atom, and the same without the pure atoms if there are any.
-fn push_unfold(
-    moves: &mut Vec<Move>,
-    alloc: Global,
-    left: &Heap,
-    k: u32,
-    aim: Aim,
-) -> Result<(), OutOfMemory> {
-    push_rule(moves, alloc, Rule::Unfold(k), aim)?;
-    if left.pure().is_empty() {
-        return Ok(());
-    }
-    push_step(moves, bare_unfold(alloc, left, k)?, None, aim)
-}
-
-/// Unfold of each predicate atom, or of those in which a term stands; each also without the pure atoms.
-fn push_unfolds(
-    moves: &mut Vec<Move>,
-    alloc: Global,
+/// Offers Unfold of each predicate atom, or of those in which a term stands, each also without the pure atoms if there are any;
+/// and nothing after them.
+pub fn push_unfolds(
+    offers: &mut Offers,
     left: &Heap,
     right: &[Heap],
     wanted: Option<Term>,
     fuel: u32,
-) -> Result<(), OutOfMemory> {
+) {
+    offers.is_last = true;
     if fuel == 0 {
-        return Ok(());
+        return;
     }
-    let places = order(alloc, left, right, wanted)?;
+    let alloc = offers.alloc;
+    let mut places = Vec::new(alloc);
+    if push_places(&mut places, left, right, wanted).is_err() {
+        return offers.lack_memory();
+    }
+    let aim = Aim::Entail(fuel - 1);
     for (_, k) in &places {
-        push_unfold(moves, alloc, left, *k, Aim::Entail(fuel - 1))?;
+        offers.push_rule(Rule::Unfold(*k), aim);
+        if !left.pure().is_empty() {
+            offers.push_step(bare_unfold(alloc, left, *k), None, aim);
+        }
     }
-    Ok(())
-}
-
-/// Offers these moves, and nothing after them.
-pub fn offer_unfolds(
-    offered: &mut Stage,
-    alloc: Global,
-    left: &Heap,
-    right: &[Heap],
-    wanted: Option<Term>,
-    fuel: u32,
-) -> Result<(), OutOfMemory> {
-    offered.is_last = true;
-    push_unfolds(&mut offered.moves, alloc, left, right, wanted, fuel)
 }
