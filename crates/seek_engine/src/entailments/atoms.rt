@@ -19,14 +19,9 @@ pub fn arguments(atom: &Spatial) -> &[Term] {
     }
 }
 
-/// Whether the term is one of the list.
-pub fn is_one_of(terms: &[Term], term: Term) -> bool {
-    terms.contains(&term)
-}
-
 /// Whether the term stands in the atom.
 pub fn mentions(atom: &Spatial, term: Term) -> bool {
-    address(atom) == Some(term) || is_one_of(arguments(atom), term)
+    address(atom) == Some(term) || arguments(atom).contains(&term)
 }
 
 /// Whether two atoms are of one kind: cells with as many fields, or atoms of one predicate.
@@ -57,13 +52,13 @@ pub fn shared_terms(x: &Spatial, y: &Spatial) -> u32 {
 /// Whether a term other than `nil` stands in both.
 pub fn shares_variable(x: &Spatial, y: &Spatial) -> bool {
     for term in arguments(x) {
-        if *term != Term::Nil && mentions(y, *term) {
+        if !matches!(term, Term::Nil) && mentions(y, *term) {
             return true;
         }
     }
     match address(x) {
-        Some(term) => term != Term::Nil && mentions(y, term),
-        None => false,
+        None | Some(Term::Nil) => false,
+        Some(term) => mentions(y, term),
     }
 }
 

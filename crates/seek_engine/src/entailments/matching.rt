@@ -36,26 +36,7 @@ pub fn value_of(pairs: &[(u16, Term)], variable: u16) -> Option<Term> {
     None
 }
 
-fn has_place(places: &[Option<u32>], place: u32) -> bool {
-    places.contains(&Some(place))
-}
-
 impl Matching {
-    fn empty(alloc: Global) -> Matching {
-        Matching {
-            places: Vec::new(alloc),
-            pairs: Vec::new(alloc),
-            skipped: 0,
-        }
-    }
-
-    /// The places with that of one more atom.
-    fn places_with(&self, place: Option<u32>) -> Result<Vec<Option<u32>>, OutOfMemory> {
-        let mut places = self.places.clone()?;
-        places.push(place)?;
-        Ok(places)
-    }
-
     /// Adds to a list the map with one more atom, at a place or without one, and these terms.
     fn push_with(
         &self,
@@ -63,13 +44,13 @@ impl Matching {
         place: Option<u32>,
         pairs: Vec<(u16, Term)>,
     ) -> Result<(), OutOfMemory> {
-        let places = self.places_with(place)?;
-        let skipped = self.skipped.saturating_add(u32::from(place.is_none()));
-        found.push(Matching {
-            places,
+        let mut longer = Matching {
+            places: self.places.clone()?,
             pairs,
-            skipped,
-        })?;
+            skipped: self.skipped.saturating_add(u32::from(place.is_none())),
+        };
+        longer.places.push(place)?;
+        found.push(longer)?;
         Ok(())
     }
 }
@@ -83,26 +64,23 @@ impl Matcher<'_> {
         }
     }
 
-    fn is_like(&self, t: Term, u: Term) -> bool {
-        equated(self.equations, t, u)
-    }
-
     fn match_term(
         &self,
         pairs: &mut Vec<(u16, Term)>,
         from: Term,
         to: Term,
     ) -> Result<bool, OutOfMemory> {
-        match from {
+        let known = match from {
             Term::Univ(n) if n >= self.fixed_below => match value_of(pairs, n) {
-                Some(known) => Ok(self.is_like(known, to)),
+                Some(known) => known,
                 None => {
                     pairs.push((n, to))?;
-                    Ok(true)
+                    return Ok(true);
                 }
             },
-            _ => Ok(self.is_like(from, to)),
-        }
+            _ => from,
+        };
+        Ok(equated(self.equations, known, to))
     }
 
     fn match_terms(
@@ -112,10 +90,12 @@ impl Matcher<'_> {
         to: &[Term],
     ) -> Result<bool, OutOfMemory> {
         for (place, t) in from.iter().enumerate() {
-            if let Some(u) = to.get(place) {
-                if !self.match_term(pairs, *t, *u)? {
-                    return Ok(false);
-                }
+            let Some(u) = to.get(place) else {
+                return Ok(false);
+            };
+            match self.match_term(pairs, *t, *u) {
+                Ok(true) => {}
+                other => return other,
             }
         }
         Ok(from.len() == to.len())
@@ -129,8 +109,9 @@ impl Matcher<'_> {
         to: &Spatial,
     ) -> Result<bool, OutOfMemory> {
         if let (Some(t), Some(u)) = (address(from), address(to)) {
-            if !self.match_term(pairs, t, u)? {
-                return Ok(false);
+            match self.match_term(pairs, t, u) {
+                Ok(true) => {}
+                other => return other,
             }
         }
         self.match_terms(pairs, arguments(from), arguments(to))
@@ -147,10 +128,10 @@ impl Matcher<'_> {
             return Ok(None);
         }
         let mut longer = Vec::from_slice(self.alloc, pairs)?;
-        if self.add_atom(&mut longer, from, to)? {
-            Ok(Some(longer))
-        } else {
-            Ok(None)
+        match self.add_atom(&mut longer, from, to) {
+            Ok(true) => Ok(Some(longer)),
+            Ok(false) => Ok(None),
+            Err(OutOfMemory) => Err(OutOfMemory),
         }
     }
 
@@ -179,15 +160,16 @@ impl Matcher<'_> {
     ) -> Result<(), OutOfMemory> {
         let mut place: u32 = 0;
         for target in targets {
-            if !has_place(&shorter.places, place) {
+            if !shorter.places.contains(&Some(place)) {
                 self.push_placed(found, shorter, atom, place, target)?;
             }
             place = place.saturating_add(1);
         }
-        if shorter.skipped < self.may_skip && matches!(atom, Spatial::Pred(_, _)) {
-            shorter.push_with(found, None, shorter.pairs.clone()?)?;
+        if shorter.skipped >= self.may_skip || matches!(atom, Spatial::Cell(_, _)) {
+            return Ok(());
         }
-        Ok(())
+        let pairs = shorter.pairs.clone()?;
+        shorter.push_with(found, None, pairs)
     }
 
     /// The maps with one more atom, no more than 64.
@@ -211,8 +193,12 @@ impl Matcher<'_> {
         atoms: &[Spatial],
         targets: &[Spatial],
     ) -> Result<Vec<Matching>, OutOfMemory> {
-        let mut found = Vec::new(self.alloc);
-        found.push(Matching::empty(self.alloc))?;
+        let empty = Matching {
+            places: Vec::new(self.alloc),
+            pairs: Vec::new(self.alloc),
+            skipped: 0,
+        };
+        let mut found = vec![in self.alloc; empty]?;
         for atom in atoms {
             found = self.longer(&found, atom, targets)?;
         }
