@@ -45,13 +45,13 @@ impl DraftNode {
 impl Draft {
     /// The draft of one open node.
     pub fn new(alloc: Global, goal: &Judgement) -> Result<Draft, OutOfMemory> {
-        let mut nodes = Vec::new(alloc);
-        nodes.push(DraftNode {
+        let root = DraftNode {
             judgement: goal.clone()?,
             reason: None,
             edges: Vec::new(alloc),
             parent: None,
-        })?;
+        };
+        let nodes = vec![in alloc; root]?;
         Ok(Draft { nodes, alloc })
     }
 
@@ -102,8 +102,24 @@ impl Draft {
         rule: &Rule,
         premises: &[Premise],
     ) -> Result<(), OutOfMemory> {
-        let edges = edges_to(self.alloc, premises, None)?;
-        self.close(node, Reason::Step(rule.clone()?), edges);
+        self.close(node, Reason::Step(rule.clone()?), Vec::new(self.alloc));
+        self.push_edges(node, premises, None)
+    }
+
+    /// Gives a node edges to premises that have this node, or none yet.
+    pub fn push_edges(
+        &mut self,
+        node: u32,
+        premises: &[Premise],
+        target: Option<u32>,
+    ) -> Result<(), OutOfMemory> {
+        let Some(node) = self.nodes.get_mut(node as usize) else {
+            return Ok(());
+        };
+        for premise in premises {
+            let pairs = premise.pairs.clone()?;
+            node.edges.push(DraftEdge { pairs, target })?;
+        }
         Ok(())
     }
 
@@ -121,20 +137,4 @@ impl Draft {
         self.nodes.truncate(kept);
         self.settle(node, None, Vec::new(self.alloc));
     }
-}
-
-/// Edges to premises that have this node, or none yet.
-pub fn edges_to(
-    alloc: Global,
-    premises: &[Premise],
-    target: Option<u32>,
-) -> Result<Vec<DraftEdge>, OutOfMemory> {
-    let mut edges = Vec::new(alloc);
-    for premise in premises {
-        edges.push(DraftEdge {
-            pairs: premise.pairs.clone()?,
-            target,
-        })?;
-    }
-    Ok(edges)
 }

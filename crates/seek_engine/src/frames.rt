@@ -1,5 +1,8 @@
 // The nodes that are being worked on.
-use crate::moves::{Aim, Move, Step};
+use crate::draft::Draft;
+use crate::moves::{Aim, Move, Stage, Step};
+use crate::setting::Setting;
+use crate::traces::link;
 use cyc_memory::OutOfMemory;
 use heap_formula::{Judgement, Premise, Rule};
 use std::alloc::Global;
@@ -51,12 +54,52 @@ impl Frame {
         }
     }
 
+    /// Takes the moves of the next stage.
+    pub fn take(&mut self, offered: Stage) {
+        let mut moves = offered.moves;
+        moves.reverse();
+        self.moves = moves;
+        self.is_last = offered.is_last;
+        self.stage = self.stage.saturating_add(1);
+    }
+
+    /// Gives the node the first rule of a step, whose premises are the goals.
+    pub fn make_step(
+        &mut self,
+        setting: &Setting<'_>,
+        draft: &mut Draft,
+        step: &Step,
+    ) -> Result<(), OutOfMemory> {
+        let Some((rule, rest)) = step.rules.split_first() else {
+            return Ok(());
+        };
+        let Some(node) = draft.node(self.node) else {
+            return Ok(());
+        };
+        let Some(mut premises) = setting.premises(&node.judgement, rule)? else {
+            return Ok(());
+        };
+        draft.close_by_rule(self.node, rule, &premises)?;
+        self.begin_move(setting.alloc, &mut premises, rest, step)
+    }
+
+    /// Links the node to a companion, if that may be.
+    pub fn make_link(
+        &mut self,
+        setting: &Setting<'_>,
+        draft: &mut Draft,
+        companion: u32,
+    ) -> Result<(), OutOfMemory> {
+        self.is_moving = link(setting, draft, self.node, companion)?;
+        Ok(())
+    }
+
     /// Begins a move: the premises of the step's first rule are the goals. Of two lines the lower one comes first, so
     /// that a loop is settled before the code after it.
-    pub fn begin_move(
+    fn begin_move(
         &mut self,
         alloc: Global,
-        premises: Vec<Premise>,
+        premises: &mut Vec<Premise>,
         rest: &[Rule],
         step: &Step,
     ) -> Result<(), OutOfMemory> {
@@ -68,8 +111,9 @@ impl Frame {
         Ok(())
     }
 
-    /// The move that is being made has failed.
-    pub fn give_up_move(&mut self) {
+    /// The move that is being made has failed: the draft is as it was before.
+    pub fn give_up_move(&mut self, draft: &mut Draft) {
+        draft.reopen(self.node, self.kept);
         self.is_moving = false;
         self.goals.clear();
     }
@@ -84,31 +128,28 @@ fn line_of(judgement: &Judgement) -> u32 {
 
 /// What is to be done at a premise: the rest of the step's rules, but not at a side premise.
 fn task_at(alloc: Global, is_side: bool, rest: &[Rule], step: &Step) -> Result<Task, OutOfMemory> {
-    let mut moves = Vec::new(alloc);
+    let mut aim = step.aim;
     if is_side {
-        return Ok(Task {
-            moves,
-            aim: step.side.unwrap_or(step.aim),
-        });
+        aim = step.side.unwrap_or(aim);
     }
-    if !rest.is_empty() {
-        moves.push(Move::Step(Step {
-            rules: Vec::from_clones(alloc, rest)?,
-            side: None,
-            aim: step.aim,
-        }))?;
+    if is_side || rest.is_empty() {
+        let moves = Vec::new(alloc);
+        return Ok(Task { moves, aim });
     }
-    Ok(Task {
-        moves,
-        aim: step.aim,
-    })
+    let then = Step {
+        rules: Vec::from_clones(alloc, rest)?,
+        side: None,
+        aim,
+    };
+    let moves = vec![in alloc; Move::Step(then)]?;
+    Ok(Task { moves, aim })
 }
 
 /// The premises as goals, the first one at the end.
 fn push_goals(
     goals: &mut Vec<Goal>,
     alloc: Global,
-    mut premises: Vec<Premise>,
+    premises: &mut Vec<Premise>,
     rest: &[Rule],
     step: &Step,
 ) -> Result<(), OutOfMemory> {

@@ -1,5 +1,5 @@
 // Whether every lasso of a draft progresses, and the links that keep it so.
-use crate::draft::{Draft, DraftEdge, DraftNode, edges_to};
+use crate::draft::{Draft, DraftEdge};
 use crate::setting::Setting;
 use back_links::all_links;
 use buchi_inclusion::{Inclusion, included};
@@ -36,33 +36,36 @@ fn triples(alloc: Global, pairs: &[Pair]) -> Result<Vec<(u8, u8, bool)>, OutOfMe
     Ok(triples)
 }
 
-/// The edges that have a node already.
-fn trace_edges(alloc: Global, edges: &[DraftEdge]) -> Result<Vec<Edge>, OutOfMemory> {
-    let mut found = Vec::new(alloc);
+/// Adds the edges that have a node already.
+fn push_edges(
+    found: &mut Vec<Edge>,
+    alloc: Global,
+    edges: &[DraftEdge],
+) -> Result<(), OutOfMemory> {
     for edge in edges {
         if let Some(target) = edge.target {
-            found.push(Edge::new(target, triples(alloc, edge.pairs.as_slice())?))?;
+            let pairs = triples(alloc, edge.pairs.as_slice())?;
+            found.push(Edge::new(target, pairs))?;
         }
     }
-    Ok(found)
+    Ok(())
 }
 
-fn trace_node(alloc: Global, node: &DraftNode) -> Result<Node, OutOfMemory> {
-    let places = positions(alloc, antecedent(&node.judgement))?;
-    Ok(Node::new(places, trace_edges(alloc, &node.edges)?))
-}
-
-fn trace_graph(alloc: Global, draft: &Draft) -> Result<TraceGraph, OutOfMemory> {
-    let mut graph = TraceGraph::new(alloc);
+/// Adds a node for each of the draft's.
+fn push_nodes(graph: &mut TraceGraph, alloc: Global, draft: &Draft) -> Result<(), OutOfMemory> {
     for node in draft.nodes.iter() {
-        graph.push(trace_node(alloc, node)?)?;
+        let mut edges = Vec::new(alloc);
+        push_edges(&mut edges, alloc, &node.edges)?;
+        let places = positions(alloc, antecedent(&node.judgement))?;
+        graph.push(Node::new(places, edges))?;
     }
-    Ok(graph)
+    Ok(())
 }
 
 /// Whether every lasso progresses, as far as few product states tell.
 fn progresses(alloc: Global, draft: &Draft) -> Result<bool, OutOfMemory> {
-    let graph = trace_graph(alloc, draft)?;
+    let mut graph = TraceGraph::new(alloc);
+    push_nodes(&mut graph, alloc, draft)?;
     if !is_graph(&graph) {
         return Ok(false);
     }
@@ -90,42 +93,31 @@ fn links(
     )
 }
 
-/// The one edge of a link.
-fn link_edges(
-    setting: &Setting<'_>,
-    draft: &Draft,
-    bud: u32,
-    reason: &Reason,
-    companion: u32,
-) -> Result<Vec<DraftEdge>, OutOfMemory> {
-    let (Some(below), Some(above)) = (draft.node(bud), draft.node(companion)) else {
-        return Ok(Vec::new(setting.alloc));
-    };
-    match premises_by_reason(
-        setting.alloc,
-        setting.defs,
-        setting.program,
-        &below.judgement,
-        reason,
-        Some(&above.judgement),
-    ) {
-        Ok(premises) => edges_to(setting.alloc, &premises, Some(companion)),
-        Err(RuleError::Fault(_)) => Ok(Vec::new(setting.alloc)),
-        Err(RuleError::OutOfMemory) => Err(OutOfMemory),
-    }
-}
-
-/// Closes a node by a link, and says whether every lasso of the draft progresses with it.
-fn closes_by(
+/// Closes a node by a link.
+fn close_by(
     setting: &Setting<'_>,
     draft: &mut Draft,
     bud: u32,
     companion: u32,
     reason: Reason,
-) -> Result<bool, OutOfMemory> {
-    let edges = link_edges(setting, draft, bud, &reason, companion)?;
-    draft.close(bud, reason, edges);
-    progresses(setting.alloc, draft)
+) -> Result<(), OutOfMemory> {
+    let (Some(below), Some(above)) = (draft.node(bud), draft.node(companion)) else {
+        return Ok(());
+    };
+    let premises = match premises_by_reason(
+        setting.alloc,
+        setting.defs,
+        setting.program,
+        &below.judgement,
+        &reason,
+        Some(&above.judgement),
+    ) {
+        Ok(premises) => premises,
+        Err(RuleError::Fault(_)) => Vec::new(setting.alloc),
+        Err(RuleError::OutOfMemory) => return Err(OutOfMemory),
+    };
+    draft.close(bud, reason, Vec::new(setting.alloc));
+    draft.push_edges(bud, &premises, Some(companion))
 }
 
 /// Closes a node by the first link to a companion with which every lasso of the draft progresses, if there is one.
@@ -137,7 +129,8 @@ pub fn link(
 ) -> Result<bool, OutOfMemory> {
     let kept = draft.len();
     for link in links(setting, draft, bud, companion)? {
-        if closes_by(setting, draft, bud, companion, Reason::Back(link))? {
+        close_by(setting, draft, bud, companion, Reason::Back(link))?;
+        if progresses(setting.alloc, draft)? {
             return Ok(true);
         }
         draft.reopen(bud, kept);
