@@ -107,7 +107,7 @@ impl Draft {
     }
 
     /// Gives a node edges to premises that have this node, or none yet.
-    pub fn push_edges(
+    pub(crate) fn push_edges(
         &mut self,
         node: u32,
         premises: &[Premise],

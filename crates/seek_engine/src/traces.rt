@@ -93,31 +93,31 @@ fn links(
     )
 }
 
-/// Closes a node by a link.
-fn close_by(
+/// Gives a node that a link closes its one edge.
+fn push_link_edge(
     setting: &Setting<'_>,
     draft: &mut Draft,
     bud: u32,
     companion: u32,
-    reason: Reason,
 ) -> Result<(), OutOfMemory> {
     let (Some(below), Some(above)) = (draft.node(bud), draft.node(companion)) else {
         return Ok(());
     };
-    let premises = match premises_by_reason(
+    let Some(reason) = &below.reason else {
+        return Ok(());
+    };
+    match premises_by_reason(
         setting.alloc,
         setting.defs,
         setting.program,
         &below.judgement,
-        &reason,
+        reason,
         Some(&above.judgement),
     ) {
-        Ok(premises) => premises,
-        Err(RuleError::Fault(_)) => Vec::new(setting.alloc),
-        Err(RuleError::OutOfMemory) => return Err(OutOfMemory),
-    };
-    draft.close(bud, reason, Vec::new(setting.alloc));
-    draft.push_edges(bud, &premises, Some(companion))
+        Ok(premises) => draft.push_edges(bud, &premises, Some(companion)),
+        Err(RuleError::Fault(_)) => Ok(()),
+        Err(RuleError::OutOfMemory) => Err(OutOfMemory),
+    }
 }
 
 /// Closes a node by the first link to a companion with which every lasso of the draft progresses, if there is one.
@@ -129,11 +129,12 @@ pub fn link(
 ) -> Result<bool, OutOfMemory> {
     let kept = draft.len();
     for link in links(setting, draft, bud, companion)? {
-        close_by(setting, draft, bud, companion, Reason::Back(link))?;
-        if progresses(setting.alloc, draft)? {
-            return Ok(true);
+        draft.close(bud, Reason::Back(link), Vec::new(setting.alloc));
+        push_link_edge(setting, draft, bud, companion)?;
+        match progresses(setting.alloc, draft) {
+            Ok(false) => draft.reopen(bud, kept),
+            other => return other,
         }
-        draft.reopen(bud, kept);
     }
     Ok(false)
 }

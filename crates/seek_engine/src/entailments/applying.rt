@@ -150,18 +150,19 @@ fn push_application(
     matcher: &Matcher<'_>,
     companion: u32,
     lemma: (&Heap, &Heap),
-    mut matching: Matching,
+    places: &[Option<u32>],
+    mut pairs: Vec<(u16, Term)>,
 ) {
     let (antecedent, succedent) = lemma;
-    if complete(matcher, &mut matching.pairs, succedent, sequent.right).is_err() {
+    if complete(matcher, &mut pairs, succedent, sequent.right).is_err() {
         return offers.lack_memory();
     }
-    let subst = Subst::from_vec(matching.pairs);
+    let subst = Subst::from_vec(pairs);
     if !is_known_heap(subst.pairs(), succedent) || !has_pures(sequent.left, antecedent, &subst) {
         return;
     }
     match apply_to_heap(matcher.alloc, succedent, &subst) {
-        Ok(formula) => push_cut(offers, sequent, companion, &matching.places, formula),
+        Ok(formula) => push_cut(offers, sequent, companion, places, formula),
         Err(OutOfMemory) => offers.lack_memory(),
     }
 }
@@ -186,8 +187,8 @@ fn push_applications_of(offers: &mut Offers, sequent: &Sequent<'_>, draft: &Draf
         return offers.lack_memory();
     };
     let lemma = (antecedent, succedent);
-    for matching in matchings {
-        push_application(offers, sequent, &matcher, companion, lemma, matching);
+    for Matching { places, pairs, .. } in matchings {
+        push_application(offers, sequent, &matcher, companion, lemma, &places, pairs);
     }
 }
 

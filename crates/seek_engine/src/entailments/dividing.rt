@@ -1,23 +1,30 @@
 // One atom of the antecedent for one predicate of the succedent, and the rest for the rest.
 use crate::entailments::atoms::shares_variable;
-use crate::entailments::offers::Offers;
+use crate::entailments::offers::{Offers, only};
 use crate::entailments::sequents::Sequent;
 use cyc_memory::OutOfMemory;
 use heap_formula::{Heap, Positions, Rule, Spatial};
 use rule_table::is_universal_spatial;
 use std::alloc::Global;
 
-/// Cut of the atom at a place by another atom, and Frame of that one.
+/// A list of one rule: Cut of the atom at a place by another atom.
+fn cut_alone(alloc: Global, place: u32, atom: &Spatial) -> Result<Vec<Rule>, OutOfMemory> {
+    let places = Vec::from_slice(alloc, &[place])?;
+    let formula = Heap::from_slices(alloc, &[], &[*atom])?;
+    only(alloc, Rule::Cut(Positions::from_vec(places), formula))
+}
+
+/// The same, and Frame of the last atom with that at a place.
 fn cut_and_frame(
     alloc: Global,
     place: u32,
     atom: &Spatial,
-    frame: Rule,
+    last: u32,
+    k: u32,
 ) -> Result<Vec<Rule>, OutOfMemory> {
-    let formula = Heap::from_slices(alloc, &[], &[*atom])?;
-    let places = vec![in alloc; place]?;
-    let cut = Rule::Cut(Positions::from_vec(places), formula);
-    Ok(vec![in alloc; cut, frame]?)
+    let mut rules = cut_alone(alloc, place, atom)?;
+    rules.push(Rule::Frame(last, k))?;
+    Ok(rules)
 }
 
 fn push_divisions_for(offers: &mut Offers, sequent: &Sequent<'_>, k: u32, wanted: &Spatial) {
@@ -25,8 +32,7 @@ fn push_divisions_for(offers: &mut Offers, sequent: &Sequent<'_>, k: u32, wanted
     let last = (left.len() as u32).saturating_sub(1);
     for (i, atom) in left.iter().enumerate() {
         if *atom != *wanted && shares_variable(atom, wanted) {
-            let frame = Rule::Frame(last, k);
-            let rules = cut_and_frame(sequent.setting.alloc, i as u32, wanted, frame);
+            let rules = cut_and_frame(offers.alloc, i as u32, wanted, last, k);
             offers.push_step(rules, Some(sequent.less()), sequent.less());
         }
     }
