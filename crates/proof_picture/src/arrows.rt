@@ -15,6 +15,7 @@ use node_reasons::premises_by_reason;
 use proof_file::{FileNode, ProofFile};
 use rule_table::antecedent;
 use std::alloc::Global;
+use std::slice::from_ref;
 
 /// An edge of a picture: its number among the edges of its node, counted from 0; the node that it leads to; whether it is
 /// a link to a companion; whether a refused path takes it; and its trace pairs.
@@ -90,12 +91,12 @@ fn is_link(reason: &Reason) -> bool
 }
 
 /// The numbers of the nodes to which a node's edges lead: of its premises, or of its companion.
-fn targets_of(alloc: Global, node: &FileNode) -> Result<Vec<u32>, OutOfMemory>
-    ensures { IfOk result (λ v. v.items ≡ target_numbers node.now.premises node.now.reason) }
+fn targets_of(node: &FileNode) -> &[u32]
+    ensures { result.now ≡ target_numbers node.now.premises node.now.reason }
 {
     match &node.reason {
-        Reason::Step(_) => Ok(Vec::from_slice(alloc, node.premises.as_slice())?),
-        Reason::Back(link) => Ok(Vec::from_slice(alloc, &[link.target])?),
+        Reason::Step(_) => node.premises.as_slice(),
+        Reason::Back(link) => from_ref(&link.target),
     }
 }
 
@@ -110,11 +111,10 @@ fn arrows_of(
     ensures { IfOk result (λ a. map drawn_of a.items ≡ arrows_at file.now (step_in steps.now.steps.keys) v node.now) }
 {
     let premises = premises_of(alloc, file, node)?;
-    let targets = targets_of(alloc, node)?;
     let nodes = file.nodes.as_slice();
     let is_link = is_link(&node.reason);
     let mut arrows = Vec::new(alloc);
-    for (place, target) in targets.iter().enumerate() {
+    for (place, target) in targets_of(node).iter().enumerate() {
         if (*target as usize) < nodes.len() {
             arrows.push(Arrow {
                 place,

@@ -1,6 +1,8 @@
 //! The picture of a proof.
 ghost use Rattle.std.specs.Prelude.{◌≡◌, IfOk, map};
-ghost use Rattle.proof_picture.specs.Pictures.{IsPicture, boxes_from, box_of, fault_at as fault_of_node, is_large as has_many_states};
+ghost use Rattle.proof_picture.specs.Carried.{table};
+ghost use Rattle.proof_picture.specs.Labels.{labels_with};
+ghost use Rattle.proof_picture.specs.Pictures.{IsPicture, boxes_from, box_of, drawn_rows, fault_at as fault_of_node, is_large as has_many_states};
 ghost use Rattle.proof_picture.specs.Arrows.{row_of};
 ghost use Rattle.proof_picture.specs.Pieces.{pieces_of};
 
@@ -81,6 +83,22 @@ fn boxes(
     Ok(boxes)
 }
 
+/// The edges of all nodes, in red those that the verdict refuses.
+fn rows_for(alloc: Global, file: &ProofFile, verdict: &Verdict) -> Result<Vec<Row>, OutOfMemory>
+    ensures { IfOk result (λ v. map row_of v.items ≡ drawn_rows file.now verdict.now) }
+{
+    let steps = RefusedSteps::of(alloc, verdict)?;
+    rows(alloc, file, &steps)
+}
+
+/// The texts of all nodes, whose edges these are.
+fn labels_for(alloc: Global, file: &ProofFile, rows: &[Row]) -> Result<Vec<Label>, OutOfMemory>
+    ensures { IfOk result (λ v. map pieces_of v.items ≡ labels_with file.now (table 0 (map row_of rows.now))) }
+{
+    let flags = atoms_carried(alloc, rows)?;
+    labels_of_file(alloc, file, &flags)
+}
+
 /// The picture of a file about which this is said: in red, the fault of a node, or the steps of a path.
 pub fn picture_of(
     alloc: Global,
@@ -89,10 +107,8 @@ pub fn picture_of(
 ) -> Result<Picture, OutOfMemory>
     ensures { IfOk result (IsPicture file.now verdict.now) }
 {
-    let steps = RefusedSteps::of(alloc, verdict)?;
-    let rows = rows(alloc, file, &steps)?;
-    let flags = atoms_carried(alloc, &rows)?;
-    let labels = labels_of_file(alloc, file, &flags)?;
+    let rows = rows_for(alloc, file, verdict)?;
+    let labels = labels_for(alloc, file, &rows)?;
     let boxes = boxes(alloc, verdict, labels, rows)?;
     let is_large = is_large(verdict);
     Ok(Picture { boxes, is_large })
