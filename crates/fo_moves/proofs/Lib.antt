@@ -8,3 +8,4 @@ pub mod LowVariables
 pub mod Offered
 pub mod Listed
 pub mod Pairing
+mod Keeping

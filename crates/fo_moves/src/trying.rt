@@ -1,5 +1,5 @@
 // Which rules have no fault.
-ghost use Rattle.std.specs.Prelude.{◌≡◌, ◌≤◌, IfOk, length};
+ghost use Rattle.std.specs.Prelude.{◌≡◌, ◌≤◌, IfOk, length, take};
 ghost use Rattle.std.specs.List.{filter};
 ghost use Rattle.fold_offers.specs.Places.{first_that};
 ghost use Rattle.fo_moves.specs.Trying.{goes as goes_at};
@@ -29,6 +29,29 @@ fn goes(
     }
 }
 
+/// The first rules without a fault, at most so many.
+fn first_that_go(
+    alloc: Global,
+    theory: &FoTheory,
+    sequent: &FoSequent,
+    mut rules: Vec<FoRule>,
+    most: usize,
+) -> Result<Vec<FoRule>, OutOfMemory>
+    requires left_fits { length sequent.now.left ≤ MOST_LEFT }
+    requires right_fits { length sequent.now.right ≤ MOST_RIGHT }
+    ensures { IfOk result (λ v. v.items ≡ take most (filter (goes_at theory.now sequent.now) rules.items)) }
+{
+    let mut kept = 0;
+    for k in 0..rules.len() {
+        if kept < most && goes(alloc, theory, sequent, &rules[k])? {
+            rules.swap(kept, k);
+            kept += 1;
+        }
+    }
+    rules.truncate(kept);
+    Ok(rules)
+}
+
 /// The rules without a fault.
 pub fn those_that_go(
     alloc: Global,
@@ -40,13 +63,8 @@ pub fn those_that_go(
     requires right_fits { length sequent.now.right ≤ MOST_RIGHT }
     ensures { IfOk result (λ v. v.items ≡ filter (goes_at theory.now sequent.now) rules.items) }
 {
-    let mut kept = Vec::new(alloc);
-    for rule in rules {
-        if goes(alloc, theory, sequent, &rule)? {
-            kept.push(rule)?;
-        }
-    }
-    Ok(kept)
+    let most = rules.len();
+    first_that_go(alloc, theory, sequent, rules, most)
 }
 
 /// The first rule without a fault.
@@ -60,12 +78,5 @@ pub fn first_that_goes(
     requires right_fits { length sequent.now.right ≤ MOST_RIGHT }
     ensures { IfOk result (λ v. v.items ≡ first_that (goes_at theory.now sequent.now) rules.items) }
 {
-    let mut kept = Vec::new(alloc);
-    for rule in rules {
-        if goes(alloc, theory, sequent, &rule)? {
-            kept.push(rule)?;
-            return Ok(kept);
-        }
-    }
-    Ok(kept)
+    first_that_go(alloc, theory, sequent, rules, 1)
 }
