@@ -4,3 +4,4 @@ pub mod Before
 pub mod Links
 pub mod After
 pub mod Choosing
+pub mod Lines

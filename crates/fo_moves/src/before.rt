@@ -1,13 +1,38 @@
 // The rules that go before links.
 ghost use Rattle.std.specs.Prelude.{◌≡◌, ◌≤◌, ◌++◌, IfOk, OnOk, length};
-ghost use Rattle.fold_offers.specs.Places.{each_place, first_line};
-ghost use Rattle.fo_moves.specs.Before.{axiom_at, axioms_with, refl_at, clash_at, decompose_at, replace_at, equation_lines, rules_before as offers_before};
+ghost use Rattle.fold_offers.specs.Places.{each_place};
+ghost use Rattle.fo_formula.specs.declared.atoms.FoAtom.{FoAtom as AtomValue};
+ghost use Rattle.fo_moves.specs.Before.{axiom_at, replace_at, rules_before as offers_before};
+ghost use Rattle.fo_moves.specs.Lines.{line_at, atoms_on as atoms_on_line, rules_on as rules_on_line, offered_from};
 
 use crate::trying::first_that_goes;
 use cyc_limits::{MOST_LEFT, MOST_RIGHT};
 use cyc_memory::OutOfMemory;
 use fo_formula::{FoAtom, FoRule, FoSequent, FoTheory, Side};
 use std::alloc::Global;
+
+/// A line of rules for each atom of a side, of which the first without a fault is offered.
+enum Line {
+    /// For each atom on the left with each on the right.
+    Axioms,
+    /// For each atom on the right.
+    Refls,
+    /// For each atom on the left.
+    Clashes,
+    /// For each atom on the left.
+    Decompositions,
+    /// For each atom on the left, the left side first.
+    Replacements,
+}
+
+/// The lines in their order.
+const LINES: [Line; 5] = [
+    Line::Axioms,
+    Line::Refls,
+    Line::Clashes,
+    Line::Decompositions,
+    Line::Replacements,
+];
 
 fn push_axioms(rules: &mut Vec<FoRule>, left: u32, atoms: &[FoAtom]) -> Result<(), OutOfMemory>
     requires { length atoms.now ≤ MOST_LEFT }
@@ -22,95 +47,83 @@ fn push_axioms(rules: &mut Vec<FoRule>, left: u32, atoms: &[FoAtom]) -> Result<(
     Ok(())
 }
 
-/// Axiom, for each atom on the left with each on the right.
-fn axioms(alloc: Global, left: &[FoAtom], right: &[FoAtom]) -> Result<Vec<FoRule>, OutOfMemory>
-    requires left { length left.now ≤ MOST_LEFT }
-    requires right { length right.now ≤ MOST_LEFT }
-    ensures { IfOk result (λ v. v.items ≡ each_place (axioms_with right.now) left.now) }
+fn push_replacements(rules: &mut Vec<FoRule>, atom: u32) -> Result<(), OutOfMemory>
+    ensures { OnOk result ((x : AtomValue) → rules.new.items ≡ rules.old.items ++ replace_at atom x) }
 {
-    let mut rules = Vec::new(alloc);
-    for (i, _atom) in left.iter().enumerate() {
-        push_axioms(&mut rules, i as u32, right)?;
-    }
-    Ok(rules)
+    rules.push(FoRule::Replace {
+        atom,
+        side: Side::Left,
+    })?;
+    rules.push(FoRule::Replace {
+        atom,
+        side: Side::Right,
+    })?;
+    Ok(())
 }
 
-/// Refl, for each atom on the right.
-fn refls(alloc: Global, right: &[FoAtom]) -> Result<Vec<FoRule>, OutOfMemory>
+/// Adds the rules of a line for the atom at a place.
+fn push_rules_at(
+    rules: &mut Vec<FoRule>,
+    line: &Line,
+    place: u32,
+    right: &[FoAtom],
+) -> Result<(), OutOfMemory>
     requires { length right.now ≤ MOST_LEFT }
-    ensures { IfOk result (λ v. v.items ≡ each_place refl_at right.now) }
+    ensures { OnOk result ((x : AtomValue) → rules.new.items ≡ rules.old.items ++ line_at right.now line.now place x) }
+{
+    let rule = match line {
+        Line::Axioms => return push_axioms(rules, place, right),
+        Line::Refls => FoRule::Refl(place),
+        Line::Clashes => FoRule::Clash(place),
+        Line::Decompositions => FoRule::Decompose(place),
+        Line::Replacements => return push_replacements(rules, place),
+    };
+    rules.push(rule)?;
+    Ok(())
+}
+
+/// The atoms for which a line has rules.
+fn atoms_on<'a>(sequent: &'a FoSequent, line: &Line) -> &'a [FoAtom]
+    ensures { result.now ≡ atoms_on_line sequent.now line.now }
+{
+    match line {
+        Line::Refls => sequent.right.as_slice(),
+        _ => sequent.left.as_slice(),
+    }
+}
+
+/// The rules of a line, with and without a fault.
+fn rules_on(alloc: Global, sequent: &FoSequent, line: &Line) -> Result<Vec<FoRule>, OutOfMemory>
+    requires left_fits { length sequent.now.left ≤ MOST_LEFT }
+    requires right_fits { length sequent.now.right ≤ MOST_RIGHT }
+    ensures { IfOk result (λ v. v.items ≡ rules_on_line sequent.now line.now) }
 {
     let mut rules = Vec::new(alloc);
-    for (j, _atom) in right.iter().enumerate() {
-        rules.push(FoRule::Refl(j as u32))?;
+    let right = sequent.right.as_slice();
+    for k in 0..atoms_on(sequent, line).len() {
+        push_rules_at(&mut rules, line, k as u32, right)?;
     }
     Ok(rules)
 }
 
-/// Clash, for each atom on the left.
-fn clashes(alloc: Global, left: &[FoAtom]) -> Result<Vec<FoRule>, OutOfMemory>
-    requires { length left.now ≤ MOST_LEFT }
-    ensures { IfOk result (λ v. v.items ≡ each_place clash_at left.now) }
-{
-    let mut rules = Vec::new(alloc);
-    for (i, _atom) in left.iter().enumerate() {
-        rules.push(FoRule::Clash(i as u32))?;
-    }
-    Ok(rules)
-}
-
-/// Decompose, for each atom on the left.
-fn decompositions(alloc: Global, left: &[FoAtom]) -> Result<Vec<FoRule>, OutOfMemory>
-    requires { length left.now ≤ MOST_LEFT }
-    ensures { IfOk result (λ v. v.items ≡ each_place decompose_at left.now) }
-{
-    let mut rules = Vec::new(alloc);
-    for (i, _atom) in left.iter().enumerate() {
-        rules.push(FoRule::Decompose(i as u32))?;
-    }
-    Ok(rules)
-}
-
-/// Replace, for each atom on the left, the left side first.
-fn replacements(alloc: Global, left: &[FoAtom]) -> Result<Vec<FoRule>, OutOfMemory>
-    requires { length left.now ≤ MOST_LEFT }
-    ensures { IfOk result (λ v. v.items ≡ each_place replace_at left.now) }
-{
-    let mut rules = Vec::new(alloc);
-    for (i, _atom) in left.iter().enumerate() {
-        let atom = i as u32;
-        rules.push(FoRule::Replace {
-            atom,
-            side: Side::Left,
-        })?;
-        rules.push(FoRule::Replace {
-            atom,
-            side: Side::Right,
-        })?;
-    }
-    Ok(rules)
-}
-
-/// By an equation on the left.
-fn rules_by_equation(
+/// The rules by the first of these lines that applies.
+fn offers_from(
     alloc: Global,
     theory: &FoTheory,
     sequent: &FoSequent,
+    lines: &[Line],
 ) -> Result<Vec<FoRule>, OutOfMemory>
     requires left_fits { length sequent.now.left ≤ MOST_LEFT }
     requires right_fits { length sequent.now.right ≤ MOST_RIGHT }
-    ensures { IfOk result (λ v. v.items ≡ first_line (equation_lines theory.now sequent.now)) }
+    ensures { IfOk result (λ v. v.items ≡ offered_from theory.now sequent.now lines.now) }
 {
-    let left = sequent.left.as_slice();
-    let rules = first_that_goes(alloc, theory, sequent, clashes(alloc, left)?)?;
-    if !rules.is_empty() {
-        return Ok(rules);
+    for line in lines {
+        let rules = first_that_goes(alloc, theory, sequent, rules_on(alloc, sequent, line)?)?;
+        if !rules.is_empty() {
+            return Ok(rules);
+        }
     }
-    let rules = first_that_goes(alloc, theory, sequent, decompositions(alloc, left)?)?;
-    if !rules.is_empty() {
-        return Ok(rules);
-    }
-    first_that_goes(alloc, theory, sequent, replacements(alloc, left)?)
+    Ok(Vec::new(alloc))
 }
 
 /// What is offered before links are looked at: the first of Axiom, Refl, Clash, Decompose and Replace that has no fault
@@ -125,15 +138,5 @@ pub fn rules_before(
     requires right_fits { length sequent.now.right ≤ MOST_RIGHT }
     ensures { IfOk result (λ v. v.items ≡ offers_before theory.now sequent.now) }
 {
-    let left = sequent.left.as_slice();
-    let right = sequent.right.as_slice();
-    let rules = first_that_goes(alloc, theory, sequent, axioms(alloc, left, right)?)?;
-    if !rules.is_empty() {
-        return Ok(rules);
-    }
-    let rules = first_that_goes(alloc, theory, sequent, refls(alloc, right)?)?;
-    if !rules.is_empty() {
-        return Ok(rules);
-    }
-    rules_by_equation(alloc, theory, sequent)
+    offers_from(alloc, theory, sequent, &LINES)
 }

@@ -1,7 +1,0 @@
-use Rattle.fold_offers.proofs.Places.{placed}
-use Rattle.fo_moves.specs.Before.{clash_at}
-use Rattle.fo_moves.proofs.before.clashes.Goals as goal
-
-pub loop-i-preserved : goal.loop-i-preserved
-loop-i-preserved c =
-    placed clash_at c.args.left.now c.loop-i.i c.index-left-i.result c.loop-i.rules.items c.push.new.self.items _ c.loop-i-test.true c.in_ok-push.ensures.items c.loop-i.invariant
