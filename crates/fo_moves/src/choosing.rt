@@ -1,6 +1,7 @@
 // Terms that are chosen one after another, by depth-first search.
-ghost use Rattle.std.specs.Prelude.{◌≡◌, ◌≤◌, length, IfOk, OnOk};
-ghost use Rattle.fo_moves.specs.Choosing.{may_link as values_may, may_suit as locals_may, may_do as wanted_may, does as wanted_does, if_done, done_after, IsWithin, first_choices, AddsFirst};
+ghost use Rattle.std.specs.Prelude.{◌≡◌, ◌<◌, ◌≤◌, ◌&&◌, length, IfOk, OnOk};
+ghost use Rattle.std.specs.List.{list_all};
+ghost use Rattle.fo_moves.specs.Choosing.{may_stand as atom_may_stand, may_link as values_may, may_suit as locals_may, may_do as wanted_may, does as wanted_does, if_done, done_after, IsWithin, first_choices, AddsFirst};
 ghost use Rattle.fo_moves.specs.After.{suits as suits_left};
 
 use crate::linking::{is_fit, link_by, paired};
@@ -29,17 +30,18 @@ fn copy_of(alloc: Global, terms: &[Term]) -> Result<Terms, OutOfMemory>
     Ok(Terms::from_vec(all))
 }
 
-/// Whether some values that begin with these may give a link.
-fn may_link(alloc: Global, goal: &LinkValues<'_>, made: &[Term]) -> Result<bool, OutOfMemory>
+/// Whether each atom of the companion that is settled stands, after the change, on its side of the bud.
+fn may_lead(alloc: Global, goal: &LinkValues<'_>, change: &Change) -> Result<bool, OutOfMemory>
     requires { IsWithin (Wanted.Values goal.now) }
-    ensures { IfOk result (λ b. b ≡ values_may goal.now made.now) }
+    ensures { IfOk result (λ b. b
+        ≡ (list_all (atom_may_stand change.now goal.now.bud.now.left) goal.now.companion.now.left
+        && list_all (atom_may_stand change.now goal.now.bud.now.right) goal.now.companion.now.right)) }
 {
-    let change = Change::Substitution(paired(alloc, goal.sources, made)?);
     let bud = goal.bud;
     let companion = goal.companion;
     if !may_all_stand(
         alloc,
-        &change,
+        change,
         bud.left.as_slice(),
         companion.left.as_slice(),
     )? {
@@ -47,10 +49,19 @@ fn may_link(alloc: Global, goal: &LinkValues<'_>, made: &[Term]) -> Result<bool,
     }
     may_all_stand(
         alloc,
-        &change,
+        change,
         bud.right.as_slice(),
         companion.right.as_slice(),
     )
+}
+
+/// Whether some values that begin with these may give a link.
+fn may_link(alloc: Global, goal: &LinkValues<'_>, made: &[Term]) -> Result<bool, OutOfMemory>
+    requires { IsWithin (Wanted.Values goal.now) }
+    ensures { IfOk result (λ b. b ≡ values_may goal.now made.now) }
+{
+    let change = Change::Substitution(paired(alloc, goal.sources, made)?);
+    may_lead(alloc, goal, &change)
 }
 
 fn instance(alloc: Global, goal: &CaseLocals<'_>, made: &[Term]) -> Result<Change, OutOfMemory>
@@ -83,8 +94,7 @@ fn links(alloc: Global, goal: &LinkValues<'_>, terms: &[Term]) -> Result<bool, O
     requires { IsWithin (Wanted.Values goal.now) }
     ensures { IfOk result (λ b. b ≡ wanted_does (Wanted.Values goal.now) terms.now) }
 {
-    let substitution = paired(alloc, goal.sources, terms)?;
-    let link = link_by(alloc, goal.bud, goal.companion, goal.number, substitution)?;
+    let link = link_by(alloc, goal, terms)?;
     is_fit(alloc, goal.bud, goal.companion, &link)
 }
 
@@ -113,13 +123,10 @@ fn add_choice(
     found: &mut Vec<Terms>,
 ) -> Result<(), OutOfMemory>
     requires within { IsWithin search.now.wanted }
-    requires few { length found.old.items ≤ search.now.most }
+    requires few { length found.old.items < search.now.most }
     ensures { OnOk result (AddsFirst search.now.most found.old.items found.new.items
         (if_done search.now.wanted made.now)) }
 {
-    if found.len() as u128 >= search.most {
-        return Ok(());
-    }
     if does(alloc, &search.wanted, made)? {
         found.push(copy_of(alloc, made)?)?;
     }

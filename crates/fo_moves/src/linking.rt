@@ -5,8 +5,10 @@ ghost use Rattle.fo_formula.specs.Sizes.{words_size, sequent_size};
 ghost use Rattle.fo_formula.specs.Words.{Word, in_atom};
 ghost use Rattle.fo_parts.specs.Capping.{capped};
 ghost use Rattle.fo_parts.specs.Putting.{put};
-ghost use Rattle.fo_moves.specs.Links.{least_place as place_in, link_by as link_by_pairs, is_fit as link_is_fit};
+ghost use Rattle.fo_moves.specs.Links.{least_place as place_in, is_fit as link_is_fit};
+ghost use Rattle.fo_moves.specs.Choosing.{link_with};
 
+use crate::wanted::LinkValues;
 use cyc_limits::{MOST_LEFT, MOST_RIGHT, MOST_TERMS, PAST_MOST_TERMS};
 use cyc_memory::OutOfMemory;
 use fo_formula::{FoAtom, FoLink, FoSequent, FoSubst, Positions, Term};
@@ -21,7 +23,7 @@ pub fn paired(alloc: Global, sources: &[u16], terms: &[Term]) -> Result<FoSubst,
     let mut pairs = Vec::new(alloc);
     for (k, source) in sources.iter().enumerate() {
         if k >= terms.len() {
-            return Ok(FoSubst::from_vec(pairs));
+            break;
         }
         pairs.push((*source, terms[k].clone()?))?;
     }
@@ -52,30 +54,30 @@ fn least_places(
     let mut places = Vec::new(alloc);
     for atom in atoms {
         let changed = changed_atom(alloc, change, atom)?;
-        places.push(least_place(others, &changed))?;
+        let place = least_place(others, &changed);
+        drop(changed);
+        places.push(place)?;
     }
     Ok(Positions::from_vec(places))
 }
 
-/// The link by a substitution, each entry of its maps the least that fits.
-pub fn link_by(
-    alloc: Global,
-    bud: &FoSequent,
-    companion: &FoSequent,
-    number: u32,
-    substitution: FoSubst,
-) -> Result<FoLink, OutOfMemory>
-    requires left_fits { length bud.now.left ≤ MOST_LEFT }
-    requires right_fits { length bud.now.right ≤ MOST_RIGHT }
-    ensures { IfOk result (λ l. l ≡ link_by_pairs bud.now companion.now number substitution) }
+/// The link that puts these terms for the sources, each entry of its maps the least that fits.
+pub fn link_by(alloc: Global, goal: &LinkValues<'_>, terms: &[Term]) -> Result<FoLink, OutOfMemory>
+    requires left_fits { length goal.now.bud.now.left ≤ MOST_LEFT }
+    requires right_fits { length goal.now.bud.now.right ≤ MOST_RIGHT }
+    ensures { IfOk result (λ l. l ≡ link_with goal.now terms.now) }
 {
-    let change = Change::Substitution(substitution.clone()?);
+    let bud = goal.bud;
+    let companion = goal.companion;
     let left = companion.left.as_slice();
     let right = companion.right.as_slice();
+    let change = Change::Substitution(paired(alloc, goal.sources, terms)?);
     let left_map = least_places(alloc, &change, bud.left.as_slice(), left)?;
     let right_map = least_places(alloc, &change, bud.right.as_slice(), right)?;
+    drop(change);
+    let substitution = paired(alloc, goal.sources, terms)?;
     Ok(FoLink {
-        to: number,
+        to: goal.number,
         substitution,
         left_map,
         right_map,

@@ -5,7 +5,7 @@ ghost use Rattle.fo_moves.specs.Links.{links_to as first_links};
 ghost use Rattle.fo_moves.specs.Choosing.{link_with};
 
 use crate::choosing::{Search, choices};
-use crate::linking::{link_by, paired};
+use crate::linking::link_by;
 use crate::subterms::subterms;
 use crate::variables::variables;
 use crate::wanted::{LinkValues, Wanted};
@@ -25,8 +25,7 @@ fn links_by(
 {
     let mut links = Vec::new(alloc);
     for terms in choices {
-        let substitution = paired(alloc, goal.sources, terms.as_slice())?;
-        links.push(link_by(alloc, goal.bud, goal.companion, goal.number, substitution)?)?;
+        links.push(link_by(alloc, goal, terms.as_slice())?)?;
     }
     Ok(links)
 }
