@@ -76,31 +76,6 @@ fn push_cases(
     Ok(())
 }
 
-fn push_atom(
-    alloc: Global,
-    rules: &mut Vec<FoRule>,
-    theory: &FoTheory,
-    sequent: &FoSequent,
-    values: &[Term],
-    j: u32,
-    atom: &FoAtom,
-) -> Result<(), OutOfMemory>
-    requires values { values.now ≡ subterms_of sequent.now }
-    requires few_cases { (p : ℕ) → length (cases_of theory.now.definitions p) ≤ 65536 }
-    ensures { OnOk result (rules.new.items ≡ rules.old.items ++ rights_at theory.now sequent.now j atom.now) }
-{
-    match atom {
-        FoAtom::Equation { .. } => Ok(()),
-        FoAtom::Predicate {
-            predicate,
-            arguments,
-        } => {
-            let cases = cases(theory.definitions.as_slice(), *predicate);
-            push_cases(alloc, rules, sequent, values, j, arguments, cases)
-        }
-    }
-}
-
 /// Right, for each atom on the right.
 fn rights(alloc: Global, theory: &FoTheory, sequent: &FoSequent) -> Result<Vec<FoRule>, OutOfMemory>
     requires right_fits { length sequent.now.right ≤ MOST_RIGHT }
@@ -110,7 +85,16 @@ fn rights(alloc: Global, theory: &FoTheory, sequent: &FoSequent) -> Result<Vec<F
     let values = subterms(alloc, sequent)?;
     let mut rules = Vec::new(alloc);
     for (j, atom) in sequent.right.as_slice().iter().enumerate() {
-        push_atom(alloc, &mut rules, theory, sequent, &values, j as u32, atom)?;
+        if let FoAtom::Predicate {
+            predicate,
+            arguments,
+        } = atom
+        {
+            let cases = cases(theory.definitions.as_slice(), *predicate);
+            push_cases(
+                alloc, &mut rules, sequent, &values, j as u32, arguments, cases,
+            )?;
+        }
     }
     Ok(rules)
 }
