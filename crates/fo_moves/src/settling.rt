@@ -7,7 +7,7 @@ ghost use Rattle.fo_parts.specs.Putting.{put};
 ghost use Rattle.fo_formula.specs.Words.{in_atom};
 ghost use Rattle.fo_table.specs.Tests.{same_atom};
 ghost use Rattle.fo_moves.specs.After.{holds_by as atom_holds_by};
-ghost use Rattle.fo_moves.specs.Choosing.{has_pair as some_pair, settles as sign_settled, settles_word as word_settled, settles_atom as atom_settled, may_stand as atom_may_stand, may_hold as atom_may_hold, stands_after};
+ghost use Rattle.fo_moves.specs.Choosing.{has_pair as some_pair, settles as sign_settled, settles_word as word_settled, settles_atom as atom_settled, may_stand as atom_may_stand, may_hold as atom_may_hold};
 
 use cyc_limits::MOST_TERMS;
 use cyc_memory::OutOfMemory;
@@ -85,23 +85,8 @@ fn is_among(atoms: &[FoAtom], atom: &FoAtom) -> bool
     false
 }
 
-/// Whether the atom after the change is among these. One that is larger than all of them together is not made.
-fn is_among_changed(
-    alloc: Global,
-    change: &Change,
-    atoms: &[FoAtom],
-    atom: &FoAtom,
-) -> Result<bool, OutOfMemory>
-    requires { atoms_size atoms.now ≤ MOST_TERMS }
-    ensures { IfOk result (λ b. b ≡ stands_after change.now atoms.now atom.now) }
-{
-    if size_of_changed_atom(change, atom) > MOST_TERMS {
-        return Ok(false);
-    }
-    let changed = changed_atom(alloc, change, atom)?;
-    Ok(is_among(atoms, &changed))
-}
-
+/// Whether the atom, if it is settled, is after the change among these. One that is larger than all of them together is
+/// not made.
 fn may_stand(
     alloc: Global,
     change: &Change,
@@ -114,7 +99,11 @@ fn may_stand(
     if !settles_atom(change, atom) {
         return Ok(true);
     }
-    is_among_changed(alloc, change, atoms, atom)
+    if size_of_changed_atom(change, atom) > MOST_TERMS {
+        return Ok(false);
+    }
+    let changed = changed_atom(alloc, change, atom)?;
+    Ok(is_among(atoms, &changed))
 }
 
 /// Whether each atom that is settled stands, after the change, among others.
