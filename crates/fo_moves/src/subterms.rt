@@ -7,15 +7,14 @@ ghost use Rattle.fo_moves.specs.Subterms.{terms_of_atom, parts_of, once, subterm
 
 use cyc_memory::OutOfMemory;
 use fo_formula::{FoAtom, FoSequent, Sign, Term};
-use fo_parts::is_one_term;
 use fo_rules::first_of;
 use std::alloc::Global;
 
-fn is_among(words: &[Term], word: &Term) -> bool
+fn is_among(words: &[Term], word: &[Sign]) -> bool
     ensures { result ≡ list_any (same_word word.now) words.now }
 {
     for other in words {
-        if is_one_term(word, other) {
+        if word == other.as_slice() {
             return true;
         }
     }
@@ -26,9 +25,9 @@ fn is_among(words: &[Term], word: &Term) -> bool
 fn push_first(alloc: Global, word: &[Sign], words: &mut Vec<Term>) -> Result<(), OutOfMemory>
     ensures { OnOk result (words.new.items ≡ once words.old.items (first_term word.now ∷ [])) }
 {
-    let term = Term::from_vec(Vec::from_slice(alloc, first_of(word))?);
-    if !is_among(words, &term) {
-        words.push(term)?;
+    let first = first_of(word);
+    if !is_among(words, first) {
+        words.push(Term::from_vec(Vec::from_slice(alloc, first)?))?;
     }
     Ok(())
 }

@@ -14,7 +14,7 @@ loop-value-preserved t c =
     let v = get_or s.values.now c.loop-value.value-index c.value-item.result in
     let same : c.loop-value.made.items ≡ old = c.loop-value.invariant.2 in
     let is : c.in_ok-clone.field-0 ≡ v = c.in_ok-clone.ensures.cases ∙ c.value-item.is in
-    let grown : c.push.new.self.items ≡ old ++ v ∷ [] = c.in_ok-push.ensures.items ∙ (λ i. same i ++ is i ∷ []) in
+    let grown : c.push.new.self.items ≡ old ++ v ∷ [] = ◌∙◌ {A = List Word} c.in_ok-push.ensures.items (λ i. same i ++ is i ∷ []) in
     let next = item_next s.most (λ (u : Word). done_after s.wanted (old ++ u ∷ []) (c.args.count - 1) s.values.now) c.choose.new.found.items c.loop-value.found.items s.values.now c.loop-value.value-index c.value-item.result _ c.loop-value-test.true (c.in_ok-choose.ensures.found ∙ (λ i. take s.most (c.loop-value.found.items ++ done_after s.wanted (grown i) (c.args.count - 1) s.values.now))) c.loop-value.invariant.0 in
     (next.0, next.1, last_off old c.choose.new.made.items c.pop.new.self.items v c.choose.new.made.len (c.in_ok-choose.ensures.made ∙ grown) c.choose.new.made.ok.0 c.pop.ensures.rest)
 
