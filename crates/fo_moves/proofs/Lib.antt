@@ -8,4 +8,3 @@ pub mod LowVariables
 pub mod Offered
 pub mod Listed
 pub mod Pairing
-mod Keeping

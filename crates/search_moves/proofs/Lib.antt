@@ -8,5 +8,4 @@ pub mod LeftNumbers
 mod LeftOpen
 mod OfferedParts
 mod OnceEach
-mod Keeping
 mod OneDisjunct

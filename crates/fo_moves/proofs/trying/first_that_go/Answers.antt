@@ -1,6 +1,6 @@
 use Rattle.std.proofs.Common.{sym, ◌∙◌, ap, arith}
 use Rattle.fo_moves.specs.Trying.{goes}
-use Rattle.fo_moves.proofs.Keeping.{one_more, none_more, enough}
+use Rattle.fold_offers.proofs.Keeping.{one_more, none_more, enough}
 use Rattle.fo_moves.proofs.trying.first_that_go.Goals as goal
 use Rattle.fo_moves.proofs.trying.first_that_go.Goals.{then-kept-most+in_ok-goes+then-branch, else-kept-most, else-kept-most-via-then-kept-most+in_ok-goes+else-branch, else-kept-most-via-else-kept-most}
 

@@ -1,7 +1,7 @@
 use Rattle.std.proofs.Common.{◌∙◌}
 use Rattle.std.proofs.lemmas.Result.{IfOk-weaker}
 use Rattle.fo_moves.specs.Trying.{goes}
-use Rattle.fo_moves.proofs.Keeping.{first_of_filter}
+use Rattle.fold_offers.proofs.Keeping.{first_of_filter}
 use Rattle.fo_moves.proofs.trying.first_that_goes.Goals as goal
 
 pub returns : goal.returns

@@ -1,7 +1,7 @@
 use Rattle.std.proofs.Common.{◌∙◌}
 use Rattle.std.proofs.lemmas.Result.{IfOk-weaker}
 use Rattle.fo_moves.specs.Trying.{goes}
-use Rattle.fo_moves.proofs.Keeping.{kept_all}
+use Rattle.fold_offers.proofs.Keeping.{kept_all}
 use Rattle.fo_moves.proofs.trying.those_that_go.Goals as goal
 
 pub returns : goal.returns

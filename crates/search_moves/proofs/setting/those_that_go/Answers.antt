@@ -2,7 +2,7 @@ use Rattle.std.proofs.Common.{◌∙◌}
 use Rattle.std.proofs.lemmas.Result.{IfOk-weaker}
 use Rattle.search_moves.specs.Trying.{goes}
 use Rattle.search_moves.specs.Settings.{theory_of}
-use Rattle.search_moves.proofs.Keeping.{kept_all}
+use Rattle.fold_offers.proofs.Keeping.{kept_all}
 use Rattle.search_moves.proofs.setting.those_that_go.Goals as goal
 
 pub returns : goal.returns
