@@ -1,5 +1,5 @@
 // Whether a stack and a heap satisfy a formula.
-ghost use Rattle.std.specs.Prelude.{◌≡◌, ℕ, ◌↔◌, IsTrue, IfOk, nat_eq, ◌&&◌, ◌+◌, slice_index};
+ghost use Rattle.std.specs.Prelude.{◌≡◌, ℕ, List, ◌↔◌, IsTrue, IfOk, nat_eq, ◌&&◌, ◌+◌, slice_index};
 ghost use Rattle.std.specs.Option.{is_some};
 ghost use Rattle.heap_formula.specs.Cells.{IsHeap, cell_at};
 ghost use Rattle.heap_formula.specs.Meaning.{Satisfies};
@@ -8,10 +8,15 @@ ghost use Rattle.list_facts.specs.Words.{IsMember};
 ghost use Rattle.model_check.specs.ForcedLocals.{stack_of};
 ghost use Rattle.model_check.specs.WideMasks.{number, HoldsMask};
 ghost use Rattle.model_check.specs.MaskParts.{place, from_bits, stands, mask_of, Covers};
+ghost use Rattle.model_check.specs.Ground.{IsSolved};
+ghost use Rattle.model_check.specs.declared.ground.GroundRule.{GroundRule};
+ghost use Rattle.model_check.specs.Grounding.{Extends, Grounds};
+ghost use Rattle.model_check.specs.Tables.{HasMask};
 
 use crate::grounding::{ground_questions, pieces_of, place_of};
 use crate::locals::{Local, locals_of};
 use crate::mask::Mask;
+use crate::questions::Question;
 use crate::solving::solve;
 use crate::unions::{Row, has_mask, unions};
 use cyc_memory::OutOfMemory;
@@ -78,6 +83,26 @@ fn whole_mask(alloc: Global, places: &IndexSet<u64>, cells: &Cells) -> Result<Ma
     Ok(mask)
 }
 
+/// The masks of each question, and of those that they ask in turn.
+fn table_of(
+    alloc: Global,
+    defs: &Defs,
+    cells: &Cells,
+    places: &IndexSet<u64>,
+    questions: &mut IndexSet<Question>,
+) -> Result<Vec<Row>, OutOfMemory>
+    requires constructive { AreConstructive defs.now.list }
+    requires covers { Covers places.now.keys cells.now }
+    requires heap { IsHeap cells.now }
+    ensures { IfOk result (λ table. (rules : List GroundRule) × Extends questions.old.keys questions.new.keys
+        × Grounds defs.now.list cells.now places.now.keys questions.new.keys rules
+        × IsSolved rules (HasMask table.items)) }
+{
+    let mut rules = Vec::new(alloc);
+    ground_questions(alloc, defs, cells, places, questions, &mut rules)?;
+    solve(alloc, &rules, questions.len())
+}
+
 /// The masks of the parts of the heap that consist of a part for each spatial atom, at these values of the locals.
 fn masks_of(
     alloc: Global,
@@ -96,11 +121,34 @@ fn masks_of(
         ↔ Satisfies defs.now.list stack.now cells.now ask.now) }
 {
     let mut questions = IndexSet::new(alloc);
-    let mut rules = Vec::new(alloc);
     let pieces = pieces_of(alloc, places, &mut questions, stack, locals, ask.spatial())?;
-    ground_questions(alloc, defs, cells, places, &mut questions, &mut rules)?;
-    let table = solve(alloc, &rules, questions.len())?;
+    let solved = table_of(alloc, defs, cells, places, &mut questions);
+    drop(questions);
+    let table = solved?;
     unions(alloc, &table, pieces.as_slice())
+}
+
+/// The answer where the heap's cells have these places.
+fn satisfied_at(
+    alloc: Global,
+    defs: &Defs,
+    stack: &[u64],
+    cells: &Cells,
+    places: &IndexSet<u64>,
+    locals: &[Local],
+    ask: &Heap,
+) -> Result<bool, OutOfMemory>
+    requires constructive { AreConstructive defs.now.list }
+    requires covers { Covers places.now.keys cells.now }
+    requires heap { IsHeap cells.now }
+    requires only { IsOnly cells.now stack.now (stack_of locals.now) ask.now }
+    ensures { IfOk result (λ b. IsTrue b ↔ Satisfies defs.now.list stack.now cells.now ask.now) }
+{
+    let whole = whole_mask(alloc, places, cells)?;
+    let masks = masks_of(alloc, defs, stack, cells, places, locals, ask)?;
+    let holds = has_mask(masks.as_slice(), &whole);
+    drop(masks);
+    Ok(holds)
 }
 
 /// The answer where these values of the formula's locals are the only ones that fit.
@@ -117,9 +165,9 @@ fn satisfied_with(
     ensures { IfOk result (λ b. IsTrue b ↔ Satisfies defs.now.list stack.now cells.now ask.now) }
 {
     let places = heap_places(alloc, cells)?;
-    let masks = masks_of(alloc, defs, stack, cells, &places, locals, ask)?;
-    let whole = whole_mask(alloc, &places, cells)?;
-    Ok(has_mask(masks.as_slice(), &whole))
+    let holds = satisfied_at(alloc, defs, stack, cells, &places, locals, ask);
+    drop(places);
+    holds
 }
 
 /// Whether the stack and the heap satisfy the formula, under the least meaning of the definitions. `constructive` names
