@@ -56,11 +56,11 @@ pair_added part rest old new x b z w a m =
       λ o. elim o as (λ y. HoldsMask m new) [ inl k ↦ r.1 (inl k) | inr p ↦ r.1 (inr (p.whole ∙ sym w)) ],
     )
 
--- one cell with each of the others, in a row that was empty
-pub cell_joined : (part place : ℕ) (old new others : Row) (m : ℕ) → old ≡ [] → part ≡ 2 ^ place → (HoldsMask m new ↔ (HoldsMask m old ⊎ JoinsOne part others m)) → (HoldsMask m new ↔ JoinsOne (2 ^ place) others m)
-cell_joined part place old new others m e p k =
-    let k' : HoldsMask m new ↔ (⊥ ⊎ JoinsOne (2 ^ place) others m) = subst (λ n. HoldsMask m new ↔ (⊥ ⊎ JoinsOne n others m)) p (subst (λ row. HoldsMask m new ↔ (HoldsMask m row ⊎ JoinsOne part others m)) e k) in
-    (λ h. elim (k'.0 h) as (λ z. JoinsOne (2 ^ place) others m) [ inl b ↦ absurd b | inr j ↦ j ], λ j. k'.1 (inr j))
+-- one cell with each of the others, where it is the only mask of its list
+pub cell_joined : (part : List ℕ) (place : ℕ) (parts others out : Row) (m : ℕ) → parts ≡ part ∷ [] → number part ≡ 2 ^ place → (HoldsMask m out ↔ JoinsSome parts others m) → (HoldsMask m out ↔ JoinsOne (2 ^ place) others m)
+cell_joined part place parts others out m e p k =
+    let k' : HoldsMask m out ↔ (JoinsOne (2 ^ place) others m ⊎ ⊥) = subst (λ n. HoldsMask m out ↔ (JoinsOne n others m ⊎ ⊥)) p (subst (λ ps. HoldsMask m out ↔ JoinsSome ps others m) e k) in
+    (λ h. elim (k'.0 h) as (λ z. JoinsOne (2 ^ place) others m) [ inl j ↦ j | inr b ↦ absurd b ], λ j. k'.1 (inl j))
 
 -- what `insert_full` says
 any_holds : (ws : List ℕ) (row : Row) → list_any (pointwise nat_eq ws) row ≡ true → HoldsMask (number ws) row

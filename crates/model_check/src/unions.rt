@@ -10,6 +10,7 @@ use cyc_memory::OutOfMemory;
 use indexmap::IndexSet;
 use std::alloc::Global;
 use std::marker::Model;
+use std::slice;
 
 /// Masks, each once, in the order in which they were added.
 #[derive(Drop)]
@@ -94,10 +95,8 @@ fn combine(alloc: Global, parts: &[Mask], others: &[Mask]) -> Result<Row, OutOfM
 fn combine_cell(alloc: Global, place: usize, others: &[Mask]) -> Result<Row, OutOfMemory>
     ensures { IfOk result (λ out. (m : ℕ) → HoldsMask m out ↔ JoinsOne (2 ^ place) others.now m) }
 {
-    let mut out = Row::new(alloc);
     let part = Mask::one(alloc, place)?;
-    add_pairs(alloc, &mut out, &part, others)?;
-    Ok(out)
+    combine(alloc, slice::from_ref(&part), others)
 }
 
 fn combine_piece(
@@ -150,5 +149,7 @@ pub fn unions(alloc: Global, table: &[Row], pieces: &[Piece]) -> Result<Row, Out
         return Ok(Row::new(alloc));
     }
     let others = unions(alloc, table, &pieces[1..])?;
-    combine_piece(alloc, table, pieces[0], others.as_slice())
+    let combined = combine_piece(alloc, table, pieces[0], others.as_slice());
+    drop(others);
+    combined
 }

@@ -1,6 +1,7 @@
-use Rattle.model_check.specs.WideMasks.{number}
+use Rattle.std.proofs.lemmas.Result.{IfOk-weaker}
 use Rattle.model_check.proofs.Loops.{cell_joined}
 use Rattle.model_check.proofs.unions.combine_cell.Goals as goal
 
 pub returns : goal.returns
-returns c = λ m. cell_joined (number c.in_ok-part.part) c.args.place c.new-out.result c.add_pairs.new.out c.args.others.now m c.new-out.ensures c.in_ok-part.ensures (c.in_ok-add_pairs.ensures m)
+returns c =
+    IfOk-weaker c.combine.result _ _ (λ out k m. cell_joined c.in_ok-part.part c.args.place c.from_ref.result.now c.args.others.now out m c.from_ref.ensures.value c.in_ok-part.ensures (k m)) c.combine.ensures
