@@ -233,15 +233,11 @@ pub fn solve(alloc: Global, rules: &[GroundRule], count: usize) -> Result<Vec<Ro
     let mut table = empty_table(alloc, count)?;
     let mut grown = zeros(alloc, count)?;
     let mut applied = zeros(alloc, rules.len())?;
-    let mut log = Vec::new(alloc);
-    log.push(0)?;
-    for _round in 0..usize::MAX {
-        let before = log.len();
+    let mut log = zeros(alloc, 1)?;
+    let mut before = 0;
+    while before < log.len() {
+        before = log.len();
         refresh_rules(alloc, &mut table, &mut log, &mut applied, &mut grown, rules)?;
-        if log.len() == before {
-            return Ok(table);
-        }
     }
-    let _count = log.len();
-    unreachable!()
+    Ok(table)
 }
