@@ -93,7 +93,9 @@ fn ground_case(
     match locals_of(alloc, values, cells, case)? {
         None => Ok(()),
         Some(locals) => {
-            let pieces = pieces_of(alloc, places, questions, values, &locals, case.spatial())?;
+            let asked = pieces_of(alloc, places, questions, values, &locals, case.spatial());
+            drop(locals);
+            let pieces = asked?;
             rules.push(GroundRule { head, pieces })?;
             Ok(())
         }
