@@ -70,7 +70,9 @@ fn apply_rule(
         ≡ vec_len log.old + sum_by length table.new.items) }
 {
     let masks = unions(alloc, table, rule.pieces.as_slice())?;
-    add_masks(table, log, rule.head, masks.as_slice())
+    let added = add_masks(table, log, rule.head, masks.as_slice());
+    drop(masks);
+    added
 }
 
 fn time_at(times: &[usize], i: usize) -> usize
