@@ -1,13 +1,14 @@
 -- The states of a case: the first, and those after one more atom.
 use Rattle.std.specs.Prelude.{◌≡◌, ℕ, List, [], Option, MatchOption}
+use Rattle.heap_formula.specs.declared.atoms.Pure.{Pure}
 use Rattle.heap_formula.specs.declared.atoms.Spatial.{Spatial}
 use Rattle.heap_formula.specs.Symbolic.{SymbolicHeap}
-use Rattle.pair_family.specs.BasePairs.{BasePair}
+use Rattle.pair_family.specs.BasePairs.{BasePair, no_pair}
 use Rattle.pair_family.specs.Combination.{pure_facts, AreConsistent}
 use Rattle.pair_family.specs.Folding.{said_in, spoken}
 use Rattle.pair_family.specs.Frames.{frames_of}
-use Rattle.pair_states.specs.Labels.{GivesFrom, Grows}
-use Rattle.sat_pairs.specs.Numbers.{count_from, places_in}
+use Rattle.pair_states.specs.Labels.{IfApart, combined, combined_pairs, GivesFrom, Grows}
+use Rattle.sat_pairs.specs.Numbers.{count_from, places_in, pure_pair_at}
 
 -- what the pure atoms say of the terms of the spatial ones and of k parameters, unless they exclude
 -- one another
@@ -16,6 +17,13 @@ Starts k a found =
     MatchOption found (¬ AreConsistent (pure_facts a.pure))
     (λ s. AreConsistent (pure_facts a.pure)
     × (s ≡ said_in (frames_of k a.spatial 0) (pure_facts a.pure)))
+
+-- what pure atoms say of the first numbers, so many being kept, unless they exclude one another
+abbrev pub StartsAt : List ℕ → ℕ → List Pure → Option BasePair → Type 0
+StartsAt numbers count atoms =
+    let stated = pure_pair_at numbers atoms in
+    IfApart (combined_pairs numbers stated [] no_pair)
+    (combined numbers stated [] no_pair (count_from 0 count))
 
 -- the states that one of these gives with one of the atom's base pairs, so many terms being kept
 abbrev pub StepsBy : List ℕ → ℕ → Spatial → List BasePair → List BasePair → List BasePair → Type 0

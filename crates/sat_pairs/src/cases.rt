@@ -12,11 +12,11 @@ ghost use Rattle.pair_family.specs.Tables.{IsTable, in_table};
 ghost use Rattle.list_facts.specs.Words.{IsMember};
 ghost use Rattle.pair_family.specs.Within.{IsWithin};
 ghost use Rattle.sat_pairs.specs.Growth.{pairs_for};
-ghost use Rattle.sat_pairs.specs.Numbers.{places_in, cell_pair_alone, equal_places, differ_places, pure_pair_at};
-ghost use Rattle.sat_pairs.specs.CaseStates.{Starts, StepsBy};
+ghost use Rattle.sat_pairs.specs.Numbers.{places_in, cell_pair_alone, equal_places, differ_places, pure_pair_at, kept_numbers as kept_numbers_of};
+ghost use Rattle.sat_pairs.specs.CaseStates.{Starts, StartsAt, StepsBy};
 
 use crate::numbers::{
-    count_of, kept_numbers, number_of, numbers_below, place_of, places_of, push_pure,
+    count_of, kept_numbers, number_of, numbers_below, place_of, places_of, push_pure, push_spoken,
 };
 use crate::tables::Table;
 use cyc_memory::OutOfMemory;
@@ -79,16 +79,33 @@ fn pure_pair(alloc: Global, numbers: &[u64], atoms: &[Pure]) -> Result<Known, Ou
     Ok(Known::new(same, differ, Vec::new(alloc)))
 }
 
+/// What pure atoms say of the first `count` numbers, unless they exclude one another.
+fn start_at(
+    alloc: Global,
+    numbers: &[u64],
+    count: usize,
+    atoms: &[Pure],
+) -> Result<Option<Known>, OutOfMemory>
+    ensures { IfOk result (StartsAt numbers.now count atoms.now) }
+{
+    let kept = numbers_below(alloc, count)?;
+    let stated = pure_pair(alloc, numbers, atoms)?;
+    let none = Known::new(Vec::new(alloc), Vec::new(alloc), Vec::new(alloc));
+    let combined = combine(alloc, numbers, &stated, &[], &none, &kept);
+    drop(stated);
+    drop(none);
+    drop(kept);
+    Ok(combined?)
+}
+
 /// What the pure atoms say of the terms that the spatial atoms speak of and of the parameters, unless they exclude one another.
 fn start(alloc: Global, k: u32, heap: &Heap) -> Result<Option<Known>, OutOfMemory>
     ensures { IfOk result (Starts k heap.now) }
 {
     let mut numbers = kept_numbers(alloc, k, heap.spatial())?;
-    let kept = numbers_below(alloc, count_of(&numbers))?;
+    let count = count_of(&numbers);
     push_pure(&mut numbers, heap.pure())?;
-    let stated = pure_pair(alloc, &numbers, heap.pure())?;
-    let none = Known::new(Vec::new(alloc), Vec::new(alloc), Vec::new(alloc));
-    Ok(combine(alloc, &numbers, &stated, &[], &none, &kept)?)
+    start_at(alloc, &numbers, count, heap.pure())
 }
 
 /// The base pair of a cell: it says of its address, as its one argument, that it is a cell.
@@ -144,6 +161,24 @@ fn step(
     Ok(states_after(alloc, numbers, states, &places, pairs, &kept)?)
 }
 
+/// The states after an atom that stands before the atoms `rest`.
+fn step_to(
+    alloc: Global,
+    k: u32,
+    atom: &Spatial,
+    rest: &[Spatial],
+    pairs: &[Known],
+    states: &[Known],
+) -> Result<IndexSet<Known>, OutOfMemory>
+    ensures { IfOk result (λ v. StepsBy (kept_numbers_of k (atom.now ∷ rest.now)) (length (kept_numbers_of k rest.now))
+        atom.now pairs.now states.now v.keys) }
+{
+    let mut numbers = kept_numbers(alloc, k, rest)?;
+    let after = count_of(&numbers);
+    push_spoken(&mut numbers, atom)?;
+    step(alloc, &numbers, after, atom, pairs, states)
+}
+
 /// The first atom, and the others.
 fn first_of(atoms: &[Spatial]) -> (&Spatial, &[Spatial])
     requires { 0 < length atoms.now }
@@ -170,19 +205,10 @@ fn fold(
         return Ok(states);
     }
     let (atom, rest) = first_of(atoms);
-    let numbers = kept_numbers(alloc, k, atoms)?;
-    let after = kept_numbers(alloc, k, rest)?;
     let pairs = pairs_of_atom(table, cell, atom);
-    let next = step(
-        alloc,
-        &numbers,
-        count_of(&after),
-        atom,
-        pairs,
-        states.as_slice(),
-    )?;
-    let out = fold(alloc, table, cell, k, rest, next)?;
-    Ok(out)
+    let next = step_to(alloc, k, atom, rest, pairs, states.as_slice());
+    drop(states);
+    fold(alloc, table, cell, k, rest, next?)
 }
 
 /// The base pairs that a case of a predicate with k parameters gives with base pairs of the table.
@@ -194,14 +220,13 @@ pub fn given_by(
 ) -> Result<IndexSet<Known>, OutOfMemory>
     ensures { IfOk result (λ out. (d : BasePair) → IsMember d out.keys ↔ CaseGives (in_table table.now) k d case.now) }
 {
-    let mut states = IndexSet::new(alloc);
-    let Some(first) = start(alloc, k, case)? else {
-        return Ok(states);
-    };
-    add(&mut states, first)?;
     let cell = cell_pairs(alloc)?;
-    let out = fold(alloc, table, &cell, k, case.spatial(), states)?;
-    Ok(out)
+    let Some(first) = start(alloc, k, case)? else {
+        return Ok(IndexSet::new(alloc));
+    };
+    let mut states = IndexSet::new(alloc);
+    add(&mut states, first)?;
+    fold(alloc, table, &cell, k, case.spatial(), states)
 }
 
 /// Whether some stack and heap satisfy a symbolic heap. The table is that of the definitions.

@@ -52,7 +52,8 @@ fn push_terms(numbers: &mut Vec<u64>, terms: &[Term]) -> Result<(), OutOfMemory>
     Ok(())
 }
 
-fn push_spoken(numbers: &mut Vec<u64>, atom: &Spatial) -> Result<(), OutOfMemory>
+/// Adds the numbers of the terms that an atom's base pair speaks of.
+pub fn push_spoken(numbers: &mut Vec<u64>, atom: &Spatial) -> Result<(), OutOfMemory>
     ensures { IfOk result (λ _. numbers.new.items ≡ with_numbers numbers.old.items (spoken atom.now)) }
 {
     match atom {
