@@ -120,8 +120,9 @@ fn cell_pair(alloc: Global) -> Result<Known, OutOfMemory>
 fn cell_pairs(alloc: Global) -> Result<Vec<Known>, OutOfMemory>
     ensures { IfOk result (λ v. v.items ≡ cell_pair_alone) }
 {
+    let cell = cell_pair(alloc)?;
     let mut pairs = Vec::new(alloc);
-    pairs.push(cell_pair(alloc)?)?;
+    pairs.push(cell)?;
     Ok(pairs)
 }
 
@@ -158,7 +159,10 @@ fn step(
 {
     let kept = numbers_below(alloc, after)?;
     let places = places_for(alloc, numbers, atom)?;
-    Ok(states_after(alloc, numbers, states, &places, pairs, &kept)?)
+    let next = states_after(alloc, numbers, states, &places, pairs, &kept);
+    drop(places);
+    drop(kept);
+    Ok(next?)
 }
 
 /// The states after an atom that stands before the atoms `rest`.
@@ -242,5 +246,7 @@ pub fn satisfiable(
     ensures exact { IfOk result (λ b. IsTrue b ↔ IsSatisfiable _defs.now.list heap.now) }
 {
     let states = given_by(alloc, table, 0, heap)?;
-    Ok(!states.is_empty())
+    let is_satisfiable = !states.is_empty();
+    drop(states);
+    Ok(is_satisfiable)
 }

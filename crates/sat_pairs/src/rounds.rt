@@ -12,6 +12,7 @@ use crate::cases::given_by;
 use crate::tables::Table;
 use cyc_memory::OutOfMemory;
 use heap_formula::Heap;
+use indexmap::IndexSet;
 use pair_states::Known;
 use pred_defs::Defs;
 use std::alloc::{AllocError, Global};
@@ -62,6 +63,31 @@ fn put(
     Ok(count + 1)
 }
 
+/// Adds base pairs of the family, each unless it is there; none are left in `given` then.
+fn put_all(
+    defs: &Defs,
+    table: &mut Table,
+    count: usize,
+    most: u32,
+    pred: u16,
+    given: &mut IndexSet<Known>,
+) -> Result<usize, PairFault>
+    requires part { IsPartOf defs.now.list most table.old }
+    requires count { count ≡ total table.old }
+    requires there { pred < length table.old }
+    requires members { (b : BasePair) → IsMember b given.old.keys → InFamily defs.now.list pred b }
+    ensures part { IfOk result (λ n. IsPartOf defs.now.list most table.new × (n ≡ total table.new)) }
+    ensures grown { IfOk result (λ _. IsGrown table.old table.new) }
+    ensures taken { IfOk result (λ _. (b : BasePair) → IsMember b given.old.keys → IsMember b (pairs_of table.new pred)) }
+    ensures many { (result ≡ Err PairFault.TooManyPairs) → HasMoreThan defs.now.list most }
+{
+    let mut now = count;
+    while let Some(known) = given.pop() {
+        now = put(defs, table, now, most, pred, known)?;
+    }
+    Ok(now)
+}
+
 /// Adds what a case gives with the base pairs that are there.
 fn put_case(
     alloc: Global,
@@ -83,11 +109,9 @@ fn put_case(
     ensures many { (result ≡ Err PairFault.TooManyPairs) → HasMoreThan defs.now.list most }
 {
     let mut given = given_by(alloc, table, k, case)?;
-    let mut now = count;
-    while let Some(known) = given.pop() {
-        now = put(defs, table, now, most, pred, known)?;
-    }
-    Ok(now)
+    let counted = put_all(defs, table, count, most, pred, &mut given);
+    drop(given);
+    counted
 }
 
 /// How many parameters a predicate has.
@@ -151,9 +175,10 @@ fn sweep(
 
 /// Goes through the definitions that are to be done, the longest waiting first: where one gives a base pair that is new,
 /// its users are to be done again. It ends where none is left.
-fn work(
+fn work_through(
     alloc: Global,
     defs: &Defs,
+    agenda: &mut Agenda,
     table: &mut Table,
     count: usize,
     most: u32,
@@ -165,7 +190,6 @@ fn work(
     ensures many { (result ≡ Err PairFault.TooManyPairs) → HasMoreThan defs.now.list most }
 {
     let n = defs.as_slice().len();
-    let mut agenda = Agenda::new(alloc, defs)?;
     let mut now = count;
     for _turn in 0..usize::MAX {
         let pred = match agenda.next() {
@@ -179,6 +203,24 @@ fn work(
         }
     }
     Ok(now)
+}
+
+/// Goes through all definitions, and again through those whose predicates have grown.
+fn work(
+    alloc: Global,
+    defs: &Defs,
+    table: &mut Table,
+    count: usize,
+    most: u32,
+) -> Result<usize, PairFault>
+    requires part { IsPartOf defs.now.list most table.old }
+    requires count { count ≡ total table.old }
+    ensures part { IfOk result (λ n. IsPartOf defs.now.list most table.new × (n ≡ total table.new)) }
+    ensures grown { IfOk result (λ _. IsGrown table.old table.new) }
+    ensures many { (result ≡ Err PairFault.TooManyPairs) → HasMoreThan defs.now.list most }
+{
+    let mut agenda = Agenda::new(alloc, defs)?;
+    work_through(alloc, defs, &mut agenda, table, count, most)
 }
 
 /// The base pairs of all predicates: the least family that has what each case gives. Definitions are done again where a

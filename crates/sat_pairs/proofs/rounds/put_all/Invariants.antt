@@ -3,15 +3,15 @@ use Rattle.pair_family.specs.BasePairs.{BasePair}
 use Rattle.pair_family.specs.Tables.{pairs_of}
 use Rattle.list_facts.specs.Words.{IsMember}
 use Rattle.sat_pairs.specs.Growth.{total, IsPartOf, IsGrown}
-use Rattle.sat_pairs.proofs.rounds.put_case.Given as goal
+use Rattle.sat_pairs.proofs.rounds.put_all.Given as goal
 
 abbrev pub invariant-loop-known : goal.invariant-loop-known
 invariant-loop-known l = record {
   part : IsPartOf l.defs.list l.most l.table;
   count : l.now ≡ total l.table;
   grown : IsGrown l.fn.table l.table;
-  rest : (b : BasePair) → IsMember b l.given.keys → IsMember b l.initial.given.keys;
-  done : (b : BasePair) → IsMember b l.initial.given.keys → IsMember b l.given.keys ⊎ IsMember b (pairs_of l.table l.pred);
+  rest : (b : BasePair) → IsMember b l.given.keys → IsMember b l.fn.given.keys;
+  done : (b : BasePair) → IsMember b l.fn.given.keys → IsMember b l.given.keys ⊎ IsMember b (pairs_of l.table l.pred);
 }
 
 abbrev pub decreases-loop-known : goal.decreases-loop-known

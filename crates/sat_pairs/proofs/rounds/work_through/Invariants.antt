@@ -1,6 +1,6 @@
 use Rattle.std.proofs.Common.{◌≡◌}
 use Rattle.sat_pairs.specs.Growth.{total, IsPartOf, IsGrown}
-use Rattle.sat_pairs.proofs.rounds.work.Given as goal
+use Rattle.sat_pairs.proofs.rounds.work_through.Given as goal
 
 abbrev pub invariant-loop-turn : goal.invariant-loop-turn
 invariant-loop-turn l = record {

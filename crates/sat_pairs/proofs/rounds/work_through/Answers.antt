@@ -1,5 +1,5 @@
 use Rattle.sat_pairs.proofs.Taken.{grown_then}
-use Rattle.sat_pairs.proofs.rounds.work.Goals as goal
+use Rattle.sat_pairs.proofs.rounds.work_through.Goals as goal
 
 pub loop-turn-preserved : goal.loop-turn-preserved
 loop-turn-preserved c = record {
