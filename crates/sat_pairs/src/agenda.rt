@@ -17,18 +17,23 @@ pub struct Agenda {
 impl Agenda {
     /// All predicates, the last first.
     pub fn new(alloc: Global, defs: &Defs) -> Result<Agenda, OutOfMemory> {
-        let users = users_of(alloc, defs)?;
-        let mut waiting = VecDeque::new(alloc);
-        let mut waits = Vec::new(alloc);
+        let mut agenda = Agenda {
+            waiting: VecDeque::new(alloc),
+            waits: Vec::new(alloc),
+            users: Vec::new(alloc),
+        };
+        agenda.fill(alloc, defs)?;
+        Ok(agenda)
+    }
+
+    /// Each predicate waits, behind those that follow it; and who uses it is noted.
+    fn fill(&mut self, alloc: Global, defs: &Defs) -> Result<(), OutOfMemory> {
         for pred in 0..defs.as_slice().len() {
-            waiting.push_front(pred as u16)?;
-            waits.push(true)?;
+            self.waiting.push_front(pred as u16)?;
+            self.waits.push(true)?;
+            self.users.push(Vec::new(alloc))?;
         }
-        Ok(Agenda {
-            waiting,
-            waits,
-            users,
-        })
+        note_cases(&mut self.users, defs)
     }
 
     /// The predicate that has waited longest.
@@ -72,16 +77,12 @@ fn note_case(users: &mut Vec<Vec<u16>>, pred: u16, case: &Heap) -> Result<(), Ou
     Ok(())
 }
 
-/// For each predicate, the predicates with a case that uses it.
-fn users_of(alloc: Global, defs: &Defs) -> Result<Vec<Vec<u16>>, OutOfMemory> {
-    let mut users = Vec::new(alloc);
-    for _ in defs.as_slice() {
-        users.push(Vec::new(alloc))?;
-    }
+/// Notes which predicates each predicate uses in its cases.
+fn note_cases(users: &mut Vec<Vec<u16>>, defs: &Defs) -> Result<(), OutOfMemory> {
     for pred in 0..defs.as_slice().len() {
         for case in defs.cases(pred as u16) {
-            note_case(&mut users, pred as u16, case)?;
+            note_case(users, pred as u16, case)?;
         }
     }
-    Ok(users)
+    Ok(())
 }
