@@ -16,7 +16,7 @@ ghost use Rattle.sat_pairs.specs.Numbers.{places_in, cell_pair_alone, equal_plac
 ghost use Rattle.sat_pairs.specs.CaseStates.{Starts, StartsAt, StepsBy};
 
 use crate::numbers::{
-    count_of, kept_numbers, number_of, numbers_below, place_of, places_of, push_pure, push_spoken,
+    kept_numbers, number_of, numbers_below, place_of, places_of, push_pure, push_spoken,
 };
 use crate::tables::Table;
 use cyc_memory::OutOfMemory;
@@ -103,26 +103,19 @@ fn start(alloc: Global, k: u32, heap: &Heap) -> Result<Option<Known>, OutOfMemor
     ensures { IfOk result (Starts k heap.now) }
 {
     let mut numbers = kept_numbers(alloc, k, heap.spatial())?;
-    let count = count_of(&numbers);
+    let count = numbers.len();
     push_pure(&mut numbers, heap.pure())?;
     start_at(alloc, &numbers, count, heap.pure())
 }
 
-/// The base pair of a cell: it says of its address, as its one argument, that it is a cell.
-fn cell_pair(alloc: Global) -> Result<Known, OutOfMemory>
-    ensures { IfOk result (λ k. k ≡ record { same = []; differ = []; cells = 1 ∷ [] }) }
-{
-    let mut cells = Vec::new(alloc);
-    cells.push(1)?;
-    Ok(Known::new(Vec::new(alloc), Vec::new(alloc), cells))
-}
-
+/// The base pair of a cell, alone: it says of its address, as its one argument, that it is a cell.
 fn cell_pairs(alloc: Global) -> Result<Vec<Known>, OutOfMemory>
     ensures { IfOk result (λ v. v.items ≡ cell_pair_alone) }
 {
-    let cell = cell_pair(alloc)?;
+    let mut cells = Vec::new(alloc);
+    cells.push(1)?;
     let mut pairs = Vec::new(alloc);
-    pairs.push(cell)?;
+    pairs.push(Known::new(Vec::new(alloc), Vec::new(alloc), cells))?;
     Ok(pairs)
 }
 
@@ -178,7 +171,7 @@ fn step_to(
         atom.now pairs.now states.now v.keys) }
 {
     let mut numbers = kept_numbers(alloc, k, rest)?;
-    let after = count_of(&numbers);
+    let after = numbers.len();
     push_spoken(&mut numbers, atom)?;
     step(alloc, &numbers, after, atom, pairs, states)
 }

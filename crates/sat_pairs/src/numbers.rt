@@ -141,10 +141,3 @@ pub fn numbers_below(alloc: Global, n: usize) -> Result<Vec<usize>, OutOfMemory>
     }
     Ok(numbers)
 }
-
-/// How many numbers there are.
-pub fn count_of(numbers: &[u64]) -> usize
-    ensures { result ≡ length numbers.now }
-{
-    numbers.len()
-}

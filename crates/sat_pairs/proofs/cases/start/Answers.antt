@@ -12,6 +12,6 @@ returns c =
     let ps = c.args.heap.now.pure in
     let first : c.in_ok-numbers.numbers.items ≡ kept_numbers k xs = c.in_ok-numbers.ensures ∙ ap (kept_numbers k) c.spatial.ensures.value in
     let pushed : c.push_pure.new.numbers.items ≡ with_pure_numbers (kept_numbers k xs) ps = c.in_ok-push_pure.ensures ∙ (ap (λ z. with_pure_numbers z c.pure.result.now) first ∙ ap (with_pure_numbers (kept_numbers k xs)) c.pure.ensures.value) in
-    let numbers = c.deref-2.result.now in
-    let count = c.count_of-count.ensures ∙ ap length (c.deref.ensures.value ∙ first) in
-    IfOk-weaker c.start_at.result _ _ (λ o h. start_is k xs ps o numbers (count_from 0 c.count_of-count.result) (pure_pair_at numbers c.pure-2.result.now) no_pair (c.deref-2.ensures.value ∙ pushed) (ap (pure_pair_at numbers) c.pure-2.ensures.value) refl (ap (count_from 0) count) h) c.start_at.ensures
+    let numbers = c.deref.result.now in
+    let count = c.len-count.ensures ∙ (c.in_ok-numbers.numbers.ok.0 ∙ ap length first) in
+    IfOk-weaker c.start_at.result _ _ (λ o h. start_is k xs ps o numbers (count_from 0 c.len-count.result) (pure_pair_at numbers c.pure-2.result.now) no_pair (c.deref.ensures.value ∙ pushed) (ap (pure_pair_at numbers) c.pure-2.ensures.value) refl (ap (count_from 0) count) h) c.start_at.ensures

@@ -9,6 +9,6 @@ pub returns : goal.returns
 returns c =
     let x = c.args.atom.now in
     let rest = kept_numbers c.args.k c.args.rest.now in
-    let numbers : c.deref-2.result.now ≡ with_numbers rest (spoken x) = c.deref-2.ensures.value ∙ (c.in_ok-push_spoken.ensures ∙ ap (λ z. with_numbers z (spoken x)) c.in_ok-numbers.ensures) in
-    let after : c.count_of-after.result ≡ length rest = c.count_of-after.ensures ∙ ap length (c.deref.ensures.value ∙ c.in_ok-numbers.ensures) in
-    IfOk-weaker c.step.result _ _ (λ v h. subst (λ z. StepsBy z (length rest) x c.args.pairs.now c.args.states.now v.keys) numbers (subst (λ z. StepsBy c.deref-2.result.now z x c.args.pairs.now c.args.states.now v.keys) after h)) c.step.ensures
+    let numbers : c.deref.result.now ≡ with_numbers rest (spoken x) = c.deref.ensures.value ∙ (c.in_ok-push_spoken.ensures ∙ ap (λ z. with_numbers z (spoken x)) c.in_ok-numbers.ensures) in
+    let after : c.len-after.result ≡ length rest = c.len-after.ensures ∙ (c.in_ok-numbers.numbers.ok.0 ∙ ap length c.in_ok-numbers.ensures) in
+    IfOk-weaker c.step.result _ _ (λ v h. subst (λ z. StepsBy z (length rest) x c.args.pairs.now c.args.states.now v.keys) numbers (subst (λ z. StepsBy c.deref.result.now z x c.args.pairs.now c.args.states.now v.keys) after h)) c.step.ensures
