@@ -14,6 +14,6 @@ pub use cutting::{fault_at, tokens};
 pub use cyc_memory::OutOfMemory;
 pub use fault::{IllFault, LexFault, ReadFault, What};
 pub use lexing::{check_len, first, lex_from, next, next_char, skip_comment};
-pub use place::{Bad, Piece, Place, Run, Stop, goes_on, is_space, starts_name};
+pub use place::{Bad, Piece, Place, Run, Stop, goes_on, is_plain, is_space, starts_name};
 pub use token::{Kind, Token, Tokens};
 pub use writer::WordWriter;

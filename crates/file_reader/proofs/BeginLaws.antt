@@ -5,7 +5,7 @@ use Rattle.cyc_lex.specs.Placed.{Placed}
 use Rattle.cyc_lex.specs.Word.{Word, word_of}
 use Rattle.heap_syntax.specs.declared.version.Version.{Version}
 use Rattle.heap_syntax.specs.Versions.{most_spatial}
-use Rattle.heap_reader.specs.Trees.{Heading}
+use Rattle.heap_reader.specs.Trees.{Heading, defined_headings}
 use Rattle.heap_reader.specs.Spans.{total}
 use Rattle.heap_reader.specs.Flaws.{Found as Flaws, or_later}
 use Rattle.line_reader.specs.Values.{program_value}
@@ -14,7 +14,7 @@ use Rattle.heap_reader.proofs.NoFlaw.{neither}
 use Rattle.heap_reader.proofs.WithinSpans.{Before, flaw_within}
 use Rattle.proof_syntax.specs.Trees.{Definition, Line, Node, node_of}
 use Rattle.proof_statements.specs.Left.{Nodes as Among, At}
-use Rattle.proof_file.specs.Flaws.{heading, headings, node_flaw, first_node, file_flaw}
+use Rattle.proof_file.specs.Flaws.{headings, node_flaw, first_node, file_flaw}
 use Rattle.proof_file.specs.Spans.{node_span}
 use Rattle.proof_file.specs.Values.{definition_value, node_value}
 use Rattle.proof_file.specs.declared.node.FileNode.{FileNode}
@@ -26,10 +26,10 @@ use Rattle.file_reader.specs.Outcomes.{or_else, told_flaw}
 use Rattle.file_reader.specs.Stages.{Begun, Head, Nodes}
 use Rattle.file_reader.specs.Steps.{Takes, Leads, tree_of, Spell, begun_of}
 use Rattle.file_reader.specs.Fronts.{front_size, front_defs, IsBegun}
-use Rattle.file_reader.specs.Knowns.{def_heading, defs_in, program_in, begun_in, HasValues, IsSteady, IsAdded}
+use Rattle.file_reader.specs.Knowns.{defs_in, program_in, begun_in, HasValues, IsSteady, IsAdded}
 use Rattle.file_reader.specs.Beginnings.{IsOpen, IsBeginning}
 use Rattle.file_reader.proofs.Beginning.{told-later, told-front, file-flaws, begun-step}
-use Rattle.file_reader.proofs.KeptParts.{same-found, same-value, kept-headings, kept-flaw, whole-front}
+use Rattle.file_reader.proofs.KeptParts.{same-found, same-value, values-headings, kept-headings, kept-flaw, whole-front}
 use Rattle.file_reader.proofs.SameBegun.{begun-same}
 use Rattle.file_reader.proofs.StepLaws.{head-step}
 
@@ -75,10 +75,6 @@ front-within v ds ls flaw is =
     omega (arith, within)
 
 -- ---- values
-
-values-headings : (hs : List Heading) (ds : List Definition) → map def_heading (map (definition_value hs) ds) ≡ headings ds
-values-headings hs [] = refl
-values-headings hs (d ∷ ds) = ap (λ (xs : List Heading). heading d ∷ xs) (values-headings hs ds)
 
 module _ (ts : List Placed) (f : Front) (rest : List Word) (b : IsBegun (map word_of ts) f rest) where
   abbrev v : Version
@@ -199,7 +195,7 @@ module _ (ts : List Placed) (f : Front) (rest : List Word) (b : IsBegun (map wor
           let clean : new.flaw ≡ None = flaw-is ∙ none in
           let ns = nodes ∙ nodes-are clean in
           let es = defs-are clean in
-          let hd = ap (map def_heading) es ∙ values-headings (headings ds) ds in
+          let hd = ap defined_headings es ∙ values-headings (headings ds) ds in
           let ps = program-is clean in
           let fl = flaw ∙ flaw-is in
           λ i. record {

@@ -44,7 +44,8 @@ use Rattle.proof_file.specs.Spans.{node_span}
 use Rattle.proof_file.specs.Reading.{IsRead, proof_files}
 use Rattle.proof_file.proofs.SpanLaws.{file_words}
 use Rattle.proof_file.proofs.WithinSpans.{file_before}
-use Rattle.file_reader.specs.Outcomes.{Outcome, Agrees, at_token, item_fault, syntax_fault, told_flaw, settled, said_of, file_outcome}
+use Rattle.heap_reader.specs.Told.{item_fault}
+use Rattle.file_reader.specs.Outcomes.{Outcome, Agrees, at_token, syntax_fault, told_flaw, settled, said_of, file_outcome}
 use Rattle.file_reader.specs.Stages.{Head, fresh, behind, outcome}
 use Rattle.file_reader.proofs.Tokens.{slice-there}
 

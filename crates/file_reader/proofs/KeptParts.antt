@@ -6,7 +6,7 @@ use Rattle.cyc_grammar.specs.Syntax.{Reading, ◌>>=◌}
 use Rattle.heap_syntax.specs.declared.version.Version.{Version}
 use Rattle.heap_syntax.specs.Versions.{most_spatial}
 use Rattle.heap_syntax.proofs.Fronts.{mapped}
-use Rattle.heap_reader.specs.Trees.{Heading}
+use Rattle.heap_reader.specs.Trees.{Heading, defined_headings}
 use Rattle.heap_reader.specs.Flaws.{Found, or_later, listed_flaw}
 use Rattle.heap_reader.proofs.Fitting.{most_fits}
 use Rattle.heap_reader.proofs.NoFlaw.{neither}
@@ -15,9 +15,9 @@ use Rattle.proof_syntax.specs.Trees.{Definition, Line, Node}
 use Rattle.proof_syntax.specs.Keeping.{definition_front, node_front}
 use Rattle.proof_statements.specs.Left.{Part, Preds, Lines, Nodes, Statement, statement_of, kept_statement, line_or_node_front, statement_front, joined}
 use Rattle.proof_statements.proofs.StatementFronts.{from-kept, kept-front}
-use Rattle.proof_file.specs.Flaws.{headings, definition_flaw, program_flaw, node_flaw, first_line, nodes_flaw, file_flaw}
+use Rattle.proof_file.specs.Flaws.{heading, headings, definition_flaw, program_flaw, node_flaw, first_line, nodes_flaw, file_flaw}
 use Rattle.proof_file.specs.Spans.{definition_span}
-use Rattle.proof_file.specs.Values.{node_value}
+use Rattle.proof_file.specs.Values.{definition_value, node_value}
 use Rattle.proof_file.proofs.NodeFlaws.{node_same, node_whole}
 use Rattle.file_reader.specs.Steps.{tree_of}
 use Rattle.file_reader.specs.Fronts.{IsPart, kept, kept_part}
@@ -143,6 +143,10 @@ module _ (v : Version) (hs : List Heading) where
     same-value old found e none = ap (node_value hs) (same-node (neither old (flaw_of count n k tree) (sym e ∙ none)).1)
 
 -- ---- flaws of what stands before the nodes
+
+pub values-headings : (hs : List Heading) (ds : List Definition) → defined_headings (map (definition_value hs) ds) ≡ headings ds
+values-headings hs [] = refl
+values-headings hs (d ∷ ds) = ap (λ (xs : List Heading). heading d ∷ xs) (values-headings hs ds)
 
 pub kept-headings : (ds : List Definition) → headings (map (definition_front kept) ds) ≡ headings ds
 kept-headings ds = same_headings 64 ds

@@ -6,7 +6,7 @@ use Rattle.cyc_lex.specs.declared.fault.ReadFault.{ReadFault}
 use Rattle.cyc_lex.specs.Placed.{Placed}
 use Rattle.cyc_lex.specs.Word.{Word, word_of}
 use Rattle.heap_syntax.specs.Versions.{most_spatial}
-use Rattle.heap_reader.specs.Trees.{Heading}
+use Rattle.heap_reader.specs.Trees.{Heading, defined_headings}
 use Rattle.heap_reader.specs.Spans.{total}
 use Rattle.heap_reader.specs.Flaws.{Found as Flaws, or_later}
 use Rattle.heap_reader.proofs.WithinSpans.{Before}
@@ -21,16 +21,17 @@ use Rattle.proof_file.specs.Spans.{node_span}
 use Rattle.proof_file.specs.Values.{definition_value, node_value}
 use Rattle.proof_file.proofs.FrontSpans.{node-span}
 use Rattle.proof_file.proofs.WithinSpans.{node_before}
+use Rattle.heap_reader.specs.Told.{item_fault}
 use Rattle.file_reader.specs.declared.known.Known.{Known}
 use Rattle.file_reader.specs.declared.known.Found.{Found}
-use Rattle.file_reader.specs.Outcomes.{at_token, item_fault, told_flaw, or_else}
+use Rattle.file_reader.specs.Outcomes.{at_token, told_flaw, or_else}
 use Rattle.file_reader.specs.Stages.{Begun, Nodes, ahead}
 use Rattle.file_reader.specs.Steps.{Takes, Leads, tree_of, span_of, with_node, with_end}
 use Rattle.file_reader.specs.Fronts.{kept}
-use Rattle.file_reader.specs.Knowns.{def_heading, defs_in, program_in, begun_in, IsHeads, HasValues, IsTold, IsSteady, IsAdded}
+use Rattle.file_reader.specs.Knowns.{defs_in, program_in, begun_in, IsHeads, HasValues, IsTold, IsSteady, IsAdded}
 use Rattle.file_reader.proofs.After.{After, node_after}
 use Rattle.file_reader.proofs.Beginning.{lead-more, file-flaws}
-use Rattle.file_reader.proofs.KeptParts.{later-kept, end-kept, same-flaw, same-node}
+use Rattle.file_reader.proofs.KeptParts.{later-kept, end-kept, values-headings, same-flaw, same-node}
 use Rattle.file_reader.proofs.SameBegun.{begun-same}
 use Rattle.file_reader.proofs.Sizes.{statement-words}
 use Rattle.file_reader.proofs.StatementLaws.{statement-size}
@@ -117,12 +118,8 @@ told-within base before span ts us (Some f) le is lo hi = ap (λ t. Some (at_tok
 
 -- ---- values of definitions
 
-values-headings : (hs : List Heading) (ds : List Definition) → map def_heading (map (definition_value hs) ds) ≡ headings ds
-values-headings hs [] = refl
-values-headings hs (d ∷ ds) = λ i. def_heading (definition_value hs d) ∷ values-headings hs ds i
-
-known-headings : (k : Known) (ds : List Definition) (ls : List Line) → HasValues k ds ls → map def_heading (defs_in k.front) ≡ headings ds
-known-headings k ds ls v = ap (λ o. map def_heading (defs_in o)) v.is ∙ ap (map def_heading) v.definitions ∙ values-headings (headings ds) ds
+known-headings : (k : Known) (ds : List Definition) (ls : List Line) → HasValues k ds ls → defined_headings (defs_in k.front) ≡ headings ds
+known-headings k ds ls v = ap (λ o. defined_headings (defs_in o)) v.is ∙ ap defined_headings v.definitions ∙ values-headings (headings ds) ds
 
 total-more : (xs : List Node) (x : Node) → total node_span (xs ++ x ∷ []) ≡ total node_span xs + node_span x
 total-more [] x = omega arith
@@ -148,7 +145,7 @@ module _ (k : Known) (hs : List Heading) (h : IsHeads k hs) (before : ℕ) (ts u
   flaw_among gs y = node_flaw (most_spatial k.version) gs k.lines (length old.nodes.items) old.tokens y
 
   abbrev own : List Heading
-  own = map def_heading (defs_in k.front)
+  own = defined_headings (defs_in k.front)
 
   size : length front ≡ node_span x
   size = front-size Among us ws (inl x) e
@@ -289,7 +286,7 @@ module _ (k : Known) (us : List Placed) (ws : List Word) (old new : Found) (e : 
   last-same : with_end (begun_in k old) last ≡ begun_in k new
   last-same = λ i. record {
     version = k.version;
-    headings = map def_heading (defs_in k.front);
+    headings = defined_headings (defs_in k.front);
     lines = k.lines;
     definitions = defs_in k.front;
     program = program_in k.front;

@@ -5,7 +5,7 @@ use Rattle.cyc_limits.specs.declared.TheConstants.{MOST_PREDICATES}
 use Rattle.heap_syntax.specs.Versions.{most_spatial}
 use Rattle.heap_formula.specs.declared.commands.Command.{Command}
 use Rattle.heap_formula.specs.Definitions.{Definition as DefinitionValue}
-use Rattle.heap_reader.specs.Trees.{Heading}
+use Rattle.heap_reader.specs.Trees.{Heading, defined_headings}
 use Rattle.line_reader.specs.Values.{program_value}
 use Rattle.proof_syntax.specs.Trees.{Definition, Line, Node}
 use Rattle.proof_file.specs.declared.building.FileFront.{FileFront}
@@ -16,10 +16,6 @@ use Rattle.file_reader.specs.declared.known.Found.{Found}
 use Rattle.file_reader.specs.Outcomes.{or_else, told_flaw}
 use Rattle.file_reader.specs.Stages.{Begun}
 use Rattle.file_reader.specs.Steps.{tree_of, Spell}
-
--- a predicate's name and arity, of its value
-abbrev pub def_heading : DefinitionValue → Heading
-def_heading d = record { name = d.name; arity = d.arity }
 
 abbrev pub defs_in : Option FileFront → List DefinitionValue
 defs_in (Some f) = f.defs.list
@@ -33,7 +29,7 @@ program_in None = []
 abbrev pub begun_in : Known → Found → Begun
 begun_in k f = record {
   version = k.version;
-  headings = map def_heading (defs_in k.front);
+  headings = defined_headings (defs_in k.front);
   lines = k.lines;
   definitions = defs_in k.front;
   program = program_in k.front;
@@ -46,7 +42,7 @@ begun_in k f = record {
 
 -- what uses of the predicates are compared with
 pub record IsHeads (k : Known) (hs : List Heading) : Type 0 where
-  pub value : hs ≡ map def_heading (defs_in k.front)
+  pub value : hs ≡ defined_headings (defs_in k.front)
   pub few : length hs ≤ MOST_PREDICATES
 
 -- these are the values of definitions and lines

@@ -9,10 +9,9 @@ use Rattle.heap_syntax.specs.declared.version.Version.{Version}
 use Rattle.heap_syntax.specs.Versions.{most_spatial}
 use Rattle.heap_formula.specs.declared.commands.Command.{Command}
 use Rattle.heap_formula.specs.Definitions.{Definition}
-use Rattle.heap_reader.specs.declared.flaw.Item.{Item}
-use Rattle.heap_reader.specs.declared.flaw.Item.TheVariants.{Ill, Over}
 use Rattle.heap_reader.specs.declared.flaw.Flaw.{Flaw}
 use Rattle.heap_reader.specs.Flaws.{Found}
+use Rattle.heap_reader.specs.Told.{item_fault}
 use Rattle.proof_syntax.specs.Trees.{File}
 use Rattle.proof_syntax.specs.Grammar.{file}
 use Rattle.proof_file.specs.declared.file.ProofFile.{ProofFile}
@@ -53,10 +52,6 @@ Agrees (Faulty fault) (Err e) = e ≡ fault
 abbrev pub at_token : (ℕ → ℕ → ℕ → ReadFault) → ℕ → Option Placed → ReadFault
 at_token fault token (Some t) = fault token t.line t.column
 at_token fault token None = fault token 0 0
-
-abbrev pub item_fault : Item → ℕ → ℕ → ℕ → ReadFault
-item_fault (Ill fault) token line column = faults.IllFormed fault token line column
-item_fault (Over what) token line column = faults.Limit what token line column
 
 -- the token from which on so many are left is the first dead one
 abbrev pub syntax_fault : ℕ → List Placed → ℕ → ReadFault

@@ -2,10 +2,11 @@
 
 ghost use Rattle.std.specs.Prelude.{◌≡◌, ◌≤◌, length, map, IfOk};
 ghost use Rattle.cyc_limits.specs.declared.TheConstants.{MOST_PREDICATES};
-ghost use Rattle.file_reader.specs.Knowns.{def_heading, defs_in};
+ghost use Rattle.heap_reader.specs.Trees.{defined_headings};
+ghost use Rattle.file_reader.specs.Knowns.{defs_in};
 
 use cyc_lex::{OutOfMemory, ReadFault};
-use heap_reader::{Head, Heads};
+use heap_reader::{Heads, heads_of};
 use heap_syntax::Version;
 use proof_file::{FileFront, FileNode};
 use std::alloc::Global;
@@ -31,19 +32,12 @@ pub struct Found {
 
 /// What uses of the predicates are compared with.
 pub fn known_heads(alloc: Global, known: &Known) -> Result<Heads<'_>, OutOfMemory>
-    ensures value { IfOk result (λ h. h ≡ map def_heading (defs_in known.now.front)) }
+    ensures value { IfOk result (λ h. h ≡ defined_headings (defs_in known.now.front)) }
     ensures few { IfOk result (λ h. length h ≤ MOST_PREDICATES) }
 {
     let defs = match &known.front {
         Some(front) => front.defs.as_slice(),
         None => &[],
     };
-    let mut heads = Vec::with_capacity(alloc, defs.len())?;
-    for def in defs {
-        heads.push(Head {
-            name: def.name.as_text(),
-            arity: def.arity,
-        })?;
-    }
-    Heads::new(alloc, heads)
+    Heads::new(alloc, heads_of(alloc, defs)?)
 }

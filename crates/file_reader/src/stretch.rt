@@ -9,7 +9,7 @@ ghost use Rattle.file_reader.specs.Stretches.{IsStretch, tokens_of};
 
 use cyc_grammar::Cursor;
 use cyc_lex::{Place, ReadFault, Token, token_at};
-use heap_reader::{Flaw, Item};
+use heap_reader::Flaw;
 
 /// So many of the first tokens of a text that stands at a place, where a comment goes on or none does; `before` others stand
 /// before them. No token is held: each is cut off the text again when it is asked for.
@@ -54,22 +54,8 @@ impl<'a> Stretch<'a> {
     {
         let at = flaw.token - self.before as usize;
         let place = token_at(self.place, self.comment, self.text, at);
-        let token = flaw.token as u32;
-        let (line, column) = (place.line, place.column);
-        match flaw.item {
-            Item::Ill(fault) => ReadFault::IllFormed {
-                fault,
-                token,
-                line,
-                column,
-            },
-            Item::Over(what) => ReadFault::Limit {
-                what,
-                token,
-                line,
-                column,
-            },
-        }
+        flaw.item
+            .fault_at(flaw.token as u32, place.line, place.column)
     }
 
     /// The syntax fault of a text where so many of the tokens are left from the first dead one on; where none is left, no line

@@ -1,5 +1,6 @@
 -- What a contract sees of heaps as trees, where their terms hold nothing borrowed, and of the predicates that are known.
 use Rattle.std.specs.Prelude.{ℕ, List, map}
+use Rattle.heap_formula.specs.Definitions.{Definition}
 use Rattle.heap_syntax.specs.declared.tree.SpatialTree.{SpatialTree}
 use Rattle.heap_syntax.specs.declared.tree.SpatialTree.TheVariants as trees
 use Rattle.heap_syntax.specs.declared.tree.HeapTree.{HeapTree}
@@ -20,3 +21,10 @@ pub record Heading : Type 0 where
 
 abbrev pub heading_of : Head → Heading
 heading_of h = record { name = h.name.now; arity = h.arity }
+
+abbrev pub defined_heading : Definition → Heading
+defined_heading d = record { name = d.name; arity = d.arity }
+
+-- what uses of defined predicates are compared with
+abbrev pub defined_headings : List Definition → List Heading
+defined_headings ds = map defined_heading ds

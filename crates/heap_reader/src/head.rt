@@ -1,11 +1,12 @@
 // What a use of a predicate is compared with.
 ghost use Rattle.std.specs.Prelude.{◌≡◌, ◌≤◌, length, map, take, is_some, IfOk};
-ghost use Rattle.heap_reader.specs.Trees.{heading_of};
+ghost use Rattle.heap_reader.specs.Trees.{heading_of, defined_headings};
 ghost use Rattle.heap_reader.specs.Flaws.{arity_in};
 ghost use Rattle.heap_reader.specs.Values.{place_of};
 ghost use Rattle.heap_reader.specs.Indexes.{IsIndex};
 
 use cyc_memory::OutOfMemory;
+use heap_formula::Def;
 use indexmap::IndexMap;
 use std::alloc::Global;
 use std::marker::Model;
@@ -15,6 +16,20 @@ use std::marker::Model;
 pub struct Head<'a> {
     pub name: &'a str,
     pub arity: u32,
+}
+
+/// What uses of these predicates are compared with, in their order.
+pub fn heads_of<'a>(alloc: Global, defs: &'a [Def]) -> Result<Vec<Head<'a>>, OutOfMemory>
+    ensures { IfOk result (λ v. map heading_of v.items ≡ defined_headings defs.now) }
+{
+    let mut heads = Vec::with_capacity(alloc, defs.len())?;
+    for def in defs {
+        heads.push(Head {
+            name: def.name.as_text(),
+            arity: def.arity,
+        })?;
+    }
+    Ok(heads)
 }
 
 /// The predicates that a text defines, in order, found by name. Where two have one name, the first is found.

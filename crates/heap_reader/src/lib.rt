@@ -12,7 +12,7 @@ mod values;
 
 pub use flaw::{Flaw, Item, ill, over};
 pub use form::TermReader;
-pub use head::{Head, Heads};
+pub use head::{Head, Heads, heads_of};
 pub use heap_walk::{walk_heap, walk_heaps};
 pub use told::flaw_fault;
 pub use values::{definition_value, entailment_value, heap_value, heap_values};

@@ -2,7 +2,7 @@
 ghost use Rattle.std.specs.Prelude.{◌<◌, ◌^◌, length};
 ghost use Rattle.heap_reader.specs.Told.{IsFlawTold};
 
-use crate::flaw::{Flaw, Item};
+use crate::flaw::Flaw;
 use cyc_lex::{ReadFault, Tokens};
 
 /// The flaw as a reader tells it, with its token's line and column.
@@ -13,20 +13,6 @@ pub fn flaw_fault(tokens: &Tokens<'_>, flaw: Flaw) -> ReadFault
 {
     let all = tokens.as_slice();
     let place = &all[flaw.token];
-    let token = flaw.token as u32;
-    let (line, column) = (place.line, place.column);
-    match flaw.item {
-        Item::Ill(fault) => ReadFault::IllFormed {
-            fault,
-            token,
-            line,
-            column,
-        },
-        Item::Over(what) => ReadFault::Limit {
-            what,
-            token,
-            line,
-            column,
-        },
-    }
+    flaw.item
+        .fault_at(flaw.token as u32, place.line, place.column)
 }

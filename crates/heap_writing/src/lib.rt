@@ -3,7 +3,7 @@
 
 mod atoms;
 mod definitions;
-pub mod heaps;
+mod heaps;
 mod numbers;
 mod term_heaps;
 

@@ -12,7 +12,7 @@ use Rattle.cyc_grammar.specs.Syntax.{Syntax}
 use Rattle.cyc_grammar.specs.Faults.{IsFirstDead, StandsAt}
 use Rattle.heap_reader.specs.declared.flaw.Item.{Item as FlawItem}
 use Rattle.heap_reader.specs.declared.flaw.Item.TheVariants.{Ill, Over}
-use Rattle.heap_reader.specs.Trees.{Heading}
+use Rattle.heap_reader.specs.Trees.{Heading, defined_headings}
 use Rattle.heap_reader.specs.Flaws.{Found, heap_flaw}
 use Rattle.heap_reader.specs.Values.{heap_value}
 use Rattle.pred_defs.specs.Book.{DefinitionBook}
@@ -26,13 +26,6 @@ use Rattle.item_reader.specs.declared.items.Item.TheVariants.{Value, Flawed, Ope
 use Rattle.heap_syntax.specs.declared.tree.HeapTree.{HeapTree}
 use Rattle.pred_syntax.specs.declared.tree.TermTree.{TermTree}
 use Rattle.pred_syntax.specs.declared.tree.DefinitionTree.{DefinitionTree}
-
--- what a use of a predicate is compared with
-abbrev pub defined : DefinitionValue → Heading
-defined d = record { name = d.name; arity = d.arity }
-
-abbrev pub defined_heads : List DefinitionValue → List Heading
-defined_heads ds = map defined ds
 
 -- no definition so far has the name
 abbrev pub is_unknown_fault : IllFault → Bool
@@ -68,18 +61,18 @@ IsReadPart s is ts place (Err (faults.Limit what token line column)) = ⊥
 -- ---- heaps, and the definition after those so far
 
 abbrev pub heap_found : DefinitionBook → ℕ → Heap → List Heading → Found
-heap_found book place tree more = heap_flaw (term_flaw Outside) term_span book.most (defined_heads book.list ++ more) place tree
+heap_found book place tree more = heap_flaw (term_flaw Outside) term_span book.most (defined_headings book.list ++ more) place tree
 
 abbrev pub says_heap : DefinitionBook → Heap → SymbolicHeap → Type 0
-says_heap book tree v = v ≡ heap_value term_value (defined_heads book.list) tree
+says_heap book tree v = v ≡ heap_value term_value (defined_headings book.list) tree
 
 -- the definition is one of those that it uses
 abbrev pub definition_found : DefinitionBook → ℕ → Definition → List Heading → Found
 definition_found book place tree more =
-    definition_flaw book.most (defined_heads book.list ++ heading tree ∷ more) (length book.list) place tree
+    definition_flaw book.most (defined_headings book.list ++ heading tree ∷ more) (length book.list) place tree
 
 abbrev pub says_definition : DefinitionBook → Definition → DefinitionValue → Type 0
-says_definition book tree v = v ≡ definition_value (defined_heads book.list ++ heading tree ∷ []) tree
+says_definition book tree v = v ≡ definition_value (defined_headings book.list ++ heading tree ∷ []) tree
 
 -- what is read of the heap that begins at a token, where these definitions came before
 abbrev pub IsHeapItem : DefinitionBook → ℕ → Heap → Item SymbolicHeap (HeapTree TermTree) → Type 0

@@ -1,19 +1,20 @@
 // What a part of a text is, as far as the definitions so far tell.
 ghost use Rattle.std.specs.Prelude.{◌≡◌, ◌+◌, ◌<◌, ◌^◌, ◌++◌, ◌∷◌, [], length, map, IfOk};
 ghost use Rattle.heap_reader.specs.Spans.{heap_span};
-ghost use Rattle.heap_reader.specs.Trees.{heading_of};
+ghost use Rattle.heap_reader.specs.Trees.{defined_headings};
 ghost use Rattle.pred_reader.specs.Spans.{term_span, definition_span};
 ghost use Rattle.heap_reader.specs.Flaws.{IsName};
 ghost use Rattle.pred_reader.specs.Flaws.{definition_flaw};
 ghost use Rattle.pred_syntax.specs.Trees.{heap_of, definition_of};
-ghost use Rattle.item_reader.specs.Items.{is_unknown, defined_heads, IsHeapItem, IsDefinitionItem};
+ghost use Rattle.item_reader.specs.Items.{is_unknown, IsHeapItem, IsDefinitionItem};
 
 use cyc_lex::{IllFault, What};
 use cyc_limits::MOST_PREDICATES;
 use cyc_memory::OutOfMemory;
 use heap_formula::{Def, Heap};
 use heap_reader::{
-    Flaw, Head, Heads, Item as FlawItem, definition_value, heap_value, ill, over, walk_heap,
+    Flaw, Head, Heads, Item as FlawItem, definition_value, heads_of, heap_value, ill, over,
+    walk_heap,
 };
 use pred_defs::Defs;
 use pred_reader::{Scope, walk_definitions};
@@ -43,20 +44,6 @@ fn is_open(flaw: Flaw) -> bool
     }
 }
 
-/// What uses of the predicates are compared with.
-fn heads<'a>(alloc: Global, defs: &'a [Def]) -> Result<Vec<Head<'a>>, OutOfMemory>
-    ensures { IfOk result (λ v. map heading_of v.items ≡ defined_heads defs.now) }
-{
-    let mut heads = Vec::with_capacity(alloc, defs.len())?;
-    for def in defs {
-        heads.push(Head {
-            name: def.name.as_text(),
-            arity: def.arity,
-        })?;
-    }
-    Ok(heads)
-}
-
 /// The heap that begins at a token.
 pub fn heap_item<'a>(
     alloc: Global,
@@ -67,7 +54,7 @@ pub fn heap_item<'a>(
     requires { at + heap_span term_span (heap_of tree) < 2 ^ 64 }
     ensures { IfOk result (λ item. IsHeapItem defs.now at (heap_of tree.entry) item) }
 {
-    let heads = Heads::new(alloc, heads(alloc, defs.as_slice())?)?;
+    let heads = Heads::new(alloc, heads_of(alloc, defs.as_slice())?)?;
     match walk_heap(&heads, &Scope::Outside, defs.most(), at, &tree) {
         Ok(_) => Ok(Item::Value(heap_value(alloc, &heads, &Scope::Outside, &tree)?)),
         Err(flaw) if is_open(flaw) => Ok(Item::Open(tree, flaw)),
@@ -106,9 +93,9 @@ fn heads_with<'a>(
     name: &'a str,
     arity: u32,
 ) -> Result<Heads<'a>, OutOfMemory>
-    ensures { IfOk result (λ h. h ≡ defined_heads defs.now ++ record { name = name.now; arity = arity } ∷ []) }
+    ensures { IfOk result (λ h. h ≡ defined_headings defs.now ++ record { name = name.now; arity = arity } ∷ []) }
 {
-    let mut list = heads(alloc, defs)?;
+    let mut list = heads_of(alloc, defs)?;
     list.push(Head { name, arity })?;
     Heads::new(alloc, list)
 }

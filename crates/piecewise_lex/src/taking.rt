@@ -3,10 +3,11 @@
 ghost use Rattle.std.specs.Prelude.{◌≡◌, ◌<◌, length, slice_index, false};
 ghost use Rattle.cyc_lex.specs.Lexing.{HasRoom};
 ghost use Rattle.cyc_lex.proofs.Lexed.{IsNext};
-ghost use Rattle.cyc_lex.specs.Characters.{is_plain};
 ghost use Rattle.piecewise_lex.specs.Taking.{IsSingle, Takes, stays};
 
-use cyc_lex::{Bad, Kind, Piece, Place, Stop, Token, check_len, next, next_char, skip_comment};
+use cyc_lex::{
+    Bad, Kind, Piece, Place, Stop, Token, check_len, is_plain, next, next_char, skip_comment,
+};
 use std::alloc::Global;
 
 /// What was taken off the front of a text: a token, or none where all that is left waits for more; the place after it,
@@ -37,29 +38,6 @@ fn stays(piece: Piece, front: &str, after: &str) -> bool
     }
 }
 
-/// Whether a byte is a symbol with which none of two characters begins.
-#[inline(always)]
-fn is_plain(byte: u8) -> bool
-    ensures { result ≡ is_plain byte }
-{
-    matches!(
-        byte,
-        b'(' | b'['
-            | b'{'
-            | b')'
-            | b']'
-            | b'}'
-            | b','
-            | b';'
-            | b'*'
-            | b'='
-            | b'.'
-            | b'$'
-            | b'?'
-            | b'\''
-    )
-}
-
 /// Takes a piece of one byte off a text.
 #[inline(always)]
 fn single(piece: Piece, byte: u8, place: Place, text: &str) -> (Piece, &str, &str, Place)
@@ -84,7 +62,7 @@ fn next_piece(place: Place, text: &str) -> (Piece, &str, &str, Place)
     if byte == b' ' {
         return single(Piece::Gap, byte, place, text);
     }
-    if is_plain(byte) {
+    if is_plain(byte as char) {
         return single(Piece::Token(Kind::Symbol), byte, place, text);
     }
     next(place, text)

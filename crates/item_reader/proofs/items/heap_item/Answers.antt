@@ -1,6 +1,6 @@
 use Rattle.std.proofs.Common.{◌≡◌, ◌∙◌, ◌≤◌, List, Some, None, refl, sym, ap, subst, ℕ}
 use Rattle.std.proofs.lemmas.List.{append-nil}
-use Rattle.heap_reader.specs.Trees.{Heading}
+use Rattle.heap_reader.specs.Trees.{Heading, defined_headings}
 use Rattle.heap_reader.specs.Flaws.{heap_flaw}
 use Rattle.heap_reader.specs.Values.{heap_value}
 use Rattle.pred_syntax.specs.Trees.{heap_of}
@@ -9,7 +9,6 @@ use Rattle.pred_reader.specs.Spans.{term_span}
 use Rattle.pred_reader.specs.Flaws.{term_flaw}
 use Rattle.pred_reader.specs.Values.{term_value}
 use Rattle.pred_reader.proofs.Fitting.{outside_small}
-use Rattle.item_reader.specs.Items.{defined_heads}
 use Rattle.item_reader.proofs.Stable.{heap_stable, stays, stays_none}
 use Rattle.item_reader.proofs.items.heap_item.Goals as goal
 
@@ -19,25 +18,25 @@ heap_value-requires-clause-small c = outside_small c.most.result (subst (λ (n :
 pub returns-in-Ok : goal.returns-in-Ok
 returns-in-Ok c =
     let book = c.args.defs.now in
-    let heads_are = c.in_ok-heads-2.ensures ∙ c.in_ok-heads.ensures ∙ ap defined_heads c.as_slice.ensures.value in
-    let none : heap_flaw (term_flaw Outside) term_span book.most (defined_heads book.list) c.args.at (heap_of c.args.tree) ≡ None =
+    let heads_are = c.in_ok-new.ensures ∙ c.in_ok-heads.ensures ∙ ap defined_headings c.as_slice.ensures.value in
+    let none : heap_flaw (term_flaw Outside) term_span book.most (defined_headings book.list) c.args.at (heap_of c.args.tree) ≡ None =
     sym (λ i. heap_flaw (term_flaw Outside) term_span (c.most.ensures.value i) (heads_are i) c.args.at (heap_of c.args.tree)) ∙ c.in-Ok.ensures.0 in (
-      (λ more. stays_none _ _ none (heap_stable (term_flaw Outside) term_span book.most (defined_heads book.list) more c.args.at (heap_of c.args.tree))),
+      (λ more. stays_none _ _ none (heap_stable (term_flaw Outside) term_span book.most (defined_headings book.list) more c.args.at (heap_of c.args.tree))),
       c.in_ok-heap_value-in-Ok.ensures ∙ ap (λ (hs : List Heading). heap_value term_value hs (heap_of c.args.tree)) heads_are,
     )
 
 pub returns-in-Err : goal.returns-in-Err
 returns-in-Err c =
     let book = c.args.defs.now in
-    let heads_are = c.in_ok-heads-2.ensures ∙ c.in_ok-heads.ensures ∙ ap defined_heads c.as_slice.ensures.value in
-    let found : heap_flaw (term_flaw Outside) term_span book.most (defined_heads book.list) c.args.at (heap_of c.args.tree) ≡ Some c.in-Err.flaw =
+    let heads_are = c.in_ok-new.ensures ∙ c.in_ok-heads.ensures ∙ ap defined_headings c.as_slice.ensures.value in
+    let found : heap_flaw (term_flaw Outside) term_span book.most (defined_headings book.list) c.args.at (heap_of c.args.tree) ≡ Some c.in-Err.flaw =
     sym (λ i. heap_flaw (term_flaw Outside) term_span (c.most.ensures.value i) (heads_are i) c.args.at (heap_of c.args.tree)) ∙ c.in-Err.ensures in
-    (ap (λ (hs : List Heading). heap_flaw (term_flaw Outside) term_span book.most hs c.args.at (heap_of c.args.tree)) (append-nil (defined_heads book.list)) ∙ found, sym c.is_open.ensures ∙ c.if-is_open.true, refl)
+    (ap (λ (hs : List Heading). heap_flaw (term_flaw Outside) term_span book.most hs c.args.at (heap_of c.args.tree)) (append-nil (defined_headings book.list)) ∙ found, sym c.is_open.ensures ∙ c.if-is_open.true, refl)
 
 pub returns : goal.returns
 returns c =
     let book = c.args.defs.now in
-    let heads_are = c.in_ok-heads-2.ensures ∙ c.in_ok-heads.ensures ∙ ap defined_heads c.as_slice.ensures.value in
-    let found : heap_flaw (term_flaw Outside) term_span book.most (defined_heads book.list) c.args.at (heap_of c.args.tree) ≡ Some c.in-Err.flaw =
+    let heads_are = c.in_ok-new.ensures ∙ c.in_ok-heads.ensures ∙ ap defined_headings c.as_slice.ensures.value in
+    let found : heap_flaw (term_flaw Outside) term_span book.most (defined_headings book.list) c.args.at (heap_of c.args.tree) ≡ Some c.in-Err.flaw =
     sym (λ i. heap_flaw (term_flaw Outside) term_span (c.most.ensures.value i) (heads_are i) c.args.at (heap_of c.args.tree)) ∙ c.in-Err.ensures in
-    λ more. stays _ _ c.in-Err.flaw found (sym c.is_open.ensures ∙ c.if-is_open.false) (heap_stable (term_flaw Outside) term_span book.most (defined_heads book.list) more c.args.at (heap_of c.args.tree))
+    λ more. stays _ _ c.in-Err.flaw found (sym c.is_open.ensures ∙ c.if-is_open.false) (heap_stable (term_flaw Outside) term_span book.most (defined_headings book.list) more c.args.at (heap_of c.args.tree))
