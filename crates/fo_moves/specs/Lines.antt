@@ -1,5 +1,5 @@
 -- What is tried before links, line by line.
-use Rattle.std.specs.Prelude.{ℕ, List, [], ◌∷◌}
+use Rattle.std.specs.Prelude.{◌≡◌, ℕ, List, [], ◌∷◌, ◌++◌}
 use Rattle.fold_offers.specs.Places.{each_place, first_that}
 use Rattle.list_facts.specs.Words.{or_else}
 use Rattle.fo_formula.specs.declared.atoms.FoAtom.{FoAtom}
@@ -11,13 +11,17 @@ use Rattle.fo_moves.specs.declared.before.Line.TheVariants.{Axioms, Refls, Clash
 use Rattle.fo_moves.specs.Trying.{goes}
 use Rattle.fo_moves.specs.Before.{axioms_with, refl_at, clash_at, decompose_at, replace_at}
 
--- the rules of a line for an atom, these are the atoms on the right
+-- the rules of a line for the atom at a place, where these are the atoms on the right
 abbrev pub line_at : List FoAtom → Line → ℕ → FoAtom → List FoRule
 line_at right Axioms i x = axioms_with right i x
 line_at right Refls j y = refl_at j y
 line_at right Clashes i x = clash_at i x
 line_at right Decompositions i x = decompose_at i x
 line_at right Replacements i x = replace_at i x
+
+-- rules for an atom, whichever it is, come behind those so far
+abbrev pub AddsForAny : (FoAtom → List FoRule) → List FoRule → List FoRule → Type 0
+AddsForAny rules old new = (x : FoAtom) → new ≡ old ++ rules x
 
 -- the atoms for which a line has rules
 abbrev pub atoms_on : FoSequent → Line → List FoAtom

@@ -1,9 +1,8 @@
 // The rules that go before links.
 ghost use Rattle.std.specs.Prelude.{◌≡◌, ◌≤◌, ◌++◌, IfOk, OnOk, length};
 ghost use Rattle.fold_offers.specs.Places.{each_place};
-ghost use Rattle.fo_formula.specs.declared.atoms.FoAtom.{FoAtom as AtomValue};
 ghost use Rattle.fo_moves.specs.Before.{axiom_at, replace_at, rules_before as offers_before};
-ghost use Rattle.fo_moves.specs.Lines.{line_at, atoms_on as atoms_on_line, rules_on as rules_on_line, offered_from};
+ghost use Rattle.fo_moves.specs.Lines.{line_at, AddsForAny, atoms_on as atoms_on_line, rules_on as rules_on_line, offered_from};
 
 use crate::trying::first_that_goes;
 use cyc_limits::{MOST_LEFT, MOST_RIGHT};
@@ -48,7 +47,7 @@ fn push_axioms(rules: &mut Vec<FoRule>, left: u32, atoms: &[FoAtom]) -> Result<(
 }
 
 fn push_replacements(rules: &mut Vec<FoRule>, atom: u32) -> Result<(), OutOfMemory>
-    ensures { OnOk result ((x : AtomValue) → rules.new.items ≡ rules.old.items ++ replace_at atom x) }
+    ensures { OnOk result (AddsForAny (replace_at atom) rules.old.items rules.new.items) }
 {
     rules.push(FoRule::Replace {
         atom,
@@ -69,7 +68,7 @@ fn push_rules_at(
     right: &[FoAtom],
 ) -> Result<(), OutOfMemory>
     requires { length right.now ≤ MOST_LEFT }
-    ensures { OnOk result ((x : AtomValue) → rules.new.items ≡ rules.old.items ++ line_at right.now line.now place x) }
+    ensures { OnOk result (AddsForAny (line_at right.now line.now place) rules.old.items rules.new.items) }
 {
     let rule = match line {
         Line::Axioms => return push_axioms(rules, place, right),

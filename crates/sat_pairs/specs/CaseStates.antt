@@ -1,5 +1,5 @@
 -- The states of a case: the first, and those after one more atom.
-use Rattle.std.specs.Prelude.{◌≡◌, ℕ, List, [], Option, MatchOption}
+use Rattle.std.specs.Prelude.{◌≡◌, ℕ, List, [], ◌∷◌, length, Option, MatchOption}
 use Rattle.heap_formula.specs.declared.atoms.Pure.{Pure}
 use Rattle.heap_formula.specs.declared.atoms.Spatial.{Spatial}
 use Rattle.heap_formula.specs.Symbolic.{SymbolicHeap}
@@ -8,7 +8,7 @@ use Rattle.pair_family.specs.Combination.{pure_facts, AreConsistent}
 use Rattle.pair_family.specs.Folding.{said_in, spoken}
 use Rattle.pair_family.specs.Frames.{frames_of}
 use Rattle.pair_states.specs.Labels.{IfApart, combined, combined_pairs, GivesFrom, Grows}
-use Rattle.sat_pairs.specs.Numbers.{count_from, places_in, pure_pair_at}
+use Rattle.sat_pairs.specs.Numbers.{count_from, places_in, pure_pair_at, kept_numbers}
 
 -- what the pure atoms say of the terms of the spatial ones and of k parameters, unless they exclude
 -- one another
@@ -30,3 +30,7 @@ abbrev pub StepsBy : List ℕ → ℕ → Spatial → List BasePair → List Bas
 StepsBy numbers after atom pairs states keys =
     Grows [] keys
     (GivesFrom numbers states (places_in numbers (spoken atom)) (count_from 0 after) pairs)
+
+-- the same for an atom that stands before the atoms `rest`
+abbrev pub StepsTo : ℕ → Spatial → List Spatial → List BasePair → List BasePair → List BasePair → Type 0
+StepsTo k atom rest = StepsBy (kept_numbers k (atom ∷ rest)) (length (kept_numbers k rest)) atom

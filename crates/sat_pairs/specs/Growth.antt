@@ -44,6 +44,14 @@ pub record IsGrown (old new : Table) : Type 0 where
   pub more : total old ≤ total new
   pub same : total new ≡ total old → new ≡ old
 
+-- these base pairs are of predicate p
+abbrev pub AreInFamily : List Definition → ℕ → List BasePair → Type 0
+AreInFamily ds p bs = (b : BasePair) → IsMember b bs → InFamily ds p b
+
+-- the table has these base pairs of predicate p
+abbrev pub HasPairs : Table → ℕ → List BasePair → Type 0
+HasPairs table p bs = (b : BasePair) → IsMember b bs → IsMember b (pairs_of table p)
+
 -- the new table has what a case of predicate p gives with the old one
 abbrev pub HasGiven : Table → Table → ℕ → ℕ → SymbolicHeap → Type 0
 HasGiven old new p k a = (b : BasePair) → CaseGives (in_table old) k b a → IsMember b (pairs_of new p)

@@ -12,8 +12,8 @@ ghost use Rattle.pair_family.specs.Tables.{IsTable, in_table};
 ghost use Rattle.list_facts.specs.Words.{IsMember};
 ghost use Rattle.pair_family.specs.Within.{IsWithin};
 ghost use Rattle.sat_pairs.specs.Growth.{pairs_for};
-ghost use Rattle.sat_pairs.specs.Numbers.{places_in, cell_pair_alone, equal_places, differ_places, pure_pair_at, kept_numbers as kept_numbers_of};
-ghost use Rattle.sat_pairs.specs.CaseStates.{Starts, StartsAt, StepsBy};
+ghost use Rattle.sat_pairs.specs.Numbers.{places_in, cell_pair_alone, equal_places, differ_places, pure_pair_at};
+ghost use Rattle.sat_pairs.specs.CaseStates.{Starts, StartsAt, StepsBy, StepsTo};
 
 use crate::numbers::{
     kept_numbers, number_of, numbers_below, place_of, places_of, push_pure, push_spoken,
@@ -167,8 +167,7 @@ fn step_to(
     pairs: &[Known],
     states: &[Known],
 ) -> Result<IndexSet<Known>, OutOfMemory>
-    ensures { IfOk result (λ v. StepsBy (kept_numbers_of k (atom.now ∷ rest.now)) (length (kept_numbers_of k rest.now))
-        atom.now pairs.now states.now v.keys) }
+    ensures { IfOk result (λ v. StepsTo k atom.now rest.now pairs.now states.now v.keys) }
 {
     let mut numbers = kept_numbers(alloc, k, rest)?;
     let after = numbers.len();

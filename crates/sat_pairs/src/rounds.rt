@@ -5,7 +5,7 @@ ghost use Rattle.pair_family.specs.BasePairs.{BasePair};
 ghost use Rattle.pair_family.specs.Family.{CaseGives, InFamily, arity_of};
 ghost use Rattle.pair_family.specs.Tables.{IsTable, HasAtMost, HasMoreThan, pairs_of};
 ghost use Rattle.list_facts.specs.Words.{IsMember};
-ghost use Rattle.sat_pairs.specs.Growth.{total, IsPartOf, IsGrown, HasGiven, HasAllGiven};
+ghost use Rattle.sat_pairs.specs.Growth.{total, IsPartOf, IsGrown, AreInFamily, HasPairs, HasGiven, HasAllGiven};
 
 use crate::agenda::Agenda;
 use crate::cases::given_by;
@@ -75,10 +75,10 @@ fn put_all(
     requires part { IsPartOf defs.now.list most table.old }
     requires count { count ≡ total table.old }
     requires there { pred < length table.old }
-    requires members { (b : BasePair) → IsMember b given.old.keys → InFamily defs.now.list pred b }
+    requires members { AreInFamily defs.now.list pred given.old.keys }
     ensures part { IfOk result (λ n. IsPartOf defs.now.list most table.new × (n ≡ total table.new)) }
     ensures grown { IfOk result (λ _. IsGrown table.old table.new) }
-    ensures taken { IfOk result (λ _. (b : BasePair) → IsMember b given.old.keys → IsMember b (pairs_of table.new pred)) }
+    ensures taken { IfOk result (λ _. HasPairs table.new pred given.old.keys) }
     ensures many { (result ≡ Err PairFault.TooManyPairs) → HasMoreThan defs.now.list most }
 {
     let mut now = count;
