@@ -9,7 +9,7 @@ ghost use Rattle.fo_values.specs.declared.problem.FoProblem.{FoProblem as Questi
 ghost use Rattle.fo_file.specs.Questions.{IsFoQuestion};
 ghost use Rattle.fo_file.specs.Reading.{IsProblemOf, IsReadProblem, IsWritableProblem, ReadsProblemFrom, ReadsProblem};
 
-use cyc_lex::{LexFault, ReadFault, Tokens, tokens};
+use cyc_lex::{ReadFault, Tokens, tokens};
 use cyc_memory::OutOfMemory;
 use fo_problem_syntax::{ProblemTree, read_problem_tree};
 use fo_values::{FoProblem, problem_value};
@@ -41,23 +41,12 @@ fn read_tokens(alloc: Global, tokens: &Tokens<'_>) -> Result<FoProblem, ReadFaul
     ensures question { IfOk result IsFoQuestion }
     ensures writable { IfOk result IsWritableProblem }
 {
-    let tree = match read_problem_tree(alloc, tokens) {
-        Ok(tree) => tree,
-        Err(fault) => return Err(fault),
-    };
-    let names = match Names::new(alloc, &tree.constructors, &tree.definitions) {
-        Ok(names) => names,
-        Err(OutOfMemory) => return Err(ReadFault::OutOfMemory),
-    };
-    match problem_flaw(alloc, &names, &tree) {
-        Ok(None) => {}
-        Ok(Some(flaw)) => return Err(flaw_fault(tokens, flaw)),
-        Err(OutOfMemory) => return Err(ReadFault::OutOfMemory),
+    let tree = read_problem_tree(alloc, tokens)?;
+    let names = Names::new(alloc, &tree.constructors, &tree.definitions)?;
+    if let Some(flaw) = problem_flaw(alloc, &names, &tree)? {
+        return Err(flaw_fault(tokens, flaw));
     }
-    match problem_of_tree(alloc, &names, &tree) {
-        Ok(problem) => Ok(problem),
-        Err(OutOfMemory) => Err(ReadFault::OutOfMemory),
-    }
+    Ok(problem_of_tree(alloc, &names, &tree)?)
 }
 
 /// The problem that the bytes spell, or the first fault of the text: of its tokens, then of its grammar, then of what it
@@ -68,11 +57,8 @@ pub fn read_fo_problem(alloc: Global, bytes: &[u8]) -> Result<FoProblem, ReadFau
     ensures question { IfOk result IsFoQuestion }
     ensures writable { IfOk result IsWritableProblem }
 {
-    match tokens(alloc, bytes) {
-        Ok(tokens) => read_tokens(alloc, &tokens),
-        Err(LexFault::OutOfMemory) => Err(ReadFault::OutOfMemory),
-        Err(fault) => Err(ReadFault::Lex(fault)),
-    }
+    let tokens = tokens(alloc, bytes)?;
+    read_tokens(alloc, &tokens)
 }
 
 /// Bytes spell at most one problem. The function does nothing.

@@ -8,7 +8,7 @@ ghost use Rattle.fo_proof_syntax.specs.Trees.{file_of};
 ghost use Rattle.fo_walk.specs.Flaws.{constructor_heads, predicate_heads, file_flaw as first_flaw};
 ghost use Rattle.fo_file.specs.Reading.{IsFileOf, IsWritable, ReadsFrom, Reads};
 
-use cyc_lex::{LexFault, ReadFault, Tokens, tokens};
+use cyc_lex::{ReadFault, Tokens, tokens};
 use cyc_memory::OutOfMemory;
 use fo_formula::FoFile;
 use fo_proof_syntax::{FileTree, read_tree};
@@ -41,23 +41,12 @@ fn read_tokens(alloc: Global, tokens: &Tokens<'_>) -> Result<FoFile, ReadFault>
     ensures proof { IfOk result IsFoProof }
     ensures writable { IfOk result IsWritable }
 {
-    let tree = match read_tree(alloc, tokens) {
-        Ok(tree) => tree,
-        Err(fault) => return Err(fault),
-    };
-    let names = match Names::new(alloc, &tree.constructors, &tree.definitions) {
-        Ok(names) => names,
-        Err(OutOfMemory) => return Err(ReadFault::OutOfMemory),
-    };
-    match file_flaw(alloc, &names, &tree) {
-        Ok(None) => {}
-        Ok(Some(flaw)) => return Err(flaw_fault(tokens, flaw)),
-        Err(OutOfMemory) => return Err(ReadFault::OutOfMemory),
+    let tree = read_tree(alloc, tokens)?;
+    let names = Names::new(alloc, &tree.constructors, &tree.definitions)?;
+    if let Some(flaw) = file_flaw(alloc, &names, &tree)? {
+        return Err(flaw_fault(tokens, flaw));
     }
-    match file_of_tree(alloc, &names, &tree) {
-        Ok(file) => Ok(file),
-        Err(OutOfMemory) => Err(ReadFault::OutOfMemory),
-    }
+    Ok(file_of_tree(alloc, &names, &tree)?)
 }
 
 /// The proof that the bytes spell, or the first fault of the text: of its tokens, then of its grammar, then of what it
@@ -68,9 +57,6 @@ pub fn read_fo(alloc: Global, bytes: &[u8]) -> Result<FoFile, ReadFault>
     ensures proof { IfOk result IsFoProof }
     ensures writable { IfOk result IsWritable }
 {
-    match tokens(alloc, bytes) {
-        Ok(tokens) => read_tokens(alloc, &tokens),
-        Err(LexFault::OutOfMemory) => Err(ReadFault::OutOfMemory),
-        Err(fault) => Err(ReadFault::Lex(fault)),
-    }
+    let tokens = tokens(alloc, bytes)?;
+    read_tokens(alloc, &tokens)
 }

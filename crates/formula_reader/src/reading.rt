@@ -17,7 +17,7 @@ use crate::heads::heads;
 use crate::problem::Problem;
 use crate::terms::Variables;
 use crate::values::{definitions, goal};
-use cyc_lex::{LexFault, ReadFault, Tokens, tokens};
+use cyc_lex::{ReadFault, Tokens, tokens};
 use cyc_memory::OutOfMemory;
 use heap_reader::{Heads, flaw_fault};
 use line_reader::program;
@@ -71,17 +71,11 @@ fn read_tree(
     requires spelled { SpellsTree tokens.now (named_problem_of tree.now) }
     ensures { ReadsFrom tokens.now result }
 {
-    let (heads, tree) = match numbers(alloc, tree) {
-        Ok(numbers) => numbers,
-        Err(OutOfMemory) => return Err(ReadFault::OutOfMemory),
-    };
+    let (heads, tree) = numbers(alloc, tree)?;
     if let Some(flaw) = problem_flaw(&heads, &tree) {
         return Err(flaw_fault(tokens, flaw));
     }
-    match problem_of_tree(alloc, &heads, &tree) {
-        Ok(problem) => Ok(problem),
-        Err(OutOfMemory) => Err(ReadFault::OutOfMemory),
-    }
+    Ok(problem_of_tree(alloc, &heads, &tree)?)
 }
 
 fn read_tokens(alloc: Global, tokens: &Tokens<'_>) -> Result<Problem, ReadFault>
@@ -89,10 +83,8 @@ fn read_tokens(alloc: Global, tokens: &Tokens<'_>) -> Result<Problem, ReadFault>
     requires words { EndsOnce (map word_of tokens.now) }
     ensures { ReadsFrom tokens.now result }
 {
-    match read_problem_tree(alloc, tokens) {
-        Ok(tree) => read_tree(alloc, tokens, &tree),
-        Err(fault) => Err(fault),
-    }
+    let tree = read_problem_tree(alloc, tokens)?;
+    read_tree(alloc, tokens, &tree)
 }
 
 /// The problem that the bytes spell, with numbers by first occurrence in place of names; or the first fault of the text: of
@@ -101,11 +93,8 @@ pub fn read_problem(alloc: Global, bytes: &[u8]) -> Result<Problem, ReadFault>
     requires { length bytes.now < 2 ^ 32 - 1 }
     ensures { Reads bytes.now result }
 {
-    match tokens(alloc, bytes) {
-        Ok(tokens) => read_tokens(alloc, &tokens),
-        Err(LexFault::OutOfMemory) => Err(ReadFault::OutOfMemory),
-        Err(fault) => Err(ReadFault::Lex(fault)),
-    }
+    let tokens = tokens(alloc, bytes)?;
+    read_tokens(alloc, &tokens)
 }
 
 /// Bytes that spell a problem are read as that problem, unless memory runs out. The function does nothing.

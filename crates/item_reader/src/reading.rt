@@ -7,7 +7,6 @@ ghost use Rattle.item_reader.specs.Items.{IsReadPart, IsHeapItem, IsDefinitionIt
 use crate::items::{Item, definition_item, heap_item};
 use cyc_grammar::{Cursor, read_fault};
 use cyc_lex::{ReadFault, Tokens};
-use cyc_memory::OutOfMemory;
 use heap_formula::{Def, Heap};
 use pred_defs::Defs;
 use pred_syntax::{DefinitionTree, HeapTree, definition, heap};
@@ -40,10 +39,8 @@ pub fn read_heap<'a>(
         Err(refusal) => return Err(read_fault(tokens, refusal)),
     };
     let behind = tokens.as_slice().len() - cursor.left();
-    match heap_item(alloc, place, tree, defs) {
-        Ok(item) => Ok((behind, item)),
-        Err(OutOfMemory) => Err(ReadFault::OutOfMemory),
-    }
+    let item = heap_item(alloc, place, tree, defs)?;
+    Ok((behind, item))
 }
 
 /// The definition that begins at a token and the place after it; or the token with which no definition goes on.
@@ -64,8 +61,6 @@ pub fn read_pred<'a>(
         Err(refusal) => return Err(read_fault(tokens, refusal)),
     };
     let behind = tokens.as_slice().len() - cursor.left();
-    match definition_item(alloc, place, tree, defs) {
-        Ok(item) => Ok((behind, item)),
-        Err(OutOfMemory) => Err(ReadFault::OutOfMemory),
-    }
+    let item = definition_item(alloc, place, tree, defs)?;
+    Ok((behind, item))
 }

@@ -10,7 +10,7 @@ ghost use Rattle.model_file.specs.Reading.{IsModelOf, ReadsFrom, Reads};
 use crate::cell_values::{cells, wide_numbers};
 use crate::file::Model;
 use crate::walk::model_flaw;
-use cyc_lex::{LexFault, ReadFault, Tokens, tokens};
+use cyc_lex::{ReadFault, Tokens, tokens};
 use cyc_limits::MOST_SPATIAL;
 use cyc_memory::OutOfMemory;
 use goto_lang::Stack;
@@ -49,21 +49,12 @@ fn read_tokens(alloc: Global, tokens: &Tokens<'_>) -> Result<Model, ReadFault>
     requires words { EndsOnce (map word_of tokens.now) }
     ensures { ReadsFrom tokens.now result }
 {
-    let tree = match read_tree(alloc, tokens) {
-        Ok(tree) => tree,
-        Err(fault) => return Err(fault),
-    };
-    let heads = match heads(alloc, &tree.definitions) {
-        Ok(heads) => heads,
-        Err(OutOfMemory) => return Err(ReadFault::OutOfMemory),
-    };
+    let tree = read_tree(alloc, tokens)?;
+    let heads = heads(alloc, &tree.definitions)?;
     if let Some(flaw) = model_flaw(&heads, &tree) {
         return Err(flaw_fault(tokens, flaw));
     }
-    match model_of_tree(alloc, &heads, &tree) {
-        Ok(model) => Ok(model),
-        Err(OutOfMemory) => Err(ReadFault::OutOfMemory),
-    }
+    Ok(model_of_tree(alloc, &heads, &tree)?)
 }
 
 /// The model that the bytes spell, or the first fault of the text: of its tokens, then of its grammar, then of what it
@@ -72,9 +63,6 @@ pub fn read_model(alloc: Global, bytes: &[u8]) -> Result<Model, ReadFault>
     requires { length bytes.now < 2 ^ 32 - 1 }
     ensures { Reads bytes.now result }
 {
-    match tokens(alloc, bytes) {
-        Ok(tokens) => read_tokens(alloc, &tokens),
-        Err(LexFault::OutOfMemory) => Err(ReadFault::OutOfMemory),
-        Err(fault) => Err(ReadFault::Lex(fault)),
-    }
+    let tokens = tokens(alloc, bytes)?;
+    read_tokens(alloc, &tokens)
 }

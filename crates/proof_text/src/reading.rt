@@ -8,7 +8,7 @@ ghost use Rattle.proof_file.specs.Reading.{IsFileOf, ReadsFrom, Reads};
 
 use crate::values::nodes;
 use crate::walk::file_flaw;
-use cyc_lex::{LexFault, ReadFault, Tokens, tokens};
+use cyc_lex::{ReadFault, Tokens, tokens};
 use cyc_memory::OutOfMemory;
 use heap_reader::{Heads, flaw_fault};
 use pred_reader::heads;
@@ -37,21 +37,12 @@ fn read_tokens(alloc: Global, tokens: &Tokens<'_>) -> Result<ProofFile, ReadFaul
     requires words { EndsOnce (map word_of tokens.now) }
     ensures { ReadsFrom tokens.now result }
 {
-    let tree = match read_tree(alloc, tokens) {
-        Ok(tree) => tree,
-        Err(fault) => return Err(fault),
-    };
-    let heads = match heads(alloc, &tree.definitions) {
-        Ok(heads) => heads,
-        Err(OutOfMemory) => return Err(ReadFault::OutOfMemory),
-    };
+    let tree = read_tree(alloc, tokens)?;
+    let heads = heads(alloc, &tree.definitions)?;
     if let Some(flaw) = file_flaw(&heads, &tree) {
         return Err(flaw_fault(tokens, flaw));
     }
-    match file_of_tree(alloc, &heads, &tree) {
-        Ok(file) => Ok(file),
-        Err(OutOfMemory) => Err(ReadFault::OutOfMemory),
-    }
+    Ok(file_of_tree(alloc, &heads, &tree)?)
 }
 
 /// The proof file that the bytes spell, or the first fault of the text: of its tokens, then of its grammar, then of what
@@ -60,9 +51,6 @@ pub fn read_file(alloc: Global, bytes: &[u8]) -> Result<ProofFile, ReadFault>
     requires { length bytes.now < 2 ^ 32 - 1 }
     ensures { Reads bytes.now result }
 {
-    match tokens(alloc, bytes) {
-        Ok(tokens) => read_tokens(alloc, &tokens),
-        Err(LexFault::OutOfMemory) => Err(ReadFault::OutOfMemory),
-        Err(fault) => Err(ReadFault::Lex(fault)),
-    }
+    let tokens = tokens(alloc, bytes)?;
+    read_tokens(alloc, &tokens)
 }

@@ -12,13 +12,13 @@ use Rattle.fo_file.proofs.problem_reading.read_tokens.Goals as goal
 
 pub problem_flaw-requires-clause-fits : goal.problem_flaw-requires-clause-fits
 problem_flaw-requires-clause-fits c =
-    let words = problem_words (problem_of c.in-Ok.tree) c.in-Ok.ensures.exact.0 in
-    omega (arith, words, ap length c.in-Ok.ensures.exact.1, length-map c.args.tokens.now word_of, c.requires.few)
+    let words = problem_words (problem_of c.in_ok-tree.tree) c.in_ok-tree.ensures.exact.0 in
+    omega (arith, words, ap length c.in_ok-tree.ensures.exact.1, length-map c.args.tokens.now word_of, c.requires.few)
 
 pub flaw_fault-requires-clause-there : goal.flaw_fault-requires-clause-there
 flaw_fault-requires-clause-there c =
-    let tree = problem_of c.in-Ok.tree in
-    let is = problem_is tree c.in-Ok.ensures.exact.0 in
-    let words = problem_words tree c.in-Ok.ensures.exact.0 in
-    let before = flaw_within (problem_flaw tree) (problem_end tree) c.in-Ok-Some.flaw (problem_before tree is.0 is.1) (sym c.in-Ok-Some.ensures ∙ c.in-Ok-Some.field-0-is) in
-    omega (arith, words, ap length c.in-Ok.ensures.exact.1, length-map c.args.tokens.now word_of, before)
+    let tree = problem_of c.in_ok-tree.tree in
+    let is = problem_is tree c.in_ok-tree.ensures.exact.0 in
+    let words = problem_words tree c.in_ok-tree.ensures.exact.0 in
+    let before = flaw_within (problem_flaw tree) (problem_end tree) c.in-Some.flaw (problem_before tree is.0 is.1) (sym c.in_ok-flaw.ensures ∙ c.in-Some.is) in
+    omega (arith, words, ap length c.in_ok-tree.ensures.exact.1, length-map c.args.tokens.now word_of, before)

@@ -39,10 +39,10 @@ overflow_sub-behind c =
     let fits = behind_fits definition definition-law ts c.args.place tree c.definition.new.cursor (sym (ap definition.read c.cursor_at-cursor.ensures) ∙ c.in-Ok.ensures) c.requires.there in
     omega (arith, fits.2, ap length c.as_slice.ensures, length-map c.as_slice.result.now placed, c.left.ensures)
 
-pub returns-in-Ok-definition_item : goal.returns-in-Ok-definition_item
-returns-in-Ok-definition_item c =
+pub returns-in-Ok : goal.returns-in-Ok
+returns-in-Ok c =
     let ts = c.args.tokens.now in
     let tree = definition_of c.in-Ok.tree in
     let count = length-map c.as_slice.result.now placed in
     let spelled = part_spelled definition definition-law ts c.args.place (length c.as_slice.result.now - c.left.result) (length c.as_slice.result.now) c.left.result tree c.definition.new.cursor (sym (ap definition.read c.cursor_at-cursor.ensures) ∙ c.in-Ok.ensures) c.requires.there (omega (arith, count, ap length c.as_slice.ensures)) c.left.ensures refl in
-    (tree, spelled, c.in-Ok-definition_item.ensures)
+    (tree, spelled, c.in_ok-item.ensures)

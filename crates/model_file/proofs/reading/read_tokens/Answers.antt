@@ -15,21 +15,21 @@ use Rattle.model_file.proofs.reading.read_tokens.Goals as goal
 
 pub model_flaw-requires-clause-known : goal.model_flaw-requires-clause-known
 model_flaw-requires-clause-known c =
-    c.in-Ok-heads.ensures ∙ ap (λ (ds : List DefinitionTree). headings (map definition_of ds)) c.deref.ensures.value
+    c.in_ok-heads.ensures ∙ ap (λ (ds : List DefinitionTree). headings (map definition_of ds)) c.deref.ensures.value
 
 pub model_flaw-requires-clause-fits : goal.model_flaw-requires-clause-fits
 model_flaw-requires-clause-fits c =
-    let m = model_of c.in-Ok.tree in
-    let words = model_words m c.in-Ok.ensures.exact.0 in
-    omega (arith, words, ap length c.in-Ok.ensures.exact.1, length-map c.args.tokens.now word_of, c.requires.few)
+    let m = model_of c.in_ok-tree.tree in
+    let words = model_words m c.in_ok-tree.ensures.exact.0 in
+    omega (arith, words, ap length c.in_ok-tree.ensures.exact.1, length-map c.args.tokens.now word_of, c.requires.few)
 
 pub flaw_fault-requires-clause-there : goal.flaw_fault-requires-clause-there
 flaw_fault-requires-clause-there c =
-    let m = model_of c.in-Ok.tree in
-    let words = model_words m c.in-Ok.ensures.exact.0 in
+    let m = model_of c.in_ok-tree.tree in
+    let words = model_words m c.in_ok-tree.ensures.exact.0 in
     let before = flaw_within (model_flaw m) (first_atom m + heap_span term_span m.ask) c.in-Some.flaw (model_before m) (sym c.model_flaw.ensures ∙ c.in-Some.is) in
-    omega (arith, words, ap length c.in-Ok.ensures.exact.1, length-map c.args.tokens.now word_of, before)
+    omega (arith, words, ap length c.in_ok-tree.ensures.exact.1, length-map c.args.tokens.now word_of, before)
 
 pub model_of_tree-requires-clause-known : goal.model_of_tree-requires-clause-known
 model_of_tree-requires-clause-known c =
-    c.in-Ok-heads.ensures ∙ ap (λ (ds : List DefinitionTree). headings (map definition_of ds)) c.deref.ensures.value
+    c.in_ok-heads.ensures ∙ ap (λ (ds : List DefinitionTree). headings (map definition_of ds)) c.deref.ensures.value
