@@ -20,7 +20,8 @@ use Rattle.proof_file.specs.Flaws.{headings, definition_flaw, program_flaw, node
 use Rattle.proof_file.specs.Spans.{definition_span, node_span}
 use Rattle.proof_file.specs.Values.{node_value}
 use Rattle.proof_file.proofs.WithinSpans.{node_before, file_before}
-use Rattle.file_reader.specs.Outcomes.{Faulty, at_token, item_fault, syntax_fault, told_flaw, or_else, settled, said_of, file_outcome}
+use Rattle.heap_reader.specs.Told.{item_fault}
+use Rattle.file_reader.specs.Outcomes.{Faulty, at_token, syntax_fault, told_flaw, or_else, settled, said_of, file_outcome}
 use Rattle.file_reader.specs.Stages.{Head, Nodes, nodes_fault, said_with, nodes_left, nodes_outcome}
 use Rattle.file_reader.specs.Steps.{Takes, Leads, tree_of, Spell, begun_of}
 use Rattle.file_reader.proofs.After.{After, node_after}

@@ -39,8 +39,8 @@ overflow_sub-behind c =
     let fits = behind_fits (heap (terms false)) (heap-lawful false) ts c.args.place tree c.heap.new.cursor (sym (ap (heap (terms false)).read c.cursor_at-cursor.ensures) ∙ c.in-Ok.ensures) c.requires.there in
     omega (arith, fits.2, ap length c.as_slice.ensures, length-map c.as_slice.result.now placed, c.left.ensures)
 
-pub returns-in-Ok : goal.returns-in-Ok
-returns-in-Ok c =
+pub returns : goal.returns
+returns c =
     let ts = c.args.tokens.now in
     let tree = heap_of c.in-Ok.tree in
     let count = length-map c.as_slice.result.now placed in
