@@ -140,8 +140,5 @@ pub fn begin(
     let front = read_front(alloc, cursor)?;
     let begun = begun(alloc, stretch, &front, cursor);
     drop(front);
-    match begun {
-        Ok(beginning) => Ok(beginning),
-        Err(OutOfMemory) => Err(Refusal::OutOfMemory),
-    }
+    Ok(begun?)
 }

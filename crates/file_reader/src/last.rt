@@ -13,7 +13,7 @@ use crate::known::{Found, Known, known_heads};
 use crate::part::KEPT;
 use crate::stretch::Stretch;
 use cyc_grammar::{Cursor, Refusal};
-use cyc_lex::{OutOfMemory, ReadFault};
+use cyc_lex::ReadFault;
 use heap_reader::Heads;
 use proof_file::{ProofFile, file_of_values};
 use proof_statements::kept_node_or_end;
@@ -38,10 +38,7 @@ fn read_left(
         let statement = kept_node_or_end(alloc, KEPT, cursor)?;
         let added = add_statement(alloc, known, heads, stretch, &statement, cursor, found);
         drop(statement);
-        match added {
-            Ok(()) => {}
-            Err(OutOfMemory) => return Err(Refusal::OutOfMemory),
-        }
+        added?;
     }
     Ok(())
 }
@@ -62,10 +59,8 @@ fn read_statements(
     if found.ended {
         return Ok(());
     }
-    match known_heads(alloc, known) {
-        Ok(heads) => read_left(alloc, known, &heads, stretch, cursor, found),
-        Err(OutOfMemory) => Err(Refusal::OutOfMemory),
-    }
+    let heads = known_heads(alloc, known)?;
+    read_left(alloc, known, &heads, stretch, cursor, found)
 }
 
 /// Reads the statements that are left, and the end of the text.

@@ -59,13 +59,8 @@ impl FileReader {
     {
         let fed = bytes_fed(&self.held) + piece.len() as u32;
         let held = mem::replace(&mut self.held, Held::Lost(fed));
-        match feed(self.alloc, held, piece) {
-            Ok(held) => {
-                self.held = held;
-                Ok(())
-            }
-            Err(OutOfMemory) => Err(OutOfMemory),
-        }
+        self.held = feed(self.alloc, held, piece)?;
+        Ok(())
     }
 
     /// Takes the end of the text: the file that it says, or its first fault.
@@ -84,8 +79,6 @@ pub fn read_file(alloc: Global, bytes: &[u8]) -> Result<ProofFile, ReadFault>
     ensures { Reads bytes.now result }
 {
     let mut reader = FileReader::new(alloc);
-    match reader.feed(bytes) {
-        Ok(()) => reader.finish(),
-        Err(OutOfMemory) => Err(ReadFault::OutOfMemory),
-    }
+    reader.feed(bytes)?;
+    reader.finish()
 }

@@ -80,10 +80,8 @@ fn walk_definition(
     if heads.has_among(n, tree.name) {
         return Err(ill(IllFault::Duplicate, at + 1));
     }
-    match walk_definitions(heads, most, at, slice::from_ref(tree)) {
-        Ok(_) => Ok(()),
-        Err(flaw) => Err(flaw),
-    }
+    walk_definitions(heads, most, at, slice::from_ref(tree))?;
+    Ok(())
 }
 
 /// What uses of the predicates and of one more are compared with.

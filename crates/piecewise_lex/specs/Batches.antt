@@ -3,11 +3,9 @@ use Rattle.std.specs.Prelude.{◌≡◌, ℕ, Bool, true, List, [], ◌++◌, ma
 use Rattle.std.specs.Str.{chars, encode_utf8_all}
 use Rattle.cyc_lex.specs.declared.place.Place.{Place}
 use Rattle.cyc_lex.specs.declared.place.Stop.{Stop}
-use Rattle.cyc_lex.specs.declared.place.Stop.TheVariants as stops
 use Rattle.cyc_lex.specs.declared.place.Bad.{Bad}
 use Rattle.piecewise_lex.specs.declared.owned.OwnedToken.{OwnedToken}
 use Rattle.std.specs.Global.{Vec}
-use Rattle.cyc_lex.specs.Answer.{fault_of}
 use Rattle.cyc_lex.specs.declared.fault.LexFault.{LexFault}
 use Rattle.cyc_lex.specs.declared.fault.LexFault.TheVariants as faults
 use Rattle.piecewise_lex.specs.declared.batch.Batch.{Batch}
@@ -42,11 +40,6 @@ pub record IsTaking (p : Place) (going : Bool) (bytes : List ℕ) (t : Batch) : 
 abbrev pub Takings : Place → Bool → List ℕ → Result Batch Stop → Type 0
 Takings p going bytes (Ok t) = IsTaking p going bytes t
 Takings p going bytes (Err e) = Stops e (tokens_from p going (taken_in going bytes))
-
--- the fault, as a lexer tells it
-abbrev pub stop_fault : Stop → LexFault
-stop_fault stops.OutOfMemory = faults.OutOfMemory
-stop_fault (stops.At bad place) = fault_of bad place
 
 -- the fault is that of these tokens, unless memory runs out
 abbrev pub IsToldOf : LexFault → Result (List Placed) (Bad × Place) → Type 0

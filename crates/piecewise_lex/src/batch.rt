@@ -4,14 +4,14 @@ ghost use Rattle.std.specs.Prelude.{◌≡◌, ◌++◌, ◌+◌, ◌<◌, ◌^�
 ghost use Rattle.std.specs.Str.{chars};
 ghost use Rattle.cyc_lex.specs.Lexing.{HasRoom};
 ghost use Rattle.piecewise_lex.specs.Runs.{IsKnown, Lengthens};
-ghost use Rattle.piecewise_lex.specs.Batches.{TakesText, Takings, TakesPiece, TakesAll, TakesRest, stop_fault};
+ghost use Rattle.piecewise_lex.specs.Batches.{TakesText, Takings, TakesPiece, TakesAll, TakesRest};
 
 use crate::bytes::joined;
 use crate::fronts::{first_bad, take_front};
 use crate::owned::{OwnedToken, own_all};
 use crate::run::{Known, known_run, lengthened};
 use crate::valid::valid_front;
-use cyc_lex::{LexFault, OutOfMemory, Place, Stop, fault_at, lex_from};
+use cyc_lex::{LexFault, OutOfMemory, Place, Stop, lex_from};
 use std::alloc::Global;
 
 /// What was taken of bytes: their tokens, the place after them, whether a comment goes on there, and the bytes that wait. So
@@ -64,16 +64,6 @@ fn take_bytes(alloc: Global, place: Place, comment: bool, bytes: &[u8]) -> Resul
     take_text(alloc, place, comment, valid.text, valid.tail)
 }
 
-/// The fault, as a lexer tells it.
-fn stop_fault(stop: Stop) -> LexFault
-    ensures { result ≡ stop_fault stop }
-{
-    match stop {
-        Stop::OutOfMemory => LexFault::OutOfMemory,
-        Stop::At(bad, place) => fault_at(bad, place),
-    }
-}
-
 /// The run of which the bytes that wait are the front, where the piece only goes on it.
 fn still_run(
     alloc: Global,
@@ -106,14 +96,8 @@ pub fn take_piece(
     ensures { TakesPiece place comment (waiting.items ++ piece.now) result }
 {
     let mut waiting = waiting;
-    let still = match still_run(alloc, known, &waiting, piece) {
-        Ok(still) => still,
-        Err(OutOfMemory) => return Err(LexFault::OutOfMemory),
-    };
-    match waiting.extend_from_slice(piece) {
-        Ok(()) => {}
-        Err(_) => return Err(LexFault::OutOfMemory),
-    }
+    let still = still_run(alloc, known, &waiting, piece)?;
+    waiting.extend_from_slice(piece)?;
     match still {
         Some(known) => Ok(Batch {
             tokens: Vec::new(alloc),
@@ -122,10 +106,7 @@ pub fn take_piece(
             waiting,
             known: Some(known),
         }),
-        None => match take_bytes(alloc, place, comment, &waiting) {
-            Ok(batch) => Ok(batch),
-            Err(stop) => Err(stop_fault(stop)),
-        },
+        None => Ok(take_bytes(alloc, place, comment, &waiting)?),
     }
 }
 
@@ -140,13 +121,8 @@ fn take_all(
     requires { HasRoom place (length text.now) }
     ensures { TakesAll place comment whole (chars text.now) result }
 {
-    match lex_from(alloc, place, comment, whole, text) {
-        Ok(tokens) => match own_all(alloc, &tokens) {
-            Ok(tokens) => Ok(tokens),
-            Err(OutOfMemory) => Err(LexFault::OutOfMemory),
-        },
-        Err(stop) => Err(stop_fault(stop)),
-    }
+    let tokens = lex_from(alloc, place, comment, whole, text)?;
+    Ok(own_all(alloc, &tokens)?)
 }
 
 /// The tokens of the bytes that wait where nothing more comes, with the end token last.

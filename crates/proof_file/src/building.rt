@@ -33,6 +33,28 @@ pub enum NodeFault {
     OutOfMemory,
 }
 
+impl From<OutOfMemory> for NodeFault {
+    ghost use Rattle.std.specs.Prelude.{◌≡◌};
+    ghost use Rattle.proof_file.specs.declared.building.NodeFault.TheVariants as faults;
+
+    ghost from_gives = { λ _ e. e ≡ faults.OutOfMemory };
+
+    fn from(_error: OutOfMemory) -> NodeFault {
+        NodeFault::OutOfMemory
+    }
+}
+
+impl From<Flaw> for NodeFault {
+    ghost use Rattle.std.specs.Prelude.{◌≡◌};
+    ghost use Rattle.proof_file.specs.declared.building.NodeFault.TheVariants as faults;
+
+    ghost from_gives = { λ flaw e. e ≡ faults.Flaw flaw };
+
+    fn from(flaw: Flaw) -> NodeFault {
+        NodeFault::Flaw(flaw)
+    }
+}
+
 /// What a file says before its nodes.
 #[derive(Drop)]
 pub struct FileFront {
@@ -108,13 +130,8 @@ pub fn node_of_tree(
     ensures { IsNodeMade (node_flaw (most_spatial version) heads.now lines n at (node_of tree.now))
         (node_value heads.now (node_of tree.now)) result }
 {
-    match walk_node(heads, version.most_spatial(), lines, n, at, tree) {
-        Ok(_) => match value_of_node(alloc, heads, tree) {
-            Ok(value) => Ok(value),
-            Err(OutOfMemory) => Err(NodeFault::OutOfMemory),
-        },
-        Err(flaw) => Err(NodeFault::Flaw(flaw)),
-    }
+    walk_node(heads, version.most_spatial(), lines, n, at, tree)?;
+    Ok(value_of_node(alloc, heads, tree)?)
 }
 
 /// The file of values that a tree without a flaw says.

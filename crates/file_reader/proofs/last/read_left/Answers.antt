@@ -21,5 +21,5 @@ nodes-smaller c = statement-shrinks c.nodes.cursor c.kept_node_or_end.new.cursor
 
 pub nodes-preserved : goal.nodes-preserved
 nodes-preserved c =
-    let added = c.in-Ok.ensures in
+    let added = c.in_ok-added.ensures in
     step-read c.args.known.now c.args.stretch c.args.found.now c.nodes.found c.add_statement-added.new.found c.nodes.cursor c.kept_node_or_end.new.cursor c.nodes.invariant added.taken added.stands

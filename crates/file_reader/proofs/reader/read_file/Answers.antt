@@ -4,6 +4,6 @@ use Rattle.file_reader.specs.Pieces.{KeepsLaw}
 use Rattle.file_reader.proofs.PieceLaws.{one-piece}
 use Rattle.file_reader.proofs.reader.read_file.Goals as goal
 
-pub returns-in-Ok : goal.returns-in-Ok
-returns-in-Ok c =
-    one-piece c.args.bytes.now c.feed.new.self c.finish.result (subst (λ (s : Parts). KeepsLaw s c.args.bytes.now c.feed.new.self) c.new-reader.ensures.value c.in-Ok.ensures.law) c.finish.ensures
+pub returns : goal.returns
+returns c =
+    one-piece c.args.bytes.now c.feed.new.self c.finish.result (subst (λ (s : Parts). KeepsLaw s c.args.bytes.now c.feed.new.self) c.new-reader.ensures.value c.in_ok-feed.ensures.law) c.finish.ensures
