@@ -128,11 +128,10 @@ impl Matcher<'_> {
             return Ok(None);
         }
         let mut longer = Vec::from_slice(self.alloc, pairs)?;
-        match self.add_atom(&mut longer, from, to) {
-            Ok(true) => Ok(Some(longer)),
-            Ok(false) => Ok(None),
-            Err(OutOfMemory) => Err(OutOfMemory),
+        if self.add_atom(&mut longer, from, to)? {
+            return Ok(Some(longer));
         }
+        Ok(None)
     }
 
     /// The map with one more atom at this place, if the terms go together.
