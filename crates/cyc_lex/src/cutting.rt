@@ -67,9 +67,6 @@ pub fn tokens(alloc: Global, bytes: &[u8]) -> Result<Tokens<'_>, LexFault>
     ensures exact { Answers result (tokens_of bytes.now) }
     ensures tokens { IfOk result (AreTokens bytes.now) }
 {
-    match cut(alloc, bytes) {
-        Ok(items) => Ok(Tokens::new(items)),
-        Err(Stop::OutOfMemory) => Err(LexFault::OutOfMemory),
-        Err(Stop::At(bad, place)) => Err(fault_at(bad, place)),
-    }
+    let items = cut(alloc, bytes)?;
+    Ok(Tokens::new(items))
 }
