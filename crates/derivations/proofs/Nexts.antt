@@ -15,7 +15,7 @@ use Rattle.derivation_search.specs.declared.Tried.{Tried}
 use Rattle.derivation_search.specs.declared.Tried.TheVariants.{Admitted, Refused, TooManyStates}
 use Rattle.tableaux.specs.Tableau.{Subgoal, Goal, Made, Calculus, grown, linked, step, at_next, with_premises, begin, replay}
 use Rattle.tableaux.specs.Fair.{AllOccur}
-use Rattle.tableaux.specs.Room.{is_nil, is_done, offered, has_room, fits_at, fits_in}
+use Rattle.tableaux.specs.Room.{is_nil, is_done, has_room, fits_at, fits_in}
 use Rattle.tableaux.specs.Search.{on_graph}
 use Rattle.tableaux.specs.Leaves.{without_leaf}
 use Rattle.tableaux.proofs.Leaves.{leaf_removed}

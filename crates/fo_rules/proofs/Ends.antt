@@ -1,5 +1,5 @@
 -- Where the first terms of a word end.
-use Rattle.std.proofs.Common.{◌≡◌, ℕ, zero, suc, ◌+◌, ◌-◌, ◌<◌, List, [], ◌∷◌, ◌++◌, ◌∙◌, arith, append_assoc}
+use Rattle.std.proofs.Common.{◌≡◌, ℕ, zero, suc, ◌-◌, ◌<◌, List, [], ◌∷◌, ◌++◌, ◌∙◌, arith, append_assoc}
 use Rattle.fo_formula.specs.declared.atoms.FoAtom.{FoAtom}
 use Rattle.fo_formula.specs.declared.atoms.FoAtom.TheVariants.{Equation}
 use Rattle.fo_formula.specs.Words.{Word, first_term, after_first}
