@@ -86,6 +86,9 @@ run 0 'accepted entailment nodes 1 links 0' check < <(echo 'cyclist proof 1;'; d
 run 5 'limit predicates token 290820 line 4098 column 1' check < <(echo 'cyclist proof 1;'; definitions 4097; echo "$done_node"; echo 'end;')
 run 0 'accepted entailment nodes 20000 links 19999' check < <(echo 'cyclist proof 1;'; repeat 'node true : emp |- true : emp by Link 19999 { } [] [0];' 19999; echo "$done_node"; echo 'end;')
 
+# the greatest ring, written by a script of its own
+run 0 'accepted entailment nodes 16001 links 1' check < <(ring 2000)
+
 # the deepest search, and products of 198,667 states and of more than 200,000
 run 6 'not found depth 40' prove --depth 40 < "$top/examples/acyclic-segments.problem"
 run 0 'accepted entailment nodes 9 links 2' check < <(turns 12 4)

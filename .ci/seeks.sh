@@ -1,9 +1,21 @@
 #!/usr/bin/env bash
-# .ci/seeks.sh PROGRAM: runs the built free search, and compares its status and what it writes.
+# .ci/seeks.sh PROGRAM CHECKER: runs the built free search, and compares its status and what it writes. Of each problem in
+# .ci/seeks/ it has to find a proof, which the checker accepts: they need moves that few examples need, or none.
 set -u
 name=seek
 . "$(dirname "${BASH_SOURCE[0]}")/compare.sh"
+checker=$2
 usage='usage: seek'
+
+count=0
+for problem in "$top"/.ci/seeks/*.problem; do
+  if ! got=$(bounded "$program" < "$problem") || ! bounded "$checker" <<< "$got" > /dev/null; then
+    echo "seek finds no proof of $(basename "$problem") that check accepts"
+    failed=1
+  fi
+  count=$((count + 1))
+done
+[ "$count" -ge 8 ] || { echo ".ci/seeks has $count problems"; failed=1; }
 
 for words in 'check' 'prove' '--help' '--depth 5' 'x y'; do
   # (the words are cut at the spaces)

@@ -12,6 +12,7 @@ sys.path.insert(0, os.path.join(os.path.dirname(os.path.abspath(__file__)), "tex
 sys.dont_write_bytecode = True
 import checks
 import first_order
+import limits
 import models
 import parts
 import pieces
@@ -51,6 +52,13 @@ def rows():
         yield "fo-check", text, status, line
     for text, status, line in first_order.DEAD_TOKENS_OF_PROBLEMS:
         yield "fo", text, status, line
+    yield from limits.rows()
+    for theory, status, line in first_order.NINTH:
+        yield "fo-check", first_order.proof(theory), status, line
+        yield "fo", first_order.problem(theory), status, line
+    for theory in first_order.EIGHTH:
+        yield "fo-check", first_order.proof(theory), 0, b"accepted first-order nodes 1 links 0"
+        yield "fo", first_order.problem(theory), 0, first_order.proof(theory)
     yield from searches.RUNS
     yield from words.ROWS
 
@@ -106,6 +114,7 @@ def sized(row):
 if __name__ == "__main__":
     tried = list(map(sized, rows()))
     tried += [sized((second, answer([program, *first.split()], text)[1], status, line)) for first, text, second, status, line in searches.AGAIN]
+    tried += limits.greatest_rows()
     in_pieces = [("check", text, status, line, (size,)) for size, text, status, line in pieces.rows()]
     with ProcessPoolExecutor() as pool:
         faults = [it for it in pool.map(fault, tried + in_pieces, chunksize=4) if it]

@@ -1,5 +1,7 @@
 """Looks whether each wrong body of wrong-bodies/ can still be applied to the crate that it names: each of its old texts
-stands in the file once, after the changes before it. Whether the prover refuses them is for bench/wrong-bodies.sh."""
+stands in the file once, after the changes before it. Whether the prover refuses them is for bench/wrong-bodies.sh. Some break
+what no contract says, and are refused by a script that runs the built programs: its name stands in their first line, after
+`refused by:`. Whether that script refuses them is for bench/wrong_runs.py."""
 import glob
 import os
 import sys
@@ -20,6 +22,9 @@ def fault_of(path):
                     return f"there is no file {text.strip()}"
                 with open(file, encoding="utf-8") as source:
                     texts.setdefault(file, source.read())
+            elif line.startswith("refused by: "):
+                if not os.path.isfile(f"{top}/{line.removeprefix('refused by: ')}"):
+                    return f"there is no script {text}"
             elif word == "old:":
                 old = text
             elif word == "new:":

@@ -136,7 +136,7 @@ def complaint(chance, program, words, text):
     """Returns the status, and what is wrong with the answer, if anything is."""
     ran = run([program, *words], text)
     if ran is None:
-        # (a local with a high number makes `fo` try terms for all below it, also for those that no case has: README says so)
+        # (a local with a high number makes `fo` try terms for all below it, also for those that no case has: docs/CONTRACTS.md says so)
         return None, None if words[0] == "fo" and re.search(rb"\?\s*\d*[3-9]|\?\s*1\d", text) else "no answer within 5 seconds"
     status, wrote, said = ran
     if status not in LINES or said:

@@ -1,7 +1,8 @@
 #!/usr/bin/env bash
 # examples/check.sh PROGRAM SEEKER: each example is answered as its line in answers.txt says; the proof beside a problem, its
 # comments aside, is what `prove` writes of that problem, or there is none and no proof is found; the free search finds a proof
-# of each of them too, and the proofs in seek/ are what it writes; the model beside a problem is what `disprove` writes of that
+# of each of them too, and the proofs in seek/ are what it writes, and it finds a proof of those problems of field/ of which
+# field/answers.txt says so; the model beside a problem is what `disprove` writes of that
 # problem, and `model` says that it holds; the first-order proof beside a first-order problem is what `fo` writes of that problem.
 set -u
 program=$1
@@ -75,4 +76,15 @@ for problem in "$here"/seek/*.problem; do
   finds "$problem" || fail "examples/$name: seek finds no proof"
   [ "$got" = "$(grep -v '^#' "${problem%.problem}.proof")" ] || fail "examples/$name: seek does not write the proof beside it"
 done
+
+while IFS='|' read -r file wanted; do
+  case $file in '#'*|'') continue ;; esac
+  if [ "$wanted" = proof ]; then
+    finds "$here/field/$file" || fail "examples/field/$file: seek finds no proof"
+  else
+    got=$("$seeker" < "$here/field/$file")
+    code=$?
+    [ "$code" = 6 ] && [ "$got" = 'not found' ] || fail "examples/field/$file: seek ends with $code, and '$(echo "$got" | head -n 1)'"
+  fi
+done < "$here/field/answers.txt"
 exit "$failed"

@@ -17,7 +17,7 @@ failed=0
 # Types the command that was read, if there is one.
 type_it() {
   local got
-  [ -n "$command" ] || return 0
+  [ -n "$command" ] || { wanted=; return 0; }
   got=$(cd "$room" && bash -c "$command" 2>&1)
   if [ "$got" != "${wanted%$'\n'}" ]; then
     printf 'examples/README.md: %s\nwrites\n%s\nand not\n%s' "$command" "$got" "$wanted"

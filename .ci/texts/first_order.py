@@ -254,3 +254,137 @@ DEAD_TOKENS_OF_PROBLEMS = [
         3, b"unreadable syntax token 13 line 4 column 1",
     ),
 ]
+
+
+def proof(theory):
+    """Returns a proof over this theory, which has the constructor z; the header has four tokens and one line."""
+    return b"cyclist fo 1;\n" + theory + b"node true |- z() = z() by Refl 0;\nend;\n"
+
+
+def problem(theory):
+    """Returns the problem that such a proof is for; its header is as long, counted in tokens and in lines."""
+    return b"cyclist foproblem 1;\n" + theory + b"goal true |- z() = z();\nend;\n"
+
+
+# Theories that use a predicate with nine terms in a case before its definition, and others like them. A constructor or a head has four
+# tokens or six, `z(), ` has four tokens and five columns, and the first argument of q begins at token 16, or 20 behind two
+# constructors, and column 15: so the ninth begins at token 16 + 8 * 4 and column 15 + 8 * 5.
+NINTH = [
+    (
+        b"con z 0;\n"
+        b"pred p(0) { q(z(), z(), z(), z(), z(), z(), z(), z(), z()) };\n"
+        b"pred q(9) { true };\n",
+        5, b"limit arguments token 48 line 3 column 55",
+    ),
+    (
+        b"con z 0;\n"
+        b"pred p(0) { q(z(), z(), z(), z(), z(), z(), z(), z(), z(), z()) };\n"
+        b"pred q(10) { true };\n",
+        5, b"limit arguments token 48 line 3 column 55",
+    ),
+    # The parameter's fault would stand at its number, a token later.
+    (
+        b"con z 0;\n"
+        b"pred p(0) { q(z(), z(), z(), z(), z(), z(), z(), z(), $0) };\n"
+        b"pred q(9) { true };\n",
+        5, b"limit arguments token 48 line 3 column 55",
+    ),
+    # The first argument has eight of its own, 36 tokens and 43 columns with the comma in place of 4 and 5.
+    (
+        b"con z 0;\n"
+        b"con c 8;\n"
+        b"pred p(0) { q(c(z(), z(), z(), z(), z(), z(), z(), z()), z(), z(), z(), z(), z(), z(), z(), z()) };\n"
+        b"pred q(9) { true };\n",
+        5, b"limit arguments token 83 line 4 column 93",
+    ),
+    # So does the eighth, of which nothing stands at the ninth place but the ninth argument of q.
+    (
+        b"con z 0;\n"
+        b"con c 8;\n"
+        b"pred p(0) { q(z(), z(), z(), z(), z(), z(), z(), c(z(), z(), z(), z(), z(), z(), z(), z()), z()) };\n"
+        b"pred q(9) { true };\n",
+        5, b"limit arguments token 83 line 4 column 93",
+    ),
+    # At one token what is ill-formed goes first.
+    (
+        b"con z 0;\n"
+        b"pred p(0) { q(z(), z(), z(), z(), z(), z(), z(), z(), w()) };\n"
+        b"pred q(9) { true };\n",
+        4, b"ill-formed unknown token 48 line 3 column 55",
+    ),
+    (
+        b"con z 0;\n"
+        b"pred p(0) { q(z(), z(), z(), z(), z(), z(), z(), z(), z(z())) };\n"
+        b"pred q(9) { true };\n",
+        4, b"ill-formed arity token 48 line 3 column 55",
+    ),
+    # What stands before the ninth argument goes first, as what is wrong with the name does.
+    (
+        b"con z 0;\n"
+        b"pred p(0) { q(z(), z(), w(), z(), z(), z(), z(), z(), z()) };\n"
+        b"pred q(9) { true };\n",
+        4, b"ill-formed unknown token 24 line 3 column 25",
+    ),
+    (
+        b"con z 0;\n"
+        b"pred p(0) { q(z(), z(), z(), z(), z(), z(), z(), z(), z()) };\n"
+        b"pred q(8) { true };\n",
+        4, b"ill-formed arity token 14 line 3 column 13",
+    ),
+    (
+        b"con z 0;\n"
+        b"pred p(0) { q(z(), z(), z(), z(), z(), z(), z(), z(), z()) };\n",
+        4, b"ill-formed unknown token 14 line 3 column 13",
+    ),
+    # A constructor or predicate that is used after its definition has a number before its ninth argument.
+    (
+        b"con z 0;\n"
+        b"con c 9;\n"
+        b"pred p(0) { z() = c(z(), z(), z(), z(), z(), z(), z(), z(), z()) };\n",
+        5, b"limit arguments token 10 line 3 column 7",
+    ),
+    (
+        b"con z 0;\n"
+        b"pred q(9) { true };\n"
+        b"pred p(0) { q(z(), z(), z(), z(), z(), z(), z(), z(), z()) };\n",
+        5, b"limit arguments token 11 line 3 column 8",
+    ),
+    # The eighth argument, at token 48 and column 50, ends with the 4,096th term: `arguments` goes before `terms` at the ninth, which
+    # begins after 3 * 4088 + 3 tokens of one column each, the comma, and a space.
+    (
+        b"con z 0;\n"
+        b"con s 1;\n"
+        b"pred p(0) { q(z(), z(), z(), z(), z(), z(), z(), "
+        + b"s(" * 4088
+        + b"z()"
+        + b")" * 4088
+        + b", z()) };\n"
+        b"pred q(9) { true };\n",
+        5, b"limit arguments token 12316 line 4 column 12319",
+    ),
+    # With one term more its last one is the 4,097th.
+    (
+        b"con z 0;\n"
+        b"con s 1;\n"
+        b"pred p(0) { q(z(), z(), z(), z(), z(), z(), z(), "
+        + b"s(" * 4089
+        + b"z()"
+        + b")" * 4089
+        + b", z()) };\n"
+        b"pred q(9) { true };\n",
+        5, b"limit terms token 8226 line 4 column 8228",
+    ),
+]
+
+# Eight arguments are within the limit, also where each has eight.
+EIGHTH = [
+    b"con z 0;\n"
+    b"pred p(0) { q(z(), z(), z(), z(), z(), z(), z(), z()) };\n"
+    b"pred q(8) { true };\n",
+    b"con z 0;\n"
+    b"con c 8;\n"
+    b"pred p(0) { q("
+    + b", ".join([b"c(z(), z(), z(), z(), z(), z(), z(), z())"] * 8)
+    + b") };\n"
+    b"pred q(8) { true };\n",
+]

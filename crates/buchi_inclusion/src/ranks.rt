@@ -4,8 +4,11 @@
 //! The ranks are those of the strongly connected components, sources first, found by one search in depth (Tarjan 1972).
 //! No clause says so: `are_rising` tests what the decision needs of them.
 
-ghost use Rattle.std.specs.Prelude.{◌≡◌, true};
+ghost use Rattle.std.specs.Prelude.{◌≡◌, ◌<◌, true, List, Vec, Some, slice_get, slice_set, vec_len, OnOk, IfSome, []};
+ghost use Rattle.std.specs.declared.alloc.Global.{Global};
+ghost use Rattle.buchi_inclusion.specs.declared.product.Transition.{Transition};
 ghost use Rattle.buchi_inclusion.specs.Ranks.{rank_at, IsRowRising, IsRising};
+ghost use Rattle.buchi_inclusion.specs.Work.{edges_at, work_left};
 
 use crate::product::Transition;
 use buchi_core::{Event, earlier};
@@ -21,7 +24,9 @@ fn number_at(numbers: &[u32], place: usize) -> u32 {
 }
 
 /// Puts the number at a place, if there is one.
-fn put(numbers: &mut Vec<u32>, place: usize, number: u32) {
+fn put(numbers: &mut Vec<u32>, place: usize, number: u32)
+    ensures { place < vec_len numbers.old → numbers.new.items ≡ slice_set numbers.old.items place number }
+{
     if let Some(old) = numbers.get_mut(place) {
         *old = number;
     }
@@ -45,13 +50,17 @@ struct Search {
     numbers: Vec<u32>,
     least: Vec<u32>,
     open: Vec<u32>,
-    way: Vec<(u32, u32)>,
+    way: Vec<(u32, usize)>,
     ranks: Vec<u32>,
     rank: u32,
 }
 
-/// Enters a state that is new.
-fn enter(search: &mut Search, state: u32) -> Result<(), OutOfMemory> {
+/// Enters a state that is new. Its edges are still to be followed, as they were before.
+fn enter(search: &mut Search, state: u32) -> Result<(), OutOfMemory>
+    requires new { slice_get search.old.numbers.items state ≡ Some 0 }
+    ensures { (rows : List (Vec Transition Global))
+        → OnOk result (work_left rows search.new ≡ work_left rows search.old) }
+{
     search.found = search.found.saturating_add(1);
     put(&mut search.numbers, state as usize, search.found);
     put(&mut search.least, state as usize, search.found);
@@ -61,8 +70,13 @@ fn enter(search: &mut Search, state: u32) -> Result<(), OutOfMemory> {
 }
 
 /// Follows an allowed edge of a state.
-fn follow(search: &mut Search, state: u32, target: u32) -> Result<(), OutOfMemory> {
-    let number = number_at(&search.numbers, target as usize);
+fn follow(search: &mut Search, state: u32, target: u32) -> Result<(), OutOfMemory>
+    ensures { (rows : List (Vec Transition Global))
+        → OnOk result (work_left rows search.new ≡ work_left rows search.old) }
+{
+    let Some(number) = search.numbers.get(target as usize).copied() else {
+        return Ok(());
+    };
     if number == 0 {
         return enter(search, target);
     }
@@ -73,12 +87,11 @@ fn follow(search: &mut Search, state: u32, target: u32) -> Result<(), OutOfMemor
 }
 
 /// Gives a rank to the component of a state, which is complete.
-fn close(search: &mut Search, root: u32) {
+fn close(search: &mut Search, root: u32)
+    ensures { (search.new.way ≡ search.old.way) × (search.new.numbers ≡ search.old.numbers) }
+{
     search.rank = search.rank.saturating_sub(1);
-    for _ in 0..usize::MAX {
-        let Some(state) = search.open.pop() else {
-            return;
-        };
+    while let Some(state) = search.open.pop() {
         put(&mut search.ranks, state as usize, search.rank);
         if state == root {
             return;
@@ -87,7 +100,9 @@ fn close(search: &mut Search, root: u32) {
 }
 
 /// Leaves a state all of whose edges are followed.
-fn leave(search: &mut Search, state: u32) {
+fn leave(search: &mut Search, state: u32)
+    ensures { (search.new.way ≡ search.old.way) × (search.new.numbers ≡ search.old.numbers) }
+{
     let least = number_at(&search.least, state as usize);
     if least == number_at(&search.numbers, state as usize) {
         close(search, state);
@@ -99,35 +114,37 @@ fn leave(search: &mut Search, state: u32) {
 }
 
 /// The target of a state's edge, and whether the edge is allowed.
-fn edge_of(rows: &[Vec<Transition>], least: Event, state: u32, edge: u32) -> Option<(u32, bool)> {
+fn edge_of(rows: &[Vec<Transition>], least: Event, state: u32, edge: usize) -> Option<(u32, bool)>
+    ensures { IfSome result (λ _. edge < edges_at rows.now state) }
+{
     match rows.get(state as usize) {
         None => None,
-        Some(row) => match row.get(edge as usize) {
+        Some(row) => match row.get(edge) {
             None => None,
             Some(item) => Some((item.target, !earlier(item.event, least))),
         },
     }
 }
 
-/// Searches from a state, if it is new.
+/// Searches from a state, if it is new. Where memory holds what is found, it ends with nothing left on the way.
 fn descend(
     search: &mut Search,
     rows: &[Vec<Transition>],
     least: Event,
     root: u32,
-) -> Result<(), OutOfMemory> {
-    if number_at(&search.numbers, root as usize) != 0 {
+) -> Result<(), OutOfMemory>
+    requires begins { search.old.way.items ≡ [] }
+    ensures ended { OnOk result (search.new.way.items ≡ []) }
+{
+    let Some(0) = search.numbers.get(root as usize).copied() else {
         return Ok(());
-    }
+    };
     enter(search, root)?;
-    for _ in 0..usize::MAX {
-        let Some((state, edge)) = search.way.pop() else {
-            return Ok(());
-        };
+    while let Some((state, edge)) = search.way.pop() {
         match edge_of(rows, least, state, edge) {
             None => leave(search, state),
             Some((target, allowed)) => {
-                search.way.push((state, edge.saturating_add(1)))?;
+                search.way.push((state, edge + 1))?;
                 if allowed {
                     follow(search, state, target)?;
                 }

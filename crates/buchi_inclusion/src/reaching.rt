@@ -1,8 +1,9 @@
 //! A search in depth for a way from one state of a product to another.
 
-ghost use Rattle.std.specs.Prelude.{◌≡◌, ◌<◌, ◌≤◌, true, length, IfOk, OnOk, MatchOption, slice_get, Some};
+ghost use Rattle.std.specs.Prelude.{◌≡◌, ◌<◌, ◌≤◌, true, false, suc, length, IfOk, OnOk, MatchOption, slice_get, Some};
 ghost use Rattle.buchi_inclusion.specs.Table.{states_of};
 ghost use Rattle.buchi_inclusion.specs.Decision.{IsClassOf};
+ghost use Rattle.buchi_inclusion.specs.Work.{places_left, unmarked};
 ghost use Rattle.buchi_inclusion.specs.ClassWays.{IsClassItem, AreClassItems, HasClassWay, AreClassLed};
 
 use crate::decision::Class;
@@ -12,14 +13,16 @@ use cyc_memory::OutOfMemory;
 use std::alloc::Global;
 
 /// Whether the place is not marked, which it is then, if there is such a place.
-fn is_new(marks: &mut Vec<bool>, place: usize) -> bool {
-    match marks.get_mut(place) {
-        None => false,
-        Some(mark) => {
-            let was = *mark;
-            *mark = true;
-            !was
+fn is_new(marks: &mut Vec<bool>, place: usize) -> bool
+    ensures new { result ≡ true → unmarked marks.old.items ≡ suc (unmarked marks.new.items) }
+    ensures known { result ≡ false → marks.new ≡ marks.old }
+{
+    match marks.get(place) {
+        Some(false) => {
+            marks[place] = true;
+            true
         }
+        _ => false,
     }
 }
 
@@ -45,7 +48,8 @@ fn push_target(
     requires item { IsClassItem class.now place edge item }
     requires way { HasClassWay class.now start place }
     requires stack { AreClassLed class.now start stack.old.items }
-    ensures { OnOk result (AreClassLed class.now start stack.new.items) }
+    ensures led { OnOk result (AreClassLed class.now start stack.new.items) }
+    ensures left { OnOk result (places_left marks.new.items stack.new.items ≤ places_left marks.old.items stack.old.items) }
 {
     if earlier(item.event, class.least) {
         return Ok(());
@@ -70,7 +74,8 @@ fn push_targets(
     requires row { AreClassItems class.now place row.now }
     requires way { HasClassWay class.now start place }
     requires stack { AreClassLed class.now start stack.old.items }
-    ensures { OnOk result (AreClassLed class.now start stack.new.items) }
+    ensures led { OnOk result (AreClassLed class.now start stack.new.items) }
+    ensures left { OnOk result (places_left marks.new.items stack.new.items ≤ places_left marks.old.items stack.old.items) }
 {
     for (edge, item) in row.iter().enumerate() {
         push_target(class, start, place, edge, *item, marks, stack)?;
@@ -89,7 +94,8 @@ fn push_row(
     requires class { IsClassOf class.now }
     requires way { HasClassWay class.now start place }
     requires stack { AreClassLed class.now start stack.old.items }
-    ensures { OnOk result (AreClassLed class.now start stack.new.items) }
+    ensures led { OnOk result (AreClassLed class.now start stack.new.items) }
+    ensures left { OnOk result (places_left marks.new.items stack.new.items ≤ places_left marks.old.items stack.old.items) }
 {
     match row_at(&class.table.rows, place) {
         None => Ok(()),
@@ -113,10 +119,7 @@ pub fn is_reached(
     let mut marks = vec![in alloc; false; count]?;
     let mut stack = Vec::with_capacity(alloc, count)?;
     stack.push(start)?;
-    for _ in 0..usize::MAX {
-        let Some(place) = stack.pop() else {
-            return Ok(false);
-        };
+    while let Some(place) = stack.pop() {
         if place == to {
             return Ok(true);
         }

@@ -12,11 +12,13 @@ ghost use Rattle.cyc_runs.specs.Endings.{is_answer};
 ghost use Rattle.cyc_runs.specs.Runs.{IsAnswerOf, IsReadThrough, WroteAnswer, WrotePart, input_limit};
 ghost use Rattle.check_answers.specs.Answers.{IsAnswer, IsChecked, ToldFileOf};
 
+mod program;
 mod verdicts;
 
 use cyc_io::{Sink, Source};
 pub use cyc_runs::Status;
 use cyc_runs::{fixed_answer, give_made, run_in_pieces};
+pub use program::run_program;
 use std::alloc::Global;
 use verdicts::Checker;
 pub use verdicts::links_of;

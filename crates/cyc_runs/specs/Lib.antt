@@ -2,3 +2,4 @@ pub mod Endings
 pub mod Faults
 pub mod Runs
 pub mod Pieces
+pub mod Exits

@@ -10,6 +10,7 @@ ghost use Rattle.cyc_runs.specs.Runs.{IsAnswerOf, IsReadThrough, WroteAnswer, Wr
 
 mod answers;
 mod endings;
+mod exits;
 mod faults;
 mod inputs;
 mod pieces;
@@ -18,6 +19,7 @@ pub use answers::{Answer, fixed_answer};
 use cyc_io::{Sink, Source, write_all};
 pub use cyc_memory::OutOfMemory;
 pub use endings::Status;
+pub use exits::exit_code;
 pub use faults::answer_to_fault;
 use inputs::WholeInput;
 use pieces::answer_in_pieces;

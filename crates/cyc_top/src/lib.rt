@@ -26,6 +26,7 @@ ghost use Rattle.cyc_runs.specs.Runs.{IsReadThrough, input_limit};
 ghost use Rattle.cyc_top.specs.Answers.{IsAnswer, IsHeadline, IsRefusal, IsUnrefuted, WroteAnswer, WroteFirstOrderProof, WroteModel, WrotePart, WroteProof, WroteUpgrade, derivation_limit};
 
 mod laws;
+mod program;
 mod rings;
 mod searches;
 mod upgrades;
@@ -37,8 +38,9 @@ use cyc_runs::{fixed_answer, give_made, run_over};
 use cyc_words::{Task, USAGE, task_of};
 use disprove_answers::Disprover;
 use fo_answers::{FirstOrderChecker, FirstOrderProver};
-pub use laws::an_input_has_one_answer;
+pub use laws::{an_input_has_one_answer, limits_are_these};
 use model_answers::ModelChecker;
+pub use program::run_program;
 use rings::answer_to_ring;
 use sat_answers::Satisfier;
 use searches::Prover;

@@ -1,19 +1,12 @@
-//! Reads the command line, standard input and standard output, and does the work of `seek_top::run`.
+//! Reads the command line, standard input and standard output, and does the work of `seek_top::run_program`.
 #![tactic(auto)]
 
 use cyc_io::{StdSink, StdSource, command_words};
-use seek_top::{Status, run};
+use seek_top::run_program;
 use std::process::ExitCode;
 
-fn ending(rt: &HostRuntime) -> Status {
-    let Ok(words) = command_words(rt) else {
-        return Status::OutOfMemory;
-    };
+fn main(rt: HostRuntime) -> ExitCode {
     let mut src = StdSource::new(rt.stdin());
     let mut out = StdSink::new(rt.stdout());
-    run(rt.alloc(), words.as_slice(), &mut src, &mut out)
-}
-
-fn main(rt: HostRuntime) -> ExitCode {
-    ExitCode::from(ending(&rt).code())
+    run_program(rt.alloc(), command_words(&rt), &mut src, &mut out)
 }

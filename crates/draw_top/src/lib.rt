@@ -16,6 +16,7 @@ mod escapes;
 mod graph;
 mod laws;
 mod nodes;
+mod program;
 mod sets;
 mod text;
 mod writing;
@@ -26,6 +27,7 @@ pub use cyc_runs::Status;
 use cyc_runs::{fixed_answer, give_made, run_over};
 pub use graph::{Arrow, Attribute, Graph, Run, Style, Value, Vertex};
 pub use laws::{marked_text_reads_back, quoted_strings_read_back};
+pub use program::run_program;
 use std::alloc::Global;
 pub use writing::write_graph;
 

@@ -5,7 +5,7 @@ use Rattle.std.specs.Str.{bytes_eq}
 use Rattle.std.proofs.lemmas.Bool.{eqb-true, not-false}
 use Rattle.heap_formula.specs.Words.{Each}
 use Rattle.cyc_lex.specs.declared.fault.IllFault.TheVariants.{Parameter, Arity}
-use Rattle.cyc_lex.specs.declared.fault.What.TheVariants.{Atoms, Locals, Terms, Variable as VariableLimit}
+use Rattle.cyc_lex.specs.declared.fault.What.TheVariants.{Atoms, Locals, Variable as VariableLimit}
 use Rattle.heap_reader.specs.Trees.{Heading}
 use Rattle.heap_reader.specs.Flaws.{Found, over_if, or_later, arity_in, use_flaw}
 use Rattle.heap_reader.proofs.NoFlaw.{neither, not_over, not_ill, at_most, below}
@@ -16,8 +16,9 @@ use Rattle.fo_term_syntax.proofs.PlaceLaws.{places-count}
 use Rattle.fo_walk.specs.declared.flaw.Scope.{Scope}
 use Rattle.fo_walk.specs.declared.flaw.Scope.TheVariants.{Node as InNode, Case as InCase}
 use Rattle.fo_walk.specs.AtomSpans.{atom_span, behind_first, terms_in, total_terms, IsAtom, AreAtoms}
+use Rattle.fo_walk.specs.Arguments.{numbers, numbers_behind, argument_flaw}
 use Rattle.fo_walk.specs.AtomFlaws.{variable_flaw, terms_flaw as term_limit, sign_flaw, signs_flaw, term_flaw, predicate_flaw, atom_flaw, atoms_flaw, side_flaw}
-use Rattle.fo_walk.proofs.Walks.{one-term}
+use Rattle.fo_walk.proofs.Walks.{passed, one-term}
 use Rattle.fo_values.specs.Known.{IsKnownSign, IsKnownTerm, IsKnownUse, IsKnownAtom, AreKnownAtoms}
 
 -- ---- names
@@ -30,7 +31,7 @@ first-few h rest n true few later e = let same : h.arity ≡ n = cc in omega ari
 first-few h rest n false few later e = later e
 
 -- what is known has at most eight arguments, where all headings have
-arity-few : (hs : List Heading) → Each HasFewArguments hs → (name : List ℕ) (n : ℕ) → arity_in hs name ≡ Some n → n ≤ 8
+pub arity-few : (hs : List Heading) → Each HasFewArguments hs → (name : List ℕ) (n : ℕ) → arity_in hs name ≡ Some n → n ≤ 8
 arity-few [] few name n e = absurd cc
 arity-few (h ∷ hs) few name n e =
     first-few h (arity_in hs name) n (bytes_eq h.name name) few.0 (arity-few hs few.1 name n) e
@@ -54,46 +55,49 @@ variable-small (InCase arity) few k n e = let h = below arity n (not_ill _ Param
 module _ (cs : List Heading) (few_cs : Each HasFewArguments cs) (scope : Scope) (few : HasFewParameters scope) where
   sign-known : (m k : ℕ) (limit : Found) (s : Sign) → sign_flaw cs scope m k limit s ≡ None → (limit ≡ None) × ((m < 4096) × IsKnownSign cs s)
   sign-known m k limit (Variable n) e =
+      let p = passed cs scope m k limit (Variable n) e in
       let a = neither limit (or_later (term_limit m k) (variable_flaw scope (k + 1) n)) e in
-      let b = neither (term_limit m k) (variable_flaw scope (k + 1) n) a.1 in
-      (a.0, (below 4096 m (not_over _ Terms k b.0), variable-small scope few (k + 1) n b.1))
+      (p.0, (p.1, variable-small scope few (k + 1) n (neither (term_limit m k) (variable_flaw scope (k + 1) n) a.1).1))
   sign-known m k limit (Local n) e =
+      let p = passed cs scope m k limit (Local n) e in
       let a = neither limit (or_later (term_limit m k) (over_if (nat_lt 15 n) Locals (k + 1))) e in
-      let b = neither (term_limit m k) (over_if (nat_lt 15 n) Locals (k + 1)) a.1 in
-      let h = at_most 15 n (not_over _ Locals (k + 1) b.1) in
-      (a.0, (below 4096 m (not_over _ Terms k b.0), omega arith))
+      let h = at_most 15 n (not_over _ Locals (k + 1) (neither (term_limit m k) (over_if (nat_lt 15 n) Locals (k + 1)) a.1).1) in
+      (p.0, (p.1, omega arith))
   sign-known m k limit (Apply name n) e =
-      let a = neither (use_flaw (arity_in cs name) n k) (or_later limit (term_limit m k)) e in
-      let b = neither limit (term_limit m k) a.1 in
-      let known = used (arity_in cs name) n k a.0 in
+      let p = passed cs scope m k limit (Apply name n) e in
+      let known = used (arity_in cs name) n k (neither (use_flaw (arity_in cs name) n k) (or_later limit (term_limit m k)) e).0 in
       let h = arity-few cs few_cs name n known in
-      (b.0, (below 4096 m (not_over _ Terms k b.1), (omega arith, known)))
+      (p.0, (p.1, (omega arith, known)))
 
-  signs-known : (m k : ℕ) (limit : Found) (ss : List Sign) (ps : List ℕ) → length ss ≤ length ps → m ≤ 4096 → signs_flaw cs scope m k limit ss ps ≡ None → (m + length ss ≤ 4096) × Each (IsKnownSign cs) ss
-  signs-known m k limit [] ps le h e = (omega arith, tt)
-  signs-known m k limit (s ∷ ss) [] le h e = absurd (omega arith)
-  signs-known m k limit (s ∷ ss) (p ∷ ps) le h e =
-      let both = neither (sign_flaw cs scope m (k + p) limit s) (signs_flaw cs scope (m + 1) k None ss ps) e in
-      let first = sign-known m (k + p) limit s both.0 in
+  signs-known : (ns : List ℕ) (m k : ℕ) (limit : Found) (ss : List Sign) (ps : List ℕ) → length ss ≤ length ps → m ≤ 4096 → signs_flaw cs scope ns m k limit ss ps ≡ None → (m + length ss ≤ 4096) × Each (IsKnownSign cs) ss
+  signs-known ns m k limit [] ps le h e = (omega arith, tt)
+  signs-known ns m k limit (s ∷ ss) [] le h e = absurd (omega arith)
+  signs-known ns m k limit (s ∷ ss) (p ∷ ps) le h e =
+      let here = or_later limit (argument_flaw ns (k + p)) in
+      let both = neither (sign_flaw cs scope m (k + p) here s) (signs_flaw cs scope (numbers_behind s ns) (m + 1) k None ss ps) e in
+      let first = sign-known m (k + p) here s both.0 in
       let room = first.1.0 in
-      let rest = signs-known (m + 1) k None ss ps (omega arith) (omega arith) both.1 in
+      let rest = signs-known (numbers_behind s ns) (m + 1) k None ss ps (omega arith) (omega arith) both.1 in
       let all = rest.0 in
       (omega arith, (first.1.1, rest.1))
 
   pub term-known : (m k : ℕ) (limit : Found) (t : List Sign) → IsTerm t → m ≤ 4096 → term_flaw cs scope m k limit t ≡ None → (m + length t ≤ 4096) × IsKnownTerm cs t
   term-known m k limit t is h e =
       let count = places-count t is in
-      let r = signs-known m k limit t (places_of t) (omega arith) h e in
+      let r = signs-known [] m k limit t (places_of t) (omega arith) h e in
       (r.0, (is, r.1))
+
+  first-free : (m k : ℕ) (limit : Found) (s : Sign) → sign_flaw cs scope m (k + 0) (or_later limit None) s ≡ None → limit ≡ None
+  first-free m k limit s e = (neither limit None (passed cs scope m (k + 0) (or_later limit None) s e).0).0
 
   term-limit : (m k : ℕ) (limit : Found) (t : List Sign) → IsTerm t → term_flaw cs scope m k limit t ≡ None → limit ≡ None
   term-limit m k limit [] is e = absurd is
   term-limit m k limit (Variable n ∷ ss) is e =
-      (sign-known m (k + 0) limit (Variable n) (neither (sign_flaw cs scope m (k + 0) limit (Variable n)) _ e).0).0
+      first-free m k limit (Variable n) (neither (sign_flaw cs scope m (k + 0) (or_later limit None) (Variable n)) _ e).0
   term-limit m k limit (Local n ∷ ss) is e =
-      (sign-known m (k + 0) limit (Local n) (neither (sign_flaw cs scope m (k + 0) limit (Local n)) _ e).0).0
+      first-free m k limit (Local n) (neither (sign_flaw cs scope m (k + 0) (or_later limit None) (Local n)) _ e).0
   term-limit m k limit (Apply name n ∷ ss) is e =
-      (sign-known m (k + 0) limit (Apply name n) (neither (sign_flaw cs scope m (k + 0) limit (Apply name n)) _ e).0).0
+      first-free m k limit (Apply name n) (neither (sign_flaw cs scope m (k + 0) (or_later limit None) (Apply name n)) _ e).0
 
   -- ---- atoms
 
@@ -106,9 +110,9 @@ module _ (cs : List Heading) (few_cs : Each HasFewArguments cs) (scope : Scope) 
         let places = drop 1 (places_of (Apply name n ∷ ss)) in
         let count : length (places_of (Apply name n ∷ ss)) ≡ length (Apply name n ∷ ss) + 1 = places-count (Apply name n ∷ ss) (one-term name n ss is) in
         let some : length (places_of (Apply name n ∷ ss)) ≡ suc (length places) = refl in
-        let a = neither (use_flaw (arity_in ps name) n k) (or_later limit (signs_flaw cs scope m k None ss places)) e in
-        let b = neither limit (signs_flaw cs scope m k None ss places) a.1 in
-        let r = signs-known m k None ss places (omega arith) h b.1 in
+        let a = neither (use_flaw (arity_in ps name) n k) (or_later limit (signs_flaw cs scope (numbers n) m k None ss places)) e in
+        let b = neither limit (signs_flaw cs scope (numbers n) m k None ss places) a.1 in
+        let r = signs-known (numbers n) m k None ss places (omega arith) h b.1 in
         (b.0, (r.0, (used (arity_in ps name) n k a.0, (is, r.1))))
 
     pub atom-known : (m k : ℕ) (limit : Found) (a : Atom) → IsAtom a → m ≤ 4096 → atom_flaw cs scope ps m k limit a ≡ None → (limit ≡ None) × ((m + terms_in a ≤ 4096) × IsKnownAtom cs ps a)

@@ -48,6 +48,23 @@ constructors-few cs e = (
 pub few-heads : (cs : List Constructor) → Each HasFew cs → Each HasFewArguments (constructor_heads cs)
 few-heads cs few = each_made constructor_heading HasFew HasFewArguments (λ c h. h) cs few
 
+-- ---- predicates
+
+abbrev pub TakesFew : Definition → Type 0
+TakesFew d = d.arity ≤ 8
+
+definition-few : (cs ps : List Heading) (n k : ℕ) (d : Definition) → definition_flaw cs ps n k d ≡ None → (n < 4096) × (d.arity ≤ 8)
+definition-few cs ps n k d e =
+    let duplicate = ill_if (is_some (arity_in cs d.name) || is_some (arity_in (take n ps) d.name)) Duplicate (k + 1) in
+    let a = neither (definition_head_flaw cs ps n k d) (cases_flaw cs ps d.arity (k + 6) d.cases) e in
+    let b = neither (over_if (nat_le 4096 n) Predicates k) (or_later duplicate (arguments_flaw (k + 3) d.arity)) a.0 in
+    let c = neither duplicate (arguments_flaw (k + 3) d.arity) b.1 in
+    (below 4096 n (not_over _ Predicates k b.0), at_most 8 d.arity (not_over _ Arguments (k + 3) c.1))
+
+pub few-predicates : (cs ps : List Heading) (k : ℕ) (ds : List Definition) → listed_flaw (definition_flaw cs ps) definition_span 0 k ds ≡ None → Each HasFewArguments (predicate_heads ds)
+few-predicates cs ps k ds e =
+    each_made predicate_heading TakesFew HasFewArguments (λ d h. h) ds (each_of (definition_flaw cs ps) definition_span TakesFew (λ n j d h. (definition-few cs ps n j d h).1) 0 k ds e)
+
 narrow : (cs : List Constructor) → Each HasFew cs → Each IsNarrow cs
 narrow cs few = each_imply HasFew IsNarrow (λ c h. omega arith) cs few
 
@@ -83,12 +100,10 @@ module _ (cs : List Heading) (few : Each HasFewArguments cs) (ps : List Heading)
 
   definition-known : (n k : ℕ) (d : Definition) → definition_flaw cs ps n k d ≡ None → (n < 4096) × (IsDefinition d → IsDefinitionWithin d)
   definition-known n k d e =
-      let duplicate = ill_if (is_some (arity_in cs d.name) || is_some (arity_in (take n ps) d.name)) Duplicate (k + 1) in
+      let heads = definition-few cs ps n k d e in
       let a = neither (definition_head_flaw cs ps n k d) (cases_flaw cs ps d.arity (k + 6) d.cases) e in
-      let b = neither (over_if (nat_le 4096 n) Predicates k) (or_later duplicate (arguments_flaw (k + 3) d.arity)) a.0 in
-      let c = neither duplicate (arguments_flaw (k + 3) d.arity) b.1 in
-      let small = at_most 8 d.arity (not_over _ Arguments (k + 3) c.1) in (
-        below 4096 n (not_over _ Predicates k b.0),
+      let small = heads.1 in (
+        heads.0,
         λ is.
             let r = cases-known d.arity 0 (k + 6) small d.cases is (omega arith) a.1 in
             let count = r.0 in

@@ -1,12 +1,13 @@
 -- The trees of nodes within the limits have no flaw, where names are known.
-use Rattle.std.proofs.Common.{◌≡◌, ℕ, suc, ◌+◌, ◌<◌, ◌≤◌, List, [], ◌∷◌, length, map, drop, Option, Some, None, refl, sym, ap, ◌∙◌, subst, arith}
+use Rattle.std.proofs.Common.{◌≡◌, ℕ, zero, suc, ◌+◌, ◌<◌, ◌≤◌, List, [], ◌∷◌, length, map, drop, Option, Some, None, refl, sym, ap, ◌∙◌, subst, arith}
 use Rattle.std.specs.Prelude.{nat_le, not}
+use Rattle.std.specs.List.{range_with_len}
 use Rattle.std.proofs.lemmas.Bool.{eq-eqb, le-ltb, lt-leb}
 use Rattle.std.proofs.lemmas.List.{length-map}
 use Rattle.std.proofs.lemmas.List.Sums.{sum_by-cons}
 use Rattle.heap_formula.specs.Words.{Each}
 use Rattle.cyc_lex.specs.declared.fault.IllFault.TheVariants.{Arity}
-use Rattle.cyc_lex.specs.declared.fault.What.TheVariants.{Atoms, Nodes, Terms, Variable as VariableLimit}
+use Rattle.cyc_lex.specs.declared.fault.What.TheVariants.{Arguments, Atoms, Nodes, Terms, Variable as VariableLimit}
 use Rattle.heap_reader.specs.Trees.{Heading}
 use Rattle.heap_reader.specs.Flaws.{Found, ill_if, over_if, or_later, listed_flaw, arity_in, use_flaw}
 use Rattle.heap_reader.proofs.NoFlaw.{none_later}
@@ -24,14 +25,17 @@ use Rattle.fo_formula.specs.Sizes.{words_size, atom_size, atoms_size, reason_siz
 use Rattle.fo_formula.specs.Values.{IsConstructor}
 use Rattle.fo_formula.specs.Words.{Word}
 use Rattle.fo_limits.specs.Limits.{IsSignWithin, IsTermWithin, TakesArguments, IsAtomWithin, IsSequentWithin, IsPairWithin, IsReasonWithin, IsNodeWithin}
-use Rattle.fo_term_syntax.specs.Trees.{Sign, Apply}
+use Rattle.fo_term_syntax.specs.Trees.{Sign, Apply, arguments_of}
 use Rattle.fo_term_syntax.specs.Places.{places_of, tokens_in}
 use Rattle.fo_walk.specs.declared.flaw.Scope.TheVariants.{Node as InNode}
 use Rattle.fo_walk.specs.AtomSpans.{atom_span, atoms_span, terms_in, total_terms}
+use Rattle.fo_walk.specs.Arguments.{numbers, numbers_behind, argument_flaw}
 use Rattle.fo_walk.specs.AtomFlaws.{variable_flaw, terms_flaw as term_limit, sign_flaw, signs_flaw, term_flaw, predicate_flaw, atom_flaw, atoms_flaw, side_flaw}
 use Rattle.fo_walk.specs.Spans.{term_span, entry_span, sequent_span, sequent_terms, node_span}
 use Rattle.fo_walk.specs.Flaws.{terms_flaw, entry_flaw, entries_flaw, sequent_flaw, reason_flaw, node_flaw}
 use Rattle.fo_values.specs.Written.{constructor_name, predicate_name, sign_tree, term_tree, atom_tree, atoms_tree, sequent_tree, entry_tree, reason_tree, node_tree}
+use Rattle.formula_facts.proofs.AllMembers.{each_append}
+use Rattle.fo_file.proofs.Flawless.{HasFewArguments, arity-few}
 use Rattle.fo_file.proofs.NodeTrees.{joined, joined-signs, joined-length, joined-tree, atom-terms, atoms-terms, sequent-terms}
 
 -- ---- names and limits
@@ -52,9 +56,36 @@ node-room n k h = ap (λ b. over_if b Nodes k) (lt-leb 20000 n h)
 variable-right : (k n : ℕ) → n ≤ 65534 → variable_flaw InNode k n ≡ None
 variable-right k n h = ap (λ b. over_if b VariableLimit k) (le-ltb 65534 n h)
 
+-- ---- arguments
+
+-- among the first eight
+abbrev pub IsEarly : ℕ → Type 0
+IsEarly n = n < 8
+
+early-numbers : (a n : ℕ) → a + n ≤ 8 → Each IsEarly (range_with_len a n)
+early-numbers a zero h = tt
+early-numbers a (suc n) h = (omega arith, early-numbers (a + 1) n (omega arith))
+
+early-rest : (ns : List ℕ) → Each IsEarly ns → Each IsEarly (drop 1 ns)
+early-rest [] h = tt
+early-rest (n ∷ ns) h = h.1
+
+early-behind : (s : Sign) (ns : List ℕ) → arguments_of s ≤ 8 → Each IsEarly ns → Each IsEarly (numbers_behind s ns)
+early-behind s ns few h =
+    each_append IsEarly (numbers (arguments_of s)) (drop 1 ns) (early-numbers 0 (arguments_of s) (omega arith)) (early-rest ns h)
+
+argument-right : (ns : List ℕ) (k : ℕ) → Each IsEarly ns → argument_flaw ns k ≡ None
+argument-right [] k h = refl
+argument-right (n ∷ ns) k h = ap (λ b. over_if b Arguments k) (lt-leb 8 n h.0)
+
 -- ---- signs and terms
 
-module _ (t : FoTheory) (cs : List Heading) (constructors : (c k : ℕ) → IsConstructor t.constructors c k → arity_in cs (constructor_name t c) ≡ Some k) where
+module _ (t : FoTheory) (cs : List Heading) (constructors : (c k : ℕ) → IsConstructor t.constructors c k → arity_in cs (constructor_name t c) ≡ Some k) (few_cs : Each HasFewArguments cs) where
+  few-arguments : (s : SignValue) → IsSignWithin t s → arguments_of (sign_tree t s) ≤ 8
+  few-arguments (signs.Universal n) is = omega arith
+  few-arguments (signs.Local n) is = absurd is
+  few-arguments (signs.Constructor c a) is = arity-few cs few_cs (constructor_name t c) a (constructors c a is)
+
   sign-right : (m k : ℕ) (limit : Found) (s : SignValue) → limit ≡ None → m < 4096 → IsSignWithin t s
       → sign_flaw cs InNode m k limit (sign_tree t s) ≡ None
   sign-right m k limit (signs.Universal n) e h is =
@@ -64,17 +95,21 @@ module _ (t : FoTheory) (cs : List Heading) (constructors : (c k : ℕ) → IsCo
       let name = constructor_name t c in
       none_later (use_flaw (arity_in cs name) a k) (or_later limit (term_limit m k)) (use-right (arity_in cs name) a k (constructors c a is)) (none_later limit (term_limit m k) e (term-room m k h))
 
-  signs-right : (m k : ℕ) (limit : Found) (w : Word) (places : List ℕ) → limit ≡ None → m + length w ≤ 4096
-      → Each (IsSignWithin t) w → signs_flaw cs InNode m k limit (term_tree t w) places ≡ None
-  signs-right m k limit [] places e h is = refl
-  signs-right m k limit (s ∷ w) [] e h is = refl
-  signs-right m k limit (s ∷ w) (p ∷ places) e h is =
-      none_later (sign_flaw cs InNode m (k + p) limit (sign_tree t s)) (signs_flaw cs InNode (m + 1) k None (term_tree t w) places)
-      (sign-right m (k + p) limit s e (omega arith) is.0) (signs-right (m + 1) k None w places refl (omega arith) is.1)
+  signs-right : (ns : List ℕ) (m k : ℕ) (limit : Found) (w : Word) (places : List ℕ) → Each IsEarly ns → limit ≡ None
+      → m + length w ≤ 4096 → Each (IsSignWithin t) w → signs_flaw cs InNode ns m k limit (term_tree t w) places ≡ None
+  signs-right ns m k limit [] places early e h is = refl
+  signs-right ns m k limit (s ∷ w) [] early e h is = refl
+  signs-right ns m k limit (s ∷ w) (p ∷ places) early e h is =
+      let tree = sign_tree t s in
+      let here = or_later limit (argument_flaw ns (k + p)) in
+      let next = early-behind tree ns (few-arguments s is.0) early in
+      none_later (sign_flaw cs InNode m (k + p) here tree) (signs_flaw cs InNode (numbers_behind tree ns) (m + 1) k None (term_tree t w) places)
+      (sign-right m (k + p) here s (none_later limit (argument_flaw ns (k + p)) e (argument-right ns (k + p) early)) (omega arith) is.0)
+      (signs-right (numbers_behind tree ns) (m + 1) k None w places next refl (omega arith) is.1)
 
   term-right : (m k : ℕ) (limit : Found) (w : Word) → limit ≡ None → m + length w ≤ 4096 → IsTermWithin t w
       → term_flaw cs InNode m k limit (term_tree t w) ≡ None
-  term-right m k limit w e h is = signs-right m k limit w (places_of (term_tree t w)) e h is.1
+  term-right m k limit w e h is = signs-right [] m k limit w (places_of (term_tree t w)) tt e h is.1
 
   -- ---- the terms of reasons
 
@@ -106,16 +141,17 @@ module _ (t : FoTheory) (cs : List Heading) (constructors : (c k : ℕ) → IsCo
 
   -- ---- atoms and sequents
 
-  module _ (ps : List Heading) (predicates : (p n : ℕ) → TakesArguments t p n → arity_in ps (predicate_name t p) ≡ Some n) where
+  module _ (ps : List Heading) (predicates : (p n : ℕ) → TakesArguments t p n → arity_in ps (predicate_name t p) ≡ Some n) (few_ps : Each HasFewArguments ps) where
     predicate-right : (m k : ℕ) (limit : Found) (p n : ℕ) (w : Word) → limit ≡ None → m + length w ≤ 4096
         → TakesArguments t p n → Each (IsSignWithin t) w
         → predicate_flaw cs InNode ps m k limit (Apply (predicate_name t p) n ∷ term_tree t w) ≡ None
     predicate-right m k limit p n w e h takes is =
         let name = predicate_name t p in
         let places = drop 1 (places_of (Apply name n ∷ term_tree t w)) in
-        none_later (use_flaw (arity_in ps name) n k) (or_later limit (signs_flaw cs InNode m k None (term_tree t w) places))
+        let few = arity-few ps few_ps name n (predicates p n takes) in
+        none_later (use_flaw (arity_in ps name) n k) (or_later limit (signs_flaw cs InNode (numbers n) m k None (term_tree t w) places))
         (use-right (arity_in ps name) n k (predicates p n takes))
-        (none_later limit (signs_flaw cs InNode m k None (term_tree t w) places) e (signs-right m k None w places refl h is))
+        (none_later limit (signs_flaw cs InNode (numbers n) m k None (term_tree t w) places) e (signs-right (numbers n) m k None w places (early-numbers 0 n (omega arith)) refl h is))
 
     atom-right : (m k : ℕ) (limit : Found) (x : FoAtom) → limit ≡ None → m + atom_size x ≤ 4096 → IsAtomWithin t x
         → atom_flaw cs InNode ps m k limit (atom_tree t x) ≡ None

@@ -19,6 +19,7 @@ use Rattle.fo_problem_syntax.specs.Trees.{Sequent}
 use Rattle.fo_problem_syntax.specs.Grammar.{sequent}
 use Rattle.fo_walk.specs.declared.flaw.Scope.TheVariants.{Node as InNode}
 use Rattle.fo_walk.specs.AtomSpans.{atom_span, atoms_span, terms_in, total_terms, IsAtom, AreAtoms}
+use Rattle.fo_walk.specs.Arguments.{numbers, numbers_behind, argument_flaw}
 use Rattle.fo_walk.specs.AtomFlaws.{variable_flaw, terms_flaw, sign_flaw, signs_flaw, term_flaw, atom_flaw, atoms_flaw, side_flaw}
 use Rattle.fo_walk.proofs.Walks.{one-term}
 use Rattle.fo_walk.specs.Parts.{IsSequent}
@@ -47,20 +48,21 @@ module _ (cs : List Heading) where
   sign-outside m k limit (Local n) f e = let no = f.0 in absurd cc
   sign-outside m k limit (Apply name n) f e = tt
 
-  signs-outside : (m k : ℕ) (limit : Found) (ss : List Sign) (ps : List ℕ) → length ss ≤ length ps → FitSigns false ss
-      → signs_flaw cs InNode m k limit ss ps ≡ None → Each IsOutside ss
-  signs-outside m k limit [] ps le f e = tt
-  signs-outside m k limit (s ∷ ss) [] le f e = absurd (omega arith)
-  signs-outside m k limit (s ∷ ss) (p ∷ ps) le f e =
-      let both = neither (sign_flaw cs InNode m (k + p) limit s) (signs_flaw cs InNode (m + 1) k None ss ps) e in
-      (sign-outside m (k + p) limit s f.0 both.0, signs-outside (m + 1) k None ss ps (omega arith) f.1 both.1)
+  signs-outside : (ns : List ℕ) (m k : ℕ) (limit : Found) (ss : List Sign) (ps : List ℕ) → length ss ≤ length ps → FitSigns false ss
+      → signs_flaw cs InNode ns m k limit ss ps ≡ None → Each IsOutside ss
+  signs-outside ns m k limit [] ps le f e = tt
+  signs-outside ns m k limit (s ∷ ss) [] le f e = absurd (omega arith)
+  signs-outside ns m k limit (s ∷ ss) (p ∷ ps) le f e =
+      let here = or_later limit (argument_flaw ns (k + p)) in
+      let both = neither (sign_flaw cs InNode m (k + p) here s) (signs_flaw cs InNode (numbers_behind s ns) (m + 1) k None ss ps) e in
+      (sign-outside m (k + p) here s f.0 both.0, signs-outside (numbers_behind s ns) (m + 1) k None ss ps (omega arith) f.1 both.1)
 
   term-outside : (m k : ℕ) (limit : Found) (t : List Sign) → (term false).fits t
       → term_flaw cs InNode m k limit t ≡ None → Each IsOutside t
   term-outside m k limit t f e =
       let signs = term-signs false t f in
       let count = places-count t signs.0 in
-      signs-outside m k limit t (places_of t) (omega arith) signs.1 e
+      signs-outside [] m k limit t (places_of t) (omega arith) signs.1 e
 
   module _ (ps : List Heading) where
     atom-outside : (m k : ℕ) (limit : Found) (a : Atom) → IsAtom a → (atom false).fits a
@@ -77,9 +79,9 @@ module _ (cs : List Heading) where
         let count : length (places_of (Apply name n ∷ ss)) ≡ length (Apply name n ∷ ss) + 1 = places-count (Apply name n ∷ ss) (one-term name n ss is) in
         let some : length (places_of (Apply name n ∷ ss)) ≡ suc (length places) = refl in
         let signs = (term-signs false (Apply name n ∷ ss) (alone false (Apply name n ∷ ss) f).fits).1 in
-        let a = neither (use_flaw (arity_in ps name) n k) (or_later limit (signs_flaw cs InNode m k None ss places)) e in
-        let b = neither limit (signs_flaw cs InNode m k None ss places) a.1 in
-        signs-outside m k None ss places (omega arith) signs.1 b.1
+        let a = neither (use_flaw (arity_in ps name) n k) (or_later limit (signs_flaw cs InNode (numbers n) m k None ss places)) e in
+        let b = neither limit (signs_flaw cs InNode (numbers n) m k None ss places) a.1 in
+        signs-outside (numbers n) m k None ss places (omega arith) signs.1 b.1
 
     atoms-outside : (most n m k : ℕ) (limit : Found) (xs : List Atom) → AreAtoms xs → Each (atom false).fits xs
         → atoms_flaw cs InNode ps most n m k limit xs ≡ None → Each (InAtom IsOutside) xs

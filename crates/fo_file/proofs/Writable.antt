@@ -30,6 +30,7 @@ use Rattle.fo_file.specs.Reading.{IsWritable, IsWritableProblem}
 use Rattle.fo_file.proofs.Fitted.{definitions-fit, problem-parts}
 use Rattle.fo_file.proofs.NodeTrees.{are-terms}
 use Rattle.fo_file.proofs.NodesFit.{node-fits, nodes-made}
+use Rattle.fo_file.proofs.FlawlessParts.{constructors-few, few-heads, few-predicates}
 use Rattle.fo_file.proofs.NodesFlawless.{nodes-right}
 use Rattle.fo_file.proofs.Places.{constructor-arity, predicate-arity}
 use Rattle.formula_facts.proofs.AllMembers.{each_imply, each_made}
@@ -133,7 +134,9 @@ module _ (p : FoProblem) (writable : IsWritableProblem p) (ns : List FoNode) (wi
       let theory = neither (constructors_flaw tree.constructors) (definitions_flaw tree.constructors tree.definitions) theory-right in
       let names = constructor-arity t.constructors theory.0 in
       let predicates = predicate-arity (constructor_heads tree.constructors) _ t t.definitions theory.1 in
-      nodes-right t (constructor_heads tree.constructors) names (predicate_heads tree.definitions) predicates 0 k ns (omega arith) within
+      let few_cs = few-heads tree.constructors (constructors-few tree.constructors theory.0).0 in
+      let few_ps = few-predicates (constructor_heads tree.constructors) (predicate_heads tree.definitions) _ tree.definitions theory.1 in
+      nodes-right t (constructor_heads tree.constructors) names few_cs (predicate_heads tree.definitions) predicates few_ps 0 k ns (omega arith) within
 
 pub nodes-writable : (p : FoProblem) (ns : List FoNode) → IsFoQuestion p → IsWritableProblem p → 0 < length ns
     → length ns ≤ 20000 → Each (IsNodeWithin p.theory) ns → IsWritable (record { theory = p.theory; nodes = ns })

@@ -1,3 +1,4 @@
+pub mod NextNinth
 pub mod Walks
 pub mod Counts
 pub mod Parsed

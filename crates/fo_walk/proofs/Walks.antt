@@ -1,9 +1,12 @@
 -- A walk over signs, one after the other.
-use Rattle.std.proofs.Common.{◌≡◌, ℕ, zero, suc, ◌+◌, ◌-◌, ◌≤◌, List, [], ◌∷◌, ◌++◌, length, length-append, get_or, drop, take, Some, None, refl, sym, ap, subst, ◌∙◌, arith}
+use Rattle.std.proofs.Common.{◌≡◌, ℕ, zero, suc, ◌+◌, ◌-◌, ◌<◌, ◌≤◌, List, [], ◌∷◌, ◌++◌, length, length-append, get_or, drop, take, Some, None, refl, sym, ap, subst, ◌∙◌, arith}
+use Rattle.std.specs.Prelude.{nat_lt}
 use Rattle.std.proofs.lemmas.List.{take_all}
+use Rattle.cyc_lex.specs.declared.fault.What.TheVariants.{Locals, Terms}
 use Rattle.heap_reader.specs.declared.flaw.Flaw.{Flaw}
 use Rattle.heap_reader.specs.Trees.{Heading}
-use Rattle.heap_reader.specs.Flaws.{Found, or_later}
+use Rattle.heap_reader.specs.Flaws.{Found, over_if, or_later, arity_in, use_flaw}
+use Rattle.heap_reader.proofs.NoFlaw.{neither, not_over, below}
 use Rattle.fo_term_syntax.specs.Trees.{Sign, Variable, Local, Apply, AreTerms}
 use Rattle.fo_term_syntax.specs.declared.bracket.Awaited.TheVariants.{First}
 use Rattle.fo_term_syntax.specs.Brackets.{brackets}
@@ -11,21 +14,39 @@ use Rattle.fo_term_syntax.specs.Grammar.{IsTerm}
 use Rattle.fo_term_syntax.specs.Places.{places_of, tokens_in, marks_at, marks_end}
 use Rattle.fo_term_syntax.proofs.PlaceLaws.{HaveRoom, places-count}
 use Rattle.fo_walk.specs.declared.flaw.Scope.{Scope}
-use Rattle.fo_walk.specs.AtomFlaws.{sign_flaw, signs_flaw}
+use Rattle.fo_walk.specs.Arguments.{numbers_behind, argument_flaw}
+use Rattle.fo_walk.specs.AtomFlaws.{variable_flaw, terms_flaw, sign_flaw, signs_flaw}
 
-pub stepped : (cs : List Heading) (scope : Scope) (m n k : ℕ) (limit : Found) (s : Sign) (ss whole : List Sign) (p : ℕ) (ps places : List ℕ) (total : Found) → whole ≡ s ∷ ss → places ≡ p ∷ ps → sign_flaw cs scope (m + n) (k + p) limit s ≡ None
-    → signs_flaw cs scope (m + n) k limit whole places ≡ total → signs_flaw cs scope (m + (n + 1)) k None ss ps ≡ total
-stepped cs scope m n k limit s ss whole p ps places total is at none so_far =
+-- where a sign has no flaw, nothing stands against it, and fewer than 4,096 terms are before it
+pub passed : (cs : List Heading) (scope : Scope) (m k : ℕ) (limit : Found) (s : Sign) → sign_flaw cs scope m k limit s ≡ None → (limit ≡ None) × (m < 4096)
+passed cs scope m k limit (Variable n) e =
+    let a = neither limit (or_later (terms_flaw m k) (variable_flaw scope (k + 1) n)) e in
+    let b = neither (terms_flaw m k) (variable_flaw scope (k + 1) n) a.1 in
+    (a.0, below 4096 m (not_over _ Terms k b.0))
+passed cs scope m k limit (Local n) e =
+    let a = neither limit (or_later (terms_flaw m k) (over_if (nat_lt 15 n) Locals (k + 1))) e in
+    let b = neither (terms_flaw m k) (over_if (nat_lt 15 n) Locals (k + 1)) a.1 in
+    (a.0, below 4096 m (not_over _ Terms k b.0))
+passed cs scope m k limit (Apply name n) e =
+    let a = neither (use_flaw (arity_in cs name) n k) (or_later limit (terms_flaw m k)) e in
+    let b = neither limit (terms_flaw m k) a.1 in
+    (b.0, below 4096 m (not_over _ Terms k b.1))
+
+pub stepped : (cs : List Heading) (scope : Scope) (ns : List ℕ) (m n k : ℕ) (limit here : Found) (s : Sign) (ss whole : List Sign) (p : ℕ) (ps places : List ℕ) (total : Found) → whole ≡ s ∷ ss → places ≡ p ∷ ps → here ≡ or_later limit (argument_flaw ns (k + p)) → sign_flaw cs scope (m + n) (k + p) here s ≡ None
+    → signs_flaw cs scope ns (m + n) k limit whole places ≡ total → signs_flaw cs scope (numbers_behind s ns) (m + (n + 1)) k None ss ps ≡ total
+stepped cs scope ns m n k limit here s ss whole p ps places total is at stands none so_far =
     let next : m + (n + 1) ≡ (m + n) + 1 = omega arith in
-    ap (λ j. signs_flaw cs scope j k None ss ps) next ∙ sym (ap (λ f. or_later f (signs_flaw cs scope ((m + n) + 1) k None ss ps)) none) ∙ sym (ap (λ x. signs_flaw cs scope (m + n) k limit x (p ∷ ps)) is) ∙ sym (ap (signs_flaw cs scope (m + n) k limit whole) at) ∙ so_far
+    let rest = λ (j : ℕ). signs_flaw cs scope (numbers_behind s ns) j k None ss ps in
+    ap rest next ∙ sym (ap (λ f. or_later f (rest ((m + n) + 1))) none) ∙ ap (λ f. or_later (sign_flaw cs scope (m + n) (k + p) f s) (rest ((m + n) + 1))) stands ∙ sym (ap (λ x. signs_flaw cs scope ns (m + n) k limit x (p ∷ ps)) is) ∙ sym (ap (signs_flaw cs scope ns (m + n) k limit whole) at) ∙ so_far
 
-pub faulty : (cs : List Heading) (scope : Scope) (m k : ℕ) (limit : Found) (s : Sign) (ss whole : List Sign) (p : ℕ) (ps places : List ℕ) (total : Found) (f : Flaw) → whole ≡ s ∷ ss → places ≡ p ∷ ps → sign_flaw cs scope m (k + p) limit s ≡ Some f
-    → signs_flaw cs scope m k limit whole places ≡ total → total ≡ Some f
-faulty cs scope m k limit s ss whole p ps places total f is at some so_far =
-    sym so_far ∙ ap (signs_flaw cs scope m k limit whole) at ∙ ap (λ x. signs_flaw cs scope m k limit x (p ∷ ps)) is ∙ ap (λ g. or_later g (signs_flaw cs scope (m + 1) k None ss ps)) some
+pub faulty : (cs : List Heading) (scope : Scope) (ns : List ℕ) (m k : ℕ) (limit here : Found) (s : Sign) (ss whole : List Sign) (p : ℕ) (ps places : List ℕ) (total : Found) (f : Flaw) → whole ≡ s ∷ ss → places ≡ p ∷ ps → here ≡ or_later limit (argument_flaw ns (k + p)) → sign_flaw cs scope m (k + p) here s ≡ Some f
+    → signs_flaw cs scope ns m k limit whole places ≡ total → total ≡ Some f
+faulty cs scope ns m k limit here s ss whole p ps places total f is at stands some so_far =
+    let rest = signs_flaw cs scope (numbers_behind s ns) (m + 1) k None ss ps in
+    sym so_far ∙ ap (signs_flaw cs scope ns m k limit whole) at ∙ ap (λ x. signs_flaw cs scope ns m k limit x (p ∷ ps)) is ∙ ap (λ g. or_later (sign_flaw cs scope m (k + p) g s) rest) (sym stands) ∙ ap (λ g. or_later g rest) some
 
-pub all-stepped : (cs : List Heading) (scope : Scope) (m k : ℕ) (limit : Found) (whole : List Sign) (places : List ℕ) (total : Found) → whole ≡ [] → signs_flaw cs scope m k limit whole places ≡ total → total ≡ None
-all-stepped cs scope m k limit whole places total none so_far = sym so_far ∙ ap (λ x. signs_flaw cs scope m k limit x places) none
+pub all-stepped : (cs : List Heading) (scope : Scope) (ns : List ℕ) (m k : ℕ) (limit : Found) (whole : List Sign) (places : List ℕ) (total : Found) → whole ≡ [] → signs_flaw cs scope ns m k limit whole places ≡ total → total ≡ None
+all-stepped cs scope ns m k limit whole places total none so_far = sym so_far ∙ ap (λ x. signs_flaw cs scope ns m k limit x places) none
 
 -- ---- room for places
 

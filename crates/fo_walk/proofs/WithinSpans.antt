@@ -17,6 +17,7 @@ use Rattle.fo_proof_syntax.specs.Trees.{Entry, Reason, Axiom, Refl, Clash, Decom
 use Rattle.fo_walk.specs.declared.flaw.Scope.{Scope}
 use Rattle.fo_walk.specs.declared.flaw.Scope.TheVariants.{Node as InNode, Case as InCase}
 use Rattle.fo_walk.specs.AtomSpans.{atom_span, atoms_span, terms_in, total_terms, IsAtom, AreAtoms}
+use Rattle.fo_walk.specs.Arguments.{numbers, numbers_behind, argument_flaw}
 use Rattle.fo_walk.specs.AtomFlaws.{variable_flaw, terms_flaw as count_flaw, sign_flaw, signs_flaw, term_flaw, predicate_flaw, atom_flaw, atoms_flaw, side_flaw}
 use Rattle.fo_walk.proofs.Walks.{length-tail, room-tail, one-term}
 use Rattle.fo_walk.proofs.Counts.{term_fewer}
@@ -51,6 +52,10 @@ variable_before (InCase arity) k n m h = ill_before (nat_le arity n) Parameter k
 count_before : (m k e : ℕ) → k < e → Before (count_flaw m k) e
 count_before m k e h = over_before (nat_le 4096 m) Terms k e h
 
+argument_before : (ns : List ℕ) (k e : ℕ) → k < e → Before (argument_flaw ns k) e
+argument_before [] k e h = tt
+argument_before (n ∷ ns) k e h = over_before (nat_le 8 n) Arguments k e h
+
 module _ (cs : List Heading) (scope : Scope) where
   sign_before : (m k e : ℕ) (limit : Found) (s : Sign) → k + 1 < e → Before limit e → Before (sign_flaw cs scope m k limit s) e
   sign_before m k e limit (Variable n) h l =
@@ -60,16 +65,18 @@ module _ (cs : List Heading) (scope : Scope) where
   sign_before m k e limit (Apply name n) h l =
       first_before (use_flaw (arity_in cs name) n k) _ e (use_before (arity_in cs name) n k e (omega arith)) (first_before limit _ e l (count_before m k e (omega arith)))
 
-  signs_before : (m k e : ℕ) (limit : Found) (ss : List Sign) (ps : List ℕ) → length ss < length ps → HaveRoom e ps → Before limit (k + e) → Before (signs_flaw cs scope m k limit ss ps) (k + e)
-  signs_before m k e limit [] ps some room l = tt
-  signs_before m k e limit (s ∷ ss) [] some room l = tt
-  signs_before m k e limit (s ∷ ss) (p ∷ []) some room l = absurd (omega (arith, some))
-  signs_before m k e limit (s ∷ ss) (p ∷ q ∷ ps) some room l =
-      first_before (sign_flaw cs scope m (k + p) limit s) _ (k + e) (sign_before m (k + p) (k + e) limit s (omega (arith, room.0)) l) (signs_before (m + 1) k e None ss (q ∷ ps) (omega (arith, some)) room.1 tt)
+  signs_before : (ns : List ℕ) (m k e : ℕ) (limit : Found) (ss : List Sign) (ps : List ℕ) → length ss < length ps → HaveRoom e ps → Before limit (k + e) → Before (signs_flaw cs scope ns m k limit ss ps) (k + e)
+  signs_before ns m k e limit [] ps some room l = tt
+  signs_before ns m k e limit (s ∷ ss) [] some room l = tt
+  signs_before ns m k e limit (s ∷ ss) (p ∷ []) some room l = absurd (omega (arith, some))
+  signs_before ns m k e limit (s ∷ ss) (p ∷ q ∷ ps) some room l =
+      let argument = argument_before ns (k + p) (k + e) (omega (arith, room.0)) in
+      let here = or_later limit (argument_flaw ns (k + p)) in
+      first_before (sign_flaw cs scope m (k + p) here s) _ (k + e) (sign_before m (k + p) (k + e) here s (omega (arith, room.0)) (first_before limit _ (k + e) l argument)) (signs_before (numbers_behind s ns) (m + 1) k e None ss (q ∷ ps) (omega (arith, some)) room.1 tt)
 
   term_before : (m k : ℕ) (limit : Found) (t : List Sign) → IsTerm t → Before limit (k + tokens_in t) → Before (term_flaw cs scope m k limit t) (k + tokens_in t)
   term_before m k limit t is l =
-      signs_before m k (tokens_in t) limit t (places_of t) (omega (arith, places-count t is)) (places-room t is) l
+      signs_before [] m k (tokens_in t) limit t (places_of t) (omega (arith, places-count t is)) (places-room t is) l
 
   module _ (ps : List Heading) where
     predicate_before : (m k : ℕ) (limit : Found) (t : List Sign) → IsApplication t → Before limit (k + tokens_in t) → Before (predicate_flaw cs scope ps m k limit t) (k + tokens_in t)
@@ -81,7 +88,7 @@ module _ (cs : List Heading) (scope : Scope) where
         let one = one-term name n ss is in
         let e = k + tokens_in t in
         let room = places-room t one in
-        first_before (use_flaw (arity_in ps name) n k) _ e (use_before (arity_in ps name) n k e (omega (arith, term_some t one))) (first_before limit _ e l (signs_before m k (tokens_in t) None ss (drop 1 (places_of t)) (omega (arith, places-count t one, length-tail (places_of t))) (room-tail (tokens_in t) (places_of t) room) tt))
+        first_before (use_flaw (arity_in ps name) n k) _ e (use_before (arity_in ps name) n k e (omega (arith, term_some t one))) (first_before limit _ e l (signs_before (numbers n) m k (tokens_in t) None ss (drop 1 (places_of t)) (omega (arith, places-count t one, length-tail (places_of t))) (room-tail (tokens_in t) (places_of t) room) tt))
 
     atom_before : (m k : ℕ) (limit : Found) (a : Atom) → IsAtom a → Before limit (k + 1) → Before (atom_flaw cs scope ps m k limit a) (k + atom_span a)
     atom_before m k limit (Equation t u) is l =

@@ -1,6 +1,5 @@
 -- The first flaw of terms and atoms, in the order of their tokens; at one token the order of the table: unknown, arity,
--- cases, atoms, terms. A ninth argument needs no place here: where all constructors and predicates have at most eight,
--- the name before it has another number of arguments than it should.
+-- arguments, cases, atoms, terms.
 use Rattle.std.specs.Prelude.{◌≡◌, ℕ, ◌+◌, nat_lt, nat_le, List, [], ◌∷◌, length, drop, Some, None, Result, Ok, Err}
 use Rattle.cyc_limits.specs.declared.TheConstants.{GREATEST_LOCAL, GREATEST_VARIABLE, MOST_TERMS}
 use Rattle.cyc_lex.specs.declared.fault.IllFault.TheVariants.{Parameter}
@@ -15,6 +14,7 @@ use Rattle.fo_walk.specs.declared.flaw.Reached.{Reached}
 use Rattle.fo_walk.specs.declared.flaw.Stop.{Stop}
 use Rattle.fo_walk.specs.declared.flaw.Stop.TheVariants.{Flaw, OutOfMemory}
 use Rattle.fo_walk.specs.AtomSpans.{atom_span, terms_in}
+use Rattle.fo_walk.specs.Arguments.{numbers, numbers_behind, argument_flaw}
 
 -- in a case $n is a parameter; elsewhere a number is at most 65,534
 abbrev pub variable_flaw : Scope → ℕ → ℕ → Found
@@ -33,14 +33,16 @@ module _ (constructors : List Heading) (scope : Scope) where
   sign_flaw m k limit (Local n) = or_later limit (or_later (terms_flaw m k) (over_if (nat_lt GREATEST_LOCAL n) Locals (k + 1)))
   sign_flaw m k limit (Apply name n) = or_later (use_flaw (arity_in constructors name) n k) (or_later limit (terms_flaw m k))
 
-  -- signs at these places, counted from token k on
-  abbrev pub signs_flaw : ℕ → ℕ → Found → List Sign → List ℕ → Found
-  signs_flaw m k limit [] ps = None
-  signs_flaw m k limit (s ∷ ss) [] = None
-  signs_flaw m k limit (s ∷ ss) (p ∷ ps) = or_later (sign_flaw m (k + p) limit s) (signs_flaw (m + 1) k None ss ps)
+  -- signs at these places, counted from token k on, of terms that are the arguments with these numbers
+  abbrev pub signs_flaw : List ℕ → ℕ → ℕ → Found → List Sign → List ℕ → Found
+  signs_flaw ns m k limit [] ps = None
+  signs_flaw ns m k limit (s ∷ ss) [] = None
+  signs_flaw ns m k limit (s ∷ ss) (p ∷ ps) =
+      or_later (sign_flaw m (k + p) (or_later limit (argument_flaw ns (k + p))) s) (signs_flaw (numbers_behind s ns) (m + 1) k None ss ps)
 
+  -- no application stands round it
   abbrev pub term_flaw : ℕ → ℕ → Found → List Sign → Found
-  term_flaw m k limit t = signs_flaw m k limit t (places_of t)
+  term_flaw m k limit t = signs_flaw [] m k limit t (places_of t)
 
   -- a term, the token between and a term; the limit stands against the first alone
   abbrev pub equation_flaw : ℕ → ℕ → Found → List Sign → List Sign → Found
@@ -52,13 +54,13 @@ module _ (constructors : List Heading) (scope : Scope) where
     abbrev pub name_flaw : Reached → Found → List ℕ → ℕ → List Sign → List ℕ → Found
     name_flaw from limit name n ss places =
         or_later (use_flaw (arity_in predicates name) n from.token)
-        (or_later limit (signs_flaw from.terms from.token None ss places))
+        (or_later limit (signs_flaw (numbers n) from.terms from.token None ss places))
 
     abbrev pub predicate_flaw : ℕ → ℕ → Found → List Sign → Found
     predicate_flaw m k limit [] = None
     predicate_flaw m k limit (Variable n ∷ ss) = None
     predicate_flaw m k limit (Local n ∷ ss) = None
-    predicate_flaw m k limit (Apply name n ∷ ss) = or_later (use_flaw (arity_in predicates name) n k) (or_later limit (signs_flaw m k None ss (drop 1 (places_of (Apply name n ∷ ss)))))
+    predicate_flaw m k limit (Apply name n ∷ ss) = or_later (use_flaw (arity_in predicates name) n k) (or_later limit (signs_flaw (numbers n) m k None ss (drop 1 (places_of (Apply name n ∷ ss)))))
 
     abbrev pub atom_flaw : ℕ → ℕ → Found → Atom → Found
     atom_flaw m k limit (Equation t u) = equation_flaw m k limit t u

@@ -1,4 +1,5 @@
 pub mod AtomSpans
+pub mod Arguments
 pub mod AtomFlaws
 pub mod Parts
 pub mod Spans

@@ -66,7 +66,7 @@ fn check_predicate(
 {
     check_use(predicates.arity_of(name), arguments, from.token)?;
     check_limit(limit)?;
-    walk_signs(constructors, scope, None, from, signs, places)
+    walk_signs(constructors, scope, None, from, arguments, signs, places)
 }
 
 /// A predicate's name with its arguments, which have these places, and the token after them.

@@ -5,6 +5,7 @@
 mod atom_walk;
 mod flaw;
 mod known;
+mod ninth;
 mod node_walk;
 mod reason_walk;
 mod term_walk;

@@ -1,14 +1,16 @@
 //! A walk over the signs of a term in the order of their tokens, up to the first flaw.
 
-ghost use Rattle.std.specs.Prelude.{◌+◌, ◌-◌, ◌<◌, ◌^◌, length, map, None};
-ghost use Rattle.fo_term_syntax.specs.Trees.{sign_of};
+ghost use Rattle.std.specs.Prelude.{◌≡◌, ◌+◌, ◌-◌, ◌<◌, ◌^◌, length, map, None};
+ghost use Rattle.fo_term_syntax.specs.Trees.{arguments_of, sign_of};
 ghost use Rattle.fo_term_syntax.specs.Grammar.{IsTerm};
 ghost use Rattle.fo_term_syntax.specs.Places.{tokens_in};
 ghost use Rattle.fo_term_syntax.proofs.PlaceLaws.{HaveRoom};
 ghost use Rattle.heap_reader.specs.Flaws.{use_flaw, IsName};
+ghost use Rattle.fo_walk.specs.Arguments.{numbers};
 ghost use Rattle.fo_walk.specs.AtomFlaws.{variable_flaw, terms_flaw, sign_flaw, signs_flaw, term_flaw, IsWalkFrom};
 
 use crate::flaw::{Reached, Scope, Stop};
+use crate::ninth::{argument_limit, ninth_behind};
 use cyc_lex::{IllFault, What};
 use cyc_limits::{GREATEST_LOCAL, GREATEST_VARIABLE, MOST_TERMS};
 use fo_term_syntax::{SignTree, places_of};
@@ -88,12 +90,24 @@ fn check_sign(
     }
 }
 
-/// Signs that begin at these places, counted from the token that is reached.
+/// How many terms come after a sign, as its arguments.
+fn arguments_of(sign: SignTree<'_>) -> usize
+    ensures { result ≡ arguments_of (sign_of sign.entry) }
+{
+    match sign {
+        SignTree::Apply(_, arguments) => arguments,
+        _ => 0,
+    }
+}
+
+/// Signs that begin at these places, counted from the token that is reached: those of so many arguments of an
+/// application, or, where these are none, of a term that stands alone.
 pub fn walk_signs(
     names: &Heads<'_>,
     scope: Scope,
     limit: Option<Flaw>,
     from: Reached,
+    arguments: usize,
     signs: &[SignTree<'_>],
     places: &[usize],
 ) -> Result<(), Flaw>
@@ -101,20 +115,17 @@ pub fn walk_signs(
     requires room { HaveRoom (2 ^ 64 - (from.token + 1)) places.now }
     requires terms { from.terms + length signs.now < 2 ^ 64 }
     ensures { IsName result
-        (signs_flaw names.now scope from.terms from.token limit (map sign_of signs.now) places.now) }
+        (signs_flaw names.now scope (numbers arguments) from.terms from.token limit
+        (map sign_of signs.now) places.now) }
 {
     let mut limit = limit;
+    let mut ninth = ninth_behind(None, arguments);
     for (n, sign) in signs.iter().enumerate() {
-        let place = places[n];
-        check_sign(
-            names,
-            scope,
-            from.terms + n,
-            from.token + place,
-            limit,
-            *sign,
-        )?;
+        let at = from.token + places[n];
+        let here = argument_limit(limit, ninth, at);
+        check_sign(names, scope, from.terms + n, at, here, *sign)?;
         limit = None;
+        ninth = ninth_behind(ninth, arguments_of(*sign));
     }
     Ok(())
 }
@@ -136,7 +147,7 @@ pub fn walk_term(
         (tokens_in (map sign_of signs.now)) (length signs.now) }
 {
     let places = places_of(alloc, signs)?;
-    match walk_signs(names, scope, limit, from, signs, &places) {
+    match walk_signs(names, scope, limit, from, 0, signs, &places) {
         Ok(()) => Ok(Reached {
             token: from.token + places[signs.len()],
             terms: from.terms + signs.len(),

@@ -3,3 +3,4 @@ pub mod OneAnswer
 pub mod OneCheck
 pub mod OneFault
 pub mod OneReading
+pub mod Exits

@@ -7,9 +7,12 @@ ghost use Rattle.pair_family.specs.Statements.{IsSatisfiable};
 ghost use Rattle.cyc_runs.specs.Endings.{is_answer};
 ghost use Rattle.sat_answers.specs.Answers.{IsPairsAnswer, IsSaid};
 
+mod laws;
+
 use cyc_memory::OutOfMemory;
 use cyc_runs::{Answer, Status, Tool, answer_to_fault, fixed_answer};
 use formula_reader::{Problem, read_problem};
+pub use laws::impossible_antecedents_entail;
 use problem_files::problem_is_within;
 use rule_table::antecedent;
 use sat_pairs::{PairFault, base_pairs, satisfiable};

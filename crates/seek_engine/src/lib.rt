@@ -15,8 +15,10 @@ pub use cyc_memory::OutOfMemory;
 pub use draft::{Draft, DraftEdge, DraftNode, MOST_NODES};
 pub use engine::{Outcome, search};
 pub use entailments::{
-    Entailments, LAST_STAGE, Matcher, Matching, args_of, arguments, companions, distinct_for,
-    is_alike, last_stage, mentions, no_moves, one_move, one_rule, stage_of, terms_of, value_of,
+    Entailments, LAST_STAGE, Matcher, Matching, companions, distinct_for, first_equation,
+    last_stage, no_moves, one_move, one_rule, stage_of, value_of,
 };
 pub use moves::{Aim, Move, Stage, Step, Strategy};
+pub use seek_shapes::{args_of, arguments, is_alike, mentions, terms_of};
 pub use setting::Setting;
+pub use traces::{close_by_link, progresses};

@@ -62,8 +62,8 @@ fn push_nodes(graph: &mut TraceGraph, alloc: Global, draft: &Draft) -> Result<()
     Ok(())
 }
 
-/// Whether every lasso progresses, as far as few product states tell.
-fn progresses(alloc: Global, draft: &Draft) -> Result<bool, OutOfMemory> {
+/// Whether every lasso of the draft progresses, as far as few product states tell.
+pub fn progresses(alloc: Global, draft: &Draft) -> Result<bool, OutOfMemory> {
     let mut graph = TraceGraph::new(alloc);
     push_nodes(&mut graph, alloc, draft)?;
     if !is_graph(&graph) {
@@ -120,6 +120,18 @@ fn push_link_edge(
     }
 }
 
+/// Closes a node by a link, with the pairs of its map; a link with a fault has none, and no edge.
+pub fn close_by_link(
+    setting: &Setting<'_>,
+    draft: &mut Draft,
+    bud: u32,
+    companion: u32,
+    link: Link,
+) -> Result<(), OutOfMemory> {
+    draft.close(bud, Reason::Back(link), Vec::new(setting.alloc));
+    push_link_edge(setting, draft, bud, companion)
+}
+
 /// Closes a node by the first link to a companion with which every lasso of the draft progresses, if there is one.
 pub fn link(
     setting: &Setting<'_>,
@@ -129,8 +141,7 @@ pub fn link(
 ) -> Result<bool, OutOfMemory> {
     let kept = draft.len();
     for link in links(setting, draft, bud, companion)? {
-        draft.close(bud, Reason::Back(link), Vec::new(setting.alloc));
-        push_link_edge(setting, draft, bud, companion)?;
+        close_by_link(setting, draft, bud, companion, link)?;
         match progresses(setting.alloc, draft) {
             Ok(false) => draft.reopen(bud, kept),
             other => return other,

@@ -12,12 +12,14 @@ ghost use Rattle.seek_top.specs.Answers.{EndAlike, IsAnswer, WroteProof};
 
 mod checking;
 mod finding;
+mod program;
 mod seeker;
 mod seeking;
 
 use cyc_io::{Sink, Source};
 pub use cyc_runs::Status;
 use cyc_runs::{fixed_answer, give_made, run_over};
+pub use program::run_program;
 use seeker::Seeker;
 pub use seeking::seek;
 use std::alloc::Global;

@@ -9,11 +9,21 @@ use formula_reader::Problem;
 use heap_formula::Judgement;
 use proof_file::ProofFile;
 use seek_engine::{Aim, Draft, Setting, search};
+use seek_lemmas::prove;
 use seek_programs::Programs;
+use seek_refutations::refutation;
 use std::alloc::Global;
 
-/// The steps of a search.
+/// The steps of the search with a goal stack: at first, and when the search by lemmas has found nothing.
+const FEW_STEPS: u32 = 300;
+
 const STEPS: u32 = 30_000;
+
+/// The steps of the search by lemmas.
+const LEMMA_STEPS: u32 = 20_000;
+
+/// The steps of the search for a contradiction.
+const REFUTATION_STEPS: u32 = 6_000;
 
 /// The greatest fuel at which an entailment is tried.
 const FUEL: u32 = 9;
@@ -21,11 +31,37 @@ const FUEL: u32 = 9;
 /// The most visits of a line on one way.
 const VISITS: u32 = 3;
 
-fn aim_at(goal: &Judgement) -> Aim {
-    match goal {
-        Judgement::Entail(_, _) => Aim::Deepen(FUEL),
-        Judgement::Term(_, _) => Aim::Rounds(VISITS),
+fn by_stack(
+    setting: Setting<'_>,
+    goal: &Judgement,
+    aim: Aim,
+    steps: u32,
+) -> Result<Option<Draft>, OutOfMemory> {
+    let mut strategy = Programs::new(setting);
+    let mut draft = Draft::new(setting.alloc, goal)?;
+    let outcome = search(&setting, &mut strategy, &mut draft, aim, steps)?;
+    if outcome.is_found {
+        Ok(Some(draft))
+    } else {
+        Ok(None)
     }
+}
+
+/// A proof of few steps; else one by lemmas; else one of many steps; else a contradiction on the left.
+fn of_entailment(setting: Setting<'_>, goal: &Judgement) -> Result<Option<Draft>, OutOfMemory> {
+    let short = by_stack(setting, goal, Aim::Deepen(FUEL), FEW_STEPS)?;
+    if short.is_some() {
+        return Ok(short);
+    }
+    let large = prove(setting, goal, LEMMA_STEPS)?;
+    if large.is_some() {
+        return Ok(large);
+    }
+    let long = by_stack(setting, goal, Aim::Deepen(FUEL), STEPS)?;
+    if long.is_some() {
+        return Ok(long);
+    }
+    refutation(setting, goal, REFUTATION_STEPS)
 }
 
 fn found(alloc: Global, problem: &Problem) -> Result<Option<Draft>, OutOfMemory> {
@@ -34,19 +70,9 @@ fn found(alloc: Global, problem: &Problem) -> Result<Option<Draft>, OutOfMemory>
         defs: &problem.defs,
         program: &problem.program,
     };
-    let mut strategy = Programs::new(setting);
-    let mut draft = Draft::new(alloc, &problem.goal)?;
-    let outcome = search(
-        &setting,
-        &mut strategy,
-        &mut draft,
-        aim_at(&problem.goal),
-        STEPS,
-    )?;
-    if outcome.is_found {
-        Ok(Some(draft))
-    } else {
-        Ok(None)
+    match &problem.goal {
+        Judgement::Entail(_, _) => of_entailment(setting, &problem.goal),
+        Judgement::Term(_, _) => by_stack(setting, &problem.goal, Aim::Rounds(VISITS), STEPS),
     }
 }
 

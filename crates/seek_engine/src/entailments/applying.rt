@@ -1,5 +1,4 @@
 // A companion as a lemma: what it entails comes in the place of atoms that its antecedent covers.
-use crate::entailments::atoms::{address, arguments};
 use crate::entailments::matching::{Matcher, Matching, value_of};
 use crate::entailments::offers::{Offers, companions, only};
 use crate::entailments::sequents::Sequent;
@@ -9,6 +8,7 @@ use heap_formula::{
     Heap, Judgement, Positions, Pure, Rule, Spatial, Subst, Term, apply_to_heap, apply_to_pure,
 };
 use rule_table::follows;
+use seek_shapes::{address, arguments};
 
 /// Adds terms for variables that only the companion's succedent has: those by which its atoms become atoms of the goal's.
 fn complete(

@@ -1,10 +1,10 @@
 // One atom of the antecedent for one predicate of the succedent, and the rest for the rest.
-use crate::entailments::atoms::shares_variable;
 use crate::entailments::offers::{Offers, only};
 use crate::entailments::sequents::Sequent;
 use cyc_memory::OutOfMemory;
 use heap_formula::{Heap, Positions, Rule, Spatial};
 use rule_table::is_universal_spatial;
+use seek_shapes::shares_variable;
 use std::alloc::Global;
 
 /// A list of one rule: Cut of the atom at a place by another atom.

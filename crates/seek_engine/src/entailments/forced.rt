@@ -1,12 +1,11 @@
 // Moves that lose nothing, so that no others are offered beside them.
-use crate::entailments::atoms::unifies;
 use crate::entailments::offers::{Offers, companions};
-use crate::entailments::predicates::first_existential;
 use crate::entailments::sequents::Sequent;
 use crate::{Aim, Draft, Move, Setting};
 use cyc_memory::OutOfMemory;
 use heap_formula::{Heap, Judgement, Pure, Rule, Side, Spatial, Term};
 use rule_table::{equated, follows, is_universal_pure};
+use seek_shapes::{first_existential, unifies};
 
 /// What a look at an entailment says.
 pub enum Sight {
@@ -18,7 +17,8 @@ pub enum Sight {
     Open,
 }
 
-fn first_equation(heap: &Heap) -> Option<Rule> {
+/// Rewrite by the first equation of an antecedent, from `nil` only where the other side is `nil` too.
+pub fn first_equation(heap: &Heap) -> Option<Rule> {
     for (k, atom) in heap.pure().iter().enumerate() {
         if let Pure::Eq(t, u) = *atom {
             let side = match (t, u) {

@@ -1,8 +1,8 @@
 // Maps of atoms into atoms under one substitution.
-use crate::entailments::atoms::{address, arguments, is_alike};
 use cyc_memory::OutOfMemory;
 use heap_formula::{Pure, Spatial, Term};
 use rule_table::equated;
+use seek_shapes::{address, arguments, is_alike};
 use std::alloc::Global;
 
 /// The greatest number of maps that are kept.

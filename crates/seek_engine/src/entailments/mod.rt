@@ -2,7 +2,6 @@
 //! lemma, as in Brotherston, Distefano and Petersen 2011) or by a part of the succedent.
 
 mod applying;
-mod atoms;
 mod disjuncts;
 mod dividing;
 mod forced;
@@ -13,8 +12,7 @@ mod sequents;
 mod strategy;
 mod unfolding;
 
-pub use atoms::{args_of, arguments, is_alike, mentions, terms_of};
-pub use forced::distinct_for;
+pub use forced::{distinct_for, first_equation};
 pub use matching::{Matcher, Matching, value_of};
 pub use offers::{companions, last_stage, no_moves, one_move, one_rule, stage_of};
 pub use strategy::{Entailments, LAST_STAGE};

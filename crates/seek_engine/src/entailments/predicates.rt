@@ -1,10 +1,10 @@
 // Cells and predicates of the succedent.
-use crate::entailments::atoms::{address, arguments, unifies};
 use crate::entailments::offers::Offers;
 use crate::entailments::sequents::Sequent;
 use crate::{Aim, Move};
 use heap_formula::{Args, Heap, Pure, Rule, Spatial, Term, exists_in_heap};
 use rule_table::{Change, changed_heap, is_universal, is_universal_pure};
+use seek_shapes::{address, arguments, first_existential, unifies};
 
 /// Frame of one atom with each that is equal.
 fn push_frames_of(offers: &mut Offers, sequent: &Sequent<'_>, i: u32, atom: &Spatial) {
@@ -77,16 +77,6 @@ pub fn is_all_cells(heap: &Heap) -> bool {
     !heap.spatial().is_empty()
 }
 
-/// The first existential among terms, with the field at its place.
-pub fn first_existential(terms: &[Term], fields: &[Term]) -> Option<(u16, Term)> {
-    for (place, term) in terms.iter().enumerate() {
-        if let (Term::Exist(variable), Some(field)) = (*term, fields.get(place)) {
-            return Some((variable, *field));
-        }
-    }
-    None
-}
-
 /// The first existential of a predicate's arguments, by an atom of the predicate that agrees.
 fn instance(atom: &Spatial, wanted: &Spatial) -> Option<(u16, Term)> {
     match (atom, wanted) {
@@ -154,13 +144,24 @@ fn is_false(atom: Pure) -> bool {
     }
 }
 
-fn has_cell(heap: &Heap) -> bool {
+fn cell_count(heap: &Heap) -> u32 {
+    let mut count: u32 = 0;
     for atom in heap.spatial() {
         if address(atom).is_some() {
-            return true;
+            count = count.saturating_add(1);
         }
     }
-    false
+    count
+}
+
+fn has_cell(heap: &Heap) -> bool {
+    cell_count(heap) > 0
+}
+
+/// Whether the antecedent has a cell for each of the succedent's with a body in the place of an atom.
+fn has_cells_for(sequent: &Sequent<'_>, body: &Heap) -> bool {
+    let wanted = cell_count(sequent.right).saturating_add(cell_count(body));
+    !has_cell(body) || wanted <= cell_count(sequent.left)
 }
 
 /// What a case's body costs on the right, if it may be tried: each cell needs a partner, and no pure atom is false on sight.
@@ -187,7 +188,7 @@ fn push_case(offers: &mut Offers, sequent: &Sequent<'_>, k: u32, c: u32, case: &
         return offers.lack_memory();
     };
     if let Some(cost) = cost_of_body(sequent.left, &body) {
-        if cost <= sequent.fuel {
+        if cost <= sequent.fuel && has_cells_for(sequent, &body) {
             offers.push_rule(Rule::UnfoldRight(k, c), Aim::Entail(sequent.fuel - cost));
         }
     }

@@ -1,9 +1,9 @@
 // Unfolding on the left.
 use crate::Aim;
-use crate::entailments::atoms::{mentions, shared_terms};
 use crate::entailments::offers::Offers;
 use cyc_memory::OutOfMemory;
 use heap_formula::{Heap, Rule, Spatial, Term};
+use seek_shapes::{mentions, shared_terms};
 use std::alloc::Global;
 
 /// How many terms the atom shares with the heaps.

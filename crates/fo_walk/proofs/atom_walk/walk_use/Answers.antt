@@ -6,6 +6,7 @@ use Rattle.fo_term_syntax.specs.Trees.{Apply, sign_of}
 use Rattle.fo_term_syntax.specs.Grammar.{IsTerm}
 use Rattle.fo_term_syntax.specs.Places.{places_of, tokens_in}
 use Rattle.fo_term_syntax.proofs.PlaceLaws.{places-count, places-room}
+use Rattle.fo_walk.specs.Arguments.{numbers}
 use Rattle.fo_walk.specs.AtomFlaws.{signs_flaw}
 use Rattle.fo_walk.proofs.Walks.{room-more, last-place, tail-of, length-tail, room-tail, one-term}
 use Rattle.fo_walk.proofs.atom_walk.walk_use.Goals as goal
@@ -51,4 +52,4 @@ returns-in-Ok c =
     let count : length c.args.others.now + 1 ≡ length t = omega (arith, length-map c.args.others.now sign_of) in
     let end : get_or c.args.places.now (length c.args.others.now + 1) 0 ≡ tokens_in t = ap (λ (ps : List ℕ). get_or ps (length c.args.others.now + 1) 0) c.requires.places ∙ ap (λ j. get_or (places_of t) j 0) count ∙ last-place t 0 is in
     let same : take (length c.args.places.now - 1) (drop 1 c.args.places.now) ≡ drop 1 (places_of t) = tail-of c.args.places.now ∙ ap (drop 1) c.requires.places in
-    (sym (ap (λ (ps : List ℕ). or_later (use_flaw (arity_in c.args.predicates.now c.args.name.now) c.args.arguments c.args.from.token) (or_later c.args.limit (signs_flaw c.args.constructors.now c.args.scope c.args.from.terms c.args.from.token None (map sign_of c.args.others.now) ps))) same) ∙ c.in-Ok.ensures, (omega (arith, end), refl))
+    (sym (ap (λ (ps : List ℕ). or_later (use_flaw (arity_in c.args.predicates.now c.args.name.now) c.args.arguments c.args.from.token) (or_later c.args.limit (signs_flaw c.args.constructors.now c.args.scope (numbers c.args.arguments) c.args.from.terms c.args.from.token None (map sign_of c.args.others.now) ps))) same) ∙ c.in-Ok.ensures, (omega (arith, end), refl))

@@ -1,4 +1,4 @@
-use Rattle.std.proofs.Common.{◌≡◌, ◌+◌, ◌-◌, ℕ, List, get_or, length, refl, sym, ap, ◌∙◌, arith}
+use Rattle.std.proofs.Common.{◌≡◌, ◌+◌, ◌-◌, ℕ, List, [], get_or, length, refl, sym, ap, ◌∙◌, arith}
 use Rattle.std.specs.Prelude.{map}
 use Rattle.std.proofs.lemmas.List.{length-map}
 use Rattle.fo_term_syntax.specs.Trees.{sign_of}
@@ -34,4 +34,4 @@ returns-in-Ok c =
     let t = map sign_of c.args.signs.now in
     let end : c.index.result.now ≡ tokens_in t = c.index.ensures ∙ ap (λ (ps : List ℕ). get_or ps (length c.args.signs.now) c.index.result.now) c.in_ok-places.ensures ∙ ap (λ j. get_or (places_of t) j c.index.result.now) (sym (length-map c.args.signs.now sign_of)) ∙ last-place t c.index.result.now c.requires.is in
     let same : c.deref.result.now ≡ places_of t = c.deref.ensures.value ∙ c.in_ok-places.ensures in
-    (sym (ap (signs_flaw c.args.names.now c.args.scope c.args.from.terms c.args.from.token c.args.limit t) same) ∙ c.in-Ok.ensures, (ap (λ j. c.args.from.token + j) end, refl))
+    (sym (ap (signs_flaw c.args.names.now c.args.scope [] c.args.from.terms c.args.from.token c.args.limit t) same) ∙ c.in-Ok.ensures, (ap (λ j. c.args.from.token + j) end, refl))

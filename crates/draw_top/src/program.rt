@@ -1,0 +1,33 @@
+// What the program does but for its calls to the host.
+ghost use Rattle.std.specs.Prelude.{◌≡◌, length, IsErr};
+ghost use Rattle.std.specs.Process.{exit_status};
+ghost use Rattle.cyc_runs.specs.Exits.{EndedBy, Wrote};
+ghost use Rattle.draw_top.specs.Answers.{IsAnswer};
+
+use crate::run;
+use cyc_io::{Sink, Source};
+use cyc_memory::OutOfMemory;
+use cyc_runs::exit_code;
+use std::alloc::Global;
+use std::process::ExitCode;
+
+/// What `main` does with the words of its command line, where memory held them, and with standard input and output: a run,
+/// and the number of its status.
+pub fn run_program<S: Source, K: Sink>(
+    alloc: Global,
+    words: Result<Vec<String>, OutOfMemory>,
+    src: &mut S,
+    out: &mut K,
+) -> ExitCode
+    // The number, 0 to 9, is that of a status that fits what was written.
+    ensures ended { EndedBy words (λ w ending. Wrote (IsAnswer (length w.items))
+        (S.left src.old) (K.written out.old) (K.written out.new) ending) (exit_status result) }
+    // Without words nothing is read, and nothing written.
+    ensures no_words { IsErr words → (src.new ≡ src.old) × (out.new ≡ out.old) }
+{
+    let ended = match words {
+        Ok(words) => Ok(run(alloc, words.as_slice(), src, out)),
+        Err(OutOfMemory) => Err(OutOfMemory),
+    };
+    exit_code(ended)
+}

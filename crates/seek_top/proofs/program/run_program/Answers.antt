@@ -1,0 +1,15 @@
+-- The number tells the status, and what `run` says of that status is so.
+use Rattle.std.proofs.Common.{rules, ◌≡◌, Ok, sym, ◌∙◌}
+use Rattle.std.specs.Process.{exit_status}
+use Rattle.cyc_runs.specs.declared.endings.Status.TheVariants.{Success}
+use Rattle.reading_facts.proofs.Exits.{zero_is_success}
+use Rattle.seek_top.proofs.program.run_program.Goals.{in-Ok, in-Err}
+use Rattle.seek_top.proofs.program.run_program.Goals as goal
+
+pub returns-clause-found : goal.returns-clause-found
+returns-clause-found g c none =
+    let e = zero_is_success c.match-words.ended (exit_status c.exit_code.result) c.exit_code.ensures none in
+    elim c.match-words.branch [
+      | in-Ok w ↦ let h = w.run.ensures.found (let f : Ok w.run.result ≡ Ok Success = sym w.ended-is ∙ e in cc) in search (rules, h)
+      | in-Err w ↦ absurd (let f = sym w.ended-is ∙ e in cc)
+    ]
