@@ -141,9 +141,10 @@ try_limits() {
   "$top/many" --megabytes 5 "$room/command" -- "$room/large" > "$room/table"
   [ $? = 1 ] && [[ $(sed -n 2p "$room/table") == memory$'\t'* ]] || fail "too little memory: $(sed -n 2p "$room/table")"
   "$top/many" --megabytes 500 "$room/command" -- "$room/large" > /dev/null || fail "enough memory ends with $?"
+  (export SHELL=/no/shell && "$top/many" "$room/command" -- "$room/large" > /dev/null) || fail "a shell that is not there: $?"
   printf '#!/bin/sh\nshift\n[ "$1" != -- ] || shift\ncd / && exec sh -c "$*"\n' > "$room/elsewhere"
   chmod +x "$room/elsewhere"
-  (cd "$room" && "$top/many" --sshlogin "1/$room/elsewhere one" --sshlogin "1/$room/elsewhere two" ./command -- 'many files'/number* > "$room/table") ||
+  (unset SHELL && cd "$room" && "$top/many" --sshlogin "1/$room/elsewhere one" --sshlogin "1/$room/elsewhere two" ./command -- 'many files'/number* > "$room/table") ||
     fail "two places end with $?: $(cat "$room/table")"
   "$top/many" x > /dev/null 2>&1
   [ $? = 2 ] || fail 'many without files does not end with 2'
