@@ -5,8 +5,8 @@ use Rattle.buchi_inclusion.specs.Answers.{HasAtMost}
 use Rattle.cyc_lex.specs.declared.fault.ReadFault.{ReadFault}
 use Rattle.proof_file.specs.declared.file.ProofFile.{ProofFile}
 use Rattle.proof_file.specs.Reading.{AreSame, IsRead}
-use Rattle.proof_check.specs.declared.verdict.Verdict.{Verdict}
-use Rattle.proof_check.specs.declared.verdict.Verdict.TheVariants.{Accepted, RuleRefused, PathRefused, TooManyStates}
+use Rattle.proof_check.specs.Verdicts.{Verdict}
+use Rattle.logics.specs.declared.verdict.Verdict.TheVariants.{Accepted, RuleRefused, PathRefused, TooManyStates}
 use Rattle.proof_check.specs.Verdicts.{file_graph, state_limit, IsCorrect, IsVerdict, RootHolds}
 use Rattle.proof_check.proofs.OneAnswer.{correct_is_accepted}
 use Rattle.cyc_runs.specs.declared.endings.Status.{Status}

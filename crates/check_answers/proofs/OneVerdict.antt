@@ -3,16 +3,16 @@ use Rattle.std.proofs.Common.{◌≡◌, ℕ, refl, sym, ap, subst, ◌∙◌, i
 use Rattle.std.specs.Prelude.{slice_get}
 use Rattle.heap_formula.specs.declared.proof_rules.RuleFault.{RuleFault}
 use Rattle.heap_formula.specs.Judgements.{JudgementHolds}
-use Rattle.rule_table.specs.Nodes.{Node, node_fault}
+use Rattle.node_reasons.specs.Graphs.{Node, node_fault}
 use Rattle.trace_pairs.specs.Lasso.{AllProgress, IsLasso, Progresses}
 use Rattle.buchi_inclusion.specs.Answers.{HasAtMost, HasMoreThan}
 use Rattle.buchi_inclusion.proofs.Exact.{not_both}
 use Rattle.cyc_texts.specs.Texts.{node_refused_text}
 use Rattle.proof_file.specs.declared.file.ProofFile.{ProofFile}
 use Rattle.proof_file.specs.Reading.{AreSame}
-use Rattle.proof_check.specs.declared.verdict.Verdict.{Verdict}
-use Rattle.proof_check.specs.declared.verdict.Verdict.TheVariants.{Accepted, RuleRefused, PathRefused, TooManyStates}
-use Rattle.proof_check.specs.Files.{AreRight, graph_of, nodes_of}
+use Rattle.proof_check.specs.Verdicts.{Verdict}
+use Rattle.logics.specs.declared.verdict.Verdict.TheVariants.{Accepted, RuleRefused, PathRefused, TooManyStates}
+use Rattle.proof_check.specs.Files.{AreRight, graph_of}
 use Rattle.proof_check.specs.Verdicts.{file_graph, state_limit, HasRightNodes, IsLeastFault, IsVerdict, RootHolds}
 use Rattle.reading_facts.specs.Alike.{AreOneCheck}
 use Rattle.reading_facts.proofs.OneCheck.{none_some, one_node, one_node_fault}
@@ -24,29 +24,29 @@ module _ (f g : ProofFile) (same : AreSame f g) where
   -- the same definitions, program and nodes have the same trace graph
   same_graph : file_graph f ≡ file_graph g
   same_graph =
-      ap (λ most. graph_of most f.defs.list f.program (nodes_of f.nodes)) same.most
-      ∙ ap (λ ds. graph_of g.defs.most ds f.program (nodes_of f.nodes)) same.definitions
-      ∙ ap (λ lines. graph_of g.defs.most g.defs.list lines (nodes_of f.nodes)) same.program
-      ∙ ap (λ nodes. graph_of g.defs.most g.defs.list g.program (nodes_of nodes)) same.nodes
+      ap (λ most. graph_of most f.defs.list f.program f.nodes) same.most
+      ∙ ap (λ ds. graph_of g.defs.most ds f.program f.nodes) same.definitions
+      ∙ ap (λ lines. graph_of g.defs.most g.defs.list lines f.nodes) same.program
+      ∙ ap (λ nodes. graph_of g.defs.most g.defs.list g.program nodes) same.nodes
 
   -- and each node the same fault, or none
-  same_fault : (v : ℕ) (node : Node) → node_fault f.defs.most f.defs.list f.program (nodes_of f.nodes) v node ≡ node_fault g.defs.most g.defs.list g.program (nodes_of g.nodes) v node
+  same_fault : (v : ℕ) (node : Node) → node_fault f.defs.most f.defs.list f.program f.nodes v node ≡ node_fault g.defs.most g.defs.list g.program g.nodes v node
   same_fault v node =
-      ap (λ most. node_fault most f.defs.list f.program (nodes_of f.nodes) v node) same.most
-      ∙ ap (λ ds. node_fault g.defs.most ds f.program (nodes_of f.nodes) v node) same.definitions
-      ∙ ap (λ lines. node_fault g.defs.most g.defs.list lines (nodes_of f.nodes) v node) same.program
-      ∙ ap (λ nodes. node_fault g.defs.most g.defs.list g.program (nodes_of nodes) v node) same.nodes
+      ap (λ most. node_fault most f.defs.list f.program f.nodes v node) same.most
+      ∙ ap (λ ds. node_fault g.defs.most ds f.program f.nodes v node) same.definitions
+      ∙ ap (λ lines. node_fault g.defs.most g.defs.list lines f.nodes v node) same.program
+      ∙ ap (λ nodes. node_fault g.defs.most g.defs.list g.program nodes v node) same.nodes
 
   -- and a node stands where it stood
-  same_place : (v : ℕ) → slice_get (nodes_of f.nodes) v ≡ slice_get (nodes_of g.nodes) v
-  same_place v = ap (λ nodes. slice_get (nodes_of nodes) v) same.nodes
+  same_place : (v : ℕ) → slice_get f.nodes v ≡ slice_get g.nodes v
+  same_place v = ap (λ nodes. slice_get nodes v) same.nodes
 
   same_right : HasRightNodes f → HasRightNodes g
   same_right right =
-      subst (λ nodes. AreRight g.defs.most g.defs.list g.program (nodes_of nodes)) same.nodes
-      (subst (λ lines. AreRight g.defs.most g.defs.list lines (nodes_of f.nodes)) same.program
-      (subst (λ ds. AreRight g.defs.most ds f.program (nodes_of f.nodes)) same.definitions
-      (subst (λ most. AreRight most f.defs.list f.program (nodes_of f.nodes)) same.most right)))
+      subst (λ nodes. AreRight g.defs.most g.defs.list g.program nodes) same.nodes
+      (subst (λ lines. AreRight g.defs.most g.defs.list lines f.nodes) same.program
+      (subst (λ ds. AreRight g.defs.most ds f.program f.nodes) same.definitions
+      (subst (λ most. AreRight most f.defs.list f.program f.nodes) same.most right)))
 
   same_least : (v : ℕ) (fault : RuleFault) → IsLeastFault f v fault → IsLeastFault g v fault
   same_least v fault least = record {
@@ -86,9 +86,9 @@ right_faulty f v fault right least = none_some fault _ (right v least.node least
 -- the least faulty node is one, and so is its line
 one_refusal : (f : ProofFile) (v w : ℕ) (x y : RuleFault) → IsLeastFault f v x → IsLeastFault f w y → node_refused_text v x ≡ node_refused_text w y
 one_refusal f v w x y a b =
-    let fault_of = node_fault f.defs.most f.defs.list f.program (nodes_of f.nodes) in
-    let node = one_node (nodes_of f.nodes) fault_of v w a.node b.node x y a.at b.at a.first b.first a.before b.before in
-    let fault = one_node_fault (nodes_of f.nodes) fault_of v w a.node b.node x y a.at b.at a.first b.first a.before b.before in
+    let fault_of = node_fault f.defs.most f.defs.list f.program f.nodes in
+    let node = one_node f.nodes fault_of v w a.node b.node x y a.at b.at a.first b.first a.before b.before in
+    let fault = one_node_fault f.nodes fault_of v w a.node b.node x y a.at b.at a.first b.first a.before b.before in
     λ i. node_refused_text (node i) (fault i)
 
 -- the verdicts on a file end a check in one way, and say the same but for the lasso

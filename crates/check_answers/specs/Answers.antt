@@ -2,12 +2,12 @@
 use Rattle.std.specs.Prelude.{◌≡◌, ◌+◌, ◌≤◌, ℕ, zero, suc, List, [], ◌∷◌, length, codes, count_by, Option, Result, Ok, Err, Bool}
 use Rattle.cyc_texts.specs.Texts.{accepted_text, node_refused_text, path_refused_text, states_limit_text}
 use Rattle.cyc_lex.specs.declared.fault.ReadFault.{ReadFault}
-use Rattle.proof_file.specs.declared.node.FileNode.{FileNode}
+use Rattle.proof_file.specs.FileNodes.{FileNode}
 use Rattle.proof_file.specs.declared.file.ProofFile.{ProofFile}
 use Rattle.proof_file.specs.Links.{is_link}
 use Rattle.proof_file.specs.Reading.{IsRead}
-use Rattle.proof_check.specs.declared.verdict.Verdict.{Verdict}
-use Rattle.proof_check.specs.declared.verdict.Verdict.TheVariants.{Accepted, RuleRefused, PathRefused, TooManyStates}
+use Rattle.proof_check.specs.Verdicts.{Verdict}
+use Rattle.logics.specs.declared.verdict.Verdict.TheVariants.{Accepted, RuleRefused, PathRefused, TooManyStates}
 use Rattle.proof_check.specs.Verdicts.{IsVerdict}
 use Rattle.file_reader.specs.Stages.{Parts, FileFrom}
 use Rattle.file_reader.specs.Pieces.{bytes_fed}

@@ -12,7 +12,7 @@ use Rattle.proof_file.specs.declared.file.ProofFile.{ProofFile}
 use Rattle.proof_file.specs.Reading.{IsRead}
 use Rattle.proof_file.specs.Written.{text_of_file}
 use Rattle.proof_text.proofs.Readings.{text_is_read}
-use Rattle.proof_check.specs.declared.verdict.Verdict.TheVariants.{Accepted}
+use Rattle.logics.specs.declared.verdict.Verdict.TheVariants.{Accepted}
 use Rattle.proof_check.specs.Files.{node_of}
 use Rattle.tableaux.specs.Tableau.{replay}
 use Rattle.search_moves.specs.Settings.{theory}

@@ -6,9 +6,8 @@ use Rattle.pred_defs.specs.Book.{DefinitionBook}
 use Rattle.proof_file.specs.declared.file.ProofFile.{ProofFile}
 use Rattle.proof_file.specs.Reading.{Reads}
 use Rattle.proof_text.proofs.Readings.{text_read_again}
-use Rattle.proof_check.specs.declared.verdict.Verdict.{Verdict}
-use Rattle.proof_check.specs.declared.verdict.Verdict.TheVariants.{Accepted}
-use Rattle.proof_check.specs.Files.{nodes_of}
+use Rattle.proof_check.specs.Verdicts.{Verdict}
+use Rattle.logics.specs.declared.verdict.Verdict.TheVariants.{Accepted}
 use Rattle.proof_check.specs.Verdicts.{IsVerdict}
 use Rattle.ring_family.specs.Ring.{ring_definitions, ring_nodes, file_nodes}
 use Rattle.ring_family.proofs.Accepted.{ring_is_accepted, ring_links}
@@ -41,7 +40,7 @@ read_ring_faultless f text fault e reads = text_read_again f text (Err fault) e 
 
 pub ring_accepted : (k : ℕ) (f : ProofFile) (v : Verdict) → 1 ≤ k → k ≤ 2000 → IsRing k f → IsVerdict f v → v ≡ Accepted
 ring_accepted k f v one few ring is =
-    ring_is_accepted k one few f ring.most ring.definitions ring.program (ap nodes_of ring.nodes ∙ nodes_again (ring_nodes k)) v is
+    ring_is_accepted k one few f ring.most ring.definitions ring.program (ring.nodes ∙ nodes_again (ring_nodes k)) v is
 
 pub ring_node_count : (k : ℕ) (f : ProofFile) → IsRing k f → length f.nodes ≡ 8 * k + 1
 ring_node_count k f ring = ap length ring.nodes ∙ nodes_long k

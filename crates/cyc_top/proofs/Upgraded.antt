@@ -9,9 +9,8 @@ use Rattle.proof_file.specs.declared.file.ProofFile.{ProofFile}
 use Rattle.proof_file.specs.Reading.{AreSame, IsRead}
 use Rattle.proof_file.specs.Upgrades.{IsUpgrade}
 use Rattle.proof_text.proofs.Readings.{text_is_read}
-use Rattle.proof_check.specs.declared.verdict.Verdict.{Verdict}
-use Rattle.proof_check.specs.declared.verdict.Verdict.TheVariants.{Accepted, RuleRefused, PathRefused, TooManyStates}
-use Rattle.proof_check.specs.Files.{nodes_of}
+use Rattle.proof_check.specs.Verdicts.{Verdict}
+use Rattle.logics.specs.declared.verdict.Verdict.TheVariants.{Accepted, RuleRefused, PathRefused, TooManyStates}
 use Rattle.proof_check.specs.Verdicts.{IsVerdict, RootHolds, state_limit}
 use Rattle.proof_check.proofs.Upgraded.{correct_again, same_graph}
 use Rattle.cyc_words.specs.declared.tasks.Task.{Task}
@@ -33,7 +32,7 @@ root_again : (f g : ProofFile) → IsUpgrade f g → RootHolds f → RootHolds g
 root_again f g up holds root at =
     subst (λ ds. JudgementHolds ds g.program root.judgement) (sym up.definitions)
     (subst (λ lines. JudgementHolds f.defs.list lines root.judgement) (sym up.program)
-    (holds root (subst (λ nodes. slice_get (nodes_of nodes) 0 ≡ Some root) up.nodes at)))
+    (holds root (subst (λ nodes. slice_get nodes 0 ≡ Some root) up.nodes at)))
 
 -- an accepted file is accepted when it is upgraded
 accepted_again : (f g : ProofFile) → IsUpgrade f g → IsVerdict f Accepted → IsVerdict g Accepted

@@ -4,17 +4,16 @@ ghost use Rattle.std.specs.Option.{option_copied};
 ghost use Rattle.search_moves.specs.Settings.{theory};
 ghost use Rattle.derivation_moves.specs.Effects.{Leaves, IsEffectBy, IsEffect};
 ghost use Rattle.node_reasons.specs.Answers.{companion_in};
-ghost use Rattle.proof_graph.specs.Traces.{trace_pairs_of};
 ghost use Rattle.search_calculus.specs.Calculus.{judgement_of, traced};
 
 use cyc_memory::OutOfMemory;
 use goto_lang::Program;
-use heap_formula::{Judgement, Pair, Premise, Reason, RuleError};
-use node_reasons::premises_by_reason;
+use heap_formula::{Judgement, Premise, Reason, RuleError};
+use node_reasons::{premises_by_reason, traced_pairs};
 use pred_defs::Defs;
 use proof_graph::PremisePairs;
 use std::alloc::Global;
-use tableaux::{MadeNode, OpenGoal, Subgoal, TracePairs};
+use tableaux::{MadeNode, OpenGoal, Subgoal};
 
 /// What a reason makes of a goal: the subgoals that it leaves to be proved, and the trace pairs of its edges. A link
 /// leaves nothing, and has one edge.
@@ -22,17 +21,6 @@ use tableaux::{MadeNode, OpenGoal, Subgoal, TracePairs};
 pub struct GraphEffect {
     pub premises: Vec<Subgoal<Judgement>>,
     pub pairs: PremisePairs,
-}
-
-/// The pairs as the automaton has them.
-fn traced_pairs(alloc: Global, pairs: &[Pair]) -> Result<TracePairs, OutOfMemory>
-    ensures { IfOk result (λ p. p ≡ trace_pairs_of pairs.now) }
-{
-    let mut triples = Vec::new(alloc);
-    for pair in pairs {
-        triples.push((pair.old, pair.new, pair.progress))?;
-    }
-    Ok(TracePairs::from_vec(triples))
 }
 
 /// The effect of a rule with these premises.

@@ -11,11 +11,10 @@ use Rattle.heap_formula.specs.Symbolic.{SymbolicHeap}
 use Rattle.heap_formula.specs.Values.{Stack}
 use Rattle.heap_formula.specs.Cells.{Cells}
 use Rattle.std.specs.Prelude.{slice_get}
-use Rattle.rule_table.specs.Nodes.{Node}
+use Rattle.node_reasons.specs.Graphs.{Node}
 use Rattle.formula_reader.specs.declared.problem.Problem.{Problem}
 use Rattle.proof_file.specs.declared.file.ProofFile.{ProofFile}
-use Rattle.proof_check.specs.declared.verdict.Verdict.TheVariants.{Accepted}
-use Rattle.proof_check.specs.Files.{nodes_of}
+use Rattle.logics.specs.declared.verdict.Verdict.TheVariants.{Accepted}
 use Rattle.proof_check.specs.Verdicts.{IsVerdict}
 use Rattle.counter_model.specs.FirstCounter.{IsFirstCounter}
 use Rattle.disprove_answers.specs.Answers.{OnEntailment, IsRefuted}
@@ -43,7 +42,7 @@ pub refuted_fails : (n : ℕ) (ds : List Definition) (lines : List Command) (g :
 refuted_fails n ds lines (Entail a bs) r holds = r.2.counter.disjuncts (holds r.0 r.1 r.2.counter.antecedent)
 refuted_fails n ds lines (Runs i a) r holds = r
 
-pub no_proof : (n : ℕ) (p : Problem) (f : ProofFile) (root : Node) → IsRefuted n p → f.defs.list ≡ p.defs.list → slice_get (nodes_of f.nodes) 0 ≡ Some root → root.judgement ≡ p.goal → IsVerdict f Accepted → ⊥
+pub no_proof : (n : ℕ) (p : Problem) (f : ProofFile) (root : Node) → IsRefuted n p → f.defs.list ≡ p.defs.list → slice_get f.nodes 0 ≡ Some root → root.judgement ≡ p.goal → IsVerdict f Accepted → ⊥
 no_proof n p f root r d at e verdict =
     let holds : JudgementHolds f.defs.list f.program root.judgement = verdict.2 root at in
     let here : JudgementHolds p.defs.list f.program p.goal = subst (λ (g : Judgement). JudgementHolds p.defs.list f.program g) e (subst (λ (ds : List Definition). JudgementHolds ds f.program root.judgement) d holds) in

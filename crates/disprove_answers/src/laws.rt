@@ -3,10 +3,9 @@ ghost use Rattle.std.specs.Prelude.{◌≡◌, ◌≤◌, ℕ, List, Some, lengt
 ghost use Rattle.heap_formula.specs.declared.commands.Command.{Command};
 ghost use Rattle.heap_formula.specs.Judgements.{JudgementHolds};
 ghost use Rattle.formula_reader.specs.declared.problem.Problem.{Problem};
-ghost use Rattle.rule_table.specs.Nodes.{Node};
+ghost use Rattle.node_reasons.specs.Graphs.{Node};
 ghost use Rattle.proof_file.specs.declared.file.ProofFile.{ProofFile};
-ghost use Rattle.proof_check.specs.declared.verdict.Verdict.{Verdict};
-ghost use Rattle.proof_check.specs.Files.{nodes_of};
+ghost use Rattle.proof_check.specs.Verdicts.{Verdict};
 ghost use Rattle.proof_check.specs.Verdicts.{IsVerdict};
 ghost use Rattle.cyc_runs.specs.declared.endings.Status.{Status};
 ghost use Rattle.cyc_runs.specs.Runs.{input_limit};
@@ -22,7 +21,7 @@ pub fn refuted_goals_do_not_hold()
 /// No proof file over the problem's definitions whose first node has such a goal is accepted by a check.
 pub fn refuted_goals_have_no_proof()
     ensures { (n : ℕ) (problem : Problem) (file : ProofFile) (root : Node) → IsRefuted n problem
-        → file.defs.list ≡ problem.defs.list → slice_get (nodes_of file.nodes) 0 ≡ Some root
+        → file.defs.list ≡ problem.defs.list → slice_get file.nodes 0 ≡ Some root
         → root.judgement ≡ problem.goal → ¬ IsVerdict file Verdict.Accepted }
 {}
 

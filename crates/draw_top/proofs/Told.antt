@@ -9,7 +9,7 @@ use Rattle.cyc_runs.proofs.Told.{some_told}
 use Rattle.draw_top.specs.Graphs.{Drawing}
 use Rattle.draw_top.specs.Texts.{graph_text}
 use Rattle.proof_file.specs.declared.file.ProofFile.{ProofFile}
-use Rattle.proof_check.specs.declared.verdict.Verdict.{Verdict}
+use Rattle.proof_check.specs.Verdicts.{Verdict}
 use Rattle.proof_check.specs.Verdicts.{IsVerdict}
 use Rattle.proof_picture.specs.declared.picture.Picture.{Picture}
 use Rattle.proof_picture.specs.Pictures.{box_of, IsPicture}

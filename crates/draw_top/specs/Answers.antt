@@ -9,7 +9,7 @@ use Rattle.cyc_runs.specs.Runs as runs
 use Rattle.draw_top.specs.Texts.{graph_text}
 use Rattle.proof_file.specs.declared.file.ProofFile.{ProofFile}
 use Rattle.proof_file.specs.Reading.{IsRead}
-use Rattle.proof_check.specs.declared.verdict.Verdict.{Verdict}
+use Rattle.proof_check.specs.Verdicts.{Verdict}
 use Rattle.proof_check.specs.Verdicts.{IsVerdict}
 use Rattle.proof_picture.specs.Pictures.{boxes_of, is_large}
 use Rattle.draw_top.specs.Drawings.{drawing}

@@ -17,7 +17,7 @@ use Rattle.proof_statements.specs.Left.{Nodes as Among, At}
 use Rattle.proof_file.specs.Flaws.{headings, node_flaw, first_node, file_flaw}
 use Rattle.proof_file.specs.Spans.{node_span}
 use Rattle.proof_file.specs.Values.{definition_value, node_value}
-use Rattle.proof_file.specs.declared.node.FileNode.{FileNode}
+use Rattle.proof_file.specs.FileNodes.{FileNode}
 use Rattle.proof_file.proofs.WithinSpans.{file_before}
 use Rattle.file_reader.specs.declared.first_node.Beginning.{Beginning}
 use Rattle.file_reader.specs.declared.front.Front.{Front}

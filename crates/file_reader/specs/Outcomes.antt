@@ -15,7 +15,7 @@ use Rattle.heap_reader.specs.Told.{item_fault}
 use Rattle.proof_syntax.specs.Trees.{File}
 use Rattle.proof_syntax.specs.Grammar.{file}
 use Rattle.proof_file.specs.declared.file.ProofFile.{ProofFile}
-use Rattle.proof_file.specs.declared.node.FileNode.{FileNode}
+use Rattle.proof_file.specs.FileNodes.{FileNode}
 use Rattle.proof_file.specs.Flaws.{headings, file_flaw}
 use Rattle.line_reader.specs.Values.{program_value}
 use Rattle.proof_file.specs.Values.{definition_value, node_value}

@@ -19,7 +19,7 @@ use Rattle.heap_reader.specs.Trees.{Heading}
 use Rattle.proof_syntax.specs.Trees.{Node}
 use Rattle.proof_statements.specs.Left.{At, Ended, Nodes as Among, left_of}
 use Rattle.proof_file.specs.declared.file.ProofFile.{ProofFile}
-use Rattle.proof_file.specs.declared.node.FileNode.{FileNode}
+use Rattle.proof_file.specs.FileNodes.{FileNode}
 use Rattle.proof_file.specs.Flaws.{node_flaw}
 use Rattle.proof_file.specs.Spans.{node_span}
 use Rattle.proof_file.specs.Values.{node_value}

@@ -6,7 +6,7 @@ use Rattle.trace_pairs.specs.Graph.{Node}
 use Rattle.trace_pairs.specs.Lasso.{AllProgress}
 use Rattle.buchi_inclusion.specs.Answers.{HasAtMost, state_limit}
 use Rattle.derivation_search.specs.System.{search_of, IsFound}
-use Rattle.proof_check.specs.Files.{graph_of, nodes_of}
+use Rattle.proof_check.specs.Files.{graph_of}
 use Rattle.search_moves.specs.Trying.{Theory}
 use Rattle.tableaux.specs.Tableau.{Tableau, replay}
 use Rattle.tableaux.specs.Search.{EachFound}
@@ -49,7 +49,7 @@ module _ (t : Theory) (goal : Judgement) (most depth : ℕ) (d : List Reason) (l
           by = by_reason t b.nodes v m.goal m.reason e.premises e.node.edges e.has e.edges;
         }
 
-    same : traces_of t b.nodes ≡ graph_of t.most t.definitions t.lines (nodes_of (nodes_made t b.nodes))
+    same : traces_of t b.nodes ≡ graph_of t.most t.definitions t.lines (nodes_made t b.nodes)
     same = sym (graph_same t b.nodes each_made)
 
     is_proof : AreProof t goal (nodes_made t b.nodes)

@@ -2,8 +2,7 @@
 use Rattle.std.proofs.Common.{◌≡◌, ℕ, List, [], ◌∷◌, Some, slice_get, length, refl, ap, subst, ◌∙◌}
 use Rattle.trace_pairs.specs.Graph.{Node}
 use Rattle.buchi_core.proofs.Lists.{get_one}
-use Rattle.proof_file.specs.declared.node.FileNode.{FileNode}
-use Rattle.proof_check.specs.Files.{node_of, nodes_of}
+use Rattle.proof_file.specs.FileNodes.{FileNode}
 use Rattle.search_moves.specs.Trying.{Theory}
 use Rattle.tableaux.proofs.Joined.{joined, length-joined, joined_at, joined_of}
 use Rattle.search_calculus.specs.Calculus.{MadeNode}
@@ -11,7 +10,6 @@ use Rattle.search_calculus.specs.Graphs.{traces_of}
 use Rattle.search_calculus.proofs.TraceGraphs.{length-traces_of}
 use Rattle.found_files.specs.Files.{file_node, file_nodes, nodes_made}
 use Rattle.found_files.proofs.Made.{IsMade, AllMade}
-use Rattle.list_facts.proofs.Places.{get_map}
 
 nodes_joined : (ns : List Node) (ms : List MadeNode) → file_nodes ns ms ≡ joined file_node ns ms
 nodes_joined [] ms = refl
@@ -41,7 +39,3 @@ module _ (t : Theory) (nodes : List MadeNode) (all' : AllMade t nodes) where
       let j = joined_of file_node (traces_of t nodes) nodes (length-traces_of t nodes) v x (subst (λ (xs : List FileNode). slice_get xs v ≡ Some x) (nodes_joined (traces_of t nodes) nodes) at) in
       let made = all' v j.y j.is_y in
       record { m = j.y; is_m = j.is_y; made = made; is = ap (λ (n : Node). file_node n j.y) (get_one (traces_of t nodes) v made.traces j.x made.is_traces j.is_x) ∙ j.is }
-
-  pub node_at : (v : ℕ) (m : MadeNode) (made : IsMade t nodes v m) → slice_get nodes v ≡ Some m →
-      slice_get (nodes_of (nodes_made t nodes)) v ≡ Some (node_of (file_node made.traces m))
-  node_at v m made at = get_map node_of (nodes_made t nodes) v (file_node made.traces m) (made_at v m made at)

@@ -9,7 +9,7 @@ use Rattle.rule_table.specs.RuleBook.{variables_of}
 use Rattle.format_limits.specs.Limits.{HasShortNumbers, IsShortNumber}
 use Rattle.format_limits.proofs.Shorts.{rule_short, link_short}
 use Rattle.trace_pairs.specs.Graph.{Edge}
-use Rattle.proof_file.specs.declared.node.FileNode.{FileNode}
+use Rattle.proof_file.specs.FileNodes.{FileNode}
 use Rattle.problem_files.specs.Nodes.{IsNodeWithin}
 use Rattle.search_moves.specs.Trying.{Theory}
 use Rattle.tableaux.specs.Tableau.{Subgoal}

@@ -3,7 +3,7 @@ use Rattle.std.specs.Prelude.{ℕ, List, [], ◌∷◌, map}
 use Rattle.heap_formula.specs.declared.proof_rules.Reason.{Reason}
 use Rattle.heap_formula.specs.declared.proof_rules.Reason.TheVariants.{Step, Back}
 use Rattle.trace_pairs.specs.Graph.{Node, Edge}
-use Rattle.proof_file.specs.declared.node.FileNode.{FileNode}
+use Rattle.proof_file.specs.FileNodes.{FileNode}
 use Rattle.search_moves.specs.Trying.{Theory}
 use Rattle.search_calculus.specs.Calculus.{MadeNode, judgement_of}
 use Rattle.search_calculus.specs.Graphs.{traces_of}

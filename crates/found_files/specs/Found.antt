@@ -7,8 +7,8 @@ use Rattle.heap_formula.specs.Words.{Each}
 use Rattle.goto_lang.specs.Lines.{IsProgram}
 use Rattle.trace_pairs.specs.Lasso.{AllProgress}
 use Rattle.buchi_inclusion.specs.Answers.{HasAtMost, state_limit}
-use Rattle.proof_file.specs.declared.node.FileNode.{FileNode}
-use Rattle.proof_check.specs.Files.{graph_of, AreRight, nodes_of}
+use Rattle.proof_file.specs.FileNodes.{FileNode}
+use Rattle.proof_check.specs.Files.{graph_of, AreRight}
 use Rattle.format_limits.specs.Limits.{IsDefinitionWithin, IsJudgementWithin}
 use Rattle.problem_files.specs.Nodes.{IsNodeWithin}
 use Rattle.search_moves.specs.Trying.{Theory}
@@ -29,9 +29,9 @@ pub record AreProof (t : Theory) (goal : Judgement) (nodes : List FileNode) : Ty
   pub root : FileNode
   pub is_root : slice_get nodes 0 ≡ Some root
   pub proves : root.judgement ≡ goal
-  pub right : AreRight t.most t.definitions t.lines (nodes_of nodes)
-  pub paths : AllProgress (graph_of t.most t.definitions t.lines (nodes_of nodes))
-  pub states : HasAtMost (graph_of t.most t.definitions t.lines (nodes_of nodes)) state_limit
+  pub right : AreRight t.most t.definitions t.lines nodes
+  pub paths : AllProgress (graph_of t.most t.definitions t.lines nodes)
+  pub states : HasAtMost (graph_of t.most t.definitions t.lines nodes) state_limit
   pub within : Each (IsNodeWithin t.most t.definitions (length t.lines)) nodes
   pub few : length nodes ≤ MOST_NODES
 

@@ -1,4 +1,4 @@
 mod SmallEntries
-pub mod FewEdges
-pub mod Reasons
-pub mod RightGraphs
+pub mod FewPremises
+mod ExampleFaults
+mod ExampleFiles

@@ -1,5 +1,5 @@
 -- What a reason leaves to be shown, or its first fault.
-use Rattle.std.specs.Prelude.{ℕ, List, [], ◌∷◌, Option, Some, None, Ok, Err, slice_get, slice_index, length, nat_eq}
+use Rattle.std.specs.Prelude.{ℕ, List, [], ◌∷◌, Option, Some, None, Ok, Err, slice_get, slice_index}
 use Rattle.std.specs.Option.{option_map}
 use Rattle.heap_formula.specs.declared.commands.Command.{Command}
 use Rattle.heap_formula.specs.declared.judgements.Judgement.{Judgement}
@@ -8,11 +8,10 @@ use Rattle.heap_formula.specs.declared.proof_rules.Link.{Link}
 use Rattle.heap_formula.specs.declared.proof_rules.Reason.{Reason}
 use Rattle.heap_formula.specs.declared.proof_rules.Reason.TheVariants.{Step, Back}
 use Rattle.heap_formula.specs.declared.proof_rules.RuleFault.{RuleFault}
-use Rattle.heap_formula.specs.declared.proof_rules.RuleFault.TheVariants.{PremiseCount, NoSuchNode}
+use Rattle.heap_formula.specs.declared.proof_rules.RuleFault.TheVariants.{NoSuchNode}
 use Rattle.heap_formula.specs.Definitions.{Definition}
 use Rattle.rule_table.specs.Answer.{Answer}
-use Rattle.rule_table.specs.LinkTable.{fault_unless, link_fault, link_premise}
-use Rattle.rule_table.specs.Nodes.{Node, answer_fault}
+use Rattle.rule_table.specs.LinkTable.{link_fault, link_premise}
 use Rattle.rule_table.specs.RuleBook.{variables_of, rule_answer}
 
 -- the entry of a map for a place, 0 past the end
@@ -44,8 +43,3 @@ companion_in judgement_of nodes (Back link) = option_map judgement_of (slice_get
 abbrev pub targets_of : List ℕ → Reason → List ℕ
 targets_of us (Step rule) = us
 targets_of us (Back link) = link.target ∷ []
-
--- the fault of the numbers
-abbrev pub numbers_fault : List Node → ℕ → List ℕ → Reason → List Premise → Option RuleFault
-numbers_fault nodes v us (Step rule) ps = answer_fault nodes v us (Ok ps)
-numbers_fault nodes v us (Back link) ps = fault_unless (nat_eq (length us) 0) PremiseCount

@@ -1,25 +1,42 @@
--- The nodes of a proof as a trace graph.
-use Rattle.std.specs.Prelude.{◌≡◌, ◌≤◌, ℕ, length, List, map, Some, None, slice_get}
+-- The nodes of a proof in separation logic: their faults, and their trace graph.
+use Rattle.std.specs.Prelude.{◌≡◌, ◌≤◌, ℕ, length, List, Option, Some, slice_get}
 use Rattle.cyc_limits.specs.declared.TheConstants.{MOST_SPATIAL}
 use Rattle.heap_formula.specs.declared.commands.Command.{Command}
+use Rattle.heap_formula.specs.declared.judgements.Judgement.{Judgement}
+use Rattle.heap_formula.specs.declared.proof_rules.Reason.{Reason}
+use Rattle.heap_formula.specs.declared.proof_rules.RuleFault.{RuleFault}
 use Rattle.heap_formula.specs.Definitions.{Definition}
 use Rattle.heap_formula.specs.Judgements.{antecedent}
-use Rattle.rule_table.specs.Nodes.{Node, edges_of, node_fault, IsReadable}
-use Rattle.trace_pairs.specs.Graph.{Node as GraphNode}
-use Rattle.proof_graph.specs.Traces.{positions_of, graph_edge}
+use Rattle.rule_table.specs.Judgements.{IsReadable}
+use Rattle.trace_pairs.specs.Graph.{Node as GraphNode, Edge}
+use Rattle.logics.specs.declared.node.ProofNode.{ProofNode}
+use Rattle.logics.specs.Faults.{node_fault as fault_of_node, AreRight as AllAreRight}
+use Rattle.logics.specs.Graphs.{edges_of as edges_of_node, graph_node as node_of_graph, graph_of as graph_of_nodes}
+use Rattle.node_reasons.specs.SeparationLogic.{separation_logic}
 
--- a node with the places of its predicate atoms, and an edge to each premise or to the companion
+-- a node of a proof: what it claims, why, and the numbers of its premises
+abbrev pub Node : Type 0
+Node = ProofNode Judgement Reason
+
+-- the first fault of node v, none where it is right
+abbrev pub node_fault : ℕ → List Definition → List Command → List Node → ℕ → Node → Option RuleFault
+node_fault most ds lines nodes v node = fault_of_node (separation_logic most ds lines) nodes v node
+
+-- an edge to each premise, or to the companion
+abbrev pub edges_of : ℕ → List Definition → List Command → List Node → Node → List Edge
+edges_of most ds lines nodes node = edges_of_node (separation_logic most ds lines) nodes node
+
+-- a node with the places of its predicate atoms, and its edges
 abbrev pub graph_node : ℕ → List Definition → List Command → List Node → Node → GraphNode
-graph_node most ds lines nodes node =
-    record { positions = positions_of node.judgement; edges = map graph_edge (edges_of most ds lines nodes node) }
+graph_node most ds lines nodes node = node_of_graph (separation_logic most ds lines) nodes node
 
 -- the trace graph of a file
 abbrev pub graph_of : ℕ → List Definition → List Command → List Node → List GraphNode
-graph_of most ds lines nodes = map (graph_node most ds lines nodes) nodes
+graph_of most ds lines nodes = graph_of_nodes (separation_logic most ds lines) nodes
 
 -- no node has a fault
 abbrev pub AreRight : ℕ → List Definition → List Command → List Node → Type 0
-AreRight most ds lines nodes = (v : ℕ) (node : Node) → slice_get nodes v ≡ Some node → node_fault most ds lines nodes v node ≡ None
+AreRight most ds lines nodes = AllAreRight (separation_logic most ds lines) nodes
 
 -- no existential stands in an antecedent, nor in a link's substitution
 abbrev pub AreReadable : List Node → Type 0

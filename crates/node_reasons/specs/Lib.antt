@@ -1,2 +1,5 @@
 pub mod Answers
 pub mod Graphs
+pub mod SeparationLogic
+pub mod LogicLaws
+pub mod Instance

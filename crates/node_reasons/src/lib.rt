@@ -2,12 +2,13 @@
 #![tactic(auto)]
 
 mod links;
+mod separation_logic;
 
 ghost use Rattle.std.specs.Prelude.{IfOk};
 ghost use Rattle.std.specs.Option.{option_copied};
 ghost use Rattle.heap_formula.specs.Judgements.{IsLocallySound};
 ghost use Rattle.rule_table.specs.Answered.{IsAnswer};
-ghost use Rattle.rule_table.specs.Nodes.{IsReadable};
+ghost use Rattle.rule_table.specs.Judgements.{IsReadable};
 ghost use Rattle.node_reasons.specs.Answers.{reason_answer};
 
 use goto_lang::Program;
@@ -15,6 +16,7 @@ use heap_formula::{Judgement, Premise, Reason, RuleError, RuleFault};
 use links::premises_by_link;
 use pred_defs::Defs;
 use rule_book::premises;
+pub use separation_logic::{SeparationLogic, traced_pairs};
 use std::alloc::Global;
 
 /// What a reason leaves to be shown at a judgement, or its first fault: a rule its premises; a link its companion, with

@@ -9,7 +9,7 @@ use Rattle.heap_syntax.specs.declared.version.Version.{Version}
 use Rattle.heap_syntax.specs.Versions.{most_spatial}
 use Rattle.heap_reader.specs.Flaws.{or_later, listed_flaw}
 use Rattle.proof_syntax.specs.Grammar as grammar
-use Rattle.proof_file.specs.declared.node.FileNode.{FileNode}
+use Rattle.proof_file.specs.FileNodes.{FileNode}
 use Rattle.proof_file.specs.Spans.{definition_span, node_span}
 use Rattle.proof_file.specs.Flaws.{definition_flaw, program_flaw, node_flaw, first_line, first_node, nodes_flaw, file_flaw}
 use Rattle.proof_file.specs.Written.{node_tree, tree_of}

@@ -5,7 +5,7 @@ use Rattle.heap_formula.specs.Definitions.{Definition}
 use Rattle.heap_formula.specs.Judgements.{antecedent}
 use Rattle.heap_formula.specs.Words.{Each}
 use Rattle.proof_syntax.specs.Grammar as grammar
-use Rattle.proof_file.specs.declared.node.FileNode.{FileNode}
+use Rattle.proof_file.specs.FileNodes.{FileNode}
 use Rattle.proof_file.specs.Readable.{is_universal_reason, is_readable, are_readable, is_at_line, are_at_lines}
 use Rattle.proof_file.specs.Written.{node_tree}
 use Rattle.problem_files.specs.Nodes.{IsNodeWithin}

@@ -6,7 +6,7 @@ use Rattle.heap_formula.specs.Definitions.{Definition}
 use Rattle.heap_formula.specs.Words.{Each}
 use Rattle.cyc_lex.specs.declared.fault.What.TheVariants.{Nodes}
 use Rattle.heap_reader.specs.Flaws.{over_if, listed_flaw}
-use Rattle.proof_file.specs.declared.node.FileNode.{FileNode}
+use Rattle.proof_file.specs.FileNodes.{FileNode}
 use Rattle.proof_file.specs.Spans.{judgement_span, node_span}
 use Rattle.proof_file.specs.Flaws.{headings, node_flaw}
 use Rattle.proof_file.specs.Written.{definition_tree, judgement_tree, node_tree}

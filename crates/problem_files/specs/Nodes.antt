@@ -2,7 +2,7 @@
 use Rattle.std.specs.Prelude.{ℕ, List}
 use Rattle.heap_formula.specs.Definitions.{Definition}
 use Rattle.heap_formula.specs.Words.{Each}
-use Rattle.proof_file.specs.declared.node.FileNode.{FileNode}
+use Rattle.proof_file.specs.FileNodes.{FileNode}
 use Rattle.format_limits.specs.Limits.{IsJudgementWithin, IsReasonWithin, HasShortNumbers, IsShortNumber}
 
 -- a node over these definitions and so many lines, whose heaps have at most so many spatial atoms

@@ -1,9 +1,6 @@
-pub mod SameJudgements
-mod PremiseLoops
-pub mod Correct
+pub mod Readable
+pub mod Checked
 pub mod KeptFacts
-mod TestLoops
-mod Tables
 pub mod OneAnswer
 mod WiderRules
 pub mod Upgraded

@@ -4,9 +4,8 @@ use Rattle.trace_pairs.specs.Graph.{Node}
 use Rattle.buchi_inclusion.specs.Answers.{HasAtMost}
 use Rattle.buchi_inclusion.proofs.Exact.{not_both}
 use Rattle.proof_file.specs.declared.file.ProofFile.{ProofFile}
-use Rattle.proof_check.specs.declared.verdict.Verdict.{Verdict}
-use Rattle.proof_check.specs.declared.verdict.Verdict.TheVariants.{Accepted, RuleRefused, PathRefused, TooManyStates}
-use Rattle.proof_check.specs.Verdicts.{file_graph, state_limit, IsCorrect, IsVerdict}
+use Rattle.logics.specs.declared.verdict.Verdict.TheVariants.{Accepted, RuleRefused, PathRefused, TooManyStates}
+use Rattle.proof_check.specs.Verdicts.{Verdict, file_graph, state_limit, IsCorrect, IsVerdict}
 
 -- states that are at most n are at most as many as any greater number
 pub at_most_more : (g : List Node) (n m : ℕ) → n ≤ m → HasAtMost g n → HasAtMost g m

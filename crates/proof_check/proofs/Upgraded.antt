@@ -7,30 +7,34 @@ use Rattle.heap_formula.specs.declared.judgements.Judgement.TheVariants.{Entail,
 use Rattle.heap_formula.specs.declared.judgements.Premise.{Premise}
 use Rattle.heap_formula.specs.declared.proof_rules.Reason.{Reason}
 use Rattle.heap_formula.specs.declared.proof_rules.Reason.TheVariants.{Step, Back}
+use Rattle.heap_formula.specs.declared.proof_rules.RuleFault.{RuleFault}
 use Rattle.heap_formula.specs.declared.proof_rules.RuleFault.TheVariants.{NoSuchNode, PremiseCount, PremiseDiffers}
 use Rattle.heap_formula.specs.Definitions.{Definition}
 use Rattle.heap_formula.specs.Symbolic.{SymbolicHeap}
 use Rattle.rule_table.specs.Answer.{Answer, heaps_of, each_heap}
-use Rattle.rule_table.specs.LinkTable.{first_of, fault_unless}
-use Rattle.rule_table.specs.Nodes.{Node, same_heap, same_judgement, differs, premises_fault, answer_fault, reason_fault, node_fault, answer_edges, edges_of}
+use Rattle.rule_table.specs.Judgements.{same_heap, same_judgement}
 use Rattle.rule_table.specs.RuleBook.{rule_answer}
 use Rattle.rule_table.specs.Tests.{same_pure, same_spatial}
 use Rattle.trace_pairs.specs.Lasso.{AllProgress}
 use Rattle.heap_syntax.specs.Versions.{most_spatial}
 use Rattle.heap_reader.proofs.Fitting.{most_fits}
-use Rattle.proof_graph.specs.Traces.{positions_of, graph_edge}
-use Rattle.proof_graph.proofs.Joined.{mapped_at}
+use Rattle.proof_graph.specs.Traces.{positions_of}
+use Rattle.logics.specs.declared.premises.Subgoal.{Subgoal}
+use Rattle.logics.specs.Faults.{first_of, fault_unless, differs, premises_fault, rule_fault}
+use Rattle.logics.specs.Graphs.{rule_edges}
+use Rattle.logics.proofs.RightNodes.{none_of_two, no_fault}
+use Rattle.node_reasons.specs.Graphs.{edges_of}
+use Rattle.node_reasons.specs.SeparationLogic.{traced, traced_answer, separation_logic}
 use Rattle.proof_file.specs.declared.file.ProofFile.{ProofFile}
 use Rattle.proof_file.specs.Upgrades.{IsUpgrade}
 use Rattle.proof_file.proofs.FewAtoms.{node_is_few}
-use Rattle.proof_check.specs.Files.{graph_node, graph_of, node_of, nodes_of, AreRight}
+use Rattle.proof_check.specs.Files.{Node, node_fault, graph_node, graph_of, AreRight}
 use Rattle.proof_check.specs.Verdicts.{file_graph, IsCorrect}
 use Rattle.heap_reader.specs.Small.{is_short_heap}
 use Rattle.proof_check.proofs.WiderRules.{rule_wide}
 use Rattle.std.proofs.lemmas.Bool.{and_from, and_parts}
 use Rattle.std.specs.List.{list_all}
 use Rattle.std.specs.Cmp.Lexicographic.{pointwise, as_long}
-use Rattle.rule_table.proofs.LinkRule.{none_of_two, no_fault}
 
 -- ---- judgements that are one have as many spatial atoms
 
@@ -56,67 +60,74 @@ judgement_few most i j e few = absurd cc
 -- ---- faults
 
 -- an answer without a fault is a list of premises
-record HasPremises (nodes : List Node) (v : ℕ) (us : List ℕ) (answer : Answer) : Type 0 where
+record HasPremises (answer : Answer) : Type 0 where
   ps : List Premise
   is : answer ≡ Ok ps
-  fine : premises_fault nodes v 0 ps us ≡ None
-
-premises_of : (nodes : List Node) (v : ℕ) (us : List ℕ) (answer : Answer) → answer_fault nodes v us answer ≡ None → HasPremises nodes v us answer
-premises_of nodes v us (Ok ps) e =
-    record { ps = ps; is = refl; fine = (none_of_two (fault_unless (nat_eq (length ps) (length us)) PremiseCount) (premises_fault nodes v 0 ps us) e).1 }
-premises_of nodes v us (Err f) e = absurd cc
 
 module _ (most : ℕ) (nodes : List Node) (few : (u : ℕ) (node : Node) → slice_get nodes u ≡ Some node → list_all (is_short_heap most) (heaps_of node.judgement) ≡ true) where
-  premise_few : (i u : ℕ) (p : Premise) (o : Option Node) → slice_get nodes u ≡ o → differs nodes i u p o ≡ None → list_all (is_short_heap most) (heaps_of p.judgement) ≡ true
+  -- the faults of premises speak of no limit, so that they are those of the logic under any
+  abbrev Fault : ℕ → ℕ → List (Subgoal Judgement) → List ℕ → Option RuleFault
+  Fault v i ps us = premises_fault (separation_logic most [] []) nodes v i ps us
+
+  premise_few : (i u : ℕ) (p : Premise) (o : Option Node) → slice_get nodes u ≡ o → differs (separation_logic most [] []) i (traced p) o ≡ None → list_all (is_short_heap most) (heaps_of p.judgement) ≡ true
   premise_few i u p None at e = absurd cc
   premise_few i u p (Some node) at e =
       judgement_few most p.judgement node.judgement (no_fault (same_judgement p.judgement node.judgement) (PremiseDiffers i) e) (few u node at)
 
   -- the premises of a right node have few spatial atoms, as its nodes have
-  premises_few : (v i : ℕ) (ps : List Premise) (us : List ℕ) → premises_fault nodes v i ps us ≡ None → each_heap (is_short_heap most) ps ≡ true
+  premises_few : (v i : ℕ) (ps : List Premise) (us : List ℕ) → Fault v i (map traced ps) us ≡ None → each_heap (is_short_heap most) ps ≡ true
   premises_few v i [] us e = refl
   premises_few v i (p ∷ ps) [] e = absurd cc
   premises_few v i (p ∷ ps) (u ∷ us) e =
-      let a = none_of_two (fault_unless (nat_lt v u) NoSuchNode) (first_of (differs nodes i u p (slice_get nodes u)) (premises_fault nodes v (suc i) ps us)) e in
-      let b = none_of_two (differs nodes i u p (slice_get nodes u)) (premises_fault nodes v (suc i) ps us) a.1 in
+      let a = none_of_two (fault_unless (nat_lt v u) NoSuchNode) (first_of (differs (separation_logic most [] []) i (traced p) (slice_get nodes u)) (Fault v (suc i) (map traced ps) us)) e in
+      let b = none_of_two (differs (separation_logic most [] []) i (traced p) (slice_get nodes u)) (Fault v (suc i) (map traced ps) us) a.1 in
       and_from (list_all (is_short_heap most) (heaps_of p.judgement)) (each_heap (is_short_heap most) ps) (premise_few i u p (slice_get nodes u) refl b.0) (premises_few v (suc i) ps us b.1)
 
   module _ (more : ℕ) (le : most ≤ more) (ds : List Definition) (lines : List Command) where
-    reason_rises : (v : ℕ) (j : Judgement) (us : List ℕ) (r : Reason) → reason_fault most ds lines nodes v j us r ≡ None → reason_fault more ds lines nodes v j us r ≡ None
-    reason_rises v j us (Step rule) e =
-        let h = premises_of nodes v us (rule_answer most ds lines j rule) e in
-        let other = (rule_wide most more le ds lines j rule).rises h.ps h.is in
-        ap (answer_fault nodes v us) (other ∙ sym h.is) ∙ e
-    reason_rises v j us (Back link) e = e
+    -- the fault of a rule with this answer
+    abbrev rule_fault_of : ℕ → List ℕ → Answer → Option RuleFault
+    rule_fault_of v us answer = rule_fault (separation_logic most ds lines) nodes v us (traced_answer answer)
 
-    reason_falls : (v : ℕ) (j : Judgement) (us : List ℕ) (r : Reason) → reason_fault more ds lines nodes v j us r ≡ None → reason_fault most ds lines nodes v j us r ≡ None
-    reason_falls v j us (Step rule) e =
-        let h = premises_of nodes v us (rule_answer more ds lines j rule) e in
-        let other = (rule_wide most more le ds lines j rule).falls h.ps h.is (premises_few v 0 h.ps us h.fine) in
-        ap (answer_fault nodes v us) (other ∙ sym h.is) ∙ e
-    reason_falls v j us (Back link) e = e
+    premises_of : (v : ℕ) (us : List ℕ) (answer : Answer) → rule_fault_of v us answer ≡ None → HasPremises answer
+    premises_of v us (Ok ps) e = record { ps = ps; is = refl }
+    premises_of v us (Err f) e = absurd cc
 
-    edges_same : (v : ℕ) (node : Node) → node_fault most ds lines nodes v node ≡ None → edges_of more ds lines nodes node ≡ edges_of most ds lines nodes node
-    edges_same v node e = by node.reason e
-      where
-        by : (r : Reason) → reason_fault most ds lines nodes v node.judgement node.premises r ≡ None → edges_of more ds lines nodes (record node { reason = r }) ≡ edges_of most ds lines nodes (record node { reason = r })
-        by (Step rule) g =
-            let h = premises_of nodes v node.premises (rule_answer most ds lines node.judgement rule) g in
-            ap (answer_edges node.premises) ((rule_wide most more le ds lines node.judgement rule).rises h.ps h.is ∙ sym h.is)
-        by (Back link) g = refl
+    few_of : (v : ℕ) (us : List ℕ) (ps : List Premise) → rule_fault_of v us (Ok ps) ≡ None → each_heap (is_short_heap most) ps ≡ true
+    few_of v us ps e =
+        premises_few v 0 ps us (none_of_two (fault_unless (nat_eq (length (map traced ps)) (length us)) PremiseCount) (Fault v 0 (map traced ps) us) e).1
+
+    reason_rises : (v : ℕ) (node : Node) (r : Reason) → node_fault most ds lines nodes v (record node { reason = r }) ≡ None → node_fault more ds lines nodes v (record node { reason = r }) ≡ None
+    reason_rises v node (Step rule) e =
+        let h = premises_of v node.premises (rule_answer most ds lines node.judgement rule) e in
+        let other = (rule_wide most more le ds lines node.judgement rule).rises h.ps h.is in
+        ap (rule_fault_of v node.premises) (other ∙ sym h.is) ∙ e
+    reason_rises v node (Back link) e = e
+
+    reason_falls : (v : ℕ) (node : Node) (r : Reason) → node_fault more ds lines nodes v (record node { reason = r }) ≡ None → node_fault most ds lines nodes v (record node { reason = r }) ≡ None
+    reason_falls v node (Step rule) e =
+        let h = premises_of v node.premises (rule_answer more ds lines node.judgement rule) e in
+        let other = (rule_wide most more le ds lines node.judgement rule).falls h.ps h.is (few_of v node.premises h.ps (ap (rule_fault_of v node.premises) (sym h.is) ∙ e)) in
+        ap (rule_fault_of v node.premises) (other ∙ sym h.is) ∙ e
+    reason_falls v node (Back link) e = e
+
+    edges_same : (v : ℕ) (node : Node) (r : Reason) → node_fault most ds lines nodes v (record node { reason = r }) ≡ None → edges_of more ds lines nodes (record node { reason = r }) ≡ edges_of most ds lines nodes (record node { reason = r })
+    edges_same v node (Step rule) e =
+        let h = premises_of v node.premises (rule_answer most ds lines node.judgement rule) e in
+        ap (λ answer. rule_edges node.premises (traced_answer answer)) ((rule_wide most more le ds lines node.judgement rule).rises h.ps h.is ∙ sym h.is)
+    edges_same v node (Back link) e = refl
 
     right_rises : AreRight most ds lines nodes → AreRight more ds lines nodes
-    right_rises right v node at = reason_rises v node.judgement node.premises node.reason (right v node at)
+    right_rises right v node at = reason_rises v node node.reason (right v node at)
 
     right_falls : AreRight more ds lines nodes → AreRight most ds lines nodes
-    right_falls right v node at = reason_falls v node.judgement node.premises node.reason (right v node at)
+    right_falls right v node at = reason_falls v node node.reason (right v node at)
 
     -- right nodes have one graph
     graph_same : AreRight most ds lines nodes → graph_of more ds lines nodes ≡ graph_of most ds lines nodes
     graph_same right =
         same_map (graph_node more ds lines nodes) (graph_node most ds lines nodes) nodes (λ v node at. (
-        let edges = edges_same v node (right v node at) in
-        λ i. record { positions = positions_of node.judgement; edges = map graph_edge (edges i) }))
+        let edges = edges_same v node node.reason (right v node at) in
+        λ i. record { positions = positions_of node.judgement; edges = edges i }))
       where
         same_map : {X Y : Type 0} (f g : X → Y) (xs : List X) → ((v : ℕ) (x : X) → slice_get xs v ≡ Some x → f x ≡ g x) → map f xs ≡ map g xs
         same_map f g [] one = refl
@@ -124,11 +135,9 @@ module _ (most : ℕ) (nodes : List Node) (few : (u : ℕ) (node : Node) → sli
 
 -- ---- files
 
-few_nodes : (f : ProofFile) (u : ℕ) (node : Node) → slice_get (nodes_of f.nodes) u ≡ Some node → list_all (is_short_heap f.defs.most) (heaps_of node.judgement) ≡ true
+few_nodes : (f : ProofFile) (u : ℕ) (node : Node) → slice_get f.nodes u ≡ Some node → list_all (is_short_heap f.defs.most) (heaps_of node.judgement) ≡ true
 few_nodes f u node at =
-    let m = mapped_at node_of f.nodes u node at in
-    let here = node_is_few f u m.from m.at in
-    subst (λ (n : ℕ). list_all (is_short_heap n) (heaps_of node.judgement) ≡ true) (sym f.limit) (subst (λ (n : Node). list_all (is_short_heap (most_spatial f.version)) (heaps_of n.judgement) ≡ true) m.is here)
+    subst (λ (n : ℕ). list_all (is_short_heap n) (heaps_of node.judgement) ≡ true) (sym f.limit) (node_is_few f u node at)
 
 module _ (f g : ProofFile) (up : IsUpgrade f g) where
   limit : g.defs.most ≡ 32
@@ -138,29 +147,29 @@ module _ (f g : ProofFile) (up : IsUpgrade f g) where
   le = subst (λ (n : ℕ). n ≤ 32) (sym f.limit) (most_fits f.version)
 
   -- the nodes, definitions and lines of the one, under the limit of the other
-  right_up : AreRight 32 f.defs.list f.program (nodes_of f.nodes) → AreRight g.defs.most g.defs.list g.program (nodes_of g.nodes)
-  right_up r = subst (λ (x : _). x) (λ i. AreRight (sym limit i) (sym up.definitions i) (sym up.program i) (nodes_of (sym up.nodes i))) r
+  right_up : AreRight 32 f.defs.list f.program f.nodes → AreRight g.defs.most g.defs.list g.program g.nodes
+  right_up r = subst (λ (x : _). x) (λ i. AreRight (sym limit i) (sym up.definitions i) (sym up.program i) (sym up.nodes i)) r
 
-  right_down : AreRight g.defs.most g.defs.list g.program (nodes_of g.nodes) → AreRight 32 f.defs.list f.program (nodes_of f.nodes)
-  right_down r = subst (λ (x : _). x) (λ i. AreRight (limit i) (up.definitions i) (up.program i) (nodes_of (up.nodes i))) r
+  right_down : AreRight g.defs.most g.defs.list g.program g.nodes → AreRight 32 f.defs.list f.program f.nodes
+  right_down r = subst (λ (x : _). x) (λ i. AreRight (limit i) (up.definitions i) (up.program i) (up.nodes i)) r
 
-  graph_up : graph_of 32 f.defs.list f.program (nodes_of f.nodes) ≡ file_graph g
-  graph_up = λ i. graph_of (sym limit i) (sym up.definitions i) (sym up.program i) (nodes_of (sym up.nodes i))
+  graph_up : graph_of 32 f.defs.list f.program f.nodes ≡ file_graph g
+  graph_up = λ i. graph_of (sym limit i) (sym up.definitions i) (sym up.program i) (sym up.nodes i)
 
-  right_graph : AreRight f.defs.most f.defs.list f.program (nodes_of f.nodes) → file_graph g ≡ file_graph f
+  right_graph : AreRight f.defs.most f.defs.list f.program f.nodes → file_graph g ≡ file_graph f
   right_graph right =
-      sym graph_up ∙ graph_same f.defs.most (nodes_of f.nodes) (few_nodes f) 32 le f.defs.list f.program right
+      sym graph_up ∙ graph_same f.defs.most f.nodes (few_nodes f) 32 le f.defs.list f.program right
 
   pub same_graph : IsCorrect f → file_graph g ≡ file_graph f
   same_graph correct = right_graph correct.nodes
 
   pub correct_again : IsCorrect f → IsCorrect g
   correct_again correct = record {
-    nodes = right_up (right_rises f.defs.most (nodes_of f.nodes) (few_nodes f) 32 le f.defs.list f.program correct.nodes);
+    nodes = right_up (right_rises f.defs.most f.nodes (few_nodes f) 32 le f.defs.list f.program correct.nodes);
     paths = subst AllProgress (sym (same_graph correct)) correct.paths;
   }
 
   pub correct_before : IsCorrect g → IsCorrect f
   correct_before correct =
-      let right = right_falls f.defs.most (nodes_of f.nodes) (few_nodes f) 32 le f.defs.list f.program (right_down correct.nodes) in
+      let right = right_falls f.defs.most f.nodes (few_nodes f) 32 le f.defs.list f.program (right_down correct.nodes) in
       record { nodes = right; paths = subst AllProgress (right_graph right) correct.paths }

@@ -1,13 +1,16 @@
-// The verdict on a file, as on any proof system.
+// The verdict on a file, as on the nodes of a proof in any logic.
 ghost use Rattle.std.specs.Prelude.{IfOk};
 ghost use Rattle.proof_check.specs.Verdicts.{IsVerdict};
 
-use crate::tested::test_file;
-use crate::verdict::Verdict;
-use buchi_inclusion::{Checked, MOST_STATES, check_system};
 use cyc_memory::OutOfMemory;
+use heap_formula::RuleFault;
+use logics::check_proof;
+use node_reasons::SeparationLogic;
 use proof_file::ProofFile;
 use std::alloc::Global;
+
+/// The verdict on a proof file, or on any list of nodes.
+pub type Verdict = logics::Verdict<RuleFault>;
 
 /// The verdict on a proof file: the least node that is not right, with its first fault; else that the product states are
 /// too many; else a lasso that does not progress; else that the file is correct, and then node 0 holds (Brotherston,
@@ -15,14 +18,10 @@ use std::alloc::Global;
 pub fn check(alloc: Global, file: &ProofFile) -> Result<Verdict, OutOfMemory>
     ensures { IfOk result (IsVerdict file.now) }
 {
-    let tested = test_file(alloc, file)?;
-    match check_system(alloc, &tested, MOST_STATES)? {
-        Checked::Accepted => Ok(Verdict::Accepted),
-        Checked::Faulty(node) => {
-            let fault = tested.fault(node);
-            Ok(Verdict::RuleRefused { node, fault })
-        }
-        Checked::PathRefused(lasso) => Ok(Verdict::PathRefused { lasso }),
-        Checked::TooManyStates => Ok(Verdict::TooManyStates),
-    }
+    let _lines = file.program.lines();
+    let logic = SeparationLogic {
+        defs: &file.defs,
+        program: &file.program,
+    };
+    check_proof(alloc, &logic, file.nodes.as_slice())
 }

@@ -3,17 +3,15 @@ ghost use Rattle.std.specs.Prelude.{◌≡◌, ℕ, List, Some, slice_get};
 ghost use Rattle.heap_formula.specs.Definitions.{Definition, HasFewCases};
 ghost use Rattle.heap_formula.specs.Judgements.{JudgementHolds};
 ghost use Rattle.heap_formula.specs.declared.commands.Command.{Command};
-ghost use Rattle.rule_table.specs.Nodes.{Node};
 ghost use Rattle.rule_table.specs.Soundness.{IsCommand};
 ghost use Rattle.trace_pairs.specs.Lasso.{AllProgress};
 ghost use Rattle.buchi_inclusion.specs.Answers.{HasAtMost};
 ghost use Rattle.heap_formula.specs.Words.{Each};
 ghost use Rattle.proof_file.specs.declared.file.ProofFile.{ProofFile};
 ghost use Rattle.proof_file.specs.Upgrades.{IsUpgrade};
-ghost use Rattle.proof_check.specs.declared.verdict.Verdict.{Verdict};
-ghost use Rattle.proof_check.specs.declared.verdict.Verdict.TheVariants.{Accepted};
-ghost use Rattle.proof_check.specs.Files.{graph_of, AreReadable, AreRight, HasSmallHeaps};
-ghost use Rattle.proof_check.specs.Verdicts.{file_graph, state_limit, IsCorrect, IsVerdict};
+ghost use Rattle.logics.specs.declared.verdict.Verdict.TheVariants.{Accepted};
+ghost use Rattle.proof_check.specs.Files.{Node, graph_of, AreReadable, AreRight, HasSmallHeaps};
+ghost use Rattle.proof_check.specs.Verdicts.{Verdict, file_graph, state_limit, IsCorrect, IsVerdict};
 
 /// Where every node is right and every lasso progresses, the judgement of node 0 holds.
 pub fn correct_files_hold()

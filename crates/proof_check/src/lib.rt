@@ -3,10 +3,6 @@
 
 mod checking;
 pub mod laws;
-mod node_tests;
-mod tested;
-mod verdict;
 
-pub use checking::check;
+pub use checking::{Verdict, check};
 pub use cyc_memory::OutOfMemory;
-pub use verdict::Verdict;

@@ -20,7 +20,7 @@ use Rattle.heap_reader.specs.Flaws.{ill_if, heap_flaw, heaps_flaw}
 use Rattle.heap_reader.proofs.NoFlaw.{neither}
 use Rattle.heap_reader.proofs.Fitting.{most_fits, heap_few, heaps_few}
 use Rattle.proof_file.specs.declared.file.ProofFile.{ProofFile}
-use Rattle.proof_file.specs.declared.node.FileNode.{FileNode}
+use Rattle.proof_file.specs.FileNodes.{FileNode}
 use Rattle.pred_reader.specs.declared.scope.Scope.TheVariants.{Outside as InNode}
 use Rattle.proof_file.specs.Spans.{term_span, node_span}
 use Rattle.proof_file.specs.Flaws.{headings, term_flaw, judgement_flaw, node_flaw, first_node}

@@ -9,7 +9,7 @@ use Rattle.proof_syntax.specs.Trees.{Definition, Line, File}
 use Rattle.proof_syntax.specs.Grammar.{file}
 use Rattle.proof_file.specs.declared.building.NodeFault.{NodeFault}
 use Rattle.proof_file.specs.declared.building.NodeFault.TheVariants as faults
-use Rattle.proof_file.specs.declared.node.FileNode.{FileNode}
+use Rattle.proof_file.specs.FileNodes.{FileNode}
 use Rattle.proof_file.specs.Flaws.{headings, file_flaw}
 use Rattle.line_reader.specs.Values.{program_value}
 use Rattle.proof_file.specs.Values.{definition_value, node_value}

@@ -14,7 +14,7 @@ use Rattle.heap_formula.specs.declared.proof_rules.Reason.TheVariants.{Step, Bac
 use Rattle.heap_formula.specs.Definitions.{Definition}
 use Rattle.heap_formula.specs.Judgements.{antecedent}
 use Rattle.rule_table.specs.Tests.{is_universal, is_universal_heap}
-use Rattle.proof_file.specs.declared.node.FileNode.{FileNode}
+use Rattle.proof_file.specs.FileNodes.{FileNode}
 
 abbrev pub is_universal_rule : Rule → Bool
 is_universal_rule (Split t u) = is_universal t && is_universal u

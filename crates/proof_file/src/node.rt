@@ -1,16 +1,12 @@
 // The nodes of a proof.
 ghost use Rattle.std.specs.Prelude.{◌≡◌};
 
-use heap_formula::{Judgement, Positions, Reason};
+use heap_formula::{Judgement, Reason};
+use logics::ProofNode;
 use std::marker::Model;
 
 /// A node of a proof: its judgement, why it holds, and the numbers of its premises' nodes, from 0.
-#[derive(Drop)]
-pub struct FileNode {
-    pub judgement: Judgement,
-    pub reason: Reason,
-    pub premises: Positions,
-}
+pub type FileNode = ProofNode<Judgement, Reason>;
 
 /// The nodes of a proof in the order of their numbers.
 #[derive(Drop)]
@@ -20,7 +16,7 @@ pub struct FileNodes {
 
 impl Model for FileNodes {
     ghost use Rattle.std.specs.Prelude.{List};
-    ghost use Rattle.proof_file.specs.declared.node.FileNode.{FileNode};
+    ghost use Rattle.proof_file.specs.FileNodes.{FileNode};
 
     ghost Value = { List FileNode };
 

@@ -10,6 +10,7 @@ use cyc_limits::MOST_PREDICATES;
 use cyc_memory::OutOfMemory;
 use heap_formula::{Judgement, Link, Positions, Reason, Rule, Side, Subst};
 use heap_reader::{Heads, TermReader, entailment_value, heap_value};
+use logics::Numbers;
 use pred_reader::Scope;
 use proof_syntax::{JudgementTree, LinkTree, NodeTree, PairTree, ReasonTree, SideTree};
 use std::alloc::Global;
@@ -130,7 +131,7 @@ pub fn value_of_node(
 {
     let judgement = judgement(alloc, heads, &tree.judgement)?;
     let reason = reason(alloc, heads, &tree.reason)?;
-    let premises = positions(alloc, &tree.premises)?;
+    let premises = Numbers::from_vec(Vec::from_slice(alloc, &tree.premises)?);
     Ok(FileNode {
         judgement,
         reason,

@@ -1,9 +1,9 @@
 -- How many boxes there are.
 use Rattle.std.proofs.Common.{◌≡◌, ◌≤◌, ℕ, suc, Bool, List, [], ◌∷◌, length, refl, ap, arith}
 use Rattle.std.proofs.lemmas.List.{length-map}
-use Rattle.proof_check.specs.declared.verdict.Verdict.{Verdict}
+use Rattle.proof_check.specs.Verdicts.{Verdict}
 use Rattle.proof_file.specs.declared.file.ProofFile.{ProofFile}
-use Rattle.proof_file.specs.declared.node.FileNode.{FileNode}
+use Rattle.proof_file.specs.FileNodes.{FileNode}
 use Rattle.proof_picture.specs.Pieces.{LabelPart}
 use Rattle.proof_picture.specs.Labels.{labels_with}
 use Rattle.proof_picture.specs.declared.picture.Picture.{Picture}

@@ -4,12 +4,11 @@ use Rattle.heap_formula.specs.declared.judgements.Pair.{Pair}
 use Rattle.heap_formula.specs.declared.judgements.Premise.{Premise}
 use Rattle.heap_formula.specs.Judgements.{antecedent}
 use Rattle.rule_table.specs.Answer.{Answer}
-use Rattle.rule_table.specs.Nodes.{Node}
+use Rattle.node_reasons.specs.Graphs.{Node}
 use Rattle.node_reasons.specs.Answers.{companion_in, reason_answer, targets_of}
 use Rattle.proof_file.specs.declared.file.ProofFile.{ProofFile}
-use Rattle.proof_file.specs.declared.node.FileNode.{FileNode}
+use Rattle.proof_file.specs.FileNodes.{FileNode}
 use Rattle.proof_file.specs.Links.{is_link}
-use Rattle.proof_check.specs.Files.{nodes_of}
 use Rattle.proof_picture.specs.declared.arrows.Arrow.{Arrow}
 use Rattle.proof_picture.specs.declared.arrows.Row.{Row}
 
@@ -41,7 +40,7 @@ premises_in (Err fault) = []
 -- what the reason of a node leaves to be shown, with trace pairs: the premises of its rule, or the companion of its link
 abbrev pub premises_at : ProofFile → FileNode → List Premise
 premises_at f n =
-    premises_in (reason_answer f.defs.most f.defs.list f.program n.judgement n.reason (companion_in (λ (m : Node). m.judgement) (nodes_of f.nodes) n.reason))
+    premises_in (reason_answer f.defs.most f.defs.list f.program n.judgement n.reason (companion_in (λ (m : Node). m.judgement) f.nodes n.reason))
 
 abbrev pub pairs_in : Option Premise → List Pair
 pairs_in (Some p) = p.pairs

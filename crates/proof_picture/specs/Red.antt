@@ -2,8 +2,8 @@
 use Rattle.std.specs.Prelude.{ℕ, Bool, ◌&&◌, nat_eq, List, [], ◌++◌}
 use Rattle.std.specs.List.{list_any}
 use Rattle.trace_pairs.specs.declared.lasso.Step.{Step}
-use Rattle.proof_check.specs.declared.verdict.Verdict.{Verdict}
-use Rattle.proof_check.specs.declared.verdict.Verdict.TheVariants.{Accepted, RuleRefused, PathRefused, TooManyStates}
+use Rattle.proof_check.specs.Verdicts.{Verdict}
+use Rattle.logics.specs.declared.verdict.Verdict.TheVariants.{Accepted, RuleRefused, PathRefused, TooManyStates}
 use Rattle.proof_picture.specs.declared.steps.Taken.{Taken}
 
 -- the steps of a path that is refused, stem and cycle

@@ -1,9 +1,8 @@
 //! The edges that stand in a picture.
 ghost use Rattle.std.specs.Prelude.{◌≡◌, ◌<◌, map, IfOk};
 ghost use Rattle.std.specs.Option.{option_copied};
-ghost use Rattle.rule_table.specs.Nodes.{Node};
+ghost use Rattle.node_reasons.specs.Graphs.{Node};
 ghost use Rattle.node_reasons.specs.Answers.{companion_in, targets_of as target_numbers};
-ghost use Rattle.proof_check.specs.Files.{nodes_of};
 ghost use Rattle.proof_file.specs.Links.{is_link as links};
 ghost use Rattle.proof_picture.specs.Arrows.{arrows_at, drawn_of, pairs_at, premises_at, row_of, rows_of};
 ghost use Rattle.proof_picture.specs.Red.{step_in};
@@ -37,7 +36,7 @@ pub struct Row {
 
 /// The judgement of the node that a link names, if there is one.
 fn companion_of<'a>(nodes: &'a [FileNode], reason: &Reason) -> Option<&'a Judgement>
-    ensures { option_copied result ≡ companion_in (λ (n : Node). n.judgement) (nodes_of nodes.now) reason.now }
+    ensures { option_copied result ≡ companion_in (λ (n : Node). n.judgement) nodes.now reason.now }
 {
     match reason {
         Reason::Step(_) => None,

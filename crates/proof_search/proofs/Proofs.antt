@@ -13,13 +13,13 @@ use Rattle.symbolic_exec.proofs.ProgramLines.{program_commands}
 use Rattle.derivation_search.specs.System.{search_of, IsFound}
 use Rattle.formula_reader.specs.declared.problem.Problem.{Problem}
 use Rattle.proof_file.specs.declared.file.ProofFile.{ProofFile}
-use Rattle.proof_file.specs.declared.node.FileNode.{FileNode}
-use Rattle.proof_check.specs.Files.{graph_of, AreRight, nodes_of, node_of, HasSmallHeaps}
+use Rattle.proof_file.specs.FileNodes.{FileNode}
+use Rattle.proof_check.specs.Files.{graph_of, AreRight, HasSmallHeaps}
 use Rattle.proof_check.specs.Verdicts.{IsCorrect}
 use Rattle.proof_graph.proofs.Joined.{mapped_at}
 use Rattle.formula_facts.proofs.AllMembers.{each_at, each_imply}
 use Rattle.proof_check.proofs.KeptFacts.{root_holds}
-use Rattle.rule_table.specs.Nodes.{Node}
+use Rattle.node_reasons.specs.Graphs.{Node}
 use Rattle.heap_syntax.specs.declared.version.Version.{Version}
 use Rattle.heap_syntax.specs.declared.version.Version.TheVariants.{One, Two}
 use Rattle.heap_syntax.specs.Versions.{most_spatial}
@@ -91,27 +91,26 @@ few_atoms : (most : ℕ) → most ≤ 32 → (ds : List Definition) (count : ℕ
 few_atoms most bounded ds count j h =
     let few = short_spatials most (antecedent j) (first_heap (IsHeapWithin most ds) j h.heaps).short in omega (arith, few, bounded)
 
-small_heaps : (t : Theory) (nodes : List FileNode) → t.most ≤ 32 → Each (IsNodeWithin t.most t.definitions (length t.lines)) nodes → HasSmallHeaps (nodes_of nodes)
+small_heaps : (t : Theory) (nodes : List FileNode) → t.most ≤ 32 → Each (IsNodeWithin t.most t.definitions (length t.lines)) nodes → HasSmallHeaps nodes
 small_heaps t nodes bounded within v node at =
-    let m = mapped_at node_of nodes v node at in
-    let w = each_at (IsNodeWithin t.most t.definitions (length t.lines)) nodes v m.from m.at within in
-    subst (λ (n : Node). length (antecedent n.judgement).spatial ≤ 32) m.is (few_atoms t.most bounded t.definitions (length t.lines) m.from.judgement w.judgement)
+    let w = each_at (IsNodeWithin t.most t.definitions (length t.lines)) nodes v node at within in
+    few_atoms t.most bounded t.definitions (length t.lines) node.judgement w.judgement
 
 module _ (problem : Problem) (f : ProofFile) (moves : Derivation) (h : HasFound problem moves) (is_program : IsProgram problem.program) (same_version : f.version ≡ problem.version) (same_defs : f.defs ≡ problem.defs) (same_program : f.program ≡ problem.program)
     (same_nodes : f.nodes ≡ nodes_made (theory_for problem) (nodes_in moves)) (same_reasons : reasons_of f ≡ reasons_in moves) where
-  graph_same : graph_of problem.defs.most problem.defs.list problem.program (nodes_of (nodes_made (theory_for problem) (nodes_in moves))) ≡ graph_of f.defs.most f.defs.list f.program (nodes_of f.nodes)
-  graph_same = λ i. graph_of (sym same_defs i).most (sym same_defs i).list (sym same_program i) (nodes_of (sym same_nodes i))
+  graph_same : graph_of problem.defs.most problem.defs.list problem.program (nodes_made (theory_for problem) (nodes_in moves)) ≡ graph_of f.defs.most f.defs.list f.program f.nodes
+  graph_same = λ i. graph_of (sym same_defs i).most (sym same_defs i).list (sym same_program i) (sym same_nodes i)
 
   correct : IsCorrect f
   correct = record {
-    nodes = subst (λ (ds : _). AreRight ds.most ds.list f.program (nodes_of f.nodes)) (sym same_defs)
-        (subst (λ lines. AreRight problem.defs.most problem.defs.list lines (nodes_of f.nodes)) (sym same_program)
-        (subst (λ ns. AreRight problem.defs.most problem.defs.list problem.program (nodes_of ns)) (sym same_nodes) h.proof.right));
+    nodes = subst (λ (ds : _). AreRight ds.most ds.list f.program f.nodes) (sym same_defs)
+        (subst (λ lines. AreRight problem.defs.most problem.defs.list lines f.nodes) (sym same_program)
+        (subst (λ ns. AreRight problem.defs.most problem.defs.list problem.program ns) (sym same_nodes) h.proof.right));
     paths = subst AllProgress graph_same h.proof.paths;
   }
 
-  small : HasSmallHeaps (nodes_of f.nodes)
-  small = subst (λ ns. HasSmallHeaps (nodes_of ns)) (sym same_nodes) (small_heaps (theory_for problem) (nodes_made (theory_for problem) (nodes_in moves)) (limit_bounded problem) h.proof.within)
+  small : HasSmallHeaps f.nodes
+  small = subst (λ ns. HasSmallHeaps ns) (sym same_nodes) (small_heaps (theory_for problem) (nodes_made (theory_for problem) (nodes_in moves)) (limit_bounded problem) h.proof.within)
 
   pub is_proof : IsProofFor problem f
   is_proof = record {

@@ -2,7 +2,7 @@
 use Rattle.std.specs.Prelude.{ℕ, ◌+◌, List, [], ◌∷◌, Option, Some, None, slice_get}
 use Rattle.heap_formula.specs.declared.proof_rules.Reason.{Reason}
 use Rattle.heap_formula.specs.declared.proof_rules.Reason.TheVariants.{Step, Back}
-use Rattle.proof_file.specs.declared.node.FileNode.{FileNode}
+use Rattle.proof_file.specs.FileNodes.{FileNode}
 use Rattle.proof_graph.specs.declared.nodes.GraphPremise.{GraphPremise}
 use Rattle.proof_graph.specs.declared.nodes.GraphNode.{GraphNode}
 use Rattle.search_calculus.specs.Calculus.{MadeNode, judgement_of}

@@ -9,7 +9,8 @@ ghost use Rattle.proof_search.specs.Results.{numbers_in, file_node_at, file_node
 use cyc_memory::OutOfMemory;
 use derivation_moves::Derivation;
 use formula_reader::Problem;
-use heap_formula::{Judgement, Positions, Reason};
+use heap_formula::{Judgement, Reason};
+use logics::Numbers;
 use problem_files::file_for;
 use proof_file::{FileNode, FileNodes, ProofFile};
 use proof_graph::{Graph, PremiseView};
@@ -33,12 +34,12 @@ fn numbers(
     alloc: Global,
     reason: &Reason,
     premises: &[PremiseView<'_>],
-) -> Result<Positions, OutOfMemory>
+) -> Result<Numbers, OutOfMemory>
     ensures { IfOk result (λ p. p ≡ numbers_in reason.now premises.now) }
 {
     match reason {
-        Reason::Step(_) => Ok(Positions::from_vec(filled_slots(alloc, premises)?)),
-        Reason::Back(_) => Ok(Positions::from_vec(Vec::new(alloc))),
+        Reason::Step(_) => Ok(Numbers::from_vec(filled_slots(alloc, premises)?)),
+        Reason::Back(_) => Ok(Numbers::from_vec(Vec::new(alloc))),
     }
 }
 

@@ -16,7 +16,7 @@ use Rattle.cyc_lex.proofs.BoolParts.{and-parts}
 use Rattle.cyc_grammar.specs.Classes.{is_free_name}
 use Rattle.heap_syntax.specs.Versions.{most_spatial}
 use Rattle.proof_syntax.specs.Grammar.{reserved, uterm, definition, disjuncts, entailment, state, judgement, cut, split, parts, reason, node, body, file, or_word, by_word}
-use Rattle.proof_file.specs.declared.node.FileNode.{FileNode}
+use Rattle.proof_file.specs.FileNodes.{FileNode}
 use Rattle.proof_file.specs.declared.file.ProofFile.{ProofFile}
 use Rattle.heap_reader.specs.Trees.{Heading}
 use Rattle.heap_reader.specs.Values.{place_of}

@@ -19,7 +19,7 @@ use Rattle.heap_reader.specs.Flaws.{ill_if, over_if, or_later, listed_flaw, heap
 use Rattle.heap_reader.proofs.NoFlaw.{neither, none_later}
 use Rattle.heap_reader.proofs.Fitting.{most_fits}
 use Rattle.heap_reader.proofs.Wider.{listed_wider, heap_wider, heaps_wider}
-use Rattle.proof_file.specs.declared.node.FileNode.{FileNode}
+use Rattle.proof_file.specs.FileNodes.{FileNode}
 use Rattle.pred_reader.specs.declared.scope.Scope.TheVariants.{Outside as InNode, Case as InCase}
 use Rattle.proof_file.specs.Spans.{term_span, definition_span, judgement_span, node_span}
 use Rattle.proof_file.specs.Flaws.{headings, term_flaw, program_flaw, head_flaw, definition_flaw, judgement_flaw, reason_flaw, node_flaw, first_line, first_node, file_flaw}

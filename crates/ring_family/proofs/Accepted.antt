@@ -10,15 +10,15 @@ use Rattle.heap_formula.specs.declared.proof_rules.Reason.{Reason}
 use Rattle.heap_formula.specs.declared.proof_rules.Reason.TheVariants.{Step, Back}
 use Rattle.heap_formula.specs.declared.proof_rules.Rule.{Rule}
 use Rattle.heap_formula.specs.declared.proof_rules.Link.{Link}
-use Rattle.rule_table.specs.Nodes.{Node}
+use Rattle.node_reasons.specs.Graphs.{Node}
 use Rattle.pred_defs.specs.Book.{DefinitionBook}
 use Rattle.trace_pairs.specs.Lasso.{AllProgress}
 use Rattle.buchi_inclusion.specs.Answers.{HasAtMost}
-use Rattle.proof_file.specs.declared.node.FileNode.{FileNode}
+use Rattle.proof_file.specs.FileNodes.{FileNode}
 use Rattle.proof_file.specs.declared.file.ProofFile.{ProofFile}
-use Rattle.proof_check.specs.declared.verdict.Verdict.{Verdict}
-use Rattle.proof_check.specs.declared.verdict.Verdict.TheVariants.{Accepted}
-use Rattle.proof_check.specs.Files.{AreRight, graph_of, nodes_of}
+use Rattle.proof_check.specs.Verdicts.{Verdict}
+use Rattle.logics.specs.declared.verdict.Verdict.TheVariants.{Accepted}
+use Rattle.proof_check.specs.Files.{AreRight, graph_of}
 use Rattle.proof_check.specs.Verdicts.{file_graph, state_limit, IsCorrect, IsVerdict}
 use Rattle.proof_check.proofs.OneAnswer.{at_most_more, correct_is_accepted}
 use Rattle.ring_family.specs.Ring.{holds, ring_definitions, ring_block, ring_bud, ring_nodes, in_blocks, file_node, file_nodes}
@@ -57,9 +57,9 @@ module _ (is_link : Reason → Bool) (step : (rule : Rule) → is_link (Step rul
 pub few_are_accepted : (k : ℕ) (f : ProofFile) (v : Verdict) → IsVerdict f v → IsCorrect f → HasAtMost (file_graph f) (8 * k + 1) → k ≤ 2000 → v ≡ Accepted
 few_are_accepted k f v is correct states few = correct_is_accepted f v is correct (at_most_more (file_graph f) (8 * k + 1) state_limit (omega arith) states)
 
-module _ (k : ℕ) (one : 1 ≤ k) (few : k ≤ 2000) (f : ProofFile) (most : f.defs.most ≡ 16) (list : f.defs.list ≡ ring_definitions k) (program : f.program ≡ []) (nodes : nodes_of f.nodes ≡ ring_nodes k) where
-  move : (P : DefinitionBook → List Command → List Node → Type 0) → P (record { most = 16; list = ring_definitions k }) [] (ring_nodes k) → P f.defs f.program (nodes_of f.nodes)
-  move P x = moved P k f.defs f.program (nodes_of f.nodes) (λ i. record { most = most i; list = list i }) program nodes x
+module _ (k : ℕ) (one : 1 ≤ k) (few : k ≤ 2000) (f : ProofFile) (most : f.defs.most ≡ 16) (list : f.defs.list ≡ ring_definitions k) (program : f.program ≡ []) (nodes : f.nodes ≡ ring_nodes k) where
+  move : (P : DefinitionBook → List Command → List Node → Type 0) → P (record { most = 16; list = ring_definitions k }) [] (ring_nodes k) → P f.defs f.program f.nodes
+  move P x = moved P k f.defs f.program f.nodes (λ i. record { most = most i; list = list i }) program nodes x
 
   file_correct : IsCorrect f
   file_correct =

@@ -12,7 +12,7 @@ use Rattle.heap_formula.specs.declared.proof_rules.Rule.TheVariants.{Rewrite, Un
 use Rattle.heap_formula.specs.declared.proof_rules.Side.TheVariants.{Left}
 use Rattle.heap_formula.specs.Definitions.{Definition}
 use Rattle.heap_formula.specs.Symbolic.{SymbolicHeap}
-use Rattle.rule_table.specs.Nodes.{Node}
+use Rattle.node_reasons.specs.Graphs.{Node}
 use Rattle.cyc_grammar.specs.Syntax.{fits_many}
 use Rattle.cyc_grammar.specs.Classes.{is_free_name}
 use Rattle.heap_syntax.specs.Words.{reserved}

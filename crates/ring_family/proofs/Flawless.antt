@@ -12,7 +12,7 @@ use Rattle.heap_formula.specs.declared.proof_rules.Rule.TheVariants.{Rewrite, Un
 use Rattle.heap_formula.specs.declared.proof_rules.Side.TheVariants.{Left}
 use Rattle.heap_formula.specs.Definitions.{Definition}
 use Rattle.heap_formula.specs.Symbolic.{SymbolicHeap}
-use Rattle.rule_table.specs.Nodes.{Node}
+use Rattle.node_reasons.specs.Graphs.{Node}
 use Rattle.cyc_lex.specs.declared.fault.What.TheVariants.{Variable}
 use Rattle.heap_reader.specs.Trees.{Heading}
 use Rattle.heap_reader.specs.Flaws.{Found, over_if, or_later, listed_flaw, arity_in, heap_flaw}

@@ -1,5 +1,6 @@
 -- The trace graph of the ring, node by node.
 use Rattle.std.proofs.Common.{◌≡◌, ℕ, ◌+◌, ◌*◌, ◌<◌, ◌≤◌, List, [], ◌∷◌, length, map, arith, true, false, refl, ap}
+use Rattle.std.proofs.lemmas.Bool.{eq-eqb}
 use Rattle.heap_formula.specs.declared.terms.Term.TheVariants.{Nil, Univ, Exist}
 use Rattle.heap_formula.specs.declared.proof_rules.Rule.{Rule}
 use Rattle.heap_formula.specs.declared.proof_rules.Rule.TheVariants.{Rewrite, Unfold, Done, PureRight, Instantiate, Frame, UnfoldRight}
@@ -8,9 +9,11 @@ use Rattle.heap_formula.specs.Definitions.{Definition}
 use Rattle.heap_formula.specs.Symbolic.{SymbolicHeap}
 use Rattle.rule_table.specs.Answer.{Answer}
 use Rattle.rule_table.specs.RuleBook.{rule_answer}
-use Rattle.rule_table.specs.Nodes.{Node, answer_edges}
+use Rattle.logics.specs.Graphs.{rule_edges}
+use Rattle.node_reasons.specs.Graphs.{Node}
+use Rattle.node_reasons.specs.SeparationLogic.{traced_answer}
 use Rattle.trace_pairs.specs.Graph.{Node as GraphNode, Edge as GraphEdge, Pair as TracePair}
-use Rattle.proof_graph.specs.Traces.{predicate_places, graph_edge}
+use Rattle.proof_graph.specs.Traces.{predicate_places}
 use Rattle.ring_family.specs.Ring.{emp, is_nil, holds, cell_then, after, ring_definitions, by_rule, ring_block, ring_bud, in_blocks, ring_nodes}
 use Rattle.proof_check.specs.Files.{graph_node, graph_of}
 use Rattle.ring_family.proofs.Answers.{entails, unfolds, rewrites, unfolds_nil, drops_pure, done', unfolds_cell, instantiates, frames}
@@ -54,8 +57,8 @@ module _ (k : ℕ) (one : 1 ≤ k) (few : k ≤ 2000) where
 
   -- a node by a rule with this answer
   answered : (a b : SymbolicHeap) (rule : Rule) (us : List ℕ) (answer : Answer) → rule_answer 16 ds [] (entails a b) rule ≡ answer →
-      graph_node 16 ds [] nodes (by_rule a b rule us) ≡ graph_node_of (predicate_places 0 a.spatial) (map graph_edge (answer_edges us answer))
-  answered a b rule us answer e = ap (λ (t : Answer). graph_node_of (predicate_places 0 a.spatial) (map graph_edge (answer_edges us t))) e
+      graph_node 16 ds [] nodes (by_rule a b rule us) ≡ graph_node_of (predicate_places 0 a.spatial) (rule_edges us (traced_answer answer))
+  answered a b rule us answer e = ap (λ (t : Answer). graph_node_of (predicate_places 0 a.spatial) (rule_edges us (traced_answer t))) e
 
   block_graph : (m : ℕ) → m < k → map (graph_node 16 ds [] nodes) (ring_block k m) ≡ graph_block m
   block_graph m b =
@@ -75,7 +78,7 @@ module _ (k : ℕ) (one : 1 ≤ k) (few : k ≤ 2000) where
       λ i. n0 i ∷ n1 i ∷ n2 i ∷ n3 i ∷ n4 i ∷ n5 i ∷ n6 i ∷ n7 i ∷ []
 
   bud_graph : graph_node 16 ds [] nodes (ring_bud k) ≡ graph_bud
-  bud_graph = rw (node_at k one few 0 0 0 _ (omega arith) refl refl)
+  bud_graph = rw (node_at k one few 0 0 0 _ (omega arith) refl refl) (rw (eq-eqb k k refl))
 
   pub ring_graph_is : graph_of 16 ds [] nodes ≡ ring_graph k
   ring_graph_is = blocks_map (graph_node 16 ds [] nodes) (ring_block k) (ring_bud k) graph_block graph_bud 0 k (λ m _ b. block_graph m (omega (arith, b))) bud_graph

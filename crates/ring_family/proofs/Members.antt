@@ -5,7 +5,7 @@ use Rattle.std.specs.Str.{bytes_eq}
 use Rattle.std.specs.Fmt.{decimal}
 use Rattle.std.proofs.lemmas.Bool.{cases_eq, eq-eqb, ne_eqb}
 use Rattle.heap_formula.specs.Definitions.{Definition}
-use Rattle.rule_table.specs.Nodes.{Node}
+use Rattle.node_reasons.specs.Graphs.{Node}
 use Rattle.cyc_grammar.specs.Classes.{is_free_name}
 use Rattle.cyc_grammar.proofs.ClassLaws.{bytes_same}
 use Rattle.heap_syntax.specs.Words.{reserved}

@@ -3,9 +3,8 @@ use Rattle.std.proofs.Common.{◌≡◌, ℕ, zero, suc, List, [], ◌∷◌, Bo
 use Rattle.std.specs.Prelude.{slice_get}
 use Rattle.std.specs.List.{list_all}
 use Rattle.std.proofs.lemmas.Bool.{and_from}
-use Rattle.rule_table.specs.Nodes.{Node}
-use Rattle.proof_check.specs.Files.{node_of}
-use Rattle.proof_file.specs.declared.node.FileNode.{FileNode}
+use Rattle.node_reasons.specs.Graphs.{Node}
+use Rattle.proof_file.specs.FileNodes.{FileNode}
 use Rattle.proof_file.specs.Readable.{is_readable, is_at_line, are_readable, are_at_lines, all_have_few_cases}
 use Rattle.ring_family.specs.Ring.{definitions_from, ring_definitions, ring_nodes, file_node, file_nodes}
 use Rattle.ring_family.proofs.Members.{each_node}
@@ -29,6 +28,6 @@ few_from k i (suc n) = few_from k (suc i) n
 pub few_cases : (k : ℕ) → all_have_few_cases (ring_definitions k) ≡ true
 few_cases k = few_from k 0 k
 
-pub nodes_again : (xs : List Node) → map node_of (file_nodes xs) ≡ xs
+pub nodes_again : (xs : List Node) → file_nodes xs ≡ xs
 nodes_again [] = refl
 nodes_again (x ∷ xs) = ap (λ ys. x ∷ ys) (nodes_again xs)

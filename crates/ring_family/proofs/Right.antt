@@ -1,5 +1,5 @@
 -- Each node of the ring is right.
-use Rattle.std.proofs.Common.{◌≡◌, ℕ, zero, suc, ◌+◌, ◌*◌, ◌<◌, ◌≤◌, inl, inr, List, [], ◌∷◌, arith, Bool, true, false, Option, Some, None, length, refl, ap, ◌∙◌, subst}
+use Rattle.std.proofs.Common.{◌≡◌, ℕ, zero, suc, ◌+◌, ◌*◌, ◌<◌, ◌≤◌, inl, inr, List, [], ◌∷◌, map, arith, Bool, true, false, Option, Some, None, length, refl, ap, ◌∙◌, subst}
 use Rattle.std.specs.Prelude.{Ok, slice_get, if◌then◌else◌}
 use Rattle.std.proofs.lemmas.Bool.{cases_eq, eq-eqb, ne_eqb, lt-ltb}
 use Rattle.heap_formula.specs.declared.terms.Term.TheVariants.{Nil, Univ, Exist}
@@ -8,18 +8,24 @@ use Rattle.heap_formula.specs.declared.judgements.Premise.{Premise}
 use Rattle.heap_formula.specs.declared.proof_rules.Rule.{Rule}
 use Rattle.heap_formula.specs.declared.proof_rules.Rule.TheVariants.{Rewrite, Unfold, Done, PureRight, Instantiate, Frame, UnfoldRight}
 use Rattle.heap_formula.specs.declared.proof_rules.Side.TheVariants.{Left}
+use Rattle.heap_formula.specs.declared.proof_rules.Reason.{Reason}
+use Rattle.heap_formula.specs.declared.proof_rules.RuleFault.{RuleFault}
 use Rattle.heap_formula.specs.declared.proof_rules.RuleFault.TheVariants.{PremiseCount, PremiseDiffers, NoSuchNode}
 use Rattle.heap_formula.specs.Definitions.{Definition}
 use Rattle.heap_formula.specs.Symbolic.{SymbolicHeap}
 use Rattle.heap_formula.specs.Meaning.{cases_of}
-use Rattle.rule_table.specs.LinkTable.{first_of, fault_unless}
+use Rattle.rule_table.specs.Answer.{Answer}
+use Rattle.rule_table.specs.Judgements.{same_judgement}
 use Rattle.rule_table.specs.RuleBook.{rule_answer}
-use Rattle.rule_table.specs.Nodes.{Node, same_judgement, differs, premises_fault, answer_fault, node_fault}
+use Rattle.logics.specs.Logics.{LogicValue}
+use Rattle.logics.specs.Faults.{first_of, fault_unless, differs, premises_fault, rule_fault}
+use Rattle.node_reasons.specs.Graphs.{Node, node_fault}
+use Rattle.node_reasons.specs.SeparationLogic.{traced, traced_answer, separation_logic}
 use Rattle.ring_family.specs.Ring.{emp, is_nil, holds, cell_then, after, definitions_from, ring_definitions, by_rule, ring_block, ring_bud, ring_nodes}
 use Rattle.proof_check.specs.Files.{AreRight}
 use Rattle.ring_family.proofs.Answers.{entails, premise, pair, unfolds, rewrites, unfolds_nil, drops_pure, done', unfolds_cell, instantiates, frames}
 use Rattle.ring_family.proofs.Blocks.{EachFrom, each_from, blocks_cases, in_block, at_last}
-use Rattle.proof_check.proofs.SameJudgements.{same_judgement_self}
+use Rattle.rule_table.proofs.SameJudgements.{same_judgement_self}
 
 -- ---- nodes by rules
 
@@ -30,18 +36,25 @@ module _ (most : ℕ) (ds : List Definition) (nodes : List Node) where
     pub is_node : slice_get nodes u ≡ Some node
     pub has_judgement : j ≡ node.judgement
 
-  premise_right : (v i u : ℕ) (p : Premise) (ps : List Premise) (us : List ℕ) → v < u → Stands u p.judgement → premises_fault nodes v (suc i) ps us ≡ None → premises_fault nodes v i (p ∷ ps) (u ∷ us) ≡ None
+  abbrev logic : LogicValue Judgement Reason RuleFault
+  logic = separation_logic most ds []
+
+  -- the fault of premises from place i on
+  abbrev fault_from : ℕ → ℕ → List Premise → List ℕ → Option RuleFault
+  fault_from v i ps us = premises_fault logic nodes v i (map traced ps) us
+
+  premise_right : (v i u : ℕ) (p : Premise) (ps : List Premise) (us : List ℕ) → v < u → Stands u p.judgement → fault_from v (suc i) ps us ≡ None → fault_from v i (p ∷ ps) (u ∷ us) ≡ None
   premise_right v i u p ps us lower s rest =
       let same : same_judgement p.judgement s.node.judgement ≡ true = subst (λ (x : Judgement). same_judgement p.judgement x ≡ true) s.has_judgement (same_judgement_self p.judgement) in
-      ap (λ b. first_of (fault_unless b NoSuchNode) (first_of (differs nodes i u p (slice_get nodes u)) (premises_fault nodes v (suc i) ps us))) (lt-ltb v u lower) ∙
-      (ap (λ (o : Option Node). first_of (differs nodes i u p o) (premises_fault nodes v (suc i) ps us)) s.is_node ∙
-      (ap (λ b. first_of (fault_unless b (PremiseDiffers i)) (premises_fault nodes v (suc i) ps us)) same ∙ rest))
+      ap (λ b. first_of (fault_unless b NoSuchNode) (first_of (differs logic i (traced p) (slice_get nodes u)) (fault_from v (suc i) ps us))) (lt-ltb v u lower) ∙
+      (ap (λ (o : Option Node). first_of (differs logic i (traced p) o) (fault_from v (suc i) ps us)) s.is_node ∙
+      (ap (λ b. first_of (fault_unless b (PremiseDiffers i)) (fault_from v (suc i) ps us)) same ∙ rest))
 
-  rule_right : (v : ℕ) (a b : SymbolicHeap) (rule : Rule) (us : List ℕ) (ps : List Premise) → rule_answer most ds [] (entails a b) rule ≡ Ok ps → length ps ≡ length us → premises_fault nodes v 0 ps us ≡ None →
+  rule_right : (v : ℕ) (a b : SymbolicHeap) (rule : Rule) (us : List ℕ) (ps : List Premise) → rule_answer most ds [] (entails a b) rule ≡ Ok ps → length (map traced ps) ≡ length us → fault_from v 0 ps us ≡ None →
       node_fault most ds [] nodes v (by_rule a b rule us) ≡ None
   rule_right v a b rule us ps answer long right =
-      ap (answer_fault nodes v us) answer ∙
-      (ap (λ t. first_of (fault_unless t PremiseCount) (premises_fault nodes v 0 ps us)) (eq-eqb (length ps) (length us) long) ∙ right)
+      ap (λ (t : Answer). rule_fault logic nodes v us (traced_answer t)) answer ∙
+      (ap (λ t. first_of (fault_unless t PremiseCount) (fault_from v 0 ps us)) (eq-eqb (length (map traced ps)) (length us) long) ∙ right)
 
   one_right : (v u : ℕ) (a b : SymbolicHeap) (rule : Rule) (p : Premise) → v < u → rule_answer most ds [] (entails a b) rule ≡ Ok (p ∷ []) → Stands u p.judgement → node_fault most ds [] nodes v (by_rule a b rule (u ∷ [])) ≡ None
   one_right v u a b rule p lower answer s =

@@ -7,7 +7,7 @@ use Rattle.std.proofs.lemmas.Fmt.{length-decimal-le}
 use Rattle.std.proofs.lemmas.List.{length-map}
 use Rattle.std.proofs.lemmas.List.Sums.{sum_by-append}
 use Rattle.heap_formula.specs.Definitions.{Definition}
-use Rattle.rule_table.specs.Nodes.{Node}
+use Rattle.node_reasons.specs.Graphs.{Node}
 use Rattle.cyc_lex.specs.Word.{Word}
 use Rattle.ring_family.proofs.TextSizes.{spaced_word, spaced_words, text_short}
 use Rattle.cyc_grammar.specs.Syntax.{words_many}

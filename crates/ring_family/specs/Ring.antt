@@ -13,8 +13,8 @@ use Rattle.heap_formula.specs.declared.proof_rules.Rule.TheVariants.{Rewrite, Un
 use Rattle.heap_formula.specs.declared.proof_rules.Side.TheVariants.{Left}
 use Rattle.heap_formula.specs.Definitions.{Definition}
 use Rattle.heap_formula.specs.Symbolic.{SymbolicHeap}
-use Rattle.rule_table.specs.Nodes.{Node}
-use Rattle.proof_file.specs.declared.node.FileNode.{FileNode}
+use Rattle.node_reasons.specs.Graphs.{Node}
+use Rattle.proof_file.specs.FileNodes.{FileNode}
 
 -- ---- formulas
 

@@ -4,9 +4,8 @@ ghost use Rattle.heap_formula.specs.declared.atoms.Spatial.TheVariants.{Cell, Pr
 ghost use Rattle.ring_family.specs.Ring.{emp as nothing, is_nil as nil_heap, holds as call_heap, cell_then as cell_heap, by_rule, file_node};
 
 use cyc_memory::OutOfMemory;
-use heap_formula::{
-    Args, Disjuncts, Heap, Judgement, Positions, Pure, Reason, Rule, Spatial, Term,
-};
+use heap_formula::{Args, Disjuncts, Heap, Judgement, Pure, Reason, Rule, Spatial, Term};
+use logics::Numbers;
 use proof_file::FileNode;
 use std::alloc::Global;
 
@@ -68,6 +67,6 @@ pub fn by_rule(
     Ok(FileNode {
         judgement: Judgement::Entail(antecedent, succedents),
         reason: Reason::Step(rule),
-        premises: Positions::from_vec(Vec::from_slice(alloc, premises)?),
+        premises: Numbers::from_vec(Vec::from_slice(alloc, premises)?),
     })
 }

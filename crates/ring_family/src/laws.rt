@@ -11,10 +11,10 @@ ghost use Rattle.buchi_inclusion.specs.Answers.{HasAtMost, HasMoreThan};
 ghost use Rattle.heap_syntax.specs.declared.version.Version.TheVariants.{One};
 ghost use Rattle.proof_file.specs.Written.{text_of_file};
 ghost use Rattle.proof_file.specs.declared.file.ProofFile.{ProofFile};
-ghost use Rattle.proof_file.specs.declared.node.FileNode.{FileNode};
-ghost use Rattle.proof_check.specs.declared.verdict.Verdict.{Verdict};
-ghost use Rattle.proof_check.specs.declared.verdict.Verdict.TheVariants.{Accepted};
-ghost use Rattle.proof_check.specs.Files.{AreRight, graph_of, nodes_of};
+ghost use Rattle.proof_file.specs.FileNodes.{FileNode};
+ghost use Rattle.proof_check.specs.Verdicts.{Verdict};
+ghost use Rattle.logics.specs.declared.verdict.Verdict.TheVariants.{Accepted};
+ghost use Rattle.proof_check.specs.Files.{AreRight, graph_of};
 ghost use Rattle.proof_check.specs.Verdicts.{file_graph, IsCorrect, IsVerdict};
 ghost use Rattle.ring_family.specs.Ring.{holds, ring_definitions, ring_nodes, file_nodes};
 
@@ -49,7 +49,7 @@ pub fn ring_has_one_link()
 /// A check can say nothing else of a ring's file, or of a file that says the same, than that it is accepted.
 pub fn ring_is_accepted()
     ensures same { (k : ℕ) → 1 ≤ k → k ≤ 2000 → (f : ProofFile) → f.defs.most ≡ 16 → f.defs.list ≡ ring_definitions k
-        → f.program ≡ [] → nodes_of f.nodes ≡ ring_nodes k → (v : Verdict) → IsVerdict f v → v ≡ Accepted }
+        → f.program ≡ [] → f.nodes ≡ ring_nodes k → (v : Verdict) → IsVerdict f v → v ≡ Accepted }
     ensures correct { (k : ℕ) (f : ProofFile) (v : Verdict) → IsVerdict f v → IsCorrect f
         → HasAtMost (file_graph f) (8 * k + 1) → k ≤ 2000 → v ≡ Accepted }
 {}

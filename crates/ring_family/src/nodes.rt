@@ -9,6 +9,7 @@ use crate::definitions::successor;
 use crate::formulas::{by_rule, cell_then, emp, holds, is_nil};
 use cyc_memory::OutOfMemory;
 use heap_formula::{Disjuncts, Heap, Judgement, Link, Positions, Reason, Rule, Side, Subst, Term};
+use logics::Numbers;
 use proof_file::FileNode;
 use std::alloc::Global;
 
@@ -134,7 +135,7 @@ fn bud(alloc: Global, k: u16) -> Result<FileNode, OutOfMemory>
     Ok(FileNode {
         judgement: Judgement::Entail(left, Disjuncts::single(alloc, right)?),
         reason: Reason::Back(link),
-        premises: Positions::from_vec(Vec::new(alloc)),
+        premises: Numbers::from_vec(Vec::new(alloc)),
     })
 }
 

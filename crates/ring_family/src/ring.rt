@@ -3,7 +3,6 @@ ghost use Rattle.std.specs.Prelude.{◌≡◌, ◌<◌, ◌≤◌, ◌+◌, ◌*
 ghost use Rattle.buchi_inclusion.specs.Answers.{HasAtMost, HasMoreThan};
 ghost use Rattle.heap_syntax.specs.declared.version.Version.TheVariants.{One};
 ghost use Rattle.proof_file.specs.Written.{text_of_file};
-ghost use Rattle.proof_check.specs.Files.{nodes_of};
 ghost use Rattle.proof_check.specs.Verdicts.{file_graph, IsCorrect};
 ghost use Rattle.ring_family.specs.Ring.{ring_definitions, ring_nodes, file_nodes};
 
@@ -24,7 +23,7 @@ pub fn ring_file(alloc: Global, k: u32) -> Result<ProofFile, OutOfMemory>
     ensures version { IfOk result (λ f. f.version ≡ One) }
     ensures definitions { IfOk result (λ f. f.defs ≡ record { most = 16; list = ring_definitions k }) }
     ensures program { IfOk result (λ f. f.program ≡ []) }
-    ensures nodes { IfOk result (λ f. nodes_of f.nodes ≡ ring_nodes k) }
+    ensures nodes { IfOk result (λ f. f.nodes ≡ ring_nodes k) }
     ensures file_form { IfOk result (λ f. f.nodes ≡ file_nodes (ring_nodes k)) }
     ensures short { IfOk result (λ f. length (text_of_file f.version f.defs.list f.program f.nodes) < 16777216) }
     ensures correct { IfOk result IsCorrect }

@@ -10,14 +10,13 @@ pub mod Answers
 pub mod Saturates
 pub mod LimitedPremises
 pub mod AllRules
-pub mod RightNodes
+pub mod OneJudgement
+pub mod SameJudgements
 pub mod Chooses
-pub mod ExampleFiles
 pub mod Fits
 pub mod AllFit
 pub mod Keeps
 pub mod NewZero
-pub mod ExampleFaults
 pub mod RewriteExistential
 pub mod Frames
 pub mod Substitutes

@@ -11,7 +11,8 @@ use Rattle.rule_table.specs.Answer.{Answer}
 use Rattle.rule_table.specs.LinkTable.{link_fault, link_premise}
 use Rattle.rule_table.specs.RuleBook.{variables_of, rule_answer}
 use Rattle.trace_pairs.specs.Graph.{Edge}
-use Rattle.proof_graph.specs.Traces.{positions_of, trace_edge, trace_pairs_of}
+use Rattle.proof_graph.specs.Traces.{positions_of, trace_edge}
+pub use Rattle.node_reasons.specs.SeparationLogic.{traced}
 use Rattle.search_moves.specs.Trying.{Theory}
 use Rattle.tableaux.specs.Tableau.{Subgoal, Goal, Made, Calculus}
 
@@ -27,10 +28,6 @@ abbrev pub judgement_of : MadeNode → Judgement
 judgement_of m = m.goal.premise.judgement
 
 -- ---- rules
-
--- the premise, with its pairs as the automata have them
-abbrev pub traced : Premise → Subgoal Judgement
-traced p = record { judgement = p.judgement; pairs = trace_pairs_of p.pairs }
 
 -- none at a fault
 abbrev pub answered : Answer → Option (List (Subgoal Judgement))

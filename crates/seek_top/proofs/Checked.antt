@@ -4,8 +4,8 @@ use Rattle.heap_formula.specs.Judgements.{JudgementHolds}
 use Rattle.pred_defs.specs.Book.{DefinitionBook}
 use Rattle.formula_reader.specs.declared.problem.Problem.{Problem}
 use Rattle.proof_file.specs.declared.file.ProofFile.{ProofFile}
-use Rattle.proof_file.specs.declared.node.FileNode.{FileNode}
-use Rattle.proof_check.specs.declared.verdict.Verdict.TheVariants.{Accepted}
+use Rattle.proof_file.specs.FileNodes.{FileNode}
+use Rattle.logics.specs.declared.verdict.Verdict.TheVariants.{Accepted}
 use Rattle.proof_check.specs.Files.{node_of}
 use Rattle.proof_check.specs.Verdicts.{IsVerdict}
 use Rattle.seek_top.specs.Found.{IsCheckedProof}

@@ -3,8 +3,8 @@ use Rattle.std.specs.Prelude.{◌≡◌, Option, Some, None, slice_get}
 use Rattle.heap_formula.specs.Judgements.{JudgementHolds}
 use Rattle.formula_reader.specs.declared.problem.Problem.{Problem}
 use Rattle.proof_file.specs.declared.file.ProofFile.{ProofFile}
-use Rattle.proof_file.specs.declared.node.FileNode.{FileNode}
-use Rattle.proof_check.specs.declared.verdict.Verdict.TheVariants.{Accepted}
+use Rattle.proof_file.specs.FileNodes.{FileNode}
+use Rattle.logics.specs.declared.verdict.Verdict.TheVariants.{Accepted}
 use Rattle.proof_check.specs.Verdicts.{IsVerdict}
 
 -- a proof of the problem's goal, of the problem's version, that a check accepts

@@ -1,6 +1,6 @@
 // The check of what was found.
 ghost use Rattle.std.specs.Prelude.{◌≡◌, IsTrue, IfOk, Some, slice_get};
-ghost use Rattle.proof_file.specs.declared.node.FileNode.{FileNode as Node};
+ghost use Rattle.proof_file.specs.FileNodes.{FileNode as Node};
 ghost use Rattle.seek_top.specs.Found.{IsSought};
 
 use cyc_limits::MOST_NODES;

@@ -1,12 +1,13 @@
 // A draft in which every node is closed as the nodes of a file.
 use cyc_memory::OutOfMemory;
-use heap_formula::{Positions, Reason};
+use heap_formula::Reason;
+use logics::Numbers;
 use proof_file::FileNode;
 use seek_engine::{Draft, DraftEdge, DraftNode};
 use std::alloc::Global;
 
 /// The numbers of a node's premises; a link has none.
-fn premises(alloc: Global, reason: &Reason, edges: &[DraftEdge]) -> Result<Positions, OutOfMemory> {
+fn premises(alloc: Global, reason: &Reason, edges: &[DraftEdge]) -> Result<Numbers, OutOfMemory> {
     let mut numbers = Vec::new(alloc);
     if let Reason::Step(_) = reason {
         for edge in edges {
@@ -15,7 +16,7 @@ fn premises(alloc: Global, reason: &Reason, edges: &[DraftEdge]) -> Result<Posit
             }
         }
     }
-    Ok(Positions::from_vec(numbers))
+    Ok(Numbers::from_vec(numbers))
 }
 
 fn file_node(alloc: Global, node: &DraftNode) -> Result<Option<FileNode>, OutOfMemory> {

@@ -2,7 +2,7 @@
 use Rattle.std.specs.Prelude.{ℕ, ◌+◌, List, [], ◌∷◌, ◌++◌, Option, Some, None, length, fold}
 use Rattle.trace_pairs.specs.Graph.{Node, Edge}
 use Rattle.trace_decision.specs.Leaf.{add_edge, with_leaf}
-use Rattle.tableaux.specs.declared.goals.Subgoal.{Subgoal as PremiseOfCode}
+use Rattle.logics.specs.declared.premises.Subgoal.{Subgoal as PremiseOfCode}
 use Rattle.tableaux.specs.declared.goals.OpenGoal.{OpenGoal}
 use Rattle.tableaux.specs.declared.goals.MadeNode.{MadeNode}
 

@@ -17,9 +17,8 @@ ghost use Rattle.tableaux.specs.Nodes.{HasRoot, reasons_of, MayStand, AllOffered
 ghost use Rattle.tableaux.specs.Nodes.{StandApart, AllHaveEdges};
 
 pub use cyc_memory::OutOfMemory;
-pub use goals::{
-    MadeNode, OpenGoal, Subgoal, TracePairs, drop_goals, first_goal, has_room, push_goals,
-};
+pub use goals::{MadeNode, OpenGoal, drop_goals, first_goal, has_room, push_goals};
+pub use logics::{Subgoal, TracePairs};
 pub use traces::GrowingTraces;
 pub use trials::{is_above, tried};
 

@@ -2,7 +2,7 @@ use Rattle.std.proofs.Common.{sym, subst}
 use Rattle.std.specs.Prelude.{IfOk}
 use Rattle.heap_formula.specs.declared.proof_rules.Reason.{Reason}
 use Rattle.heap_formula.specs.Judgements.{IsLocallySound}
-use Rattle.rule_table.specs.Nodes.{IsReadable}
+use Rattle.rule_table.specs.Judgements.{IsReadable}
 use Rattle.node_reasons.proofs.premises_by_reason.Goals as goal
 use Rattle.std.proofs.lemmas.Result.{IfOk-weaker}
 

@@ -1,25 +1,22 @@
-use Rattle.std.proofs.Common.{length, subst}
-use Rattle.proof_file.specs.declared.file.ProofFile.{ProofFile}
-use Rattle.proof_check.specs.declared.verdict.Verdict.TheVariants.{Accepted, PathRefused, TooManyStates}
-use Rattle.proof_check.specs.Verdicts.{IsVerdict}
-use Rattle.proof_check.proofs.Tables.{IsToldOf, is_accepted, is_refused, has_many_states}
+use Rattle.std.proofs.Common.{arith}
+use Rattle.std.proofs.lemmas.Result.{IfOk-weaker}
+use Rattle.logics.specs.Verdicts.{IsVerdict as IsVerdictOn}
+use Rattle.node_reasons.specs.SeparationLogic.{Holds}
+use Rattle.proof_check.specs.Verdicts.{logic_of, IsVerdict}
+use Rattle.proof_check.proofs.Readable.{file_stands}
+use Rattle.proof_check.proofs.Checked.{verdict_on_file}
 use Rattle.proof_check.proofs.checking.check.Goals as goal
 
-pub returns-in-Accepted : goal.returns-in-Accepted
-returns-in-Accepted c =
-    let t = c.in_ok-tested.tested in
-    let n = length t.edges.items in
-    subst (λ (f : ProofFile). IsVerdict f Accepted) c.in_ok-tested.ensures (is_accepted t.file.now n t.tested (subst (IsToldOf t.file.now n) c.in-Accepted.is c.in_ok-check_system.ensures))
+pub check_proof-requires-clause-some : goal.check_proof-requires-clause-some
+check_proof-requires-clause-some c = rw c.as_slice.ensures c.args.file.now.some
 
-pub returns-in-PathRefused : goal.returns-in-PathRefused
-returns-in-PathRefused c =
-    let t = c.in_ok-tested.tested in
-    let n = length t.edges.items in
-    let l = c.in-PathRefused.lasso in
-    subst (λ (f : ProofFile). IsVerdict f (PathRefused l)) c.in_ok-tested.ensures (is_refused t.file.now n l t.tested (subst (IsToldOf t.file.now n) c.in-PathRefused.is c.in_ok-check_system.ensures))
+pub check_proof-requires-clause-few : goal.check_proof-requires-clause-few
+check_proof-requires-clause-few c = rw c.as_slice.ensures (let few = c.args.file.now.few in omega (arith, few))
+
+pub check_proof-requires-clause-stand : goal.check_proof-requires-clause-stand
+check_proof-requires-clause-stand c = rw c.as_slice.ensures (file_stands c.args.file.now c.lines-lines.ensures.program)
 
 pub returns : goal.returns
 returns c =
-    let t = c.in_ok-tested.tested in
-    let n = length t.edges.items in
-    subst (λ (f : ProofFile). IsVerdict f TooManyStates) c.in_ok-tested.ensures (has_many_states t.file.now n t.tested (subst (IsToldOf t.file.now n) c.in-TooManyStates.is c.in_ok-check_system.ensures))
+    let f = c.args.file.now in
+    IfOk-weaker c.check_proof.result (IsVerdictOn (logic_of f) (Holds f.defs.list f.program) f.nodes) (IsVerdict f) (verdict_on_file f) (rw c.as_slice.ensures at c.check_proof.ensures)

@@ -1,4 +1,4 @@
-use Rattle.proof_check.proofs.Correct.{correct_holds}
+use Rattle.proof_check.proofs.Checked.{correct_holds}
 use Rattle.proof_check.proofs.laws.correct_files_hold.Goals as goal
 
 pub returns : goal.returns

@@ -5,7 +5,7 @@ use Rattle.heap_formula.specs.Definitions.{Definition as DefinitionValue}
 use Rattle.proof_syntax.specs.Grammar.{file}
 use Rattle.proof_syntax.specs.Trees.{File, Line}
 use Rattle.heap_syntax.specs.Versions.{most_spatial}
-use Rattle.proof_file.specs.declared.node.FileNode.{FileNode}
+use Rattle.proof_file.specs.FileNodes.{FileNode}
 use Rattle.proof_file.specs.Readable.{are_readable, are_universal_commands, are_at_lines, all_have_few_cases}
 use Rattle.proof_file.specs.Flaws.{headings, file_flaw}
 use Rattle.proof_file.specs.Written.{tree_of}

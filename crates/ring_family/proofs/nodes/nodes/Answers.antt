@@ -1,6 +1,6 @@
 -- Each turn moves one block from what is left.
 use Rattle.std.proofs.Common.{◌≡◌, ◌+◌, ◌-◌, List, [], ◌∷◌, ◌++◌, arith, ap, sym, ◌∙◌}
-use Rattle.proof_file.specs.declared.node.FileNode.{FileNode}
+use Rattle.proof_file.specs.FileNodes.{FileNode}
 use Rattle.ring_family.specs.Ring.{ring_block, ring_bud, in_blocks, ring_nodes, file_nodes}
 use Rattle.ring_family.proofs.Growing.{grown, nodes_left, nodes_end}
 use Rattle.ring_family.proofs.nodes.nodes.Goals as goal

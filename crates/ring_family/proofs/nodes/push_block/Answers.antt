@@ -1,6 +1,6 @@
 -- The first two nodes, then the two cases' others.
 use Rattle.std.proofs.Common.{[], ◌∷◌, ◌++◌, ap, ◌∙◌}
-use Rattle.proof_file.specs.declared.node.FileNode.{FileNode}
+use Rattle.proof_file.specs.FileNodes.{FileNode}
 use Rattle.ring_family.proofs.Growing.{pushed_parts}
 use Rattle.ring_family.proofs.nodes.push_block.Goals as goal
 

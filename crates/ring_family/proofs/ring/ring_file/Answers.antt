@@ -2,17 +2,17 @@
 use Rattle.std.proofs.Common.{◌≡◌, ◌+◌, ◌*◌, ◌<◌, ◌≤◌, ℕ, true, List, [], None, length, arith, refl, ap, sym, ◌∙◌, subst}
 use Rattle.heap_formula.specs.declared.commands.Command.{Command}
 use Rattle.heap_formula.specs.Definitions.{Definition}
-use Rattle.rule_table.specs.Nodes.{Node}
+use Rattle.node_reasons.specs.Graphs.{Node}
 use Rattle.pred_defs.specs.Book.{DefinitionBook}
 use Rattle.trace_pairs.specs.Lasso.{AllProgress}
 use Rattle.buchi_inclusion.specs.Answers.{HasAtMost, HasMoreThan}
 use Rattle.proof_syntax.specs.Grammar.{file}
-use Rattle.proof_file.specs.declared.node.FileNode.{FileNode}
+use Rattle.proof_file.specs.FileNodes.{FileNode}
 use Rattle.proof_file.specs.Readable.{are_readable, are_universal_commands, are_at_lines, all_have_few_cases}
 use Rattle.proof_file.specs.Flaws.{file_flaw}
 use Rattle.heap_syntax.specs.declared.version.Version.TheVariants.{One}
 use Rattle.proof_file.specs.Written.{tree_of, text_of_file}
-use Rattle.proof_check.specs.Files.{AreRight, graph_of, nodes_of}
+use Rattle.proof_check.specs.Files.{AreRight, graph_of}
 use Rattle.ring_family.specs.Ring.{ring_definitions, ring_nodes, file_nodes}
 use Rattle.ring_family.proofs.Correct.{definitions_long, nodes_long, right, paths, states_at_most, states_at_least, moved}
 use Rattle.ring_family.proofs.Readable.{readable, at_lines, few_cases, nodes_again}
@@ -54,7 +54,7 @@ invariant_of-result c =
     }
 
 pub returns-clause-nodes : goal.returns-clause-nodes
-returns-clause-nodes c = ap nodes_of (c.from_vec-nodes.ensures ∙ c.in_ok-nodes.ensures) ∙ nodes_again (ring_nodes c.args.k)
+returns-clause-nodes c = (c.from_vec-nodes.ensures ∙ c.in_ok-nodes.ensures) ∙ nodes_again (ring_nodes c.args.k)
 
 pub returns-clause-file_form : goal.returns-clause-file_form
 returns-clause-file_form c = c.from_vec-nodes.ensures ∙ c.in_ok-nodes.ensures
@@ -70,8 +70,8 @@ pub returns-clause-correct : goal.returns-clause-correct
 returns-clause-correct c =
     let k = c.args.k in
     let d = c.from_vec-defs.ensures ∙ (λ i. record { most = c.most_spatial.ensures.value i; list = c.in_ok-definitions.ensures i }) in
-    let n = ap nodes_of (c.from_vec-nodes.ensures ∙ c.in_ok-nodes.ensures) ∙ nodes_again (ring_nodes k) in
-    let all' = (λ (P : DefinitionBook → List Command → List Node → Type 0). moved P k c.from_vec-defs.result c.in_ok-program.program (nodes_of c.from_vec-nodes.result) d c.in_ok-program.ensures n) in
+    let n = (c.from_vec-nodes.ensures ∙ c.in_ok-nodes.ensures) ∙ nodes_again (ring_nodes k) in
+    let all' = (λ (P : DefinitionBook → List Command → List Node → Type 0). moved P k c.from_vec-defs.result c.in_ok-program.program c.from_vec-nodes.result d c.in_ok-program.ensures n) in
     record {
       nodes = all' (λ book program nodes. AreRight book.most book.list program nodes) (right k c.requires.from_one c.requires.most);
       paths = all' (λ book program nodes. AllProgress (graph_of book.most book.list program nodes)) (paths k c.requires.from_one c.requires.most);
@@ -81,12 +81,12 @@ pub returns-clause-at_most : goal.returns-clause-at_most
 returns-clause-at_most c =
     let k = c.args.k in
     let d = c.from_vec-defs.ensures ∙ (λ i. record { most = c.most_spatial.ensures.value i; list = c.in_ok-definitions.ensures i }) in
-    let n = ap nodes_of (c.from_vec-nodes.ensures ∙ c.in_ok-nodes.ensures) ∙ nodes_again (ring_nodes k) in
-    moved (λ book program nodes. HasAtMost (graph_of book.most book.list program nodes) (8 * k + 1)) k c.from_vec-defs.result c.in_ok-program.program (nodes_of c.from_vec-nodes.result) d c.in_ok-program.ensures n (states_at_most k c.requires.from_one c.requires.most)
+    let n = (c.from_vec-nodes.ensures ∙ c.in_ok-nodes.ensures) ∙ nodes_again (ring_nodes k) in
+    moved (λ book program nodes. HasAtMost (graph_of book.most book.list program nodes) (8 * k + 1)) k c.from_vec-defs.result c.in_ok-program.program c.from_vec-nodes.result d c.in_ok-program.ensures n (states_at_most k c.requires.from_one c.requires.most)
 
 pub returns-clause-at_least : goal.returns-clause-at_least
 returns-clause-at_least c =
     let k = c.args.k in
     let d = c.from_vec-defs.ensures ∙ (λ i. record { most = c.most_spatial.ensures.value i; list = c.in_ok-definitions.ensures i }) in
-    let n = ap nodes_of (c.from_vec-nodes.ensures ∙ c.in_ok-nodes.ensures) ∙ nodes_again (ring_nodes k) in
-    moved (λ book program nodes. HasMoreThan (graph_of book.most book.list program nodes) (8 * k)) k c.from_vec-defs.result c.in_ok-program.program (nodes_of c.from_vec-nodes.result) d c.in_ok-program.ensures n (states_at_least k c.requires.from_one c.requires.most)
+    let n = (c.from_vec-nodes.ensures ∙ c.in_ok-nodes.ensures) ∙ nodes_again (ring_nodes k) in
+    moved (λ book program nodes. HasMoreThan (graph_of book.most book.list program nodes) (8 * k)) k c.from_vec-defs.result c.in_ok-program.program c.from_vec-nodes.result d c.in_ok-program.ensures n (states_at_least k c.requires.from_one c.requires.most)

@@ -1,0 +1,4 @@
+pub mod RightNodes
+pub mod RightGraphs
+pub mod PremiseLoops
+pub mod Checks
