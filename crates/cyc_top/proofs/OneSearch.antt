@@ -13,7 +13,6 @@ use Rattle.proof_file.specs.Reading.{IsRead}
 use Rattle.proof_file.specs.Written.{text_of_file}
 use Rattle.proof_text.proofs.Readings.{text_is_read}
 use Rattle.logics.specs.declared.verdict.Verdict.TheVariants.{Accepted}
-use Rattle.proof_check.specs.Files.{node_of}
 use Rattle.tableaux.specs.Tableau.{replay}
 use Rattle.search_moves.specs.Settings.{theory}
 use Rattle.search_moves.specs.Trying.{Theory}
@@ -29,7 +28,6 @@ use Rattle.cyc_runs.specs.declared.endings.Status.TheVariants as status
 use Rattle.cyc_runs.specs.Runs.{input_limit}
 use Rattle.check_answers.specs.Answers.{nodes_text}
 use Rattle.cyc_top.specs.Answers.{IsAnswer, IsSearch, derivation_limit, file_text, proved_status, proved_text}
-use Rattle.list_facts.proofs.Places.{get_map}
 
 -- how a search with this outcome ends
 abbrev outcome_status : Outcome Reason → Status
@@ -117,7 +115,7 @@ one_search depth p q a b same first second =
 -- the goal of a problem that has a proof holds
 pub goal_holds : (p : Problem) (f : ProofFile) → IsProofFor p f → JudgementHolds p.defs.list p.program p.goal
 goal_holds p f h =
-    let root : JudgementHolds f.defs.list f.program h.root.judgement = h.holds (node_of h.root) (get_map node_of f.nodes 0 h.root h.is_root) in
+    let root : JudgementHolds f.defs.list f.program h.root.judgement = h.holds h.root h.is_root in
     subst (λ (book : DefinitionBook). JudgementHolds book.list p.program p.goal) h.definitions
     (subst (λ lines. JudgementHolds f.defs.list lines p.goal) h.program
     (subst (λ j. JudgementHolds f.defs.list f.program j) h.goal root))

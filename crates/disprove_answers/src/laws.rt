@@ -5,7 +5,7 @@ ghost use Rattle.heap_formula.specs.Judgements.{JudgementHolds};
 ghost use Rattle.formula_reader.specs.declared.problem.Problem.{Problem};
 ghost use Rattle.node_reasons.specs.Graphs.{Node};
 ghost use Rattle.proof_file.specs.declared.file.ProofFile.{ProofFile};
-ghost use Rattle.proof_check.specs.Verdicts.{Verdict};
+ghost use Rattle.logics.specs.declared.verdict.Verdict.TheVariants.{Accepted};
 ghost use Rattle.proof_check.specs.Verdicts.{IsVerdict};
 ghost use Rattle.cyc_runs.specs.declared.endings.Status.{Status};
 ghost use Rattle.cyc_runs.specs.Runs.{input_limit};
@@ -22,7 +22,7 @@ pub fn refuted_goals_do_not_hold()
 pub fn refuted_goals_have_no_proof()
     ensures { (n : ℕ) (problem : Problem) (file : ProofFile) (root : Node) → IsRefuted n problem
         → file.defs.list ≡ problem.defs.list → slice_get file.nodes 0 ≡ Some root
-        → root.judgement ≡ problem.goal → ¬ IsVerdict file Verdict.Accepted }
+        → root.judgement ≡ problem.goal → ¬ IsVerdict file Accepted }
 {}
 
 /// What is written for a counter-model is a model file whose stack and heap satisfy its formula, as `model` answers.

@@ -6,14 +6,12 @@ use Rattle.formula_reader.specs.declared.problem.Problem.{Problem}
 use Rattle.proof_file.specs.declared.file.ProofFile.{ProofFile}
 use Rattle.proof_file.specs.FileNodes.{FileNode}
 use Rattle.logics.specs.declared.verdict.Verdict.TheVariants.{Accepted}
-use Rattle.proof_check.specs.Files.{node_of}
 use Rattle.proof_check.specs.Verdicts.{IsVerdict}
 use Rattle.seek_top.specs.Found.{IsCheckedProof}
-use Rattle.list_facts.proofs.Places.{get_map}
 
 goal_holds : (p : Problem) (f : ProofFile) (root : FileNode) → f.defs ≡ p.defs → f.program ≡ p.program → slice_get f.nodes 0 ≡ Some root → root.judgement ≡ p.goal → IsVerdict f Accepted → JudgementHolds p.defs.list p.program p.goal
 goal_holds p f root definitions program is_root goal accepted =
-    let at_root : JudgementHolds f.defs.list f.program root.judgement = accepted.2 (node_of root) (get_map node_of f.nodes 0 root is_root) in
+    let at_root : JudgementHolds f.defs.list f.program root.judgement = accepted.2 root is_root in
     subst (λ (book : DefinitionBook). JudgementHolds book.list p.program p.goal) definitions
     (subst (λ lines. JudgementHolds f.defs.list lines p.goal) program
     (subst (λ j. JudgementHolds f.defs.list f.program j) goal at_root))
