@@ -1,5 +1,6 @@
 #!/usr/bin/env bash
-# .ci/pictures.sh DRAW CYCLIST: the texts in docs/pictures are what the program DRAW writes of the proofs of their names; and what
+# .ci/pictures.sh DRAW CYCLIST: the texts in docs/pictures are what the program DRAW writes of the proofs of their names, folded of
+# those in examples/field, which have lemmas; what is folded away, and that no picture loses what is red; and what
 # cannot be read it tells with the lines and statuses of `cyclist check`.
 set -u
 draw=$1
@@ -16,7 +17,11 @@ count=0
 for dot in "$top"/docs/pictures/*.dot; do
   name=$(basename "$dot" .dot)
   [ "$name" != layers ] || continue # (that one is made of crates.txt: .ci/layers.py)
-  got=$("$draw" < "$top/examples/$name.proof")
+  if [ -f "$top/examples/$name.proof" ]; then
+    got=$("$draw" < "$top/examples/$name.proof")
+  else
+    got=$("$draw" --fold < "$top/examples/field/$name.proof")
+  fi
   code=$?
   [ "$code" = 0 ] && [ "$got" = "$(cat "$dot")" ] || fail "docs/pictures/$name.dot: status $code, or not what draw writes"
   [ -f "$top/docs/pictures/$name.svg" ] || fail "docs/pictures/$name.svg is missing"
@@ -49,11 +54,25 @@ looks 'a long path' 2000 "$red" 0 < <(
 )
 looks 'many product states' 0 "$red" 1 < <(turns 12 5)
 
-for words in help --help check ''; do
+for words in help --help check --fold=1 ''; do
   got=$("$draw" "$words" < "$top/examples/first.proof")
   code=$?
-  [ "$code" = 2 ] && [ "$got" = 'usage: draw' ] || fail "draw '$words': status $code, '$got'"
+  [ "$code" = 2 ] && [ "$got" = 'usage: draw [--fold]' ] || fail "draw '$words': status $code, '$got'"
 done
+"$draw" --fold --fold < "$top/examples/first.proof" > "$work/picture"
+[ $? = 2 ] || fail 'draw --fold --fold does not end with 2'
+
+# Folded pictures: what is red stays, and boxes have the nodes that they should.
+folds() { # NAME FILE BOX..: the folded picture of a file has a box with each of these headings, and no other
+  local name=$1 file=$2
+  shift 2
+  "$draw" --fold < "$file" > "$work/picture" || fail "draw --fold of $name fails"
+  grep '^[0-9]* \[' "$work/picture" | sed 's/^[^>]*><B>\([^<]*\)<.*/\1/' > "$work/boxes"
+  printf '%s\n' "$@" | cmp -s - "$work/boxes" || fail "draw --fold of $name has the boxes $(tr '\n' ',' < "$work/boxes")"
+}
+folds 'a reversal' "$top/examples/list-reversal.proof" 0 1 2 3 '5 .. 11' 12
+folds 'a path in red' "$top/examples/no-progress.proof" 0 1
+[ "$(count_of "$red")" = 2 ] || fail 'draw --fold loses a red step'
 
 # Compares what both programs say of a text that is no proof file.
 compare() { # TEXT

@@ -1,33 +1,44 @@
 -- What is answered to a file, and to words.
-use Rattle.std.proofs.Common.{◌≡◌, ◌≤◌, ℕ, zero, suc, List, map, Result, Ok, Err, Option, refl, ap, ◌∙◌, arith}
-use Rattle.std.specs.Prelude.{codes, IfOk}
+use Rattle.std.proofs.Common.{◌≡◌, ◌≤◌, ℕ, List, map, Result, Ok, Err, Option, Some, None, refl, sym, ap, subst, ◌∙◌}
+use Rattle.std.specs.Prelude.{Bool, IfOk}
 use Rattle.std.specs.Io.KnownBytes.{Appends}
 use Rattle.cyc_io.specs.Bytes.{AppendsProperPrefix}
+use Rattle.cyc_runs.specs.Runs.{IsAnswerOf, WroteAnswer, WrotePart}
 use Rattle.cyc_runs.specs.declared.endings.Status.{Status}
 use Rattle.cyc_runs.specs.declared.endings.Status.TheVariants.{Usage}
 use Rattle.cyc_runs.proofs.Told.{some_told}
+use Rattle.draw_top.specs.declared.words.View.{View}
 use Rattle.draw_top.specs.Graphs.{Drawing}
 use Rattle.draw_top.specs.Texts.{graph_text}
+use Rattle.draw_top.specs.Words.{view_of}
 use Rattle.proof_file.specs.declared.file.ProofFile.{ProofFile}
 use Rattle.proof_check.specs.Verdicts.{Verdict}
 use Rattle.proof_check.specs.Verdicts.{IsVerdict}
 use Rattle.proof_picture.specs.declared.picture.Picture.{Picture}
 use Rattle.proof_picture.specs.Pictures.{box_of, IsPicture}
-use Rattle.draw_top.specs.Drawings.{drawing}
-use Rattle.draw_top.specs.Answers.{IsTextOf, WroteDrawing, WrotePartOfDrawing}
+use Rattle.draw_top.specs.Answers.{IsAnswerIn, IsDrawn, IsTextOf, WroteDrawing, WrotePartOfDrawing, drawing_in, usage_text}
 
 -- the text of a drawing of the picture
-pub text_is : {V E : Type 0} (items : V → List ℕ) (r : Result V E) (f : ProofFile) (v : Verdict) (p : Picture) (d : Drawing) → IsVerdict f v → IsPicture f v p → d ≡ drawing (map box_of p.boxes.items) p.is_large → IfOk r (λ b. items b ≡ graph_text d) → IfOk r (λ b. IsTextOf f (items b))
-text_is items (Ok b) f v p d known drawn is h = (v, known, h ∙ ap graph_text (is ∙ (λ i. drawing (drawn.boxes i) (drawn.is_large i))))
-text_is items (Err e) f v p d known drawn is h = tt
+pub text_is : {V E : Type 0} (items : V → List ℕ) (r : Result V E) (view : View) (f : ProofFile) (v : Verdict) (p : Picture) (d : Drawing) → IsVerdict f v → IsPicture f v p → d ≡ drawing_in view (map box_of p.boxes.items) p.is_large → IfOk r (λ b. items b ≡ graph_text d) → IfOk r (λ b. IsTextOf view f (items b))
+text_is items (Ok b) view f v p d known drawn is h = (v, known, h ∙ ap graph_text (is ∙ (λ i. drawing_in view (drawn.boxes i) (drawn.is_large i))))
+text_is items (Err e) view f v p d known drawn is h = tt
 
--- words were answered by the usage
-pub usage_wrote : (n : ℕ) (told old new : Option (List ℕ)) (ending : Status) → 1 ≤ n → (ending ≡ Usage) × Appends old new (codes "usage: draw\n") → WroteDrawing n told old new ending
-usage_wrote zero told old new ending some wrote = absurd (omega arith)
-usage_wrote (suc n) told old new ending some wrote =
-    let t = some_told told in (codes "usage: draw\n", (t.0, t.1, (wrote.0, refl)), wrote.1)
+-- words that ask for a view were answered by a drawing
+pub view_wrote : (words : List (List ℕ)) (view : View) (told old new : Option (List ℕ)) (ending : Status) → view_of words ≡ Some view → WroteAnswer (IsAnswerOf (IsDrawn view)) told old new ending → WroteDrawing words told old new ending
+view_wrote words view told old new ending is wrote = subst (λ (v : Option View). WroteAnswer (IsAnswerIn v) told old new ending) (sym is) wrote
 
-pub usage_part : (n : ℕ) (told old new : Option (List ℕ)) → 1 ≤ n → AppendsProperPrefix old new (codes "usage: draw\n") → WrotePartOfDrawing n told old new
-usage_part zero told old new some wrote = absurd (omega arith)
-usage_part (suc n) told old new some wrote =
-    let t = some_told told in (Usage, (codes "usage: draw\n", (t.0, t.1, (refl, refl)), wrote))
+pub view_part : (words : List (List ℕ)) (view : View) (told old new : Option (List ℕ)) → view_of words ≡ Some view → WrotePart (IsAnswerOf (IsDrawn view)) told old new → WrotePartOfDrawing words told old new
+view_part words view told old new is wrote = subst (λ (v : Option View). WrotePart (IsAnswerIn v) told old new) (sym is) wrote
+
+-- words without a meaning were answered by the usage
+pub usage_wrote : (words : List (List ℕ)) (told old new : Option (List ℕ)) (ending : Status) → view_of words ≡ None → (ending ≡ Usage) × Appends old new usage_text → WroteDrawing words told old new ending
+usage_wrote words told old new ending is wrote =
+    let t = some_told told in
+    let answer : WroteAnswer (IsAnswerIn None) told old new ending = (usage_text, (t.0, t.1, (wrote.0, refl)), wrote.1) in
+    subst (λ (v : Option View). WroteAnswer (IsAnswerIn v) told old new ending) (sym is) answer
+
+pub usage_part : (words : List (List ℕ)) (told old new : Option (List ℕ)) → view_of words ≡ None → AppendsProperPrefix old new usage_text → WrotePartOfDrawing words told old new
+usage_part words told old new is wrote =
+    let t = some_told told in
+    let answer : WrotePart (IsAnswerIn None) told old new = (Usage, (usage_text, (t.0, t.1, (refl, refl)), wrote)) in
+    subst (λ (v : Option View). WrotePart (IsAnswerIn v) told old new) (sym is) answer

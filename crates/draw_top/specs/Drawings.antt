@@ -118,4 +118,4 @@ edge_defaults = set_to (codes "fontname") (codes "monospace") ∷ set_to (codes 
 -- the drawing of these boxes
 abbrev pub drawing : List Box → Bool → Drawing
 drawing boxes is_large =
-    record { whole = whole_sets is_large; all_nodes = node_defaults; all_edges = edge_defaults; nodes = box_nodes 0 boxes; edges = box_edges 0 boxes }
+    record { whole = whole_sets is_large; all_nodes = node_defaults; all_edges = edge_defaults; nodes = box_nodes 0 boxes; clusters = []; edges = box_edges 0 boxes }

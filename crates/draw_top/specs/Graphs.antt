@@ -8,6 +8,7 @@ use Rattle.draw_top.specs.declared.graph.Value.{Value}
 use Rattle.draw_top.specs.declared.graph.Value.TheVariants as values
 use Rattle.draw_top.specs.declared.graph.Attribute.{Attribute}
 use Rattle.draw_top.specs.declared.graph.Vertex.{Vertex}
+use Rattle.draw_top.specs.declared.graph.Cluster.{Cluster as FramedVertices}
 use Rattle.draw_top.specs.declared.graph.Arrow.{Arrow}
 use Rattle.draw_top.specs.declared.graph.Graph.{Graph}
 
@@ -32,6 +33,12 @@ pub record Node : Type 0 where
   pub number : ℕ
   pub sets : List Set
 
+-- nodes in a frame
+pub record Cluster : Type 0 where
+  pub number : ℕ
+  pub sets : List Set
+  pub nodes : List Node
+
 pub record Edge : Type 0 where
   pub from : ℕ
   pub to : ℕ
@@ -42,6 +49,7 @@ pub record Drawing : Type 0 where
   pub all_nodes : List Set
   pub all_edges : List Set
   pub nodes : List Node
+  pub clusters : List Cluster
   pub edges : List Edge
 
 -- ---- what a contract sees of the code's graphs
@@ -64,8 +72,11 @@ set_of a = record { name = a.name.now; value = setting_of a.value }
 abbrev pub node_of : Vertex → Node
 node_of v = record { number = v.number; sets = map set_of v.attributes.items }
 
+abbrev pub cluster_of : FramedVertices → Cluster
+cluster_of c = record { number = c.number; sets = map set_of c.attributes.items; nodes = map node_of c.vertices.items }
+
 abbrev pub edge_of : Arrow → Edge
 edge_of a = record { from = a.from; to = a.to; sets = map set_of a.attributes.items }
 
 abbrev pub drawing_of : Graph → Drawing
-drawing_of g = record { whole = map set_of g.whole.items; all_nodes = map set_of g.all_nodes.items; all_edges = map set_of g.all_edges.items; nodes = map node_of g.vertices.items; edges = map edge_of g.arrows.items }
+drawing_of g = record { whole = map set_of g.whole.items; all_nodes = map set_of g.all_nodes.items; all_edges = map set_of g.all_edges.items; nodes = map node_of g.vertices.items; clusters = map cluster_of g.clusters.items; edges = map edge_of g.arrows.items }

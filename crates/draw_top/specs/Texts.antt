@@ -1,6 +1,6 @@
 -- The text of a graph, a statement a line.
 use Rattle.std.specs.Prelude.{ℕ, List, [], ◌∷◌, ◌++◌, codes, decimal}
-use Rattle.draw_top.specs.Graphs.{LabelRun, Text, Break, Plain, Bold, Setting, Quoted, Label, Set, Node, Edge, Drawing}
+use Rattle.draw_top.specs.Graphs.{LabelRun, Text, Break, Plain, Bold, Setting, Quoted, Label, Set, Node, Cluster, Edge, Drawing}
 use Rattle.draw_top.specs.Quoting.{quoted, marked_up}
 
 -- the tags after which a text is bold and of a colour
@@ -42,6 +42,16 @@ abbrev pub nodes_text : List Node → List ℕ
 nodes_text [] = []
 nodes_text (node ∷ nodes) = node_text node ++ nodes_text nodes
 
+abbrev pub cluster_heading : Cluster → List ℕ
+cluster_heading c = codes "subgraph cluster_" ++ decimal c.number ++ codes " {\ngraph" ++ bracketed c.sets
+
+abbrev pub cluster_text : Cluster → List ℕ
+cluster_text c = cluster_heading c ++ nodes_text c.nodes ++ codes "}\n"
+
+abbrev pub clusters_text : List Cluster → List ℕ
+clusters_text [] = []
+clusters_text (c ∷ clusters) = cluster_text c ++ clusters_text clusters
+
 abbrev pub edge_text : Edge → List ℕ
 edge_text edge = decimal edge.from ++ codes " -> " ++ decimal edge.to ++ bracketed edge.sets
 
@@ -53,4 +63,4 @@ abbrev pub heading_text : Drawing → List ℕ
 heading_text g = codes "digraph {\ngraph" ++ bracketed g.whole ++ (codes "node" ++ bracketed g.all_nodes ++ (codes "edge" ++ bracketed g.all_edges))
 
 abbrev pub graph_text : Drawing → List ℕ
-graph_text g = heading_text g ++ nodes_text g.nodes ++ (edges_text g.edges ++ codes "}\n")
+graph_text g = heading_text g ++ nodes_text g.nodes ++ (clusters_text g.clusters ++ (edges_text g.edges ++ codes "}\n"))

@@ -13,7 +13,7 @@ use proof_picture::Picture;
 use std::alloc::Global;
 
 /// What is set for the whole picture; where no verdict is known the picture says so below.
-fn whole(alloc: Global, is_large: bool) -> Result<Vec<Attribute>, OutOfMemory>
+pub fn whole(alloc: Global, is_large: bool) -> Result<Vec<Attribute>, OutOfMemory>
     ensures { IfOk result (λ a. map set_of a.items ≡ whole_sets is_large) }
 {
     let mut sets = Vec::new(alloc);
@@ -28,7 +28,8 @@ fn whole(alloc: Global, is_large: bool) -> Result<Vec<Attribute>, OutOfMemory>
     Ok(sets)
 }
 
-fn node_sets(alloc: Global) -> Result<Vec<Attribute>, OutOfMemory>
+/// What is set for all nodes.
+pub fn node_sets(alloc: Global) -> Result<Vec<Attribute>, OutOfMemory>
     ensures { IfOk result (λ a. map set_of a.items ≡ node_defaults) }
 {
     let mut sets = Vec::new(alloc);
@@ -38,7 +39,8 @@ fn node_sets(alloc: Global) -> Result<Vec<Attribute>, OutOfMemory>
     Ok(sets)
 }
 
-fn edge_sets(alloc: Global) -> Result<Vec<Attribute>, OutOfMemory>
+/// What is set for all edges.
+pub fn edge_sets(alloc: Global) -> Result<Vec<Attribute>, OutOfMemory>
     ensures { IfOk result (λ a. map set_of a.items ≡ edge_defaults) }
 {
     let mut sets = Vec::new(alloc);
@@ -67,6 +69,7 @@ pub fn graph_of(alloc: Global, picture: Picture) -> Result<Graph, OutOfMemory>
         all_nodes,
         all_edges,
         vertices,
+        clusters: Vec::new(alloc),
         arrows,
     })
 }

@@ -45,7 +45,7 @@ fn runs_of(alloc: Global, pairs: &[Pair]) -> Result<Vec<Run>, OutOfMemory>
 }
 
 /// A label with the pairs, if there are some.
-fn label_of(alloc: Global, pairs: &[Pair]) -> Result<Vec<Attribute>, OutOfMemory>
+pub fn label_of(alloc: Global, pairs: &[Pair]) -> Result<Vec<Attribute>, OutOfMemory>
     ensures { IfOk result (λ a. map set_of a.items ≡ pairs_sets pairs.now) }
 {
     let mut attributes = Vec::new(alloc);
@@ -60,7 +60,7 @@ fn label_of(alloc: Global, pairs: &[Pair]) -> Result<Vec<Attribute>, OutOfMemory
 }
 
 /// A link is dashed, and is no step down.
-fn add_link(sets: &mut Vec<Attribute>, is_link: bool) -> Result<(), OutOfMemory>
+pub fn add_link(sets: &mut Vec<Attribute>, is_link: bool) -> Result<(), OutOfMemory>
     ensures { OnOk result (map set_of sets.new.items ≡ map set_of sets.old.items ++ link_sets is_link) }
 {
     if is_link {

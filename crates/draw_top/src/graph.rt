@@ -36,6 +36,14 @@ pub struct Vertex {
     pub attributes: Vec<Attribute>,
 }
 
+/// Nodes in a frame, which DOT calls a cluster: its number, what is set for it, and the nodes.
+#[derive(Drop)]
+pub struct Cluster {
+    pub number: u32,
+    pub attributes: Vec<Attribute>,
+    pub vertices: Vec<Vertex>,
+}
+
 /// An edge between two nodes.
 #[derive(Drop)]
 pub struct Arrow {
@@ -44,12 +52,14 @@ pub struct Arrow {
     pub attributes: Vec<Attribute>,
 }
 
-/// A directed graph: what is set for the whole of it, for all nodes and for all edges; then the nodes, and the edges.
+/// A directed graph: what is set for the whole of it, for all nodes and for all edges; then the nodes
+/// without a frame, the frames, and the edges.
 #[derive(Drop)]
 pub struct Graph {
     pub whole: Vec<Attribute>,
     pub all_nodes: Vec<Attribute>,
     pub all_edges: Vec<Attribute>,
     pub vertices: Vec<Vertex>,
+    pub clusters: Vec<Cluster>,
     pub arrows: Vec<Arrow>,
 }

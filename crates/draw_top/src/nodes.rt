@@ -27,7 +27,7 @@ fn run_of_piece(alloc: Global, piece: Piece) -> Result<Run, OutOfMemory>
 }
 
 /// Adds the pieces of a text.
-fn add_pieces(alloc: Global, runs: &mut Vec<Run>, label: Label) -> Result<(), OutOfMemory>
+pub fn add_pieces(alloc: Global, runs: &mut Vec<Run>, label: Label) -> Result<(), OutOfMemory>
     ensures { OnOk result (map run_of runs.new.items ≡ map run_of runs.old.items ++ map part_run (pieces_of label)) }
 {
     for piece in label.pieces {
@@ -37,7 +37,7 @@ fn add_pieces(alloc: Global, runs: &mut Vec<Run>, label: Label) -> Result<(), Ou
 }
 
 /// Adds a line with a fault, in red.
-fn add_fault(
+pub fn add_fault(
     alloc: Global,
     runs: &mut Vec<Run>,
     v: u32,

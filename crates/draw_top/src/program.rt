@@ -1,5 +1,5 @@
 // What the program does but for its calls to the host.
-ghost use Rattle.std.specs.Prelude.{◌≡◌, length, IsErr};
+ghost use Rattle.std.specs.Prelude.{◌≡◌, map, string_bytes, IsErr};
 ghost use Rattle.std.specs.Process.{exit_status};
 ghost use Rattle.cyc_runs.specs.Exits.{EndedBy, Wrote};
 ghost use Rattle.draw_top.specs.Answers.{IsAnswer};
@@ -20,7 +20,7 @@ pub fn run_program<S: Source, K: Sink>(
     out: &mut K,
 ) -> ExitCode
     // The number, 0 to 9, is that of a status that fits what was written.
-    ensures ended { EndedBy words (λ w ending. Wrote (IsAnswer (length w.items))
+    ensures ended { EndedBy words (λ w ending. Wrote (IsAnswer (map string_bytes w.items))
         (S.left src.old) (K.written out.old) (K.written out.new) ending) (exit_status result) }
     // Without words nothing is read, and nothing written.
     ensures no_words { IsErr words → (src.new ≡ src.old) × (out.new ≡ out.old) }

@@ -1,9 +1,9 @@
 //! The text of a graph.
 ghost use Rattle.std.specs.Prelude.{◌≡◌, ◌++◌, map, IfOk, OnOk};
-ghost use Rattle.draw_top.specs.Graphs.{drawing_of, edge_of, node_of, run_of, set_of, setting_of};
-ghost use Rattle.draw_top.specs.Texts.{bold_begins, bold_text, run_text, runs_text, value_text, set_text, sets_text, bracketed, heading_text, node_text, nodes_text, edge_text, edges_text, graph_text};
+ghost use Rattle.draw_top.specs.Graphs.{cluster_of, drawing_of, edge_of, node_of, run_of, set_of, setting_of};
+ghost use Rattle.draw_top.specs.Texts.{bold_begins, bold_text, run_text, runs_text, value_text, set_text, sets_text, bracketed, heading_text, node_text, nodes_text, cluster_heading, cluster_text, clusters_text, edge_text, edges_text, graph_text};
 
-use crate::graph::{Arrow, Attribute, Graph, Run, Style, Value, Vertex};
+use crate::graph::{Arrow, Attribute, Cluster, Graph, Run, Style, Value, Vertex};
 use crate::text::DotText;
 use cyc_memory::OutOfMemory;
 use std::alloc::Global;
@@ -100,6 +100,32 @@ fn write_vertices(vertices: &[Vertex], out: &mut DotText) -> Result<(), OutOfMem
     Ok(())
 }
 
+fn write_cluster_heading(cluster: &Cluster, out: &mut DotText) -> Result<(), OutOfMemory>
+    ensures { OnOk result (out.new ≡ out.old ++ cluster_heading (cluster_of cluster.now)) }
+{
+    out.text("subgraph cluster_")?;
+    out.number(cluster.number)?;
+    out.text(" {\ngraph")?;
+    write_attributes(&cluster.attributes, out)
+}
+
+fn write_cluster(cluster: &Cluster, out: &mut DotText) -> Result<(), OutOfMemory>
+    ensures { OnOk result (out.new ≡ out.old ++ cluster_text (cluster_of cluster.now)) }
+{
+    write_cluster_heading(cluster, out)?;
+    write_vertices(&cluster.vertices, out)?;
+    out.text("}\n")
+}
+
+fn write_clusters(clusters: &[Cluster], out: &mut DotText) -> Result<(), OutOfMemory>
+    ensures { OnOk result (out.new ≡ out.old ++ clusters_text (map cluster_of clusters.now)) }
+{
+    for cluster in clusters {
+        write_cluster(cluster, out)?;
+    }
+    Ok(())
+}
+
 fn write_arrow(arrow: &Arrow, out: &mut DotText) -> Result<(), OutOfMemory>
     ensures { OnOk result (out.new ≡ out.old ++ edge_text (edge_of arrow.now)) }
 {
@@ -137,6 +163,7 @@ pub fn write_graph(alloc: Global, graph: &Graph) -> Result<Vec<u8>, OutOfMemory>
     let mut out = DotText::new(alloc);
     write_heading(graph, &mut out)?;
     write_vertices(&graph.vertices, &mut out)?;
+    write_clusters(&graph.clusters, &mut out)?;
     write_arrows(&graph.arrows, &mut out)?;
     out.text("}\n")?;
     Ok(out.into_bytes())

@@ -4,11 +4,11 @@ use Rattle.proof_picture.proofs.Counts.{picture_few}
 use Rattle.draw_top.proofs.Told.{text_is}
 use Rattle.draw_top.proofs.answering.text_of.Goals as goal
 
-pub graph_of-requires : goal.graph_of-requires
-graph_of-requires c =
+pub graph_in-requires : goal.graph_in-requires
+graph_in-requires c =
     let few = picture_few c.args.file.now c.in_ok-verdict.verdict c.in_ok-picture.picture c.in_ok-picture.ensures in
     omega (arith, few)
 
 pub returns : goal.returns
 returns c =
-    text_is (λ b. b.items) c.write_graph.result c.args.file.now c.in_ok-verdict.verdict c.in_ok-picture.picture (drawing_of c.in_ok-graph.graph) c.in_ok-verdict.ensures c.in_ok-picture.ensures c.in_ok-graph.ensures c.write_graph.ensures
+    text_is (λ b. b.items) c.write_graph.result c.args.view c.args.file.now c.in_ok-verdict.verdict c.in_ok-picture.picture (drawing_of c.in_ok-graph.graph) c.in_ok-verdict.ensures c.in_ok-picture.ensures c.in_ok-graph.ensures c.write_graph.ensures
