@@ -1,7 +1,7 @@
 #!/usr/bin/env bash
 # bench/sat.sh [PROGRAM]: seconds and memory of `sat` on the problems of examples/, on 4,096 predicates of which each uses
 # another (in the order of the file, against it, and mixed), on a ring of them, on a family of many base pairs and on one
-# above the limit. Wants GNU time. Prints figures; it passes and fails nothing.
+# above the limit, and on counters of bits, whose base pairs come one after the other. Wants GNU time. Prints figures; it passes and fails nothing.
 . "$(dirname "${BASH_SOURCE[0]}")/common.sh"
 
 # The predicates p0 to p(n-1), in the order that is read; each is a cell before the next, the last the empty heap at nil.
@@ -30,6 +30,34 @@ family() { # COUNT: of such predicates, each with one disequation more
     }'
 }
 
+# A counter as definitions (in the manner of Brotherston, Fuhs, Navarro Perez and Gorogiannis 2014): of n bits, nil for 0, a
+# predicate holds of zero and of the successor of each number of which it holds.
+counter() { # BITS
+  awk -v n="$1" '
+    function bits(name,   i, s) { for (i = 1; i <= n; i++) s = s (i > 1 ? ", " : "") name i; return s }
+    function each(pred,   i, s) { for (i = 1; i <= n; i++) s = s (i > 1 ? " * " : "") pred "(x" i ")"; return s }
+    function successor(   i, s, carry) {
+      s = "not(y1, x1)"; carry = "y1"
+      for (i = 2; i <= n; i++) {
+        s = s " * xor(y" i ", " carry ", x" i ")"
+        if (i < n) s = s " * and(y" i ", " carry ", c" i ")"
+        carry = "c" i
+      }
+      return s
+    }
+    BEGIN {
+      print "cyclist problem 1;"
+      print "pred zero(a) { a = nil : emp };\npred one(a) { a != nil : emp };"
+      print "pred not(a, b) { true : zero(a) * one(b) | true : one(a) * zero(b) };"
+      printf "pred xor(a, b, c) { true : zero(a) * zero(b) * zero(c) | true : zero(a) * one(b) * one(c)"
+      print " | true : one(a) * zero(b) * one(c) | true : one(a) * one(b) * zero(c) };"
+      printf "pred and(a, b, c) { true : zero(a) * zero(b) * zero(c) | true : zero(a) * one(b) * zero(c)"
+      print " | true : one(a) * zero(b) * zero(c) | true : one(a) * one(b) * one(c) };"
+      printf "pred count(%s) { true : %s | true : count(%s) * %s };\n", bits("x"), each("zero"), bits("y"), successor()
+      printf "goal true : count(%s) * %s |- true : emp;\nend;\n", bits("x"), each("one")
+    }'
+}
+
 for problem in "$top"/examples/*.problem; do
   cp "$problem" "$work/file"
   show "$(basename "$problem" .problem)" sat
@@ -40,4 +68,7 @@ seq 0 4095 | awk '{ print ($1 * 1597) % 4096 }' | chain 4096 end > "$work/file";
 seq 0 4095 | awk '{ print ($1 * 1597) % 4096 }' | chain 4096 ring > "$work/file"; show '4,096 predicates in a ring, mixed' sat
 for count in 1 4 16 32 48 64; do
   family "$count" > "$work/file"; show "$count predicates of eight parameters" sat
+done
+for count in 4 6 7 8; do
+  counter "$count" > "$work/file"; show "a counter of $count bits" sat
 done

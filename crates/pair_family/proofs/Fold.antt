@@ -120,11 +120,11 @@ any_same p q (x ∷ xs) e = let rest = any_same p q xs (λ y i. e y (inr i)) in 
 abbrev pub Links : (Term → ℕ) → Two → Term → Term → Type 0
 Links f r t u = ((f r.0 ≡ f t) × (f r.1 ≡ f u)) ⊎ ((f r.0 ≡ f u) × (f r.1 ≡ f t))
 
-links_between : (f : Term → ℕ) (at : ℕ → Term) (i j : ℕ) (r : Two) → Links f r (at i) (at j) → is_between f at i j r ≡ true
+pub links_between : (f : Term → ℕ) (at : ℕ → Term) (i j : ℕ) (r : Two) → Links f r (at i) (at j) → is_between f at i j r ≡ true
 links_between f at i j r (inl a) = or_left _ _ (and_from _ _ (eq-eqb _ _ a.0) (eq-eqb _ _ a.1))
 links_between f at i j r (inr a) = or_right _ _ (and_from _ _ (eq-eqb _ _ a.0) (eq-eqb _ _ a.1))
 
-between_links : (f : Term → ℕ) (at : ℕ → Term) (i j : ℕ) (r : Two) → is_between f at i j r ≡ true → Links f r (at i) (at j)
+pub between_links : (f : Term → ℕ) (at : ℕ → Term) (i j : ℕ) (r : Two) → is_between f at i j r ≡ true → Links f r (at i) (at j)
 between_links f at i j r h =
     elim (or_cases _ _ h) [
       | inl a ↦ (let p = and_parts _ _ a in inl (eqb-true _ _ p.0, eqb-true _ _ p.1))
@@ -139,7 +139,7 @@ links_on : (f : Term → ℕ) (r : Two) (t u t' u' : Term) → f t ≡ f t' → 
 links_on f r t u t' u' a b (inl l) = inl (l.0 ∙ a, l.1 ∙ b)
 links_on f r t u t' u' a b (inr l) = inr (l.0 ∙ b, l.1 ∙ a)
 
-links_to : (f g : Term → ℕ) → ((t u : Term) → f t ≡ f u → g t ≡ g u) → (r : Two) (t u : Term) → Links f r t u → Links g r t u
+pub links_to : (f g : Term → ℕ) → ((t u : Term) → f t ≡ f u → g t ≡ g u) → (r : Two) (t u : Term) → Links f r t u → Links g r t u
 links_to f g go r t u (inl l) = inl (go r.0 t l.0, go r.1 u l.1)
 links_to f g go r t u (inr l) = inr (go r.0 u l.0, go r.1 t l.1)
 

@@ -15,5 +15,7 @@ pub mod Exact
 pub mod States
 pub mod Kernel
 pub mod SemiNaive
+pub mod Alike
+pub mod Reordered
 pub mod ListFrames
 pub mod Examples

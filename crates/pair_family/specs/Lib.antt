@@ -9,3 +9,4 @@ pub mod Folding
 pub mod Frames
 pub mod Statements
 pub mod States
+pub mod Reordering

@@ -2,6 +2,8 @@ pub mod Counting
 pub mod Placed
 pub mod Starts
 pub mod Steps
+pub mod PartLists
+pub mod TakenOut
 pub mod Satisfied
 pub mod Tabled
 pub mod Taken

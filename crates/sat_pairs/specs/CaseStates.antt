@@ -2,7 +2,6 @@
 use Rattle.std.specs.Prelude.{◌≡◌, ℕ, List, [], ◌∷◌, length, Option, MatchOption}
 use Rattle.heap_formula.specs.declared.atoms.Pure.{Pure}
 use Rattle.heap_formula.specs.declared.atoms.Spatial.{Spatial}
-use Rattle.heap_formula.specs.Symbolic.{SymbolicHeap}
 use Rattle.pair_family.specs.BasePairs.{BasePair, no_pair}
 use Rattle.pair_family.specs.Combination.{pure_facts, AreConsistent}
 use Rattle.pair_family.specs.Folding.{said_in, spoken}
@@ -12,11 +11,10 @@ use Rattle.sat_pairs.specs.Numbers.{count_from, places_in, pure_pair_at, kept_nu
 
 -- what the pure atoms say of the terms of the spatial ones and of k parameters, unless they exclude
 -- one another
-abbrev pub Starts : ℕ → SymbolicHeap → Option BasePair → Type 0
-Starts k a found =
-    MatchOption found (¬ AreConsistent (pure_facts a.pure))
-    (λ s. AreConsistent (pure_facts a.pure)
-    × (s ≡ said_in (frames_of k a.spatial 0) (pure_facts a.pure)))
+abbrev pub Starts : ℕ → List Spatial → List Pure → Option BasePair → Type 0
+Starts k xs ps found =
+    MatchOption found (¬ AreConsistent (pure_facts ps))
+    (λ s. AreConsistent (pure_facts ps) × (s ≡ said_in (frames_of k xs 0) (pure_facts ps)))
 
 -- what pure atoms say of the first numbers, so many being kept, unless they exclude one another
 abbrev pub StartsAt : List ℕ → ℕ → List Pure → Option BasePair → Type 0

@@ -1,7 +1,5 @@
 -- Tables that grow.
 use Rattle.std.specs.Prelude.{◌≡◌, ℕ, zero, suc, ◌+◌, ◌≤◌, List, [], ◌∷◌, ◌++◌, length, Bool, true, false}
-use Rattle.heap_formula.specs.declared.atoms.Spatial.{Spatial}
-use Rattle.heap_formula.specs.declared.atoms.Spatial.TheVariants.{Cell, Pred}
 use Rattle.heap_formula.specs.Symbolic.{SymbolicHeap}
 use Rattle.heap_formula.specs.Words.{OneOf}
 use Rattle.heap_formula.specs.Definitions.{Definition}
@@ -14,11 +12,6 @@ use Rattle.list_facts.specs.Words.{IsMember}
 abbrev pub total : Table → ℕ
 total [] = 0
 total (bs ∷ table) = length bs + total table
-
--- the base pairs of an atom; a cell's are given
-abbrev pub pairs_for : Table → List BasePair → Spatial → List BasePair
-pairs_for table cell (Cell t ts) = cell
-pairs_for table cell (Pred p ts) = pairs_of table p
 
 -- one more base pair of predicate p
 abbrev pub with_pair : Table → ℕ → BasePair → Table

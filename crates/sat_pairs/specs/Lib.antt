@@ -1,3 +1,4 @@
 pub mod Numbers
 pub mod Growth
+pub mod Parts
 pub mod CaseStates

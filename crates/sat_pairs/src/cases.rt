@@ -6,18 +6,21 @@ ghost use Rattle.pair_family.specs.Closedness.{HasFields, AreCases};
 ghost use Rattle.pair_family.specs.Family.{CaseGives};
 ghost use Rattle.pair_family.specs.Folding.{spoken};
 ghost use Rattle.pair_family.specs.Frames.{kept_terms, frames_of};
+ghost use Rattle.pair_family.specs.Reordering.{families_of};
 ghost use Rattle.pair_family.specs.States.{AreStates};
 ghost use Rattle.pair_family.specs.Statements.{IsSatisfiable};
 ghost use Rattle.pair_family.specs.Tables.{IsTable, in_table};
 ghost use Rattle.list_facts.specs.Words.{IsMember};
 ghost use Rattle.pair_family.specs.Within.{IsWithin};
-ghost use Rattle.sat_pairs.specs.Growth.{pairs_for};
 ghost use Rattle.sat_pairs.specs.Numbers.{places_in, cell_pair_alone, equal_places, differ_places, pure_pair_at};
+ghost use Rattle.sat_pairs.specs.Parts.{atoms_of, lists_of, PartsGive};
 ghost use Rattle.sat_pairs.specs.CaseStates.{Starts, StartsAt, StepsBy, StepsTo};
 
 use crate::numbers::{
     kept_numbers, number_of, numbers_below, place_of, places_of, push_pure, push_spoken,
 };
+use crate::orders::in_order;
+use crate::parts::{Part, pairs_of_part, place_of_most, place_of_none, whole_parts};
 use crate::tables::Table;
 use cyc_memory::OutOfMemory;
 use heap_formula::{Heap, Pure, Spatial};
@@ -98,18 +101,18 @@ fn start_at(
     Ok(combined?)
 }
 
-/// What the pure atoms say of the terms that the spatial atoms speak of and of the parameters, unless they exclude one another.
-fn start(alloc: Global, k: u32, heap: &Heap) -> Result<Option<Known>, OutOfMemory>
-    ensures { IfOk result (Starts k heap.now) }
+/// What the pure atoms say of the terms that the parts speak of and of the parameters, unless they exclude one another.
+fn start(alloc: Global, k: u32, parts: &[Part], pure: &[Pure]) -> Result<Option<Known>, OutOfMemory>
+    ensures { IfOk result (Starts k (atoms_of parts.now) pure.now) }
 {
-    let mut numbers = kept_numbers(alloc, k, heap.spatial())?;
+    let mut numbers = kept_numbers(alloc, k, parts)?;
     let count = numbers.len();
-    push_pure(&mut numbers, heap.pure())?;
-    start_at(alloc, &numbers, count, heap.pure())
+    push_pure(&mut numbers, pure)?;
+    start_at(alloc, &numbers, count, pure)
 }
 
 /// The base pair of a cell, alone: it says of its address, as its one argument, that it is a cell.
-fn cell_pairs(alloc: Global) -> Result<Vec<Known>, OutOfMemory>
+pub fn cell_pairs(alloc: Global) -> Result<Vec<Known>, OutOfMemory>
     ensures { IfOk result (λ v. v.items ≡ cell_pair_alone) }
 {
     let mut cells = Vec::new(alloc);
@@ -126,16 +129,6 @@ fn places_for(alloc: Global, numbers: &[u64], atom: &Spatial) -> Result<Vec<usiz
     match atom {
         Spatial::Cell(t, _) => places_of(alloc, numbers, &[*t]),
         Spatial::Pred(_, args) => places_of(alloc, numbers, args.as_slice()),
-    }
-}
-
-/// The base pairs of an atom: a cell's is `cell`.
-fn pairs_of_atom<'a>(table: &'a Table, cell: &'a [Known], atom: &Spatial) -> &'a [Known]
-    ensures { result.now ≡ pairs_for table.now cell.now atom.now }
-{
-    match atom {
-        Spatial::Cell(_, _) => cell,
-        Spatial::Pred(q, _) => table.pairs(*q),
     }
 }
 
@@ -158,16 +151,16 @@ fn step(
     Ok(next?)
 }
 
-/// The states after an atom that stands before the atoms `rest`.
+/// The states after an atom that stands before the parts `rest`.
 fn step_to(
     alloc: Global,
     k: u32,
     atom: &Spatial,
-    rest: &[Spatial],
+    rest: &[Part],
     pairs: &[Known],
     states: &[Known],
 ) -> Result<IndexSet<Known>, OutOfMemory>
-    ensures { IfOk result (λ v. StepsTo k atom.now rest.now pairs.now states.now v.keys) }
+    ensures { IfOk result (λ v. StepsTo k atom.now (atoms_of rest.now) pairs.now states.now v.keys) }
 {
     let mut numbers = kept_numbers(alloc, k, rest)?;
     let after = numbers.len();
@@ -175,36 +168,76 @@ fn step_to(
     step(alloc, &numbers, after, atom, pairs, states)
 }
 
-/// The first atom, and the others.
-fn first_of(atoms: &[Spatial]) -> (&Spatial, &[Spatial])
-    requires { 0 < length atoms.now }
-    ensures { atoms.now ≡ result.0.now ∷ result.1.now }
+/// The first part, and the others.
+fn first_of(parts: &[Part]) -> (&Part, &[Part])
+    requires { 0 < length parts.now }
+    ensures { parts.now ≡ result.0.now ∷ result.1.now }
 {
-    (&atoms[0], &atoms[1..])
+    (&parts[0], &parts[1..])
 }
 
-/// The states after the atoms, each with base pairs of the table.
+/// The states after the parts, in this order.
 fn fold(
     alloc: Global,
     table: &Table,
     cell: &[Known],
     k: u32,
-    atoms: &[Spatial],
+    parts: &[Part],
     states: IndexSet<Known>,
 ) -> Result<IndexSet<Known>, OutOfMemory>
     requires cell { cell.now ≡ cell_pair_alone }
-    requires within { Each (IsWithin (suc (length (kept_terms k atoms.now)))) states.keys }
-    ensures { IfOk result (λ out. AreStates (λ _. in_table table.now) (frames_of k atoms.now)
-        states.keys atoms.now out.keys) }
+    requires within { Each (IsWithin (suc (length (kept_terms k (atoms_of parts.now))))) states.keys }
+    ensures { IfOk result (λ out. AreStates (families_of (lists_of table.now cell.now parts.now))
+        (frames_of k (atoms_of parts.now)) states.keys (atoms_of parts.now) out.keys) }
 {
-    if atoms.is_empty() {
+    if parts.is_empty() {
         return Ok(states);
     }
-    let (atom, rest) = first_of(atoms);
-    let pairs = pairs_of_atom(table, cell, atom);
-    let next = step_to(alloc, k, atom, rest, pairs, states.as_slice());
+    let (part, rest) = first_of(parts);
+    let pairs = pairs_of_part(table, cell, part);
+    let next = step_to(alloc, k, &part.atom, rest, pairs, states.as_slice());
     drop(states);
     fold(alloc, table, cell, k, rest, next?)
+}
+
+/// The base pairs that parts in this order give, with pure atoms, for a predicate with k parameters.
+fn given_in_order(
+    alloc: Global,
+    table: &Table,
+    cell: &[Known],
+    k: u32,
+    parts: &[Part],
+    pure: &[Pure],
+) -> Result<IndexSet<Known>, OutOfMemory>
+    requires cell { cell.now ≡ cell_pair_alone }
+    ensures { IfOk result (λ out. (d : BasePair)
+        → IsMember d out.keys ↔ PartsGive table.now cell.now k pure.now d parts.now) }
+{
+    let Some(first) = start(alloc, k, parts, pure)? else {
+        return Ok(IndexSet::new(alloc));
+    };
+    let mut states = IndexSet::new(alloc);
+    add(&mut states, first)?;
+    fold(alloc, table, cell, k, parts, states)
+}
+
+/// The base pairs that parts give, with pure atoms, for a predicate with k parameters; the part at a place is taken first.
+pub fn given_from(
+    alloc: Global,
+    table: &Table,
+    cell: &[Known],
+    k: u32,
+    parts: Vec<Part>,
+    place: usize,
+    pure: &[Pure],
+) -> Result<IndexSet<Known>, OutOfMemory>
+    requires cell { cell.now ≡ cell_pair_alone }
+    ensures { IfOk result (λ out. (d : BasePair)
+        → IsMember d out.keys ↔ PartsGive table.now cell.now k pure.now d parts.items) }
+{
+    let first = place_of_none(table, cell, &parts, place);
+    let ordered = in_order(alloc, k, parts, first)?;
+    given_in_order(alloc, table, cell, k, &ordered, pure)
 }
 
 /// The base pairs that a case of a predicate with k parameters gives with base pairs of the table.
@@ -217,12 +250,9 @@ pub fn given_by(
     ensures { IfOk result (λ out. (d : BasePair) → IsMember d out.keys ↔ CaseGives (in_table table.now) k d case.now) }
 {
     let cell = cell_pairs(alloc)?;
-    let Some(first) = start(alloc, k, case)? else {
-        return Ok(IndexSet::new(alloc));
-    };
-    let mut states = IndexSet::new(alloc);
-    add(&mut states, first)?;
-    fold(alloc, table, &cell, k, case.spatial(), states)
+    let parts = whole_parts(alloc, case.spatial())?;
+    let most = place_of_most(table, &cell, &parts);
+    given_from(alloc, table, &cell, k, parts, most, case.pure())
 }
 
 /// Whether some stack and heap satisfy a symbolic heap. The table is that of the definitions.

@@ -4,8 +4,11 @@
 mod agenda;
 mod cases;
 mod numbers;
+mod orders;
+mod parts;
 mod rounds;
 mod tables;
+mod turns;
 
 pub use cases::satisfiable;
 pub use rounds::{PairFault, base_pairs};

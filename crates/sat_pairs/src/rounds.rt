@@ -8,8 +8,10 @@ ghost use Rattle.list_facts.specs.Words.{IsMember};
 ghost use Rattle.sat_pairs.specs.Growth.{total, IsPartOf, IsGrown, AreInFamily, HasPairs, HasGiven, HasAllGiven};
 
 use crate::agenda::Agenda;
-use crate::cases::given_by;
+use crate::cases::{cell_pairs, given_by, given_from};
+use crate::parts::{new_parts, pair_counts};
 use crate::tables::Table;
+use crate::turns::{News, Turn, Turns, no_turns};
 use cyc_memory::OutOfMemory;
 use heap_formula::Heap;
 use indexmap::IndexSet;
@@ -114,6 +116,160 @@ fn put_case(
     counted
 }
 
+/// Adds what a case gives where the atom at a place takes a base pair that is new, and those before it old ones.
+fn put_new_at(
+    alloc: Global,
+    defs: &Defs,
+    table: &mut Table,
+    count: usize,
+    most: u32,
+    pred: u16,
+    k: u32,
+    case: &Heap,
+    news: &News,
+    place: usize,
+) -> Result<usize, PairFault>
+    requires part { IsPartOf defs.now.list most table.old }
+    requires count { count ≡ total table.old }
+    requires there { pred < length table.old }
+    requires sound { (b : BasePair) → CaseGives (InFamily defs.now.list) k b case.now → InFamily defs.now.list pred b }
+    ensures part { IfOk result (λ n. IsPartOf defs.now.list most table.new × (n ≡ total table.new)) }
+    ensures grown { IfOk result (λ _. IsGrown table.old table.new) }
+    ensures many { (result ≡ Err PairFault.TooManyPairs) → HasMoreThan defs.now.list most }
+{
+    if !news.is_new_at(place) {
+        return Ok(count);
+    }
+    let cell = cell_pairs(alloc)?;
+    let parts = new_parts(alloc, case.spatial(), news, place)?;
+    let mut given = given_from(alloc, table, &cell, k, parts, place, case.pure())?;
+    put_all(defs, table, count, most, pred, &mut given)
+}
+
+/// Adds what a case gives where some atom takes a base pair that is new, each combination of base pairs once.
+fn put_new(
+    alloc: Global,
+    defs: &Defs,
+    table: &mut Table,
+    count: usize,
+    most: u32,
+    pred: u16,
+    k: u32,
+    case: &Heap,
+    news: &News,
+) -> Result<usize, PairFault>
+    requires part { IsPartOf defs.now.list most table.old }
+    requires count { count ≡ total table.old }
+    requires there { pred < length table.old }
+    requires sound { (b : BasePair) → CaseGives (InFamily defs.now.list) k b case.now → InFamily defs.now.list pred b }
+    ensures part { IfOk result (λ n. IsPartOf defs.now.list most table.new × (n ≡ total table.new)) }
+    ensures grown { IfOk result (λ _. IsGrown table.old table.new) }
+    ensures many { (result ≡ Err PairFault.TooManyPairs) → HasMoreThan defs.now.list most }
+{
+    let mut now = count;
+    for place in 0..case.spatial().len() {
+        now = put_new_at(alloc, defs, table, now, most, pred, k, case, news, place)?;
+    }
+    Ok(now)
+}
+
+/// Adds what a case gives with the base pairs that are there: with new ones where it was done before with `taken`.
+fn put_since(
+    alloc: Global,
+    defs: &Defs,
+    table: &mut Table,
+    count: usize,
+    most: u32,
+    pred: u16,
+    k: u32,
+    case: &Heap,
+    taken: &Option<Vec<usize>>,
+    all: &[usize],
+) -> Result<usize, PairFault>
+    requires part { IsPartOf defs.now.list most table.old }
+    requires count { count ≡ total table.old }
+    requires there { pred < length table.old }
+    requires sound { (b : BasePair) → CaseGives (InFamily defs.now.list) k b case.now → InFamily defs.now.list pred b }
+    ensures part { IfOk result (λ n. IsPartOf defs.now.list most table.new × (n ≡ total table.new)) }
+    ensures grown { IfOk result (λ _. IsGrown table.old table.new) }
+    ensures many { (result ≡ Err PairFault.TooManyPairs) → HasMoreThan defs.now.list most }
+{
+    match taken {
+        None => put_case(alloc, defs, table, count, most, pred, k, case),
+        Some(old) => {
+            let news = News {
+                old: old.as_slice(),
+                all,
+            };
+            put_new(alloc, defs, table, count, most, pred, k, case, &news)
+        }
+    }
+}
+
+/// Adds what a case gives with the base pairs that have come since its last turn, and notes that.
+fn put_turn(
+    alloc: Global,
+    defs: &Defs,
+    table: &mut Table,
+    count: usize,
+    most: u32,
+    pred: u16,
+    k: u32,
+    case: &Heap,
+    turn: &mut Turn,
+) -> Result<usize, PairFault>
+    requires part { IsPartOf defs.now.list most table.old }
+    requires count { count ≡ total table.old }
+    requires there { pred < length table.old }
+    requires sound { (b : BasePair) → CaseGives (InFamily defs.now.list) k b case.now → InFamily defs.now.list pred b }
+    ensures part { IfOk result (λ n. IsPartOf defs.now.list most table.new × (n ≡ total table.new)) }
+    ensures grown { IfOk result (λ _. IsGrown table.old table.new) }
+    ensures many { (result ≡ Err PairFault.TooManyPairs) → HasMoreThan defs.now.list most }
+{
+    let all = pair_counts(alloc, table, case.spatial())?;
+    let counted = put_since(
+        alloc,
+        defs,
+        table,
+        count,
+        most,
+        pred,
+        k,
+        case,
+        &turn.taken,
+        &all,
+    );
+    turn.taken = Some(all);
+    counted
+}
+
+/// The same of the case at a place.
+fn put_turn_at(
+    alloc: Global,
+    defs: &Defs,
+    table: &mut Table,
+    count: usize,
+    most: u32,
+    pred: u16,
+    k: u32,
+    case: &Heap,
+    turns: &mut Turns,
+    place: usize,
+) -> Result<usize, PairFault>
+    requires part { IsPartOf defs.now.list most table.old }
+    requires count { count ≡ total table.old }
+    requires there { pred < length table.old }
+    requires sound { (b : BasePair) → CaseGives (InFamily defs.now.list) k b case.now → InFamily defs.now.list pred b }
+    ensures part { IfOk result (λ n. IsPartOf defs.now.list most table.new × (n ≡ total table.new)) }
+    ensures grown { IfOk result (λ _. IsGrown table.old table.new) }
+    ensures many { (result ≡ Err PairFault.TooManyPairs) → HasMoreThan defs.now.list most }
+{
+    match turns.cases.get_mut(place) {
+        Some(turn) => put_turn(alloc, defs, table, count, most, pred, k, case, turn),
+        None => put_case(alloc, defs, table, count, most, pred, k, case),
+    }
+}
+
 /// How many parameters a predicate has.
 fn arity_at(defs: &Defs, pred: u16) -> u32
     requires { pred < length defs.now.list }
@@ -150,6 +306,32 @@ fn put_definition(
     Ok(now)
 }
 
+/// Adds what the cases of a predicate give with the base pairs that have come since their last turns.
+fn put_turns(
+    alloc: Global,
+    defs: &Defs,
+    table: &mut Table,
+    count: usize,
+    most: u32,
+    pred: u16,
+    turns: &mut Turns,
+) -> Result<usize, PairFault>
+    requires part { IsPartOf defs.now.list most table.old }
+    requires count { count ≡ total table.old }
+    requires there { pred < length defs.now.list }
+    ensures part { IfOk result (λ n. IsPartOf defs.now.list most table.new × (n ≡ total table.new)) }
+    ensures grown { IfOk result (λ _. IsGrown table.old table.new) }
+    ensures many { (result ≡ Err PairFault.TooManyPairs) → HasMoreThan defs.now.list most }
+{
+    let k = arity_at(defs, pred);
+    let cases = defs.cases(pred);
+    let mut now = count;
+    for (place, case) in cases.iter().enumerate() {
+        now = put_turn_at(alloc, defs, table, now, most, pred, k, case, turns, place)?;
+    }
+    Ok(now)
+}
+
 /// Adds what each definition gives with the base pairs that are there.
 fn sweep(
     alloc: Global,
@@ -173,12 +355,36 @@ fn sweep(
     Ok(now)
 }
 
-/// Goes through the definitions that are to be done, the longest waiting first: where one gives a base pair that is new,
-/// its users are to be done again. It ends where none is left.
+/// Adds what a definition gives with the base pairs that have come since its last turn.
+fn put_waiting(
+    alloc: Global,
+    defs: &Defs,
+    turns: &mut Vec<Turns>,
+    table: &mut Table,
+    count: usize,
+    most: u32,
+    pred: u16,
+) -> Result<usize, PairFault>
+    requires part { IsPartOf defs.now.list most table.old }
+    requires count { count ≡ total table.old }
+    requires there { pred < length defs.now.list }
+    ensures part { IfOk result (λ n. IsPartOf defs.now.list most table.new × (n ≡ total table.new)) }
+    ensures grown { IfOk result (λ _. IsGrown table.old table.new) }
+    ensures many { (result ≡ Err PairFault.TooManyPairs) → HasMoreThan defs.now.list most }
+{
+    match turns.get_mut(pred as usize) {
+        Some(turns) => put_turns(alloc, defs, table, count, most, pred, turns),
+        None => put_definition(alloc, defs, table, count, most, pred),
+    }
+}
+
+/// Goes through the definitions that are to be done, the longest waiting first, each with the base pairs that have come since
+/// its last turn: where one gives a base pair that is new, its users are to be done again. It ends where none is left.
 fn work_through(
     alloc: Global,
     defs: &Defs,
     agenda: &mut Agenda,
+    turns: &mut Vec<Turns>,
     table: &mut Table,
     count: usize,
     most: u32,
@@ -197,7 +403,7 @@ fn work_through(
             _ => return Ok(now),
         };
         let before = now;
-        now = put_definition(alloc, defs, table, now, most, pred)?;
+        now = put_waiting(alloc, defs, turns, table, now, most, pred)?;
         if now > before {
             agenda.add_users(pred)?;
         }
@@ -220,7 +426,8 @@ fn work(
     ensures many { (result ≡ Err PairFault.TooManyPairs) → HasMoreThan defs.now.list most }
 {
     let mut agenda = Agenda::new(alloc, defs)?;
-    work_through(alloc, defs, &mut agenda, table, count, most)
+    let mut turns = no_turns(alloc, defs)?;
+    work_through(alloc, defs, &mut agenda, &mut turns, table, count, most)
 }
 
 /// The base pairs of all predicates: the least family that has what each case gives. Definitions are done again where a

@@ -1,0 +1,132 @@
+// Atoms of a symbolic heap with the base pairs that they may take.
+ghost use Rattle.std.specs.Prelude.{◌≡◌, IfOk};
+ghost use Rattle.pair_family.specs.Tables.{pairs_of};
+ghost use Rattle.sat_pairs.specs.Parts.{atoms_of, AreWhole, cut, share_of, part_pairs};
+
+use crate::tables::Table;
+use crate::turns::News;
+use cyc_memory::OutOfMemory;
+use heap_formula::Spatial;
+use pair_states::Known;
+use std::alloc::Global;
+
+/// Which of a predicate's base pairs are taken: all, or those from one place to before another.
+#[derive(Clone, Copy)]
+pub enum Share {
+    All,
+    Between(usize, usize),
+}
+
+/// An atom, and which base pairs it may take; a cell has one.
+#[derive(Clone, Copy)]
+pub struct Part {
+    pub atom: Spatial,
+    pub share: Share,
+}
+
+/// The base pairs between two places; all where these are no places of theirs.
+fn between(pairs: &[Known], from: usize, to: usize) -> &[Known]
+    ensures { result.now ≡ cut from to pairs.now }
+{
+    if from <= to && to <= pairs.len() {
+        &pairs[from..to]
+    } else {
+        pairs
+    }
+}
+
+fn shared(pairs: &[Known], share: Share) -> &[Known]
+    ensures { result.now ≡ share_of share pairs.now }
+{
+    match share {
+        Share::All => pairs,
+        Share::Between(from, to) => between(pairs, from, to),
+    }
+}
+
+/// The base pairs that a part may take; a cell's is `cell`.
+pub fn pairs_of_part<'a>(table: &'a Table, cell: &'a [Known], part: &Part) -> &'a [Known]
+    ensures { result.now ≡ part_pairs table.now cell.now part.now }
+{
+    match part.atom {
+        Spatial::Cell(_, _) => cell,
+        Spatial::Pred(q, _) => shared(table.pairs(q), part.share),
+    }
+}
+
+/// The atoms, each with all its base pairs.
+pub fn whole_parts(alloc: Global, atoms: &[Spatial]) -> Result<Vec<Part>, OutOfMemory>
+    ensures { IfOk result (λ v. AreWhole atoms.now v.items) }
+{
+    let mut parts = Vec::new(alloc);
+    for atom in atoms {
+        parts.push(Part {
+            atom: *atom,
+            share: Share::All,
+        })?;
+    }
+    Ok(parts)
+}
+
+/// The atoms with those base pairs that are new at a place, and old before it.
+pub fn new_parts(
+    alloc: Global,
+    atoms: &[Spatial],
+    news: &News,
+    new_at: usize,
+) -> Result<Vec<Part>, OutOfMemory>
+    ensures { IfOk result (λ v. atoms_of v.items ≡ atoms.now) }
+{
+    let mut parts = Vec::new(alloc);
+    for (place, atom) in atoms.iter().enumerate() {
+        parts.push(Part {
+            atom: *atom,
+            share: news.share(place, new_at),
+        })?;
+    }
+    Ok(parts)
+}
+
+/// How many base pairs each atom has.
+pub fn pair_counts(
+    alloc: Global,
+    table: &Table,
+    atoms: &[Spatial],
+) -> Result<Vec<usize>, OutOfMemory> {
+    let mut counts = Vec::new(alloc);
+    for atom in atoms {
+        let count = match atom {
+            Spatial::Cell(_, _) => 1,
+            Spatial::Pred(q, _) => table.pairs(*q).len(),
+        };
+        counts.push(count)?;
+    }
+    Ok(counts)
+}
+
+/// The place of a part without base pairs, or else of one with the most.
+pub fn place_of_most(table: &Table, cell: &[Known], parts: &[Part]) -> usize {
+    let mut best = 0;
+    let mut most = 0;
+    for (place, part) in parts.iter().enumerate() {
+        let count = pairs_of_part(table, cell, part).len();
+        if count == 0 {
+            return place;
+        }
+        if count > most {
+            best = place;
+            most = count;
+        }
+    }
+    best
+}
+
+/// The place of a part without base pairs; the given place where each has some.
+pub fn place_of_none(table: &Table, cell: &[Known], parts: &[Part], place: usize) -> usize {
+    for (other, part) in parts.iter().enumerate() {
+        if pairs_of_part(table, cell, part).is_empty() {
+            return other;
+        }
+    }
+    place
+}
