@@ -18,8 +18,8 @@ use Rattle.formula_facts.proofs.SomeMember.{one_front, one_last}
 
 module _ (h : Cells) (ns : List ℕ) (head : ℕ) (vs : List ℕ) where
   -- a case rule of some cases is one of more cases, with more questions
-  rule_kept : (qs qs' : List Question) (bs : List SymbolicHeap) (b : SymbolicHeap) → Extends qs qs' → (r : GroundRule) → IsCaseRule h ns qs head vs bs r → IsCaseRule h ns qs' head vs (bs ++ b ∷ []) r
-  rule_kept qs qs' bs b x r k =
+  pub case_rule_kept : (qs qs' : List Question) (bs : List SymbolicHeap) (b : SymbolicHeap) → Extends qs qs' → (r : GroundRule) → IsCaseRule h ns qs head vs bs r → IsCaseRule h ns qs' head vs (bs ++ b ∷ []) r
+  case_rule_kept qs qs' bs b x r k =
       (k.0, one_front (λ b. (e : Stack) × Fits h vs e b × PiecesFit ns qs' vs e b.spatial r.pieces) bs (b ∷ []) (OneOf-map (λ b. (e : Stack) × Fits h vs e b × PiecesFit ns qs vs e b.spatial r.pieces) (λ b. (e : Stack) × Fits h vs e b × PiecesFit ns qs' vs e b.spatial r.pieces) (λ b o. (o.0, o.1, pieces_kept ns qs qs' x vs o.0 b.spatial r.pieces o.2)) bs k.1))
 
   -- a rule that is there stays there
@@ -32,7 +32,7 @@ module _ (h : Cells) (ns : List ℕ) (head : ℕ) (vs : List ℕ) where
     extends = extends_trans q0 q1 q2 g.extends x;
     added = g.added ++ more;
     more = w ∙ ap (λ rs. rs ++ more) g.more ∙ append_assoc r0 g.added more;
-    are = each_append (IsCaseRule h ns q2 head vs (bs ++ b ∷ [])) g.added more (each_imply (IsCaseRule h ns q1 head vs bs) (IsCaseRule h ns q2 head vs (bs ++ b ∷ [])) (rule_kept q1 q2 bs b x) g.added g.are) are;
+    are = each_append (IsCaseRule h ns q2 head vs (bs ++ b ∷ [])) g.added more (each_imply (IsCaseRule h ns q1 head vs bs) (IsCaseRule h ns q2 head vs (bs ++ b ∷ [])) (case_rule_kept q1 q2 bs b x) g.added g.are) are;
     has = each_last (λ b. (e : Stack) → Fits h vs e b → HasRule ns q2 r2 head vs e b.spatial) bs b (each_imply (λ b. (e : Stack) → Fits h vs e b → HasRule ns q1 r1 head vs e b.spatial) (λ b. (e : Stack) → Fits h vs e b → HasRule ns q2 r2 head vs e b.spatial) (λ b k. subst (λ rs. (e : Stack) → Fits h vs e b → HasRule ns q2 rs head vs e b.spatial) (sym w) (has_kept q1 q2 r1 more x b k)) bs g.has) k;
   }
 

@@ -41,5 +41,5 @@ one_case h ns qs qs' rules rules' head vs b ls view xs ys k v w a z =
     record {
       extends = a.extends;
       more = inr (r, z, refl, (stack_of ls, k.fits, p));
-      has = λ e f. subst (HasRule ns qs' rules' head vs e) refl (subst (λ rs. HasRule ns qs' rs head vs e b.spatial) (sym z) (one_last (λ x. (x.head ≡ head) × PiecesFit ns qs' vs e b.spatial x.pieces) rules r (refl, pieces_agree ns qs' vs (stack_of ls) e b.spatial ys (k.only e f).1 p)));
+      has = λ e f. subst (HasRule ns qs' rules' head vs e) refl (subst (λ rs. HasRule ns qs' rs head vs e b.spatial) (sym z) (one_last (λ x. (x.head ≡ head) × PiecesFit ns qs' vs e b.spatial x.pieces) rules r (refl, pieces_agree ns qs' vs (stack_of ls) vs e b.spatial ys (k.only e f).1 p)));
     }

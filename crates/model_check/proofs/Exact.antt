@@ -29,7 +29,7 @@ heads_fit ds h ns qs rules n e g =
 -- a solved table tells whether the stack and the heap satisfy the formula
 pub exact : (ds : List Definition) (h : Cells) (ns : List ℕ) (qs : List Question) (rules : List GroundRule) (T : Table) (s e : Stack) (a : SymbolicHeap) (ys : List Piece) → Grounds ds h ns qs rules → IsSolved rules T → IsOnly h s e a → PiecesFit ns qs s e a.spatial ys → Unions T ys (mask_of ns h) ↔ Satisfies ds s h a
 exact ds h ns qs rules T s e a ys g t k z = (
-  λ u. unions_satisfy ds h ns qs rules g s e a ys k.fits z (union_map T (derived rules) t.sound ys (mask_of ns h) u),
+  λ u. unions_satisfy ds h ns qs rules g.covers g.heap g.sound s e a ys k.fits z (union_map T (derived rules) t.sound ys (mask_of ns h) u),
   λ x. union_map (derived rules) T (derived_in rules T t) ys (mask_of ns h) (satisfied_unions ds h ns qs rules g s e a ys k z x),
 )
 
@@ -58,3 +58,8 @@ never ds h s a n = (λ t. absurd (let z : false ≡ true = t in cc), λ x. absur
 
 pub heads_fit_at : (ds : List Definition) (h : Cells) (ns : List ℕ) (qs : List Question) (rules rs : List GroundRule) (n : ℕ) → length qs ≡ n → rs ≡ rules → Grounds ds h ns qs rules → HeadsFit n rs
 heads_fit_at ds h ns qs rules rs n e w g = subst (HeadsFit n) (sym w) (heads_fit ds h ns qs rules n e g)
+
+pub given : (U : ℕ → Type 0) (out ov : Row) (m : ℕ) (b : Bool) → ov ≡ out → ((n : ℕ) → HoldsMask n out ↔ U n) → IsTrue b ↔ HoldsMask m ov → IsTrue b ↔ U m
+given U out ov m b e u i =
+    let j = subst (λ ws. IsTrue b ↔ HoldsMask m ws) e i in
+    (λ y. (u m).0 (j.0 y), λ y. j.1 ((u m).1 y))

@@ -84,22 +84,22 @@ fits_steps h s e a f = each_append (StepHolds h s e) (pures_steps a.pure) (spati
 
 -- ---- values that agree with values that fit, fit
 
-module _ (h : Cells) (s o e : Stack) where
-  values_moved : (ts : List Term) → Each (λ t. value s o t ≡ value s e t) ts → values s o ts ≡ values s e ts
+module _ (h : Cells) (s o s' e : Stack) where
+  values_moved : (ts : List Term) → Each (λ t. value s o t ≡ value s' e t) ts → values s o ts ≡ values s' e ts
   values_moved [] k = refl
   values_moved (t ∷ ts) k = λ i. k.0 i ∷ values_moved ts k.1 i
 
-  pures_moved : (xs : List Pure) → Each (InPure (λ t. value s o t ≡ value s e t)) xs → Each (PureHolds s o) xs → Each (PureHolds s e) xs
+  pures_moved : (xs : List Pure) → Each (InPure (λ t. value s o t ≡ value s' e t)) xs → Each (PureHolds s o) xs → Each (PureHolds s' e) xs
   pures_moved [] k p = tt
   pures_moved (Eq t u ∷ xs) k p = (sym k.0.0 ∙ p.0 ∙ k.0.1, pures_moved xs k.1 p.1)
   pures_moved (Neq t u ∷ xs) k p = (λ q. p.0 (k.0.0 ∙ q ∙ sym k.0.1), pures_moved xs k.1 p.1)
 
-  cells_moved : (xs : List Spatial) → Each (InSpatial (λ t. value s o t ≡ value s e t)) xs → Each (CellFits h s o) xs → Each (CellFits h s e) xs
+  cells_moved : (xs : List Spatial) → Each (InSpatial (λ t. value s o t ≡ value s' e t)) xs → Each (CellFits h s o) xs → Each (CellFits h s' e) xs
   cells_moved [] k p = tt
   cells_moved (Cell t ts ∷ xs) k p = (ap (cell_at h) (sym k.0.0) ∙ p.0 ∙ ap Some (values_moved ts k.0.1), cells_moved xs k.1 p.1)
   cells_moved (Pred q ts ∷ xs) k p = (tt, cells_moved xs k.1 p.1)
 
-  pub fits_moved : (a : SymbolicHeap) → InHeap (λ t. value s o t ≡ value s e t) a → Fits h s o a → Fits h s e a
+  pub fits_moved : (a : SymbolicHeap) → InHeap (λ t. value s o t ≡ value s' e t) a → Fits h s o a → Fits h s' e a
   fits_moved a k f = record { pure = pures_moved a.pure k.0 f.pure; cells = cells_moved a.spatial k.1 f.cells }
 
 universal_valued : (s : Stack) (ls : List Local) (t : Term) → IsUniversal t → IsValued s ls t
@@ -118,7 +118,7 @@ forced_agree h s a ls c f p o fits = in_heap_map (Known a) (λ t. value s o t �
         w ∙ sym (ap or_zero v.1) ∙ now_is s ls t
 
 pub forced_fit : (h : Cells) (s : Stack) (a : SymbolicHeap) (ls : List Local) → IsConstructive a → AreForced h s (steps_of a) ls → AllPassed s ls (steps_of a) → (o : Stack) → Fits h s o a → Fits h s (stack_of ls) a
-forced_fit h s a ls c f p o fits = fits_moved h s o (stack_of ls) a (forced_agree h s a ls c f p o fits) fits
+forced_fit h s a ls c f p o fits = fits_moved h s o s (stack_of ls) a (forced_agree h s a ls c f p o fits) fits
 
 -- ---- the answers as the code has them
 

@@ -64,7 +64,7 @@ any_member x [] h = absurd (both_ways false refl h)
 any_member x (k ∷ ks) h = elim (or_cases (nat_eq x k) (list_any (nat_eq x) ks) h) [ inl e ↦ inl (sym (eqb-true x k e)) | inr r ↦ inr (any_member x ks r) ]
 
 -- after an address is put in, it and those before stand there
-inserted : (x : ℕ) (old new : List ℕ) → new ≡ (if list_any (nat_eq x) old then old else old ++ x ∷ []) → (a : ℕ) → (IsMember a old ⊎ (x ≡ a)) → IsMember a new
+pub inserted : (x : ℕ) (old new : List ℕ) → new ≡ (if list_any (nat_eq x) old then old else old ++ x ∷ []) → (a : ℕ) → (IsMember a old ⊎ (x ≡ a)) → IsMember a new
 inserted x old new e a o = by (list_any (nat_eq x) old) refl e
   where
     by : (b : Bool) → list_any (nat_eq x) old ≡ b → new ≡ (if b then old else old ++ x ∷ []) → IsMember a new

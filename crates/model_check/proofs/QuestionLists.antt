@@ -18,7 +18,7 @@ use Rattle.model_check.proofs.Rounds.{one_question}
 use Rattle.formula_facts.proofs.AllMembers.{each_imply, each_append}
 
 -- a number below the length is a question's
-question_of : (qs : List Question) (q : ℕ) → q < length qs → (x : Question) × IsQuestion qs q x.predicate x.values
+pub question_of : (qs : List Question) (q : ℕ) → q < length qs → (x : Question) × IsQuestion qs q x.predicate x.values
 question_of [] q h = absurd (omega arith)
 question_of (x ∷ qs) zero h = (x, refl)
 question_of (x ∷ qs) (suc q) h = question_of qs q (omega arith)
@@ -29,7 +29,7 @@ question_within (x ∷ qs) zero p vs i = omega arith
 question_within (x ∷ qs) (suc q) p vs i = let r = question_within qs q p vs i in omega arith
 
 module _ (ds : List Definition) (h : Cells) (ns : List ℕ) where
-  rule_kept : (qs qs' : List Question) → Extends qs qs' → (r : GroundRule) → IsRule ds h ns qs r → IsRule ds h ns qs' r
+  pub rule_kept : (qs qs' : List Question) → Extends qs qs' → (r : GroundRule) → IsRule ds h ns qs r → IsRule ds h ns qs' r
   rule_kept qs qs' x r k = record {
     predicate = k.predicate;
     values = k.values;
@@ -37,7 +37,7 @@ module _ (ds : List Definition) (h : Cells) (ns : List ℕ) where
     of_case = OneOf-map (λ b. (e : Stack) × Fits h k.values e b × PiecesFit ns qs k.values e b.spatial r.pieces) (λ b. (e : Stack) × Fits h k.values e b × PiecesFit ns qs' k.values e b.spatial r.pieces) (λ b o. (o.0, o.1, pieces_kept ns qs qs' x k.values o.0 b.spatial r.pieces o.2)) (cases_of ds k.predicate) k.of_case;
   }
 
-  new_rule : (qs : List Question) (head p : ℕ) (vs : List ℕ) → IsQuestion qs head p vs → (r : GroundRule) → IsCaseRule h ns qs head vs (cases_of ds p) r → IsRule ds h ns qs r
+  pub new_rule : (qs : List Question) (head p : ℕ) (vs : List ℕ) → IsQuestion qs head p vs → (r : GroundRule) → IsCaseRule h ns qs head vs (cases_of ds p) r → IsRule ds h ns qs r
   new_rule qs head p vs i r k = record { predicate = p; values = vs; question = subst (λ j. IsQuestion qs j p vs) (sym k.0) i; of_case = k.1 }
 
   answered_kept : (qs qs' : List Question) (rules rules' added : List GroundRule) (q p : ℕ) (vs : List ℕ) → Extends qs qs' → rules' ≡ rules ++ added → IsAnswered ds h ns qs rules q p vs → IsAnswered ds h ns qs' rules' q p vs

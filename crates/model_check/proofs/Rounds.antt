@@ -23,12 +23,12 @@ use Rattle.model_check.specs.Grounding.{IsQuestion, IsPiece, PieceFits, PiecesFi
 use Rattle.model_check.proofs.OnlyLocals.{left_inside, right_inside, inside_trans, inside_all, holds_fits}
 use Rattle.model_check.proofs.MaskParts.{part_union, mask_union, part_one, mask_one, part_zero, mask_zero, part_mask}
 
-each_one : {X : Type 0} (P Q : X → Type 0) (xs : List X) → Each P xs → OneOf Q xs → OneOf (λ x. P x × Q x) xs
+pub each_one : {X : Type 0} (P Q : X → Type 0) (xs : List X) → Each P xs → OneOf Q xs → OneOf (λ x. P x × Q x) xs
 each_one P Q [] a o = absurd o
 each_one P Q (x ∷ xs) a (inl q) = inl (a.0, q)
 each_one P Q (x ∷ xs) a (inr o) = inr (each_one P Q xs a.1 o)
 
-some_of : {X : Type 0} (P : X → Type 0) (xs : List X) → OneOf P xs → (x : X) × P x
+pub some_of : {X : Type 0} (P : X → Type 0) (xs : List X) → OneOf P xs → (x : X) × P x
 some_of P [] o = absurd o
 some_of P (x ∷ xs) (inl p) = (x, p)
 some_of P (x ∷ xs) (inr o) = some_of P xs o
@@ -83,19 +83,19 @@ module _ (h : Cells) (ns : List ℕ) (qs : List Question) (c : Covers ns h) (k :
         }
 
 module _ (ns : List ℕ) (qs : List Question) where
-  values_agree : (s e o : Stack) (ts : List Term) → Each (λ t. value s o t ≡ value s e t) ts → values s e ts ≡ values s o ts
-  values_agree s e o [] k = refl
-  values_agree s e o (t ∷ ts) k = λ i. sym k.0 i ∷ values_agree s e o ts k.1 i
+  values_agree : (s e s' o : Stack) (ts : List Term) → Each (λ t. value s' o t ≡ value s e t) ts → values s e ts ≡ values s' o ts
+  values_agree s e s' o [] k = refl
+  values_agree s e s' o (t ∷ ts) k = λ i. sym k.0 i ∷ values_agree s e s' o ts k.1 i
 
-  piece_agrees : (s e o : Stack) (x : Spatial) (y : Piece) → InSpatial (λ t. value s o t ≡ value s e t) x → PieceFits ns qs s e x y → PieceFits ns qs s o x y
-  piece_agrees s e o (Cell t ts) y k z = subst (λ a. y ≡ Here (place ns a)) (sym k.0) z
-  piece_agrees s e o (Pred p ts) y k z = subst (λ vs. IsPiece qs p vs y) (values_agree s e o ts k) z
+  piece_agrees : (s e s' o : Stack) (x : Spatial) (y : Piece) → InSpatial (λ t. value s' o t ≡ value s e t) x → PieceFits ns qs s e x y → PieceFits ns qs s' o x y
+  piece_agrees s e s' o (Cell t ts) y k z = subst (λ a. y ≡ Here (place ns a)) (sym k.0) z
+  piece_agrees s e s' o (Pred p ts) y k z = subst (λ vs. IsPiece qs p vs y) (values_agree s e s' o ts k) z
 
-  pub pieces_agree : (s e o : Stack) (xs : List Spatial) (ys : List Piece) → Each (InSpatial (λ t. value s o t ≡ value s e t)) xs → PiecesFit ns qs s e xs ys → PiecesFit ns qs s o xs ys
-  pieces_agree s e o [] [] k z = tt
-  pieces_agree s e o [] (y ∷ ys) k z = absurd z
-  pieces_agree s e o (x ∷ xs) [] k z = absurd z
-  pieces_agree s e o (x ∷ xs) (y ∷ ys) k z = (piece_agrees s e o x y k.0 z.0, pieces_agree s e o xs ys k.1 z.1)
+  pub pieces_agree : (s e s' o : Stack) (xs : List Spatial) (ys : List Piece) → Each (InSpatial (λ t. value s' o t ≡ value s e t)) xs → PiecesFit ns qs s e xs ys → PiecesFit ns qs s' o xs ys
+  pieces_agree s e s' o [] [] k z = tt
+  pieces_agree s e s' o [] (y ∷ ys) k z = absurd z
+  pieces_agree s e s' o (x ∷ xs) [] k z = absurd z
+  pieces_agree s e s' o (x ∷ xs) (y ∷ ys) k z = (piece_agrees s e s' o x y k.0 z.0, pieces_agree s e s' o xs ys k.1 z.1)
 
 pub one_question : (qs : List Question) (q p u : ℕ) (vs us : List ℕ) → IsQuestion qs q p vs → IsQuestion qs q u us → (p ≡ u) × (vs ≡ us)
 one_question qs q p u vs us i j =
@@ -105,7 +105,7 @@ one_question qs q p u vs us i j =
     let e : x ≡ y = cc in
     (ap (λ z. z.predicate) e, ap (λ z. z.values) e)
 
-module _ (ds : List Definition) (h : Cells) (ns : List ℕ) (qs : List Question) (rules : List GroundRule) (g : Grounds ds h ns qs rules) where
+module _ (ds : List Definition) (h : Cells) (ns : List ℕ) (qs : List Question) (rules : List GroundRule) (covers : Covers ns h) (heap : IsHeap h) (sound : Each (IsRule ds h ns qs) rules) where
   abbrev CaseRule : List ℕ → GroundRule → SymbolicHeap → Type 0
   CaseRule us r b = (e : Stack) × Fits h us e b × PiecesFit ns qs us e b.spatial r.pieces
 
@@ -113,7 +113,7 @@ module _ (ds : List Definition) (h : Cells) (ns : List ℕ) (qs : List Question)
   pub round_stage : (n q m p : ℕ) (vs : List ℕ) → IsQuestion qs q p vs → round rules n q m → at_stage ds n p vs (part_of ns h m)
   round_stage zero q m p vs i d = absurd d
   round_stage (suc n) q m p vs i d =
-      let r = some_of (λ r. IsRule ds h ns qs r × Gives (round rules n) q m r) rules (each_one (IsRule ds h ns qs) (Gives (round rules n) q m) rules g.sound d) in
+      let r = some_of (λ r. IsRule ds h ns qs r × Gives (round rules n) q m r) rules (each_one (IsRule ds h ns qs) (Gives (round rules n) q m) rules sound d) in
       let t = r.1.0 in
       let asked : IsQuestion qs q t.predicate t.values = subst (λ j. IsQuestion qs j t.predicate t.values) r.1.1.0 t.question in
       let same = one_question qs q t.predicate p t.values vs asked i in
@@ -121,9 +121,22 @@ module _ (ds : List Definition) (h : Cells) (ns : List ℕ) (qs : List Question)
       let at_vs : OneOf (CaseRule vs r.0) (cases_of ds p) = subst (λ u. OneOf (CaseRule vs r.0) (cases_of ds u)) same.0 at_p in
       OneOf-map (CaseRule vs r.0) (CaseHolds (at_stage ds n) vs (part_of ns h m)) (λ b o. (
         o.0,
-        (o.1.pure, unions_spatial h ns qs g.covers g.heap vs o.0 (round rules n) (at_stage ds n) (λ j f u us x y. round_stage n j f u us x y) b.spatial r.0.pieces m o.1.cells o.2 r.1.1.1),
+        (o.1.pure, unions_spatial h ns qs covers heap vs o.0 (round rules n) (at_stage ds n) (λ j f u us x y. round_stage n j f u us x y) b.spatial r.0.pieces m o.1.cells o.2 r.1.1.1),
       )) (cases_of ds p) at_vs
 
+  -- ---- the question that is asked
+
+  whole : part_of ns h (mask_of ns h) ≡ h
+  whole = part_mask ns h h covers (inside_all h)
+
+  pub unions_satisfy : (s e : Stack) (a : SymbolicHeap) (ys : List Piece) → Fits h s e a → PiecesFit ns qs s e a.spatial ys → Unions (derived rules) ys (mask_of ns h) → Satisfies ds s h a
+  unions_satisfy s e a ys f z u =
+      let x = unions_spatial h ns qs covers heap s e (derived rules) (least ds) (λ j m p vs i d. (d.0, round_stage d.0 j m p vs i d.1)) a.spatial ys (mask_of ns h) f.cells z u in
+      let y = subst (λ c. SpatialHolds (λ _. least ds) s e a.spatial c) whole x in
+      let w = one_stage ds s e a.spatial h y in
+      (λ _. w.0, (e, (f.pure, w.1)))
+
+module _ (ds : List Definition) (h : Cells) (ns : List ℕ) (qs : List Question) (rules : List GroundRule) (g : Grounds ds h ns qs rules) where
   -- what holds at stage n of a part is derived in n rounds
   pub stage_round : (n q p : ℕ) (vs : List ℕ) (part : Cells) → IsQuestion qs q p vs → Inside part h → at_stage ds n p vs part → round rules n q (mask_of ns part)
   stage_round zero q p vs part i w d = absurd d
@@ -138,24 +151,12 @@ module _ (ds : List Definition) (h : Cells) (ns : List ℕ) (qs : List Question)
         spatial_unions h ns qs g.covers g.heap vs e (round rules n) (at_stage ds n) (λ j u us c x y t. stage_round n j u us c x y t) b.spatial r.pieces part w f.cells z.1 one.1.1.1.1,
       )) rules (one.1.0 e f)
 
-  -- ---- the question that is asked
-
-  whole : part_of ns h (mask_of ns h) ≡ h
-  whole = part_mask ns h h g.covers (inside_all h)
-
-  pub unions_satisfy : (s e : Stack) (a : SymbolicHeap) (ys : List Piece) → Fits h s e a → PiecesFit ns qs s e a.spatial ys → Unions (derived rules) ys (mask_of ns h) → Satisfies ds s h a
-  unions_satisfy s e a ys f z u =
-      let x = unions_spatial h ns qs g.covers g.heap s e (derived rules) (least ds) (λ j m p vs i d. (d.0, round_stage d.0 j m p vs i d.1)) a.spatial ys (mask_of ns h) f.cells z u in
-      let y = subst (λ c. SpatialHolds (λ _. least ds) s e a.spatial c) whole x in
-      let w = one_stage ds s e a.spatial h y in
-      (λ _. w.0, (e, (f.pure, w.1)))
-
   pub satisfied_unions : (s e : Stack) (a : SymbolicHeap) (ys : List Piece) → IsOnly h s e a → PiecesFit ns qs s e a.spatial ys → Satisfies ds s h a → Unions (derived rules) ys (mask_of ns h)
   satisfied_unions s e a ys k z x =
       let o = x.1.0 in
       let f : Fits h s o a = holds_fits (λ k. at_stage ds (x.0 k)) s o a h h (inside_all h) x.1.1 in
       let y = spatial_within (λ k. at_stage ds (x.0 k)) (λ _. least ds) (λ k p vs c d. (x.0 k, d)) s o a.spatial h x.1.1.1 in
-      spatial_unions h ns qs g.covers g.heap s o (derived rules) (least ds) (λ j p vs c i w d. (d.0, stage_round d.0 j p vs c i w d.1)) a.spatial ys h (inside_all h) f.cells (pieces_agree ns qs s e o a.spatial ys (k.only o f).1 z) y
+      spatial_unions h ns qs g.covers g.heap s o (derived rules) (least ds) (λ j p vs c i w d. (d.0, stage_round d.0 j p vs c i w d.1)) a.spatial ys h (inside_all h) f.cells (pieces_agree ns qs s e s o a.spatial ys (k.only o f).1 z) y
 
 -- ---- a table that is sound and closed has what is derived
 

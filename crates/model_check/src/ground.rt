@@ -26,12 +26,14 @@ impl Model for Pieces {
 }
 
 impl Pieces {
+    /// The pieces in order.
     pub fn as_slice(&self) -> &[Piece]
         ensures { result.now ≡ self.now }
     {
         &self.items
     }
 
+    /// These pieces, without a copy.
     pub fn from_vec(items: Vec<Piece>) -> Pieces
         ensures { result ≡ items.items }
     {

@@ -74,8 +74,9 @@ pub fn pieces_of(
     Ok(Pieces::from_vec(pieces))
 }
 
-/// Adds the rule of a case at given values of its parameters, if values of its locals fit.
-fn ground_case(
+/// Adds the rule of a case at given values of its parameters, if values of its locals fit. The rule gets the number of
+/// the question that it answers, and what the case asks in turn is a question too.
+pub fn ground_case(
     alloc: Global,
     cells: &Cells,
     places: &IndexSet<u64>,
@@ -152,7 +153,8 @@ fn ground_question(
     )
 }
 
-fn copied_question(
+/// A copy of the question of a number, if there is one.
+pub fn copied_question(
     questions: &IndexSet<Question>,
     q: usize,
 ) -> Result<Option<Question>, OutOfMemory>

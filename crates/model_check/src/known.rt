@@ -28,7 +28,8 @@ fn contains_term(terms: &[Term], term: Term) -> bool
     false
 }
 
-fn is_known(known: &[Term], term: Term) -> bool
+/// Whether a term is `nil`, a universal or one of these.
+pub fn is_known(known: &[Term], term: Term) -> bool
     ensures { IsTrue result ↔ IsKnownIn known.now term }
 {
     match term {
@@ -117,7 +118,7 @@ fn learn_round(known: &mut Vec<Term>, steps: &[Step]) -> Result<(), OutOfMemory>
 }
 
 /// The existential terms that steps lead to.
-fn known_terms(alloc: Global, steps: &[Step]) -> Result<Vec<Term>, OutOfMemory>
+pub fn known_terms(alloc: Global, steps: &[Step]) -> Result<Vec<Term>, OutOfMemory>
     ensures sound { IfOk result (λ known. AreLearned steps.now known.items) }
     ensures closed { IfOk result (λ known. AllTaken known.items steps.now) }
 {
@@ -162,7 +163,8 @@ fn is_spatial_known(known: &[Term], atom: &Spatial) -> bool
     }
 }
 
-fn is_heap_known(known: &[Term], heap: &Heap) -> bool
+/// Whether each term of the formula is `nil`, a universal or one of these.
+pub fn is_heap_known(known: &[Term], heap: &Heap) -> bool
     ensures { IsTrue result ↔ InHeap (IsKnownIn known.now) heap.now }
 {
     for atom in heap.pure() {

@@ -13,6 +13,12 @@ mod satisfaction;
 mod solving;
 mod unions;
 
+pub use ground::{GroundRule, Piece, Pieces};
+pub use grounding::{copied_question, ground_case};
+pub use known::{Step, is_constructive, is_heap_known, is_known, known_terms, steps_of};
+pub use mask::Mask;
 pub use places::{Place, constructive, constructive_all};
 pub use questions::Question;
-pub use satisfaction::satisfied;
+pub use satisfaction::{heap_places, is_given, satisfied, whole_mask};
+pub use solving::solve;
+pub use unions::Row;

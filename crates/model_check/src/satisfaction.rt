@@ -8,11 +8,12 @@ ghost use Rattle.list_facts.specs.Words.{IsMember};
 ghost use Rattle.model_check.specs.ForcedLocals.{stack_of};
 ghost use Rattle.model_check.specs.WideMasks.{number, HoldsMask};
 ghost use Rattle.model_check.specs.MaskParts.{place, from_bits, stands, mask_of, Covers};
-ghost use Rattle.model_check.specs.Ground.{IsSolved};
+ghost use Rattle.model_check.specs.Ground.{Unions, IsSolved};
 ghost use Rattle.model_check.specs.declared.ground.GroundRule.{GroundRule};
 ghost use Rattle.model_check.specs.Grounding.{Extends, Grounds};
 ghost use Rattle.model_check.specs.Tables.{HasMask};
 
+use crate::ground::Piece;
 use crate::grounding::{ground_questions, pieces_of, place_of};
 use crate::locals::{Local, locals_of};
 use crate::mask::Mask;
@@ -37,8 +38,8 @@ fn places_of(alloc: Global, addresses: &[u64]) -> Result<IndexSet<u64>, OutOfMem
     Ok(places)
 }
 
-/// The places of the heap's cells.
-fn heap_places(alloc: Global, cells: &Cells) -> Result<IndexSet<u64>, OutOfMemory>
+/// The places of the heap's cells: the addresses, each with its number in ascending order.
+pub fn heap_places(alloc: Global, cells: &Cells) -> Result<IndexSet<u64>, OutOfMemory>
     ensures covers { IfOk result (λ p. Covers p.keys cells.now) }
     ensures heap { IsHeap cells.now }
 {
@@ -73,7 +74,7 @@ fn with_place(
 }
 
 /// The mask of the whole heap.
-fn whole_mask(alloc: Global, places: &IndexSet<u64>, cells: &Cells) -> Result<Mask, OutOfMemory>
+pub fn whole_mask(alloc: Global, places: &IndexSet<u64>, cells: &Cells) -> Result<Mask, OutOfMemory>
     ensures { IfOk result (λ m. number m ≡ mask_of places.now.keys cells.now) }
 {
     let mut mask = Mask::empty(alloc);
@@ -126,6 +127,21 @@ fn masks_of(
     drop(questions);
     let table = solved?;
     unions(alloc, &table, pieces.as_slice())
+}
+
+/// Whether a mask is a disjoint union of one mask of the table for each piece.
+pub fn is_given(
+    alloc: Global,
+    table: &[Row],
+    pieces: &[Piece],
+    mask: &Mask,
+) -> Result<bool, OutOfMemory>
+    ensures { IfOk result (λ b. IsTrue b ↔ Unions (HasMask table.now) pieces.now (number mask.now)) }
+{
+    let masks = unions(alloc, table, pieces)?;
+    let given = has_mask(masks.as_slice(), mask);
+    drop(masks);
+    Ok(given)
 }
 
 /// The answer where the heap's cells have these places.

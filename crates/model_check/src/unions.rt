@@ -27,6 +27,7 @@ impl Model for Row {
 }
 
 impl Row {
+    /// No mask.
     pub fn new(alloc: Global) -> Row
         ensures { result ≡ [] }
     {
@@ -35,6 +36,7 @@ impl Row {
         }
     }
 
+    /// The masks in order.
     pub fn as_slice(&self) -> &[Mask]
         ensures { result.now ≡ self.now }
     {
