@@ -1,0 +1,4 @@
+pub mod Halting
+pub mod RunEnds
+pub mod SameStates
+pub mod Moves

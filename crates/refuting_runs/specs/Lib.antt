@@ -1,0 +1,4 @@
+pub mod Picks
+pub mod Runs
+pub mod Refuting
+pub mod Moves
