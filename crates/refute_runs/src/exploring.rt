@@ -1,0 +1,250 @@
+// The states that runs from one state reach.
+use crate::choosing::{Offer, offers};
+use crate::faulty_runs::{Tail, fields_of, made_picks, number_of};
+use cyc_memory::OutOfMemory;
+use goto_lang::{Config, Program, Stepped, step};
+use heap_formula::{Command, Term};
+use indexmap::IndexSet;
+use refuting_runs::{Ending, Pick};
+use std::alloc::Global;
+
+/// The headroom of all runs, and the greatest number in a state.
+const HEADROOM: u64 = 4_294_967_296;
+
+const GREATEST: u64 = 4_611_686_018_427_387_904;
+
+/// Above this no numbers of states and steps are told.
+pub const MOST_COUNT: usize = 1_000_000_000;
+
+/// A step to the state with this number.
+#[derive(Drop)]
+pub struct Step {
+    pub target: usize,
+    pub pick: Option<Pick>,
+}
+
+/// A state that was reached: by this pick from the state with this number, after so many steps. `steps` lead on from it.
+#[derive(Drop)]
+pub struct Visit {
+    config: Config,
+    from: usize,
+    pick: Option<Pick>,
+    pub depth: u32,
+    deviations: u32,
+    pub steps: Vec<Step>,
+}
+
+/// States breadth first, each once, with their steps; the pairs of values that were compared and differ; and
+/// whether a state or a pick was left out.
+#[derive(Drop)]
+pub struct Exploration<'a> {
+    alloc: Global,
+    program: &'a Program,
+    keys: IndexSet<Vec<u64>>,
+    pub visits: Vec<Visit>,
+    deviations: u32,
+    pub compared: Vec<(u64, u64)>,
+    pub is_cut: bool,
+}
+
+/// A state as numbers.
+fn key_of(alloc: Global, config: &Config) -> Result<Vec<u64>, OutOfMemory> {
+    let mut key = vec![in alloc; u64::from(config.line)]?;
+    key.extend_from_slice(config.stack.as_slice())?;
+    for address in &config.heap.addresses(alloc)? {
+        key.push(*address)?;
+        if let Some(fields) = config.heap.get(*address) {
+            key.push(fields.len() as u64)?;
+            key.extend_from_slice(fields)?;
+        }
+    }
+    Ok(key)
+}
+
+fn value_of(config: &Config, term: Term) -> u64 {
+    match term {
+        Term::Univ(n) => config.stack.get(n),
+        Term::Nil | Term::Exist(_) => 0,
+    }
+}
+
+impl<'a> Exploration<'a> {
+    /// The first state alone. Of the picks on a way at most so many parts are not the usual ones.
+    pub fn new(
+        alloc: Global,
+        program: &'a Program,
+        first: Config,
+        deviations: u32,
+    ) -> Result<Exploration<'a>, OutOfMemory> {
+        let mut keys = IndexSet::new(alloc);
+        keys.insert(key_of(alloc, &first)?)?;
+        let visit = Visit {
+            config: first,
+            from: 0,
+            pick: None,
+            depth: 0,
+            deviations: 0,
+            steps: Vec::new(alloc),
+        };
+        Ok(Exploration {
+            alloc,
+            program,
+            keys,
+            visits: vec![in alloc; visit]?,
+            deviations,
+            compared: Vec::new(alloc),
+            is_cut: false,
+        })
+    }
+
+    /// How many states were reached.
+    pub fn count(&self) -> u32 {
+        self.visits.len().min(MOST_COUNT) as u32
+    }
+
+    /// The picks on the way to a state.
+    pub fn picks_to(&self, number: usize) -> Result<Vec<Pick>, OutOfMemory> {
+        let mut picks = Vec::new(self.alloc);
+        let mut at = number;
+        for _ in 0..self.visits.len() {
+            let Some(visit) = self.visits.get(at) else {
+                break;
+            };
+            picks.push(visit.pick.clone()?)?;
+            at = visit.from;
+        }
+        picks.reverse();
+        made_picks(self.alloc, &picks)
+    }
+
+    /// What a step comes to.
+    fn stepped(&self, config: &Config, pick: &Option<Pick>) -> Result<Stepped, OutOfMemory> {
+        if !config.is_state_of(self.program) || config.greatest() > GREATEST {
+            return Ok(Stepped::BadPick);
+        }
+        let alloc = self.alloc;
+        match pick {
+            Some(pick) => {
+                let number = number_of(pick);
+                step(
+                    alloc,
+                    self.program,
+                    config,
+                    HEADROOM,
+                    number,
+                    fields_of(pick),
+                )
+            }
+            None => step(alloc, self.program, config, HEADROOM, 0, &[]),
+        }
+    }
+
+    /// The command at a state.
+    fn command(&self, config: &Config) -> Command {
+        let place = (config.line as usize).saturating_sub(1);
+        match self.program.lines().get(place) {
+            Some(command) => *command,
+            None => Command::Stop,
+        }
+    }
+
+    fn note_compared(&mut self, number: usize) -> Result<(), OutOfMemory> {
+        let Some(visit) = self.visits.get(number) else {
+            return Ok(());
+        };
+        if let Command::IfEq(t, u, _) | Command::IfNeq(t, u, _) = self.command(&visit.config) {
+            let (a, b) = (value_of(&visit.config, t), value_of(&visit.config, u));
+            let pair = (a.min(b), a.max(b));
+            if a != b && !self.compared.contains(&pair) {
+                self.compared.push(pair)?;
+            }
+        }
+        Ok(())
+    }
+
+    /// Adds a state, unless it is there, and a step to it.
+    fn reach(&mut self, number: usize, offer: Offer, config: Config) -> Result<(), OutOfMemory> {
+        let (target, is_new) = self.keys.insert_full(key_of(self.alloc, &config)?)?;
+        let pick = offer.pick.clone()?;
+        let Some(visit) = self.visits.get_mut(number) else {
+            return Ok(());
+        };
+        visit.steps.push(Step { target, pick })?;
+        let depth = visit.depth.saturating_add(1);
+        if is_new {
+            self.visits.push(Visit {
+                config,
+                from: number,
+                pick: offer.pick,
+                depth,
+                deviations: offer.deviations,
+                steps: Vec::new(self.alloc),
+            })?;
+        }
+        Ok(())
+    }
+
+    /// Makes the step with an offer; whether it is a fault.
+    fn take(&mut self, number: usize, mut offer: Offer) -> Result<bool, OutOfMemory> {
+        let Some(visit) = self.visits.get(number) else {
+            return Ok(false);
+        };
+        offer.deviations = offer.deviations.saturating_add(visit.deviations);
+        if offer.deviations > self.deviations {
+            self.is_cut = true;
+            return Ok(false);
+        }
+        match self.stepped(&visit.config, &offer.pick)? {
+            Stepped::Fault => Ok(true),
+            Stepped::To(config) => {
+                self.reach(number, offer, config)?;
+                Ok(false)
+            }
+            Stepped::Stop | Stepped::BadPick => Ok(false),
+        }
+    }
+
+    fn offers_at(&self, number: usize) -> Result<Vec<Offer>, OutOfMemory> {
+        match self.visits.get(number) {
+            Some(visit) => offers(self.alloc, &visit.config, self.command(&visit.config)),
+            None => Ok(Vec::new(self.alloc)),
+        }
+    }
+
+    /// The run that faults at a state.
+    fn fault_at(&self, number: usize) -> Result<Option<Tail>, OutOfMemory> {
+        let Some(visit) = self.visits.get(number) else {
+            return Ok(None);
+        };
+        Ok(Some(Tail {
+            picks: self.picks_to(number)?,
+            ending: Ending::FaultAfter(visit.depth),
+        }))
+    }
+
+    /// Makes the steps of a state; a run that faults, if there is one.
+    fn visit(&mut self, number: usize) -> Result<Option<Tail>, OutOfMemory> {
+        self.note_compared(number)?;
+        for offer in self.offers_at(number)? {
+            if self.take(number, offer)? {
+                return self.fault_at(number);
+            }
+        }
+        Ok(None)
+    }
+
+    /// Goes on until so many states were reached; a run that faults, if there is one.
+    pub fn fault(&mut self, most: usize) -> Result<Option<Tail>, OutOfMemory> {
+        for number in 0..most {
+            if number >= self.visits.len() {
+                return Ok(None);
+            }
+            let tail = self.visit(number)?;
+            if tail.is_some() {
+                return Ok(tail);
+            }
+        }
+        self.is_cut = true;
+        Ok(None)
+    }
+}

@@ -1,0 +1,47 @@
+// Runs that show that a program may fault or run for ever.
+use cyc_memory::OutOfMemory;
+use refute_unfoldings::Cell;
+use refuting_runs::{Ending, Pick};
+use std::alloc::Global;
+
+/// The number that a step takes for a pick.
+pub fn number_of(pick: &Pick) -> u64 {
+    match pick {
+        Pick::Cell(address, _) => *address,
+        Pick::Jumps(jumps) => u64::from(*jumps),
+    }
+}
+
+/// The fields that a step takes for a pick.
+pub fn fields_of(pick: &Pick) -> &[u64] {
+    match pick {
+        Pick::Cell(_, fields) => fields.as_slice(),
+        Pick::Jumps(_) => &[],
+    }
+}
+
+/// A run: the values of the program's variables and of the precondition's in its first state, the heap there, and what was picked
+/// at each `new` and each `if *`, in order.
+#[derive(Drop)]
+pub struct FaultyRun {
+    pub stack: Vec<u64>,
+    pub cells: Vec<Cell>,
+    pub picks: Vec<Pick>,
+    pub ending: Ending,
+}
+
+/// The picks and the end of a run whose first state is known.
+#[derive(Drop)]
+pub struct Tail {
+    pub picks: Vec<Pick>,
+    pub ending: Ending,
+}
+
+/// Copies of the picks that were made.
+pub fn made_picks(alloc: Global, picks: &[Option<Pick>]) -> Result<Vec<Pick>, OutOfMemory> {
+    let mut made = Vec::new(alloc);
+    for pick in picks.iter().flatten() {
+        made.push(pick.clone()?)?;
+    }
+    Ok(made)
+}

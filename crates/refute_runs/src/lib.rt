@@ -1,0 +1,14 @@
+//! A free search for runs of a program that fault or come back to a state where they were before. They begin in models of symbolic
+//! unfoldings of the precondition, and are made less general by pairs of values that the program compares. Nothing is promised of
+//! what is found.
+#![tactic(auto)]
+
+mod choosing;
+mod claims;
+mod exploring;
+mod faulty_runs;
+mod repeats;
+
+pub use claims::faulty_run;
+pub use cyc_memory::OutOfMemory;
+pub use faulty_runs::FaultyRun;
