@@ -33,6 +33,7 @@ RIGHT = [
     (program, ["model"], "examples/ring.model"), (program, ["disprove"], "examples/acyclic-segments.problem"),
     (program, ["disprove", "--cells", "2"], "examples/acyclic-segments.problem"), (program, ["fo", "--depth", "5"], EVEN + ".foproblem"),
     (program, ["fo-check"], EVEN + ".fo"), (checker, [], PROOF), (seeker, [], PROBLEM), (draw, [], PROOF),
+    (draw, ["--fold"], PROOF),
 ]
 
 # Runs with another answer, and its status.
@@ -45,7 +46,7 @@ OTHER = [
     (seeker, [], "examples/acyclic-segments.problem", 6), (seeker, ["x"], None, 2), (draw, [], PROBLEM, 3), (draw, ["x"], None, 2),
 ]
 
-LINES = {program: USAGE, checker: b"usage: check\n", seeker: b"usage: seek\n", draw: b"usage: draw\n"}
+LINES = {program: USAGE, checker: b"usage: check\n", seeker: b"usage: seek\n", draw: b"usage: draw [--fold]\n"}
 
 
 def chosen(count):

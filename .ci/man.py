@@ -114,7 +114,7 @@ RUNS = {
         ([], "list-segments.problem"), (["seek"], ""), ([], ""), ([], UNKNOWN.replace("proof", "problem").replace("node", "goal").replace(" by Done", "")),
         ([], "cyclist problem 1; goal true : emp |- " + " or ".join(["true : emp"] * 17) + "; end;"), ([], "acyclic-segments.problem"),
     ],
-    "cyclist-draw": [([], "first.proof"), (["draw"], ""), ([], ""), ([], UNKNOWN), ([], LONG)],
+    "cyclist-draw": [([], "first.proof"), (["--fold"], "first.proof"), (["draw"], ""), ([], ""), ([], UNKNOWN), ([], LONG)],
 }  # fmt: skip
 READS = {"cyclist": ["check"]}
 

@@ -1,7 +1,8 @@
 #!/usr/bin/env bash
 # bench/search.sh [PROGRAM [SEEKER [BEFORE]]]: seconds, and megabytes of memory at the most, of `prove` on each problem of examples/, and of
 # the free search on each of them and of examples/seek/, with the answers: the nodes and links of the proof that was written, or
-# its line; of `fo` on the first-order problems of bench/first-order/; of two long searches; and derivations a second of five: one
+# its line; what bench/field.sh prints of the problems of examples/field/; of `fo` on the first-order
+# problems of bench/first-order/; of two long searches; and derivations a second of five: one
 # that finds nothing, three that pass the limit of derivations, of which one tries many links and one none, and one at a program.
 # Those of `prove` also for the program BEFORE, if one is named. Wants GNU time. Prints figures; it passes and fails nothing.
 . "$(dirname "${BASH_SOURCE[0]}")/common.sh"
@@ -33,6 +34,8 @@ echo prove
 for problem in "$top"/examples/*.problem; do measure "$problem" "$program" prove; done
 echo seek
 for problem in "$top"/examples/*.problem "$top"/examples/seek/*.problem; do measure "$problem" "$seeker"; done
+echo 'seek, problems of the field'
+bash "$top/bench/field.sh" "$program" "$seeker"
 echo fo
 for problem in "$top"/bench/first-order/*.foproblem; do measure "$problem" "$program" fo; done
 echo 'prove, long searches'
