@@ -1,6 +1,6 @@
 -- What is answered to a file, and to words.
 use Rattle.std.proofs.Common.{◌≡◌, ◌≤◌, ℕ, List, map, Result, Ok, Err, Option, Some, None, refl, sym, ap, subst, ◌∙◌}
-use Rattle.std.specs.Prelude.{Bool, IfOk}
+use Rattle.std.specs.Prelude.{IfOk}
 use Rattle.std.specs.Io.KnownBytes.{Appends}
 use Rattle.cyc_io.specs.Bytes.{AppendsProperPrefix}
 use Rattle.cyc_runs.specs.Runs.{IsAnswerOf, WroteAnswer, WrotePart}

@@ -14,9 +14,8 @@ use Rattle.derivation_search.specs.System.{search_of, IsFound}
 use Rattle.formula_reader.specs.declared.problem.Problem.{Problem}
 use Rattle.proof_file.specs.declared.file.ProofFile.{ProofFile}
 use Rattle.proof_file.specs.FileNodes.{FileNode}
-use Rattle.proof_check.specs.Files.{Node, graph_of, AreRight, HasSmallHeaps}
+use Rattle.proof_check.specs.Files.{graph_of, AreRight, HasSmallHeaps}
 use Rattle.proof_check.specs.Verdicts.{IsCorrect}
-use Rattle.proof_graph.proofs.Joined.{mapped_at}
 use Rattle.formula_facts.proofs.AllMembers.{each_at, each_imply}
 use Rattle.proof_check.proofs.KeptFacts.{root_holds}
 use Rattle.heap_syntax.specs.declared.version.Version.{Version}

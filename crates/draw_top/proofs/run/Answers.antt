@@ -1,4 +1,4 @@
-use Rattle.std.proofs.Common.{map, sym, ◌∙◌}
+use Rattle.std.proofs.Common.{map, sym}
 use Rattle.std.specs.Prelude.{string_bytes}
 use Rattle.cyc_runs.specs.declared.endings.Status.TheVariants.{Usage}
 use Rattle.draw_top.specs.Answers.{usage_text}
