@@ -9,10 +9,9 @@ use Rattle.cyc_runs.specs.Runs.{input_limit}
 use Rattle.cyc_runs.proofs.WaysToEnd.{fault_fails, fault_is_no_refusal}
 use Rattle.fo_formula.specs.declared.nodes.FoFile.{FoFile}
 use Rattle.fo_table.specs.declared.faults.FoFault.{FoFault}
-use Rattle.fo_table.specs.Nodes.{node_fault}
-use Rattle.fo_logic.specs.declared.verdict.FoVerdict.{FoVerdict}
-use Rattle.fo_logic.specs.declared.verdict.FoVerdict.TheVariants.{Accepted, RuleRefused, PathRefused, TooManyStates}
-use Rattle.fo_logic.specs.Verdicts.{file_graph, state_limit, HasRightNodes, IsCorrect, IsLeastFault, IsVerdict, RootHolds}
+use Rattle.logics.specs.Faults.{node_fault}
+use Rattle.logics.specs.declared.verdict.Verdict.TheVariants.{Accepted, RuleRefused, PathRefused, TooManyStates}
+use Rattle.fo_logic.specs.Verdicts.{FoVerdict, logic_of, file_graph, state_limit, HasRightNodes, IsCorrect, IsLeastFault, IsVerdict, RootHolds}
 use Rattle.fo_file.specs.Reading.{IsRead}
 use Rattle.reading_facts.specs.Alike.{AreAlike, AreOneCheck}
 use Rattle.reading_facts.proofs.OneCheck.{none_some, one_node, one_node_fault, said_one}
@@ -29,8 +28,8 @@ right_faulty f v fault right least = none_some fault _ (right v least.node least
 -- the least faulty node is one, and so is its line
 one_refusal : (f : FoFile) (v w : ℕ) (x y : FoFault) → IsLeastFault f v x → IsLeastFault f w y → node_refused_text v x ≡ node_refused_text w y
 one_refusal f v w x y a b =
-    let node = one_node f.nodes (node_fault f.theory f.nodes) v w a.node b.node x y a.at b.at a.first b.first a.before b.before in
-    let fault = one_node_fault f.nodes (node_fault f.theory f.nodes) v w a.node b.node x y a.at b.at a.first b.first a.before b.before in
+    let node = one_node f.nodes (node_fault (logic_of f) f.nodes) v w a.node b.node x y a.at b.at a.first b.first a.before b.before in
+    let fault = one_node_fault f.nodes (node_fault (logic_of f) f.nodes) v w a.node b.node x y a.at b.at a.first b.first a.before b.before in
     λ i. node_refused_text (node i) (fault i)
 
 -- the verdicts on a proof end a check in one way, and say the same but for the lasso

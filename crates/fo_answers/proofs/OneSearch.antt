@@ -13,7 +13,7 @@ use Rattle.fo_formula.specs.Validity.{SequentHolds}
 use Rattle.tableaux.specs.Tableau.{replay}
 use Rattle.fo_calculus.specs.Calculus.{calculus_of}
 use Rattle.fo_found.specs.Files.{proof_nodes}
-use Rattle.fo_logic.specs.declared.verdict.FoVerdict.TheVariants.{Accepted}
+use Rattle.logics.specs.declared.verdict.Verdict.TheVariants.{Accepted}
 use Rattle.fo_values.specs.declared.problem.FoProblem.{FoProblem}
 use Rattle.fo_file.specs.Reading.{text_of_file, IsRead, IsReadProblem, IsWritable}
 use Rattle.fo_file.proofs.Readings.{text-is-read}

@@ -7,13 +7,12 @@ use Rattle.cyc_runs.specs.Faults.{IsFaultAnswer}
 use Rattle.cyc_runs.specs.Runs.{Answering, input_limit}
 use Rattle.cyc_texts.specs.Texts.{number_text, path_refused_text, states_limit_text}
 use Rattle.fo_formula.specs.declared.nodes.FoFile.{FoFile}
-use Rattle.fo_formula.specs.declared.nodes.FoNode.{FoNode}
+use Rattle.fo_formula.specs.Nodes.{FoNode}
 use Rattle.fo_formula.specs.declared.nodes.FoReason.{FoReason}
 use Rattle.fo_formula.specs.declared.nodes.FoReason.TheVariants.{Rule, Link}
 use Rattle.fo_table.specs.declared.faults.FoFault.{FoFault}
-use Rattle.fo_logic.specs.declared.verdict.FoVerdict.{FoVerdict}
-use Rattle.fo_logic.specs.declared.verdict.FoVerdict.TheVariants.{Accepted, RuleRefused, PathRefused, TooManyStates}
-use Rattle.fo_logic.specs.Verdicts.{IsVerdict}
+use Rattle.logics.specs.declared.verdict.Verdict.TheVariants.{Accepted, RuleRefused, PathRefused, TooManyStates}
+use Rattle.fo_logic.specs.Verdicts.{FoVerdict, IsVerdict}
 use Rattle.fo_file.specs.Reading.{IsRead}
 use Rattle.fo_answers.specs.Names.{fault_name_of, fault_number_of}
 

@@ -4,7 +4,7 @@
 
 ghost use Rattle.std.specs.Prelude.{◌≡◌, IfOk, true};
 ghost use Rattle.cyc_runs.specs.Endings.{is_answer};
-ghost use Rattle.fo_nodes.specs.Files.{IsFoProof};
+ghost use Rattle.fo_logic.specs.Files.{IsFoProof};
 ghost use Rattle.fo_answers.specs.Answers.{IsSaid, verdict_status, verdict_text};
 
 mod lines;

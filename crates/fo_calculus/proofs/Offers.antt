@@ -20,7 +20,8 @@ use Rattle.derivation_search.specs.Firsts.{IsIn}
 use Rattle.list_facts.specs.Words.{or_else}
 use Rattle.tableaux.specs.Room.{is_nil}
 use Rattle.tableaux.specs.Fair.{AllOccur}
-use Rattle.fo_calculus.specs.Calculus.{OpenGoal, MadeNode, sequent_of, back, links_by_reason, links_to_node, links_at, rules_at}
+use Rattle.fo_calculus.specs.Calculus.{OpenGoal, MadeNode, sequent_of, links_by_reason, links_to_node, links_at, rules_at}
+use Rattle.fo_logic.specs.FirstOrder.{target_of}
 use Rattle.fo_calculus.specs.Occurring.{MayOccur}
 use Rattle.cyc_limits.specs.declared.TheConstants.{MOST_LINKS}
 use Rattle.formula_facts.proofs.AllMembers.{each_append, each_at, each_mapped}
@@ -56,11 +57,11 @@ module _ (P : FoReason → Type 0) (bud : FoSequent) (C : FoSequent → Type 0)
 
 module _ (t : FoTheory) (nodes : List MadeNode) (g : OpenGoal) where
   -- the rules that are offered are no links
-  pub rules_lead_forth : (r : FoReason) → IsIn (rules_at t nodes g) r → back nodes g r ≡ None
+  pub rules_lead_forth : (r : FoReason) → IsIn (rules_at t nodes g) r → target_of r ≡ None
   rules_lead_forth r is =
       let rules = or_else (rules_before t g.premise.judgement) (rules_after t g.premise.judgement) in
       let rule = mapped_at Rule rules is.place r is.at in
-      subst (λ (x : FoReason). back nodes g x ≡ None) rule.is refl
+      subst (λ (x : FoReason). target_of x ≡ None) rule.is refl
 
   -- what is so of such links and rules is so of what is offered
   module _ (P : FoReason → Type 0) (C : FoSequent → Type 0)

@@ -8,7 +8,7 @@ use Rattle.fo_formula.specs.declared.terms.Sign.{Sign as SignValue}
 use Rattle.fo_formula.specs.declared.terms.Sign.TheVariants as signs
 use Rattle.fo_formula.specs.declared.atoms.FoAtom.{FoAtom}
 use Rattle.fo_formula.specs.declared.atoms.FoAtom.TheVariants as atomic
-use Rattle.fo_formula.specs.declared.nodes.FoNode.{FoNode}
+use Rattle.fo_formula.specs.Nodes.{FoNode}
 use Rattle.fo_formula.specs.declared.nodes.FoReason.{FoReason}
 use Rattle.fo_formula.specs.declared.nodes.FoReason.TheVariants as reasons
 use Rattle.fo_formula.specs.declared.nodes.FoRule.TheVariants as rules
@@ -156,4 +156,4 @@ module _ (t : FoTheory) (constructors : (c k : ℕ) → IsConstructor t.construc
 
     pub node-fits : (n : FoNode) → IsNodeWithin t n → node.fits (node_tree t n)
     unfolding node
-    node-fits n h = (tt, (sequent-fits n.sequent h.sequent.1, (reason-fits n.reason h.reason h.numbers, premises-fit n.premises h.premises)))
+    node-fits n h = (tt, (sequent-fits n.judgement h.sequent.1, (reason-fits n.reason h.reason h.numbers, premises-fit n.premises h.premises)))

@@ -15,7 +15,7 @@ use Rattle.fo_formula.specs.declared.terms.Sign.{Sign as SignValue}
 use Rattle.fo_formula.specs.declared.terms.Sign.TheVariants as signs
 use Rattle.fo_formula.specs.declared.atoms.FoAtom.{FoAtom}
 use Rattle.fo_formula.specs.declared.atoms.FoAtom.TheVariants as atoms
-use Rattle.fo_formula.specs.declared.nodes.FoNode.{FoNode}
+use Rattle.fo_formula.specs.Nodes.{FoNode}
 use Rattle.fo_formula.specs.declared.nodes.FoReason.{FoReason}
 use Rattle.fo_formula.specs.declared.nodes.FoReason.TheVariants as reasons
 use Rattle.fo_formula.specs.declared.nodes.FoRule.TheVariants as rules
@@ -211,13 +211,13 @@ module _ (t : FoTheory) (cs : List Heading) (constructors : (c k : ℕ) → IsCo
 
     node-right : (n k : ℕ) (x : FoNode) → n < 20000 → IsNodeWithin t x → node_flaw cs ps n k (node_tree t x) ≡ None
     node-right n k x h is =
-        let s = sequent_tree t x.sequent in
+        let s = sequent_tree t x.judgement in
         let sequent = sequent_flaw cs ps (k + 1) s in
         let reason = reason_flaw cs ps (sequent_terms s) (k + 1 + sequent_span s) (reason_tree t x.reason) in
-        let count = sequent-terms t x.sequent in
+        let count = sequent-terms t x.judgement in
         let size = is.size in
         none_later (over_if (nat_le 20000 n) Nodes k) (or_later sequent reason) (node-room n k h)
-        (none_later sequent reason (sequent-right (k + 1) x.sequent is.sequent) (reason-right (sequent_terms s) (k + 1 + sequent_span s) x.reason (omega arith) is.reason))
+        (none_later sequent reason (sequent-right (k + 1) x.judgement is.sequent) (reason-right (sequent_terms s) (k + 1 + sequent_span s) x.reason (omega arith) is.reason))
 
     pub nodes-right : (n k : ℕ) (xs : List FoNode) → n + length xs ≤ 20000 → Each (IsNodeWithin t) xs
         → listed_flaw (node_flaw cs ps) node_span n k (map (node_tree t) xs) ≡ None

@@ -11,7 +11,8 @@ use Rattle.fo_formula.specs.declared.atoms.FoAtom.{FoAtom}
 use Rattle.fo_formula.specs.declared.nodes.FoFile.{FoFile}
 use Rattle.fo_formula.specs.Values.{IsConstructor}
 use Rattle.fo_limits.specs.Limits as limits
-use Rattle.fo_nodes.specs.Files.{IsSmallSequent, IsSmallDefinition, IsReadNode, IsFoProof}
+use Rattle.fo_logic.specs.Files.{IsReadNode, IsFoProof}
+use Rattle.fo_table.specs.Small.{IsSmallSequent, IsSmallDefinition}
 use Rattle.fo_term_syntax.specs.Trees.{Atom}
 use Rattle.fo_problem_syntax.specs.Trees.{Constructor, Definition, Sequent, Problem}
 use Rattle.fo_problem_syntax.specs.Grammar.{constructors, problem}

@@ -23,7 +23,7 @@ use Rattle.fo_formula.specs.declared.theory.FoTheory.{FoTheory}
 use Rattle.fo_formula.specs.declared.nodes.FoRule.TheVariants as rules
 use Rattle.fo_formula.specs.declared.nodes.FoReason.{FoReason}
 use Rattle.fo_formula.specs.declared.nodes.FoReason.TheVariants as reasons
-use Rattle.fo_formula.specs.declared.nodes.FoNode.{FoNode}
+use Rattle.fo_formula.specs.Nodes.{FoNode}
 use Rattle.fo_formula.specs.declared.nodes.FoFile.{FoFile}
 use Rattle.fo_formula.specs.Words.{Word, arity, AreTerms, IsTerm, end_of, first_term, after_first}
 use Rattle.fo_term_syntax.specs.Words.{false_word, free_name}
@@ -170,9 +170,9 @@ module _ (cs : List Heading) (t : FoTheory) (placed : (p : ℕ) → free_name.fi
     node-known : (n : FoNode) → node.fits (node_tree t n) → IsNodeOfTerms n → node_value cs ps (node_tree t n) ≡ n
     unfolding node
     node-known n f h =
-        let first = sequent-known n.sequent f.1.0 h.0 in
+        let first = sequent-known n.judgement f.1.0 h.0 in
         let second = reason-known n.reason f.1.1.0 h.1 in
-        λ i. record { sequent = first i; reason = second i; premises = n.premises }
+        λ i. record { judgement = first i; reason = second i; premises = n.premises }
 
 -- ---- proofs
 

@@ -5,7 +5,7 @@ use Rattle.heap_formula.specs.Words.{Each}
 use Rattle.heap_reader.proofs.NoFlaw.{neither, none_later}
 use Rattle.fo_formula.specs.declared.atoms.FoAtom.{FoAtom}
 use Rattle.fo_formula.specs.declared.atoms.FoAtom.TheVariants.{Equation, Predicate}
-use Rattle.fo_formula.specs.declared.nodes.FoNode.{FoNode}
+use Rattle.fo_formula.specs.Nodes.{FoNode}
 use Rattle.fo_formula.specs.declared.nodes.FoReason.{FoReason}
 use Rattle.fo_formula.specs.declared.nodes.FoReason.TheVariants.{Rule, Link}
 use Rattle.fo_formula.specs.declared.nodes.FoRule.{FoRule}
@@ -91,8 +91,8 @@ module _ (t : FoTheory) where
   node-terms : (n : FoNode) → IsNodeWithin t n → IsNodeOfTerms n
   node-terms n h = (
     (
-      each_imply (IsAtomWithin t) IsAtomOfTerms atom-terms n.sequent.left h.sequent.1.0,
-      each_imply (IsAtomWithin t) IsAtomOfTerms atom-terms n.sequent.right h.sequent.1.1,
+      each_imply (IsAtomWithin t) IsAtomOfTerms atom-terms n.judgement.left h.sequent.1.0,
+      each_imply (IsAtomWithin t) IsAtomOfTerms atom-terms n.judgement.right h.sequent.1.1,
     ),
     reason-terms n.reason h.reason,
   )

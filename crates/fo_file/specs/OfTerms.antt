@@ -9,7 +9,7 @@ use Rattle.fo_formula.specs.declared.nodes.FoRule.{FoRule}
 use Rattle.fo_formula.specs.declared.nodes.FoRule.TheVariants.{Cut}
 use Rattle.fo_formula.specs.declared.nodes.FoReason.{FoReason}
 use Rattle.fo_formula.specs.declared.nodes.FoReason.TheVariants.{Rule, Link}
-use Rattle.fo_formula.specs.declared.nodes.FoNode.{FoNode}
+use Rattle.fo_formula.specs.Nodes.{FoNode}
 use Rattle.fo_formula.specs.declared.nodes.FoFile.{FoFile}
 use Rattle.fo_formula.specs.Words.{IsTerm}
 use Rattle.fo_values.specs.declared.problem.FoProblem.{FoProblem}
@@ -36,7 +36,7 @@ IsReasonOfTerms (Rule rule) = IsRuleOfTerms rule
 IsReasonOfTerms (Link link) = Unit {0}
 
 abbrev pub IsNodeOfTerms : FoNode → Type 0
-IsNodeOfTerms n = IsSequentOfTerms n.sequent × IsReasonOfTerms n.reason
+IsNodeOfTerms n = IsSequentOfTerms n.judgement × IsReasonOfTerms n.reason
 
 abbrev pub IsFileOfTerms : FoFile → Type 0
 IsFileOfTerms f = Each IsDefinitionOfTerms f.theory.definitions × Each IsNodeOfTerms f.nodes

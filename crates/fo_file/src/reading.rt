@@ -2,7 +2,7 @@
 
 ghost use Rattle.std.specs.Prelude.{◌≡◌, ◌-◌, ◌<◌, ◌^◌, None, length, map, IfOk};
 ghost use Rattle.cyc_lex.specs.Word.{EndsOnce, word_of};
-ghost use Rattle.fo_nodes.specs.Files.{IsFoProof};
+ghost use Rattle.fo_logic.specs.Files.{IsFoProof};
 ghost use Rattle.fo_proof_syntax.specs.Grammar.{file};
 ghost use Rattle.fo_proof_syntax.specs.Trees.{file_of};
 ghost use Rattle.fo_walk.specs.Flaws.{constructor_heads, predicate_heads, file_flaw as first_flaw};

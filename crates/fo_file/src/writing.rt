@@ -4,7 +4,7 @@ ghost use Rattle.std.specs.Prelude.{◌≡◌, ◌<◌, ◌≤◌, ℕ, List, le
 ghost use Rattle.heap_formula.specs.Words.{Each};
 ghost use Rattle.cyc_lex.specs.declared.fault.ReadFault.{ReadFault};
 ghost use Rattle.fo_formula.specs.declared.nodes.FoFile.{FoFile as Proof};
-ghost use Rattle.fo_formula.specs.declared.nodes.FoNode.{FoNode};
+ghost use Rattle.fo_formula.specs.Nodes.{FoNode};
 ghost use Rattle.fo_limits.specs.Limits.{IsNodeWithin};
 ghost use Rattle.fo_values.specs.declared.problem.FoProblem.{FoProblem as Question};
 ghost use Rattle.fo_file.specs.Questions.{IsFoQuestion};

@@ -6,3 +6,4 @@ pub mod Bounds
 pub mod Sizes
 pub mod Shapes
 pub mod Equality
+pub mod Nodes

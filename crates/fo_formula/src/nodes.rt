@@ -6,6 +6,7 @@ use crate::sequents::FoSequent;
 use crate::terms::{Term, Terms};
 use crate::theory::FoTheory;
 use heap_formula::{Positions, Side};
+use logics::ProofNode;
 use std::alloc::AllocError;
 use std::marker::Model;
 
@@ -113,27 +114,7 @@ impl Clone for FoReason {
 }
 
 /// A node of a proof: its sequent, why it holds, and the numbers of the nodes that prove its premises.
-#[derive(Drop)]
-pub struct FoNode {
-    pub sequent: FoSequent,
-    pub reason: FoReason,
-    pub premises: Positions,
-}
-
-impl Clone for FoNode {
-    ghost is_clone = { λ node copy. copy ≡ node };
-
-    fn clone(&self) -> Result<FoNode, AllocError> {
-        let sequent = self.sequent.clone()?;
-        let reason = self.reason.clone()?;
-        let premises = self.premises.clone()?;
-        Ok(FoNode {
-            sequent,
-            reason,
-            premises,
-        })
-    }
-}
+pub type FoNode = ProofNode<FoSequent, FoReason>;
 
 /// The nodes of a proof, in order; node 0 bears what is proved.
 #[derive(Drop)]
@@ -143,20 +124,11 @@ pub struct FoNodes {
 
 impl Model for FoNodes {
     ghost use Rattle.std.specs.Prelude.{List};
-    ghost use Rattle.fo_formula.specs.declared.nodes.FoNode.{FoNode};
+    ghost use Rattle.fo_formula.specs.Nodes.{FoNode};
 
     ghost Value = { List FoNode };
 
     ghost view = { λ x. x.nodes.items };
-}
-
-impl Clone for FoNodes {
-    ghost is_clone = { λ from copy. copy ≡ from };
-
-    fn clone(&self) -> Result<FoNodes, AllocError> {
-        let nodes = self.nodes.clone()?;
-        Ok(FoNodes { nodes })
-    }
 }
 
 impl FoNodes {

@@ -1,9 +1,9 @@
 -- The nodes of the proof may stand in a file.
-use Rattle.std.proofs.Common.{◌≡◌, ℕ, ◌+◌, ◌≤◌, ◌⊎◌, List, [], ◌∷◌, map, take, Some, slice_get, length, subst, arith}
+use Rattle.std.proofs.Common.{◌≡◌, ℕ, ◌+◌, ◌≤◌, ◌⊎◌, List, [], ◌∷◌, map, take, Option, Some, None, slice_get, length, refl, subst, arith}
 use Rattle.std.proofs.lemmas.Option.{slice_get_within}
 use Rattle.heap_formula.specs.Words.{Each}
 use Rattle.heap_formula.proofs.Members.{each_from}
-use Rattle.fo_formula.specs.declared.nodes.FoNode.{FoNode}
+use Rattle.fo_formula.specs.Nodes.{FoNode}
 use Rattle.fo_formula.specs.declared.nodes.FoReason.{FoReason}
 use Rattle.fo_formula.specs.declared.nodes.FoReason.TheVariants.{Rule, Link}
 use Rattle.fo_formula.specs.declared.sequents.FoSequent.{FoSequent}
@@ -17,13 +17,18 @@ use Rattle.derivation_search.specs.Firsts.{IsIn}
 use Rattle.tableaux.specs.Tableau.{Subgoal, Tableau}
 use Rattle.tableaux.specs.Nodes.{MayStand, AllOffered}
 use Rattle.tableaux.proofs.Made.{AllLead}
-use Rattle.fo_calculus.specs.Calculus.{OpenGoal, MadeNode, sequent_of, traced, links_at, rules_at, calculus_of}
+use Rattle.logic_tableaux.specs.Nodes.{numbers_by}
+use Rattle.logic_tableaux.proofs.Made.{IsBy, AreNodes}
+use Rattle.logic_tableaux.proofs.Rows.{row_of}
+use Rattle.fo_table.specs.Table.{rule_answer}
+use Rattle.fo_table.specs.LinkTable.{link_fault}
+use Rattle.fo_logic.specs.FirstOrder.{first_order, target_of}
+use Rattle.fo_logic.specs.LogicLaws.{answered, linked}
+use Rattle.fo_calculus.specs.Calculus.{OpenGoal, MadeNode, sequent_of, links_at, rules_at, calculus_of}
 use Rattle.cyc_limits.specs.declared.TheConstants.{MOST_LINKS}
 use Rattle.fo_calculus.specs.Occurring.{MayOccur}
 use Rattle.fo_calculus.proofs.Offers.{offers_are}
-use Rattle.fo_found.specs.Files.{numbers_of, proof_nodes}
-use Rattle.fo_found.proofs.Made.{IsBy, AreNodes}
-use Rattle.fo_found.proofs.Rows.{row_of}
+use Rattle.fo_found.specs.Files.{proof_nodes}
 use Rattle.formula_facts.proofs.AllMembers.{each_any}
 
 targets_short : (nodes : List MadeNode) (v : ℕ) (ps : List (Subgoal FoSequent)) (es : List Edge) →
@@ -44,18 +49,21 @@ offered_small t nodes g r small =
     (λ k companion h. links_small MOST_LINKS k s companion) (each_any (λ (m : MadeNode). Unit {0}) (λ m. tt) nodes)
     (before_small t s small) (after_small t s small) r
 
-module _ (t : FoTheory) (b : Tableau FoSequent FoReason) (all' : AreNodes t b) (few : length b.nodes ≤ 20000) where
-  reason_short : (v : ℕ) (s : FoSequent) (r : FoReason) (es : List Edge) → MayOccur t s → IsBy t b.nodes v s r es →
+module _ (t : FoTheory) (b : Tableau FoSequent FoReason) (all' : AreNodes (first_order t) b) (few : length b.nodes ≤ 20000) where
+  reason_short : (v : ℕ) (s : FoSequent) (r : FoReason) (es : List Edge) → MayOccur t s → IsBy (first_order t) b.nodes v s r (target_of r) es →
       Each IsNumberWithin (numbers_in r)
-  reason_short v s (Rule rule) es may by = rule_numbers t s rule by.premises may.0 may.1 by.is_answer
+  reason_short v s (Rule rule) es may by =
+      let a = answered (rule_answer t s rule) by.premises by.is_answer in rule_numbers t s rule a.premises may.0 may.1 a.is
   reason_short v s (Link link) es may by =
       let less = slice_get_within b.nodes link.to by.companion by.is_companion in
-      link_numbers t s (sequent_of by.companion) link may.1 (omega (arith, less, few)) by.no_fault
+      let k = sequent_of by.companion in
+      let l = linked s k link by.pairs (link_fault s k link) refl by.is in
+      link_numbers t s k link may.1 (omega (arith, less, few)) l.none
 
-  numbers_short : (v : ℕ) (s : FoSequent) (r : FoReason) (es : List Edge) → IsBy t b.nodes v s r es →
-      Each IsNumberWithin (numbers_of r es)
-  numbers_short v s (Rule rule) es by = targets_short b.nodes v (map traced by.premises) es few by.edges
-  numbers_short v s (Link link) es by = tt
+  numbers_short : (v : ℕ) (s : FoSequent) (r : FoReason) (o : Option ℕ) (es : List Edge) → IsBy (first_order t) b.nodes v s r o es →
+      Each IsNumberWithin (numbers_by o es)
+  numbers_short v s r None es by = targets_short b.nodes v by.premises es few by.edges
+  numbers_short v s r (Some target) es by = tt
 
   pub all_within : MayStand (MayOccur t) (IsReasonWithin t) b → AllOffered (calculus_of t) b →
       Each (IsNodeWithin t) (proof_nodes b)
@@ -63,12 +71,13 @@ module _ (t : FoTheory) (b : Tableau FoSequent FoReason) (all' : AreNodes t b) (
     where
       each : (v : ℕ) (x : FoNode) → slice_get (proof_nodes b) v ≡ Some x → IsNodeWithin t x
       each v x at =
-          let row = row_of t b all' v x at in
-          let s = stand v row.m row.is_m in
+          let row = row_of (first_order t) b all' v x at in
+          let m = row.m in
+          let s = stand v m row.is_m in
           subst (IsNodeWithin t) row.is (record {
             sequent = s.0.1;
             reason = s.1;
-            size = offered_small t (take v b.nodes) row.m.goal row.m.reason s.0.1.0.size (offered v row.m row.is_m);
-            numbers = reason_short v (sequent_of row.m) row.m.reason row.made.traces.edges s.0 row.made.by;
-            premises = numbers_short v (sequent_of row.m) row.m.reason row.made.traces.edges row.made.by;
+            size = offered_small t (take v b.nodes) m.goal m.reason s.0.1.0.size (offered v m row.is_m);
+            numbers = reason_short v (sequent_of m) m.reason row.made.traces.edges s.0 row.made.by;
+            premises = numbers_short v (sequent_of m) m.reason (target_of m.reason) row.made.traces.edges row.made.by;
           })

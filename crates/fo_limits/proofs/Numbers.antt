@@ -14,7 +14,7 @@ use Rattle.fo_formula.specs.declared.theory.FoDefinition.{FoDefinition}
 use Rattle.fo_formula.specs.declared.theory.FoTheory.{FoTheory}
 use Rattle.fo_formula.specs.Meaning.{cases_of}
 use Rattle.fo_formula.specs.Words.{Word}
-use Rattle.fo_nodes.specs.Files.{IsSmallSequent, IsSmallDefinition}
+use Rattle.fo_table.specs.Small.{IsSmallSequent, IsSmallDefinition}
 use Rattle.fo_table.specs.declared.faults.FoFault.{FoFault}
 use Rattle.fo_table.specs.declared.faults.FoFault.TheVariants.{NoSuchAtom, NoSuchCase}
 use Rattle.fo_table.specs.declared.premises.FoPremise.{FoPremise}

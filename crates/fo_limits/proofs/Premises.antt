@@ -26,7 +26,7 @@ use Rattle.fo_table.specs.declared.premises.FoPremise.{FoPremise}
 use Rattle.fo_table.specs.Answers.{Answer, needs, finds, equation, predicate, is_short, is_small, within, limited}
 use Rattle.fo_table.specs.Tests.{same_word, same_atom, only_variable, is_absurd, have_one_constructor}
 use Rattle.fo_table.specs.Table.{image_sign, argument_equations, weakened_left, weakened_right, decomposed, with_term, named, unnamed, contracted, fresh_locals, unfold_premise, is_numbered, right_premise, cut_right, cut_left, rule_answer}
-use Rattle.fo_nodes.specs.Files.{IsSmallSequent}
+use Rattle.fo_table.specs.Small.{IsSmallSequent}
 use Rattle.fo_limits.specs.Limits.{IsSignWithin, IsCaseSign, IsTermWithin, IsAtomOf, IsAtomWithin, HasAtomsWithin, IsSequentWithin, IsRuleWithin, IsDefinitionWithin, IsTheoryWithin}
 use Rattle.fo_limits.proofs.Lists.{each_set}
 use Rattle.fo_limits.proofs.Filled.{atom_filled, atoms_filled, value_fills, image_fills, variables_within, arguments_within}

@@ -7,7 +7,7 @@ use Rattle.fo_formula.specs.declared.terms.Sign.{Sign}
 use Rattle.fo_formula.specs.declared.terms.Sign.TheVariants.{Universal, Local, Constructor}
 use Rattle.fo_formula.specs.declared.atoms.FoAtom.{FoAtom}
 use Rattle.fo_formula.specs.declared.atoms.FoAtom.TheVariants.{Equation, Predicate}
-use Rattle.fo_formula.specs.declared.nodes.FoNode.{FoNode}
+use Rattle.fo_formula.specs.Nodes.{FoNode}
 use Rattle.fo_formula.specs.declared.nodes.FoReason.{FoReason}
 use Rattle.fo_formula.specs.declared.nodes.FoReason.TheVariants.{Rule, Link}
 use Rattle.fo_formula.specs.declared.nodes.FoRule.{FoRule}
@@ -19,7 +19,7 @@ use Rattle.fo_formula.specs.Words.{Word, IsTerm}
 use Rattle.fo_formula.specs.Values.{IsConstructor}
 use Rattle.fo_formula.specs.Shapes.{HasConstant}
 use Rattle.fo_formula.specs.Sizes.{sequent_size, reason_size}
-use Rattle.fo_nodes.specs.Files.{IsSmallSequent, IsSmallDefinition}
+use Rattle.fo_table.specs.Small.{IsSmallSequent, IsSmallDefinition}
 
 -- ---- terms and atoms
 
@@ -101,9 +101,9 @@ IsNumberWithin n = n < 10 ^ 9
 
 -- a node within the limits, with its reason at most 4,096 terms
 pub record IsNodeWithin (t : FoTheory) (n : FoNode) : Type 0 where
-  pub sequent : IsSequentWithin t n.sequent
+  pub sequent : IsSequentWithin t n.judgement
   pub reason : IsReasonWithin t n.reason
-  pub size : sequent_size n.sequent + reason_size n.reason ≤ MOST_TERMS
+  pub size : sequent_size n.judgement + reason_size n.reason ≤ MOST_TERMS
   pub numbers : Each IsNumberWithin (numbers_of n.reason)
   pub premises : Each IsNumberWithin n.premises
 

@@ -1,36 +1,40 @@
--- A correct proof holds.
-use Rattle.std.proofs.Common.{ℕ, Bool, false, refl}
+-- A correct proof holds; and a verdict on its nodes is one on the proof.
+use Rattle.std.proofs.Common.{◌≡◌, ℕ, Some}
+use Rattle.std.specs.Prelude.{slice_get}
 use Rattle.fo_formula.specs.declared.nodes.FoFile.{FoFile}
+use Rattle.fo_formula.specs.Nodes.{FoNode}
 use Rattle.fo_formula.proofs.ValidityLaws.{holds-at_all}
-use Rattle.trace_pairs.specs.Graph.{IsGraph, IsLocal}
-use Rattle.trace_pairs.specs.System.{NoneFaulty}
-use Rattle.trace_pairs.proofs.Orders.{right_graph}
-use Rattle.buchi_inclusion.proofs.Exact.{descends_by_lassos}
-use Rattle.buchi_inclusion.proofs.Systems.{local_all}
-use Rattle.fo_nodes.specs.Files.{HoldsAtNode, IsFoProof}
-use Rattle.fo_nodes.proofs.RightGraphs.{graph_right, graph_local}
-use Rattle.fo_logic.specs.Laws.{some_node}
-use Rattle.fo_logic.specs.Verdicts.{file_graph, HasRightNodes, IsCorrect, RootHolds}
+use Rattle.formula_facts.proofs.AllMembers.{each_at}
+use Rattle.logics.specs.declared.verdict.Verdict.TheVariants.{Accepted, RuleRefused, PathRefused, TooManyStates}
+use Rattle.logics.specs.Laws.{MayStand}
+use Rattle.logics.specs.Verdicts.{IsVerdict as IsVerdictOn}
+use Rattle.logics.proofs.Checks.{root_holds}
+use Rattle.fo_logic.specs.FirstOrder.{first_order, MayOccur, IsGiven, Holds}
+use Rattle.fo_logic.specs.Files.{IsReadNode, IsFoProof}
+use Rattle.fo_logic.specs.LogicLaws.{in_order, locally_sound}
+use Rattle.fo_logic.specs.Places.{places_set}
+use Rattle.fo_logic.specs.Verdicts.{FoVerdict, logic_of, IsCorrect, IsVerdict, RootHolds}
 
--- no node
-abbrev none : ℕ → Bool
-none v = false
+module _ (f : FoFile) (proof : IsFoProof f) where
+  read_at : (v : ℕ) (node : FoNode) → slice_get f.nodes v ≡ Some node → IsReadNode f.theory.constructors node
+  read_at v node at = each_at (IsReadNode f.theory.constructors) f.nodes v node at proof.nodes
 
-module _ (f : FoFile) (proof : IsFoProof f) (right : HasRightNodes f) where
-  none_faulty : NoneFaulty (file_graph f) none
-  none_faulty v within = refl
+  pub may_stand : MayStand (MayOccur f.theory) (IsGiven f.theory) f.nodes
+  may_stand = record {
+    occurs = λ v node at. (
+        let r = read_at v node at in
+        record { constant = proof.constant; definitions = proof.definitions; small = r.small; terms = r.sequent });
+    allowed = λ v node at. (read_at v node at).reason;
+  }
 
-  graph : IsGraph (file_graph f)
-  graph =
-      right_graph (file_graph f) none (graph_right f.theory f.nodes proof.definitions proof.nodes none (λ v node at seen. right v node at))
-      none_faulty (some_node f proof)
+  pub correct_hold : IsCorrect f → RootHolds f
+  correct_hold correct root at =
+      (holds-at_all f.theory root.judgement).1 (λ σ.
+      root_holds (first_order f.theory) f.nodes (MayOccur f.theory) (IsGiven f.theory) (in_order f.theory) may_stand proof.some correct.nodes
+      (λ v node is. places_set node.judgement.left (read_at v node is).small.left) (Holds f.theory) (locally_sound f.theory) correct.paths root at σ)
 
-  local : IsLocal (file_graph f) (HoldsAtNode f.theory f.nodes)
-  local =
-      local_all (file_graph f) none (HoldsAtNode f.theory f.nodes)
-      (graph_local f.theory f.nodes proof.definitions proof.constant proof.nodes none (λ v node at seen. right v node at)) none_faulty
-
-pub correct_hold : (f : FoFile) → IsFoProof f → IsCorrect f → RootHolds f
-correct_hold f proof correct root at =
-    (holds-at_all f.theory root.sequent).1
-    (λ stages. descends_by_lassos (file_graph f) (graph f proof correct.nodes) correct.paths (HoldsAtNode f.theory f.nodes) (local f proof correct.nodes) stages root at)
+pub verdict_on_file : (f : FoFile) (v : FoVerdict) → IsVerdictOn (logic_of f) (Holds f.theory) f.nodes v → IsVerdict f v
+verdict_on_file f Accepted told = (told.0, told.1, λ root at. (holds-at_all f.theory root.judgement).1 (λ σ. told.2 root at σ))
+verdict_on_file f (RuleRefused v fault) told = told
+verdict_on_file f (PathRefused l) told = told
+verdict_on_file f TooManyStates told = told

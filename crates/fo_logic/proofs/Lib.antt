@@ -1,3 +1,1 @@
-mod TestLoops
-mod Tables
 pub mod Correct

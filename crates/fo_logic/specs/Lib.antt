@@ -1,3 +1,6 @@
+pub mod FirstOrder
+pub mod Places
+pub mod LogicLaws
+pub mod Instance
+pub mod Files
 pub mod Verdicts
-pub mod Tested
-pub mod Laws

@@ -11,8 +11,7 @@ use Rattle.fo_formula.specs.Words.{Word}
 use Rattle.fo_table.specs.declared.faults.FoFault.{FoFault}
 use Rattle.fo_table.specs.declared.faults.FoFault.TheVariants.{NotVariable, NoSuchCase, TermCount, LinkRight}
 use Rattle.fo_table.specs.Answers.{Answer, needs, finds, limited}
-use Rattle.fo_table.specs.LinkTable.{map_place, linked, link_fault, link_premise}
-use Rattle.fo_table.specs.Nodes.{unless_fault}
+use Rattle.fo_table.specs.LinkTable.{map_place, linked, link_fault, link_premise, unless_fault}
 use Rattle.fo_table.specs.Table.{with_term, right_premise}
 use Rattle.fo_table.specs.Tests.{only_variable}
 

@@ -1,3 +1,2 @@
 pub mod Small
-pub mod Steps
 pub mod Proofs

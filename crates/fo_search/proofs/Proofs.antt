@@ -3,14 +3,13 @@ use Rattle.std.proofs.Common.{◌≡◌, ℕ, List, [], ◌∷◌, map, Some, le
 use Rattle.std.proofs.lemmas.Option.{slice_get_within, same_Some}
 use Rattle.heap_formula.specs.Words.{Each}
 use Rattle.fo_formula.specs.declared.nodes.FoFile.{FoFile}
-use Rattle.fo_formula.specs.declared.nodes.FoNode.{FoNode}
+use Rattle.fo_formula.specs.Nodes.{FoNode}
 use Rattle.fo_formula.specs.declared.nodes.FoReason.{FoReason}
 use Rattle.fo_formula.specs.declared.sequents.FoSequent.{FoSequent}
 use Rattle.fo_formula.specs.declared.theory.FoTheory.{FoTheory}
-use Rattle.fo_nodes.specs.Files.{IsReadNode, IsFoProof}
+use Rattle.fo_logic.specs.Files.{IsReadNode, IsFoProof}
 use Rattle.fo_limits.specs.Limits.{IsNodeWithin, IsReasonWithin}
 use Rattle.fo_limits.proofs.Open.{sequent_open, reason_open}
-use Rattle.fo_logic.specs.Verdicts.{IsCorrect}
 use Rattle.fo_logic.proofs.Correct.{correct_hold}
 use Rattle.trace_pairs.specs.Graph.{Node}
 use Rattle.buchi_inclusion.specs.Answers.{state_limit}
@@ -23,7 +22,9 @@ use Rattle.derivations.specs.Derivations.{reasons_in, tableau_in, about, IsInOrd
 use Rattle.fo_calculus.specs.Calculus.{MadeNode, calculus_of, node_limit}
 use Rattle.fo_calculus.specs.Occurring.{MayOccur}
 use Rattle.fo_calculus.proofs.Fairness.{first_order_fair}
-use Rattle.fo_found.specs.Files.{nodes_with, proof_nodes}
+use Rattle.logic_tableaux.specs.Nodes.{nodes_with}
+use Rattle.fo_logic.specs.FirstOrder.{target_of}
+use Rattle.fo_found.specs.Files.{proof_nodes}
 use Rattle.fo_found.specs.Found.{AreProof}
 use Rattle.fo_found.proofs.Found.{makes_proof}
 use Rattle.fo_search.specs.Moves.{Moves, calculus_in, occurs_in, allows_in, IsFirstOrder}
@@ -38,7 +39,7 @@ follows problem moves is = sym (λ i. system_of (calculus_of (is.theory i)) (is.
 pub still : (problem : FoProblem) (old new : Moves) → IsFirstOrder problem old → IsInOrder calculus_in occurs_in allows_in new → about new ≡ about old → IsFirstOrder problem new
 still problem old new is order same = record {
   order = order;
-  theory = ap (λ a. a.0.theory.now) same ∙ is.theory;
+  theory = ap (λ a. a.0.logic.theory.now) same ∙ is.theory;
   limit = ap (λ a. a.1.0) same ∙ is.limit;
   root = ap (λ a. a.1.1) same ∙ is.root;
 }
@@ -64,7 +65,7 @@ has_found problem moves most depth may is found =
 
 -- ---- the file
 
-reasons_with : (ns : List Node) (ms : List MadeNode) → length ms ≡ length ns → map (λ (n : FoNode). n.reason) (nodes_with ns ms) ≡ map (λ (m : MadeNode). m.reason) ms
+reasons_with : (ns : List Node) (ms : List MadeNode) → length ms ≡ length ns → map (λ (n : FoNode). n.reason) (nodes_with target_of ns ms) ≡ map (λ (m : MadeNode). m.reason) ms
 reasons_with [] [] size = refl
 reasons_with [] (m ∷ ms) size = absurd (omega (arith, size))
 reasons_with (n ∷ ns) [] size = absurd (omega (arith, size))
@@ -77,20 +78,17 @@ same_reasons problem moves f h e =
 
 -- a node within the limits is one that a reader gives
 read_node : (t : FoTheory) (n : FoNode) → IsNodeWithin t n → IsReadNode t.constructors n
-read_node t n h = record { small = h.sequent.0; sequent = sequent_open t n.sequent h.sequent.1; reason = reason_open t n.reason h.reason }
+read_node t n h = record { small = h.sequent.0; sequent = sequent_open t n.judgement h.sequent.1; reason = reason_open t n.reason h.reason }
 
 module _ (problem : FoProblem) (moves : Moves) (f : FoFile) (may : MayOccur problem.theory problem.goal) (h : HasFound problem moves) (same_theory : f.theory ≡ problem.theory) (same_nodes : f.nodes ≡ proof_nodes (tableau_in moves)) where
   the_proof : AreProof f.theory problem.goal f.nodes
   the_proof =
       subst (λ t. AreProof t problem.goal f.nodes) (sym same_theory) (subst (λ ns. AreProof problem.theory problem.goal ns) (sym same_nodes) h.proof)
 
-  correct : IsCorrect f
-  correct = record { nodes = the_proof.right; paths = the_proof.paths }
-
   is_fo_proof : IsFoProof f
   is_fo_proof =
       let may' : MayOccur f.theory problem.goal = subst (λ t. MayOccur t problem.goal) (sym same_theory) may in
-      let some = slice_get_within f.nodes 0 the_proof.root the_proof.is_root in
+      let some = slice_get_within f.nodes 0 the_proof.proof.root the_proof.proof.is_root in
       record {
         some = omega (arith, some);
         few = the_proof.few;
@@ -105,12 +103,12 @@ module _ (problem : FoProblem) (moves : Moves) (f : FoFile) (may : MayOccur prob
     tableau = tableau_in moves;
     made = ap (replay (calculus_of problem.theory) problem.goal) (same_reasons problem moves f h same_nodes) ∙ h.made;
     nodes = same_nodes;
-    root = the_proof.root;
-    is_root = the_proof.is_root;
-    goal = the_proof.proves;
+    root = the_proof.proof.root;
+    is_root = the_proof.proof.is_root;
+    goal = the_proof.proof.proves;
     within = subst (λ t. Each (IsNodeWithin t) f.nodes) same_theory the_proof.within;
     few = the_proof.few;
-    correct = correct;
-    states = the_proof.states;
-    holds = correct_hold f is_fo_proof correct;
+    correct = the_proof.proof.correct;
+    states = the_proof.proof.states;
+    holds = correct_hold f is_fo_proof the_proof.proof.correct;
   }

@@ -1,24 +1,20 @@
 -- What may occur in a search is small.
-use Rattle.std.proofs.Common.{◌≡◌, ℕ, zero, suc, ◌<◌, ◌≤◌, List, [], ◌∷◌, Some, slice_get, length, get_or, refl, sym, ap, ◌∙◌, arith}
+use Rattle.std.proofs.Common.{◌≡◌, ℕ, ◌<◌, ◌≤◌, List, Some, slice_get, length, get_or, sym, arith}
 use Rattle.fo_formula.specs.declared.theory.FoTheory.{FoTheory}
 use Rattle.fo_formula.specs.Meaning.{cases_of}
-use Rattle.fo_nodes.specs.Files.{IsSmallSequent}
-use Rattle.fo_nodes.proofs.Fine.{cases_few}
+use Rattle.fo_table.specs.Small.{IsSmallSequent}
+use Rattle.fo_table.proofs.Fine.{cases_few}
+use Rattle.list_facts.proofs.Places.{at_index}
 use Rattle.tableaux.specs.Fair.{AllOccur}
 use Rattle.fo_calculus.specs.Calculus.{OpenGoal, MadeNode, sequent_of}
 use Rattle.fo_calculus.specs.Occurring.{MayOccur}
-
-pub here_at : {X : Type 0} (xs : List X) (v : ℕ) (d : X) → v < length xs → slice_get xs v ≡ Some (get_or xs v d)
-here_at [] v d h = absurd (omega (arith, h))
-here_at (x ∷ xs) zero d h = refl
-here_at (x ∷ xs) (suc v) d h = here_at xs v d (omega (arith, h))
 
 module _ (t : FoTheory) (nodes : List MadeNode) (g : OpenGoal) (occur : AllOccur (MayOccur t) nodes g) where
   pub small_node : (v : ℕ) (m : MadeNode) → slice_get nodes v ≡ Some m → IsSmallSequent (sequent_of m)
   small_node v m at = (occur.made v m at).1.0
 
   pub small_at : (v : ℕ) (m : MadeNode) → v < length nodes → m ≡ get_or nodes v m → IsSmallSequent (sequent_of m)
-  small_at v m within is = small_node v m (here_at nodes v m within ∙ ap Some (sym is))
+  small_at v m within is = small_node v m (at_index nodes v m m within (sym is))
 
   -- a predicate has few cases
   pub few_cases : (p : ℕ) → length (cases_of t.definitions p) ≤ 65536

@@ -2,7 +2,7 @@
 use Rattle.std.specs.Prelude.{◌≡◌, ◌≤◌, ℕ, List, length, map, Some, slice_get}
 use Rattle.cyc_limits.specs.declared.TheConstants.{MOST_NODES}
 use Rattle.fo_formula.specs.declared.nodes.FoFile.{FoFile}
-use Rattle.fo_formula.specs.declared.nodes.FoNode.{FoNode}
+use Rattle.fo_formula.specs.Nodes.{FoNode}
 use Rattle.fo_formula.specs.declared.nodes.FoReason.{FoReason}
 use Rattle.fo_formula.specs.declared.sequents.FoSequent.{FoSequent}
 use Rattle.heap_formula.specs.Words.{Each}
@@ -42,7 +42,7 @@ pub record IsProofFor (problem : FoProblem) (f : FoFile) : Type 0 where
   pub nodes : f.nodes ≡ proof_nodes tableau
   pub root : FoNode
   pub is_root : slice_get f.nodes 0 ≡ Some root
-  pub goal : root.sequent ≡ problem.goal
+  pub goal : root.judgement ≡ problem.goal
   pub within : Each (IsNodeWithin problem.theory) f.nodes
   pub few : length f.nodes ≤ MOST_NODES
   pub correct : IsCorrect f

@@ -2,7 +2,6 @@
 //! 2011), by iterative deepening.
 #![tactic(auto)]
 
-mod effects;
 mod found;
 mod logic;
 mod offering;

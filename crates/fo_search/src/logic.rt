@@ -1,21 +1,21 @@
 // First-order logic as a logic whose derivations are searched for.
-use crate::effects::effect_of;
 use crate::offering::offers_at;
 use cyc_memory::OutOfMemory;
 use derivation_search::Offers;
 use derivations::{Effect, Logic, Strategy};
-use fo_formula::{FoReason, FoSequent, FoTheory};
-use fo_logic::predicate_positions;
+use fo_formula::{FoReason, FoSequent};
+use fo_logic::FirstOrder;
+use logic_tableaux::effect_of;
 use std::alloc::Global;
 use tableaux::{MadeNode, OpenGoal, Rules};
 
-/// First-order logic over the definitions of a theory.
+/// First-order logic with what goals are offered.
 #[derive(Drop)]
-pub struct FirstOrder<'a> {
-    pub theory: &'a FoTheory,
+pub struct FirstOrderSearch<'a> {
+    pub logic: FirstOrder<'a>,
 }
 
-impl Rules for FirstOrder<'_> {
+impl Rules for FirstOrderSearch<'_> {
     ghost use Rattle.fo_search.specs.Moves.{calculus_in, occurs_in, allows_in};
 
     type Judgement = FoSequent;
@@ -29,9 +29,9 @@ impl Rules for FirstOrder<'_> {
     ghost allows = { allows_in };
 }
 
-impl Logic for FirstOrder<'_> {
+impl Logic for FirstOrderSearch<'_> {
     fn positions(&self, alloc: Global, sequent: &FoSequent) -> Result<Vec<u8>, OutOfMemory> {
-        predicate_positions(alloc, sequent.left.as_slice())
+        logics::Logic::positions(&self.logic, alloc, sequent)
     }
 
     fn effect(
@@ -41,17 +41,17 @@ impl Logic for FirstOrder<'_> {
         goal: &OpenGoal<FoSequent>,
         reason: &FoReason,
     ) -> Result<Option<Effect<FoSequent>>, OutOfMemory> {
-        effect_of(alloc, self.theory, made, goal, reason)
+        effect_of(alloc, &self.logic, made, goal, reason)
     }
 }
 
-impl Strategy for FirstOrder<'_> {
+impl Strategy for FirstOrderSearch<'_> {
     fn offers(
         &self,
         alloc: Global,
         made: &[MadeNode<FoSequent, FoReason>],
         goal: &OpenGoal<FoSequent>,
     ) -> Result<Offers<FoReason>, OutOfMemory> {
-        offers_at(alloc, self.theory, made, goal)
+        offers_at(alloc, self.logic.theory, made, goal)
     }
 }

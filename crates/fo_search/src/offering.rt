@@ -1,7 +1,7 @@
 // What a goal is offered.
 ghost use Rattle.std.specs.Prelude.{◌≡◌, ◌<◌, ◌++◌, length, map, IfOk, OnOk};
 ghost use Rattle.fo_formula.specs.declared.nodes.FoReason.TheVariants.{Rule, Link};
-ghost use Rattle.fo_nodes.specs.Files.{IsSmallSequent};
+ghost use Rattle.fo_table.specs.Small.{IsSmallSequent};
 ghost use Rattle.tableaux.specs.Fair.{AllOccur};
 ghost use Rattle.fold_offers.specs.Places.{each_place};
 ghost use Rattle.fo_calculus.specs.Calculus.{links_to_node as reasons_to_node, links_at, rules_at};

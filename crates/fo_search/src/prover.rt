@@ -7,12 +7,13 @@ ghost use Rattle.fo_search.specs.Moves.{IsFirstOrder};
 ghost use Rattle.fo_search.specs.Outcomes.{search_for, outcome_of, IsFirst, IsProved};
 
 use crate::found::file_of;
-use crate::logic::FirstOrder;
+use crate::logic::FirstOrderSearch;
 use cyc_limits::MOST_NODES;
 use cyc_memory::OutOfMemory;
 use derivation_search::{Stop, search_depth};
 use derivations::Derivation;
 use fo_formula::{FoFile, FoReason, FoSequent};
+use fo_logic::FirstOrder;
 use fo_values::FoProblem;
 use std::alloc::Global;
 
@@ -30,13 +31,14 @@ pub enum FoProved {
 fn begin(
     alloc: Global,
     problem: &FoProblem,
-) -> Result<Derivation<FirstOrder<'_>, FoSequent, FoReason>, OutOfMemory>
+) -> Result<Derivation<FirstOrderSearch<'_>, FoSequent, FoReason>, OutOfMemory>
     requires { MayOccur problem.now.theory problem.now.goal }
     ensures order { IfOk result (IsFirstOrder problem.now) }
     ensures nothing { IfOk result (λ s. reasons_in s ≡ []) }
 {
-    let logic = FirstOrder {
-        theory: &problem.theory,
+    let theory = &problem.theory;
+    let logic = FirstOrderSearch {
+        logic: FirstOrder { theory },
     };
     let root = problem.goal.clone()?;
     let goal = problem.goal.clone()?;

@@ -8,3 +8,5 @@ pub mod Unfolds
 pub mod Rights
 pub mod AllRules
 pub mod Links
+pub mod Fits
+pub mod Fine

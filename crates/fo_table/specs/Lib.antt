@@ -5,4 +5,4 @@ pub mod Table
 pub mod LinkTable
 pub mod Soundness
 pub mod Answered
-pub mod Nodes
+pub mod Small

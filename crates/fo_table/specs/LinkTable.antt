@@ -1,5 +1,5 @@
 -- The faults of a link, and its premise.
-use Rattle.std.specs.Prelude.{ℕ, suc, List, [], ◌∷◌, map, Bool, true, false, Option, Some, None, slice_get, slice_index}
+use Rattle.std.specs.Prelude.{ℕ, suc, List, [], ◌∷◌, map, Bool, true, false, Option, Some, None, Ok, Err, slice_get, slice_index}
 use Rattle.std.specs.Option.{option_map}
 use Rattle.fo_formula.specs.declared.atoms.FoAtom.{FoAtom}
 use Rattle.fo_formula.specs.declared.nodes.FoLink.{FoLink}
@@ -8,6 +8,7 @@ use Rattle.fo_formula.specs.Words.{in_atom}
 use Rattle.fo_table.specs.declared.faults.FoFault.{FoFault}
 use Rattle.fo_table.specs.declared.faults.FoFault.TheVariants.{LinkLeft, LinkRight}
 use Rattle.fo_table.specs.declared.premises.FoPremise.{FoPremise}
+use Rattle.fo_table.specs.Answers.{Answer}
 use Rattle.fo_table.specs.Tests.{same_atom}
 use Rattle.fo_table.specs.Traces.{pairs_from}
 use Rattle.fo_table.specs.Table.{image_sign}
@@ -16,11 +17,6 @@ use Rattle.fo_table.specs.Table.{image_sign}
 abbrev pub first_of : Option FoFault → Option FoFault → Option FoFault
 first_of None g = g
 first_of (Some f) g = Some f
-
--- the fault where the test fails
-abbrev pub fault_unless : Bool → FoFault → Option FoFault
-fault_unless true f = None
-fault_unless false f = Some f
 
 -- there is an atom, and it is x
 abbrev pub is_atom : FoAtom → Option FoAtom → Bool
@@ -54,3 +50,8 @@ link_fault bud companion link =
 abbrev pub link_premise : FoSequent → FoLink → FoPremise
 link_premise companion link =
     record { sequent = companion; pairs = pairs_from (slice_index link.left_map) 0 companion.left }
+
+-- the premise where there is no fault
+abbrev pub unless_fault : Option FoFault → FoPremise → Answer
+unless_fault None premise = Ok (premise ∷ [])
+unless_fault (Some f) premise = Err f

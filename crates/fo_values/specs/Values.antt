@@ -16,7 +16,7 @@ use Rattle.fo_formula.specs.declared.nodes.FoRule.TheVariants as rules
 use Rattle.fo_formula.specs.declared.nodes.FoLink.{FoLink}
 use Rattle.fo_formula.specs.declared.nodes.FoReason.{FoReason}
 use Rattle.fo_formula.specs.declared.nodes.FoReason.TheVariants as reasons
-use Rattle.fo_formula.specs.declared.nodes.FoNode.{FoNode}
+use Rattle.fo_formula.specs.Nodes.{FoNode}
 use Rattle.fo_formula.specs.declared.nodes.FoFile.{FoFile}
 use Rattle.fo_formula.specs.Words.{Word, first_term, after_first}
 use Rattle.fo_term_syntax.specs.Trees.{Sign, Variable, Local, Apply, Atom, Equation, Predicate}
@@ -96,7 +96,7 @@ module _ (constructors : List Heading) where
     reason_value (Link l) = reasons.Link (link_value l)
 
     abbrev pub node_value : Node → FoNode
-    node_value n = record { sequent = sequent_value n.sequent; reason = reason_value n.reason; premises = n.premises }
+    node_value n = record { judgement = sequent_value n.sequent; reason = reason_value n.reason; premises = n.premises }
 
     abbrev pub file_value : File → FoFile
     file_value f = record { theory = theory_value f.constructors f.definitions; nodes = map node_value f.nodes }

@@ -16,7 +16,7 @@ use Rattle.fo_formula.specs.declared.nodes.FoRule.TheVariants as rules
 use Rattle.fo_formula.specs.declared.nodes.FoLink.{FoLink}
 use Rattle.fo_formula.specs.declared.nodes.FoReason.{FoReason}
 use Rattle.fo_formula.specs.declared.nodes.FoReason.TheVariants as reasons
-use Rattle.fo_formula.specs.declared.nodes.FoNode.{FoNode}
+use Rattle.fo_formula.specs.Nodes.{FoNode}
 use Rattle.fo_formula.specs.declared.nodes.FoFile.{FoFile}
 use Rattle.fo_formula.specs.Words.{Word}
 use Rattle.fo_term_syntax.specs.Trees.{Sign, Variable, Local, Apply, Atom, Equation, Predicate}
@@ -97,7 +97,7 @@ module _ (t : FoTheory) where
   reason_tree (reasons.Link link) = Link (link_tree link)
 
   abbrev pub node_tree : FoNode → Node
-  node_tree n = record { sequent = sequent_tree n.sequent; reason = reason_tree n.reason; premises = n.premises }
+  node_tree n = record { sequent = sequent_tree n.judgement; reason = reason_tree n.reason; premises = n.premises }
 
 abbrev pub file_tree : FoFile → File
 file_tree f = record { constructors = map constructor_tree f.theory.constructors; definitions = map (definition_tree f.theory) f.theory.definitions; nodes = map (node_tree f.theory) f.nodes }

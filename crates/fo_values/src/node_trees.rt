@@ -101,7 +101,7 @@ fn node<'a>(
 ) -> Result<NodeTree<'a>, OutOfMemory>
     ensures { IfOk result (λ n. node_of n ≡ node_tree theory.now value.now) }
 {
-    let sequent = sequent(alloc, theory, &value.sequent)?;
+    let sequent = sequent(alloc, theory, &value.judgement)?;
     let reason = reason(alloc, theory, &value.reason)?;
     let premises = Vec::from_slice(alloc, value.premises.as_slice())?;
     Ok(NodeTree {

@@ -12,6 +12,7 @@ use cyc_memory::OutOfMemory;
 use fo_formula::{FoLink, FoNode, FoNodes, FoReason, FoRule, FoSubst, Positions, Side};
 use fo_proof_syntax::{LinkTree, NodeTree, PairTree, ReasonTree, SideTree};
 use heap_reader::Heads;
+use logics::Numbers;
 use std::alloc::Global;
 
 fn side(tree: SideTree) -> Side
@@ -115,11 +116,11 @@ fn node(
     requires few_predicates { length predicates.now < 65536 }
     ensures { IfOk result (λ n. n ≡ node_value constructors.now predicates.now (node_of tree.now)) }
 {
-    let sequent = sequent(alloc, constructors, predicates, &tree.sequent)?;
+    let judgement = sequent(alloc, constructors, predicates, &tree.sequent)?;
     let reason = reason(alloc, constructors, predicates, &tree.reason)?;
-    let premises = positions(alloc, &tree.premises)?;
+    let premises = Numbers::from_vec(Vec::from_slice(alloc, &tree.premises)?);
     Ok(FoNode {
-        sequent,
+        judgement,
         reason,
         premises,
     })

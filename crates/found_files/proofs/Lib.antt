@@ -8,9 +8,6 @@ pub mod LinksWithin
 pub mod RulesGo
 pub mod LinksFit
 pub mod Fair
-pub mod Made
-pub mod Rows
-pub mod Right
-pub mod Graph
+pub mod SearchLogic
 pub mod Within
 pub mod Found

@@ -1,6 +1,6 @@
 use Rattle.std.proofs.Common.{List, refl}
 use Rattle.heap_reader.specs.Trees.{Heading}
-use Rattle.fo_nodes.specs.Files.{IsFoProof}
+use Rattle.fo_logic.specs.Files.{IsFoProof}
 use Rattle.fo_proof_syntax.specs.Trees.{file_of}
 use Rattle.fo_walk.specs.Flaws.{constructor_heads, predicate_heads}
 use Rattle.fo_values.specs.Known.{IsKnownFile}

@@ -1,25 +1,21 @@
-use Rattle.std.proofs.Common.{length, subst}
-use Rattle.fo_formula.specs.declared.nodes.FoFile.{FoFile}
-use Rattle.fo_logic.specs.declared.verdict.FoVerdict.TheVariants.{Accepted, PathRefused, TooManyStates}
-use Rattle.fo_logic.specs.Verdicts.{IsVerdict}
-use Rattle.fo_logic.proofs.Tables.{IsToldOf, is_accepted, is_refused, has_many_states}
+use Rattle.std.proofs.Common.{arith}
+use Rattle.std.proofs.lemmas.Result.{IfOk-weaker}
+use Rattle.logics.specs.Verdicts.{IsVerdict as IsVerdictOn}
+use Rattle.fo_logic.specs.FirstOrder.{Holds}
+use Rattle.fo_logic.specs.Verdicts.{logic_of, IsVerdict}
+use Rattle.fo_logic.proofs.Correct.{may_stand, verdict_on_file}
 use Rattle.fo_logic.proofs.checking.check_fo.Goals as goal
 
-pub returns-in-Accepted : goal.returns-in-Accepted
-returns-in-Accepted c =
-    let t = c.in_ok-tested.tested in
-    let n = length t.edges.items in
-    subst (λ (f : FoFile). IsVerdict f Accepted) c.in_ok-tested.ensures (is_accepted t.file.now n t.right (subst (IsToldOf t.file.now n) c.in-Accepted.is c.in_ok-check_system.ensures))
+pub check_proof-requires-clause-some : goal.check_proof-requires-clause-some
+check_proof-requires-clause-some c = rw c.as_slice.ensures c.requires.some
 
-pub returns-in-PathRefused : goal.returns-in-PathRefused
-returns-in-PathRefused c =
-    let t = c.in_ok-tested.tested in
-    let n = length t.edges.items in
-    let l = c.in-PathRefused.lasso in
-    subst (λ (f : FoFile). IsVerdict f (PathRefused l)) c.in_ok-tested.ensures (is_refused t.file.now n l t.right (subst (IsToldOf t.file.now n) c.in-PathRefused.is c.in_ok-check_system.ensures))
+pub check_proof-requires-clause-few : goal.check_proof-requires-clause-few
+check_proof-requires-clause-few c = rw c.as_slice.ensures (let few = c.requires.few in omega (arith, few))
+
+pub check_proof-requires-clause-stand : goal.check_proof-requires-clause-stand
+check_proof-requires-clause-stand c = rw c.as_slice.ensures (may_stand c.args.file.now c.requires)
 
 pub returns : goal.returns
 returns c =
-    let t = c.in_ok-tested.tested in
-    let n = length t.edges.items in
-    subst (λ (f : FoFile). IsVerdict f TooManyStates) c.in_ok-tested.ensures (has_many_states t.file.now n t.right (subst (IsToldOf t.file.now n) c.in-TooManyStates.is c.in_ok-check_system.ensures))
+    let f = c.args.file.now in
+    IfOk-weaker c.check_proof.result (IsVerdictOn (logic_of f) (Holds f.theory) f.nodes) (IsVerdict f) (verdict_on_file f) (rw c.as_slice.ensures at c.check_proof.ensures)

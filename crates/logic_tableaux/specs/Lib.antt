@@ -1,0 +1,5 @@
+pub mod Calculus
+pub mod Searches
+pub mod Nodes
+pub mod Found
+pub mod Effects
