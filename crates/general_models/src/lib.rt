@@ -14,4 +14,4 @@ mod stacks;
 pub use faults::CheckFault;
 pub use general::satisfied_in_general;
 pub use laws::permutations_keep_stages;
-pub use refuting::refutes;
+pub use refuting::{none_satisfied, refutes};

@@ -9,8 +9,8 @@ use heap_formula::Heap;
 use pred_defs::Defs;
 use std::alloc::Global;
 
-/// Whether none of the formulas is satisfied.
-fn none_satisfied(
+/// Whether none of the formulas is satisfied. `most` bounds the choices made for each, as in `satisfied_in_general`.
+pub fn none_satisfied(
     alloc: Global,
     defs: &Defs,
     stack: &Stack,

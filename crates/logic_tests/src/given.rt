@@ -1,5 +1,6 @@
 // What the tests of several crates are given.
 use heap_formula::{Args, Heap, OutOfMemory, Pure, Spatial, Term};
+use pred_defs::Defs;
 use std::alloc::Global;
 use std::test::Fail;
 
@@ -49,4 +50,24 @@ pub fn heap(alloc: Global, row: HeapRow) -> Result<Heap, Fail> {
         return Err("too many atoms".into());
     }
     Ok(Heap::from_lists(pure, spatial))
+}
+
+/// The heaps of these rows.
+pub fn heaps(alloc: Global, rows: &[HeapRow]) -> Result<Vec<Heap>, Fail> {
+    let mut heaps = Vec::new(alloc);
+    for row in rows {
+        heaps.push(heap(alloc, *row)?)?;
+    }
+    Ok(heaps)
+}
+
+/// One definition with these cases; a test without a case fails.
+pub fn defined(alloc: Global, arity: u32, cases: &[HeapRow]) -> Result<Defs, Fail> {
+    let mut defs = Defs::new(alloc, 16);
+    let cases = heaps(alloc, cases)?;
+    if cases.is_empty() {
+        return Err("no case".into());
+    }
+    defs.push("p", arity, &cases)?;
+    Ok(defs)
 }

@@ -14,6 +14,8 @@ mod goto_lang_tests;
 #[cfg(test)]
 mod graphs;
 #[cfg(test)]
+mod refute_models_tests;
+#[cfg(test)]
 mod sat_pairs_tests;
 #[cfg(test)]
 mod search_moves_tests;

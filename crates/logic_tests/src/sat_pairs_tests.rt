@@ -1,6 +1,6 @@
 // How many base pairs definitions have.
-use crate::given::{HeapRow, Shape, heap};
-use heap_formula::{Heap, Pure, Term};
+use crate::given::{HeapRow, Shape, defined};
+use heap_formula::{Pure, Term};
 use pred_defs::Defs;
 use sat_pairs::{PairFault, base_pairs};
 use std::alloc::Global;
@@ -58,24 +58,6 @@ static ROWS: &[Row] = &[
     Row(1, TREE, 2, Ok(2)),
     Row(1, TREE, 1, Err(PairFault::TooManyPairs)),
 ];
-
-fn heaps(alloc: Global, rows: &[HeapRow]) -> Result<Vec<Heap>, Fail> {
-    let mut heaps = Vec::new(alloc);
-    for row in rows {
-        heaps.push(heap(alloc, *row)?)?;
-    }
-    Ok(heaps)
-}
-
-fn defined(alloc: Global, arity: u32, cases: &[HeapRow]) -> Result<Defs, Fail> {
-    let mut defs = Defs::new(alloc, 16);
-    let cases = heaps(alloc, cases)?;
-    if cases.is_empty() {
-        return Err("no case".into());
-    }
-    defs.push("p", arity, &cases)?;
-    Ok(defs)
-}
 
 fn count(alloc: Global, defs: &Defs, most: u32) -> Result<usize, PairFault> {
     Ok(base_pairs(alloc, defs, most)?.pairs(0).len())

@@ -1,14 +1,14 @@
 // From where the unfoldings of a formula begin.
 use cyc_memory::OutOfMemory;
 use heap_formula::Heap;
-use refute_unfoldings::{PredicateUse, Unfolding};
+use refute_unfoldings::{OpenAtom, Unfolding};
 use std::alloc::Global;
 
 /// What the pure atoms and cells of a formula say, and its predicate atoms.
 #[derive(Drop)]
 pub struct Start {
     pub unfolding: Unfolding,
-    pub open: Vec<PredicateUse>,
+    pub open: Vec<OpenAtom>,
 }
 
 impl Start {
@@ -24,7 +24,7 @@ impl Start {
     }
 
     /// A copy of the predicate atoms.
-    pub fn atoms(&self, alloc: Global) -> Result<Vec<PredicateUse>, OutOfMemory> {
+    pub fn atoms(&self, alloc: Global) -> Result<Vec<OpenAtom>, OutOfMemory> {
         Ok(Vec::from_slice(alloc, &self.open)?)
     }
 }

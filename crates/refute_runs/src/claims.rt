@@ -133,6 +133,7 @@ pub fn faulty_run(
         Some(tail) => Ok(Some(FaultyRun {
             stack: model.stack,
             cells: model.cells,
+            steps: model.steps,
             picks: tail.picks,
             ending: tail.ending,
         })),

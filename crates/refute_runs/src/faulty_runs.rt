@@ -1,4 +1,5 @@
 // Runs that show that a program may fault or run for ever.
+use case_derivations::CaseStep;
 use cyc_memory::OutOfMemory;
 use refute_unfoldings::Cell;
 use refuting_runs::{Ending, Pick};
@@ -20,12 +21,13 @@ pub fn fields_of(pick: &Pick) -> &[u64] {
     }
 }
 
-/// A run: the values of the program's variables and of the precondition's in its first state, the heap there, and what was picked
-/// at each `new` and each `if *`, in order.
+/// A run: the values of the program's variables and of the precondition's in its first state, the heap there, the derivation that
+/// these satisfy the precondition, and what was picked at each `new` and each `if *`, in order.
 #[derive(Drop)]
 pub struct FaultyRun {
     pub stack: Vec<u64>,
     pub cells: Vec<Cell>,
+    pub steps: Vec<CaseStep>,
     pub picks: Vec<Pick>,
     pub ending: Ending,
 }

@@ -2,7 +2,7 @@
 use crate::base_pairs::BasePair;
 use crate::derivations::Derivations;
 use crate::unfolding::Unfolding;
-use crate::uses::PredicateUse;
+use crate::uses::OpenAtom;
 use cyc_memory::OutOfMemory;
 use std::alloc::{AllocError, Global};
 
@@ -26,7 +26,7 @@ impl Clone for Choice {
 pub struct Choices<'a> {
     alloc: Global,
     table: &'a Derivations<'a>,
-    atoms: &'a [PredicateUse],
+    atoms: &'a [OpenAtom],
     open: Vec<Choice>,
     work: u32,
     most: u32,
@@ -37,7 +37,7 @@ impl<'a> Choices<'a> {
     pub fn new(
         alloc: Global,
         table: &'a Derivations<'a>,
-        atoms: &'a [PredicateUse],
+        atoms: &'a [OpenAtom],
         unfolding: Unfolding,
         most: u32,
     ) -> Result<Choices<'a>, OutOfMemory> {
@@ -105,11 +105,11 @@ impl<'a> Choices<'a> {
         place: usize,
         number: usize,
     ) -> Result<Option<Choice>, OutOfMemory> {
-        let (Some(atom), Some(pair)) = (self.atoms.get(place), self.pair(place, number)) else {
+        let (Some(open), Some(pair)) = (self.atoms.get(place), self.pair(place, number)) else {
             return Ok(None);
         };
         let mut next = choice.clone()?;
-        if !pair.apply(&mut next.unfolding, &atom.args)? {
+        if !pair.apply(&mut next.unfolding, &open.atom.args)? {
             return Ok(None);
         }
         if let Some(entry) = next.numbers.get_mut(place) {
@@ -119,16 +119,17 @@ impl<'a> Choices<'a> {
     }
 
     fn pair(&self, place: usize, number: usize) -> Option<&'a BasePair> {
-        self.table.pair(self.atoms.get(place)?.predicate, number)
+        self.table
+            .pair(self.atoms.get(place)?.atom.predicate, number)
     }
 
     /// The choices that fit one more atom.
     fn fitting(&mut self, choice: &Choice, place: usize) -> Result<Vec<Choice>, OutOfMemory> {
         let mut found = Vec::new(self.alloc);
-        let Some(atom) = self.atoms.get(place) else {
+        let Some(open) = self.atoms.get(place) else {
             return Ok(found);
         };
-        for number in 0..self.table.count(atom.predicate) {
+        for number in 0..self.table.count(open.atom.predicate) {
             self.spend(1);
             if let Some(next) = self.with(choice, place, number)? {
                 found.push(next)?;

@@ -2,7 +2,7 @@
 use crate::base_pairs::BasePair;
 use crate::choices::{Choice, Choices};
 use crate::unfolding::Unfolding;
-use crate::uses::PredicateUse;
+use crate::uses::{OpenAtom, PredicateUse};
 use cyc_memory::OutOfMemory;
 use heap_formula::{Args, Heap, Spatial, Term};
 use pred_defs::Defs;
@@ -31,7 +31,7 @@ struct Turn {
 /// A base pair on its way into the replay of a derivation.
 #[derive(Clone, Copy)]
 struct Step {
-    atom: PredicateUse,
+    open: OpenAtom,
     number: Option<usize>,
 }
 
@@ -111,7 +111,7 @@ impl Derivations<'_> {
         &self,
         predicate: u16,
         case: u32,
-    ) -> Result<Option<(Unfolding, Vec<PredicateUse>)>, OutOfMemory> {
+    ) -> Result<Option<(Unfolding, Vec<OpenAtom>)>, OutOfMemory> {
         let arity = self.arity(predicate);
         let args = parameters(arity);
         let atom = PredicateUse { predicate, args };
@@ -220,8 +220,10 @@ impl Derivations<'_> {
         steps: &mut Vec<Step>,
         step: &Step,
     ) -> Result<bool, OutOfMemory> {
-        let (Some(number), Some(row)) = (step.number, self.rows.get(step.atom.predicate as usize))
-        else {
+        let (Some(number), Some(row)) = (
+            step.number,
+            self.rows.get(step.open.atom.predicate as usize),
+        ) else {
             return Ok(false);
         };
         let Some(derivation) = row.get(number) else {
@@ -229,16 +231,17 @@ impl Derivations<'_> {
         };
         let first = unfolding.variables();
         let Some(body) = step
+            .open
             .atom
             .body(self.alloc, self.defs, derivation.case, first)?
         else {
             return Ok(false);
         };
         let mut open = Vec::new(self.alloc);
-        let may_be = unfolding.add(&body, &mut open)?;
-        for (atom, number) in open.iter().zip(&derivation.numbers) {
-            let (atom, number) = (*atom, *number);
-            steps.push(Step { atom, number })?;
+        let may_be = unfolding.replace(&step.open, derivation.case, &body, &mut open)?;
+        for (open, number) in open.iter().zip(&derivation.numbers) {
+            let (open, number) = (*open, *number);
+            steps.push(Step { open, number })?;
         }
         Ok(may_be)
     }
@@ -247,13 +250,13 @@ impl Derivations<'_> {
     pub fn replay(
         &self,
         mut unfolding: Unfolding,
-        atoms: &[PredicateUse],
+        atoms: &[OpenAtom],
         numbers: &[Option<usize>],
     ) -> Result<Option<Unfolding>, OutOfMemory> {
         let mut steps = Vec::new(self.alloc);
-        for (atom, number) in atoms.iter().zip(numbers) {
-            let (atom, number) = (*atom, *number);
-            steps.push(Step { atom, number })?;
+        for (open, number) in atoms.iter().zip(numbers) {
+            let (open, number) = (*open, *number);
+            steps.push(Step { open, number })?;
         }
         for _ in 0..MOST_STEPS {
             let Some(step) = steps.pop() else {

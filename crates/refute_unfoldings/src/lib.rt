@@ -19,4 +19,4 @@ pub use models::{Cell, Model};
 pub use sizes::Sizes;
 pub use unfolder::Unfolder;
 pub use unfolding::{MOST_CELLS, SymbolicCell, Unfolding};
-pub use uses::PredicateUse;
+pub use uses::{OpenAtom, PredicateUse};

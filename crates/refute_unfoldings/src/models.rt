@@ -1,6 +1,9 @@
 // The most general model of an unfolding.
 use crate::unfolding::Unfolding;
+use crate::uses::Replaced;
+use case_derivations::CaseStep;
 use cyc_memory::OutOfMemory;
+use goto_lang::Stack;
 use heap_formula::{Args, Term};
 use std::alloc::Global;
 
@@ -12,13 +15,15 @@ pub struct Cell {
 }
 
 /// A stack and a heap. The cells stand at the addresses from 1 on, in this order; other values follow them. `bound` is above all
-/// values, `names` has a variable for each value, and `apart` the pairs of values that the unfolding asks to differ.
+/// values, `names` has a variable for each value, `steps` is the derivation that the unfolding makes, and `apart` the pairs of values
+/// that it asks to differ.
 #[derive(Drop)]
 pub struct Model {
     pub stack: Vec<u64>,
     pub cells: Vec<Cell>,
     pub bound: u64,
     pub names: Vec<Term>,
+    pub steps: Vec<CaseStep>,
     apart: Vec<(u64, u64)>,
 }
 
@@ -146,6 +151,45 @@ impl Numbering<'_> {
     }
 }
 
+/// Puts the numbers below an end on a stack, the first one topmost.
+fn push_numbers(pending: &mut Vec<usize>, first: usize, end: usize) -> Result<(), OutOfMemory> {
+    for number in (first..end).rev() {
+        pending.push(number)?;
+    }
+    Ok(())
+}
+
+impl Numbering<'_> {
+    /// The values of the locals that a case brought.
+    fn locals(&self, alloc: Global, replaced: &Replaced) -> Result<Stack, OutOfMemory> {
+        let mut values = Vec::new(alloc);
+        for variable in replaced.first_local..replaced.end_of_locals {
+            values.push(self.value(Term::Univ(variable)))?;
+        }
+        Ok(Stack::from_vec(values))
+    }
+
+    /// The cases that were taken, depth first, with the values of their locals.
+    fn steps(&self, alloc: Global) -> Result<Vec<CaseStep>, OutOfMemory> {
+        let atoms = self.unfolding.atoms();
+        let mut steps = Vec::new(alloc);
+        let mut pending = Vec::new(alloc);
+        push_numbers(&mut pending, 0, self.unfolding.roots())?;
+        for _ in 0..atoms.len() {
+            let Some(number) = pending.pop() else {
+                break;
+            };
+            if let Some(Some(replaced)) = atoms.get(number) {
+                let locals = self.locals(alloc, replaced)?;
+                let case = replaced.case;
+                steps.push(CaseStep { case, locals })?;
+                push_numbers(&mut pending, replaced.first_atom, replaced.end_of_atoms)?;
+            }
+        }
+        Ok(steps)
+    }
+}
+
 impl Unfolding {
     /// The model in which classes that nothing makes equal are different values, and its stack has so many entries.
     pub fn model(&self, alloc: Global, variables: u16) -> Result<Model, OutOfMemory> {
@@ -159,6 +203,7 @@ impl Unfolding {
             stack: numbering.stack(alloc, variables)?,
             cells: numbering.cells(alloc)?,
             bound: numbering.names.len() as u64,
+            steps: numbering.steps(alloc)?,
             apart: numbering.apart(alloc)?,
             names: numbering.names,
         })

@@ -2,7 +2,7 @@
 use crate::choices::is_better;
 use crate::sizes::Sizes;
 use crate::unfolding::Unfolding;
-use crate::uses::PredicateUse;
+use crate::uses::OpenAtom;
 use cyc_memory::OutOfMemory;
 use pred_defs::Defs;
 use std::alloc::Global;
@@ -14,7 +14,7 @@ const MOST_LOOKS: usize = 14;
 #[derive(Drop)]
 struct Branch {
     unfolding: Unfolding,
-    open: Vec<PredicateUse>,
+    open: Vec<OpenAtom>,
     extra: u32,
 }
 
@@ -36,7 +36,7 @@ impl<'a> Unfolder<'a> {
         defs: &'a Defs,
         sizes: &'a Sizes,
         unfolding: Unfolding,
-        open: Vec<PredicateUse>,
+        open: Vec<OpenAtom>,
         extra: u32,
         most: u32,
     ) -> Result<Unfolder<'a>, OutOfMemory> {
@@ -88,9 +88,10 @@ impl<'a> Unfolder<'a> {
     fn fitting(
         &self,
         branch: &Branch,
-        atom: &PredicateUse,
+        replaced: &OpenAtom,
         case: u32,
     ) -> Result<Option<Branch>, OutOfMemory> {
+        let atom = &replaced.atom;
         let (Some(size), Some(least)) = (
             self.sizes.of_case(atom.predicate, case as usize),
             self.sizes.of_predicate(atom.predicate),
@@ -107,7 +108,7 @@ impl<'a> Unfolder<'a> {
         };
         let mut unfolding = branch.unfolding.clone()?;
         let mut open = Vec::new(self.alloc);
-        if !unfolding.add(&body, &mut open)? {
+        if !unfolding.replace(replaced, case, &body, &mut open)? {
             return Ok(None);
         }
         Ok(Some(Branch {
@@ -118,11 +119,11 @@ impl<'a> Unfolder<'a> {
     }
 
     /// The branches of the cases that fit, those with the fewest steps last.
-    fn fittings(&self, branch: &Branch, atom: &PredicateUse) -> Result<Vec<Branch>, OutOfMemory> {
+    fn fittings(&self, branch: &Branch, open: &OpenAtom) -> Result<Vec<Branch>, OutOfMemory> {
         let mut found = Vec::new(self.alloc);
-        let count = self.defs.cases(atom.predicate).len().min(65_535) as u32;
+        let count = self.defs.cases(open.atom.predicate).len().min(65_535) as u32;
         for case in 0..count {
-            if let Some(fitting) = self.fitting(branch, atom, case)? {
+            if let Some(fitting) = self.fitting(branch, open, case)? {
                 found.push(fitting)?;
             }
         }

@@ -1,5 +1,5 @@
 // What is known of the values of an antecedent that was unfolded.
-use crate::uses::PredicateUse;
+use crate::uses::{OpenAtom, PredicateUse, Replaced};
 use cyc_memory::OutOfMemory;
 use heap_formula::{Args, Heap, Pure, Spatial, Term, bound_of_heap};
 use std::alloc::{AllocError, Global};
@@ -18,12 +18,15 @@ pub struct SymbolicCell {
 }
 
 /// Universal variables with what is known of their values: which are equal, which differ, and which cells there are. For each
-/// variable `classes` has nil or the least variable that equals it.
+/// variable `classes` has nil or the least variable that equals it. `atoms` has for each predicate atom that came in by what it was
+/// replaced; the first `roots` of them are those of the formula.
 #[derive(Drop)]
 pub struct Unfolding {
     classes: Vec<Term>,
     cells: Vec<SymbolicCell>,
     apart: Vec<(Term, Term)>,
+    atoms: Vec<Option<Replaced>>,
+    roots: usize,
 }
 
 impl Clone for Unfolding {
@@ -31,10 +34,13 @@ impl Clone for Unfolding {
         let classes = self.classes.clone()?;
         let cells = self.cells.clone()?;
         let apart = self.apart.clone()?;
+        let atoms = self.atoms.clone()?;
         Ok(Unfolding {
             classes,
             cells,
             apart,
+            atoms,
+            roots: self.roots,
         })
     }
 }
@@ -55,6 +61,8 @@ impl Unfolding {
             classes: Vec::new(alloc),
             cells: Vec::new(alloc),
             apart: Vec::new(alloc),
+            atoms: Vec::new(alloc),
+            roots: 0,
         };
         unfolding.reach(variables)?;
         Ok(unfolding)
@@ -73,6 +81,16 @@ impl Unfolding {
     /// The pairs of variables that are to differ.
     pub fn apart(&self) -> &[(Term, Term)] {
         &self.apart
+    }
+
+    /// How many predicate atoms the formula has.
+    pub(crate) fn roots(&self) -> usize {
+        self.roots
+    }
+
+    /// By what each predicate atom was replaced.
+    pub(crate) fn atoms(&self) -> &[Option<Replaced>] {
+        &self.atoms
     }
 
     /// Nil, or the least variable that equals a variable.
@@ -176,10 +194,17 @@ impl Unfolding {
         Ok(true)
     }
 
+    fn open(&mut self, atom: PredicateUse, open: &mut Vec<OpenAtom>) -> Result<(), OutOfMemory> {
+        let number = self.atoms.len();
+        self.atoms.push(None)?;
+        open.push(OpenAtom { atom, number })?;
+        Ok(())
+    }
+
     fn add_spatial(
         &mut self,
         atoms: &[Spatial],
-        open: &mut Vec<PredicateUse>,
+        open: &mut Vec<OpenAtom>,
     ) -> Result<bool, OutOfMemory> {
         for atom in atoms {
             match *atom {
@@ -188,7 +213,9 @@ impl Unfolding {
                         return Ok(false);
                     }
                 }
-                Spatial::Pred(predicate, args) => open.push(PredicateUse { predicate, args })?,
+                Spatial::Pred(predicate, args) => {
+                    self.open(PredicateUse { predicate, args }, open)?
+                }
             }
         }
         Ok(true)
@@ -196,12 +223,43 @@ impl Unfolding {
 
     /// Adds the pure atoms and the cells of a heap without existential variables; its predicate atoms are open from now on.
     /// Whether that may be.
-    pub fn add(&mut self, heap: &Heap, open: &mut Vec<PredicateUse>) -> Result<bool, OutOfMemory> {
+    fn add_heap(&mut self, heap: &Heap, open: &mut Vec<OpenAtom>) -> Result<bool, OutOfMemory> {
         let bound = bound_of_heap(heap);
         if bound > MOST_VALUES {
             return Ok(false);
         }
         self.reach(bound)?;
         Ok(self.add_pure(heap.pure())? && self.add_spatial(heap.spatial(), open)?)
+    }
+
+    /// Adds a formula, which comes before all cases of its atoms. Whether that may be.
+    pub fn add(&mut self, formula: &Heap, open: &mut Vec<OpenAtom>) -> Result<bool, OutOfMemory> {
+        let may_be = self.add_heap(formula, open)?;
+        self.roots = self.atoms.len();
+        Ok(may_be)
+    }
+
+    /// Adds a case in place of an open atom; the variables that are new are the case's locals. Whether that may be.
+    pub(crate) fn replace(
+        &mut self,
+        replaced: &OpenAtom,
+        case: u32,
+        body: &Heap,
+        open: &mut Vec<OpenAtom>,
+    ) -> Result<bool, OutOfMemory> {
+        let first_local = self.variables();
+        let first_atom = self.atoms.len();
+        let may_be = self.add_heap(body, open)?;
+        let (end_of_locals, end_of_atoms) = (self.variables(), self.atoms.len());
+        if let Some(entry) = self.atoms.get_mut(replaced.number) {
+            *entry = Some(Replaced {
+                case,
+                first_local,
+                end_of_locals,
+                first_atom,
+                end_of_atoms,
+            });
+        }
+        Ok(may_be)
     }
 }

@@ -14,6 +14,23 @@ pub struct PredicateUse {
     pub args: Args,
 }
 
+/// A predicate atom of an unfolding, and its number among those that came into it.
+#[derive(Clone, Copy)]
+pub struct OpenAtom {
+    pub atom: PredicateUse,
+    pub(crate) number: usize,
+}
+
+/// By which case an atom was replaced, which variables are the case's locals, and which atoms the case brought.
+#[derive(Clone, Copy)]
+pub(crate) struct Replaced {
+    pub case: u32,
+    pub first_local: u16,
+    pub end_of_locals: u16,
+    pub first_atom: usize,
+    pub end_of_atoms: usize,
+}
+
 impl PredicateUse {
     /// A case of the predicate with these arguments, and variables from a number on as its locals; none where there is no such
     /// case, or where numbers run out.
