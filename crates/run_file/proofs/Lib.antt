@@ -1,0 +1,13 @@
+pub mod RunLaws
+pub mod RunEnds
+mod RunWriting
+mod SeenNumbers
+mod SpanLaws
+mod WithinSpans
+mod Parts
+mod Taken
+mod EntryCells
+mod Lines
+mod RunsAgain
+mod Defined
+pub mod Readings

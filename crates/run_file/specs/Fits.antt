@@ -1,0 +1,85 @@
+-- A tree fits the grammar of run files in one way.
+use Rattle.std.specs.Prelude.{ℕ, true, false, List, [], ◌∷◌}
+use Rattle.std.proofs.Common.{ap, lit<}
+use Rattle.std.specs.Coded.{×_prop, Unit-prop, le_prop}
+use Rattle.refuting_runs.specs.declared.picks.Pick.TheVariants.{Cell as CellPicked, Jumps}
+use Rattle.cyc_grammar.specs.Syntax.{one}
+use Rattle.cyc_grammar.specs.Classes.{number}
+use Rattle.heap_syntax.specs.Words.{comma, semicolon, closing}
+use Rattle.heap_syntax.specs.declared.version.Version.TheVariants.{Two}
+use Rattle.heap_syntax.specs.Grammar as shared
+use Rattle.pred_syntax.specs.Fits.{HasOneFit, listed-fit}
+use Rattle.pred_syntax.specs.Trees.{Heap, Definition}
+use Rattle.pred_syntax.specs.Grammar.{definitions}
+use Rattle.proof_syntax.specs.Trees.{Line, File, From, Done}
+use Rattle.proof_syntax.specs.Grammar as proofs
+use Rattle.proof_file.specs.Fits.{file-fit}
+use Rattle.model_syntax.specs.Trees.{Cell, Model}
+use Rattle.model_syntax.specs.Grammar as models
+use Rattle.model_file.specs.Fits.{model-fit}
+use Rattle.run_file.specs.declared.tree.Outcome.TheVariants.{Faults, Repeats}
+use Rattle.run_file.specs.Grammar.{state_claimed, claim, claim_of, pick, some_pick, picks1, picks, then_step, faulting, repeating, outcome, ending, course, body, run}
+
+-- ---- the claim, as that of a proof file with one node
+
+abbrev pub file_of : List Definition × (List Line × (ℕ × Heap)) → File
+file_of c = record {
+  version = Two;
+  definitions = c.0;
+  lines = c.1.0;
+  nodes = record { judgement = From c.1.1.0 c.1.1.1; reason = Done; premises = [] } ∷ [];
+}
+
+unfoldable pub in_file : (c : List Definition × (List Line × (ℕ × Heap))) → claim.fits c → proofs.file.fits (file_of c)
+unfolding claim state_claimed proofs.file proofs.body proofs.nodes proofs.more_nodes proofs.node proofs.judgement proofs.state proofs.reason proofs.parts proofs.premises
+in_file c p = (tt, (tt, (p.0, (p.1.0, (lit< tt, ((tt, ((tt, p.1.1), ((tt, (tt, tt)), (tt, tt)))), tt))))))
+
+unfoldable of_file : (c : List Definition × (List Line × (ℕ × Heap))) → proofs.file.fits (file_of c) → claim.fits c
+unfolding claim state_claimed proofs.file proofs.body proofs.nodes proofs.more_nodes proofs.node proofs.judgement proofs.state proofs.reason proofs.parts proofs.premises
+of_file c f = (f.1.1.0, (f.1.1.1.0, f.1.1.1.1.1.0.1.0.1))
+
+claim-fit : HasOneFit claim
+unfolding in_file of_file
+claim-fit c p q = ap (of_file c) (file-fit (file_of c) (in_file c p) (in_file c q))
+
+-- ---- the stack and the heap, as those of a model file
+
+abbrev model_of : List ℕ × List Cell → Model
+model_of s = record { definitions = []; stack = s.0; cells = s.1; ask = shared.some_heap }
+
+unfoldable in_model : (s : List ℕ × List Cell) → models.state.fits s → models.model.fits (model_of s)
+unfolding models.model models.body models.question definitions shared.heap shared.pures shared.spatials
+in_model s p = (tt, (tt, (p, (tt, ((tt, tt), (tt, tt))))))
+
+unfoldable of_model : (s : List ℕ × List Cell) → models.model.fits (model_of s) → models.state.fits s
+unfolding models.model models.body
+of_model s f = f.1.1.0
+
+state-fit : HasOneFit models.state
+unfolding in_model of_model
+state-fit s p q = ap (of_model s) (model-fit (model_of s) (in_model s p) (in_model s q))
+
+-- ---- picks and the outcome
+
+pick-fit : HasOneFit pick
+unfolding pick models.cell models.numbers
+pick-fit (CellPicked a vs) = ×_prop Unit-prop (×_prop Unit-prop (×_prop le_prop (listed-fit 0 comma closing (one number) (λ n. le_prop) vs)))
+pick-fit (Jumps true) = ×_prop Unit-prop Unit-prop
+pick-fit (Jumps false) = ×_prop Unit-prop Unit-prop
+
+picks-fit : HasOneFit picks
+unfolding picks picks1
+picks-fit [] = ×_prop Unit-prop Unit-prop
+picks-fit (p ∷ ps) = ×_prop Unit-prop (listed-fit some_pick comma semicolon pick pick-fit (p ∷ ps))
+
+outcome-fit : HasOneFit outcome
+unfolding outcome faulting repeating then_step
+outcome-fit (Faults l n) = ×_prop Unit-prop (×_prop le_prop le_prop)
+outcome-fit (Repeats m n) = ×_prop Unit-prop (×_prop le_prop le_prop)
+
+-- ---- run files
+
+pub run-fit : HasOneFit run
+unfolding run body course ending
+run-fit r =
+    ×_prop Unit-prop (×_prop (claim-fit (claim_of r)) (×_prop (state-fit (r.stack, r.cells)) (×_prop (picks-fit r.picks) (outcome-fit r.outcome))))

@@ -1,0 +1,142 @@
+-- The grammar of run files.
+use Rattle.std.specs.Prelude.{ℕ, true, false, List, ◌⊎◌, codes}
+use Rattle.std.proofs.Common.{inl, inr}
+use Rattle.cyc_grammar.specs.Syntax.{Syntax, Class, one, seq, alt, shaped, after, before, is_one, or_empty}
+use Rattle.cyc_grammar.specs.Classes.{keyword, the_end, number}
+use Rattle.refuting_runs.specs.declared.picks.Pick.{Pick}
+use Rattle.refuting_runs.specs.declared.picks.Pick.TheVariants.{Cell as CellPicked, Jumps}
+use Rattle.heap_syntax.specs.Words.{cyclist_word, from_word, given_word, comma, semicolon, last_word}
+use Rattle.heap_syntax.specs.Versions.{first_version}
+use Rattle.heap_syntax.specs.declared.version.Version.TheVariants.{Two}
+use Rattle.heap_syntax.specs.Grammar.{Any, listed}
+use Rattle.pred_syntax.specs.Grammar.{terms, heap, definitions}
+use Rattle.pred_syntax.specs.Trees.{Heap, Definition}
+use Rattle.command_syntax.specs.Grammar.{line_word}
+use Rattle.proof_syntax.specs.Grammar.{lines}
+use Rattle.proof_syntax.specs.Trees.{Line}
+use Rattle.model_syntax.specs.Grammar.{cell, state}
+use Rattle.model_syntax.specs.Trees.{Cell}
+use Rattle.run_file.specs.declared.tree.Outcome.{Outcome}
+use Rattle.run_file.specs.declared.tree.Outcome.TheVariants.{Faults, Repeats}
+use Rattle.run_file.specs.Trees.{Run}
+
+-- ---- words
+
+abbrev pub run_word : Class (Unit {0})
+run_word = keyword (codes "run")
+
+abbrev pub picks_word : Class (Unit {0})
+picks_word = keyword (codes "picks")
+
+abbrev pub jump_word : Class (Unit {0})
+jump_word = keyword (codes "jump")
+
+abbrev pub next_word : Class (Unit {0})
+next_word = keyword (codes "next")
+
+abbrev pub faults_word : Class (Unit {0})
+faults_word = keyword (codes "faults")
+
+abbrev pub repeats_word : Class (Unit {0})
+repeats_word = keyword (codes "repeats")
+
+abbrev pub step_word : Class (Unit {0})
+step_word = keyword (codes "step")
+
+-- ---- the claim: { pred } { line } "from" number "given" uheap ";"; a line may be a free branch
+
+unfoldable pub state_claimed : Syntax (ℕ × Heap)
+state_claimed = after from_word (seq (one number) (after given_word (before (heap (terms true)) semicolon)))
+
+unfoldable pub claim : Syntax (List Definition × (List Line × (ℕ × Heap)))
+claim = seq definitions (seq (lines Two) state_claimed)
+
+-- ---- pick = hcell | "jump" | "next"
+
+abbrev pub to_pick : Cell ⊎ (Unit {0} ⊎ Unit {0}) → Pick
+to_pick (inl c) = CellPicked c.address c.fields
+to_pick (inr (inl u)) = Jumps true
+to_pick (inr (inr u)) = Jumps false
+
+abbrev pub from_pick : Pick → Cell ⊎ (Unit {0} ⊎ Unit {0})
+from_pick (CellPicked a vs) = inl (record { address = a; fields = vs })
+from_pick (Jumps true) = inr (inl tt)
+from_pick (Jumps false) = inr (inr tt)
+
+unfoldable pub pick : Syntax Pick
+pick = shaped {A = Cell ⊎ (Unit {0} ⊎ Unit {0})} to_pick from_pick Any (alt (is_one number) cell (alt (is_one jump_word) (one jump_word) (one next_word)))
+
+abbrev pub some_pick : Pick
+some_pick = Jumps true
+
+-- pick { "," pick } ";"
+unfoldable pub picks1 : Syntax (List Pick)
+picks1 = listed some_pick comma semicolon pick
+
+-- [ pick { "," pick } ] ";"
+unfoldable pub picks : Syntax (List Pick)
+picks = or_empty semicolon picks1
+
+-- ---- outcome = "faults" "line" number "step" number | "repeats" "step" number "step" number
+
+-- number "step" number
+unfoldable pub then_step : Syntax (ℕ × ℕ)
+then_step = seq (one number) (after step_word (one number))
+
+unfoldable pub faulting : Syntax (ℕ × ℕ)
+faulting = after faults_word (after line_word then_step)
+
+unfoldable pub repeating : Syntax (ℕ × ℕ)
+repeating = after repeats_word (after step_word then_step)
+
+abbrev pub to_outcome : (ℕ × ℕ) ⊎ (ℕ × ℕ) → Outcome
+to_outcome (inl p) = Faults p.0 p.1
+to_outcome (inr p) = Repeats p.0 p.1
+
+abbrev pub from_outcome : Outcome → (ℕ × ℕ) ⊎ (ℕ × ℕ)
+from_outcome (Faults l n) = inl (l, n)
+from_outcome (Repeats m n) = inr (m, n)
+
+unfoldable pub outcome : Syntax Outcome
+outcome = shaped {A = (ℕ × ℕ) ⊎ (ℕ × ℕ)} to_outcome from_outcome Any (alt (is_one faults_word) faulting repeating)
+
+-- ---- run = "cyclist" "run" "1" ";" claim "stack" values "heap" cells "picks" picks outcome ";" "end" ";", and the end of the
+-- text
+
+-- outcome ";" "end"
+unfoldable pub ending : Syntax Outcome
+ending = before (before outcome semicolon) last_word
+
+-- "stack" values "heap" cells "picks" picks outcome ";" "end"
+unfoldable pub course : Syntax ((List ℕ × List Cell) × (List Pick × Outcome))
+course = seq state (after picks_word (seq picks ending))
+
+abbrev pub Parts : Type 0
+Parts = (List Definition × (List Line × (ℕ × Heap))) × ((List ℕ × List Cell) × (List Pick × Outcome))
+
+abbrev pub to_run : Parts → Run
+to_run p = record {
+  definitions = p.0.0;
+  lines = p.0.1.0;
+  line = p.0.1.1.0;
+  precondition = p.0.1.1.1;
+  stack = p.1.0.0;
+  cells = p.1.0.1;
+  picks = p.1.1.0;
+  outcome = p.1.1.1;
+}
+
+abbrev pub claim_of : Run → List Definition × (List Line × (ℕ × Heap))
+claim_of r = (r.definitions, (r.lines, (r.line, r.precondition)))
+
+abbrev pub course_of : Run → (List ℕ × List Cell) × (List Pick × Outcome)
+course_of r = ((r.stack, r.cells), (r.picks, r.outcome))
+
+abbrev pub from_run : Run → Parts
+from_run r = (claim_of r, course_of r)
+
+unfoldable pub body : Syntax Run
+body = shaped {A = Parts} to_run from_run Any (after cyclist_word (after run_word (after first_version (after semicolon (seq claim (before course semicolon))))))
+
+unfoldable pub run : Syntax Run
+run = before body the_end

@@ -1,0 +1,39 @@
+// Runs as values.
+ghost use Rattle.std.specs.Prelude.{◌≡◌, ◌<◌, ◌≤◌, None, length, true};
+ghost use Rattle.cyc_limits.specs.declared.TheConstants.{MOST_SPATIAL};
+ghost use Rattle.rule_table.specs.Tests.{is_universal_heap};
+ghost use Rattle.proof_file.specs.Readable.{are_universal_commands};
+ghost use Rattle.run_file.specs.Grammar.{run};
+ghost use Rattle.run_file.specs.Flaws.{run_flaw};
+ghost use Rattle.run_file.specs.Fits.{run-fit};
+ghost use Rattle.run_file.specs.Written.{tree_of};
+
+use crate::tree::Outcome;
+use goto_lang::{Cells, Program, Stack};
+use heap_formula::Heap;
+use pred_defs::Defs;
+use refuting_runs::Pick;
+
+/// A run file: definitions, a program and a claim of termination, that from this line the program halts given the
+/// precondition; a stack, a heap, what is picked in order at each `new` and each `if *`, and how the run from there ends.
+/// Whether it ends so is not said. The value of `$n` in the precondition is entry n of the stack, 0 past its end. The line is
+/// one of the program's, and no existential variable stands in the program and in the precondition. The file has a text: its
+/// tree, in which the cells of the heap ascend, fits the grammar, and has no flaw.
+#[derive(Drop)]
+pub struct RunFile {
+    pub defs: Defs,
+    pub program: Program,
+    pub line: u32,
+    pub precondition: Heap,
+    pub stack: Stack,
+    pub heap: Cells,
+    pub picks: Vec<Pick>,
+    pub outcome: Outcome,
+    ghost limit: { defs.most ≡ MOST_SPATIAL },
+    ghost from_one: { 0 < line },
+    ghost to_last: { line ≤ length program },
+    ghost universal: { are_universal_commands program ≡ true },
+    ghost state: { is_universal_heap precondition ≡ true },
+    ghost fits: { run.fits (tree_of defs.list program line precondition stack heap picks.items outcome) } by { run-fit _ },
+    ghost flawless: { run_flaw (tree_of defs.list program line precondition stack heap picks.items outcome) ≡ None },
+}

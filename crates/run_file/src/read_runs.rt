@@ -1,0 +1,155 @@
+//! Reading whole run files.
+
+ghost use Rattle.std.specs.Prelude.{◌≡◌, ◌<◌, ◌^◌, true, length, map};
+ghost use Rattle.cyc_lex.specs.Word.{word_of, EndsOnce};
+ghost use Rattle.cyc_grammar.specs.Syntax.{read_whole};
+ghost use Rattle.cyc_grammar.specs.Classes.{are_tokens};
+ghost use Rattle.cyc_grammar.specs.Faults.{Reads, IsRead};
+ghost use Rattle.cyc_grammar.specs.Giving.{Gives, words};
+ghost use Rattle.heap_syntax.specs.declared.version.Version.TheVariants.{Two};
+ghost use Rattle.pred_syntax.specs.Trees.{heap_of};
+ghost use Rattle.proof_syntax.specs.Grammar.{lines};
+ghost use Rattle.model_syntax.specs.Trees.{cell_of};
+ghost use Rattle.model_syntax.specs.Grammar.{state};
+ghost use Rattle.run_file.specs.Grammar.{state_claimed, then_step, outcome, ending, body, run};
+ghost use Rattle.run_file.specs.Trees.{Run, run_of};
+
+use crate::items::{cells, picks, values};
+use crate::tree::{Outcome, RunTree};
+use cyc_grammar::{Cursor, Refusal, read_fault};
+use cyc_lex::{ReadFault, Token, Tokens};
+use heap_syntax::{Version, first_version};
+use model_syntax::CellTree;
+use pred_syntax::{HeapTree, definitions, heap};
+use proof_syntax::{DollarVariables, LineTree};
+use std::alloc::Global;
+
+/// The lines of the program, of which there may be none.
+fn lines(alloc: Global, cursor: &mut Cursor<'_, '_>) -> Result<Vec<LineTree>, Refusal>
+    ensures { Gives (λ x. (x.items, cursor.new)) result ((lines Two).read cursor.old) }
+{
+    command_syntax::lines(alloc, &DollarVariables, Version::Two, cursor)
+}
+
+/// The line and the precondition that are claimed.
+#[tactic(auto, unfolding(crate::specs::Grammar::state_claimed))]
+fn state_claimed<'a>(
+    alloc: Global,
+    cursor: &mut Cursor<'_, 'a>,
+) -> Result<(u32, HeapTree<'a>), Refusal>
+    ensures { Gives (λ x. ((x.0, heap_of x.1), cursor.new)) result (state_claimed.read cursor.old) }
+{
+    cursor.keyword("from")?;
+    let line = cursor.number()?;
+    cursor.keyword("given")?;
+    let precondition = heap(alloc, true, cursor)?;
+    cursor.symbol(";")?;
+    Ok((line, precondition))
+}
+
+/// The values of the stack and the cells of the heap.
+#[tactic(auto, unfolding(model_syntax::specs::Grammar::state))]
+fn state(alloc: Global, cursor: &mut Cursor<'_, '_>) -> Result<(Vec<u32>, Vec<CellTree>), Refusal>
+    ensures { Gives (λ x. ((x.0.items, map cell_of x.1.items), cursor.new)) result (state.read cursor.old) }
+{
+    cursor.keyword("stack")?;
+    let stack = values(alloc, cursor)?;
+    cursor.keyword("heap")?;
+    let cells = cells(alloc, cursor)?;
+    Ok((stack, cells))
+}
+
+/// A number, and one of steps.
+#[tactic(auto, unfolding(crate::specs::Grammar::then_step))]
+fn then_step(cursor: &mut Cursor<'_, '_>) -> Result<(u32, u32), Refusal>
+    ensures { Gives (λ x. (x, cursor.new)) result (then_step.read cursor.old) }
+{
+    let first = cursor.number()?;
+    cursor.keyword("step")?;
+    let step = cursor.number()?;
+    Ok((first, step))
+}
+
+#[tactic(auto, unfolding(crate::specs::Grammar::outcome, crate::specs::Grammar::faulting, crate::specs::Grammar::repeating))]
+fn outcome(cursor: &mut Cursor<'_, '_>) -> Result<Outcome, Refusal>
+    ensures { Gives (λ x. (x, cursor.new)) result (outcome.read cursor.old) }
+{
+    if cursor.is_keyword_next("faults") {
+        cursor.keyword("faults")?;
+        cursor.keyword("line")?;
+        let (line, step) = then_step(cursor)?;
+        return Ok(Outcome::Faults { line, step });
+    }
+    cursor.keyword("repeats")?;
+    cursor.keyword("step")?;
+    let (first, again) = then_step(cursor)?;
+    Ok(Outcome::Repeats { first, again })
+}
+
+/// How the run ends, and the last statement's word.
+#[tactic(auto, unfolding(crate::specs::Grammar::ending))]
+fn ending(cursor: &mut Cursor<'_, '_>) -> Result<Outcome, Refusal>
+    ensures { Gives (λ x. (x, cursor.new)) result (ending.read cursor.old) }
+{
+    let outcome = outcome(cursor)?;
+    cursor.symbol(";")?;
+    cursor.keyword("end")?;
+    Ok(outcome)
+}
+
+#[tactic(auto, unfolding(crate::specs::Grammar::body, crate::specs::Grammar::claim, crate::specs::Grammar::course))]
+fn body<'a>(alloc: Global, cursor: &mut Cursor<'_, 'a>) -> Result<RunTree<'a>, Refusal>
+    ensures { Gives (λ x. (run_of x, cursor.new)) result (body.read cursor.old) }
+{
+    cursor.keyword("cyclist")?;
+    cursor.keyword("run")?;
+    first_version(cursor)?;
+    cursor.symbol(";")?;
+    let definitions = definitions(alloc, cursor)?;
+    let lines = lines(alloc, cursor)?;
+    let (line, precondition) = state_claimed(alloc, cursor)?;
+    let (stack, cells) = state(alloc, cursor)?;
+    cursor.keyword("picks")?;
+    let picks = picks(alloc, cursor)?;
+    let outcome = ending(cursor)?;
+    cursor.symbol(";")?;
+    Ok(RunTree {
+        definitions,
+        lines,
+        line,
+        precondition,
+        stack,
+        cells,
+        picks,
+        outcome,
+    })
+}
+
+#[tactic(auto, unfolding(crate::specs::Grammar::run))]
+fn whole_run<'a>(alloc: Global, tokens: &[Token<'a>]) -> Result<RunTree<'a>, Refusal>
+    requires { are_tokens (words tokens.now) ≡ true }
+    ensures { Gives run_of result (read_whole run (words tokens.now)) }
+{
+    let mut cursor = Cursor::new(tokens);
+    let tree = body(alloc, &mut cursor)?;
+    cursor.end()?;
+    if cursor.left() > 0 {
+        return Err(Refusal::Dead(cursor.left()));
+    }
+    Ok(tree)
+}
+
+/// The tree that the tokens spell, or the place of the first token that, with all before it, begins no run file.
+pub fn read_tree<'a>(alloc: Global, tokens: &Tokens<'a>) -> Result<RunTree<'a>, ReadFault>
+    requires few { length tokens.now < 2 ^ 32 }
+    requires words { EndsOnce (map word_of tokens.now) }
+    // What is read is spelled so; a fault stands at the first dead token.
+    ensures exact { Reads run run_of tokens.now result }
+    // What is spelled so is read, unless memory runs out.
+    ensures again { (t : Run) → run.fits t → map word_of tokens.now ≡ run.words t → IsRead run_of t result }
+{
+    match whole_run(alloc, tokens.as_slice()) {
+        Ok(tree) => Ok(tree),
+        Err(refusal) => Err(read_fault(tokens, refusal)),
+    }
+}

@@ -1,0 +1,35 @@
+//! Trees of run files: what a text of the grammar says, with lists of any length and numbers of at most nine digits.
+
+use model_syntax::CellTree;
+use pred_syntax::{DefinitionTree, HeapTree};
+use proof_syntax::LineTree;
+
+/// What a run picks: the address and the fields of a new cell, or whether a free branch jumps.
+#[derive(Drop)]
+pub enum PickTree {
+    Cell(CellTree),
+    Jumps(bool),
+}
+
+/// How a run ends.
+#[derive(Clone, Copy, PartialEq, Eq, Debug)]
+pub enum Outcome {
+    /// The command at this line faults, after so many steps.
+    Faults { line: u32, step: u32 },
+    /// The state after `again` steps is that after `first` steps.
+    Repeats { first: u32, again: u32 },
+}
+
+/// A run file: a claim of termination with its definitions and lines, the values of the stack, the cells of the heap and
+/// the picks in the order of the text, and how the run ends.
+#[derive(Drop)]
+pub struct RunTree<'a> {
+    pub definitions: Vec<DefinitionTree<'a>>,
+    pub lines: Vec<LineTree>,
+    pub line: u32,
+    pub precondition: HeapTree<'a>,
+    pub stack: Vec<u32>,
+    pub cells: Vec<CellTree>,
+    pub picks: Vec<PickTree>,
+    pub outcome: Outcome,
+}
