@@ -1,6 +1,6 @@
 // What goals are offered.
 ghost use Rattle.std.specs.Prelude.{IfOk};
-ghost use Rattle.fo_nodes.specs.Files.{IsFoProof};
+ghost use Rattle.fo_logic.specs.Files.{IsFoProof};
 
 use fo_file::read_fo;
 use fo_formula::{FoFile, FoLink, FoNode, FoReason, FoRule, FoSequent};
@@ -192,7 +192,7 @@ fn go_by_links(nodes: &[FoNode], links: &[FoLink]) -> bool {
 }
 
 fn links_are_offered(alloc: Global, companion: &FoSequent, nodes: &[FoNode]) -> Result<bool, Fail> {
-    let bud = &nodes.first().ok_or("no bud")?.sequent;
+    let bud = &nodes.first().ok_or("no bud")?.judgement;
     if bud.left.as_slice().len() > 32 || bud.right.as_slice().len() > 16 {
         return Err("long".into());
     }
@@ -212,7 +212,7 @@ fn is_offered(alloc: Global, line: Line, file: &FoFile) -> Result<bool, Fail>
     let [first, rest @ ..] = file.nodes.as_slice() else {
         return Err("no goal".into());
     };
-    let goal = &first.sequent;
+    let goal = &first.judgement;
     if goal.left.as_slice().len() > 32 || goal.right.as_slice().len() > 16 {
         return Err("long".into());
     }

@@ -1,6 +1,8 @@
-//! Tests of models, and of first-order texts and offers; there is nothing else here.
+//! Tests of models, of run files, of first-order texts and offers, and of what is said of faults; there is nothing else here.
 #![tactic(auto)]
 
+#[cfg(test)]
+mod explained_tests;
 #[cfg(test)]
 mod fo_file_written_tests;
 #[cfg(test)]
@@ -9,3 +11,5 @@ mod fo_moves_tests;
 mod long_list_tests;
 #[cfg(test)]
 mod model_file_tests;
+#[cfg(test)]
+mod run_file_tests;

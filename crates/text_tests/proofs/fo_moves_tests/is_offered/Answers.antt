@@ -1,5 +1,5 @@
 use Rattle.std.proofs.Common.{arith}
-use Rattle.fo_nodes.proofs.Fine.{cases_few}
+use Rattle.fo_table.proofs.Fine.{cases_few}
 use Rattle.text_tests.proofs.fo_moves_tests.is_offered.Goals as goal
 
 pub rules_after-requires-clause-few_cases : goal.rules_after-requires-clause-few_cases
