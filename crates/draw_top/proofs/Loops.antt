@@ -9,12 +9,15 @@ use Rattle.proof_picture.specs.declared.picture.NodeBox.{NodeBox}
 use Rattle.proof_picture.specs.Pictures.{Box, box_of}
 use Rattle.draw_top.specs.Drawings.{arrow_edges, box_edges, box_node, box_nodes}
 
--- two attributes were added
+-- two members were added
+pub two_pushed : {A B : Type 0} (view : A → B) (old mid new : List A) (a b : A) (x y : B) → mid ≡ old ++ a ∷ [] → new ≡ mid ++ b ∷ [] → view a ≡ x → view b ≡ y → map view new ≡ map view old ++ x ∷ y ∷ []
+two_pushed view old mid new a b x y first second one other =
+    ap (map view) (second ∙ ap (λ s. s ++ b ∷ []) first ∙ append_assoc old (a ∷ []) (b ∷ []))
+    ∙ map-append view old (a ∷ b ∷ [])
+    ∙ (λ i. map view old ++ one i ∷ other i ∷ [])
+
 pub two_more : (old mid new : List Attribute) (a b : Attribute) (x y : Set) → mid ≡ old ++ a ∷ [] → new ≡ mid ++ b ∷ [] → set_of a ≡ x → set_of b ≡ y → map set_of new ≡ map set_of old ++ x ∷ y ∷ []
-two_more old mid new a b x y first second one other =
-    ap (map set_of) (second ∙ ap (λ s. s ++ b ∷ []) first ∙ append_assoc old (a ∷ []) (b ∷ []))
-    ∙ map-append set_of old (a ∷ b ∷ [])
-    ∙ (λ i. map set_of old ++ one i ∷ other i ∷ [])
+two_more = two_pushed set_of
 
 -- a box was drawn, and the rest is still to be
 pub one_box : (vertices pushed : List Vertex) (arrows added : List Arrow) (vertex : Vertex) (b : NodeBox) (rest next all : List NodeBox) (every : List Box) →

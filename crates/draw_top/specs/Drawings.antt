@@ -99,9 +99,12 @@ box_edges v (b ∷ bs) = arrow_edges v b.arrows ++ box_edges (suc v) bs
 
 -- ---- the whole
 
+abbrev pub note_text : List ℕ
+note_text = codes "limit states: not checked, so nothing stands in red"
+
 -- that no verdict is known stands below the picture
 abbrev pub note_sets : Bool → List Set
-note_sets true = set_to (codes "label") (codes "limit states: not checked, so nothing stands in red") ∷ []
+note_sets true = set_to (codes "label") note_text ∷ []
 note_sets false = []
 
 abbrev pub whole_sets : Bool → List Set

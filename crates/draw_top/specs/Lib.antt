@@ -4,5 +4,6 @@ pub mod Reading
 pub mod Texts
 pub mod Drawings
 pub mod Folds
+pub mod Titles
 pub mod Words
 pub mod Answers

@@ -12,6 +12,9 @@ use cyc_memory::OutOfMemory;
 use proof_picture::Picture;
 use std::alloc::Global;
 
+/// What a picture says where no verdict is known.
+pub const NOTE: &str = "limit states: not checked, so nothing stands in red";
+
 /// What is set for the whole picture; where no verdict is known the picture says so below.
 pub fn whole(alloc: Global, is_large: bool) -> Result<Vec<Attribute>, OutOfMemory>
     ensures { IfOk result (λ a. map set_of a.items ≡ whole_sets is_large) }
@@ -20,10 +23,7 @@ pub fn whole(alloc: Global, is_large: bool) -> Result<Vec<Attribute>, OutOfMemor
     sets.push(set("ordering", "out"))?;
     sets.push(set("fontname", "sans-serif"))?;
     if is_large {
-        sets.push(set(
-            "label",
-            "limit states: not checked, so nothing stands in red",
-        ))?;
+        sets.push(set("label", NOTE))?;
     }
     Ok(sets)
 }

@@ -17,10 +17,12 @@ mod escapes;
 mod folds;
 mod graph;
 mod laws;
+mod named;
 mod nodes;
 mod program;
 mod sets;
 mod text;
+mod titles;
 mod words;
 mod writing;
 

@@ -1,5 +1,5 @@
 -- How many boxes there are.
-use Rattle.std.proofs.Common.{◌≡◌, ◌≤◌, ℕ, suc, Bool, List, [], ◌∷◌, length, refl, ap, arith}
+use Rattle.std.proofs.Common.{◌≡◌, ◌≤◌, ℕ, suc, Bool, List, [], ◌∷◌, length, map, refl, ap, arith}
 use Rattle.std.proofs.lemmas.List.{length-map}
 use Rattle.proof_check.specs.Verdicts.{Verdict}
 use Rattle.proof_file.specs.declared.file.ProofFile.{ProofFile}
@@ -21,11 +21,14 @@ rows_length : (f : ProofFile) (refused : ℕ → ℕ → Bool) (v : ℕ) (ns : L
 rows_length f refused v [] = refl
 rows_length f refused v (n ∷ ns) = ap suc (rows_length f refused (suc v) ns)
 
--- a picture has no more boxes than a file may have nodes
-pub picture_few : (f : ProofFile) (verdict : Verdict) (p : Picture) → IsPicture f verdict p → length p.boxes.items ≤ 20000
-picture_few f verdict p is =
+-- a picture has no more boxes than a file may have nodes, whatever its labels are
+pub boxes_with_few : (f : ProofFile) (verdict : Verdict) (p : Picture) (labels : List (List LabelPart)) → map box_of p.boxes.items ≡ boxes_from verdict 0 labels (drawn_rows f verdict) → length p.boxes.items ≤ 20000
+boxes_with_few f verdict p labels is =
     let rows = drawn_rows f verdict in
-    let few = boxes_few verdict 0 (labels_with f (table 0 rows)) rows in
+    let few = boxes_few verdict 0 labels rows in
     let long : length rows ≡ length f.nodes = rows_length f (has_step (refused_steps verdict)) 0 f.nodes in
     let nodes = f.few in
-    omega (arith, length-map p.boxes.items box_of, ap length is.boxes, few, long, nodes)
+    omega (arith, length-map p.boxes.items box_of, ap length is, few, long, nodes)
+
+pub picture_few : (f : ProofFile) (verdict : Verdict) (p : Picture) → IsPicture f verdict p → length p.boxes.items ≤ 20000
+picture_few f verdict p is = boxes_with_few f verdict p (labels_with f (table 0 (drawn_rows f verdict))) is.boxes

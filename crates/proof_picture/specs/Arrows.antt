@@ -24,13 +24,14 @@ pub record Drawn : Type 0 where
 abbrev pub drawn_of : Arrow → Drawn
 drawn_of a = record { place = a.place; target = a.target; is_link = a.is_link; is_refused = a.is_refused; pairs = a.pairs }
 
--- the edges of a node, and how many spatial atoms its antecedent has
+-- the edges of a node, how many spatial atoms its antecedent has, and how many premises its reason leaves
 pub record DrawnRow : Type 0 where
   pub atoms : ℕ
+  pub premises : ℕ
   pub arrows : List Drawn
 
 abbrev pub row_of : Row → DrawnRow
-row_of r = record { atoms = r.atoms; arrows = map drawn_of r.arrows.items }
+row_of r = record { atoms = r.atoms; premises = r.premises; arrows = map drawn_of r.arrows.items }
 
 -- the premises of an answer, none of a fault
 abbrev pub premises_in : Answer → List Premise
@@ -58,16 +59,20 @@ arrows_from count link refused ps i (u ∷ us) =
     then record { place = i; target = u; is_link = link; is_refused = refused i; pairs = pairs_at ps i } ∷ arrows_from count link refused ps (suc i) us
     else arrows_from count link refused ps (suc i) us
 
--- the edges of node v: to its premises in order, or to its companion
-abbrev pub arrows_at : ProofFile → (ℕ → ℕ → Bool) → ℕ → FileNode → List Drawn
-arrows_at f refused v n =
-    arrows_from (length f.nodes) (is_link n.reason) (refused v) (premises_at f n) 0 (targets_of n.premises n.reason)
+-- the edges of node v, whose reason leaves these premises: to the nodes of its premises in order, or to its companion
+abbrev pub arrows_with : ProofFile → (ℕ → ℕ → Bool) → ℕ → FileNode → List Premise → List Drawn
+arrows_with f refused v n ps =
+    arrows_from (length f.nodes) (is_link n.reason) (refused v) ps 0 (targets_of n.premises n.reason)
+
+abbrev pub row_at : ProofFile → (ℕ → ℕ → Bool) → ℕ → FileNode → DrawnRow
+row_at f refused v n =
+    let ps = premises_at f n in
+    record { atoms = length (antecedent n.judgement).spatial; premises = length ps; arrows = arrows_with f refused v n ps }
 
 -- the edges of the nodes from v on
 abbrev pub rows_from : ProofFile → (ℕ → ℕ → Bool) → ℕ → List FileNode → List DrawnRow
 rows_from f refused v [] = []
-rows_from f refused v (n ∷ ns) =
-    record { atoms = length (antecedent n.judgement).spatial; arrows = arrows_at f refused v n } ∷ rows_from f refused (suc v) ns
+rows_from f refused v (n ∷ ns) = row_at f refused v n ∷ rows_from f refused (suc v) ns
 
 abbrev pub rows_of : ProofFile → (ℕ → ℕ → Bool) → List DrawnRow
 rows_of f refused = rows_from f refused 0 f.nodes

@@ -48,13 +48,20 @@ abbrev pub same : Bool → Bool → Bool
 same true b = b
 same false b = not b
 
+-- a prime belongs to the name before it, as in a problem
+abbrev pub is_prime : List ℕ → Bool
+is_prime text = bytes_eq text (codes "'")
+
 -- what stands before the word that comes next, where the words before it stand out or not
 abbrev pub gap_before : Place → Bool → List ℕ → Gap
-gap_before place bold text = if ends_line place text then gaps.Line else (if same (stands_out place text) bold then gaps.Within else gaps.Space)
+gap_before place bold text =
+    if ends_line place text then gaps.Line
+    else (if is_prime text then gaps.Joined else (if same (stands_out place text) bold then gaps.Within else gaps.Space))
 
 abbrev pub signs_behind : Place → Gap → ℕ
 signs_behind place gaps.Line = 0
 signs_behind place gaps.Within = place.signs
+signs_behind place gaps.Joined = place.signs
 signs_behind place gaps.Space = place.signs
 
 -- a star leads to the next atom, and a line after the antecedent has none
@@ -87,11 +94,13 @@ blank_layout flags = record { pieces = []; written = blank; bold = false; place 
 -- the pieces and the words of the next one, before a word
 abbrev pub pieces_behind : Laid → Gap → List LabelPart
 pieces_behind l gaps.Within = l.pieces
+pieces_behind l gaps.Joined = l.pieces ++ Words l.bold l.written.bytes ∷ []
 pieces_behind l gaps.Space = (l.pieces ++ Words l.bold l.written.bytes ∷ []) ++ Space ∷ []
 pieces_behind l gaps.Line = (l.pieces ++ Words l.bold l.written.bytes ∷ []) ++ Line ∷ []
 
 abbrev pub written_behind : Laid → Gap → Written
 written_behind l gaps.Within = l.written
+written_behind l gaps.Joined = blank
 written_behind l gaps.Space = blank
 written_behind l gaps.Line = blank
 

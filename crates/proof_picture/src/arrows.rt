@@ -4,7 +4,7 @@ ghost use Rattle.std.specs.Option.{option_copied};
 ghost use Rattle.node_reasons.specs.Graphs.{Node};
 ghost use Rattle.node_reasons.specs.Answers.{companion_in, targets_of as target_numbers};
 ghost use Rattle.proof_file.specs.Links.{is_link as links};
-ghost use Rattle.proof_picture.specs.Arrows.{arrows_at, drawn_of, pairs_at, premises_at, row_of, rows_of};
+ghost use Rattle.proof_picture.specs.Arrows.{arrows_with, drawn_of, pairs_at, premises_at, row_at, row_of, rows_of};
 ghost use Rattle.proof_picture.specs.Red.{step_in};
 
 use crate::steps::RefusedSteps;
@@ -27,10 +27,12 @@ pub struct Arrow {
     pub pairs: Pairs,
 }
 
-/// The edges of a node, and how many spatial atoms its antecedent has.
+/// The edges of a node, how many spatial atoms its antecedent has, and how many premises its reason leaves; a link leaves its
+/// companion, and a reason with a fault none.
 #[derive(Drop)]
 pub struct Row {
     pub atoms: usize,
+    pub premises: usize,
     pub arrows: Vec<Arrow>,
 }
 
@@ -99,17 +101,18 @@ fn targets_of(node: &FileNode) -> &[u32]
     }
 }
 
-/// The edges of node `v`: one for each number that is a node's.
+/// The edges of node `v`, whose reason leaves these premises: one for each number that is a node's.
 fn arrows_of(
     alloc: Global,
     file: &ProofFile,
     steps: &RefusedSteps,
     v: usize,
     node: &FileNode,
+    premises: &[Premise],
 ) -> Result<Vec<Arrow>, OutOfMemory>
-    ensures { IfOk result (λ a. map drawn_of a.items ≡ arrows_at file.now (step_in steps.now.steps.keys) v node.now) }
+    ensures { IfOk result (λ a. map drawn_of a.items
+        ≡ arrows_with file.now (step_in steps.now.steps.keys) v node.now premises.now) }
 {
-    let premises = premises_of(alloc, file, node)?;
     let nodes = file.nodes.as_slice();
     let is_link = is_link(&node.reason);
     let mut arrows = Vec::new(alloc);
@@ -120,11 +123,32 @@ fn arrows_of(
                 target: *target,
                 is_link,
                 is_refused: steps.has(v, place),
-                pairs: pairs_to(alloc, &premises, place)?,
+                pairs: pairs_to(alloc, premises, place)?,
             })?;
         }
     }
     Ok(arrows)
+}
+
+/// The row of node `v`.
+fn row_of_node(
+    alloc: Global,
+    file: &ProofFile,
+    steps: &RefusedSteps,
+    v: usize,
+    node: &FileNode,
+) -> Result<Row, OutOfMemory>
+    ensures { IfOk result (λ r. row_of r ≡ row_at file.now (step_in steps.now.steps.keys) v node.now) }
+{
+    let left = premises_of(alloc, file, node)?;
+    let atoms = antecedent(&node.judgement).spatial().len();
+    let premises = left.len();
+    let arrows = arrows_of(alloc, file, steps, v, node, left.as_slice())?;
+    Ok(Row {
+        atoms,
+        premises,
+        arrows,
+    })
 }
 
 /// The edges of all nodes.
@@ -133,9 +157,7 @@ pub fn rows(alloc: Global, file: &ProofFile, steps: &RefusedSteps) -> Result<Vec
 {
     let mut rows = Vec::new(alloc);
     for (v, node) in file.nodes.as_slice().iter().enumerate() {
-        let atoms = antecedent(&node.judgement).spatial().len();
-        let arrows = arrows_of(alloc, file, steps, v, node)?;
-        rows.push(Row { atoms, arrows })?;
+        rows.push(row_of_node(alloc, file, steps, v, node)?)?;
     }
     Ok(rows)
 }

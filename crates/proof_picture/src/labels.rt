@@ -1,5 +1,5 @@
 //! The labels of the nodes of a file.
-ghost use Rattle.std.specs.Prelude.{◌≡◌, IfOk, map, ◌<◌, ◌-◌};
+ghost use Rattle.std.specs.Prelude.{◌≡◌, ◌≤◌, ◌-◌, IfOk, map, length, drop, take};
 ghost use Rattle.cyc_lex.specs.Spelling.{Spells};
 ghost use Rattle.proof_syntax.specs.Grammar.{node as node_syntax, body};
 ghost use Rattle.proof_syntax.specs.Trees.{node_of};
@@ -10,7 +10,7 @@ ghost use Rattle.proof_picture.specs.Pieces.{piece_of, pieces_of};
 
 use crate::layout::lay_out;
 use crate::piece::{Label, Piece};
-use cyc_lex::{Tokens, tokens};
+use cyc_lex::{Token, Tokens, tokens};
 use cyc_memory::OutOfMemory;
 use heap_syntax::Version;
 use proof_file::ProofFile;
@@ -21,7 +21,7 @@ use std::alloc::Global;
 use std::collections::VecDeque;
 
 /// The tokens of a text that was written. A text of 4 GB would be refused as out of memory.
-fn written_tokens(alloc: Global, text: &[u8]) -> Result<Tokens<'_>, OutOfMemory>
+pub fn written_tokens(alloc: Global, text: &[u8]) -> Result<Tokens<'_>, OutOfMemory>
     ensures { IfOk result (λ t. IsTokensOf text.now t) }
 {
     if text.len() >= u32::MAX as usize {
@@ -35,7 +35,7 @@ fn written_tokens(alloc: Global, text: &[u8]) -> Result<Tokens<'_>, OutOfMemory>
 }
 
 /// The text of a file that has this node alone, and no numbers of premises.
-fn text_alone(alloc: Global, node: NodeTree<'_>) -> Result<Vec<u8>, OutOfMemory>
+pub fn text_alone(alloc: Global, node: NodeTree<'_>) -> Result<Vec<u8>, OutOfMemory>
     requires { node_syntax.fits (node_of node) }
     ensures { IfOk result (λ bytes. Spells bytes.items (body.words (alone (node_of node.entry)))) }
 {
@@ -54,21 +54,29 @@ fn text_alone(alloc: Global, node: NodeTree<'_>) -> Result<Vec<u8>, OutOfMemory>
     write_tree(alloc, &tree)
 }
 
-/// The label of a node: the words between the heading `cyclist proof 1; node` and `; end;`, laid out.
+/// The words of the node in the text of a file that has it alone: those between the heading `cyclist proof 1; node` and
+/// `; end;`.
+pub fn statement<'t, 'a>(tokens: &'t [Token<'a>]) -> &'t [Token<'a>]
+    requires { 9 ≤ length tokens.now }
+    ensures { result.now ≡ drop 5 (take (length tokens.now - 4) tokens.now) }
+{
+    let (words, _) = tokens.split_at(tokens.len() - 4);
+    let (_, words) = words.split_at(5);
+    words
+}
+
+/// The label of a node: its words, laid out.
 fn label_of(alloc: Global, node: NodeTree<'_>, flags: &[bool]) -> Result<Vec<Piece>, OutOfMemory>
     requires { node_syntax.fits (node_of node) }
     ensures { IfOk result (λ v. map piece_of v.items ≡ label_of_node flags.now (node_of node.entry)) }
 {
     let text = text_alone(alloc, node)?;
     let tokens = written_tokens(alloc, &text)?;
-    let words = tokens.as_slice();
-    let (words, _) = words.split_at(words.len() - 4);
-    let (_, words) = words.split_at(5);
-    lay_out(alloc, words, flags)
+    lay_out(alloc, statement(tokens.as_slice()), flags)
 }
 
 /// The flags of a node, none past the end.
-fn flags_at(flags: &VecDeque<Vec<bool>>, v: usize) -> &[bool]
+pub fn carried_at(flags: &VecDeque<Vec<bool>>, v: usize) -> &[bool]
     ensures { result.now ≡ flags_of_node (map flags_of flags.now.items) v }
 {
     match flags.get(v) {
@@ -88,7 +96,7 @@ fn labels_of_trees(
 {
     let mut labels = Vec::new(alloc);
     for node in nodes {
-        let pieces = label_of(alloc, node, flags_at(flags, labels.len()))?;
+        let pieces = label_of(alloc, node, carried_at(flags, labels.len()))?;
         labels.push(Label { pieces })?;
     }
     Ok(labels)

@@ -67,15 +67,14 @@ impl<'a> Layout<'a> {
         let gap = spot.gap(bold, token.text);
         let next = spot.stands_out(token.text);
         let spot = spot.after(gap, token.text);
-        let between = match gap {
-            Gap::Within => None,
-            Gap::Space => Some(Piece::Space),
-            Gap::Line => Some(Piece::Line),
-        };
-        if let Some(between) = between {
+        if let Gap::Joined | Gap::Space | Gap::Line = gap {
             pieces.push(Piece::Words(bold, writer.finish()))?;
-            pieces.push(between)?;
             writer = WordWriter::new(alloc);
+        }
+        match gap {
+            Gap::Within | Gap::Joined => {}
+            Gap::Space => pieces.push(Piece::Space)?,
+            Gap::Line => pieces.push(Piece::Line)?,
         }
         write_word(&mut writer, token)?;
         Ok(Layout {

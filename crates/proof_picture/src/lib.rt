@@ -12,7 +12,9 @@ mod spot;
 mod steps;
 
 pub use arrows::{Arrow, Row};
+pub use carried::atoms_carried;
 pub use cyc_memory::OutOfMemory;
-pub use labels::labels_of_file;
-pub use picture::{NodeBox, Picture, picture_of};
+pub use labels::{carried_at, labels_of_file, statement, text_alone, written_tokens};
+pub use layout::lay_out;
+pub use picture::{NodeBox, Picture, picture_of, picture_with, rows_for};
 pub use piece::{Label, Piece};

@@ -84,7 +84,7 @@ fn boxes(
 }
 
 /// The edges of all nodes, in red those that the verdict refuses.
-fn rows_for(alloc: Global, file: &ProofFile, verdict: &Verdict) -> Result<Vec<Row>, OutOfMemory>
+pub fn rows_for(alloc: Global, file: &ProofFile, verdict: &Verdict) -> Result<Vec<Row>, OutOfMemory>
     ensures { IfOk result (λ v. map row_of v.items ≡ drawn_rows file.now verdict.now) }
 {
     let steps = RefusedSteps::of(alloc, verdict)?;
@@ -99,6 +99,22 @@ fn labels_for(alloc: Global, file: &ProofFile, rows: &[Row]) -> Result<Vec<Label
     labels_of_file(alloc, file, &flags)
 }
 
+/// The picture with these labels and edges of nodes, about which this is said.
+pub fn picture_with(
+    alloc: Global,
+    verdict: &Verdict,
+    labels: Vec<Label>,
+    rows: Vec<Row>,
+) -> Result<Picture, OutOfMemory>
+    ensures boxes { IfOk result (λ p. map box_of p.boxes.items
+        ≡ boxes_from verdict.now 0 (map pieces_of labels.items) (map row_of rows.items)) }
+    ensures large { IfOk result (λ p. p.is_large ≡ has_many_states verdict.now) }
+{
+    let boxes = boxes(alloc, verdict, labels, rows)?;
+    let is_large = is_large(verdict);
+    Ok(Picture { boxes, is_large })
+}
+
 /// The picture of a file about which this is said: in red, the fault of a node, or the steps of a path.
 pub fn picture_of(
     alloc: Global,
@@ -109,7 +125,5 @@ pub fn picture_of(
 {
     let rows = rows_for(alloc, file, verdict)?;
     let labels = labels_for(alloc, file, &rows)?;
-    let boxes = boxes(alloc, verdict, labels, rows)?;
-    let is_large = is_large(verdict);
-    Ok(Picture { boxes, is_large })
+    picture_with(alloc, verdict, labels, rows)
 }

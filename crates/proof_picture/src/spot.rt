@@ -1,13 +1,14 @@
 //! How far the words of a node have come, and what stands before the next.
 ghost use Rattle.std.specs.Prelude.{◌≡◌};
-ghost use Rattle.proof_picture.specs.Layout.{after_word as spot_after, begins_line as starts_line, first_flag, flags_behind, gap_before, other_flags, signs_with, stands_out as is_bold, start};
+ghost use Rattle.proof_picture.specs.Layout.{after_word as spot_after, begins_line as starts_line, first_flag, flags_behind, gap_before, is_prime as is_joined, other_flags, signs_with, stands_out as is_bold, start};
 ghost use Rattle.proof_picture.specs.Places.{place_of};
 
-/// What stands before a word: nothing that is not between words of a piece, a space where another piece begins, or the
-/// end of the line.
+/// What stands before a word: nothing that is not between words of a piece, nothing where another piece begins, a space where
+/// one does, or the end of the line.
 #[derive(Clone, Copy)]
 pub enum Gap {
     Within,
+    Joined,
     Space,
     Line,
 }
@@ -27,6 +28,13 @@ fn begins_line(text: &str) -> bool
     ensures { result ≡ starts_line text.now }
 {
     text == "|-" || text == "or" || text == "by"
+}
+
+/// A prime belongs to the name before it, as in a problem.
+fn is_prime(text: &str) -> bool
+    ensures { result ≡ is_joined text.now }
+{
+    text == "'"
 }
 
 fn first(flags: &[bool]) -> bool
@@ -86,6 +94,9 @@ impl<'a> Spot<'a> {
             || (self.signs > 52 && self.comma)
         {
             return Gap::Line;
+        }
+        if is_prime(text) {
+            return Gap::Joined;
         }
         if self.stands_out(text) == bold {
             Gap::Within

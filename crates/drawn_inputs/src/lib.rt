@@ -1,0 +1,10 @@
+//! What `draw` is given: a proof, and behind it in the same text the problem that was proved, or nothing. Where the problem
+//! begins, and whether the proof is one of its goal.
+#![tactic(auto)]
+
+mod fits;
+mod parts;
+
+pub use cyc_memory::OutOfMemory;
+pub use fits::{Misfit, misfit_of};
+pub use parts::{Start, parts_of};

@@ -1,0 +1,3 @@
+mod Marking
+mod Keeping
+mod Statements

@@ -1,0 +1,2 @@
+mod Inserting
+mod Numbered
