@@ -1,7 +1,5 @@
--- The tree of a counter-model of a problem's goal fits the grammar of model files, and has no flaw.
-use Rattle.std.proofs.Common.{◌≡◌, ℕ, suc, ◌+◌, ◌<◌, ◌≤◌, ◌^◌, List, [], ◌∷◌, length, map, get_or, Bool, Some, None, refl, sym, ap, subst, inl, inr, arith}
-use Rattle.std.specs.Prelude.{nat_le}
-use Rattle.std.proofs.lemmas.Bool.{and_from, le-leb, lt-leb, ne_eqb}
+-- The first counter-model of a size may stand in a model file.
+use Rattle.std.proofs.Common.{◌≡◌, ℕ, ◌<◌, ◌≤◌, ◌^◌, List, [], ◌∷◌, length, Some, subst, inl, inr, arith}
 use Rattle.std.specs.FinMap.{entries, len, len-entries}
 use Rattle.heap_formula.specs.declared.judgements.Judgement.{Judgement}
 use Rattle.heap_formula.specs.declared.judgements.Judgement.TheVariants.{Entail}
@@ -14,47 +12,16 @@ use Rattle.heap_formula.specs.Words.{Each, OneOf}
 use Rattle.heap_formula.specs.Values.{Stack}
 use Rattle.heap_formula.specs.Cells.{Cells, cell_at}
 use Rattle.format_limits.specs.Limits.{HasFields, IsHeapWithin, IsJudgementWithin, IsCaseWithin, IsDefinitionWithin}
-use Rattle.format_limits.proofs.Heaps.{small}
-use Rattle.cyc_lex.specs.declared.fault.What.TheVariants.{Stack as StackValues}
-use Rattle.cyc_grammar.specs.Syntax.{Class, one}
-use Rattle.cyc_grammar.specs.Classes.{number}
-use Rattle.heap_syntax.specs.Words.{comma, semicolon, closing}
-use Rattle.heap_reader.specs.Flaws.{over_if}
-use Rattle.heap_reader.proofs.Fitting.{most_fits}
-use Rattle.pred_syntax.specs.Grammar.{definitions}
-use Rattle.model_syntax.specs.Grammar.{numbers, values, cell, some_cell, cells1, cells, question, state, body, model, to_cell}
-use Rattle.model_file.specs.Flaws.{stack_flaw, cells_flaw, model_flaw, definitions_flaw, ask_flaw, first_value, first_cell, first_atom}
-use Rattle.model_file.specs.Written.{cells_tree, tree_of}
-use Rattle.problem_files.proofs.Lists.{none_later, listed_fits}
-use Rattle.problem_files.proofs.Names.{HaveFreeNames, HaveOwnNames, few_parameters}
-use Rattle.problem_files.proofs.Heaps.{any_heap_fits}
+use Rattle.model_file.specs.Small.{IsShortNumber}
 use Rattle.problem_files.proofs.ProblemKeeps.{problem_keeps}
 use Rattle.formula_reader.specs.declared.problem.Problem.{Problem}
-use Rattle.heap_syntax.specs.Versions.{most_spatial}
-use Rattle.problem_files.proofs.Judgements.{node_heap_flawless}
-use Rattle.problem_files.proofs.DefinitionTrees.{definitions_fit, definitions_flawless}
+use Rattle.counter_files.specs.States.{IsPlainCell, IsPlainState}
+use Rattle.counter_files.proofs.PlainCells.{all_entries}
 use Rattle.counter_model.specs.Sizes as sizes
 use Rattle.counter_model.specs.Sizes.{IsWidth, IsWidthIn}
 use Rattle.counter_model.specs.FirstCounter.{HasSize}
 use Rattle.disprove_answers.proofs.FewCells.{few_cells}
-use Rattle.model_file.proofs.Parts.{IsFine}
-use Rattle.model_file.proofs.SortedCells.{cell_found, cells_right}
 use Rattle.formula_facts.proofs.AllMembers.{each_imply}
-
--- ---- version 1 is within the limits of version 2
-
-heap_raised : (most : ℕ) (ds : List Definition) (a : SymbolicHeap) → most ≤ 32 → IsHeapWithin most ds a → IsHeapWithin 32 ds a
-heap_raised most ds a l w =
-    let s = small most ds a w in
-    let p = s.pures in
-    let q = s.spatials in
-    record { short = and_from (nat_le (length a.pure) 64) (nat_le (length a.spatial) 32) (le-leb (length a.pure) 64 (omega arith)) (le-leb (length a.spatial) 32 (omega arith)); numbers = w.numbers; known = w.known; fields = w.fields }
-
-case_raised : (most : ℕ) (ds : List Definition) (arity : ℕ) → most ≤ 32 → (c : SymbolicHeap) → IsCaseWithin most ds arity c → IsCaseWithin 32 ds arity c
-case_raised most ds arity l c w = record { heap = heap_raised most ds c l w.heap; parameters = w.parameters; locals = w.locals }
-
-definition_raised : (most : ℕ) (ds : List Definition) → most ≤ 32 → (d : Definition) → IsDefinitionWithin most ds d → IsDefinitionWithin 32 ds d
-definition_raised most ds l d w = record { arity = w.arity; some_case = w.some_case; few = w.few; cases = each_imply (IsCaseWithin most ds d.arity) (IsCaseWithin 32 ds d.arity) (case_raised most ds d.arity l) d.cases w.cases }
 
 -- ---- cells have at most eight fields
 
@@ -75,106 +42,31 @@ width_few most count ds a bs k w j (inl o) =
     one_few (IsDefinitionWithin most ds) (λ d. OneOf (IsWidthIn k) d.cases) (k ≤ 8) (λ d x p. one_few (IsCaseWithin most ds d.arity) (IsWidthIn k) (k ≤ 8) (λ c y q. heap_few most ds k c y.heap q) d.cases x.cases p) ds w o
 width_few most count ds a bs k w j (inr o) = one_few (IsHeapWithin most ds) (IsWidthIn k) (k ≤ 8) (heap_few most ds k) (a ∷ bs) j.heaps o
 
--- ---- numbers and cells that fit
+-- ---- the state
 
-map_same : (ns : List ℕ) → map (λ n. n) ns ≡ ns
-map_same [] = refl
-map_same (n ∷ ns) = ap (λ ms. n ∷ ms) (map_same ns)
-
-numbers_fit : (behind : Class (Unit {0})) (ns : List ℕ) → 0 < length ns → Each (λ n. n < 10 ^ 9) ns → (numbers behind).fits ns
-unfolding numbers
-numbers_fit behind ns some a = subst (numbers behind).fits (map_same ns) (listed_fits (one number) (λ n. n) 0 comma behind ns some a)
-
-values_fit : (ns : List ℕ) → Each (λ n. n < 10 ^ 9) ns → values.fits ns
-unfolding values
-values_fit [] a = (tt, tt)
-values_fit (n ∷ ns) a = (tt, numbers_fit semicolon (n ∷ ns) (omega arith) a)
-
--- an address and fields as a model file has them
-record IsPlain (e : ℕ × List ℕ) : Type 0 where
-  pub positive : 0 < e.0
-  pub address : e.0 ≤ 4
-  pub some : 0 < length e.1
-  pub few : length e.1 ≤ 8
-  pub fields : Each (λ v. v ≤ 4) e.1
-
-short : (n : ℕ) → n ≤ 4 → n < 10 ^ 9
+short : (n : ℕ) → n ≤ 4 → IsShortNumber n
 short n l = omega arith
-
-cell_fit : (e : ℕ × List ℕ) → IsPlain e → cell.fits (to_cell e)
-unfolding cell
-cell_fit e p = (tt, (short e.0 p.address, numbers_fit closing e.1 p.some (each_imply (λ v. v ≤ 4) (λ v. v < 10 ^ 9) short e.1 p.fields)))
-
-cells_fit : (es : List (ℕ × List ℕ)) → Each IsPlain es → cells.fits (map to_cell es)
-unfolding cells cells1
-cells_fit [] a = (tt, tt)
-cells_fit (e ∷ es) a = (tt, listed_fits cell to_cell some_cell comma semicolon (e ∷ es) (omega arith) (each_imply IsPlain (λ x. cell.fits (to_cell x)) cell_fit (e ∷ es) a))
-
-fine : (e : ℕ × List ℕ) → IsPlain e → IsFine (to_cell e)
-fine e p = record { positive = ne_eqb e.0 0 (λ z. let q : 0 < e.0 = p.positive in omega (arith, z)); few = p.few }
-
--- ---- the entries of the heap
-
-each_index : {X : Type 0} (P : X → Type 0) (d : X) (xs : List X) → ((i : ℕ) → i < length xs → P (get_or xs i d)) → Each P xs
-each_index P d [] f = tt
-each_index P d (x ∷ xs) f = (f 0 (omega arith), each_index P d xs (λ i l. f (suc i) (omega arith)))
-
-entries_plain : (h : Cells) → ((a : ℕ) (vs : List ℕ) → cell_at h a ≡ Some vs → IsPlain (a, vs)) → Each IsPlain (entries h)
-entries_plain h f = each_index IsPlain (0, []) (entries h) (λ i l. f (get_or (entries h) i (0, [])).0 (get_or (entries h) i (0, [])).1 (cell_found h i (0, []) l))
-
--- ---- the tree of a counter-model
-
-module _ (n most count : ℕ) (ds : List Definition) (a : SymbolicHeap) (bs : List SymbolicHeap) (s : Stack) (h : Cells) (size : n ≤ 4) (low : most ≤ 32) (w : Each (IsDefinitionWithin most ds) ds) (j : IsJudgementWithin most ds count (Entail a bs)) (few : judgement_bound (Entail a bs) ≤ 8) (z : HasSize ds a bs n s h) where
-  plain : Each IsPlain (entries h)
-  plain = entries_plain h (λ q vs e.
-      let c = z.cells q vs e in
-      let k = z.addresses q vs e in
-      let p : 0 < q = k.0 in
-      let l : q ≤ n = k.1 in record {
-        positive = p;
-        address = omega arith;
-        some = c.positive;
-        few = width_few most count ds a bs (length vs) w j c.count;
-        fields = each_imply (λ v. v ≤ n) (λ v. v ≤ 4) (λ v m. omega arith) vs c.fields;
-      })
-
-  raised : Each (IsDefinitionWithin 32 ds) ds
-  raised = each_imply (IsDefinitionWithin most ds) (IsDefinitionWithin 32 ds) (definition_raised most ds low) ds w
-
-  few_entries : length (entries h) ≤ 16
-  few_entries =
-      let f : len h ≤ n = few_cells n h (record { addresses = z.addresses; fields = λ q vs e. (z.cells q vs e).fields }) in
-      let k : len h ≡ length (entries h) = len-entries h in
-      omega arith
-
-  pub tree_fits : HaveFreeNames ds → model.fits (tree_of ds s h a)
-  unfolding model body state question definitions
-  tree_fits free =
-      (tt, (definitions_fit 32 ds free raised, ((values_fit s (each_imply (λ v. v ≤ n) (λ v. v < 10 ^ 9) (λ v m. short v (omega arith)) s z.entries), cells_fit (entries h) plain), any_heap_fits 32 ds free a (heap_raised most ds a low j.heaps.0))))
-
-  pub tree_flawless : HaveOwnNames ds → length ds ≤ 4096 → model_flaw (tree_of ds s h a) ≡ None
-  tree_flawless own count_few =
-      let m = tree_of ds s h a in
-      let long : length s ≡ judgement_bound (Entail a bs) = z.stack in
-      let first : definitions_flaw m ≡ None = definitions_flawless 32 ds count_few own raised in
-      let second : stack_flaw (first_value m) s ≡ None = ap (λ (b : Bool). over_if b StackValues (first_value m + 131070)) (lt-leb 65536 (length s) (omega arith)) in
-      let third : cells_flaw (first_cell m) (cells_tree h) ≡ None = cells_right h (first_cell m) (each_imply IsPlain (λ e. IsFine (to_cell e)) fine (entries h) plain) few_entries in
-      let fourth : ask_flaw m ≡ None = node_heap_flawless 32 ds own (few_parameters 32 ds ds raised) a (heap_raised most ds a low j.heaps.0) (first_atom m) in
-      none_later (definitions_flaw m) _ first (none_later (stack_flaw (first_value m) s) _ second (none_later (cells_flaw (first_cell m) (cells_tree h)) (ask_flaw m) third fourth))
-
--- ---- of a problem
-
-pub problem_low : (p : Problem) → p.defs.most ≤ 32
-problem_low p = let l : most_spatial p.version ≤ 32 = most_fits p.version in let e : p.defs.most ≡ most_spatial p.version = p.limit in omega arith
 
 module _ (n : ℕ) (p : Problem) (a : SymbolicHeap) (bs : List SymbolicHeap) (s : Stack) (h : Cells) (size : n ≤ 4) (goal : p.goal ≡ Entail a bs) (few : judgement_bound (Entail a bs) ≤ 8) (z : HasSize p.defs.list a bs n s h) where
   judged : IsJudgementWithin p.defs.most p.defs.list (length p.program) (Entail a bs)
   judged = subst (λ (g : Judgement). IsJudgementWithin p.defs.most p.defs.list (length p.program) g) goal (problem_keeps p).judgement
 
-  pub file_fits : (ds : List Definition) (ask : SymbolicHeap) → ds ≡ p.defs.list → ask ≡ a → model.fits (tree_of ds s h ask)
-  file_fits ds ask d e =
-      subst (λ (x : SymbolicHeap). model.fits (tree_of ds s h x)) (sym e) (subst (λ (x : List Definition). model.fits (tree_of x s h a)) (sym d) (tree_fits n p.defs.most (length p.program) p.defs.list a bs s h size (problem_low p) (problem_keeps p).definitions judged few z (problem_keeps p).free))
+  plain : (q : ℕ) (vs : List ℕ) → cell_at h q ≡ Some vs → IsPlainCell (q, vs)
+  plain q vs e =
+      let c = z.cells q vs e in
+      let k = z.addresses q vs e in
+      let l : q ≤ n = k.1 in record {
+        positive = k.0;
+        address = short q (omega arith);
+        some = c.positive;
+        few = width_few p.defs.most (length p.program) p.defs.list a bs (length vs) (problem_keeps p).definitions judged c.count;
+        fields = each_imply (λ v. v ≤ n) IsShortNumber (λ v m. short v (omega arith)) vs c.fields;
+      }
 
-  pub file_flawless : (ds : List Definition) (ask : SymbolicHeap) → ds ≡ p.defs.list → ask ≡ a → model_flaw (tree_of ds s h ask) ≡ None
-  file_flawless ds ask d e =
-      subst (λ (x : SymbolicHeap). model_flaw (tree_of ds s h x) ≡ None) (sym e) (subst (λ (x : List Definition). model_flaw (tree_of x s h a) ≡ None) (sym d) (tree_flawless n p.defs.most (length p.program) p.defs.list a bs s h size (problem_low p) (problem_keeps p).definitions judged few z (problem_keeps p).own (problem_keeps p).few))
+  pub plain_state : IsPlainState s h
+  plain_state = record {
+    short = let l : length s ≡ judgement_bound (Entail a bs) = z.stack in omega arith;
+    values = each_imply (λ v. v ≤ n) IsShortNumber (λ v m. short v (omega arith)) s z.entries;
+    few = let f : len h ≤ n = few_cells n h (record { addresses = z.addresses; fields = λ q vs e. (z.cells q vs e).fields }) in let k : len h ≡ length (entries h) = len-entries h in omega arith;
+    cells = all_entries IsPlainCell h plain;
+  }

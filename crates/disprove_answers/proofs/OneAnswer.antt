@@ -30,7 +30,8 @@ use Rattle.reading_laws.proofs.Readings.{one_problem_reading}
 use Rattle.disprove_answers.specs.Answers.{IsSearched, HasNone, IsWideAnswer, IsPlaceAnswer, IsNoneAnswer, IsModelFile, IsEntailmentAnswer, IsGoalAnswer, IsReadAnswer, IsDisproved, IsRefuted, HasNoCounter, OnEntailment}
 use Rattle.disprove_answers.proofs.Answered.{goal_universal}
 use Rattle.disprove_answers.proofs.OneCounter.{one_counter}
-use Rattle.disprove_answers.proofs.ModelTrees.{file_fits, file_flawless}
+use Rattle.counter_files.proofs.ModelTrees.{file_fits, file_flawless}
+use Rattle.disprove_answers.proofs.ModelTrees.{plain_state}
 
 -- ---- one status and one text
 
@@ -184,8 +185,8 @@ model_holds n input xs is short =
       heap = f.1;
       ask = a;
       limit = refl;
-      fits = file_fits n p a bs f.0 f.1 is.4 r.2.2 searched.few z p.defs.list a refl refl;
-      flawless = file_flawless n p a bs f.0 f.1 is.4 r.2.2 searched.few z p.defs.list a refl refl;
+      fits = file_fits p a bs f.0 f.1 r.2.2 (plain_state n p a bs f.0 f.1 is.4 r.2.2 searched.few z) p.defs.list a refl refl;
+      flawless = file_flawless p a bs f.0 f.1 r.2.2 (plain_state n p a bs f.0 f.1 is.4 r.2.2 searched.few z) p.defs.list a refl refl;
     } in
     let universal = goal_universal p.defs.most (length p.program) p.defs.list p.goal a bs r.2.2 (problem_keeps p).judgement in (
       short,

@@ -1,12 +1,13 @@
-use Rattle.std.proofs.Common.{◌≡◌, ap, ◌∙◌}
-use Rattle.pred_defs.specs.Book.{DefinitionBook}
-use Rattle.disprove_answers.proofs.ModelTrees.{file_fits, file_flawless}
+use Rattle.std.proofs.Common.{◌≡◌, IfOk, subst}
+use Rattle.model_file.specs.Written.{text_of_model}
+use Rattle.disprove_answers.proofs.ModelTrees.{plain_state}
 use Rattle.disprove_answers.proofs.model_files.model_text.Goals as goal
 
-pub invariant_of-model : goal.invariant_of-model
-invariant_of-model c =
-    let same : c.set_most.new.self.list ≡ c.args.problem.now.defs.list = ap (λ (b : DefinitionBook). b.list) c.set_most.ensures ∙ ap (λ (b : DefinitionBook). b.list) c.in_ok-defs.ensures.cases in record {
-      limit = ap (λ (b : DefinitionBook). b.most) c.set_most.ensures;
-      fits = file_fits c.args._cells c.args.problem.now c.args.antecedent.now c.args._disjuncts.now c.args.stack c.args.heap c.requires.size c.requires.goal c.requires.few c.requires.first.size c.set_most.new.self.list c.in_ok-ask.ask same c.in_ok-ask.ensures.cases;
-      flawless = file_flawless c.args._cells c.args.problem.now c.args.antecedent.now c.args._disjuncts.now c.args.stack c.args.heap c.requires.size c.requires.goal c.requires.few c.requires.first.size c.set_most.new.self.list c.in_ok-ask.ask same c.in_ok-ask.ensures.cases;
-    }
+pub plain_model-requires-clause-plain : goal.plain_model-requires-clause-plain
+plain_model-requires-clause-plain c =
+    plain_state c.args._cells c.args.problem.now c.args.antecedent.now c.args.disjuncts.now c.args.stack c.args.heap c.requires.size c.requires.goal c.requires.few c.requires.first.size
+
+pub returns : goal.returns
+returns c =
+    let e = c.in_ok-model.ensures in
+    subst (λ text. IfOk c.write_model.result (λ v. v.items ≡ text)) (λ i. text_of_model (e.definitions i) (e.stack i) (e.heap i) (e.ask i)) c.write_model.ensures.text

@@ -1,0 +1,2 @@
+pub mod ModelTrees
+pub mod PlainCells
