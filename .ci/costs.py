@@ -1,4 +1,4 @@
-"""costs.py PROGRAM CHECKER SEEKER DRAW: what runs of the built programs take. Nothing is timed: allocations, reads and bytes are counted,
+"""costs.py PROGRAM CHECKER SOLVER DRAW: what runs of the built programs take. Nothing is timed: allocations, reads and bytes are counted,
 which come out the same on each machine but for what the C library rounds up. A bound is far above what a right program takes, and
 far below what a program takes that does the work again and again, or keeps what it should give up, or does not do it at all."""
 from concurrent.futures import ThreadPoolExecutor
@@ -12,7 +12,7 @@ sys.path.insert(0, os.path.join(os.path.dirname(os.path.abspath(__file__)), "tex
 from calls import Counts, library, name_of, ran, top
 import limits
 
-program, checker, seeker, draw = map(os.path.abspath, sys.argv[1:5])
+program, checker, solver, draw = map(os.path.abspath, sys.argv[1:5])
 
 # The greatest number of bytes that one read gives.
 PIECE = 65_536
@@ -138,7 +138,7 @@ class Takes:
             ([program, "disprove"], b"cyclist problem 1; goal true : emp |- true : emp; end;", (6, b"not found cells 2")),
             ([program, "fo", "--depth", "1"], b"cyclist foproblem 1; con z 0; goal true |- false; end;", (6, b"not found depth 1")),
             ([program, "fo-check"], b"cyclist fo 1; con z 0; node true |- z() = z() by Refl 0; end;", (0, b"accepted first-order nodes 1 links 0")),
-            ([seeker], b"cyclist problem 1; goal true : emp |- nil != nil : emp; end;", (6, b"not found")),
+            ([solver], b"cyclist run 1; line 1 : goto 1; from 1 given true : emp; stack; heap; picks; repeats step 0 step 1; end;", (0, b"holds")),
             ([draw], b"cyclist proof 1;", (3, b"unreadable syntax token 4 line 1 column %d" % (17 + len(comment)))),
         ]
         for command, text, answer in tasks:

@@ -1,4 +1,4 @@
-"""edges.py PROGRAM CHECKER SEEKER DRAW [--each]: runs the four built programs where the host gives them nothing: with an allocation
+"""edges.py PROGRAM CHECKER SOLVER DRAW [--each]: runs the four built programs where the host gives them nothing: with an allocation
 refused, with a limit on memory, with a read or a write that fails, with standard input or output closed, with words that are not
 UTF-8, and with one word too many. Each run has to end with the status that README.md lists for that, and to write what goes with it.
 Of a run's allocations the first, the last and some between them are refused, each in a run of its own; with --each all of them, up
@@ -8,13 +8,14 @@ from concurrent.futures import ThreadPoolExecutor
 import os
 import subprocess
 import sys
+import tempfile
 
 sys.dont_write_bytecode = True
 sys.path.insert(0, os.path.join(os.path.dirname(os.path.abspath(__file__)), "texts"))
 from calls import LONGEST, Counts, beginning, library, name_of, opened, ran
 from searches import USAGE
 
-program, checker, seeker, draw = map(os.path.abspath, sys.argv[1:5])
+program, checker, solver, draw = map(os.path.abspath, sys.argv[1:5])
 each = "--each" in sys.argv[5:]
 
 # How many of a run's allocations are refused, at the most.
@@ -25,6 +26,13 @@ PROOF = "examples/list-segments.proof"
 PROBLEM = "examples/list-segments.problem"
 EVEN = "examples/first-order/even-is-natural"
 
+# The proof, and its problem behind it.
+BOTH = tempfile.NamedTemporaryFile()
+for it in PROOF, PROBLEM:
+    with opened(it) as part:
+        BOTH.write(part.read())
+BOTH.flush()
+
 # Runs that end with 0: the program, its words, and the file that it reads.
 RIGHT = [
     (program, ["check"], SMALL), (program, ["check"], PROOF), (program, ["check"], "examples/two-lists.proof"),
@@ -32,8 +40,8 @@ RIGHT = [
     (program, ["ring", "1"], None), (program, ["upgrade"], PROOF), (program, ["sat"], PROBLEM),
     (program, ["model"], "examples/ring.model"), (program, ["disprove"], "examples/acyclic-segments.problem"),
     (program, ["disprove", "--cells", "2"], "examples/acyclic-segments.problem"), (program, ["fo", "--depth", "5"], EVEN + ".foproblem"),
-    (program, ["fo-check"], EVEN + ".fo"), (checker, [], PROOF), (seeker, [], PROBLEM), (draw, [], PROOF),
-    (draw, ["--fold"], PROOF),
+    (program, ["fo-check"], EVEN + ".fo"), (checker, [], PROOF), (solver, [], PROBLEM), (solver, ["--effort", "1"], "examples/odd-and-even.problem"), (draw, [], PROOF),
+    (draw, ["--fold"], PROOF), (draw, [], BOTH.name),
 ]
 
 # Runs with another answer, and its status.
@@ -43,10 +51,11 @@ OTHER = [
     (program, ["model"], "examples/wrong-link.model", 1), (program, ["disprove", "--cells", "1"], PROBLEM, 6),
     (program, ["fo", "--depth", "2"], EVEN + ".foproblem", 6), (program, ["fo-check"], "examples/first-order/copied-for-ever.fo", 1),
     (program, ["help"], None, 2), (program, [], None, 2), (checker, [], PROBLEM, 3), (checker, ["x"], None, 2),
-    (seeker, [], "examples/acyclic-segments.problem", 6), (seeker, ["x"], None, 2), (draw, [], PROBLEM, 3), (draw, ["x"], None, 2),
+    (solver, [], "examples/acyclic-segments.problem", 1), (solver, ["--effort", "1"], "examples/endless-choice.problem", 1),
+    (solver, ["--effort", "1"], "examples/allocation.problem", 6), (solver, [], PROOF, 3), (solver, ["x"], None, 2), (draw, [], PROBLEM, 3), (draw, ["x"], None, 2),
 ]
 
-LINES = {program: USAGE, checker: b"usage: check\n", seeker: b"usage: seek\n", draw: b"usage: draw [--fold]\n"}
+LINES = {program: USAGE, checker: b"usage: check\n", solver: b"usage: solve [--effort N]\n", draw: b"usage: draw [--fold]\n"}
 
 
 def chosen(count):

@@ -53,9 +53,9 @@ try_install() {
 try_refusals() {
   local prefix="$room/another"
   mkdir -p "$prefix/bin"
-  echo mine > "$prefix/bin/cyclist-seek"
+  echo mine > "$prefix/bin/cyclist-solve"
   "$top/install" --from "$given" "$prefix" > /dev/null 2>&1
-  [ $? = 70 ] && [ "$(cat "$prefix/bin/cyclist-seek")" = mine ] && [ "$(find "$prefix" -type f | wc -l)" = 1 ] || fail 'a file of someone else is not left alone'
+  [ $? = 70 ] && [ "$(cat "$prefix/bin/cyclist-solve")" = mine ] && [ "$(find "$prefix" -type f | wc -l)" = 1 ] || fail 'a file of someone else is not left alone'
   "$top/install" --remove "$prefix" > /dev/null 2>&1
   [ $? = 1 ] || fail 'a removal of nothing does not end with 1'
   "$top/install" --form x > /dev/null 2>&1

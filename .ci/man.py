@@ -95,6 +95,7 @@ def example(name):
 UNSATISFIABLE = "cyclist problem 1; goal x != x : emp |- true : emp; end;"
 LONG = "cyclist proof 1; node true : $65535 -> (nil) |- true : emp by Absurd; end;"
 UNKNOWN = "cyclist proof 1; node true : zz() |- true : emp by Done; end;"
+RIGHT = "cyclist proof 1; node true : emp |- true : emp by Done; end; cyclist problem 1; "
 
 # The runs of each program by which its page's statuses are seen: the words and the input.
 RUNS = {
@@ -110,11 +111,16 @@ RUNS = {
         ([], "list-segments.proof"), ([], "list-walk.proof"), ([], "freed-twice.proof"), ([], "no-progress.proof"), (["check"], ""),
         ([], ""), ([], UNKNOWN), ([], LONG),
     ],
-    "cyclist-seek": [
-        ([], "list-segments.problem"), (["seek"], ""), ([], ""), ([], UNKNOWN.replace("proof", "problem").replace("node", "goal").replace(" by Done", "")),
+    "cyclist-solve": [
+        ([], "list-segments.problem"), (["solve"], ""), (["--effort", "10"], ""), ([], ""), ([], UNKNOWN.replace("proof", "problem").replace("node", "goal").replace(" by Done", "")),
         ([], "cyclist problem 1; goal true : emp |- " + " or ".join(["true : emp"] * 17) + "; end;"), ([], "acyclic-segments.problem"),
+        (["--effort", "1"], "allocation.problem"),
     ],
-    "cyclist-draw": [([], "first.proof"), (["--fold"], "first.proof"), (["draw"], ""), ([], ""), ([], UNKNOWN), ([], LONG)],
+    "cyclist-draw": [
+        ([], "first.proof"), (["--fold"], "first.proof"), (["draw"], ""), ([], ""), ([], UNKNOWN), ([], LONG), ([], RIGHT + "end;"),
+        ([], RIGHT + "goal true : zz() |- true : emp; end;"), ([], RIGHT + "goal true : emp |- nil = nil : emp; end;"),
+        ([], RIGHT + "goal true : emp |- " + " or ".join(["true : emp"] * 17) + "; end;"),
+    ],
 }  # fmt: skip
 READS = {"cyclist": ["check"]}
 
@@ -142,7 +148,7 @@ def check_failures(name, page):
         ran = subprocess.run([PROGRAMS[name], *words], stdin=proof, stdout=full, check=False)
         want(ran.returncode == 8, page, "a full device does not end with 8")
     nodes = "cyclist proof 1;" + "node true : emp |- true : emp by Done;" * 20000 + "end;"
-    text = nodes if name != "cyclist-seek" else "cyclist problem 1;" + "line 1 : stop;" * 100000
+    text = nodes if name != "cyclist-solve" else "cyclist problem 1;" + "line 1 : stop;" * 100000
     ended = [
         subprocess.run(["sh", "-c", 'ulimit -v "$0" && exec "$@"', str(kilobytes), PROGRAMS[name], *words], input=text.encode(), capture_output=True, check=False).returncode
         for kilobytes in (3000, 3500, 4000, 5000, 6000)

@@ -1,11 +1,11 @@
 #!/usr/bin/env bash
-# bench/field.sh [PROGRAM [SEEKER]]: for each problem of examples/field/ what the free search answers: seconds of processor, megabytes of
+# bench/field.sh [PROGRAM [SOLVER]]: for each problem of examples/field/ what the free search answers: seconds of processor, megabytes of
 # memory at the most, and the nodes and links of the proof that it writes, or its line; then, for the problems that hold and for the
 # others, how many there are and of how many a proof is found, with the seconds of the slowest and of all. PROGRAM checks the proofs.
 # Wants GNU time. Prints figures; it passes and fails nothing.
 . "$(dirname "${BASH_SOURCE[0]}")/common.sh"
-seeker=${2:-$top/crates/cyclist_seek/out/cyclist_seek}
-[ -x "$seeker" ] || { echo "no program at $seeker; build it with $top/seek" >&2; exit 1; }
+solver=${2:-$top/crates/cyclist_solve/out/cyclist_solve}
+[ -x "$solver" ] || { echo "no program at $solver; build it with $top/solve" >&2; exit 1; }
 
 answer() { # of the search's last run, with a word for a proof that is not accepted
   if head -n 1 "$work/answer" | grep -q '^cyclist proof '; then
@@ -17,7 +17,7 @@ answer() { # of the search's last run, with a word for a proof that is not accep
 
 while IFS='|' read -r file wanted; do
   case $file in '#'*|'') continue ;; esac
-  /usr/bin/time -q -f '%U %S %M' -o "$work/time" "$seeker" < "$top/examples/field/$file" > "$work/answer"
+  /usr/bin/time -q -f '%U %S %M' -o "$work/time" "$solver" < "$top/examples/field/$file" > "$work/answer"
   read -r spent system kilobytes < "$work/time"
   spent=$(echo "$spent + $system" | bc)
   line=$(answer)

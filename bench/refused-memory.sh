@@ -7,6 +7,6 @@ set -u
 top=$(cd "$(dirname "${BASH_SOURCE[0]}")/.." && pwd)
 if [ $# = 0 ]; then
   set --
-  for name in cyclist cyclist_check cyclist_seek cyclist_draw; do set -- "$@" "$top/crates/$name/out/$name"; done
+  for name in cyclist cyclist_check cyclist_solve cyclist_draw; do set -- "$@" "$top/crates/$name/out/$name"; done
 fi
 exec python3 "$top/.ci/edges.py" "$@" --each

@@ -1,14 +1,14 @@
 #!/usr/bin/env bash
-# bench/search.sh [PROGRAM [SEEKER [BEFORE]]]: seconds, and megabytes of memory at the most, of `prove` on each problem of examples/, and of
+# bench/search.sh [PROGRAM [SOLVER [BEFORE]]]: seconds, and megabytes of memory at the most, of `prove` on each problem of examples/, and of
 # the free search on each of them and of examples/seek/, with the answers: the nodes and links of the proof that was written, or
 # its line; what bench/field.sh prints of the problems of examples/field/; of `fo` on the first-order
 # problems of bench/first-order/; of two long searches; and derivations a second of five: one
 # that finds nothing, three that pass the limit of derivations, of which one tries many links and one none, and one at a program.
 # Those of `prove` also for the program BEFORE, if one is named. Wants GNU time. Prints figures; it passes and fails nothing.
 . "$(dirname "${BASH_SOURCE[0]}")/common.sh"
-seeker=${2:-$top/crates/cyclist_seek/out/cyclist_seek}
+solver=${2:-$top/crates/cyclist_solve/out/cyclist_solve}
 before=${3:-}
-[ -x "$seeker" ] || { echo "no program at $seeker; build it with $top/seek" >&2; exit 1; }
+[ -x "$solver" ] || { echo "no program at $solver; build it with $top/solve" >&2; exit 1; }
 
 figures() { # NAME COMMAND..: of the problem in "$work/file"
   local spent kilobytes answer
@@ -33,9 +33,9 @@ measure() { # PROBLEM COMMAND..
 echo prove
 for problem in "$top"/examples/*.problem; do measure "$problem" "$program" prove; done
 echo seek
-for problem in "$top"/examples/*.problem "$top"/examples/seek/*.problem; do measure "$problem" "$seeker"; done
+for problem in "$top"/examples/*.problem "$top"/examples/seek/*.problem; do measure "$problem" "$solver"; done
 echo 'seek, problems of the field'
-bash "$top/bench/field.sh" "$program" "$seeker"
+bash "$top/bench/field.sh" "$program" "$solver"
 echo fo
 for problem in "$top"/bench/first-order/*.foproblem; do measure "$problem" "$program" fo; done
 echo 'prove, long searches'

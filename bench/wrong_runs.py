@@ -9,10 +9,10 @@ import sys
 import tempfile
 
 top = os.path.dirname(os.path.dirname(os.path.abspath(__file__)))
-NAMES = ["cyclist", "cyclist_check", "cyclist_seek", "cyclist_draw"]
+NAMES = ["cyclist", "cyclist_check", "cyclist_solve", "cyclist_draw"]
 # The places among these four of the programs that each script takes.
 TAKEN = {
-    ".ci/runs.sh": [0], ".ci/seeks.sh": [2, 1], ".ci/checks.sh": [1], ".ci/texts.py": [0, 1], ".ci/edges.py": [0, 1, 2, 3],
+    ".ci/runs.sh": [0], ".ci/solves.sh": [2, 1], ".ci/checks.sh": [1], ".ci/texts.py": [0, 1], ".ci/edges.py": [0, 1, 2, 3],
     ".ci/costs.py": [0, 1, 2, 3], ".ci/pictures.sh": [3, 0], "examples/check.sh": [0, 2],
 }
 

@@ -1,12 +1,11 @@
 #!/usr/bin/env bash
-# examples/check.sh PROGRAM SEEKER: each example is answered as its line in answers.txt says; the proof beside a problem, its
-# comments aside, is what `prove` writes of that problem, or there is none and no proof is found; the free search finds a proof
-# of each of them too, and the proofs in seek/ are what it writes, and it finds a proof of those problems of field/ of which
-# field/answers.txt says so; the model beside a problem is what `disprove` writes of that
+# examples/check.sh PROGRAM SOLVER: each example is answered as its line in answers.txt says; the proof beside a problem, its
+# comments aside, is what `prove` writes of that problem, or there is none and no proof is found; `solve` answers each problem
+# as solved.txt and field/answers.txt say, and the proofs in solve/ are what it writes; the model beside a problem is what `disprove` writes of that
 # problem, and `model` says that it holds; the first-order proof beside a first-order problem is what `fo` writes of that problem.
 set -u
 program=$1
-seeker=$2
+solver=$2
 here=$(cd "$(dirname "$0")" && pwd)
 failed=0
 
@@ -46,20 +45,24 @@ for problem in "$here"/first-order/*.foproblem; do
   [ "$code" = 0 ] && [ "$got" = "$(grep -v '^#' "$proof")" ] || fail "examples/first-order/$(basename "$problem"): fo ends with $code, and does not write the proof beside it"
 done
 
-# Whether the free search finds a proof of the problem, as `check` sees it.
-finds() { # PROBLEM
-  got=$("$seeker" < "$1") && "$program" check <<< "$got" > /dev/null
+# What `solve` answers to a problem: the word on the first line; what follows goes to $got.
+word_of() { # PROBLEM
+  got=$("$solver" < "$1")
+  word=${got%%$'\n'*}
+  got=$(tail -n +2 <<< "$got")
+  case $word in
+    holds) "$program" check <<< "$got" > /dev/null || fail "examples: what solve writes of $(basename "$1") is no proof" ;;
+    fails) grep -q '^cyclist model' <<< "$got" || [ "$("$solver" <<< "$got")" = holds ] || fail "examples: what solve writes of $(basename "$1") is no run" ;;
+  esac
 }
 
-for problem in "$here"/*.problem; do
-  name=$(basename "$problem")
-  if [ -f "${problem%.problem}.proof" ]; then
-    finds "$problem" || fail "examples/$name: seek finds no proof"
-  else
-    got=$("$seeker" < "$problem")
-    code=$?
-    [ "$code" = 6 ] && [ "$got" = 'not found' ] || fail "examples/$name: seek ends with $code, and '$(echo "$got" | head -n 1)'"
-  fi
+while IFS='|' read -r file wanted; do
+  case $file in '#'*|'') continue ;; esac
+  word_of "$here/$file"
+  [ "$word" = "$wanted" ] || fail "examples/$file: solve answers '$word', and not '$wanted'"
+done < "$here/solved.txt"
+for problem in "$here"/*.problem "$here"/solve/*.problem "$here"/refuted/*.problem; do
+  grep -q "^${problem#"$here"/}|" "$here/solved.txt" || fail "examples/solved.txt does not tell of ${problem#"$here"/}"
 done
 
 for model in "$here"/*.model "$here"/refuted/*.model; do
@@ -71,20 +74,14 @@ for model in "$here"/*.model "$here"/refuted/*.model; do
   [ "$("$program" model <<< "$got")" = holds ] || fail "examples: what disprove writes of $(basename "$problem") does not hold"
 done
 
-for problem in "$here"/seek/*.problem; do
-  name=seek/$(basename "$problem")
-  finds "$problem" || fail "examples/$name: seek finds no proof"
-  [ "$got" = "$(grep -v '^#' "${problem%.problem}.proof")" ] || fail "examples/$name: seek does not write the proof beside it"
+for problem in "$here"/solve/*.problem; do
+  word_of "$problem"
+  [ "$(grep -v '^#' <<< "$got")" = "$(grep -v '^#' "${problem%.problem}.proof")" ] || fail "examples/solve/$(basename "$problem"): solve does not write the proof beside it"
 done
 
 while IFS='|' read -r file wanted; do
   case $file in '#'*|'') continue ;; esac
-  if [ "$wanted" = proof ]; then
-    finds "$here/field/$file" || fail "examples/field/$file: seek finds no proof"
-  else
-    got=$("$seeker" < "$here/field/$file")
-    code=$?
-    [ "$code" = 6 ] && [ "$got" = 'not found' ] || fail "examples/field/$file: seek ends with $code, and '$(echo "$got" | head -n 1)'"
-  fi
+  word_of "$here/field/$file"
+  [ "$word" = "$wanted" ] || fail "examples/field/$file: solve answers '$word', and not '$wanted'"
 done < "$here/field/answers.txt"
 exit "$failed"

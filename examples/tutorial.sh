@@ -1,14 +1,14 @@
 #!/usr/bin/env bash
-# examples/tutorial.sh CYCLIST SEEK: types the commands of README.md in this folder, in a copy of the examples, and compares what
+# examples/tutorial.sh CYCLIST SOLVE: types the commands of README.md in this folder, in a copy of the examples, and compares what
 # they write with what stands there. A line that begins with `$ ` is a command, one with `> ` goes on with it, and what follows is
 # what it writes.
 set -u
 cyclist=$(realpath "$1")
-seek=$(realpath "$2")
+solve=$(realpath "$2")
 here=$(cd "$(dirname "$0")" && pwd)
 room=$(mktemp -d)
 trap 'rm -rf "$room"' EXIT
-cp -R "$here" "$room/examples" && ln -s "$cyclist" "$room/cyclist" && ln -s "$seek" "$room/seek"
+cp -R "$here" "$room/examples" && ln -s "$cyclist" "$room/cyclist" && ln -s "$solve" "$room/solve"
 command=
 wanted=
 typed=0

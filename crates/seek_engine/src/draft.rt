@@ -29,6 +29,8 @@ pub struct DraftNode {
 #[derive(Drop)]
 pub struct Draft {
     pub nodes: Vec<DraftNode>,
+    stuck: Option<Judgement>,
+    depth: usize,
     alloc: Global,
 }
 
@@ -52,7 +54,35 @@ impl Draft {
             parent: None,
         };
         let nodes = vec![in alloc; root]?;
-        Ok(Draft { nodes, alloc })
+        Ok(Draft {
+            nodes,
+            stuck: None,
+            depth: 0,
+            alloc,
+        })
+    }
+
+    /// The deepest judgement of a program on which the search gave up.
+    pub fn take_stuck(&mut self) -> Option<Judgement> {
+        let mut stuck = None;
+        swap(&mut self.stuck, &mut stuck);
+        stuck
+    }
+
+    /// Keeps a node's judgement on which the search gives up below so many others, if it is one of a program and the deepest so far.
+    pub fn give_up(&mut self, node: u32, depth: usize) -> Result<(), OutOfMemory> {
+        if depth <= self.depth {
+            return Ok(());
+        }
+        let judgement = match self.nodes.get(node as usize) {
+            Some(node) => node.judgement.clone()?,
+            None => return Ok(()),
+        };
+        if matches!(judgement, Judgement::Term(_, _)) {
+            self.stuck = Some(judgement);
+            self.depth = depth;
+        }
+        Ok(())
     }
 
     /// How many nodes there are.

@@ -66,11 +66,15 @@ impl Attempt {
     }
 
     /// The work on the last node has come to its end without success.
-    fn fail(&mut self, draft: &mut Draft) {
+    fn fail(&mut self, draft: &mut Draft) -> Result<(), OutOfMemory> {
+        if let Some(frame) = self.frames.last() {
+            draft.give_up(frame.node, self.frames.len())?;
+        }
         drop(self.frames.pop());
         if let Some(frame) = self.frames.last_mut() {
             frame.give_up_move(draft);
         }
+        Ok(())
     }
 
     /// Makes a node of the next premise; without one the last node is closed.
@@ -120,8 +124,7 @@ impl Attempt {
             return self.descend(setting, draft);
         }
         if self.spent.steps > frame.most {
-            self.fail(draft);
-            return Ok(());
+            return self.fail(draft);
         }
         match frame.moves.pop() {
             Some(Move::Step(step)) => frame.make_step(setting, draft, &step),
@@ -130,10 +133,7 @@ impl Attempt {
                 frame.make_link(setting, draft, companion)
             }
             Some(Move::Turn(aim)) => self.turn_to(setting, aim),
-            None if frame.is_last => {
-                self.fail(draft);
-                Ok(())
-            }
+            None if frame.is_last => self.fail(draft),
             None => {
                 let offered = strategy.stage(draft, frame.node, frame.aim, frame.stage)?;
                 self.spent.add(offered.cost);

@@ -1,3 +1,0 @@
-pub mod Wrote
-pub mod Exact
-pub mod Checked

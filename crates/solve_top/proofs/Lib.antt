@@ -1,0 +1,4 @@
+pub mod Wrote
+pub mod Exact
+pub mod Told
+pub mod Said

@@ -1,0 +1,125 @@
+-- The answer to a problem, to a run and to words.
+use Rattle.std.specs.Prelude.{◌≡◌, ◌≢◌, ◌≤◌, ◌⊎◌, ℕ, Bool, true, false, List, [], ◌++◌, length, codes, Option, Some, None, Result, Ok, Err}
+use Rattle.cyc_lex.specs.declared.fault.ReadFault.{ReadFault}
+use Rattle.cyc_lex.specs.declared.fault.ReadFault.TheVariants as faults
+use Rattle.cyc_runs.specs.declared.endings.Status.{Status}
+use Rattle.cyc_runs.specs.declared.endings.Status.TheVariants as status
+use Rattle.cyc_runs.specs.Faults.{fault_status, fault_text}
+use Rattle.cyc_runs.specs.Runs.{Answering, IsAnswerOf, input_limit}
+use Rattle.formula_reader.specs.declared.problem.Problem.{Problem}
+use Rattle.formula_reader.specs.Reading as problems
+use Rattle.model_file.specs.Written.{text_of_model}
+use Rattle.proof_file.specs.declared.file.ProofFile.{ProofFile}
+use Rattle.proof_file.specs.Written.{text_of_file}
+use Rattle.run_file.specs.declared.file.RunFile.{RunFile}
+use Rattle.run_file.specs.Reading as runs
+use Rattle.run_file.specs.Written.{text_of_run}
+use Rattle.solve_notes.specs.Notes.{AreNotes}
+use Rattle.solver.specs.declared.solution.Refutation.{Refutation}
+use Rattle.solver.specs.declared.solution.Refutation.TheVariants.{CounterModel, FaultyRun}
+use Rattle.solver.specs.declared.solution.Solution.{Solution}
+use Rattle.solver.specs.declared.solution.Solution.TheVariants.{Proved, Impossible, Refuted, Unknown}
+use Rattle.solver.specs.Runs.{IsRight}
+use Rattle.solver.specs.Solutions.{IsSolution}
+use Rattle.solve_top.specs.Inputs.{is_run_text}
+use Rattle.solve_top.specs.Words.{effort_of}
+
+-- ---- the first lines
+
+abbrev pub holds_line : List ℕ
+holds_line = codes "holds\n"
+
+abbrev pub impossible_line : List ℕ
+impossible_line = codes "holds antecedent unsatisfiable\n"
+
+abbrev pub fails_line : List ℕ
+fails_line = codes "fails\n"
+
+abbrev pub unknown_line : List ℕ
+unknown_line = codes "unknown\n"
+
+-- the line that says which words have a meaning
+abbrev pub usage_text : List ℕ
+usage_text = codes "usage: solve [--effort N]\n"
+
+-- ---- problems
+
+-- the text is the first line, notes, and the certificate
+pub record IsCertified (first certificate text : List ℕ) : Type 0 where
+  pub notes : List ℕ
+  pub are_notes : AreNotes notes
+  pub is : text ≡ first ++ (notes ++ certificate)
+
+abbrev pub proof_text : ProofFile → List ℕ
+proof_text f = text_of_file f.version f.defs.list f.program f.nodes
+
+abbrev pub run_text : RunFile → List ℕ
+run_text r = text_of_run r.defs.list r.program r.line r.precondition r.stack r.heap r.picks.items r.outcome
+
+-- the file of what refutes
+abbrev pub text_of_refutation : Refutation → List ℕ
+text_of_refutation (CounterModel m) = text_of_model m.defs.list m.stack m.heap m.ask
+text_of_refutation (FaultyRun r) = run_text r
+
+-- how what is found is told
+abbrev pub IsSaid : Solution → Status → List ℕ → Type 0
+IsSaid (Proved found) ending text = (ending ≡ status.Success) × IsCertified holds_line (proof_text found.file) text
+IsSaid Impossible ending text = (ending ≡ status.Success) × IsCertified impossible_line [] text
+IsSaid (Refuted refutation) ending text = (ending ≡ status.Refused) × IsCertified fails_line (text_of_refutation refutation) text
+IsSaid (Unknown stuck) ending text = (ending ≡ status.NotFound) × IsCertified unknown_line [] text
+
+-- an input with this fault is answered by the line of the fault, and by what explains it
+pub record IsExplained (fault : ReadFault) (ending : Status) (text : List ℕ) : Type 0 where
+  pub known : fault ≢ faults.OutOfMemory
+  pub ends : ending ≡ fault_status fault
+  pub explanation : List ℕ
+  pub says : text ≡ fault_text fault ++ explanation
+
+abbrev pub IsProblemAnswer : Result Problem ReadFault → Status → List ℕ → Type 0
+IsProblemAnswer (Ok problem) ending text = (found : Solution) × IsSolution problem found × IsSaid found ending text
+IsProblemAnswer (Err fault) ending text = IsExplained fault ending text
+
+-- ---- runs
+
+-- whether the run is as its file tells; that is not known where too many choices would have to be tried
+abbrev pub IsRerun : RunFile → Status → List ℕ → Type 0
+IsRerun r ending text =
+    (IsRight r × (ending ≡ status.Success) × (text ≡ holds_line)) ⊎ (((¬ IsRight r) × (ending ≡ status.Refused) × (text ≡ fails_line)) ⊎ ((ending ≡ status.NotFound) × (text ≡ unknown_line)))
+
+abbrev pub IsRunAnswer : Result RunFile ReadFault → Status → List ℕ → Type 0
+IsRunAnswer (Ok r) ending text = IsRerun r ending text
+IsRunAnswer (Err fault) ending text = IsExplained fault ending text
+
+-- ---- inputs and words
+
+-- an input that begins as a run file is read as one, any other as a problem
+abbrev pub IsAnswerTo : Bool → List ℕ → Status → List ℕ → Type 0
+IsAnswerTo true input ending text =
+    (read : Result RunFile ReadFault) × runs.IsRead input read × IsRunAnswer read ending text
+IsAnswerTo false input ending text =
+    (read : Result Problem ReadFault) × problems.IsRead input read × IsProblemAnswer read ending text
+
+abbrev pub IsSolved : Answering
+IsSolved input ending text = (length input ≤ input_limit) × IsAnswerTo (is_run_text input) input ending text
+
+-- words that ask for an effort have the input solved; all others give the usage
+abbrev pub IsAnswerWith : Option ℕ → Answering
+IsAnswerWith (Some effort) = IsAnswerOf IsSolved
+IsAnswerWith None = λ input ending text. (ending ≡ status.Usage) × (text ≡ usage_text)
+
+abbrev pub IsAnswer : List (List ℕ) → Answering
+IsAnswer words = IsAnswerWith (effort_of words)
+
+-- ---- one input, two runs
+
+-- a run with this status has answered: yes, no, or that nothing is known
+abbrev pub has_answered : Status → Bool
+has_answered status.Success = true
+has_answered status.Refused = true
+has_answered status.NotFound = true
+has_answered _ = false
+
+-- two runs end with one status, or one of them has answered where the other knows nothing
+abbrev pub EndAlike : Status → Status → Type 0
+EndAlike s t =
+    (s ≡ t) ⊎ ((has_answered s ≡ true) × (has_answered t ≡ true) × ((s ≡ status.NotFound) ⊎ (t ≡ status.NotFound)))

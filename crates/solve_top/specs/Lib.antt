@@ -1,0 +1,4 @@
+pub mod Words
+pub mod Inputs
+pub mod Answers
+pub mod Written

@@ -1,0 +1,81 @@
+-- What is written with success, and what with a refusal.
+use Rattle.std.specs.Prelude.{◌≡◌, ◌⊎◌, ℕ, List, [], ◌++◌, Option, Ok}
+use Rattle.std.specs.Io.KnownBytes.{Appends}
+use Rattle.cyc_runs.specs.Runs.{IsTold}
+use Rattle.formula_reader.specs.declared.problem.Problem.{Problem}
+use Rattle.formula_reader.specs.Reading as problems
+use Rattle.model_file.specs.declared.file.Model.{Model}
+use Rattle.model_file.specs.Reading as models
+use Rattle.proof_file.specs.declared.file.ProofFile.{ProofFile}
+use Rattle.proof_file.specs.Reading as files
+use Rattle.run_file.specs.declared.file.RunFile.{RunFile}
+use Rattle.run_file.specs.Reading as runs
+use Rattle.solver.specs.Runs.{IsRight}
+use Rattle.solver.specs.Solutions.{Holds, IsCheckedProof, IsCounterModel, IsFaultyRun, IsImpossible}
+use Rattle.solve_top.specs.Answers.{IsCertified, fails_line, holds_line, impossible_line}
+
+-- after the first line the text spells a proof of the goal that a check accepts
+pub record IsProofText (problem : Problem) (text : List ℕ) : Type 0 where
+  pub file : ProofFile
+  pub proof : IsCheckedProof problem file
+  pub certificate : List ℕ
+  pub is : text ≡ holds_line ++ certificate
+  pub is_file : files.IsRead certificate (Ok file)
+
+-- nothing satisfies the antecedent, and that is said
+abbrev pub IsImpossibleText : Problem → List ℕ → Type 0
+IsImpossibleText problem text = IsImpossible problem × IsCertified impossible_line [] text
+
+-- after the first line the text spells a model file, whose stack and heap satisfy the antecedent, and none of the disjuncts
+pub record IsModelText (problem : Problem) (text : List ℕ) : Type 0 where
+  pub model : Model
+  pub counter : IsCounterModel problem model
+  pub certificate : List ℕ
+  pub is : text ≡ fails_line ++ certificate
+  pub is_file : models.IsRead certificate (Ok model)
+
+-- after the first line the text spells a run file, whose run faults or comes back from a state of the precondition
+pub record IsRunText (problem : Problem) (text : List ℕ) : Type 0 where
+  pub run : RunFile
+  pub faulty : IsFaultyRun problem run
+  pub certificate : List ℕ
+  pub is : text ≡ fails_line ++ certificate
+  pub is_file : runs.IsRead certificate (Ok run)
+
+-- the input spells a problem whose goal holds, and the text shows it
+pub record GoalHolds (input text : List ℕ) : Type 0 where
+  pub problem : Problem
+  pub is_problem : problems.IsRead input (Ok problem)
+  pub holds : Holds problem
+  pub shown : IsProofText problem text ⊎ IsImpossibleText problem text
+
+-- the input spells a problem whose goal does not hold, and the text shows it
+pub record GoalFails (input text : List ℕ) : Type 0 where
+  pub problem : Problem
+  pub is_problem : problems.IsRead input (Ok problem)
+  pub fails : ¬ Holds problem
+  pub shown : IsModelText problem text ⊎ IsRunText problem text
+
+-- the input spells a run file, and its run is as it tells, or is not
+pub record RunHolds (input : List ℕ) : Type 0 where
+  pub run : RunFile
+  pub is_run : runs.IsRead input (Ok run)
+  pub right : IsRight run
+
+pub record RunFails (input : List ℕ) : Type 0 where
+  pub run : RunFile
+  pub is_run : runs.IsRead input (Ok run)
+  pub wrong : ¬ IsRight run
+
+-- some input, which is the one that was told, and a text that was written stand to each other so
+abbrev pub WroteSo : (List ℕ → List ℕ → Type 0) → Option (List ℕ) → Option (List ℕ) → Option (List ℕ) → Type 0
+WroteSo Stand told old new =
+    (input : List ℕ) × (text : List ℕ) × IsTold told input × Appends old new text × Stand input text
+
+-- the goal of the problem holds, and what was written shows it; or the run is as its file tells
+abbrev pub WroteHolds : Option (List ℕ) → Option (List ℕ) → Option (List ℕ) → Type 0
+WroteHolds = WroteSo (λ input text. GoalHolds input text ⊎ RunHolds input)
+
+-- the goal of the problem does not hold, and what was written shows it; or the run is not as its file tells
+abbrev pub WroteFails : Option (List ℕ) → Option (List ℕ) → Option (List ℕ) → Type 0
+WroteFails = WroteSo (λ input text. GoalFails input text ⊎ RunFails input)

@@ -1,0 +1,48 @@
+// Whether anything satisfies a goal's antecedent.
+ghost use Rattle.std.specs.Prelude.{◌≡◌, IfOk, IsTrue};
+ghost use Rattle.solver.specs.Solutions.{IsImpossible};
+
+use crate::budgets::Budget;
+use cyc_memory::OutOfMemory;
+use formula_reader::Problem;
+use heap_formula::{Heap, Spatial};
+use problem_files::problem_is_within;
+use rule_table::antecedent;
+use sat_answers::impossible_antecedents_entail;
+use sat_pairs::{PairFault, Table, base_pairs, satisfiable};
+use std::alloc::Global;
+
+/// The number of ways in which the predicate atoms of a heap can have base pairs, if it is not above the most.
+fn are_few_ways(table: &Table, heap: &Heap, most: u32) -> bool {
+    let mut ways = 1u64;
+    for atom in heap.spatial() {
+        if let Spatial::Pred(pred, _) = atom {
+            ways = ways.saturating_mul(table.pairs(*pred).len() as u64);
+        }
+        if ways > u64::from(most) {
+            return false;
+        }
+    }
+    true
+}
+
+/// Whether it is known that nothing satisfies the antecedent or precondition of the goal: that is found out where the predicates
+/// have few base pairs, and these can be chosen for its atoms in few ways.
+pub fn is_impossible(alloc: Global, problem: &Problem, budget: Budget) -> Result<bool, OutOfMemory>
+    ensures { IfOk result (λ yes. IsTrue yes → IsImpossible problem.now) }
+{
+    problem_is_within(problem);
+    impossible_antecedents_entail();
+    let heap = antecedent(&problem.goal);
+    match base_pairs(alloc, &problem.defs, budget.pairs) {
+        Ok(table) => {
+            if !are_few_ways(&table, heap, budget.pairs) {
+                return Ok(false);
+            }
+            let yes = satisfiable(alloc, &problem.defs, &table, heap)?;
+            Ok(!yes)
+        }
+        Err(PairFault::TooManyPairs) => Ok(false),
+        Err(PairFault::OutOfMemory) => Err(OutOfMemory),
+    }
+}

@@ -1,0 +1,85 @@
+// A run of a file, once more.
+ghost use Rattle.std.specs.Prelude.{◌≡◌, ◌↔◌, ◌<◌, ◌≤◌, length, IsTrue, IfOk};
+ghost use Rattle.goto_lang.specs.States.{state_of, IsStateOf};
+ghost use Rattle.refuting_runs.specs.Picks.{headroom_of};
+ghost use Rattle.solver.specs.Runs.{EndsSo, IsAt, IsRight, ending_of as ending_for};
+
+use crate::counter_models::MOST_CHOICES;
+use cyc_memory::OutOfMemory;
+use general_models::{CheckFault, satisfied_in_general};
+use goto_lang::{Config, Program};
+use refuting_runs::{Ending, Pick, RunEnd, headroom, is_refuting, run, start_state};
+use run_file::{Outcome, RunFile};
+use std::alloc::Global;
+
+fn ending_of(outcome: Outcome) -> Ending
+    ensures { result ≡ ending_for outcome }
+{
+    match outcome {
+        Outcome::Faults { line: _, step } => Ending::FaultAfter(step),
+        Outcome::Repeats { first, again } => Ending::Repeat(first, again),
+    }
+}
+
+/// Whether the run is at a line after so many steps.
+fn is_at(
+    alloc: Global,
+    program: &Program,
+    start: &Config,
+    w: u64,
+    picks: &[Pick],
+    steps: u32,
+    line: u32,
+) -> Result<bool, OutOfMemory>
+    requires { IsStateOf program.now (state_of start.now) }
+    ensures { IfOk result (λ yes. IsTrue yes ↔ IsAt program.now w picks.now (state_of start.now) steps line) }
+{
+    match run(alloc, program, start, w, picks, u64::from(steps))? {
+        RunEnd::Ends(_, _) => Ok(false),
+        RunEnd::Reached(config) => Ok(config.line == line),
+    }
+}
+
+/// Whether the run from a state with these picks ends as is told.
+pub fn ends_so(
+    alloc: Global,
+    program: &Program,
+    start: &Config,
+    picks: &[Pick],
+    outcome: Outcome,
+) -> Result<bool, OutOfMemory>
+    requires { IsStateOf program.now (state_of start.now) }
+    ensures { IfOk result (λ yes. IsTrue yes
+        ↔ EndsSo program.now (headroom_of picks.now) picks.now (state_of start.now) outcome) }
+{
+    let w = headroom(picks);
+    let ends = is_refuting(alloc, program, start, w, picks, ending_of(outcome))?;
+    if !ends {
+        return Ok(false);
+    }
+    match outcome {
+        Outcome::Faults { line, step } => is_at(alloc, program, start, w, picks, step, line),
+        Outcome::Repeats { first: _, again: _ } => Ok(true),
+    }
+}
+
+/// Whether the stack and the heap of a run file satisfy its precondition, and the run from there, with its picks, ends as it tells:
+/// then the program does not halt from there, and the claim of termination does not hold. The question has no answer where
+/// too many choices of locals would have to be tried for the precondition.
+pub fn is_right(alloc: Global, file: &RunFile) -> Result<bool, CheckFault>
+    ensures exact { IfOk result (λ yes. IsTrue yes ↔ IsRight file.now) }
+{
+    let begins = satisfied_in_general(
+        alloc,
+        &file.defs,
+        &file.stack,
+        &file.heap,
+        &file.precondition,
+        MOST_CHOICES,
+    )?;
+    if !begins {
+        return Ok(false);
+    }
+    let start = start_state(alloc, &file.program, file.line, &file.stack, &file.heap)?;
+    Ok(ends_so(alloc, &file.program, &start, &file.picks, file.outcome)?)
+}
