@@ -4,14 +4,15 @@ use Rattle.heap_formula.specs.declared.proof_rules.Side.TheVariants.{Left as The
 use Rattle.fo_formula.specs.declared.terms.Sign.TheVariants.{Universal, Local, Constructor}
 use Rattle.fo_formula.specs.declared.atoms.FoAtom.{FoAtom}
 use Rattle.fo_formula.specs.declared.atoms.FoAtom.TheVariants.{Equation, Predicate}
-use Rattle.fo_formula.specs.declared.nodes.FoNode.{FoNode}
+use Rattle.fo_formula.specs.Nodes.{FoNode}
 use Rattle.fo_formula.specs.declared.nodes.FoReason.{FoReason}
 use Rattle.fo_formula.specs.declared.nodes.FoReason.TheVariants.{Rule, Link}
 use Rattle.fo_formula.specs.declared.nodes.FoRule.TheVariants.{Refl, Replace, Unfold, Right}
 use Rattle.fo_formula.specs.declared.theory.FoTheory.{FoTheory}
 use Rattle.fo_formula.specs.Words.{Word}
 use Rattle.fo_table.specs.declared.faults.FoFault.{FoFault}
-use Rattle.fo_table.specs.Nodes.{node_fault}
+use Rattle.logics.specs.Faults.{node_fault as fault_of_node}
+use Rattle.fo_logic.specs.FirstOrder.{first_order}
 
 abbrev pub zero_term : Word
 zero_term = Constructor 0 0 ∷ []
@@ -44,7 +45,7 @@ numbers =
 
 abbrev pub node : List FoAtom → FoAtom → FoReason → List ℕ → FoNode
 node left right reason premises =
-    record { sequent = record { left = left; right = right ∷ [] }; reason = reason; premises = premises }
+    record { judgement = record { left = left; right = right ∷ [] }; reason = reason; premises = premises }
 
 abbrev pub root_of : FoNode
 root_of = node (even (variable 0) ∷ []) (nat (variable 0)) (Rule (Unfold 0)) (1 ∷ 4 ∷ [])
@@ -72,6 +73,10 @@ even_is_nat =
     ∷ node (even one ∷ []) (Equation next next) (Rule (Refl 0)) []
     ∷ bud_of ((0, one) ∷ [])
     ∷ []
+
+-- the first fault of node v
+abbrev pub node_fault : FoTheory → List FoNode → ℕ → FoNode → Option FoFault
+node_fault t nodes v node = fault_of_node (first_order t) nodes v node
 
 -- the first fault of each node, from number v on
 abbrev pub faults_from : FoTheory → List FoNode → ℕ → List FoNode → List (Option FoFault)

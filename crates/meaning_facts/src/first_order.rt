@@ -1,9 +1,8 @@
 // Small facts about the rule table of first-order logic.
 ghost use Rattle.std.specs.Prelude.{◌≡◌, true, false, [], ◌∷◌, None, Some};
 ghost use Rattle.fo_table.specs.declared.faults.FoFault.TheVariants.{LinkLeft};
-ghost use Rattle.fo_table.specs.Nodes.{node_fault};
 ghost use Rattle.fo_table.specs.Tests.{is_absurd};
-ghost use Rattle.meaning_facts.specs.FirstOrderSamples.{numbers, even_is_nat, first_faults, unchanged_link, variable, successor, zero_term};
+ghost use Rattle.meaning_facts.specs.FirstOrderSamples.{numbers, even_is_nat, node_fault, first_faults, unchanged_link, variable, successor, zero_term};
 
 /// Every node of the proof that even numbers are numbers is right: the even numbers are unfolded, the case of zero and that
 /// of a number two above an even one are shown on the right, and what is left links back.
