@@ -27,9 +27,10 @@ use Rattle.model_file.specs.Written.{cells_tree, tree_of}
 use Rattle.model_file.proofs.Parts.{IsFine}
 use Rattle.model_file.proofs.SortedCells.{cells_right}
 use Rattle.problem_files.proofs.Lists.{none_later, listed_fits}
-use Rattle.problem_files.proofs.Names.{HaveFreeNames, HaveOwnNames, few_parameters}
+use Rattle.value_limits.specs.Within.{HaveFreeNames, HaveOwnNames}
+use Rattle.problem_files.proofs.Names.{few_parameters}
 use Rattle.problem_files.proofs.Heaps.{any_heap_fits}
-use Rattle.problem_files.proofs.ProblemKeeps.{problem_keeps}
+use Rattle.formula_reader.proofs.Within.{problem_keeps}
 use Rattle.problem_files.proofs.Judgements.{node_heap_flawless}
 use Rattle.problem_files.proofs.DefinitionTrees.{definitions_fit, definitions_flawless}
 use Rattle.formula_reader.specs.declared.problem.Problem.{Problem}
@@ -106,7 +107,7 @@ problem_low p = let l : most_spatial p.version ≤ 32 = most_fits p.version in l
 
 module _ (p : Problem) (a : SymbolicHeap) (bs : List SymbolicHeap) (s : Stack) (h : Cells) (goal : p.goal ≡ Entail a bs) (z : IsPlainState s h) where
   judged : IsJudgementWithin p.defs.most p.defs.list (length p.program) (Entail a bs)
-  judged = subst (λ (g : Judgement). IsJudgementWithin p.defs.most p.defs.list (length p.program) g) goal (problem_keeps p).judgement
+  judged = subst (λ (g : Judgement). IsJudgementWithin p.defs.most p.defs.list (length p.program) g) goal (problem_keeps p).goal
 
   pub file_fits : (ds : List Definition) (ask : SymbolicHeap) → ds ≡ p.defs.list → ask ≡ a → model.fits (tree_of ds s h ask)
   file_fits ds ask d e =

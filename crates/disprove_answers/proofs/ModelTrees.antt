@@ -13,7 +13,7 @@ use Rattle.heap_formula.specs.Values.{Stack}
 use Rattle.heap_formula.specs.Cells.{Cells, cell_at}
 use Rattle.format_limits.specs.Limits.{HasFields, IsHeapWithin, IsJudgementWithin, IsCaseWithin, IsDefinitionWithin}
 use Rattle.model_file.specs.Small.{IsShortNumber}
-use Rattle.problem_files.proofs.ProblemKeeps.{problem_keeps}
+use Rattle.formula_reader.proofs.Within.{problem_keeps}
 use Rattle.formula_reader.specs.declared.problem.Problem.{Problem}
 use Rattle.counter_files.specs.States.{IsPlainCell, IsPlainState}
 use Rattle.counter_files.proofs.PlainCells.{all_entries}
@@ -49,7 +49,7 @@ short n l = omega arith
 
 module _ (n : ℕ) (p : Problem) (a : SymbolicHeap) (bs : List SymbolicHeap) (s : Stack) (h : Cells) (size : n ≤ 4) (goal : p.goal ≡ Entail a bs) (few : judgement_bound (Entail a bs) ≤ 8) (z : HasSize p.defs.list a bs n s h) where
   judged : IsJudgementWithin p.defs.most p.defs.list (length p.program) (Entail a bs)
-  judged = subst (λ (g : Judgement). IsJudgementWithin p.defs.most p.defs.list (length p.program) g) goal (problem_keeps p).judgement
+  judged = subst (λ (g : Judgement). IsJudgementWithin p.defs.most p.defs.list (length p.program) g) goal (problem_keeps p).goal
 
   plain : (q : ℕ) (vs : List ℕ) → cell_at h q ≡ Some vs → IsPlainCell (q, vs)
   plain q vs e =

@@ -13,7 +13,7 @@ use Rattle.formula_reader.specs.declared.problem.Problem.{Problem}
 use Rattle.formula_reader.specs.Reading as problems
 use Rattle.cyc_lex.specs.declared.fault.ReadFault.{ReadFault}
 use Rattle.cyc_lex.specs.declared.fault.ReadFault.TheVariants as faults
-use Rattle.problem_files.proofs.ProblemKeeps.{problem_keeps}
+use Rattle.formula_reader.proofs.Within.{problem_keeps}
 use Rattle.model_file.specs.declared.file.Model.{Model}
 use Rattle.model_file.specs.Reading as models
 use Rattle.model_file.proofs.Readings.{text_is_read}
@@ -188,7 +188,7 @@ model_holds n input xs is short =
       fits = file_fits p a bs f.0 f.1 r.2.2 (plain_state n p a bs f.0 f.1 is.4 r.2.2 searched.few z) p.defs.list a refl refl;
       flawless = file_flawless p a bs f.0 f.1 r.2.2 (plain_state n p a bs f.0 f.1 is.4 r.2.2 searched.few z) p.defs.list a refl refl;
     } in
-    let universal = goal_universal p.defs.most (length p.program) p.defs.list p.goal a bs r.2.2 (problem_keeps p).judgement in (
+    let universal = goal_universal p.defs.most (length p.program) p.defs.list p.goal a bs r.2.2 (problem_keeps p).goal in (
       short,
       Ok m,
       subst (λ (bytes : List ℕ). models.IsRead bytes (Ok m)) (sym f.5) (text_is_read m),

@@ -38,7 +38,7 @@ use Rattle.formula_reader.specs.Flaws.{headings, term_flaw, variable_flaw, head_
 use Rattle.formula_reader.specs.Values.{term_value, definition_value, goal_value}
 use Rattle.formula_reader.specs.Small.{IsSmallProblem}
 use Rattle.heap_reader.specs.Small.{is_short_heap}
-use Rattle.formula_reader.specs.WellFormed.{IsOfText, goal_heaps, goal_fault, has_line}
+use Rattle.formula_reader.specs.Problems.{IsOfText, goal_heaps, goal_fault, has_line}
 use Rattle.formula_reader.proofs.Fitting.{problem_small}
 use Rattle.formula_reader.proofs.SpanLaws.{text_some}
 use Rattle.std.proofs.lemmas.Option.{same_Some}

@@ -29,7 +29,7 @@ use Rattle.name_numbers.specs.Numbering as numbers
 use Rattle.name_numbers.specs.Numbering.{Scope, Case, Antecedent, Disjunct, numbered}
 use Rattle.name_numbers.specs.Numbered as trees
 use Rattle.formula_reader.specs.Small.{HasDisjunct}
-use Rattle.formula_reader.specs.WellFormed.{IsOfText}
+use Rattle.formula_reader.specs.Problems.{IsOfText}
 use Rattle.formula_reader.specs.Spans.{name_span, term_span, variable_span, heaps_span, lines_span, parameter_span, parameters_span, definition_span, goal_span, problem_span}
 
 -- ---- lists

@@ -2,5 +2,5 @@ pub mod Spans
 pub mod Flaws
 pub mod Values
 pub mod Small
-pub mod WellFormed
+pub mod Problems
 pub mod Reading

@@ -3,11 +3,13 @@
 
 mod goals;
 mod heads;
+mod making;
 mod problem;
 mod reading;
 mod terms;
 mod values;
 mod walk;
 
+pub use making::problem_of_values;
 pub use problem::Problem;
 pub use reading::{read_problem, spelled_problems_are_read};

@@ -1,12 +1,13 @@
 //! Problems as values.
 
-ghost use Rattle.std.specs.Prelude.{◌≡◌, None, true, length};
+ghost use Rattle.std.specs.Prelude.{◌≡◌, ◌↔◌, None, Some, true, length, IsOk, IfOk, IfErr};
 ghost use Rattle.std.specs.List.{list_all};
 ghost use Rattle.heap_formula.specs.Judgements.{antecedent};
 ghost use Rattle.pred_defs.specs.Faults.{closed_fault};
 ghost use Rattle.heap_syntax.specs.Versions.{most_spatial};
 ghost use Rattle.heap_reader.specs.Small.{is_short_heap};
-ghost use Rattle.formula_reader.specs.WellFormed.{IsWellFormed, goal_heaps, goal_fault, has_line};
+ghost use Rattle.value_limits.specs.Within.{IsProblemWithin};
+ghost use Rattle.formula_reader.specs.Problems.{goal_heaps, goal_fault, has_line};
 ghost use Rattle.rule_table.specs.Tests.{is_universal_heap};
 
 use goto_lang::Program;
@@ -14,10 +15,10 @@ use heap_formula::Judgement;
 use heap_syntax::Version;
 use pred_defs::Defs;
 
-/// What is to be proved: definitions, a program, and a goal over them, in a version of the format. Some text spells it, with
-/// names in place of numbers, and without a flaw. Each predicate that is used is defined, with this number of arguments; no
-/// existential variable stands in the goal's antecedent; heaps have at most as many spatial atoms as the version allows; the
-/// goal's line, if it has one, is one of the program's.
+/// What is to be proved: definitions, a program, and a goal over them, in a version of the format. They are within the limits
+/// of the version, whatever they were made of: lists are as long and numbers as great as a text may have them, each predicate
+/// that is used is defined, with this number of arguments, and has a free name of its own, no existential variable stands in
+/// the goal's antecedent, and the goal's line, if it has one, is one of the program's.
 #[derive(Drop)]
 pub struct Problem {
     pub version: Version,
@@ -25,7 +26,7 @@ pub struct Problem {
     pub program: Program,
     pub goal: Judgement,
     pub ghost limit: { defs.most ≡ most_spatial version },
-    pub ghost well_formed: { ∥ IsWellFormed version defs.list program goal ∥₁ },
+    pub ghost within: { ∥ IsProblemWithin version defs.most defs.list program goal ∥₁ },
     pub ghost closed: { closed_fault defs.list ≡ None },
     pub ghost known: { goal_fault defs.list goal ≡ None },
     pub ghost universal: { is_universal_heap (antecedent goal) ≡ true },

@@ -9,7 +9,7 @@ ghost use Rattle.name_numbers.specs.Numbering.{numbered};
 ghost use Rattle.formula_reader.specs.declared.problem.Problem.{Problem as ProblemValue};
 ghost use Rattle.formula_reader.specs.Spans.{problem_span};
 ghost use Rattle.formula_reader.specs.Flaws.{headings, problem_flaw as first_flaw};
-ghost use Rattle.formula_reader.specs.WellFormed.{IsOfText};
+ghost use Rattle.formula_reader.specs.Problems.{IsOfText};
 ghost use Rattle.formula_reader.specs.Reading.{SpellsTree, IsProblemOf, IsRead, ReadsFrom, Reads, IsReadAgain};
 
 use crate::goals::problem_flaw;

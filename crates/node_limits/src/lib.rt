@@ -1,7 +1,6 @@
 //! Whether a node may stand in a proof file. For nodes that come from a search of which nothing is known.
 #![tactic(auto)]
 
-mod heaps;
 mod nodes;
 mod rules;
 mod terms;

@@ -3,15 +3,15 @@ ghost use Rattle.std.specs.Prelude.{IsTrue};
 ghost use Rattle.heap_formula.specs.Words.{Each};
 ghost use Rattle.problem_files.specs.Nodes.{IsNodeWithin};
 
-use crate::heaps::is_judgement_within;
 use crate::rules::{are_short_numbers, is_reason_within, is_short_reason};
 use pred_defs::Defs;
 use proof_file::FileNode;
+use value_limits::judgement_excess;
 
 fn is_node_within(defs: &Defs, lines: usize, node: &FileNode) -> bool
     ensures { IsTrue result → IsNodeWithin defs.now.most defs.now.list lines node.now }
 {
-    is_judgement_within(defs, lines, &node.judgement)
+    judgement_excess(defs, lines, &node.judgement).is_none()
         && is_reason_within(defs, &node.reason)
         && is_short_reason(&node.reason)
         && are_short_numbers(node.premises.as_slice())

@@ -3,18 +3,18 @@ ghost use Rattle.std.specs.Prelude.{IsTrue};
 ghost use Rattle.heap_formula.specs.Words.{Each};
 ghost use Rattle.format_limits.specs.Limits.{HasShortLink, HasShortNumbers, HasShortRule, IsPairWithin, IsReasonWithin, IsRuleWithin, IsShortNumber};
 
-use crate::heaps::is_heap_within;
 use crate::terms::is_term_within;
 use cyc_limits::GREATEST_VARIABLE;
 use heap_formula::{Link, Reason, Rule, Term};
 use pred_defs::Defs;
+use value_limits::heap_excess;
 
 fn is_rule_within(defs: &Defs, rule: &Rule) -> bool
     ensures { IsTrue result → IsRuleWithin defs.now.most defs.now.list rule.now }
 {
     match rule {
         Rule::Split(t, u) => is_term_within(*t) && is_term_within(*u),
-        Rule::Cut(_, formula) => is_heap_within(defs, formula),
+        Rule::Cut(_, formula) => heap_excess(defs, formula).is_none(),
         Rule::Instantiate(v, t) => u32::from(*v) <= GREATEST_VARIABLE && is_term_within(*t),
         Rule::Absurd
         | Rule::Rewrite(_, _)

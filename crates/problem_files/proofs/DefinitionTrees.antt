@@ -26,8 +26,10 @@ use Rattle.proof_file.specs.Spans.{term_span, definition_span}
 use Rattle.proof_file.specs.Flaws.{term_flaw, head_flaw, definition_flaw}
 use Rattle.proof_file.specs.Readable.{has_few_cases, all_have_few_cases}
 use Rattle.proof_file.specs.Written.{heap_tree, definition_tree}
-use Rattle.problem_files.proofs.Lists.{many_fit, none_later, all_true}
-use Rattle.problem_files.proofs.Names.{HaveFreeNames, HaveOwnNames, few_parameters, heads_of}
+use Rattle.problem_files.proofs.Lists.{many_fit, none_later}
+use Rattle.value_limits.proofs.Firsts.{all_pass}
+use Rattle.problem_files.proofs.Names.{few_parameters, heads_of}
+use Rattle.value_limits.specs.Within.{HaveFreeNames, HaveOwnNames}
 use Rattle.problem_files.proofs.Terms.{IsFlawless}
 use Rattle.problem_files.proofs.Heaps.{in_heap_both, heaps_fit, heaps_flawless}
 use Rattle.heap_formula.proofs.Members.{each_from as each_at}
@@ -113,4 +115,4 @@ module _ (limit : ℕ) (ds : List Definition) (few : length ds ≤ 4096) (own : 
 -- ---- their cases are few
 
 pub few_cases : (limit : ℕ) (ds xs : List Definition) → Each (IsDefinitionWithin limit ds) xs → all_have_few_cases xs ≡ true
-few_cases limit ds xs w = all_true has_few_cases xs (each_imply (IsDefinitionWithin limit ds) (λ d. has_few_cases d ≡ true) (λ d x. le-leb (length d.cases) 16 x.few) xs w)
+few_cases limit ds xs w = all_pass has_few_cases xs (each_imply (IsDefinitionWithin limit ds) (λ d. has_few_cases d ≡ true) (λ d x. le-leb (length d.cases) 16 x.few) xs w)

@@ -15,11 +15,15 @@ use Rattle.proof_file.specs.Flaws.{definition_flaw, program_flaw, node_flaw, fir
 use Rattle.proof_file.specs.Written.{node_tree, tree_of}
 use Rattle.problem_files.specs.Nodes.{IsNodeWithin}
 use Rattle.problem_files.proofs.Lists.{none_later}
-use Rattle.problem_files.proofs.Names.{HaveFreeNames, HaveOwnNames, few_parameters, heads_of}
-use Rattle.problem_files.proofs.ProgramLines.{IsCommandOf, program_fits, lines_long, program_flawless}
+use Rattle.problem_files.proofs.Names.{few_parameters, heads_of}
+use Rattle.value_limits.specs.Within.{HaveFreeNames, HaveOwnNames}
+use Rattle.problem_files.proofs.ProgramLines.{program_fits, lines_long, program_flawless}
+use Rattle.value_limits.specs.Within.{IsCommandOf}
 use Rattle.problem_files.proofs.DefinitionTrees.{definitions_fit, definitions_flawless}
 use Rattle.problem_files.proofs.NodesFit.{nodes_fit}
 use Rattle.problem_files.proofs.NodesFlawless.{nodes_flawless}
+use Rattle.formula_reader.specs.declared.problem.Problem.{Problem}
+use Rattle.formula_reader.proofs.Within.{problem_keeps}
 
 module _ (version : Version) (limit : ℕ) (same : limit ≡ most_spatial version) (ds : List Definition) (cs : List Command) (ns : List FileNode) (w : Each (IsDefinitionWithin limit ds) ds) (program : IsProgram cs) (known : Each (IsCommandOf version) cs) (nodes : Each (IsNodeWithin limit ds (length cs)) ns) where
   pub file_fits : HaveFreeNames ds → 0 < length ns → grammar.file.fits (tree_of version ds cs ns)
@@ -37,3 +41,16 @@ module _ (version : Version) (limit : ℕ) (same : limit ≡ most_spatial versio
       let first_here = subst (λ (most : ℕ). listed_flaw (definition_flaw most hs) definition_span 0 4 file.definitions ≡ None) same first in
       let third_here = subst (λ (most : ℕ). listed_flaw (node_flaw most hs (length file.lines)) node_span 0 (first_node file) file.nodes ≡ None) same third in
       none_later (listed_flaw (definition_flaw (most_spatial version) hs) definition_span 0 4 file.definitions) (or_later (program_flaw (first_line file) file.lines) (nodes_flaw file)) first_here (none_later (program_flaw (first_line file) file.lines) (nodes_flaw file) second third_here)
+
+-- ---- a problem with nodes within its limits
+
+module _ (p : Problem) (ns : List FileNode) where
+  pub problem_fits : 0 < length ns → Each (IsNodeWithin p.defs.most p.defs.list (length p.program)) ns → grammar.file.fits (tree_of p.version p.defs.list p.program ns)
+  problem_fits some w =
+      let kept = problem_keeps p in
+      file_fits p.version p.defs.most p.limit p.defs.list p.program ns kept.definitions kept.program kept.commands w kept.free some
+
+  pub problem_flawless : length ns ≤ 20000 → Each (IsNodeWithin p.defs.most p.defs.list (length p.program)) ns → file_flaw (tree_of p.version p.defs.list p.program ns) ≡ None
+  problem_flawless most w =
+      let kept = problem_keeps p in
+      file_flawless p.version p.defs.most p.limit p.defs.list p.program ns kept.definitions kept.program kept.commands w kept.own kept.few most

@@ -26,7 +26,8 @@ use Rattle.heap_reader.specs.Spans.{pure_span, pures_span, spatial_span, heap_sp
 use Rattle.heap_reader.specs.Flaws.{Found, over_if, arity_in, use_flaw, argument_flaw, arguments_flaw, pure_flaw, spatial_flaw, heap_flaw, counted_flaw, heaps_flaw}
 use Rattle.proof_file.specs.Written.{term_tree, pure_tree, name_of, spatial_tree, heap_tree}
 use Rattle.problem_files.proofs.Lists.{each_of_both, list_fits, listed_fits, none_later, none_listed}
-use Rattle.problem_files.proofs.Names.{HaveFreeNames, HaveOwnNames, HaveFewParameters, heads_of, used_name_free, used_with_few, no_use_flaw}
+use Rattle.problem_files.proofs.Names.{HaveFewParameters, heads_of, used_name_free, used_with_few, no_use_flaw}
+use Rattle.value_limits.specs.Within.{HaveFreeNames, HaveOwnNames}
 use Rattle.pred_reader.specs.Written.{TermFits}
 use Rattle.problem_files.proofs.Terms.{MayStand, term_fits, IsFlawless}
 use Rattle.formula_facts.proofs.AllMembers.{each_imply}

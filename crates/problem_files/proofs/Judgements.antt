@@ -1,20 +1,12 @@
 -- A judgement's tree fits the grammar, and has no flaw.
-use Rattle.std.proofs.Common.{◌≡◌, ℕ, ◌+◌, ◌≤◌, true, false, List, [], ◌∷◌, None, refl, arith}
+use Rattle.std.proofs.Common.{◌≡◌, ℕ, ◌+◌, ◌≤◌, true, false, List, None, refl, arith}
 use Rattle.std.specs.Prelude.{◌||◌, nat_eq, nat_lt, nat_le}
-use Rattle.std.specs.List.{list_all}
 use Rattle.std.proofs.lemmas.Bool.{and_from, le-leb, lt-ltb, le-ltb, ne_eqb}
-use Rattle.heap_formula.specs.declared.terms.Term.{Term}
-use Rattle.heap_formula.specs.declared.atoms.Pure.{Pure}
-use Rattle.heap_formula.specs.declared.atoms.Pure.TheVariants.{Eq, Neq}
-use Rattle.heap_formula.specs.declared.atoms.Spatial.{Spatial}
-use Rattle.heap_formula.specs.declared.atoms.Spatial.TheVariants.{Cell, Pred}
 use Rattle.heap_formula.specs.declared.judgements.Judgement.{Judgement}
 use Rattle.heap_formula.specs.declared.judgements.Judgement.TheVariants.{Entail, Term as Runs}
-use Rattle.heap_formula.specs.Closedness.{InPure, InSpatial, InHeap, IsUniversal, IsUniversalHeap}
+use Rattle.heap_formula.specs.Closedness.{InHeap}
 use Rattle.heap_formula.specs.Definitions.{Definition}
 use Rattle.heap_formula.specs.Symbolic.{SymbolicHeap}
-use Rattle.heap_formula.specs.Words.{Each}
-use Rattle.rule_table.specs.Tests.{is_universal, are_universal, is_universal_pure, is_universal_spatial, is_universal_heap}
 use Rattle.goto_lang.specs.Lines.{IsLineOf}
 use Rattle.format_limits.specs.Limits.{IsHeapWithin, IsJudgementWithin}
 use Rattle.format_limits.proofs.Heaps.{IsLow, small}
@@ -28,9 +20,10 @@ use Rattle.proof_file.specs.Spans.{term_span}
 use Rattle.proof_file.specs.Flaws.{term_flaw, judgement_flaw}
 use Rattle.proof_file.specs.Readable.{is_at_line}
 use Rattle.proof_file.specs.Written.{heap_tree, judgement_tree}
-use Rattle.problem_files.proofs.Lists.{none_later, all_true}
-use Rattle.problem_files.proofs.Names.{HaveFreeNames, HaveOwnNames, HaveFewParameters, heads_of}
-use Rattle.problem_files.proofs.Terms.{IsFlawless, term_flawless, term_readable}
+use Rattle.problem_files.proofs.Lists.{none_later}
+use Rattle.problem_files.proofs.Names.{HaveFewParameters, heads_of}
+use Rattle.value_limits.specs.Within.{HaveFreeNames, HaveOwnNames}
+use Rattle.problem_files.proofs.Terms.{IsFlawless, term_flawless}
 use Rattle.problem_files.proofs.Heaps.{in_heap_both, heap_fits, heaps_fit, heap_flawless, heaps_flawless}
 use Rattle.formula_facts.proofs.AllMembers.{each_imply}
 
@@ -71,21 +64,3 @@ module _ (limit : ℕ) (ds : List Definition) (count : ℕ) where
   judgement_at_line (Entail a bs) w = refl
   judgement_at_line (Runs i a) w =
       and_from (nat_lt 0 i) (nat_le i count) (lt-ltb 0 i w.form.0) (le-leb i count w.form.1)
-
--- ---- universal variables alone
-
-terms_readable : (ts : List Term) → Each IsUniversal ts → are_universal ts ≡ true
-terms_readable [] u = refl
-terms_readable (t ∷ ts) u = and_from (is_universal t) (are_universal ts) (term_readable t u.0) (terms_readable ts u.1)
-
-pure_readable : (x : Pure) → InPure IsUniversal x → is_universal_pure x ≡ true
-pure_readable (Eq t u) q = and_from (is_universal t) (is_universal u) (term_readable t q.0) (term_readable u q.1)
-pure_readable (Neq t u) q = and_from (is_universal t) (is_universal u) (term_readable t q.0) (term_readable u q.1)
-
-spatial_readable : (x : Spatial) → InSpatial IsUniversal x → is_universal_spatial x ≡ true
-spatial_readable (Cell t ts) q = and_from (is_universal t) (are_universal ts) (term_readable t q.0) (terms_readable ts q.1)
-spatial_readable (Pred k ts) q = terms_readable ts q
-
-pub heap_readable : (a : SymbolicHeap) → IsUniversalHeap a → is_universal_heap a ≡ true
-heap_readable a u =
-    and_from (list_all is_universal_pure a.pure) (list_all is_universal_spatial a.spatial) (all_true is_universal_pure a.pure (each_imply (InPure IsUniversal) (λ x. is_universal_pure x ≡ true) pure_readable a.pure u.0)) (all_true is_universal_spatial a.spatial (each_imply (InSpatial IsUniversal) (λ x. is_universal_spatial x ≡ true) spatial_readable a.spatial u.1))

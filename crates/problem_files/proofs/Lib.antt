@@ -6,11 +6,6 @@ pub mod Judgements
 pub mod Reasons
 pub mod NodesFit
 pub mod NodesFlawless
-pub mod ProblemHeaps
-pub mod ProblemNames
-pub mod Kept
-pub mod ProblemKeeps
 pub mod ProgramLines
-pub mod ProblemLines
 pub mod DefinitionTrees
 pub mod FileTrees

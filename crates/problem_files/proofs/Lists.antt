@@ -1,7 +1,5 @@
--- Lists whose members fit, are without a flaw, or pass a test.
-use Rattle.std.proofs.Common.{◌≡◌, ℕ, suc, ◌+◌, ◌<◌, ◌≤◌, Bool, true, List, [], ◌∷◌, map, length, None, refl, arith}
-use Rattle.std.specs.List.{list_all}
-use Rattle.std.proofs.lemmas.Bool.{and_from}
+-- Lists whose members fit, or are without a flaw.
+use Rattle.std.proofs.Common.{◌≡◌, ℕ, suc, ◌+◌, ◌<◌, ◌≤◌, List, [], ◌∷◌, map, length, None, refl, arith}
 use Rattle.heap_formula.specs.Words.{Each}
 use Rattle.cyc_grammar.specs.Syntax.{Syntax, Class, after, list1, fits_many}
 use Rattle.heap_syntax.specs.Grammar as shared
@@ -42,9 +40,3 @@ pub none_listed : {X Y : Type 0} (flaw : ℕ → ℕ → Y → Found) (span : Y 
 none_listed flaw span tree P most one n k [] few e = refl
 none_listed flaw span tree P most one n k (x ∷ xs) few e =
     none_later (flaw n k (tree x)) (listed_flaw flaw span (suc n) (k + span (tree x)) (map tree xs)) (one n k x (omega arith) e.0) (none_listed flaw span tree P most one (suc n) (k + span (tree x)) xs (omega arith) e.1)
-
--- ---- members that pass a test
-
-pub all_true : {X : Type 0} (test : X → Bool) (xs : List X) → Each (λ x. test x ≡ true) xs → list_all test xs ≡ true
-all_true test [] e = refl
-all_true test (x ∷ xs) e = and_from (test x) (list_all test xs) e.0 (all_true test xs e.1)

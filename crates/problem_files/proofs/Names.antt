@@ -10,6 +10,7 @@ use Rattle.pred_defs.specs.Faults.{arity_fault}
 use Rattle.pred_defs.specs.declared.faults.DefFault.TheVariants.{Arity}
 use Rattle.cyc_lex.specs.declared.fault.IllFault.TheVariants.{Arity as Unfit}
 use Rattle.format_limits.specs.Limits.{IsDefinitionWithin}
+use Rattle.value_limits.specs.Within.{HaveFreeNames, HaveOwnNames}
 use Rattle.cyc_grammar.specs.Classes.{is_free_name}
 use Rattle.proof_syntax.specs.Grammar.{reserved}
 use Rattle.heap_reader.specs.Trees.{Heading}
@@ -17,15 +18,6 @@ use Rattle.heap_reader.specs.Flaws.{ill_if, arity_in, use_flaw}
 use Rattle.proof_file.specs.Flaws.{headings}
 use Rattle.proof_file.specs.Written.{name_in, name_of, definition_tree}
 use Rattle.formula_facts.proofs.AllMembers.{each_at}
-
--- each definition has a name that is not reserved
-abbrev pub HaveFreeNames : List Definition → Type 0
-HaveFreeNames ds = (q : ℕ) (d : Definition) → slice_get ds q ≡ Some d → is_free_name reserved d.name ≡ true
-
--- no two definitions have one name
-abbrev pub HaveOwnNames : List Definition → Type 0
-HaveOwnNames ds =
-    (p q : ℕ) (d e : Definition) → slice_get ds p ≡ Some d → slice_get ds q ≡ Some e → d.name ≡ e.name → p ≡ q
 
 -- each definition has at most eight parameters
 abbrev pub HaveFewParameters : List Definition → Type 0

@@ -9,9 +9,11 @@ use Rattle.proof_file.specs.FileNodes.{FileNode}
 use Rattle.proof_file.specs.Readable.{is_universal_reason, is_readable, are_readable, is_at_line, are_at_lines}
 use Rattle.proof_file.specs.Written.{node_tree}
 use Rattle.problem_files.specs.Nodes.{IsNodeWithin}
-use Rattle.problem_files.proofs.Lists.{many_fit, all_true}
-use Rattle.problem_files.proofs.Names.{HaveFreeNames}
-use Rattle.problem_files.proofs.Judgements.{judgement_fits, judgement_at_line, heap_readable}
+use Rattle.problem_files.proofs.Lists.{many_fit}
+use Rattle.value_limits.proofs.Firsts.{all_pass}
+use Rattle.value_limits.specs.Within.{HaveFreeNames}
+use Rattle.problem_files.proofs.Judgements.{judgement_fits, judgement_at_line}
+use Rattle.value_limits.proofs.Universal.{universal_heap_passes}
 use Rattle.problem_files.proofs.Reasons.{reason_fits, premises_fit, reason_readable}
 use Rattle.formula_facts.proofs.AllMembers.{each_imply}
 use Rattle.rule_table.specs.Tests.{is_universal_heap}
@@ -31,11 +33,11 @@ module _ (limit : ℕ) (ds : List Definition) (count : ℕ) where
 
   node_readable : (n : FileNode) → IsNodeWithin limit ds count n → is_readable n ≡ true
   node_readable n w =
-      and_from (is_universal_heap (antecedent n.judgement)) (is_universal_reason n.reason) (heap_readable (antecedent n.judgement) w.judgement.universal) (reason_readable limit ds n.reason w.reason)
+      and_from (is_universal_heap (antecedent n.judgement)) (is_universal_reason n.reason) (universal_heap_passes (antecedent n.judgement) w.judgement.universal) (reason_readable limit ds n.reason w.reason)
 
   pub nodes_readable : (ns : List FileNode) → Each (IsNodeWithin limit ds count) ns → are_readable ns ≡ true
-  nodes_readable ns w = all_true is_readable ns (each_imply (IsNodeWithin limit ds count) (λ n. is_readable n ≡ true) node_readable ns w)
+  nodes_readable ns w = all_pass is_readable ns (each_imply (IsNodeWithin limit ds count) (λ n. is_readable n ≡ true) node_readable ns w)
 
   pub nodes_at_lines : (ns : List FileNode) → Each (IsNodeWithin limit ds count) ns → are_at_lines count ns ≡ true
   nodes_at_lines ns w =
-      all_true (λ n. is_at_line count n.judgement) ns (each_imply (IsNodeWithin limit ds count) (λ n. is_at_line count n.judgement ≡ true) (λ n v. judgement_at_line limit ds count n.judgement v.judgement) ns w)
+      all_pass (λ n. is_at_line count n.judgement) ns (each_imply (IsNodeWithin limit ds count) (λ n. is_at_line count n.judgement ≡ true) (λ n v. judgement_at_line limit ds count n.judgement v.judgement) ns w)

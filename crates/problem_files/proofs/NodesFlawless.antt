@@ -12,7 +12,8 @@ use Rattle.proof_file.specs.Flaws.{headings, node_flaw}
 use Rattle.proof_file.specs.Written.{definition_tree, judgement_tree, node_tree}
 use Rattle.problem_files.specs.Nodes.{IsNodeWithin}
 use Rattle.problem_files.proofs.Lists.{none_later, none_listed}
-use Rattle.problem_files.proofs.Names.{HaveOwnNames, HaveFewParameters, heads_of}
+use Rattle.problem_files.proofs.Names.{HaveFewParameters, heads_of}
+use Rattle.value_limits.specs.Within.{HaveOwnNames}
 use Rattle.problem_files.proofs.Judgements.{judgement_flawless}
 use Rattle.problem_files.proofs.Reasons.{reason_flawless}
 

@@ -31,7 +31,8 @@ use Rattle.proof_file.specs.Flaws.{variable_flaw, program_flaw}
 use Rattle.proof_file.specs.Readable.{is_universal_command, are_universal_commands}
 use Rattle.proof_file.specs.Written.{operand_tree, command_tree, lines_behind, lines_tree}
 use Rattle.problem_files.proofs.Lists.{none_later}
-use Rattle.problem_files.proofs.Terms.{term_readable}
+use Rattle.value_limits.specs.Within.{IsCommandOf}
+use Rattle.value_limits.proofs.Universal.{universal_term_passes}
 use Rattle.formula_facts.proofs.Greatest.{each_below}
 
 -- ---- what a line keeps
@@ -61,11 +62,6 @@ program_lines cs program =
     lines_from (length cs) 0 cs (λ i c e. (
     let here : suc i ≡ 0 + (i + 1) = omega arith in
     subst (λ (m : ℕ). MayStandAt (length cs) m c) here (program.commands (suc i) c e))) (each_below command_bound 64 cs program.few_variables) program.universal
-
--- the command has a text in the version
-abbrev pub IsCommandOf : Version → Command → Type 0
-IsCommandOf version (commands.IfAny j) = syntax.has_free_branches version ≡ true
-IsCommandOf version c = Unit {0}
 
 -- ---- the lines fit
 
@@ -248,13 +244,13 @@ program_flawless cs program k =
 -- ---- no existential variable stands in them
 
 command_universal : (c : Command) → IsUniversalCommand c → is_universal_command c ≡ true
-command_universal (commands.Assign x t) u = term_readable t u
-command_universal (commands.Load x t k) u = term_readable t u
-command_universal (commands.Store t k v) u = and_from (is_universal t) (is_universal v) (term_readable t u.0) (term_readable v u.1)
+command_universal (commands.Assign x t) u = universal_term_passes t u
+command_universal (commands.Load x t k) u = universal_term_passes t u
+command_universal (commands.Store t k v) u = and_from (is_universal t) (is_universal v) (universal_term_passes t u.0) (universal_term_passes v u.1)
 command_universal (commands.New x k) u = refl
-command_universal (commands.Free t) u = term_readable t u
-command_universal (commands.IfEq t v j) u = and_from (is_universal t) (is_universal v) (term_readable t u.0) (term_readable v u.1)
-command_universal (commands.IfNeq t v j) u = and_from (is_universal t) (is_universal v) (term_readable t u.0) (term_readable v u.1)
+command_universal (commands.Free t) u = universal_term_passes t u
+command_universal (commands.IfEq t v j) u = and_from (is_universal t) (is_universal v) (universal_term_passes t u.0) (universal_term_passes v u.1)
+command_universal (commands.IfNeq t v j) u = and_from (is_universal t) (is_universal v) (universal_term_passes t u.0) (universal_term_passes v u.1)
 command_universal (commands.IfAny j) u = refl
 command_universal (commands.Goto j) u = refl
 command_universal commands.Stop u = refl

@@ -19,9 +19,12 @@ use Rattle.proof_file.specs.Spans.{term_span, pair_span}
 use Rattle.proof_file.specs.Flaws.{pair_flaw, reason_flaw}
 use Rattle.proof_file.specs.Readable.{is_universal_reason}
 use Rattle.proof_file.specs.Written.{term_tree, pair_tree, reason_tree}
-use Rattle.problem_files.proofs.Lists.{list_fits, none_later, none_listed, all_true}
-use Rattle.problem_files.proofs.Names.{HaveFreeNames, HaveOwnNames, HaveFewParameters, heads_of}
-use Rattle.problem_files.proofs.Terms.{uterm_fits, term_flawless, term_readable}
+use Rattle.problem_files.proofs.Lists.{list_fits, none_later, none_listed}
+use Rattle.value_limits.proofs.Firsts.{all_pass}
+use Rattle.problem_files.proofs.Names.{HaveFewParameters, heads_of}
+use Rattle.value_limits.specs.Within.{HaveFreeNames, HaveOwnNames}
+use Rattle.problem_files.proofs.Terms.{uterm_fits, term_flawless}
+use Rattle.value_limits.proofs.Universal.{universal_term_passes}
 use Rattle.problem_files.proofs.Heaps.{any_heap_fits}
 use Rattle.problem_files.proofs.Judgements.{node_heap_flawless}
 use Rattle.formula_facts.proofs.AllMembers.{each_imply}
@@ -103,7 +106,7 @@ module _ (limit : ℕ) (ds : List Definition) where
   pub reason_readable : (r : Reason) → IsReasonWithin limit ds r → is_universal_reason r ≡ true
   reason_readable (Step Absurd) w = refl
   reason_readable (Step (Rewrite i side)) w = refl
-  reason_readable (Step (Split t u)) w = and_from (is_universal t) (is_universal u) (term_readable t w.0.0) (term_readable u w.1.0)
+  reason_readable (Step (Split t u)) w = and_from (is_universal t) (is_universal u) (universal_term_passes t w.0.0) (universal_term_passes u w.1.0)
   reason_readable (Step (Distinct i j)) w = refl
   reason_readable (Step (Weaken i)) w = refl
   reason_readable (Step (Unfold i)) w = refl
@@ -111,10 +114,10 @@ module _ (limit : ℕ) (ds : List Definition) where
   reason_readable (Step Done) w = refl
   reason_readable (Step (Choose j)) w = refl
   reason_readable (Step (PureRight i)) w = refl
-  reason_readable (Step (Instantiate v t)) w = term_readable t w.1.0
+  reason_readable (Step (Instantiate v t)) w = universal_term_passes t w.1.0
   reason_readable (Step (Frame i j)) w = refl
   reason_readable (Step (UnfoldRight j c)) w = refl
   reason_readable (Step Exec) w = refl
   reason_readable (Step (Drop i)) w = refl
   reason_readable (Back link) w =
-      all_true (λ pair. is_universal pair.1) link.subst (each_imply IsPairWithin (λ p. is_universal p.1 ≡ true) (λ p q. term_readable p.1 q.1.0) link.subst w)
+      all_pass (λ pair. is_universal pair.1) link.subst (each_imply IsPairWithin (λ p. is_universal p.1 ≡ true) (λ p q. universal_term_passes p.1 q.1.0) link.subst w)

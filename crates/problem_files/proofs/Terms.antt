@@ -5,7 +5,6 @@ use Rattle.heap_formula.specs.declared.terms.Term.{Term}
 use Rattle.heap_formula.specs.declared.terms.Term.TheVariants.{Nil, Univ, Exist}
 use Rattle.heap_formula.specs.Closedness.{IsUniversal}
 use Rattle.rule_table.specs.Answer.{number_bound}
-use Rattle.rule_table.specs.Tests.{is_universal}
 use Rattle.format_limits.specs.Limits.{IsTermWithin}
 use Rattle.pred_syntax.specs.declared.tree.TermTree.{TermTree}
 use Rattle.proof_syntax.specs.Grammar as grammar
@@ -43,8 +42,3 @@ pub term_flawless : (t : Term) → number_bound t ≤ 65535 → IsFlawless (term
 term_flawless Nil b k = refl
 term_flawless (Univ n) b k = rw (le-ltb 65534 n (omega arith))
 term_flawless (Exist n) b k = rw (le-ltb 65534 n (omega arith))
-
-pub term_readable : (t : Term) → IsUniversal t → is_universal t ≡ true
-term_readable Nil u = refl
-term_readable (Univ n) u = refl
-term_readable (Exist n) u = absurd u

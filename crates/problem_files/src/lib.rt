@@ -5,4 +5,4 @@ mod files;
 mod laws;
 
 pub use files::file_for;
-pub use laws::problem_is_within;
+pub use laws::{problem_has_text, problem_is_within};

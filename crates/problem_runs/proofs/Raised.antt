@@ -10,7 +10,7 @@ use Rattle.heap_formula.specs.Words.{Each}
 use Rattle.format_limits.specs.Limits.{IsHeapWithin, IsCaseWithin, IsDefinitionWithin}
 use Rattle.format_limits.proofs.Heaps.{small}
 use Rattle.heap_syntax.specs.declared.version.Version.TheVariants.{Two}
-use Rattle.problem_files.proofs.ProgramLines.{IsCommandOf}
+use Rattle.value_limits.specs.Within.{IsCommandOf}
 use Rattle.formula_facts.proofs.AllMembers.{each_imply, each_any}
 
 pub heap_raised : (most : ℕ) (ds : List Definition) (a : SymbolicHeap) → most ≤ 32 → IsHeapWithin most ds a → IsHeapWithin 32 ds a

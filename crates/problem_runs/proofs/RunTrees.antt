@@ -24,13 +24,14 @@ use Rattle.proof_file.specs.Written.{judgement_tree}
 use Rattle.formula_facts.proofs.AllMembers.{each_imply}
 use Rattle.formula_reader.specs.declared.problem.Problem.{Problem}
 use Rattle.problem_files.proofs.Lists.{none_later}
-use Rattle.problem_files.proofs.Names.{HaveFreeNames, HaveOwnNames, few_parameters, heads_of}
+use Rattle.value_limits.specs.Within.{HaveFreeNames, HaveOwnNames}
+use Rattle.problem_files.proofs.Names.{few_parameters, heads_of}
 use Rattle.problem_files.proofs.Heaps.{heap_fits}
 use Rattle.problem_files.proofs.Judgements.{judgement_flawless}
 use Rattle.problem_files.proofs.ProgramLines.{program_fits, lines_long, commands_universal}
 use Rattle.problem_files.proofs.DefinitionTrees.{definitions_fit}
 use Rattle.problem_files.proofs.FileTrees.{file_flawless}
-use Rattle.problem_files.proofs.ProblemKeeps.{problem_keeps}
+use Rattle.formula_reader.proofs.Within.{problem_keeps}
 use Rattle.model_syntax.specs.Grammar.{state}
 use Rattle.model_file.specs.Flaws.{stack_flaw, cells_flaw}
 use Rattle.model_file.specs.Written.{cells_tree}
@@ -89,7 +90,7 @@ problem_low p = let l : most_spatial p.version ≤ 32 = most_fits p.version in l
 
 module _ (p : Problem) (i : ℕ) (a : SymbolicHeap) (goal : p.goal ≡ Halting i a) where
   judged : IsJudgementWithin p.defs.most p.defs.list (length p.program) (Halting i a)
-  judged = subst (λ (g : Judgement). IsJudgementWithin p.defs.most p.defs.list (length p.program) g) goal (problem_keeps p).judgement
+  judged = subst (λ (g : Judgement). IsJudgementWithin p.defs.most p.defs.list (length p.program) g) goal (problem_keeps p).goal
 
   pub claim_within : IsJudgementWithin 32 p.defs.list (length p.program) (Halting i a)
   claim_within = record { heaps = (heap_raised p.defs.most p.defs.list a (problem_low p) judged.heaps.0, tt); universal = judged.universal; form = judged.form }

@@ -1,4 +1,4 @@
-use Rattle.std.proofs.Common.{◌≡◌, List, length, map, sym, ap, ◌∙◌, subst, arith, refl, None}
+use Rattle.std.proofs.Common.{◌≡◌, List, length, map, sym, ap, ◌∙◌, subst, arith, None}
 use Rattle.std.proofs.lemmas.List.{length-map}
 use Rattle.heap_formula.specs.Words.{Each}
 use Rattle.heap_formula.specs.Judgements.{antecedent}
@@ -13,9 +13,10 @@ use Rattle.name_numbers.specs.Numbered.{definition_of, problem_of}
 use Rattle.formula_reader.specs.Flaws.{heading}
 use Rattle.formula_reader.specs.Values.{definition_value, goal_value}
 use Rattle.heap_reader.specs.Small.{is_short_heap}
-use Rattle.formula_reader.specs.WellFormed.{goal_heaps, goal_fault, has_line}
+use Rattle.formula_reader.specs.Problems.{goal_heaps, goal_fault, has_line}
 use Rattle.formula_reader.specs.Small.{IsSmallDefinition}
 use Rattle.formula_reader.proofs.Keeping.{small_of, is_closed, is_known, has_universal_antecedent, is_short, has_its_line}
+use Rattle.formula_reader.proofs.Within.{said_within}
 use Rattle.formula_reader.proofs.reading.problem_of_tree.Goals as goal
 use Rattle.rule_table.specs.Tests.{is_universal_heap}
 
@@ -63,9 +64,10 @@ invariant_of-result c =
     let definitions_are = ap (λ (b : DefinitionBook). b.list) c.from_vec.ensures ∙ c.in_ok-definitions.ensures.value ∙ (λ i. map (definition_value (same i)) (map definition_of (c.deref.ensures.value i))) in
     let lines_are = c.in_ok-program.ensures ∙ (λ i. program_value (c.deref-2.ensures.value i)) in
     let goal_is = c.in_ok-goal.ensures ∙ (λ i. goal_value (same i) p.goal) in
+    let limit_is = ap (λ (b : DefinitionBook). b.most) c.from_vec.ensures ∙ c.most_spatial.ensures.value in
     record {
-      limit = ap (λ (b : DefinitionBook). b.most) c.from_vec.ensures ∙ c.most_spatial.ensures.value;
-      well_formed = ∣ (p, record { version_is = refl; text = text; flawless = right; definitions = definitions_are; program = lines_are; goal = goal_is }) ∣₁;
+      limit = limit_is;
+      within = ∣ said_within p text right c.from_vec.result.most c.from_vec.result.list c.in_ok-program.program c.in_ok-goal.goal limit_is definitions_are lines_are goal_is ∣₁;
       closed = (λ i. closed_fault (definitions_are i)) ∙ is_closed p text right;
       known = (λ i. goal_fault (definitions_are i) (goal_is i)) ∙ is_known p text right;
       universal = (λ i. is_universal_heap (antecedent (goal_is i))) ∙ has_universal_antecedent p text right;

@@ -6,11 +6,11 @@ use Rattle.proof_syntax.specs.Grammar.{file}
 use Rattle.proof_file.specs.Readable.{are_universal_commands, are_at_lines, all_have_few_cases}
 use Rattle.proof_file.specs.Flaws.{file_flaw}
 use Rattle.proof_file.specs.Written.{tree_of}
-use Rattle.problem_files.proofs.ProblemKeeps.{problem_keeps}
+use Rattle.formula_reader.proofs.Within.{problem_keeps}
 use Rattle.problem_files.proofs.ProgramLines.{commands_universal}
 use Rattle.problem_files.proofs.DefinitionTrees.{few_cases}
 use Rattle.problem_files.proofs.NodesFit.{nodes_readable, nodes_at_lines}
-use Rattle.problem_files.proofs.FileTrees.{file_fits, file_flawless}
+use Rattle.problem_files.proofs.FileTrees.{problem_fits, problem_flawless}
 use Rattle.problem_files.proofs.files.file_for.Goals as goal
 
 copied : (P : DefinitionBook → List Command → Type 0) (book copy : DefinitionBook) (program lines : List Command) → copy ≡ book → lines ≡ program → P book program → P copy lines
@@ -40,11 +40,9 @@ invariant_of-result-clause-cases c =
 pub invariant_of-result-clause-fits : goal.invariant_of-result-clause-fits
 invariant_of-result-clause-fits c =
     let p = c.args.problem.now in
-    let kept = problem_keeps p in
-    copied (λ book lines. file.fits (tree_of p.version book.list lines c.args.nodes)) p.defs c.in_ok-defs.defs p.program c.in_ok-program.program c.in_ok-defs.ensures.cases c.in_ok-program.ensures.cases (file_fits p.version p.defs.most p.limit p.defs.list p.program c.args.nodes kept.definitions kept.program kept.commands c.requires.within kept.free c.requires.some_node)
+    copied (λ book lines. file.fits (tree_of p.version book.list lines c.args.nodes)) p.defs c.in_ok-defs.defs p.program c.in_ok-program.program c.in_ok-defs.ensures.cases c.in_ok-program.ensures.cases (problem_fits p c.args.nodes c.requires.some_node c.requires.within)
 
 pub invariant_of-result-clause-flawless : goal.invariant_of-result-clause-flawless
 invariant_of-result-clause-flawless c =
     let p = c.args.problem.now in
-    let kept = problem_keeps p in
-    copied (λ book lines. file_flaw (tree_of p.version book.list lines c.args.nodes) ≡ None) p.defs c.in_ok-defs.defs p.program c.in_ok-program.program c.in_ok-defs.ensures.cases c.in_ok-program.ensures.cases (file_flawless p.version p.defs.most p.limit p.defs.list p.program c.args.nodes kept.definitions kept.program kept.commands c.requires.within kept.own kept.few c.requires.few)
+    copied (λ book lines. file_flaw (tree_of p.version book.list lines c.args.nodes) ≡ None) p.defs c.in_ok-defs.defs p.program c.in_ok-program.program c.in_ok-defs.ensures.cases c.in_ok-program.ensures.cases (problem_flawless p c.args.nodes c.requires.few c.requires.within)

@@ -1,4 +1,4 @@
-use Rattle.problem_files.proofs.ProblemKeeps.{problem_keeps}
+use Rattle.formula_reader.proofs.Within.{problem_keeps}
 use Rattle.problem_files.proofs.laws.problem_is_within.Goals as goal
 
 pub returns-clause-definitions : goal.returns-clause-definitions
@@ -8,4 +8,4 @@ pub returns-clause-program : goal.returns-clause-program
 returns-clause-program c = (problem_keeps c.args._problem.now).program
 
 pub returns-clause-goal : goal.returns-clause-goal
-returns-clause-goal c = (problem_keeps c.args._problem.now).judgement
+returns-clause-goal c = (problem_keeps c.args._problem.now).goal

@@ -4,7 +4,7 @@ use Rattle.heap_formula.specs.Cells.{IsHeap}
 use Rattle.pred_defs.specs.Book.{DefinitionBook}
 use Rattle.rule_table.specs.Tests.{is_universal_heap}
 use Rattle.proof_file.specs.Readable.{are_universal_commands}
-use Rattle.problem_files.proofs.Judgements.{heap_readable}
+use Rattle.value_limits.proofs.Universal.{universal_heap_passes}
 use Rattle.run_file.specs.Trees.{Run}
 use Rattle.run_file.specs.Grammar.{run}
 use Rattle.run_file.specs.Flaws.{run_flaw}
@@ -28,7 +28,7 @@ invariant_of-result c =
       from_one = within.form.0;
       to_last = subst (λ (cs : List Command). c.args.line ≤ length cs) (sym program_is) within.form.1;
       universal = ap are_universal_commands program_is ∙ program_universal p;
-      state = ap is_universal_heap state_is ∙ heap_readable a within.universal;
+      state = ap is_universal_heap state_is ∙ universal_heap_passes a within.universal;
       fits = subst (λ (t : Run). run.fits t) same (run_fits p c.args.line a c.requires.claim c.args.stack.items c.args.heap c.args.picks.items c.args.outcome proper c.requires.room);
       flawless = ap run_flaw (sym same) ∙ run_flawless p c.args.line a c.requires.claim c.args.stack.items c.args.heap c.args.picks.items c.args.outcome proper c.requires.room;
     }

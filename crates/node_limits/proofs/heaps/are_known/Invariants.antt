@@ -1,6 +1,0 @@
-use Rattle.std.proofs.Common.{◌≡◌, drop}
-use Rattle.pred_defs.specs.Faults.{first_fault, use_fault}
-use Rattle.node_limits.proofs.heaps.are_known.Given as goal
-
-abbrev pub invariant-loop-atom : goal.invariant-loop-atom
-invariant-loop-atom l = first_fault (use_fault l.defs) (drop l.atom-index l.atoms) ≡ first_fault (use_fault l.defs) l.atoms

@@ -1,0 +1,5 @@
+pub mod OneWay
+pub mod Universal
+pub mod Firsts
+pub mod Exact
+mod NameTests
