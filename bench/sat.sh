@@ -1,7 +1,7 @@
 #!/usr/bin/env bash
 # bench/sat.sh [PROGRAM]: seconds and memory of `sat` on the problems of examples/, on 4,096 predicates of which each uses
 # another (in the order of the file, against it, and mixed), on a ring of them, on a family of many base pairs and on one
-# above the limit, and on counters of bits, whose base pairs come one after the other. Wants GNU time. Prints figures; it passes and fails nothing.
+# above the limit, and on counters of bits, whose base pairs come one after the other, and on goals of many states. Wants GNU time. Prints figures; it passes and fails nothing.
 . "$(dirname "${BASH_SOURCE[0]}")/common.sh"
 
 # The predicates p0 to p(n-1), in the order that is read; each is a cell before the next, the last the empty heap at nil.
@@ -58,6 +58,25 @@ counter() { # BITS
     }'
 }
 
+# A goal of n atoms that leave two base pairs each, and of wide ones that keep their terms, each term in two that share few others.
+apart() { # COUNT: a multiple of 8
+  awk -v n="$1" '
+    BEGIN {
+      print "cyclist problem 2;\npred is(a) { a = nil : emp | a != nil : emp };"
+      print "pred wide(a, b, c, d, e, f, g, h) { true : emp };"
+      printf "goal true : is(x0)"
+      for (i = 1; i < n; i++) printf " * is(x%d)", i
+      for (i = 0; i < n; i += 8) {
+        printf " * wide(x%d", i
+        for (j = 1; j < 8; j++) printf ", x%d", i + j
+        printf ") * wide(x%d", i / 8
+        for (j = 1; j < 8; j++) printf ", x%d", i / 8 + j * n / 8
+        printf ")"
+      }
+      print " |- true : emp;\nend;"
+    }'
+}
+
 for problem in "$top"/examples/*.problem; do
   cp "$problem" "$work/file"
   show "$(basename "$problem" .problem)" sat
@@ -71,4 +90,7 @@ for count in 1 4 16 32 48 64; do
 done
 for count in 4 6 7 8; do
   counter "$count" > "$work/file"; show "a counter of $count bits" sat
+done
+for count in 8 16 24; do
+  apart "$count" > "$work/file"; show "a goal of $count atoms with two base pairs each" sat
 done

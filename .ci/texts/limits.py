@@ -168,6 +168,27 @@ MANY_ATOMS = [
     (problem("", [f"{it} -> ({after})" for it, after in zip(ALL[:31], ALL[1:])] + ["x0 -> (nil)"]), 1, b"unsatisfiable"),
 ]
 
+# Atoms that leave two base pairs each, and wide ones that keep their terms, each term in two that share few others: as many states as
+# there are choices, in whatever order. Those of a goal have a limit, and so have those of a case; but where an atom has no base pair,
+# there is no state.
+WIDE = f"pred is(a) {{ a = nil : emp | a != nil : emp }};\npred wide({', '.join(PARAMETERS)}) {{ true : emp }};\n"
+
+
+def told_apart(names):
+    rows = [names[i:i + 8] for i in range(0, len(names), 8)]
+    columns = [names[i::len(rows)] for i in range(len(rows))]
+    return [f"is({it})" for it in names] + [f"wide({', '.join(them)})" for them in rows + columns]
+
+
+LARGE = told_apart(ALL[:24])
+LARGE_CASE = f"pred large({', '.join(PARAMETERS)}) {{ true : {' * '.join(told_apart(list(PARAMETERS) + ALL[:16]))} }};\n"
+MANY_STATES = [
+    (problem(WIDE, told_apart(ALL[:8])), 0, b"satisfiable"),
+    (problem(WIDE, LARGE), 5, b"limit states"),
+    (problem(f"{WIDE}pred none(a) {{ a != a : emp }};\n", [*LARGE, "none(x0)"]), 1, b"unsatisfiable"),
+    (problem(WIDE + LARGE_CASE, ["emp"]), 5, b"limit pairs"),
+]
+
 # Sixteen cells, for each of which two atoms stand that take it or nothing; and the same with a cell at an address that no atom has.
 ATOMS_OF_16 = " * ".join(f"p(${i})" for i in range(32))
 STACK_OF_16 = ", ".join(str(i % 16 + 1) for i in range(32))
@@ -276,7 +297,7 @@ def rows():
     """Yields words, a text, the status and what is written."""
     tables = [
         ("check", STATES), ("fo-check", CHECKED), ("fo", SEARCHED), ("fo --depth 1", FOUND), ("prove --depth 1", PROBLEMS),
-        ("model", MODELS), ("sat", PAIRS), ("sat", MANY_ATOMS), ("disprove --cells 4", HOLDING),
+        ("model", MODELS), ("sat", PAIRS), ("sat", MANY_ATOMS), ("sat", MANY_STATES), ("disprove --cells 4", HOLDING),
     ]
     for words, table in tables:
         for text, status, line in table:

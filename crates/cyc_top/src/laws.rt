@@ -5,7 +5,7 @@ ghost use Rattle.cyc_runs.specs.declared.endings.Status.{Status};
 ghost use Rattle.cyc_limits.specs.declared.TheConstants.{GREATEST_LOCAL, GREATEST_PROGRAM_VARIABLE, GREATEST_VARIABLE, LONGEST_NAME, LONGEST_NUMBER, MOST_ARGUMENTS, MOST_CASES, MOST_CASE_ATOMS, MOST_CELLS, MOST_CONSTRUCTORS, MOST_DISJUNCTS, MOST_LEFT, MOST_LINES, MOST_LINKS, MOST_LOCALS, MOST_NODES, MOST_PREDICATES, MOST_PURE, MOST_RIGHT, MOST_SPATIAL, MOST_TERMS, MOST_UNIVERSALS, MOST_VALUES, MOST_VARIABLES};
 ghost use Rattle.cyc_runs.specs.Runs.{input_limit};
 ghost use Rattle.proof_check.specs.Verdicts.{state_limit};
-ghost use Rattle.sat_answers.specs.Answers.{pair_limit};
+ghost use Rattle.sat_answers.specs.Answers.{pair_limit, size_limit};
 ghost use Rattle.cyc_top.specs.Answers.{AreOneText, IsAnswer, derivation_limit};
 
 /// An input has one answer: one status and one text. Where a check refuses a path, which of those that do not progress
@@ -22,6 +22,7 @@ pub fn limits_are_these()
     ensures states { state_limit ≡ 200000 }
     ensures derivations { derivation_limit ≡ 1000000 }
     ensures pairs { pair_limit ≡ 100000 }
+    ensures sizes { size_limit ≡ 2000000 }
     ensures links { MOST_LINKS ≡ 1000000 }
     ensures name { LONGEST_NAME ≡ 64 }
     ensures number { LONGEST_NUMBER ≡ 9 }

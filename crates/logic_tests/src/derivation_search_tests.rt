@@ -31,6 +31,8 @@ impl Moves for Word {
 
     type Reason = Letter;
 
+    type Rules = VecDeque<Letter>;
+
     type Subject = (bool, usize);
 
     ghost made = { λ w. w.made.items };

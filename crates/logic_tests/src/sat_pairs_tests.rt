@@ -2,7 +2,7 @@
 use crate::given::{HeapRow, Shape, defined};
 use heap_formula::{Pure, Term};
 use pred_defs::Defs;
-use sat_pairs::{PairFault, base_pairs};
+use sat_pairs::{Limits, PairFault, base_pairs};
 use std::alloc::Global;
 use std::test::Fail;
 
@@ -46,21 +46,22 @@ const TREE: &[HeapRow] = &[
     ),
 ];
 
-/// A predicate's arity and its cases, the greatest number of base pairs, and how many there are.
-struct Row(u32, &'static [HeapRow], u32, Result<usize, PairFault>);
+/// A predicate's arity and its cases, the greatest number of base pairs and size of the states, and how many base pairs there are.
+struct Row(u32, &'static [HeapRow], u32, u32, Result<usize, PairFault>);
 
 static ROWS: &[Row] = &[
-    Row(2, SEGMENT, 2, Ok(2)),
-    Row(2, SEGMENT, 1, Err(PairFault::TooManyPairs)),
-    Row(2, ACYCLIC, 100, Ok(2)),
-    Row(1, &[ENDLESS, ENDLESS], 0, Ok(0)),
-    Row(0, &[NIL_CELL, SOME_CELL], 1, Ok(1)),
-    Row(1, TREE, 2, Ok(2)),
-    Row(1, TREE, 1, Err(PairFault::TooManyPairs)),
+    Row(2, SEGMENT, 2, 100, Ok(2)),
+    Row(2, SEGMENT, 1, 100, Err(PairFault::TooManyPairs)),
+    Row(2, SEGMENT, 2, 1, Err(PairFault::TooManyStates)),
+    Row(2, ACYCLIC, 100, 100, Ok(2)),
+    Row(1, &[ENDLESS, ENDLESS], 0, 0, Ok(0)),
+    Row(0, &[NIL_CELL, SOME_CELL], 1, 100, Ok(1)),
+    Row(1, TREE, 2, 100, Ok(2)),
+    Row(1, TREE, 1, 100, Err(PairFault::TooManyPairs)),
 ];
 
-fn count(alloc: Global, defs: &Defs, most: u32) -> Result<usize, PairFault> {
-    Ok(base_pairs(alloc, defs, most)?.pairs(0).len())
+fn count(alloc: Global, defs: &Defs, limits: Limits) -> Result<usize, PairFault> {
+    Ok(base_pairs(alloc, defs, limits)?.pairs(0).len())
 }
 
 #[test]
@@ -68,7 +69,11 @@ fn base_pairs_are_counted(rt: HostRuntime) -> Result<(), Fail> {
     let alloc = rt.alloc();
     for (number, row) in ROWS.iter().enumerate() {
         let defs = defined(alloc, row.0, row.1)?;
-        assert!(rt; count(alloc, &defs, row.2) == row.3, "row {number}");
+        let limits = Limits {
+            pairs: row.2,
+            states: row.3,
+        };
+        assert!(rt; count(alloc, &defs, limits) == row.4, "row {number}");
     }
     Ok(())
 }

@@ -19,3 +19,4 @@ pub mod Alike
 pub mod Reordered
 pub mod ListFrames
 pub mod Examples
+pub mod Large

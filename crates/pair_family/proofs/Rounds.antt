@@ -1,5 +1,7 @@
 -- The family grows with the rounds; a table that is sound and closed is the family; counting.
-use Rattle.std.proofs.Common.{◌≡◌, ◌≢◌, ℕ, zero, suc, ◌+◌, ◌-◌, ◌≤◌, inl, inr, List, [], ◌∷◌, length, arith, sym, refl, ◌∙◌, subst}
+use Rattle.std.proofs.Common.{◌≡◌, ◌≢◌, ℕ, zero, suc, ◌+◌, ◌-◌, ◌≤◌, inl, inr, List, [], ◌∷◌, length, arith, sym, refl, ap, ◌∙◌, subst}
+use Rattle.std.specs.List.{sum_by}
+use Rattle.std.proofs.lemmas.List.Sums.{sum_by-cons}
 use Rattle.heap_formula.specs.declared.atoms.Spatial.{Spatial}
 use Rattle.heap_formula.specs.declared.atoms.Spatial.TheVariants.{Cell, Pred}
 use Rattle.heap_formula.specs.Symbolic.{SymbolicHeap}
@@ -17,7 +19,7 @@ use Rattle.heap_formula.proofs.StageLaws.{OneOf-map}
 abbrev pub WithinPairs : PairFamily → PairFamily → Type 0
 WithinPairs F G = (p : ℕ) (b : BasePair) → F p b → G p b
 
-chosen_within : (F G : PairFamily) → WithinPairs F G → (bs : Choice) (xs : List Spatial) → IsChosen F bs xs → IsChosen G bs xs
+pub chosen_within : (F G : PairFamily) → WithinPairs F G → (bs : Choice) (xs : List Spatial) → IsChosen F bs xs → IsChosen G bs xs
 chosen_within F G w bs [] c = tt
 chosen_within F G w bs (Cell t ts ∷ xs) c = (tt, chosen_within F G w (next bs) xs c.1)
 chosen_within F G w bs (Pred p ts ∷ xs) c = (w p (bs 0) c.0, chosen_within F G w (next bs) xs c.1)
@@ -79,12 +81,6 @@ without x [] i = []
 without x (y ∷ ys) (inl s) = ys
 without x (y ∷ ys) (inr i) = y ∷ without x ys i
 
-length-without : {X : Type 0} (x : X) (ys : List X) (i : IsMember x ys) → length ys ≡ suc (length (without x ys i))
-unfolding without
-length-without x [] i = absurd i
-length-without x (y ∷ ys) (inl s) = refl
-length-without x (y ∷ ys) (inr i) = let l = length-without x ys i in omega arith
-
 still_in : {X : Type 0} (x z : X) (ys : List X) (i : IsMember x ys) → IsMember z ys → (x ≢ z) → IsMember z (without x ys i)
 unfolding without
 still_in x z [] i j d = absurd i
@@ -97,12 +93,33 @@ others_in : {X : Type 0} (x : X) (xs ys : List X) (i : IsMember x ys) → (¬ Is
 others_in x [] ys i n a = tt
 others_in x (z ∷ xs) ys i n a = (still_in x z ys i a.0 (λ e. n (inl (sym e))), others_in x xs ys i (λ m. n (inr m)) a.1)
 
--- distinct members of a list are no more than its length
+sum-without : {X : Type 0} (w : X → ℕ) (x : X) (ys : List X) (i : IsMember x ys) → sum_by w ys ≡ w x + sum_by w (without x ys i)
+unfolding without
+sum-without w x [] i = absurd i
+sum-without w x (y ∷ ys) (inl s) = sum_by-cons w y ys ∙ ap (λ z. w z + sum_by w ys) s
+sum-without w x (y ∷ ys) (inr i) =
+    let l = sum-without w x ys i in
+    let c = sum_by-cons w y ys in
+    let d = sum_by-cons w y (without x ys i) in omega arith
+
+-- distinct members of a list have no greater sum
+pub distinct_sum : {X : Type 0} (w : X → ℕ) (xs ys : List X) → IsDistinct xs → Each (λ z. IsMember z ys) xs → sum_by w xs ≤ sum_by w ys
+distinct_sum w [] ys d a = omega arith
+distinct_sum w (x ∷ xs) ys d a =
+    let l = sum-without w x ys a.0 in
+    let c = sum_by-cons w x xs in
+    let r = distinct_sum w xs (without x ys a.0) d.1 (others_in x xs ys a.0 d.0 a.1) in omega arith
+
+sum-ones : {X : Type 0} (xs : List X) → sum_by (λ x. 1) xs ≡ length xs
+sum-ones [] = refl
+sum-ones (x ∷ xs) = let l = sum-ones xs in let c = sum_by-cons (λ x. 1) x xs in omega arith
+
+-- and are no more than its length
 pub distinct_le : {X : Type 0} (xs ys : List X) → IsDistinct xs → Each (λ z. IsMember z ys) xs → length xs ≤ length ys
-distinct_le [] ys d a = omega arith
-distinct_le (x ∷ xs) ys d a =
-    let l = length-without x ys a.0 in
-    let r = distinct_le xs (without x ys a.0) d.1 (others_in x xs ys a.0 d.0 a.1) in omega arith
+distinct_le xs ys d a =
+    let l = sum-ones xs in
+    let m = sum-ones ys in
+    let r = distinct_sum (λ x. 1) xs ys d a in omega arith
 
 -- a list with all members of the family bounds their number
 pub at_most : (ds : List Definition) (all : List (ℕ × BasePair)) (most : ℕ) → ((p : ℕ) (b : BasePair) → InFamily ds p b → IsMember (p, b) all) → length all ≤ most → HasAtMost ds most

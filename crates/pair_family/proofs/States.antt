@@ -4,10 +4,10 @@ use Rattle.heap_formula.specs.declared.atoms.Spatial.{Spatial}
 use Rattle.heap_formula.specs.Symbolic.{SymbolicHeap}
 use Rattle.heap_formula.specs.Words.{OneOf}
 use Rattle.pair_family.specs.BasePairs.{BasePair, no_pair}
-use Rattle.pair_family.specs.Combination.{Choice, next, AreConsistent, pure_facts}
+use Rattle.pair_family.specs.Combination.{next, AreConsistent, pure_facts}
 use Rattle.pair_family.specs.Folding.{Frames, next_frames, last_frame, AreFrames, said_in, with_atom, FoldsTo}
 use Rattle.list_facts.specs.Words.{IsMember}
-use Rattle.pair_family.specs.States.{Families, next_families, IsChosenBy, GivesBy, Leads, AreStates}
+use Rattle.pair_family.specs.States.{Families, next_families, GivesBy, IsReached, Leads, AreStates}
 use Rattle.pair_family.proofs.ByAtom.{IsOfParameters, fold_case, case_fold}
 use Rattle.pair_family.proofs.Complete.{cons_choice}
 
@@ -21,10 +21,7 @@ one_in P [] x m p = absurd m
 one_in P (y ∷ xs) x (inl s) p = inl (subst P (sym s) p)
 one_in P (y ∷ xs) x (inr m) p = inr (one_in P xs x m p)
 
-abbrev pub IsFolded : Families → Frames → List BasePair → List Spatial → BasePair → Type 0
-IsFolded Fs frames states xs d = (b : BasePair) × IsMember b states × ((bs : Choice) × IsChosenBy Fs bs xs × FoldsTo frames b bs xs d)
-
-pub states_folded : (Fs : Families) (frames : Frames) (states : List BasePair) (xs : List Spatial) (out : List BasePair) → AreStates Fs frames states xs out → (d : BasePair) → IsMember d out → IsFolded Fs frames states xs d
+pub states_folded : (Fs : Families) (frames : Frames) (states : List BasePair) (xs : List Spatial) (out : List BasePair) → AreStates Fs frames states xs out → (d : BasePair) → IsMember d out → IsReached Fs frames states xs d
 states_folded Fs frames states [] out are d m = (d, (are d).0 m, ((λ k. no_pair), tt, refl))
 states_folded Fs frames states (x ∷ xs) out are d m =
     let r = states_folded (next_families Fs) (next_frames frames) are.0 xs out are.2 d m in
@@ -32,7 +29,7 @@ states_folded Fs frames states (x ∷ xs) out are d m =
     let c = o.2.0 in
     (o.0, o.1, (cons_choice c r.2.0, (o.2.1, r.2.1), (o.2.2, subst (λ b. FoldsTo (next_frames frames) b r.2.0 xs d) o.2.3 r.2.2)))
 
-pub folded_states : (Fs : Families) (frames : Frames) (states : List BasePair) (xs : List Spatial) (out : List BasePair) → AreStates Fs frames states xs out → (d : BasePair) → IsFolded Fs frames states xs d → IsMember d out
+pub folded_states : (Fs : Families) (frames : Frames) (states : List BasePair) (xs : List Spatial) (out : List BasePair) → AreStates Fs frames states xs out → (d : BasePair) → IsReached Fs frames states xs d → IsMember d out
 folded_states Fs frames states [] out are d g = (are d).1 (subst (λ z. IsMember z states) (sym g.2.2) g.1)
 folded_states Fs frames states (x ∷ xs) out are d g =
     let bs = g.2.0 in

@@ -10,3 +10,5 @@ pub mod Frames
 pub mod Statements
 pub mod States
 pub mod Reordering
+pub mod JoinOrder
+pub mod LargeCases

@@ -6,7 +6,7 @@ use Rattle.heap_formula.specs.Words.{OneOf}
 use Rattle.pair_family.specs.BasePairs.{BasePair}
 use Rattle.pair_family.specs.Combination.{Choice, next, AreConsistent, IsConsistent, projection}
 use Rattle.pair_family.specs.Family.{PairFamily, IsChosenAt}
-use Rattle.pair_family.specs.Folding.{Frame, Frames, next_frames, said_in, with_atom}
+use Rattle.pair_family.specs.Folding.{Frame, Frames, FoldsTo, next_frames, said_in, with_atom}
 use Rattle.list_facts.specs.Words.{IsMember}
 
 -- a family for each place of a spatial list
@@ -31,6 +31,11 @@ pub record GivesBy (Fs : Families) (k : ℕ) (b : BasePair) (a : SymbolicHeap) :
 -- b leads to d over one atom, with some base pair of F
 abbrev pub Leads : PairFamily → Frame → Frame → Spatial → BasePair → BasePair → Type 0
 Leads F frame after x d b = (c : BasePair) × IsChosenAt F c x × AreConsistent (with_atom frame b c x) × (d ≡ said_in after (with_atom frame b c x))
+
+-- one of these states leads to d over the atoms, with base pairs of the places' families
+abbrev pub IsReached : Families → Frames → List BasePair → List Spatial → BasePair → Type 0
+IsReached Fs frames states xs d =
+    (b : BasePair) × IsMember b states × ((bs : Choice) × IsChosenBy Fs bs xs × FoldsTo frames b bs xs d)
 
 -- each state of `out` is led to from `states` over the atoms, and `out` has each
 abbrev pub AreStates : Families → Frames → List BasePair → List Spatial → List BasePair → Type 0

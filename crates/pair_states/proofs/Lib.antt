@@ -3,3 +3,4 @@ pub mod Labelled
 pub mod Combined
 pub mod Growing
 pub mod Interned
+pub mod Sized

@@ -1,8 +1,10 @@
 -- What labels say: each kept term's class is told by a label, equal for terms of one class.
-use Rattle.std.specs.Prelude.{◌≡◌, ◌≢◌, ◌↔◌, ◌⊎◌, ℕ, List, [], ◌∷◌, ◌++◌, map, filter, not, ◌&&◌, ◌||◌, Bool, true, false, nat_eq, slice_index, if◌then◌else◌, length, Option, MatchOption}
+use Rattle.std.specs.Prelude.{◌≡◌, ◌≢◌, ◌+◌, ◌↔◌, ◌⊎◌, ℕ, List, [], ◌∷◌, ◌++◌, map, filter, not, ◌&&◌, ◌||◌, Bool, true, false, nat_eq, slice_index, if◌then◌else◌, length, Option, MatchOption}
 use Rattle.std.specs.List.{list_any}
 use Rattle.heap_formula.specs.Words.{Each, OneOf}
 use Rattle.pair_family.specs.BasePairs.{BasePair}
+use Rattle.pair_family.specs.LargeCases.{sizes}
+use Rattle.pair_family.specs.Tables.{IsDistinct}
 use Rattle.pair_family.specs.Combination.{upto, pairs_below, each_two}
 
 -- the pairs (0, j), (1, j), .. whose first is below n
@@ -111,3 +113,8 @@ Grows old new G = (d : BasePair) → OneOf (λ e. e ≡ d) new ↔ (OneOf (λ e.
 abbrev pub IsAdded : List BasePair → List BasePair → BasePair → Bool → Type 0
 IsAdded old new b true = (¬ OneOf (λ e. e ≡ b) old) × (new ≡ old ++ b ∷ [])
 IsAdded old new b false = OneOf (λ e. e ≡ b) old × (new ≡ old)
+
+-- each once, and of `most` in size so much is left
+pub record HasRoom (most : ℕ) (bs : List BasePair) (left : ℕ) : Type 0 where
+  pub distinct : IsDistinct bs
+  pub room : left + sizes bs ≡ most

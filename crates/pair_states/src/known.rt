@@ -1,5 +1,5 @@
 // What is known of some terms.
-ghost use Rattle.std.specs.Prelude.{◌≡◌};
+ghost use Rattle.std.specs.Prelude.{◌≡◌, ◌<◌, ◌+◌, MatchOption};
 
 use cyc_memory::OutOfMemory;
 use std::alloc::Global;
@@ -57,6 +57,8 @@ impl Hash for Known {
 }
 
 impl Known {
+    ghost use Rattle.pair_family.specs.LargeCases.{size_of};
+
     /// These equal pairs, different pairs and cells.
     pub fn new(same: Vec<(usize, usize)>, differ: Vec<(usize, usize)>, cells: Vec<usize>) -> Known
         ensures { result ≡ record { same = same.items; differ = differ.items; cells = cells.items } }
@@ -87,5 +89,15 @@ impl Known {
         ensures { result.now ≡ self.now.cells }
     {
         &self.cells
+    }
+
+    /// What is left of some room after it: it takes one more than the number of its facts. None where that is too much.
+    pub fn room_after(&self, room: usize) -> Option<usize>
+        ensures { MatchOption result (room < size_of self.now) (λ left. left + size_of self.now ≡ room) }
+    {
+        let left = room.checked_sub(1)?;
+        let left = left.checked_sub(self.same.len())?;
+        let left = left.checked_sub(self.differ.len())?;
+        left.checked_sub(self.cells.len())
     }
 }

@@ -8,4 +8,4 @@ mod states;
 
 pub use combining::combine;
 pub use known::Known;
-pub use states::{add, states_after};
+pub use states::{StatesFault, Step, add, first_states, states_after};

@@ -2,7 +2,8 @@
 use Rattle.std.proofs.Common.{◌≡◌, ◌∙◌, ℕ, List, sym, subst, inl, inr, Result, Ok, Err}
 use Rattle.heap_formula.specs.Judgements.{antecedent}
 use Rattle.pair_family.specs.Statements.{IsSatisfiable}
-use Rattle.pair_family.specs.Tables.{HasAtMost, HasMoreThan}
+use Rattle.pair_family.specs.Family.{InFamily}
+use Rattle.pair_family.specs.LargeCases.{IsLarge}
 use Rattle.pair_family.proofs.Rounds.{not_both}
 use Rattle.formula_reader.specs.declared.problem.Problem.{Problem}
 use Rattle.formula_reader.specs.Reading as problems
@@ -10,7 +11,7 @@ use Rattle.cyc_lex.specs.declared.fault.ReadFault.{ReadFault}
 use Rattle.cyc_runs.specs.declared.endings.Status.{Status}
 use Rattle.cyc_runs.specs.declared.endings.Status.TheVariants.{Success, Refused, Limit}
 use Rattle.cyc_runs.proofs.WaysToEnd.{fault_fails, fault_is_no_refusal}
-use Rattle.sat_answers.specs.Answers.{IsAsked, IsPairsAnswer, IsPossible, IsReadAnswer, IsSaid, pair_limit}
+use Rattle.sat_answers.specs.Answers.{AreFew, AreTooMany, IsAsked, IsLargeProblem, IsPairsAnswer, IsPossible, IsReadAnswer, IsSaid, IsStatesAnswer, pair_limit, size_limit}
 use Rattle.reading_facts.specs.Alike.{AreAlike}
 use Rattle.reading_facts.proofs.OneFault.{one_fault_answer}
 use Rattle.reading_laws.proofs.Readings.{one_problem_reading}
@@ -26,11 +27,24 @@ module _ (p q : Problem) (same : problems.AreSame p q) where
       subst (λ ds. IsSatisfiable ds (antecedent p.goal)) (sym same.definitions)
       (subst (λ j. IsSatisfiable q.defs.list (antecedent j)) (sym same.goal) is)
 
-  both : HasAtMost p.defs.list pair_limit → HasMoreThan q.defs.list pair_limit → ⊥
-  both few many = not_both q.defs.list pair_limit (subst (λ ds. HasAtMost ds pair_limit) same.definitions few) many
+  both : AreFew p.defs.list → AreTooMany q.defs.list → ⊥
+  both few many =
+      let few' = subst AreFew same.definitions few in
+      elim many [ inl more ↦ not_both q.defs.list pair_limit few'.0 more | inr large ↦ few'.1 large ]
 
-  both_back : HasMoreThan p.defs.list pair_limit → HasAtMost q.defs.list pair_limit → ⊥
-  both_back many few = not_both q.defs.list pair_limit few (subst (λ ds. HasMoreThan ds pair_limit) same.definitions many)
+  both_back : AreTooMany p.defs.list → AreFew q.defs.list → ⊥
+  both_back many few =
+      elim (subst AreTooMany same.definitions many) [ inl more ↦ not_both q.defs.list pair_limit few.0 more | inr large ↦ few.1 large ]
+
+  large : IsLargeProblem p → IsLargeProblem q
+  large is =
+      subst (λ ds. IsLarge size_limit (InFamily ds) 0 (antecedent q.goal)) same.definitions
+      (subst (λ j. IsLarge size_limit (InFamily p.defs.list) 0 (antecedent j)) same.goal is)
+
+  large_back : IsLargeProblem q → IsLargeProblem p
+  large_back is =
+      subst (λ ds. IsLarge size_limit (InFamily ds) 0 (antecedent p.goal)) (sym same.definitions)
+      (subst (λ j. IsLarge size_limit (InFamily q.defs.list) 0 (antecedent j)) (sym same.goal) is)
 
   one_said : (s t : Status) (xs ys : List ℕ) → IsSaid p s xs → IsSaid q t ys → (s ≡ t) × (xs ≡ ys)
   one_said s t xs ys (inl first) (inl second) = (first.1 ∙ sym second.1, first.2 ∙ sym second.2)
@@ -38,9 +52,15 @@ module _ (p q : Problem) (same : problems.AreSame p q) where
   one_said s t xs ys (inl first) (inr second) = absurd (second.0 (possible first.0))
   one_said s t xs ys (inr first) (inl second) = absurd (first.0 (possible_back second.0))
 
+  one_states_answer : (s t : Status) (xs ys : List ℕ) → IsStatesAnswer p s xs → IsStatesAnswer q t ys → (s ≡ t) × (xs ≡ ys)
+  one_states_answer s t xs ys (inl first) (inl second) = (first.1 ∙ sym second.1, first.2 ∙ sym second.2)
+  one_states_answer s t xs ys (inr first) (inr second) = one_said s t xs ys first.1 second.1
+  one_states_answer s t xs ys (inl first) (inr second) = absurd (second.0 (large first.0))
+  one_states_answer s t xs ys (inr first) (inl second) = absurd (first.0 (large_back second.0))
+
   one_pairs_answer : (s t : Status) (xs ys : List ℕ) → IsPairsAnswer p s xs → IsPairsAnswer q t ys → (s ≡ t) × (xs ≡ ys)
   one_pairs_answer s t xs ys (inl first) (inl second) = (first.1 ∙ sym second.1, first.2 ∙ sym second.2)
-  one_pairs_answer s t xs ys (inr first) (inr second) = one_said s t xs ys first.1 second.1
+  one_pairs_answer s t xs ys (inr first) (inr second) = one_states_answer s t xs ys first.1 second.1
   one_pairs_answer s t xs ys (inl first) (inr second) = absurd (both_back first.0 second.0)
   one_pairs_answer s t xs ys (inr first) (inl second) = absurd (both first.0 second.0)
 
@@ -65,13 +85,21 @@ said_impossible : (p : Problem) (xs : List ℕ) → IsSaid p Refused xs → ¬ I
 said_impossible p xs (inl other) = absurd (let e : Refused ≡ Success = other.1 in cc)
 said_impossible p xs (inr is) = is.0
 
+states_possible : (p : Problem) (xs : List ℕ) → IsStatesAnswer p Success xs → IsPossible p
+states_possible p xs (inl many) = absurd (let e : Success ≡ Limit = many.1 in cc)
+states_possible p xs (inr few) = said_possible p xs few.1
+
+states_impossible : (p : Problem) (xs : List ℕ) → IsStatesAnswer p Refused xs → ¬ IsPossible p
+states_impossible p xs (inl many) = absurd (let e : Refused ≡ Limit = many.1 in cc)
+states_impossible p xs (inr few) = said_impossible p xs few.1
+
 pairs_possible : (p : Problem) (xs : List ℕ) → IsPairsAnswer p Success xs → IsPossible p
 pairs_possible p xs (inl many) = absurd (let e : Success ≡ Limit = many.1 in cc)
-pairs_possible p xs (inr few) = said_possible p xs few.1
+pairs_possible p xs (inr few) = states_possible p xs few.1
 
 pairs_impossible : (p : Problem) (xs : List ℕ) → IsPairsAnswer p Refused xs → ¬ IsPossible p
 pairs_impossible p xs (inl many) = absurd (let e : Refused ≡ Limit = many.1 in cc)
-pairs_impossible p xs (inr few) = said_impossible p xs few.1
+pairs_impossible p xs (inr few) = states_impossible p xs few.1
 
 -- success says that the antecedent of the problem that was read is satisfiable
 pub success_possible : (input : List ℕ) (r : Result Problem ReadFault) (xs : List ℕ) → problems.IsRead input r → IsReadAnswer r Success xs → (p : Problem) × problems.IsRead input (Ok p) × IsPossible p

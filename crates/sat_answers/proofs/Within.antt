@@ -12,7 +12,7 @@ use Rattle.heap_formula.specs.Symbolic.{SymbolicHeap}
 use Rattle.heap_formula.specs.Words.{Each}
 use Rattle.rule_table.proofs.Agreement.{IsBelow, heap_below}
 use Rattle.format_limits.specs.Limits.{HasFields as HasFewFields, IsCaseWithin, IsDefinitionWithin, IsJudgementWithin}
-use Rattle.problem_files.proofs.ProblemHeaps.{in_heap_each}
+use Rattle.formula_reader.proofs.HeapsWithin.{in_heap_each}
 use Rattle.pair_family.specs.Closedness.{AreCases, HasFields, IsCase, IsParameterBelow}
 use Rattle.formula_facts.proofs.AllMembers.{each_imply}
 

@@ -7,3 +7,6 @@ pub mod TakenOut
 pub mod Satisfied
 pub mod Tabled
 pub mod Taken
+pub mod Joins
+pub mod Reached
+pub mod LargeParts

@@ -1,12 +1,12 @@
 -- Parts one by one, and what parts of a table give.
-use Rattle.std.proofs.Common.{◌≡◌, ◌↔◌, ℕ, zero, suc, ◌-◌, take, drop, List, [], ◌∷◌, ◌++◌, Bool, true, false, if◌then◌else◌, sym, refl, ap, ◌∙◌, subst, inl, inr}
+use Rattle.std.proofs.Common.{◌≡◌, ◌↔◌, ℕ, zero, suc, ◌-◌, ◌<◌, take, drop, arith, List, [], ◌∷◌, ◌++◌, Bool, true, false, if◌then◌else◌, sym, refl, ap, ◌∙◌, subst, inl, inr}
 use Rattle.std.specs.Prelude.{slice_range, nat_le, length, ◌&&◌}
 use Rattle.heap_formula.specs.declared.atoms.Pure.{Pure}
 use Rattle.heap_formula.specs.declared.atoms.Spatial.{Spatial}
 use Rattle.heap_formula.specs.declared.atoms.Spatial.TheVariants.{Cell, Pred}
 use Rattle.heap_formula.specs.Symbolic.{SymbolicHeap}
 use Rattle.heap_formula.specs.Words.{Each}
-use Rattle.pair_family.specs.BasePairs.{BasePair}
+use Rattle.pair_family.specs.BasePairs.{BasePair, no_pair}
 use Rattle.pair_family.specs.Combination.{Choice, next}
 use Rattle.pair_family.specs.Family.{CaseGives, IsChosen, IsChosenAt}
 use Rattle.pair_family.specs.Reordering.{families_of}
@@ -17,7 +17,8 @@ use Rattle.sat_pairs.specs.declared.parts.Part.{Part}
 use Rattle.sat_pairs.specs.declared.parts.Share.{Share}
 use Rattle.sat_pairs.specs.declared.parts.Share.TheVariants.{All, Between}
 use Rattle.sat_pairs.specs.Numbers.{cell_pair_alone}
-use Rattle.sat_pairs.specs.Parts.{atoms_of, cut, share_of, atom_pairs, lists_of, PartsGive, AreWhole}
+use Rattle.sat_pairs.specs.Parts.{atoms_of, cut, share_of, atom_pairs, lists_of, HasSome, PartsGive, AreWhole}
+use Rattle.pair_family.proofs.Complete.{cons_choice}
 use Rattle.sat_pairs.proofs.Steps.{of_list, HasCellPair}
 
 -- ---- one more
@@ -89,3 +90,45 @@ whole_give table cell k ps d atoms xs are = (
   λ c. let c' = subst (λ z. CaseGives (in_table table) k d (case_of ps z)) (sym are.atoms_are) c in
       record { chosen = c'.chosen; from_families = chosen_in table cell xs c'.chosen are.shares_are c'.from_family; consistent = c'.consistent; projected = c'.projected },
 )
+
+-- ---- the first parts
+
+module _ (table : Table) (cell : List BasePair) where
+  pub first_out : (n : ℕ) (xs : List Part) (cs : Choice) → IsChosenBy (families_of (lists_of table cell xs)) cs (take n (atoms_of xs)) → IsChosen (in_table table) cs (take n (atoms_of xs))
+  first_out n [] cs c = elim n as (λ n. IsChosenBy (families_of (lists_of table cell [])) cs (take n []) → IsChosen (in_table table) cs (take n [])) [ zero ↦ λ c. tt | suc n ↦ λ c. tt ] c
+  first_out zero (x ∷ xs) cs c = tt
+  first_out (suc n) (x ∷ xs) cs c = (part_out table cell x.atom x.share (cs 0) c.0, first_out n xs (next cs) c.1)
+
+  pub first_in : (n : ℕ) (xs : List Part) (cs : Choice) → Each (λ x. x.share ≡ All) xs → IsChosen (in_table table) cs (take n (atoms_of xs)) → IsChosenBy (families_of (lists_of table cell xs)) cs (take n (atoms_of xs))
+  first_in n [] cs a c = elim n as (λ n. IsChosen (in_table table) cs (take n []) → IsChosenBy (families_of (lists_of table cell [])) cs (take n [])) [ zero ↦ λ c. tt | suc n ↦ λ c. tt ] c
+  first_in zero (x ∷ xs) cs a c = tt
+  first_in (suc n) (x ∷ xs) cs a c = (whole_in table cell x.atom x.share (cs 0) a.0 c.0, first_in n xs (next cs) a.1 c.1)
+
+  -- ---- some base pair for each
+
+  first_of_some : (bs : List BasePair) → 0 < length bs → (b : BasePair) × IsMember b bs
+  first_of_some [] l = absurd (omega arith)
+  first_of_some (b ∷ bs) l = (b, inl refl)
+
+  some_there : (bs : List BasePair) (b : BasePair) → IsMember b bs → 0 < length bs
+  some_there [] b m = absurd m
+  some_there (c ∷ bs) b m = omega arith
+
+  one_chosen : (x : Spatial) (share : Share) → 0 < length (atom_pairs table cell x share) → (b : BasePair) × IsChosenAt (in_table table) b x
+  one_chosen (Cell t ts) share l = (no_pair, tt)
+  one_chosen (Pred p ts) share l = let r = first_of_some (share_of share (pairs_of table p)) l in (r.0, share_in r.0 share (pairs_of table p) r.1)
+
+  pub some_chosen : (xs : List Part) → HasSome table cell xs → (cs : Choice) × IsChosen (in_table table) cs (atoms_of xs)
+  some_chosen [] h = ((λ k. no_pair), tt)
+  some_chosen (x ∷ xs) h =
+      let b = one_chosen x.atom x.share h.0 in
+      let r = some_chosen xs h.1 in
+      (cons_choice b.0 r.0, (b.1, r.1))
+
+  chosen_one : (x : Spatial) (share : Share) (b : BasePair) → cell ≡ cell_pair_alone → share ≡ All → IsChosenAt (in_table table) b x → 0 < length (atom_pairs table cell x share)
+  chosen_one (Cell t ts) share b is e c = subst (λ z. 0 < length z) (sym is) (omega arith)
+  chosen_one (Pred p ts) share b is e c = some_there (share_of share (pairs_of table p)) b (subst (λ z. IsMember b (share_of z (pairs_of table p))) (sym e) c)
+
+  pub chosen_some : (xs : List Part) (cs : Choice) → cell ≡ cell_pair_alone → Each (λ x. x.share ≡ All) xs → IsChosen (in_table table) cs (atoms_of xs) → HasSome table cell xs
+  chosen_some [] cs is a c = tt
+  chosen_some (x ∷ xs) cs is a c = (chosen_one x.atom x.share (cs 0) is a.0 c.0, chosen_some xs (next cs) is a.1 c.1)

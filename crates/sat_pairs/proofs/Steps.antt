@@ -14,8 +14,11 @@ use Rattle.pair_family.specs.Combination.{Facts, pure_facts, list_facts, AreCons
 use Rattle.pair_family.specs.Family.{PairFamily}
 use Rattle.pair_family.specs.Folding.{said_in, with_atom, spoken}
 use Rattle.pair_family.specs.Frames.{term_at, frame_of, with_terms, kept_terms, frames_of}
+use Rattle.pair_family.specs.LargeCases.{HasMore}
 use Rattle.pair_family.specs.Reordering.{families_of}
-use Rattle.pair_family.specs.States.{Leads, AreStates, GivesBy}
+use Rattle.pair_family.specs.States.{Leads, AreStates}
+use Rattle.pair_family.specs.States as states
+use Rattle.pair_family.proofs.Large.{more_imply}
 use Rattle.pair_family.proofs.Lists.{at_each, each_at}
 use Rattle.list_facts.specs.Words.{IsMember}
 use Rattle.pair_family.proofs.Kernel.{kept_within}
@@ -24,6 +27,7 @@ use Rattle.pair_family.proofs.States.{states_give, one_out, one_in}
 use Rattle.pair_family.proofs.ByAtom.{first_consistent}
 use Rattle.pair_states.specs.Labels.{IsAdded, combined, Gives, Grows}
 use Rattle.pair_states.proofs.Combined.{ArePlaces, apart_consistent, combined_is}
+use Rattle.sat_pairs.specs.CaseStates.{GivesBy, GivesTo}
 use Rattle.sat_pairs.specs.Numbers.{kept_numbers, places_in, count_from, cell_pair_alone}
 use Rattle.sat_pairs.proofs.Placed.{kept_are, are_places, below_each}
 use Rattle.sat_pairs.proofs.Starts.{first_terms, longer, IsStart}
@@ -86,15 +90,29 @@ leads_in k (Pred p ts) xs bs b d e l = one_in (Says' k (Pred p ts) xs d b) bs l.
 one_change : {X : Type 0} (P Q : X → Type 0) (xs : List X) → ((x : X) → IsMember x xs → P x → Q x) → OneOf P xs → OneOf Q xs
 one_change P Q xs f o = let r = one_out P xs o in one_in Q xs r.0 r.1 (f r.0 r.1 r.2)
 
-step_leads : (k : ℕ) (x : Spatial) (xs : List Spatial) (bs states next : List BasePair) → HasCellPair x bs → Each (IsWithin (suc (length (kept_terms k (x ∷ xs))))) states → Grows [] next (λ d. OneOf (λ b. OneOf (Gives' k x xs d b) bs) states) → (d : BasePair) → IsMember d next ↔ OneOf (Leads (of_list bs) (frames_of k (x ∷ xs) 0) (frames_of k (x ∷ xs) 1) x d) states
-step_leads k x xs bs states next e w g d =
-    let W = λ (b : BasePair) (m : IsMember b states). each_at (IsWithin (suc (length (kept_terms k (x ∷ xs))))) states b w m in (
-      λ m. elim ((g d).0 m) [
-        | inl no' ↦ absurd no'
-        | inr o ↦ one_change (λ b. OneOf (Gives' k x xs d b) bs) (Leads (of_list bs) (frames_of k (x ∷ xs) 0) (frames_of k (x ∷ xs) 1) x d) states (λ b i o. leads_out k x xs bs b d e (one_change (Gives' k x xs d b) (Says' k x xs d b) bs (λ c j h. gives_says k x xs b c d (W b i) h) o)) o
-      ],
-      λ o. (g d).1 (inr (one_change (Leads (of_list bs) (frames_of k (x ∷ xs) 0) (frames_of k (x ∷ xs) 1) x d) (λ b. OneOf (Gives' k x xs d b) bs) states (λ b i l. one_change (Says' k x xs d b) (Gives' k x xs d b) bs (λ c j h. says_gives k x xs b c d (W b i) h) (leads_in k x xs bs b d e l)) o)),
-    )
+module _ (k : ℕ) (x : Spatial) (xs : List Spatial) (bs states : List BasePair) (cell : HasCellPair x bs) (within : Each (IsWithin (suc (length (kept_terms k (x ∷ xs))))) states) where
+  abbrev State : BasePair → Type 0
+  State d = OneOf (λ b. OneOf (Gives' k x xs d b) bs) states
+
+  abbrev Led : BasePair → Type 0
+  Led d = OneOf (Leads (of_list bs) (frames_of k (x ∷ xs) 0) (frames_of k (x ∷ xs) 1) x d) states
+
+  member_within : (b : BasePair) → IsMember b states → IsWithin (suc (length (kept_terms k (x ∷ xs)))) b
+  member_within b m = each_at (IsWithin (suc (length (kept_terms k (x ∷ xs))))) states b within m
+
+  state_led : (d : BasePair) → State d → Led d
+  state_led d o =
+      one_change (λ b. OneOf (Gives' k x xs d b) bs) (Leads (of_list bs) (frames_of k (x ∷ xs) 0) (frames_of k (x ∷ xs) 1) x d) states (λ b i o. leads_out k x xs bs b d cell (one_change (Gives' k x xs d b) (Says' k x xs d b) bs (λ c j h. gives_says k x xs b c d (member_within b i) h) o)) o
+
+  led_state : (d : BasePair) → Led d → State d
+  led_state d o =
+      one_change (Leads (of_list bs) (frames_of k (x ∷ xs) 0) (frames_of k (x ∷ xs) 1) x d) (λ b. OneOf (Gives' k x xs d b) bs) states (λ b i l. one_change (Says' k x xs d b) (Gives' k x xs d b) bs (λ c j h. says_gives k x xs b c d (member_within b i) h) (leads_in k x xs bs b d cell l)) o
+
+  step_leads : (next : List BasePair) → Grows [] next State → (d : BasePair) → IsMember d next ↔ Led d
+  step_leads next g d = (
+    λ m. elim ((g d).0 m) [ inl no' ↦ absurd no' | inr o ↦ state_led d o ],
+    λ o. (g d).1 (inr (led_state d o)),
+  )
 
 -- what is said of kept terms speaks of their numbers
 pub said_within : (terms : List Term) (f : Facts) (d : BasePair) → d ≡ said_in (frame_of terms) f → IsWithin (suc (length terms)) d
@@ -111,14 +129,15 @@ next_within k x xs bs states next g =
 abbrev pub Stepped : Spatial → List ℕ → ℕ → List BasePair → List BasePair → List BasePair → Type 0
 Stepped x numbers' n bs states next = Grows [] next (λ d. OneOf (λ b. OneOf (Gives numbers' b (places_in numbers' (spoken x)) (count_from 0 n) d) bs) states)
 
-mended : (k : ℕ) (x : Spatial) (xs : List Spatial) (bs states next : List BasePair) → Stepped x (kept_numbers k (x ∷ xs)) (length (kept_numbers k xs)) bs states next → Stepped x (numbers k x xs) (length (Nil ∷ kept_terms k xs)) bs states next
-mended k x xs bs states next g =
+-- the lists of numbers that the code has are those of the terms
+mended : (P : List ℕ → ℕ → Type 0) (k : ℕ) (x : Spatial) (xs : List Spatial) → P (kept_numbers k (x ∷ xs)) (length (kept_numbers k xs)) → P (numbers k x xs) (length (Nil ∷ kept_terms k xs))
+mended P k x xs g =
     let f = ap length (kept_are k xs) ∙ length-map (Nil ∷ kept_terms k xs) term_number in
-    subst (λ z. Stepped x z (length (Nil ∷ kept_terms k xs)) bs states next) (kept_are k (x ∷ xs)) (subst (λ z. Stepped x (kept_numbers k (x ∷ xs)) z bs states next) f g)
+    subst (λ z. P z (length (Nil ∷ kept_terms k xs))) (kept_are k (x ∷ xs)) (subst (P (kept_numbers k (x ∷ xs))) f g)
 
 module _ (k : ℕ) (x : Spatial) (xs : List Spatial) (bs states next : List BasePair) (cell : HasCellPair x bs) (within : Each (IsWithin (suc (length (kept_terms k (x ∷ xs))))) states) (stepped : Stepped x (kept_numbers k (x ∷ xs)) (length (kept_numbers k xs)) bs states next) where
-  leads : (d : BasePair) → IsMember d next ↔ OneOf (Leads (of_list bs) (frames_of k (x ∷ xs) 0) (frames_of k (x ∷ xs) 1) x d) states
-  leads = step_leads k x xs bs states next cell within (mended k x xs bs states next stepped)
+  pub leads : (d : BasePair) → IsMember d next ↔ OneOf (Leads (of_list bs) (frames_of k (x ∷ xs) 0) (frames_of k (x ∷ xs) 1) x d) states
+  leads = step_leads k x xs bs states cell within next (mended (λ z n. Stepped x z n bs states next) k x xs stepped)
 
   -- the first atom's step keeps the bound for the rest
   pub fold_within : Each (IsWithin (suc (length (kept_terms k xs)))) next
@@ -127,12 +146,17 @@ module _ (k : ℕ) (x : Spatial) (xs : List Spatial) (bs states next : List Base
   pub fold_more : (lists : List (List BasePair)) (out : List BasePair) → AreStates (families_of lists) (frames_of k xs) next xs out → AreStates (families_of (bs ∷ lists)) (frames_of k (x ∷ xs)) states (x ∷ xs) out
   fold_more lists out later = (next, leads, later)
 
+-- states that the code's numbers give are led to
+pub many_led : (most k : ℕ) (x : Spatial) (xs : List Spatial) (bs states : List BasePair) → HasCellPair x bs → Each (IsWithin (suc (length (kept_terms k (x ∷ xs))))) states → HasMore most (GivesTo k x xs bs states) → HasMore most (λ d. OneOf (Leads (of_list bs) (frames_of k (x ∷ xs) 0) (frames_of k (x ∷ xs) 1) x d) states)
+many_led most k x xs bs states cell within h =
+    more_imply most (State k x xs bs states cell within) (Led k x xs bs states cell within) (state_led k x xs bs states cell within) (mended (λ z n. HasMore most (GivesBy z n x bs states)) k x xs h)
+
 -- ---- cases
 
-pub case_none : (lists : List (List BasePair)) (k : ℕ) (a : SymbolicHeap) → (¬ AreConsistent (pure_facts a.pure)) → (d : BasePair) → GivesBy (families_of lists) k d a → ⊥
+pub case_none : (lists : List (List BasePair)) (k : ℕ) (a : SymbolicHeap) → (¬ AreConsistent (pure_facts a.pure)) → (d : BasePair) → states.GivesBy (families_of lists) k d a → ⊥
 case_none lists k a n d c = n (first_consistent (pure_facts a.pure) (list_facts c.chosen a.spatial) c.consistent)
 
-pub case_states : (lists : List (List BasePair)) (k : ℕ) (a : SymbolicHeap) (s : BasePair) (out : List BasePair) → IsStart k a.spatial a.pure s → AreStates (families_of lists) (frames_of k a.spatial) (s ∷ []) a.spatial out → (d : BasePair) → IsMember d out ↔ GivesBy (families_of lists) k d a
+pub case_states : (lists : List (List BasePair)) (k : ℕ) (a : SymbolicHeap) (s : BasePair) (out : List BasePair) → IsStart k a.spatial a.pure s → AreStates (families_of lists) (frames_of k a.spatial) (s ∷ []) a.spatial out → (d : BasePair) → IsMember d out ↔ states.GivesBy (families_of lists) k d a
 case_states lists k a s out is are d =
     let are' = subst (λ z. AreStates (families_of lists) (frames_of k a.spatial) (z ∷ []) a.spatial out) is.1 are in
     states_give (families_of lists) k (frames_of k a.spatial) a out (are_frames k a.spatial) (parameters_frame k a.spatial) is.0 are' d

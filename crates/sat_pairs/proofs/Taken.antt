@@ -9,12 +9,19 @@ use Rattle.heap_formula.specs.Definitions.{Definition}
 use Rattle.heap_formula.specs.Words.{OneOf}
 use Rattle.pair_family.specs.BasePairs.{BasePair}
 use Rattle.pair_family.specs.Family.{CaseGives, InFamily, arity_of}
+use Rattle.pair_family.specs.LargeCases.{IsLarge, HasLargeCase}
 use Rattle.pair_family.specs.Tables.{IsTable, in_table, IsDistinct, Table, pairs_of, HasMoreThan, HasAtMost}
 use Rattle.list_facts.specs.Words.{IsMember}
+use Rattle.heap_formula.proofs.StageLaws.{OneOf-map}
+use Rattle.pair_family.proofs.Large.{cases_within, large_within}
 use Rattle.pair_family.proofs.Lists.{in_left, in_right, in_append, in_map, map_in, at_each}
 use Rattle.pair_family.proofs.Rounds.{at_most, closed_table, gives_within, family_closed}
-use Rattle.sat_pairs.specs.Growth.{total, with_pair, IsAddedTo, IsPartOf, IsGrown, HasAllGiven}
+use Rattle.pair_states.specs.declared.states.StatesFault.{StatesFault}
+use Rattle.pair_states.specs.declared.states.StatesFault.TheVariants.{TooManyStates, OutOfMemory}
+use Rattle.sat_pairs.specs.declared.rounds.PairFault.TheVariants as faults
+use Rattle.sat_pairs.specs.Growth.{total, pair_fault_of, with_pair, IsAddedTo, IsPartOf, IsGrown, HasAllGiven}
 use Rattle.pair_family.proofs.States.{one_in}
+use Rattle.pair_states.proofs.Sized.{distinct_push}
 
 with_out : (T : Table) (p : ℕ) (k : BasePair) (q : ℕ) (b : BasePair) → IsMember b (pairs_of (with_pair T p k) q) → IsMember b (pairs_of T q) ⊎ ((q ≡ p) × (b ≡ k))
 with_out [] p k q b m = inl m
@@ -34,13 +41,6 @@ pub with_there : (T : Table) (p : ℕ) (k : BasePair) → p < length T → IsMem
 with_there [] p k l = absurd (omega arith)
 with_there (r ∷ T) zero k l = in_right k r (k ∷ []) (inl refl)
 with_there (r ∷ T) (suc p) k l = with_there T p k (omega arith)
-
-distinct_push : {X : Type 0} (xs : List X) (k : X) → IsDistinct xs → (¬ IsMember k xs) → IsDistinct (xs ++ (k ∷ []))
-distinct_push [] k d n = ((λ m. m), tt)
-distinct_push (x ∷ xs) k d n = (
-  λ m. elim (in_append x xs (k ∷ []) m) [ inl i ↦ d.0 i | inr j ↦ elim j [ inl s ↦ n (inl (sym s)) | inr no' ↦ no' ] ],
-  distinct_push xs k d.1 (λ m. n (inr m)),
-)
 
 with_distinct : (T : Table) (p : ℕ) (k : BasePair) → ((q : ℕ) → IsDistinct (pairs_of T q)) → (¬ IsMember k (pairs_of T p)) → (q : ℕ) → IsDistinct (pairs_of (with_pair T p k) q)
 with_distinct [] p k d n q = d q
@@ -164,6 +164,17 @@ at_member (y ∷ xs) (suc i) x l e = inr (at_member xs i x (omega arith) e)
 pub case_sound : (ds : List Definition) (p : ℕ) (k : ℕ) (a : SymbolicHeap) → k ≡ arity_of ds p → IsMember a (cases_of ds p) → (b : BasePair) → CaseGives (InFamily ds) k b a → InFamily ds p b
 case_sound ds p k a e m b g = family_closed ds p b (one_in (CaseGives (InFamily ds) (arity_of ds p) b) (cases_of ds p) a m (subst (λ z. CaseGives (InFamily ds) z b a) e g))
 
+below_or : (p q : ℕ) → p < q + 1 → (p < q) ⊎ (p ≡ q)
+below_or zero zero l = inr refl
+below_or zero (suc q) l = inl (omega arith)
+below_or (suc p) zero l = absurd (omega arith)
+below_or (suc p) (suc q) l = elim (below_or p q (omega arith)) [ inl a ↦ inl (omega arith) | inr e ↦ inr (ap suc e) ]
+
+cases_below : (p n : ℕ) → (p < n) ⊎ (n ≤ p)
+cases_below p zero = inr (omega arith)
+cases_below zero (suc n) = inl (omega arith)
+cases_below (suc p) (suc n) = elim (cases_below p n) [ inl l ↦ inl (omega arith) | inr g ↦ inr (omega arith) ]
+
 no_cases : (ds : List Definition) (p : ℕ) (P : SymbolicHeap → Type 0) → length ds ≤ p → OneOf P (cases_of ds p) → ⊥
 no_cases [] p P l o = o
 no_cases (d ∷ ds) zero P l o = absurd (omega arith)
@@ -178,11 +189,11 @@ finished ds most old new part grown e given =
       | inr g ↦ absurd (no_cases ds p (CaseGives (in_table new) (arity_of ds p) b) g o)
     ]) in
     (is, has_at_most ds most new (λ p b i. (is p b).1 i) part.few)
-  where
-    cases_below : (p n : ℕ) → (p < n) ⊎ (n ≤ p)
-    cases_below p zero = inr (omega arith)
-    cases_below zero (suc n) = inl (omega arith)
-    cases_below (suc p) (suc n) = elim (cases_below p n) [ inl l ↦ inl (omega arith) | inr g ↦ inr (omega arith) ]
+
+-- nor is a case large
+pub finished_small : (ds : List Definition) (states : ℕ) (old new : Table) → IsTable ds new → IsGrown old new → total new ≡ total old → ¬ HasLargeCase ds states (in_table old) → ¬ HasLargeCase ds states (InFamily ds)
+finished_small ds states old new is grown e small h =
+    small (subst (λ z. HasLargeCase ds states (in_table z)) (grown.same e) (cases_within (InFamily ds) (in_table new) (λ p b i. (is p b).1 i) ds states h))
 
 -- nothing at the start
 empty_row : (n p : ℕ) (b : BasePair) → IsMember b (pairs_of (replicate n []) p) → ⊥
@@ -225,10 +236,44 @@ given_more A B C p k x rest f g h b o =
       ]
     ]
 
+-- no case so far is large, nor one case more
+pub small_more : (states : ℕ) (A B : Table) (k : ℕ) (x : SymbolicHeap) (rest all : List SymbolicHeap) → IsGrown A B → ¬ IsLarge states (in_table B) k x → (OneOf (IsLarge states (in_table A) k) all → OneOf (IsLarge states (in_table A) k) (x ∷ rest)) → OneOf (IsLarge states (in_table A) k) all → OneOf (IsLarge states (in_table A) k) rest
+small_more states A B k x rest all f n left o =
+    elim (left o) [
+      | inl l ↦ absurd (n (large_within (in_table A) (in_table B) (λ q d m. f.within q d m) states k x l))
+      | inr r ↦ r
+    ]
+
+-- nor one definition more
+pub smalls_more : (ds : List Definition) (states : ℕ) (A B : Table) (q : ℕ) → IsGrown A B → ((p : ℕ) → p < q → ¬ OneOf (IsLarge states (in_table A) (arity_of ds p)) (cases_of ds p)) → ¬ OneOf (IsLarge states (in_table B) (arity_of ds q)) (cases_of ds q) → (p : ℕ) → p < q + 1 → ¬ OneOf (IsLarge states (in_table A) (arity_of ds p)) (cases_of ds p)
+smalls_more ds states A B q f done here p l o =
+    elim (below_or p q l) [
+      | inl less ↦ done p less o
+      | inr e ↦
+          here (OneOf-map (IsLarge states (in_table A) (arity_of ds q)) (IsLarge states (in_table B) (arity_of ds q)) (large_within (in_table A) (in_table B) (λ r d m. f.within r d m) states (arity_of ds q)) (cases_of ds q) (subst (λ z. OneOf (IsLarge states (in_table A) (arity_of ds z)) (cases_of ds z)) e o))
+    ]
+
+pub states_fault : (f : StatesFault) → pair_fault_of f ≡ faults.TooManyStates → f ≡ TooManyStates
+states_fault TooManyStates e = refl
+states_fault OutOfMemory e = absurd (let g : faults.OutOfMemory ≡ faults.TooManyStates = e in cc)
+
+-- a large case of a predicate
+pub large_there : (ds : List Definition) (states p k : ℕ) (a : SymbolicHeap) → k ≡ arity_of ds p → IsMember a (cases_of ds p) → IsLarge states (InFamily ds) k a → HasLargeCase ds states (InFamily ds)
+large_there ds states p k a e m l =
+    (p, one_in (IsLarge states (InFamily ds) (arity_of ds p)) (cases_of ds p) a m (subst (λ z. IsLarge states (InFamily ds) z a) e l))
+
+-- no case of any predicate is large
+pub none_large : (ds : List Definition) (states : ℕ) (T : Table) → ((p : ℕ) → p < length ds → ¬ OneOf (IsLarge states (in_table T) (arity_of ds p)) (cases_of ds p)) → ¬ HasLargeCase ds states (in_table T)
+none_large ds states T none h =
+    elim (cases_below h.0 (length ds)) [
+      | inl l ↦ none h.0 l h.1
+      | inr g ↦ no_cases ds h.0 (IsLarge states (in_table T) (arity_of ds h.0)) g h.1
+    ]
+
 -- what is given by one definition more
 pub all_more : (ds : List Definition) (A B C : Table) (q : ℕ) → IsGrown A B → IsGrown B C → ((p : ℕ) → p < q → HasAllGiven A B p (arity_of ds p) (cases_of ds p)) → HasAllGiven B C q (arity_of ds q) (cases_of ds q) → (p : ℕ) → p < q + 1 → HasAllGiven A C p (arity_of ds p) (cases_of ds p)
 all_more ds A B C q f g done here p l b o =
-    elim (split p q l) [
+    elim (below_or p q l) [
       | inl less ↦ g.within p b (done p less b o)
       | inr e ↦ subst (λ z. IsMember b (pairs_of C z)) (sym e) (here b (subst (λ z. OneOf (CaseGives (in_table B) (arity_of ds z) b) (cases_of ds z)) e (lift (cases_of ds p) o)))
     ]
@@ -237,12 +282,6 @@ all_more ds A B C q f g done here p l b o =
     lift [] o = o
     lift (c ∷ cs) (inl y) = inl (gives_within (in_table A) (in_table B) (λ q d m. f.within q d m) (arity_of ds p) b c y)
     lift (c ∷ cs) (inr z) = inr (lift cs z)
-
-    split : (p q : ℕ) → p < q + 1 → (p < q) ⊎ (p ≡ q)
-    split zero zero l = inr refl
-    split zero (suc q) l = inl (omega arith)
-    split (suc p) zero l = absurd (omega arith)
-    split (suc p) (suc q) l = elim (split p q (omega arith)) [ inl a ↦ inl (omega arith) | inr e ↦ inr (ap suc e) ]
 
 pub arity_read : (ds : List Definition) (p : ℕ) (d : Definition) → p < length ds → (get_or ds p d).arity ≡ arity_of ds p
 arity_read [] p d l = absurd (omega arith)

@@ -2,3 +2,4 @@ pub mod Numbers
 pub mod Growth
 pub mod Parts
 pub mod CaseStates
+pub mod Joins

@@ -1,5 +1,5 @@
 -- Atoms with the base pairs that they may take.
-use Rattle.std.specs.Prelude.{◌≡◌, ℕ, List, map, length, nat_le, ◌&&◌, if◌then◌else◌}
+use Rattle.std.specs.Prelude.{◌≡◌, ◌<◌, ℕ, List, map, length, nat_le, ◌&&◌, if◌then◌else◌}
 use Rattle.std.specs.Prelude.{slice_range}
 use Rattle.heap_formula.specs.declared.atoms.Pure.{Pure}
 use Rattle.heap_formula.specs.declared.atoms.Spatial.{Spatial}
@@ -31,6 +31,10 @@ atom_pairs table cell (Pred p ts) share = share_of share (pairs_of table p)
 
 abbrev pub part_pairs : Table → List BasePair → Part → List BasePair
 part_pairs table cell x = atom_pairs table cell x.atom x.share
+
+-- each part has some base pair
+abbrev pub HasSome : Table → List BasePair → List Part → Type 0
+HasSome table cell xs = Each (λ x. 0 < length (part_pairs table cell x)) xs
 
 abbrev pub lists_of : Table → List BasePair → List Part → List (List BasePair)
 lists_of table cell xs = map (part_pairs table cell) xs

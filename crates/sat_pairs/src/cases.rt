@@ -1,11 +1,12 @@
 // What a symbolic heap gives with base pairs of a table.
-ghost use Rattle.std.specs.Prelude.{◌≡◌, ◌↔◌, ◌<◌, ◌++◌, ◌∷◌, [], suc, length, IfOk, IsTrue};
+ghost use Rattle.std.specs.Prelude.{◌≡◌, ◌↔◌, ◌<◌, ◌≤◌, ◌++◌, ◌∷◌, [], suc, length, Err, IfOk, IsTrue};
 ghost use Rattle.heap_formula.specs.Words.{Each};
 ghost use Rattle.pair_family.specs.BasePairs.{BasePair};
 ghost use Rattle.pair_family.specs.Closedness.{HasFields, AreCases};
-ghost use Rattle.pair_family.specs.Family.{CaseGives};
+ghost use Rattle.pair_family.specs.Family.{CaseGives, InFamily};
 ghost use Rattle.pair_family.specs.Folding.{spoken};
 ghost use Rattle.pair_family.specs.Frames.{kept_terms, frames_of};
+ghost use Rattle.pair_family.specs.LargeCases.{sizes, HasMore, IsLarge};
 ghost use Rattle.pair_family.specs.Reordering.{families_of};
 ghost use Rattle.pair_family.specs.States.{AreStates};
 ghost use Rattle.pair_family.specs.Statements.{IsSatisfiable};
@@ -13,19 +14,19 @@ ghost use Rattle.pair_family.specs.Tables.{IsTable, in_table};
 ghost use Rattle.list_facts.specs.Words.{IsMember};
 ghost use Rattle.pair_family.specs.Within.{IsWithin};
 ghost use Rattle.sat_pairs.specs.Numbers.{places_in, cell_pair_alone, equal_places, differ_places, pure_pair_at};
-ghost use Rattle.sat_pairs.specs.Parts.{atoms_of, lists_of, PartsGive};
-ghost use Rattle.sat_pairs.specs.CaseStates.{Starts, StartsAt, StepsBy, StepsTo};
+ghost use Rattle.sat_pairs.specs.Parts.{atoms_of, lists_of, AreWhole, HasSome, PartsGive};
+ghost use Rattle.sat_pairs.specs.CaseStates.{GivesBy, GivesTo, Passes, PassesFrom, Starts, StartsAt, StepsBy, StepsTo};
 
 use crate::numbers::{
     kept_numbers, number_of, numbers_below, place_of, places_of, push_pure, push_spoken,
 };
-use crate::orders::in_order;
-use crate::parts::{Part, pairs_of_part, place_of_most, place_of_none, whole_parts};
+use crate::orders::{in_join_order, in_order};
+use crate::parts::{Part, have_some, pairs_of_part, place_of_none, whole_parts};
 use crate::tables::Table;
 use cyc_memory::OutOfMemory;
 use heap_formula::{Heap, Pure, Spatial};
 use indexmap::IndexSet;
-use pair_states::{Known, add, combine, states_after};
+use pair_states::{Known, StatesFault, Step, combine, first_states, states_after};
 use pred_defs::Defs;
 use std::alloc::Global;
 
@@ -140,15 +141,24 @@ fn step(
     atom: &Spatial,
     pairs: &[Known],
     states: &[Known],
-) -> Result<IndexSet<Known>, OutOfMemory>
-    ensures { IfOk result (λ v. StepsBy numbers.now after atom.now pairs.now states.now v.keys) }
+    most: usize,
+) -> Result<IndexSet<Known>, StatesFault>
+    ensures given { IfOk result (λ v. StepsBy numbers.now after atom.now pairs.now states.now v.keys) }
+    ensures few { IfOk result (λ v. sizes v.keys ≤ most) }
+    ensures many { result ≡ Err StatesFault.TooManyStates
+        → HasMore most (GivesBy numbers.now after atom.now pairs.now states.now) }
 {
     let kept = numbers_below(alloc, after)?;
     let places = places_for(alloc, numbers, atom)?;
-    let next = states_after(alloc, numbers, states, &places, pairs, &kept);
+    let step = Step {
+        numbers,
+        places: &places,
+        kept: &kept,
+    };
+    let next = states_after(alloc, &step, states, pairs, most);
     drop(places);
     drop(kept);
-    Ok(next?)
+    next
 }
 
 /// The states after an atom that stands before the parts `rest`.
@@ -159,13 +169,17 @@ fn step_to(
     rest: &[Part],
     pairs: &[Known],
     states: &[Known],
-) -> Result<IndexSet<Known>, OutOfMemory>
-    ensures { IfOk result (λ v. StepsTo k atom.now (atoms_of rest.now) pairs.now states.now v.keys) }
+    most: usize,
+) -> Result<IndexSet<Known>, StatesFault>
+    ensures given { IfOk result (λ v. StepsTo k atom.now (atoms_of rest.now) pairs.now states.now v.keys) }
+    ensures few { IfOk result (λ v. sizes v.keys ≤ most) }
+    ensures many { result ≡ Err StatesFault.TooManyStates
+        → HasMore most (GivesTo k atom.now (atoms_of rest.now) pairs.now states.now) }
 {
     let mut numbers = kept_numbers(alloc, k, rest)?;
     let after = numbers.len();
     push_spoken(&mut numbers, atom)?;
-    step(alloc, &numbers, after, atom, pairs, states)
+    step(alloc, &numbers, after, atom, pairs, states, most)
 }
 
 /// The first part, and the others.
@@ -176,7 +190,7 @@ fn first_of(parts: &[Part]) -> (&Part, &[Part])
     (&parts[0], &parts[1..])
 }
 
-/// The states after the parts, in this order.
+/// The states after the parts, in this order, unless those after some of them are too much.
 fn fold(
     alloc: Global,
     table: &Table,
@@ -184,23 +198,30 @@ fn fold(
     k: u32,
     parts: &[Part],
     states: IndexSet<Known>,
-) -> Result<IndexSet<Known>, OutOfMemory>
+    most: usize,
+) -> Result<IndexSet<Known>, StatesFault>
     requires cell { cell.now ≡ cell_pair_alone }
     requires within { Each (IsWithin (suc (length (kept_terms k (atoms_of parts.now))))) states.keys }
-    ensures { IfOk result (λ out. AreStates (families_of (lists_of table.now cell.now parts.now))
+    requires few { sizes states.keys ≤ most }
+    ensures given { IfOk result (λ out. AreStates (families_of (lists_of table.now cell.now parts.now))
         (frames_of k (atoms_of parts.now)) states.keys (atoms_of parts.now) out.keys) }
+    ensures few { IfOk result (λ _. ¬ PassesFrom most (families_of (lists_of table.now cell.now parts.now))
+        (frames_of k (atoms_of parts.now)) states.keys (atoms_of parts.now)) }
+    ensures many { result ≡ Err StatesFault.TooManyStates → PassesFrom most (families_of (lists_of table.now cell.now parts.now))
+        (frames_of k (atoms_of parts.now)) states.keys (atoms_of parts.now) }
 {
     if parts.is_empty() {
         return Ok(states);
     }
     let (part, rest) = first_of(parts);
     let pairs = pairs_of_part(table, cell, part);
-    let next = step_to(alloc, k, &part.atom, rest, pairs, states.as_slice());
+    let next = step_to(alloc, k, &part.atom, rest, pairs, states.as_slice(), most);
     drop(states);
-    fold(alloc, table, cell, k, rest, next?)
+    fold(alloc, table, cell, k, rest, next?, most)
 }
 
-/// The base pairs that parts in this order give, with pure atoms, for a predicate with k parameters.
+/// The base pairs that parts in this order give, with pure atoms, for a predicate with k parameters, unless the states after
+/// some of the parts are too much.
 fn given_in_order(
     alloc: Global,
     table: &Table,
@@ -208,20 +229,25 @@ fn given_in_order(
     k: u32,
     parts: &[Part],
     pure: &[Pure],
-) -> Result<IndexSet<Known>, OutOfMemory>
+    most: usize,
+) -> Result<IndexSet<Known>, StatesFault>
     requires cell { cell.now ≡ cell_pair_alone }
-    ensures { IfOk result (λ out. (d : BasePair)
+    ensures given { IfOk result (λ out. (d : BasePair)
         → IsMember d out.keys ↔ PartsGive table.now cell.now k pure.now d parts.now) }
+    ensures few { IfOk result (λ _. ¬ Passes most (families_of (lists_of table.now cell.now parts.now)) k
+        pure.now (atoms_of parts.now)) }
+    ensures many { result ≡ Err StatesFault.TooManyStates
+        → Passes most (families_of (lists_of table.now cell.now parts.now)) k pure.now (atoms_of parts.now) }
 {
     let Some(first) = start(alloc, k, parts, pure)? else {
         return Ok(IndexSet::new(alloc));
     };
-    let mut states = IndexSet::new(alloc);
-    add(&mut states, first)?;
-    fold(alloc, table, cell, k, parts, states)
+    let states = first_states(alloc, first, most)?;
+    fold(alloc, table, cell, k, parts, states, most)
 }
 
-/// The base pairs that parts give, with pure atoms, for a predicate with k parameters; the part at a place is taken first.
+/// The base pairs that parts give, with pure atoms, for a predicate with k parameters; the part at a place is taken first, so
+/// that the states may be too much where those in the order of a join are not.
 pub fn given_from(
     alloc: Global,
     table: &Table,
@@ -230,45 +256,97 @@ pub fn given_from(
     parts: Vec<Part>,
     place: usize,
     pure: &[Pure],
-) -> Result<IndexSet<Known>, OutOfMemory>
+    most: usize,
+) -> Result<IndexSet<Known>, StatesFault>
     requires cell { cell.now ≡ cell_pair_alone }
     ensures { IfOk result (λ out. (d : BasePair)
         → IsMember d out.keys ↔ PartsGive table.now cell.now k pure.now d parts.items) }
 {
     let first = place_of_none(table, cell, &parts, place);
     let ordered = in_order(alloc, k, parts, first)?;
-    given_in_order(alloc, table, cell, k, &ordered, pure)
+    given_in_order(alloc, table, cell, k, &ordered, pure, most)
 }
 
-/// The base pairs that a case of a predicate with k parameters gives with base pairs of the table.
+/// The base pairs that whole parts give, each with some base pair, in the order of a join.
+fn given_in_join(
+    alloc: Global,
+    table: &Table,
+    cell: &[Known],
+    k: u32,
+    parts: Vec<Part>,
+    case: &Heap,
+    most: usize,
+) -> Result<IndexSet<Known>, StatesFault>
+    requires cell { cell.now ≡ cell_pair_alone }
+    requires whole { AreWhole case.now.spatial parts.items }
+    requires some { HasSome table.now cell.now parts.items }
+    ensures given { IfOk result (λ out. (d : BasePair)
+        → IsMember d out.keys ↔ CaseGives (in_table table.now) k d case.now) }
+    ensures few { IfOk result (λ _. ¬ IsLarge most (in_table table.now) k case.now) }
+    ensures many { result ≡ Err StatesFault.TooManyStates → IsLarge most (in_table table.now) k case.now }
+{
+    let ordered = in_join_order(alloc, k, parts)?;
+    given_in_order(alloc, table, cell, k, &ordered, case.pure(), most)
+}
+
+/// The base pairs that a case of a predicate with k parameters gives with base pairs of the table, unless the case is large.
 pub fn given_by(
     alloc: Global,
     table: &Table,
     k: u32,
     case: &Heap,
-) -> Result<IndexSet<Known>, OutOfMemory>
-    ensures { IfOk result (λ out. (d : BasePair) → IsMember d out.keys ↔ CaseGives (in_table table.now) k d case.now) }
+    most: usize,
+) -> Result<IndexSet<Known>, StatesFault>
+    ensures given { IfOk result (λ out. (d : BasePair)
+        → IsMember d out.keys ↔ CaseGives (in_table table.now) k d case.now) }
+    ensures few { IfOk result (λ _. ¬ IsLarge most (in_table table.now) k case.now) }
+    ensures many { result ≡ Err StatesFault.TooManyStates → IsLarge most (in_table table.now) k case.now }
 {
     let cell = cell_pairs(alloc)?;
     let parts = whole_parts(alloc, case.spatial())?;
-    let most = place_of_most(table, &cell, &parts);
-    given_from(alloc, table, &cell, k, parts, most, case.pure())
+    if !have_some(table, &cell, &parts) {
+        return Ok(IndexSet::new(alloc));
+    }
+    given_in_join(alloc, table, &cell, k, parts, case, most)
 }
 
-/// Whether some stack and heap satisfy a symbolic heap. The table is that of the definitions.
-pub fn satisfiable(
+/// Whether some stack and heap satisfy a symbolic heap, unless its states are more in size than `most`. The table is that of
+/// the definitions.
+pub fn satisfiable_within(
     alloc: Global,
     _defs: &Defs,
     table: &Table,
     heap: &Heap,
-) -> Result<bool, OutOfMemory>
+    most: usize,
+) -> Result<bool, StatesFault>
     requires closed { AreCases _defs.now.list }
     requires table { IsTable _defs.now.list table.now }
     requires fields { Each HasFields heap.now.spatial }
     ensures exact { IfOk result (λ b. IsTrue b ↔ IsSatisfiable _defs.now.list heap.now) }
+    ensures few { IfOk result (λ _. ¬ IsLarge most (InFamily _defs.now.list) 0 heap.now) }
+    ensures many { result ≡ Err StatesFault.TooManyStates → IsLarge most (InFamily _defs.now.list) 0 heap.now }
 {
-    let states = given_by(alloc, table, 0, heap)?;
+    let states = given_by(alloc, table, 0, heap, most)?;
     let is_satisfiable = !states.is_empty();
     drop(states);
     Ok(is_satisfiable)
+}
+
+/// Whether some stack and heap satisfy a symbolic heap. The table is that of the definitions. Where the states are more than
+/// can be counted, there is no memory for them.
+pub fn satisfiable(
+    alloc: Global,
+    defs: &Defs,
+    table: &Table,
+    heap: &Heap,
+) -> Result<bool, OutOfMemory>
+    requires closed { AreCases defs.now.list }
+    requires table { IsTable defs.now.list table.now }
+    requires fields { Each HasFields heap.now.spatial }
+    ensures exact { IfOk result (λ b. IsTrue b ↔ IsSatisfiable defs.now.list heap.now) }
+{
+    match satisfiable_within(alloc, defs, table, heap, usize::MAX) {
+        Ok(yes) => Ok(yes),
+        Err(_) => Err(OutOfMemory),
+    }
 }

@@ -10,6 +10,7 @@ mod rounds;
 mod tables;
 mod turns;
 
-pub use cases::satisfiable;
-pub use rounds::{PairFault, base_pairs};
+pub use cases::{satisfiable, satisfiable_within};
+pub use pair_states::StatesFault;
+pub use rounds::{Limits, PairFault, base_pairs};
 pub use tables::Table;

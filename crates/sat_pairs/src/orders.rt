@@ -1,167 +1,141 @@
 // The order in which the atoms of a symbolic heap are taken in, as the tables of a join are ordered.
-ghost use Rattle.std.specs.Prelude.{◌<◌, IfOk, length};
+ghost use Rattle.std.specs.Prelude.{◌≡◌, ◌<◌, ◌&&◌, IfOk, length, count_by};
+ghost use Rattle.pair_family.specs.Frames.{has_term as has_term_of};
+ghost use Rattle.pair_family.specs.JoinOrder.{speaks_of as atom_speaks, is_new as is_new_in, is_shared as is_shared_in, is_needed as is_needed_in, cost_at, cost_of as cost_in, is_less as costs_less, cheapest as cheapest_of, join_order};
 ghost use Rattle.pair_family.specs.Reordering.{Reorders, IsTakenOut};
+ghost use Rattle.sat_pairs.specs.Parts.{atoms_of};
+ghost use Rattle.sat_pairs.specs.Joins.{IsFirstTaken, IsJoined, pair_of_cost};
 
+use crate::numbers::number_of;
 use crate::parts::Part;
 use cyc_memory::OutOfMemory;
 use heap_formula::{Spatial, Term};
 use std::alloc::Global;
 
-/// What is noted of a term: how many parts that are still to come speak of it, whether one that was taken does, and whether
-/// it is kept to the end.
-#[derive(Drop)]
-struct TermUse {
-    term: Term,
-    left: usize,
-    is_known: bool,
-    is_kept: bool,
-}
-
-/// What it costs to take a part next: how many terms more are kept after it (from 8 on, so that fewer is less), and how
-/// many of its terms are not known yet.
+/// What it costs to take an atom next: how many of its terms are needed after it and new, and how many are needed.
 #[derive(Clone, Copy)]
 struct Cost {
-    kept: usize,
-    unknown: usize,
+    new: usize,
+    needed: usize,
 }
 
 impl Cost {
-    fn is_below(self, other: Cost) -> bool {
-        self.kept < other.kept || (self.kept == other.kept && self.unknown < other.unknown)
+    fn is_less(self, other: Cost) -> bool
+        ensures { result ≡ costs_less (pair_of_cost self) (pair_of_cost other) }
+    {
+        self.new < other.new || (self.new == other.new && self.needed < other.needed)
     }
 }
 
-/// The term at a place among those that an atom's base pair speaks of.
-fn spoken_at(atom: &Spatial, i: usize) -> Option<Term> {
+fn has_term(terms: &[Term], term: Term) -> bool
+    ensures { result ≡ has_term_of terms.now term }
+{
+    for other in terms {
+        if number_of(*other) == number_of(term) {
+            return true;
+        }
+    }
+    false
+}
+
+/// Whether the atom's base pair speaks of the term.
+fn speaks_of(atom: &Spatial, term: Term) -> bool
+    ensures { result ≡ atom_speaks term atom.now }
+{
     match atom {
-        Spatial::Cell(address, _) => { if i == 0 { Some(*address) } else { None } }
-        Spatial::Pred(_, args) => args.as_slice().get(i).copied(),
+        Spatial::Cell(t, _) => has_term(&[*t], term),
+        Spatial::Pred(_, args) => has_term(args.as_slice(), term),
     }
 }
 
-/// The same, unless it stands before.
-fn first_spoken_at(atom: &Spatial, i: usize) -> Option<Term> {
-    let term = spoken_at(atom, i)?;
-    for j in 0..i {
-        if spoken_at(atom, j) == Some(term) {
-            return None;
+/// Whether none of the parts speaks of the term.
+fn is_new(taken: &[Part], term: Term) -> bool
+    ensures { result ≡ is_new_in (atoms_of taken.now) term }
+{
+    for part in taken {
+        if speaks_of(&part.atom, term) {
+            return false;
         }
     }
-    Some(term)
+    true
 }
 
-/// Nil and the first k universal variables are kept.
-fn is_kept(term: Term, k: u32) -> bool {
+/// How many of the parts speak of the term.
+#[tactic(auto, using(crate::proofs::Joins::counted_atoms))]
+fn count_speaking(parts: &[Part], term: Term) -> usize
+    ensures { result ≡ count_by (atom_speaks term) (atoms_of parts.now) }
+{
+    parts
+        .iter()
+        .filter(|part| speaks_of(&part.atom, term))
+        .count()
+}
+
+fn is_shared(left: &[Part], term: Term) -> bool
+    ensures { result ≡ is_shared_in (atoms_of left.now) term }
+{
+    count_speaking(left, term) >= 2
+}
+
+/// Whether the term is kept after a part with it is taken: a parameter, or one of which another part speaks.
+fn is_needed(k: u32, left: &[Part], term: Term) -> bool
+    ensures { result ≡ is_needed_in k (atoms_of left.now) term }
+{
     match term {
-        Term::Nil => true,
-        Term::Univ(n) => (n as u32) < k,
-        Term::Exist(_) => false,
+        Term::Nil => false,
+        Term::Univ(n) => (n as u32) < k || is_shared(left, term),
+        Term::Exist(_) => is_shared(left, term),
     }
 }
 
-fn place_of_term(uses: &[TermUse], term: Term) -> Option<usize> {
-    for (place, used) in uses.iter().enumerate() {
-        if used.term == term {
-            return Some(place);
-        }
-    }
-    None
+/// How many of the terms are needed and new.
+fn count_new(k: u32, taken: &[Part], left: &[Part], terms: &[Term]) -> usize
+    ensures { result ≡ count_by (λ t. is_needed_in k (atoms_of left.now) t && is_new_in (atoms_of taken.now) t) terms.now }
+{
+    terms
+        .iter()
+        .filter(|term| is_needed(k, left, **term) && is_new(taken, **term))
+        .count()
 }
 
-/// One more part that is still to come speaks of a term.
-fn note_term(uses: &mut Vec<TermUse>, k: u32, term: Term) -> Result<(), OutOfMemory> {
-    if let Some(place) = place_of_term(uses, term) {
-        if let Some(used) = uses.get_mut(place) {
-            used.left = used.left.saturating_add(1);
-        }
-        return Ok(());
-    }
-    uses.push(TermUse {
-        term,
-        left: 1,
-        is_known: term == Term::Nil,
-        is_kept: is_kept(term, k),
-    })?;
-    Ok(())
+/// How many of the terms are needed.
+fn count_needed(k: u32, left: &[Part], terms: &[Term]) -> usize
+    ensures { result ≡ count_by (is_needed_in k (atoms_of left.now)) terms.now }
+{
+    terms
+        .iter()
+        .filter(|term| is_needed(k, left, **term))
+        .count()
 }
 
-fn note_atom(uses: &mut Vec<TermUse>, k: u32, atom: &Spatial) -> Result<(), OutOfMemory> {
-    for i in 0..8 {
-        if let Some(term) = first_spoken_at(atom, i) {
-            note_term(uses, k, term)?;
-        }
-    }
-    Ok(())
+fn cost_of_terms(k: u32, taken: &[Part], left: &[Part], terms: &[Term]) -> Cost
+    ensures { pair_of_cost result ≡ cost_at k (atoms_of taken.now) (atoms_of left.now) terms.now }
+{
+    let new = count_new(k, taken, left, terms);
+    let needed = count_needed(k, left, terms);
+    Cost { new, needed }
 }
 
-/// The terms of some parts that are all still to come.
-fn uses_of(alloc: Global, k: u32, parts: &[Part]) -> Result<Vec<TermUse>, OutOfMemory> {
-    let mut uses = Vec::new(alloc);
-    for part in parts {
-        note_atom(&mut uses, k, &part.atom)?;
+fn cost_of(k: u32, taken: &[Part], left: &[Part], atom: &Spatial) -> Cost
+    ensures { pair_of_cost result ≡ cost_in k (atoms_of taken.now) (atoms_of left.now) atom.now }
+{
+    match atom {
+        Spatial::Cell(t, _) => cost_of_terms(k, taken, left, &[*t]),
+        Spatial::Pred(_, args) => cost_of_terms(k, taken, left, args.as_slice()),
     }
-    Ok(uses)
-}
-
-/// An atom was taken.
-fn take_atom(uses: &mut Vec<TermUse>, atom: &Spatial) {
-    for i in 0..8 {
-        if let Some(term) = first_spoken_at(atom, i) {
-            if let Some(place) = place_of_term(uses, term) {
-                if let Some(used) = uses.get_mut(place) {
-                    used.left = used.left.saturating_sub(1);
-                    used.is_known = true;
-                }
-            }
-        }
-    }
-}
-
-/// The cost with one term more.
-fn with_term(cost: Cost, used: &TermUse) -> Cost {
-    let stays = used.is_kept || used.left > 1;
-    let kept = if stays && !used.is_known {
-        cost.kept.saturating_add(1)
-    } else if !stays && used.is_known {
-        cost.kept.saturating_sub(1)
-    } else {
-        cost.kept
-    };
-    let unknown = if used.is_known {
-        cost.unknown
-    } else {
-        cost.unknown.saturating_add(1)
-    };
-    Cost { kept, unknown }
-}
-
-fn cost_of(uses: &[TermUse], atom: &Spatial) -> Cost {
-    let mut cost = Cost {
-        kept: 8,
-        unknown: 0,
-    };
-    for i in 0..8 {
-        if let Some(term) = first_spoken_at(atom, i) {
-            if let Some(place) = place_of_term(uses, term) {
-                if let Some(used) = uses.get(place) {
-                    cost = with_term(cost, used);
-                }
-            }
-        }
-    }
-    cost
 }
 
 /// The place of a part that costs least; the first of them.
-fn cheapest(uses: &[TermUse], parts: &[Part]) -> usize {
+fn cheapest(k: u32, taken: &[Part], left: &[Part]) -> usize
+    requires { 0 < length left.now }
+    ensures place { result ≡ cheapest_of k (atoms_of taken.now) (atoms_of left.now) }
+    ensures within { result < length left.now }
+{
     let mut best = 0;
-    let mut least = Cost {
-        kept: usize::MAX,
-        unknown: 0,
-    };
-    for (place, part) in parts.iter().enumerate() {
-        let cost = cost_of(uses, &part.atom);
-        if cost.is_below(least) {
+    let mut least = cost_of(k, taken, left, &left[0].atom);
+    for (place, part) in left.iter().enumerate() {
+        let cost = cost_of(k, taken, left, &part.atom);
+        if cost.is_less(least) {
             best = place;
             least = cost;
         }
@@ -178,8 +152,41 @@ fn take_out(parts: &mut Vec<Part>, place: usize) -> Part
     parts.remove(at)
 }
 
-/// The parts in another order: first the one at a place, and then always one after which the fewest terms are kept, and of
-/// these one with the fewest terms that were not known.
+/// Some parts, and then others: always one that costs least.
+fn joined(k: u32, taken: Vec<Part>, others: Vec<Part>) -> Result<Vec<Part>, OutOfMemory>
+    ensures { IfOk result (λ v. IsJoined k taken.items others.items v.items) }
+{
+    let mut ordered = taken;
+    let mut left = others;
+    while !left.is_empty() {
+        let place = cheapest(k, &ordered, &left);
+        let part = left.remove(place);
+        ordered.push(part)?;
+    }
+    Ok(ordered)
+}
+
+/// The parts in the order of a join: always one after which the fewest terms are needed that are new, and of these one with
+/// the fewest terms that are needed.
+pub fn in_join_order(alloc: Global, k: u32, parts: Vec<Part>) -> Result<Vec<Part>, OutOfMemory>
+    ensures order { IfOk result (λ v. atoms_of v.items ≡ join_order k (atoms_of parts.items)) }
+    ensures all { IfOk result (λ v. Reorders v.items parts.items) }
+{
+    joined(k, Vec::new(alloc), parts)
+}
+
+/// The part at a place, or the last, alone; it is taken out of the parts.
+fn first_taken(alloc: Global, parts: &mut Vec<Part>, place: usize) -> Result<Vec<Part>, OutOfMemory>
+    requires { 0 < length parts.old.items }
+    ensures { IfOk result (λ v. IsFirstTaken parts.old.items parts.new.items v.items) }
+{
+    let mut taken = Vec::new(alloc);
+    let Part { atom, share } = take_out(parts, place);
+    taken.push(Part { atom, share })?;
+    Ok(taken)
+}
+
+/// The parts in another order: first the one at a place, and then as in a join.
 pub fn in_order(
     alloc: Global,
     k: u32,
@@ -188,15 +195,10 @@ pub fn in_order(
 ) -> Result<Vec<Part>, OutOfMemory>
     ensures { IfOk result (λ v. Reorders v.items parts.items) }
 {
-    let mut uses = uses_of(alloc, k, &parts)?;
-    let mut left = parts;
-    let mut ordered = Vec::new(alloc);
-    let mut next = first;
-    while !left.is_empty() {
-        let part = take_out(&mut left, next);
-        take_atom(&mut uses, &part.atom);
-        ordered.push(part)?;
-        next = cheapest(&uses, &left);
+    if parts.is_empty() {
+        return Ok(parts);
     }
-    Ok(ordered)
+    let mut left = parts;
+    let taken = first_taken(alloc, &mut left, first)?;
+    joined(k, taken, left)
 }

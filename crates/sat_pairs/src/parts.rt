@@ -1,7 +1,7 @@
 // Atoms of a symbolic heap with the base pairs that they may take.
-ghost use Rattle.std.specs.Prelude.{◌≡◌, IfOk};
+ghost use Rattle.std.specs.Prelude.{◌≡◌, ◌↔◌, IfOk, IsTrue};
 ghost use Rattle.pair_family.specs.Tables.{pairs_of};
-ghost use Rattle.sat_pairs.specs.Parts.{atoms_of, AreWhole, cut, share_of, part_pairs};
+ghost use Rattle.sat_pairs.specs.Parts.{atoms_of, AreWhole, HasSome, cut, share_of, part_pairs};
 
 use crate::tables::Table;
 use crate::turns::News;
@@ -104,21 +104,16 @@ pub fn pair_counts(
     Ok(counts)
 }
 
-/// The place of a part without base pairs, or else of one with the most.
-pub fn place_of_most(table: &Table, cell: &[Known], parts: &[Part]) -> usize {
-    let mut best = 0;
-    let mut most = 0;
-    for (place, part) in parts.iter().enumerate() {
-        let count = pairs_of_part(table, cell, part).len();
-        if count == 0 {
-            return place;
-        }
-        if count > most {
-            best = place;
-            most = count;
+/// Whether each part has some base pair.
+pub fn have_some(table: &Table, cell: &[Known], parts: &[Part]) -> bool
+    ensures { IsTrue result ↔ HasSome table.now cell.now parts.now }
+{
+    for part in parts {
+        if pairs_of_part(table, cell, part).is_empty() {
+            return false;
         }
     }
-    best
+    true
 }
 
 /// The place of a part without base pairs; the given place where each has some.

@@ -1,9 +1,11 @@
 // The base pairs of all predicates.
 ghost use Rattle.std.specs.Prelude.{ℕ, ◌≡◌, ◌<◌, ◌+◌, length, Err, IfOk, Some};
 ghost use Rattle.heap_formula.specs.Meaning.{cases_of};
+ghost use Rattle.heap_formula.specs.Words.{OneOf};
 ghost use Rattle.pair_family.specs.BasePairs.{BasePair};
 ghost use Rattle.pair_family.specs.Family.{CaseGives, InFamily, arity_of};
-ghost use Rattle.pair_family.specs.Tables.{IsTable, HasAtMost, HasMoreThan, pairs_of};
+ghost use Rattle.pair_family.specs.LargeCases.{IsLarge, HasLargeCase};
+ghost use Rattle.pair_family.specs.Tables.{IsTable, HasAtMost, HasMoreThan, in_table, pairs_of};
 ghost use Rattle.list_facts.specs.Words.{IsMember};
 ghost use Rattle.sat_pairs.specs.Growth.{total, IsPartOf, IsGrown, AreInFamily, HasPairs, HasGiven, HasAllGiven};
 
@@ -15,14 +17,23 @@ use crate::turns::{News, Turn, Turns, no_turns};
 use cyc_memory::OutOfMemory;
 use heap_formula::Heap;
 use indexmap::IndexSet;
-use pair_states::Known;
+use pair_states::{Known, StatesFault};
 use pred_defs::Defs;
 use std::alloc::{AllocError, Global};
 
-/// Why there is no table: more base pairs than asked for, or out of memory.
+/// How many base pairs are made at most, of all predicates; and how much the states of a case may be in size, where each
+/// counts for one more than the facts in it.
+#[derive(Clone, Copy, Debug)]
+pub struct Limits {
+    pub pairs: u32,
+    pub states: u32,
+}
+
+/// Why there is no table: more base pairs than asked for, a case with more states, or out of memory.
 #[derive(Clone, Copy, PartialEq, Eq, Debug)]
 pub enum PairFault {
     TooManyPairs,
+    TooManyStates,
     OutOfMemory,
 }
 
@@ -37,29 +48,44 @@ impl From<OutOfMemory> for PairFault {
     }
 }
 
+impl From<StatesFault> for PairFault {
+    ghost use Rattle.sat_pairs.specs.Growth.{pair_fault_of};
+    ghost use Rattle.std.specs.Prelude.{◌≡◌};
+
+    ghost from_gives = { λ f e. e ≡ pair_fault_of f };
+
+    fn from(fault: StatesFault) -> PairFault {
+        match fault {
+            StatesFault::TooManyStates => PairFault::TooManyStates,
+            StatesFault::OutOfMemory => PairFault::OutOfMemory,
+        }
+    }
+}
+
 /// Adds a base pair of the family, unless it is there; `count` is how many there are, and so is the result then.
 fn put(
     _defs: &Defs,
     table: &mut Table,
     count: usize,
-    most: u32,
+    limits: Limits,
     pred: u16,
     known: Known,
 ) -> Result<usize, PairFault>
-    requires part { IsPartOf _defs.now.list most table.old }
+    requires part { IsPartOf _defs.now.list limits.pairs table.old }
     requires count { count ≡ total table.old }
     requires there { pred < length table.old }
     requires member { InFamily _defs.now.list pred known }
-    ensures part { IfOk result (λ n. IsPartOf _defs.now.list most table.new × (n ≡ total table.new)) }
+    ensures part { IfOk result (λ n. IsPartOf _defs.now.list limits.pairs table.new × (n ≡ total table.new)) }
     ensures grown { IfOk result (λ _. IsGrown table.old table.new) }
     ensures taken { IfOk result (λ _. IsMember known (pairs_of table.new pred)) }
-    ensures many { (result ≡ Err PairFault.TooManyPairs) → HasMoreThan _defs.now.list most }
+    ensures many { (result ≡ Err PairFault.TooManyPairs) → HasMoreThan _defs.now.list limits.pairs }
+    ensures no_states { (result ≡ Err PairFault.TooManyStates) → ⊥ }
 {
     let is_new = table.insert(pred, known)?;
     if !is_new {
         return Ok(count);
     }
-    if count >= most as usize {
+    if count >= limits.pairs as usize {
         return Err(PairFault::TooManyPairs);
     }
     Ok(count + 1)
@@ -70,80 +96,139 @@ fn put_all(
     defs: &Defs,
     table: &mut Table,
     count: usize,
-    most: u32,
+    limits: Limits,
     pred: u16,
     given: &mut IndexSet<Known>,
 ) -> Result<usize, PairFault>
-    requires part { IsPartOf defs.now.list most table.old }
+    requires part { IsPartOf defs.now.list limits.pairs table.old }
     requires count { count ≡ total table.old }
     requires there { pred < length table.old }
     requires members { AreInFamily defs.now.list pred given.old.keys }
-    ensures part { IfOk result (λ n. IsPartOf defs.now.list most table.new × (n ≡ total table.new)) }
+    ensures part { IfOk result (λ n. IsPartOf defs.now.list limits.pairs table.new × (n ≡ total table.new)) }
     ensures grown { IfOk result (λ _. IsGrown table.old table.new) }
     ensures taken { IfOk result (λ _. HasPairs table.new pred given.old.keys) }
-    ensures many { (result ≡ Err PairFault.TooManyPairs) → HasMoreThan defs.now.list most }
+    ensures many { (result ≡ Err PairFault.TooManyPairs) → HasMoreThan defs.now.list limits.pairs }
+    ensures no_states { (result ≡ Err PairFault.TooManyStates) → ⊥ }
 {
     let mut now = count;
     while let Some(known) = given.pop() {
-        now = put(defs, table, now, most, pred, known)?;
+        now = put(defs, table, now, limits, pred, known)?;
     }
     Ok(now)
 }
 
-/// Adds what a case gives with the base pairs that are there.
+/// Adds what a case gives with the base pairs that are there, unless the case is large.
 fn put_case(
     alloc: Global,
     defs: &Defs,
     table: &mut Table,
     count: usize,
-    most: u32,
+    limits: Limits,
     pred: u16,
     k: u32,
     case: &Heap,
 ) -> Result<usize, PairFault>
-    requires part { IsPartOf defs.now.list most table.old }
+    requires part { IsPartOf defs.now.list limits.pairs table.old }
     requires count { count ≡ total table.old }
     requires there { pred < length table.old }
     requires sound { (b : BasePair) → CaseGives (InFamily defs.now.list) k b case.now → InFamily defs.now.list pred b }
-    ensures part { IfOk result (λ n. IsPartOf defs.now.list most table.new × (n ≡ total table.new)) }
+    ensures part { IfOk result (λ n. IsPartOf defs.now.list limits.pairs table.new × (n ≡ total table.new)) }
     ensures grown { IfOk result (λ _. IsGrown table.old table.new) }
     ensures taken { IfOk result (λ _. HasGiven table.old table.new pred k case.now) }
-    ensures many { (result ≡ Err PairFault.TooManyPairs) → HasMoreThan defs.now.list most }
+    ensures small { IfOk result (λ _. ¬ IsLarge limits.states (in_table table.old) k case.now) }
+    ensures many { (result ≡ Err PairFault.TooManyPairs) → HasMoreThan defs.now.list limits.pairs }
+    ensures large { (result ≡ Err PairFault.TooManyStates)
+        → IsLarge limits.states (InFamily defs.now.list) k case.now }
 {
-    let mut given = given_by(alloc, table, k, case)?;
-    let counted = put_all(defs, table, count, most, pred, &mut given);
+    let mut given = given_by(alloc, table, k, case, limits.states as usize)?;
+    let counted = put_all(defs, table, count, limits, pred, &mut given);
     drop(given);
     counted
 }
 
-/// Adds what a case gives where the atom at a place takes a base pair that is new, and those before it old ones.
+/// Adds base pairs of the family, each unless it is there; or none, where they were too many to be made.
+fn put_given(
+    defs: &Defs,
+    table: &mut Table,
+    count: usize,
+    limits: Limits,
+    pred: u16,
+    given: Result<IndexSet<Known>, StatesFault>,
+) -> Result<usize, PairFault>
+    requires part { IsPartOf defs.now.list limits.pairs table.old }
+    requires count { count ≡ total table.old }
+    requires there { pred < length table.old }
+    requires members { IfOk given (λ v. AreInFamily defs.now.list pred v.keys) }
+    ensures part { IfOk result (λ n. IsPartOf defs.now.list limits.pairs table.new × (n ≡ total table.new)) }
+    ensures grown { IfOk result (λ _. IsGrown table.old table.new) }
+    ensures many { (result ≡ Err PairFault.TooManyPairs) → HasMoreThan defs.now.list limits.pairs }
+    ensures large { (result ≡ Err PairFault.TooManyStates)
+        → HasLargeCase defs.now.list limits.states (InFamily defs.now.list) }
+{
+    match given {
+        Ok(mut pairs) => put_all(defs, table, count, limits, pred, &mut pairs),
+        Err(StatesFault::TooManyStates) => Ok(count),
+        Err(StatesFault::OutOfMemory) => Err(PairFault::OutOfMemory),
+    }
+}
+
+/// Adds what a case gives with the base pairs that are there, or nothing where it is large.
+fn put_whole(
+    alloc: Global,
+    defs: &Defs,
+    table: &mut Table,
+    count: usize,
+    limits: Limits,
+    pred: u16,
+    k: u32,
+    case: &Heap,
+) -> Result<usize, PairFault>
+    requires part { IsPartOf defs.now.list limits.pairs table.old }
+    requires count { count ≡ total table.old }
+    requires there { pred < length table.old }
+    requires sound { (b : BasePair) → CaseGives (InFamily defs.now.list) k b case.now → InFamily defs.now.list pred b }
+    ensures part { IfOk result (λ n. IsPartOf defs.now.list limits.pairs table.new × (n ≡ total table.new)) }
+    ensures grown { IfOk result (λ _. IsGrown table.old table.new) }
+    ensures many { (result ≡ Err PairFault.TooManyPairs) → HasMoreThan defs.now.list limits.pairs }
+    ensures large { (result ≡ Err PairFault.TooManyStates)
+        → HasLargeCase defs.now.list limits.states (InFamily defs.now.list) }
+{
+    let given = given_by(alloc, table, k, case, limits.states as usize);
+    put_given(defs, table, count, limits, pred, given)
+}
+
+/// Adds what a case gives where the atom at a place takes a base pair that is new, and those before it old ones; or nothing
+/// where its states are too many then.
 fn put_new_at(
     alloc: Global,
     defs: &Defs,
     table: &mut Table,
     count: usize,
-    most: u32,
+    limits: Limits,
     pred: u16,
     k: u32,
     case: &Heap,
     news: &News,
     place: usize,
 ) -> Result<usize, PairFault>
-    requires part { IsPartOf defs.now.list most table.old }
+    requires part { IsPartOf defs.now.list limits.pairs table.old }
     requires count { count ≡ total table.old }
     requires there { pred < length table.old }
     requires sound { (b : BasePair) → CaseGives (InFamily defs.now.list) k b case.now → InFamily defs.now.list pred b }
-    ensures part { IfOk result (λ n. IsPartOf defs.now.list most table.new × (n ≡ total table.new)) }
+    ensures part { IfOk result (λ n. IsPartOf defs.now.list limits.pairs table.new × (n ≡ total table.new)) }
     ensures grown { IfOk result (λ _. IsGrown table.old table.new) }
-    ensures many { (result ≡ Err PairFault.TooManyPairs) → HasMoreThan defs.now.list most }
+    ensures many { (result ≡ Err PairFault.TooManyPairs) → HasMoreThan defs.now.list limits.pairs }
+    ensures large { (result ≡ Err PairFault.TooManyStates)
+        → HasLargeCase defs.now.list limits.states (InFamily defs.now.list) }
 {
     if !news.is_new_at(place) {
         return Ok(count);
     }
     let cell = cell_pairs(alloc)?;
     let parts = new_parts(alloc, case.spatial(), news, place)?;
-    let mut given = given_from(alloc, table, &cell, k, parts, place, case.pure())?;
-    put_all(defs, table, count, most, pred, &mut given)
+    let most = limits.states as usize;
+    let given = given_from(alloc, table, &cell, k, parts, place, case.pure(), most);
+    put_given(defs, table, count, limits, pred, given)
 }
 
 /// Adds what a case gives where some atom takes a base pair that is new, each combination of base pairs once.
@@ -152,23 +237,25 @@ fn put_new(
     defs: &Defs,
     table: &mut Table,
     count: usize,
-    most: u32,
+    limits: Limits,
     pred: u16,
     k: u32,
     case: &Heap,
     news: &News,
 ) -> Result<usize, PairFault>
-    requires part { IsPartOf defs.now.list most table.old }
+    requires part { IsPartOf defs.now.list limits.pairs table.old }
     requires count { count ≡ total table.old }
     requires there { pred < length table.old }
     requires sound { (b : BasePair) → CaseGives (InFamily defs.now.list) k b case.now → InFamily defs.now.list pred b }
-    ensures part { IfOk result (λ n. IsPartOf defs.now.list most table.new × (n ≡ total table.new)) }
+    ensures part { IfOk result (λ n. IsPartOf defs.now.list limits.pairs table.new × (n ≡ total table.new)) }
     ensures grown { IfOk result (λ _. IsGrown table.old table.new) }
-    ensures many { (result ≡ Err PairFault.TooManyPairs) → HasMoreThan defs.now.list most }
+    ensures many { (result ≡ Err PairFault.TooManyPairs) → HasMoreThan defs.now.list limits.pairs }
+    ensures large { (result ≡ Err PairFault.TooManyStates)
+        → HasLargeCase defs.now.list limits.states (InFamily defs.now.list) }
 {
     let mut now = count;
     for place in 0..case.spatial().len() {
-        now = put_new_at(alloc, defs, table, now, most, pred, k, case, news, place)?;
+        now = put_new_at(alloc, defs, table, now, limits, pred, k, case, news, place)?;
     }
     Ok(now)
 }
@@ -179,29 +266,31 @@ fn put_since(
     defs: &Defs,
     table: &mut Table,
     count: usize,
-    most: u32,
+    limits: Limits,
     pred: u16,
     k: u32,
     case: &Heap,
     taken: &Option<Vec<usize>>,
     all: &[usize],
 ) -> Result<usize, PairFault>
-    requires part { IsPartOf defs.now.list most table.old }
+    requires part { IsPartOf defs.now.list limits.pairs table.old }
     requires count { count ≡ total table.old }
     requires there { pred < length table.old }
     requires sound { (b : BasePair) → CaseGives (InFamily defs.now.list) k b case.now → InFamily defs.now.list pred b }
-    ensures part { IfOk result (λ n. IsPartOf defs.now.list most table.new × (n ≡ total table.new)) }
+    ensures part { IfOk result (λ n. IsPartOf defs.now.list limits.pairs table.new × (n ≡ total table.new)) }
     ensures grown { IfOk result (λ _. IsGrown table.old table.new) }
-    ensures many { (result ≡ Err PairFault.TooManyPairs) → HasMoreThan defs.now.list most }
+    ensures many { (result ≡ Err PairFault.TooManyPairs) → HasMoreThan defs.now.list limits.pairs }
+    ensures large { (result ≡ Err PairFault.TooManyStates)
+        → HasLargeCase defs.now.list limits.states (InFamily defs.now.list) }
 {
     match taken {
-        None => put_case(alloc, defs, table, count, most, pred, k, case),
+        None => put_whole(alloc, defs, table, count, limits, pred, k, case),
         Some(old) => {
             let news = News {
                 old: old.as_slice(),
                 all,
             };
-            put_new(alloc, defs, table, count, most, pred, k, case, &news)
+            put_new(alloc, defs, table, count, limits, pred, k, case, &news)
         }
     }
 }
@@ -212,19 +301,21 @@ fn put_turn(
     defs: &Defs,
     table: &mut Table,
     count: usize,
-    most: u32,
+    limits: Limits,
     pred: u16,
     k: u32,
     case: &Heap,
     turn: &mut Turn,
 ) -> Result<usize, PairFault>
-    requires part { IsPartOf defs.now.list most table.old }
+    requires part { IsPartOf defs.now.list limits.pairs table.old }
     requires count { count ≡ total table.old }
     requires there { pred < length table.old }
     requires sound { (b : BasePair) → CaseGives (InFamily defs.now.list) k b case.now → InFamily defs.now.list pred b }
-    ensures part { IfOk result (λ n. IsPartOf defs.now.list most table.new × (n ≡ total table.new)) }
+    ensures part { IfOk result (λ n. IsPartOf defs.now.list limits.pairs table.new × (n ≡ total table.new)) }
     ensures grown { IfOk result (λ _. IsGrown table.old table.new) }
-    ensures many { (result ≡ Err PairFault.TooManyPairs) → HasMoreThan defs.now.list most }
+    ensures many { (result ≡ Err PairFault.TooManyPairs) → HasMoreThan defs.now.list limits.pairs }
+    ensures large { (result ≡ Err PairFault.TooManyStates)
+        → HasLargeCase defs.now.list limits.states (InFamily defs.now.list) }
 {
     let all = pair_counts(alloc, table, case.spatial())?;
     let counted = put_since(
@@ -232,7 +323,7 @@ fn put_turn(
         defs,
         table,
         count,
-        most,
+        limits,
         pred,
         k,
         case,
@@ -249,24 +340,26 @@ fn put_turn_at(
     defs: &Defs,
     table: &mut Table,
     count: usize,
-    most: u32,
+    limits: Limits,
     pred: u16,
     k: u32,
     case: &Heap,
     turns: &mut Turns,
     place: usize,
 ) -> Result<usize, PairFault>
-    requires part { IsPartOf defs.now.list most table.old }
+    requires part { IsPartOf defs.now.list limits.pairs table.old }
     requires count { count ≡ total table.old }
     requires there { pred < length table.old }
     requires sound { (b : BasePair) → CaseGives (InFamily defs.now.list) k b case.now → InFamily defs.now.list pred b }
-    ensures part { IfOk result (λ n. IsPartOf defs.now.list most table.new × (n ≡ total table.new)) }
+    ensures part { IfOk result (λ n. IsPartOf defs.now.list limits.pairs table.new × (n ≡ total table.new)) }
     ensures grown { IfOk result (λ _. IsGrown table.old table.new) }
-    ensures many { (result ≡ Err PairFault.TooManyPairs) → HasMoreThan defs.now.list most }
+    ensures many { (result ≡ Err PairFault.TooManyPairs) → HasMoreThan defs.now.list limits.pairs }
+    ensures large { (result ≡ Err PairFault.TooManyStates)
+        → HasLargeCase defs.now.list limits.states (InFamily defs.now.list) }
 {
     match turns.cases.get_mut(place) {
-        Some(turn) => put_turn(alloc, defs, table, count, most, pred, k, case, turn),
-        None => put_case(alloc, defs, table, count, most, pred, k, case),
+        Some(turn) => put_turn(alloc, defs, table, count, limits, pred, k, case, turn),
+        None => put_whole(alloc, defs, table, count, limits, pred, k, case),
     }
 }
 
@@ -279,29 +372,33 @@ fn arity_at(defs: &Defs, pred: u16) -> u32
     all[pred as usize].arity
 }
 
-/// Adds what the cases of a predicate give with the base pairs that are there.
+/// Adds what the cases of a predicate give with the base pairs that are there, unless one of them is large.
 fn put_definition(
     alloc: Global,
     defs: &Defs,
     table: &mut Table,
     count: usize,
-    most: u32,
+    limits: Limits,
     pred: u16,
 ) -> Result<usize, PairFault>
-    requires part { IsPartOf defs.now.list most table.old }
+    requires part { IsPartOf defs.now.list limits.pairs table.old }
     requires count { count ≡ total table.old }
     requires there { pred < length defs.now.list }
-    ensures part { IfOk result (λ n. IsPartOf defs.now.list most table.new × (n ≡ total table.new)) }
+    ensures part { IfOk result (λ n. IsPartOf defs.now.list limits.pairs table.new × (n ≡ total table.new)) }
     ensures grown { IfOk result (λ _. IsGrown table.old table.new) }
     ensures taken { IfOk result (λ _. HasAllGiven table.old table.new pred
         (arity_of defs.now.list pred) (cases_of defs.now.list pred)) }
-    ensures many { (result ≡ Err PairFault.TooManyPairs) → HasMoreThan defs.now.list most }
+    ensures small { IfOk result (λ _. ¬ OneOf (IsLarge limits.states (in_table table.old)
+        (arity_of defs.now.list pred)) (cases_of defs.now.list pred)) }
+    ensures many { (result ≡ Err PairFault.TooManyPairs) → HasMoreThan defs.now.list limits.pairs }
+    ensures large { (result ≡ Err PairFault.TooManyStates)
+        → HasLargeCase defs.now.list limits.states (InFamily defs.now.list) }
 {
     let k = arity_at(defs, pred);
     let cases = defs.cases(pred);
     let mut now = count;
     for case in cases {
-        now = put_case(alloc, defs, table, now, most, pred, k, case)?;
+        now = put_case(alloc, defs, table, now, limits, pred, k, case)?;
     }
     Ok(now)
 }
@@ -312,45 +409,50 @@ fn put_turns(
     defs: &Defs,
     table: &mut Table,
     count: usize,
-    most: u32,
+    limits: Limits,
     pred: u16,
     turns: &mut Turns,
 ) -> Result<usize, PairFault>
-    requires part { IsPartOf defs.now.list most table.old }
+    requires part { IsPartOf defs.now.list limits.pairs table.old }
     requires count { count ≡ total table.old }
     requires there { pred < length defs.now.list }
-    ensures part { IfOk result (λ n. IsPartOf defs.now.list most table.new × (n ≡ total table.new)) }
+    ensures part { IfOk result (λ n. IsPartOf defs.now.list limits.pairs table.new × (n ≡ total table.new)) }
     ensures grown { IfOk result (λ _. IsGrown table.old table.new) }
-    ensures many { (result ≡ Err PairFault.TooManyPairs) → HasMoreThan defs.now.list most }
+    ensures many { (result ≡ Err PairFault.TooManyPairs) → HasMoreThan defs.now.list limits.pairs }
+    ensures large { (result ≡ Err PairFault.TooManyStates)
+        → HasLargeCase defs.now.list limits.states (InFamily defs.now.list) }
 {
     let k = arity_at(defs, pred);
     let cases = defs.cases(pred);
     let mut now = count;
     for (place, case) in cases.iter().enumerate() {
-        now = put_turn_at(alloc, defs, table, now, most, pred, k, case, turns, place)?;
+        now = put_turn_at(alloc, defs, table, now, limits, pred, k, case, turns, place)?;
     }
     Ok(now)
 }
 
-/// Adds what each definition gives with the base pairs that are there.
+/// Adds what each definition gives with the base pairs that are there, unless a case is large.
 fn sweep(
     alloc: Global,
     defs: &Defs,
     table: &mut Table,
     count: usize,
-    most: u32,
+    limits: Limits,
 ) -> Result<usize, PairFault>
-    requires part { IsPartOf defs.now.list most table.old }
+    requires part { IsPartOf defs.now.list limits.pairs table.old }
     requires count { count ≡ total table.old }
-    ensures part { IfOk result (λ n. IsPartOf defs.now.list most table.new × (n ≡ total table.new)) }
+    ensures part { IfOk result (λ n. IsPartOf defs.now.list limits.pairs table.new × (n ≡ total table.new)) }
     ensures grown { IfOk result (λ _. IsGrown table.old table.new) }
     ensures taken { IfOk result (λ _. (p : ℕ) → p < length defs.now.list
         → HasAllGiven table.old table.new p (arity_of defs.now.list p) (cases_of defs.now.list p)) }
-    ensures many { (result ≡ Err PairFault.TooManyPairs) → HasMoreThan defs.now.list most }
+    ensures small { IfOk result (λ _. ¬ HasLargeCase defs.now.list limits.states (in_table table.old)) }
+    ensures many { (result ≡ Err PairFault.TooManyPairs) → HasMoreThan defs.now.list limits.pairs }
+    ensures large { (result ≡ Err PairFault.TooManyStates)
+        → HasLargeCase defs.now.list limits.states (InFamily defs.now.list) }
 {
     let mut now = count;
     for pred in 0..defs.as_slice().len() {
-        now = put_definition(alloc, defs, table, now, most, pred as u16)?;
+        now = put_definition(alloc, defs, table, now, limits, pred as u16)?;
     }
     Ok(now)
 }
@@ -362,19 +464,21 @@ fn put_waiting(
     turns: &mut Vec<Turns>,
     table: &mut Table,
     count: usize,
-    most: u32,
+    limits: Limits,
     pred: u16,
 ) -> Result<usize, PairFault>
-    requires part { IsPartOf defs.now.list most table.old }
+    requires part { IsPartOf defs.now.list limits.pairs table.old }
     requires count { count ≡ total table.old }
     requires there { pred < length defs.now.list }
-    ensures part { IfOk result (λ n. IsPartOf defs.now.list most table.new × (n ≡ total table.new)) }
+    ensures part { IfOk result (λ n. IsPartOf defs.now.list limits.pairs table.new × (n ≡ total table.new)) }
     ensures grown { IfOk result (λ _. IsGrown table.old table.new) }
-    ensures many { (result ≡ Err PairFault.TooManyPairs) → HasMoreThan defs.now.list most }
+    ensures many { (result ≡ Err PairFault.TooManyPairs) → HasMoreThan defs.now.list limits.pairs }
+    ensures large { (result ≡ Err PairFault.TooManyStates)
+        → HasLargeCase defs.now.list limits.states (InFamily defs.now.list) }
 {
     match turns.get_mut(pred as usize) {
-        Some(turns) => put_turns(alloc, defs, table, count, most, pred, turns),
-        None => put_definition(alloc, defs, table, count, most, pred),
+        Some(turns) => put_turns(alloc, defs, table, count, limits, pred, turns),
+        None => Ok(count),
     }
 }
 
@@ -387,13 +491,15 @@ fn work_through(
     turns: &mut Vec<Turns>,
     table: &mut Table,
     count: usize,
-    most: u32,
+    limits: Limits,
 ) -> Result<usize, PairFault>
-    requires part { IsPartOf defs.now.list most table.old }
+    requires part { IsPartOf defs.now.list limits.pairs table.old }
     requires count { count ≡ total table.old }
-    ensures part { IfOk result (λ n. IsPartOf defs.now.list most table.new × (n ≡ total table.new)) }
+    ensures part { IfOk result (λ n. IsPartOf defs.now.list limits.pairs table.new × (n ≡ total table.new)) }
     ensures grown { IfOk result (λ _. IsGrown table.old table.new) }
-    ensures many { (result ≡ Err PairFault.TooManyPairs) → HasMoreThan defs.now.list most }
+    ensures many { (result ≡ Err PairFault.TooManyPairs) → HasMoreThan defs.now.list limits.pairs }
+    ensures large { (result ≡ Err PairFault.TooManyStates)
+        → HasLargeCase defs.now.list limits.states (InFamily defs.now.list) }
 {
     let n = defs.as_slice().len();
     let mut now = count;
@@ -403,7 +509,7 @@ fn work_through(
             _ => return Ok(now),
         };
         let before = now;
-        now = put_waiting(alloc, defs, turns, table, now, most, pred)?;
+        now = put_waiting(alloc, defs, turns, table, now, limits, pred)?;
         if now > before {
             agenda.add_users(pred)?;
         }
@@ -417,31 +523,36 @@ fn work(
     defs: &Defs,
     table: &mut Table,
     count: usize,
-    most: u32,
+    limits: Limits,
 ) -> Result<usize, PairFault>
-    requires part { IsPartOf defs.now.list most table.old }
+    requires part { IsPartOf defs.now.list limits.pairs table.old }
     requires count { count ≡ total table.old }
-    ensures part { IfOk result (λ n. IsPartOf defs.now.list most table.new × (n ≡ total table.new)) }
+    ensures part { IfOk result (λ n. IsPartOf defs.now.list limits.pairs table.new × (n ≡ total table.new)) }
     ensures grown { IfOk result (λ _. IsGrown table.old table.new) }
-    ensures many { (result ≡ Err PairFault.TooManyPairs) → HasMoreThan defs.now.list most }
+    ensures many { (result ≡ Err PairFault.TooManyPairs) → HasMoreThan defs.now.list limits.pairs }
+    ensures large { (result ≡ Err PairFault.TooManyStates)
+        → HasLargeCase defs.now.list limits.states (InFamily defs.now.list) }
 {
     let mut agenda = Agenda::new(alloc, defs)?;
     let mut turns = no_turns(alloc, defs)?;
-    work_through(alloc, defs, &mut agenda, &mut turns, table, count, most)
+    work_through(alloc, defs, &mut agenda, &mut turns, table, count, limits)
 }
 
-/// The base pairs of all predicates: the least family that has what each case gives. Definitions are done again where a
-/// predicate that they use has grown; and then all are gone through once more, until that gives nothing new. So at no time
-/// are there more than `most` and one.
-pub fn base_pairs(alloc: Global, defs: &Defs, most: u32) -> Result<Table, PairFault>
-    ensures table { IfOk result (λ t. IsTable defs.now.list t × HasAtMost defs.now.list most) }
-    ensures many { (result ≡ Err PairFault.TooManyPairs) → HasMoreThan defs.now.list most }
+/// The base pairs of all predicates: the least family that has what each case gives, unless that is too much. Definitions are
+/// done again where a predicate that they use has grown; and then all are gone through once more, until that gives nothing
+/// new. So at no time are there more than asked for and one.
+pub fn base_pairs(alloc: Global, defs: &Defs, limits: Limits) -> Result<Table, PairFault>
+    ensures table { IfOk result (λ t. IsTable defs.now.list t × HasAtMost defs.now.list limits.pairs) }
+    ensures small { IfOk result (λ _. ¬ HasLargeCase defs.now.list limits.states (InFamily defs.now.list)) }
+    ensures many { (result ≡ Err PairFault.TooManyPairs) → HasMoreThan defs.now.list limits.pairs }
+    ensures large { (result ≡ Err PairFault.TooManyStates)
+        → HasLargeCase defs.now.list limits.states (InFamily defs.now.list) }
 {
     let mut table = Table::empty(alloc, defs.as_slice().len())?;
     let mut count = 0;
     loop {
-        let worked = work(alloc, defs, &mut table, count, most)?;
-        let now = sweep(alloc, defs, &mut table, worked, most)?;
+        let worked = work(alloc, defs, &mut table, count, limits)?;
+        let now = sweep(alloc, defs, &mut table, worked, limits)?;
         if now == worked {
             return Ok(table);
         }

@@ -9,7 +9,7 @@ use heap_formula::{Heap, Spatial};
 use problem_files::problem_is_within;
 use rule_table::antecedent;
 use sat_answers::impossible_antecedents_entail;
-use sat_pairs::{PairFault, Table, base_pairs, satisfiable};
+use sat_pairs::{Limits, PairFault, StatesFault, Table, base_pairs, satisfiable_within};
 use std::alloc::Global;
 
 /// The number of ways in which the predicate atoms of a heap can have base pairs, if it is not above the most.
@@ -34,15 +34,22 @@ pub fn is_impossible(alloc: Global, problem: &Problem, budget: Budget) -> Result
     problem_is_within(problem);
     impossible_antecedents_entail();
     let heap = antecedent(&problem.goal);
-    match base_pairs(alloc, &problem.defs, budget.pairs) {
+    let limits = Limits {
+        pairs: budget.pairs,
+        states: budget.states,
+    };
+    match base_pairs(alloc, &problem.defs, limits) {
         Ok(table) => {
             if !are_few_ways(&table, heap, budget.pairs) {
                 return Ok(false);
             }
-            let yes = satisfiable(alloc, &problem.defs, &table, heap)?;
-            Ok(!yes)
+            match satisfiable_within(alloc, &problem.defs, &table, heap, budget.states as usize) {
+                Ok(yes) => Ok(!yes),
+                Err(StatesFault::TooManyStates) => Ok(false),
+                Err(StatesFault::OutOfMemory) => Err(OutOfMemory),
+            }
         }
-        Err(PairFault::TooManyPairs) => Ok(false),
+        Err(PairFault::TooManyPairs | PairFault::TooManyStates) => Ok(false),
         Err(PairFault::OutOfMemory) => Err(OutOfMemory),
     }
 }

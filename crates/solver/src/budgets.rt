@@ -9,8 +9,10 @@ pub const MOST_EFFORT: u32 = 9;
 /// What the searches may spend. All are counts and none a time, so that a problem has the same answer each time.
 #[derive(Clone, Copy)]
 pub struct Budget {
-    /// Base pairs of all predicates, and states of the antecedent, in the test of the antecedent.
+    /// Base pairs of all predicates, and ways to choose them for the antecedent, in the test of the antecedent.
     pub pairs: u32,
+    /// What the states of a case or of the antecedent may be in size there.
+    pub states: u32,
     /// Steps of the search with a goal stack.
     pub steps: u32,
     /// Steps of the search by lemmas.
@@ -28,6 +30,7 @@ impl Budget {
     pub fn small() -> Budget {
         Budget {
             pairs: 1_000,
+            states: 250_000,
             steps: 300,
             lemma_steps: 1_000,
             contradiction_steps: 0,
@@ -41,6 +44,7 @@ impl Budget {
         let steps = effort.min(MOST_EFFORT).saturating_sub(1);
         Budget {
             pairs: doubled(1_000, steps),
+            states: 1_000_000,
             steps: doubled(7_500, steps),
             lemma_steps: doubled(5_000, steps),
             contradiction_steps: doubled(1_500, steps),

@@ -4,9 +4,9 @@ use Rattle.sat_pairs.proofs.rounds.base_pairs.Given as goal
 
 abbrev pub invariant-loop-table : goal.invariant-loop-table
 invariant-loop-table l = record {
-  part : IsPartOf l.defs.list l.most l.table;
+  part : IsPartOf l.defs.list l.limits.pairs l.table;
   count : l.count ≡ total l.table;
 }
 
 abbrev pub decreases-loop-table : goal.decreases-loop-table
-decreases-loop-table l = l.most - l.count
+decreases-loop-table l = l.limits.pairs - l.count

@@ -7,7 +7,7 @@ use Rattle.sat_pairs.proofs.rounds.put_all.Given as goal
 
 abbrev pub invariant-loop-known : goal.invariant-loop-known
 invariant-loop-known l = record {
-  part : IsPartOf l.defs.list l.most l.table;
+  part : IsPartOf l.defs.list l.limits.pairs l.table;
   count : l.now ≡ total l.table;
   grown : IsGrown l.fn.table l.table;
   rest : (b : BasePair) → IsMember b l.given.keys → IsMember b l.fn.given.keys;

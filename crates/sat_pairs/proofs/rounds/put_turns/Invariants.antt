@@ -4,7 +4,7 @@ use Rattle.sat_pairs.proofs.rounds.put_turns.Given as goal
 
 abbrev pub invariant-loop-place : goal.invariant-loop-place
 invariant-loop-place l = record {
-  part : IsPartOf l.defs.list l.most l.table;
+  part : IsPartOf l.defs.list l.limits.pairs l.table;
   count : l.now ≡ total l.table;
   grown : IsGrown l.fn.table l.table;
 }

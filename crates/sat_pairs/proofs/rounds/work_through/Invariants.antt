@@ -4,7 +4,7 @@ use Rattle.sat_pairs.proofs.rounds.work_through.Given as goal
 
 abbrev pub invariant-loop-turn : goal.invariant-loop-turn
 invariant-loop-turn l = record {
-  part : IsPartOf l.defs.list l.most l.table;
+  part : IsPartOf l.defs.list l.limits.pairs l.table;
   count : l.now ≡ total l.table;
   grown : IsGrown l.fn.table l.table;
 }
