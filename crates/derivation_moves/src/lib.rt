@@ -5,6 +5,8 @@
 mod derivation;
 mod effects;
 mod moves;
+mod rules;
 
 pub use cyc_memory::OutOfMemory;
 pub use derivation::Derivation;
+pub use rules::RuleList;

@@ -8,6 +8,7 @@ ghost use Rattle.derivation_moves.specs.Derivations.{IsInOrder, IsItsSearch, rea
 
 use crate::derivation::Derivation;
 use crate::effects::effect_of;
+use crate::rules::RuleList;
 use cyc_limits::MOST_NODES;
 use cyc_memory::OutOfMemory;
 use derivation_search::{Moves, Offers, Tried};
@@ -55,6 +56,8 @@ fn leaves(defs: &Defs, judgement: &Judgement, reason: &Reason) -> bool
 impl<'a> Moves for Derivation<'a> {
     type Reason = Reason;
 
+    type Rules = RuleList;
+
     type Subject = (Defs, (Program, Judgement));
 
     ghost made = { reasons_in };
@@ -69,11 +72,13 @@ impl<'a> Moves for Derivation<'a> {
         self.goals.is_empty()
     }
 
-    fn offers(&self, alloc: Global) -> Result<Offers<Reason>, OutOfMemory> {
+    fn offers(&self, alloc: Global) -> Result<Offers<Reason, RuleList>, OutOfMemory> {
         let Some(next) = self.goals.last() else {
             return Ok(Offers {
                 links: VecDeque::new(alloc),
-                rules: VecDeque::new(alloc),
+                rules: RuleList {
+                    rules: VecDeque::new(alloc),
+                },
             });
         };
         let node = self.made.len() as u32;
@@ -88,15 +93,23 @@ impl<'a> Moves for Derivation<'a> {
         )?;
         Ok(Offers {
             links: as_links(alloc, offered.links)?,
-            rules: as_rules(alloc, offered.rules)?,
+            rules: RuleList {
+                rules: as_rules(alloc, offered.rules)?,
+            },
         })
     }
 
-    fn offers_within(&self, alloc: Global, bound: u32) -> Result<Offers<Reason>, OutOfMemory> {
+    fn offers_within(
+        &self,
+        alloc: Global,
+        bound: u32,
+    ) -> Result<Offers<Reason, RuleList>, OutOfMemory> {
         let Some(next) = self.goals.last() else {
             return Ok(Offers {
                 links: VecDeque::new(alloc),
-                rules: VecDeque::new(alloc),
+                rules: RuleList {
+                    rules: VecDeque::new(alloc),
+                },
             });
         };
         if next.depth < bound {
@@ -115,7 +128,9 @@ impl<'a> Moves for Derivation<'a> {
         )?;
         Ok(Offers {
             links: as_links(alloc, offered.links)?,
-            rules: as_rules(alloc, offered.rules)?,
+            rules: RuleList {
+                rules: as_rules(alloc, offered.rules)?,
+            },
         })
     }
 

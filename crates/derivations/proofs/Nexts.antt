@@ -1,6 +1,6 @@
 -- The next goal, and what a reason makes of it.
 use Rattle.std.proofs.Common.{◌≡◌, ℕ, suc, ◌+◌, ◌-◌, ◌<◌, inl, inr, Bool, true, false, ◌&&◌, ◌||◌, List, [], ◌∷◌, Option, Some, None, slice_get, length, length-append, arith, refl, sym, ap, subst, ◌∙◌}
-use Rattle.std.specs.Prelude.{nat_eq, nat_lt, nat_le, Result, Ok, Err, IfOk}
+use Rattle.std.specs.Prelude.{nat_eq, nat_lt, nat_le}
 use Rattle.std.proofs.lemmas.List.{length-map, length-reverse}
 use Rattle.std.proofs.lemmas.List.Sums.{fold-append}
 use Rattle.std.proofs.lemmas.Option.{slice_get_within}
@@ -30,11 +30,6 @@ use Rattle.derivations.specs.Effects.{IsEffect}
 use Rattle.tableaux.specs.Fares.{GraphFares}
 use Rattle.derivations.specs.Derivations.{goals_in, reasons_in, tableau_in, IsInOrder, HasEffect, search_in, IsNextEffect, IsFitting, graph_with, next_graph}
 
--- what two clauses on a result tell together
-pub if_both : {T E : Type 0} (r : Result T E) (P Q S : T → Type 0) → ((x : T) → P x → Q x → S x) → IfOk r P → IfOk r Q → IfOk r S
-if_both (Ok x) P Q S f p q = f x p q
-if_both (Err e) P Q S f p q = tt
-
 module _ {L J R : Type 0} (calculus : L → Calculus J R) (Occurs : L → J → Type 0) (Allows : L → R → Type 0) (s : Derivation L J R) (order : IsInOrder calculus Occurs Allows s) where
   abbrev c : Calculus J R
   c = calculus s.logic
@@ -62,7 +57,7 @@ module _ {L J R : Type 0} (calculus : L → Calculus J R) (Occurs : L → J → 
 
   -- ---- whether it fits
 
-  fits_by : (bound : ℕ) (r : R) → (search_in calculus s).fits bound (reasons_in s) r ≡ fits_at c s.limit bound (length (reasons_in s)) s.made.items r (goals_in s)
+  pub fits_by : (bound : ℕ) (r : R) → (search_in calculus s).fits bound (reasons_in s) r ≡ fits_at c s.limit bound (length (reasons_in s)) s.made.items r (goals_in s)
   fits_by bound r = ap (λ p. fits_in c s.limit bound (length (reasons_in s)) p r) order.replayed
 
   pub none_fits : (bound : ℕ) (r : R) → IsNextEffect calculus s r None → IsFitting calculus s bound r None
@@ -76,7 +71,7 @@ module _ {L J R : Type 0} (calculus : L → Calculus J R) (Occurs : L → J → 
       at [] e = refl
       at (g ∷ rest) e = room g rest (c.premises s.made.items g r) e
 
-  reasons_long : length (reasons_in s) ≡ length s.made.items
+  pub reasons_long : length (reasons_in s) ≡ length s.made.items
   reasons_long = length-map s.made.items (λ (m : Made J R). m.reason)
 
   pub fits_is : (r : R) (e : Effect J) (has : HasEffect calculus s r e) (bound depth made others count : ℕ) (b : Bool) → depth ≡ has.goal.depth → made ≡ length s.made.items → others ≡ length has.rest → count ≡ length e.premises.items →

@@ -1,5 +1,5 @@
 -- Partial derivations of a judgement.
-use Rattle.std.specs.Prelude.{ℕ, ◌≡◌, ◌+◌, ◌<◌, ◌≤◌, false, true, List, [], ◌∷◌, map, reverse, length, Option, Some, None, slice_get}
+use Rattle.std.specs.Prelude.{ℕ, ◌≡◌, ◌+◌, ◌-◌, ◌<◌, ◌≤◌, nat_lt, if◌then◌else◌, false, true, List, [], ◌∷◌, map, reverse, length, Option, Some, None, slice_get}
 use Rattle.trace_pairs.specs.Graph.{Node, Edge}
 use Rattle.buchi_inclusion.specs.Answers.{state_limit}
 use Rattle.derivation_search.specs.System.{System}
@@ -61,6 +61,10 @@ IsNextEffect calculus s r (Some e) = HasEffect calculus s r e
 abbrev pub IsFitting : {L J R : Type 0} → (L → Calculus J R) → Derivation L J R → ℕ → R → Option (Effect J) → Type 0
 IsFitting calculus s bound r None = (search_in calculus s).fits bound (reasons_in s) r ≡ false
 IsFitting calculus s bound r (Some e) = ((search_in calculus s).fits bound (reasons_in s) r ≡ true) × MayTake calculus s r e
+
+-- the most premises that fit within a depth at a goal, beside the nodes made and the open goals, the goal among them
+abbrev pub room_at : ℕ → ℕ → ℕ → ℕ → ℕ → ℕ
+room_at limit bound made goals depth = if nat_lt depth bound then limit - (made + goals) else 0
 
 -- the trace graph with the next goal as a node, by a reason that leads back along the edge, if it does
 abbrev pub graph_with : {J R : Type 0} → Calculus J R → List (Made J R) → List Node → List (Goal J) → Option Edge → List Node

@@ -32,7 +32,7 @@ impl<L: Logic> Derivation<L, L::Judgement, L::Reason> {
     ghost use Rattle.tableaux.specs.Fair.{IsFair};
     ghost use Rattle.tableaux.specs.Room.{is_nil};
     ghost use Rattle.derivations.specs.Derivations.{IsInOrder, MayTake, reasons_in, goals_in, about, search_in};
-    ghost use Rattle.derivations.specs.Derivations.{IsNextEffect, IsFitting, next_graph};
+    ghost use Rattle.derivations.specs.Derivations.{IsNextEffect, IsFitting, next_graph, room_at};
 
     /// Nothing is made, and the goal is open. The judgement is passed twice, to be kept and to be proved.
     pub fn new(
@@ -111,6 +111,17 @@ impl<L: Logic> Derivation<L, L::Judgement, L::Reason> {
             return Ok(None);
         }
         Ok(Some(effect))
+    }
+
+    /// The most premises that fit within a depth at the next goal, where one is open: none at that depth, and else as many
+    /// as there is room for.
+    pub fn most_premises(&self, depth: u32, bound: u32) -> usize
+        ensures { result ≡ room_at self.now.limit bound (length self.now.made.items) (length self.now.goals.items) depth }
+    {
+        if depth >= bound {
+            return 0;
+        }
+        (self.limit as usize).saturating_sub(self.made.len() + self.goals.len())
     }
 
     /// Makes the next goal a node of the trace graph.

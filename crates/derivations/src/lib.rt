@@ -5,7 +5,9 @@
 mod derivation;
 mod logic;
 mod moves;
+mod rules;
 
 pub use cyc_memory::OutOfMemory;
 pub use derivation::Derivation;
 pub use logic::{Effect, Logic, Strategy};
+pub use rules::NextRules;

@@ -1,10 +1,10 @@
 // Logics whose derivations are searched for.
 ghost use Rattle.std.specs.Prelude.{◌≡◌, ◌<◌, length, IfOk};
 ghost use Rattle.tableaux.specs.Fair.{AllOccur};
-ghost use Rattle.derivations.specs.Effects.{IsEffect};
+ghost use Rattle.derivations.specs.Effects.{IsEffect, LeavesOut};
 
 use cyc_memory::OutOfMemory;
-use derivation_search::Offers;
+use derivation_search::{Cursor, Offers};
 use std::alloc::Global;
 use tableaux::{MadeNode, OpenGoal, Rules, Subgoal};
 use trace_pairs::Edge;
@@ -39,15 +39,37 @@ pub trait Logic: Rules + Drop {
 
 /// A logic that tells from the nodes made and the next goal what that goal is offered.
 pub trait Strategy: Logic {
+    /// The rules that a goal is offered, told one by one. A logic that makes a list of them takes `VecDeque<Self::Reason>`.
+    type RuleCursor: Cursor<Self::Reason>;
+
     /// The links to be tried, and the rules for the case that none of them is admitted, in order.
     fn offers(
         &self,
         alloc: Global,
         made: &[MadeNode<Self::Judgement, Self::Reason>],
         goal: &OpenGoal<Self::Judgement>,
-    ) -> Result<Offers<Self::Reason>, OutOfMemory>
+    ) -> Result<Offers<Self::Reason, Self::RuleCursor>, OutOfMemory>
         requires occur { AllOccur (Self.occurs self.now) made.now goal.now }
         requires few { length made.now < 4294967296 }
         ensures links { IfOk result (λ o. o.links.items ≡ (Self.calculus self.now).links made.now goal.now) }
-        ensures rules { IfOk result (λ o. o.rules.items ≡ (Self.calculus self.now).rules made.now goal.now) };
+        ensures rules { IfOk result (λ o. Self.RuleCursor.left o.rules ≡ (Self.calculus self.now).rules made.now goal.now) };
+
+    /// The same, where rules that leave more than `most` premises may be left out.
+    fn offers_within(
+        &self,
+        alloc: Global,
+        made: &[MadeNode<Self::Judgement, Self::Reason>],
+        goal: &OpenGoal<Self::Judgement>,
+        most: usize,
+    ) -> Result<Offers<Self::Reason, Self::RuleCursor>, OutOfMemory>
+        requires occur { AllOccur (Self.occurs self.now) made.now goal.now }
+        requires few { length made.now < 4294967296 }
+        ensures links { IfOk result (λ o. o.links.items ≡ (Self.calculus self.now).links made.now goal.now) }
+        ensures rules { IfOk result (λ o. LeavesOut (Self.calculus self.now) made.now goal.now most
+            ((Self.calculus self.now).rules made.now goal.now) (Self.RuleCursor.left o.rules)) }
+    {
+        let _most = most;
+        let offers = self.offers(alloc, made, goal)?;
+        Ok(offers)
+    }
 }

@@ -1,15 +1,17 @@
 // The moves of the search, on a partial derivation of a logic that tells its offers.
 use crate::derivation::Derivation;
 use crate::logic::Strategy;
+use crate::rules::{NextRules, none_offered};
 use cyc_memory::OutOfMemory;
 use derivation_search::{Moves, Offers, Tried};
 use std::alloc::Global;
-use std::collections::VecDeque;
 
 impl<L: Strategy> Moves for Derivation<L, L::Judgement, L::Reason> {
     ghost use Rattle.derivations.specs.Derivations.{IsInOrder, IsItsSearch, reasons_in, about};
 
     type Reason = L::Reason;
+
+    type Rules = NextRules<L::RuleCursor>;
 
     type Subject = (L, (u32, L::Judgement));
 
@@ -27,13 +29,35 @@ impl<L: Strategy> Moves for Derivation<L, L::Judgement, L::Reason> {
         self.is_closed()
     }
 
-    fn offers(&self, alloc: Global) -> Result<Offers<L::Reason>, OutOfMemory> {
+    fn offers(
+        &self,
+        alloc: Global,
+    ) -> Result<Offers<L::Reason, NextRules<L::RuleCursor>>, OutOfMemory> {
         match self.goals.last() {
-            None => Ok(Offers {
-                links: VecDeque::new(alloc),
-                rules: VecDeque::new(alloc),
-            }),
-            Some(goal) => self.logic.offers(alloc, &self.made, goal),
+            None => Ok(none_offered(alloc)),
+            Some(goal) => {
+                let Offers { links, rules } = self.logic.offers(alloc, &self.made, goal)?;
+                let rules = NextRules::At(rules);
+                Ok(Offers { links, rules })
+            }
+        }
+    }
+
+    fn offers_within(
+        &self,
+        alloc: Global,
+        bound: u32,
+    ) -> Result<Offers<L::Reason, NextRules<L::RuleCursor>>, OutOfMemory> {
+        match self.goals.last() {
+            None => Ok(none_offered(alloc)),
+            Some(goal) => {
+                let most = self.most_premises(goal.depth, bound);
+                let Offers { links, rules } = self
+                    .logic
+                    .offers_within(alloc, &self.made, goal, most)?;
+                let rules = NextRules::At(rules);
+                Ok(Offers { links, rules })
+            }
         }
     }
 

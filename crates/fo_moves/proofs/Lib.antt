@@ -2,9 +2,11 @@ pub mod Onces
 pub mod Settled
 pub mod Cutting
 pub mod Choices
+pub mod Beginnings
 pub mod Lists
 pub mod Terms
 pub mod LowVariables
 pub mod Offered
 pub mod Listed
 pub mod Pairing
+pub mod Cases

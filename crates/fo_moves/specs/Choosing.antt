@@ -1,5 +1,5 @@
 -- Terms that are chosen one after another, and whether those chosen leave a choice possible.
-use Rattle.std.specs.Prelude.{◌≡◌, ◌≤◌, ℕ, List, [], ◌∷◌, ◌++◌, length, take, Bool, true, ◌&&◌, ◌||◌, not, nat_eq, nat_lt, replicate}
+use Rattle.std.specs.Prelude.{◌≤◌, ℕ, List, [], ◌∷◌, length, take, Bool, true, ◌&&◌, ◌||◌, not, nat_eq, nat_lt, replicate}
 use Rattle.std.specs.List.{filter, list_any, list_all, zip}
 use Rattle.cyc_limits.specs.declared.TheConstants.{MOST_LEFT, MOST_RIGHT, MOST_TERMS}
 use Rattle.fo_formula.specs.declared.terms.Sign.{Sign}
@@ -85,17 +85,14 @@ abbrev pub does : Wanted → List Word → Bool
 does (Values goal) terms = is_fit goal.bud.now goal.companion.now (link_with goal terms)
 does (Locals goal) terms = suits goal.left.now goal.arguments.now goal.case.now terms
 
-abbrev pub if_done : Wanted → List Word → List (List Word)
-if_done wanted terms = filter (does wanted) (terms ∷ [])
+-- the choice alone, if it is right
+abbrev pub if_right : (List Word → Bool) → List Word → List (List Word)
+if_right test terms = filter test (terms ∷ [])
 
 -- the right choices that begin with these terms and go on with k of the values
-abbrev pub done_after : Wanted → List Word → ℕ → List Word → List (List Word)
-done_after wanted made k values = below (if_done wanted) made (replicate k values)
+abbrev pub done_after : (List Word → Bool) → List Word → ℕ → List Word → List (List Word)
+done_after test made k values = below (if_right test) made (replicate k values)
 
 -- the first right choices of k of the values, in lexicographic order
 abbrev pub first_choices : ℕ → Wanted → ℕ → List Word → List (List Word)
 first_choices most wanted k values = take most (filter (does wanted) (lists_of k values))
-
--- these choices were added to the old ones, as far as there are at most so many
-abbrev pub AddsFirst : ℕ → List (List Word) → List (List Word) → List (List Word) → Type 0
-AddsFirst most old new more = new ≡ take most (old ++ more)

@@ -4,4 +4,6 @@ pub mod Before
 pub mod Links
 pub mod After
 pub mod Choosing
+pub mod Walks
 pub mod Lines
+pub mod Told

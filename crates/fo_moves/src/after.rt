@@ -1,89 +1,64 @@
 // The rules that come where no link is admitted.
-ghost use Rattle.std.specs.Prelude.{◌≡◌, ◌≤◌, ◌++◌, ℕ, IfOk, OnOk, length, map};
+ghost use Rattle.std.specs.Prelude.{◌≡◌, ◌≤◌, ◌++◌, ℕ, Some, IfOk, OnOk, length, map, slice_get};
+ghost use Rattle.std.specs.List.{filter};
+ghost use Rattle.fo_formula.specs.declared.atoms.FoAtom.TheVariants.{Predicate};
+ghost use Rattle.fo_formula.specs.declared.nodes.FoRule.TheVariants.{Unfold};
 ghost use Rattle.fo_formula.specs.Meaning.{cases_of};
 ghost use Rattle.fold_offers.specs.Places.{each_place};
-ghost use Rattle.fo_moves.specs.After.{choices as choices_of, rights_by, rights_at, unfold_at, rules_after as offers_after};
-ghost use Rattle.fo_moves.specs.Subterms.{subterms as subterms_of};
+ghost use Rattle.fo_moves.specs.After.{rights_by, rights_at, unfold_at, rules_after as offers_after};
+ghost use Rattle.fo_moves.specs.Told.{rights_going, rules_left};
+ghost use Rattle.fo_moves.specs.Trying.{goes_within};
 
-use crate::choosing::{Search, choices};
+use crate::rights::{CaseLeft, whole_case};
 use crate::subterms::subterms;
-use crate::trying::those_that_go;
-use crate::wanted::{CaseLocals, Wanted};
+use crate::told::RulesAfter;
 use cyc_limits::{MOST_LEFT, MOST_RIGHT};
 use cyc_memory::OutOfMemory;
-use fo_formula::{FoAtom, FoAtoms, FoRule, FoSequent, FoTheory, Kind, Term, Terms, bound_of_atoms};
+use fo_formula::{FoAtom, FoAtoms, FoSequent, FoTheory, Terms};
 use fo_rules::cases;
 use std::alloc::Global;
+use std::collections::VecDeque;
 
-/// The terms for the locals of a case.
-fn terms_for_case(
+/// Adds the cases of an atom on the right. Right leaves a premise for each atom of a case, so one with too many is left out.
+fn push_cases<'a>(
     alloc: Global,
+    all: &mut VecDeque<CaseLeft<'a>>,
+    theory: &FoTheory,
     sequent: &FoSequent,
-    values: &[Term],
-    arguments: &Terms,
-    case: &[FoAtom],
-) -> Result<Vec<Terms>, OutOfMemory>
-    requires { values.now ≡ subterms_of sequent.now }
-    ensures { IfOk result (λ v. v.items ≡ choices_of sequent.now arguments.now case.now) }
-{
-    let goal = CaseLocals {
-        left: sequent.left.as_slice(),
-        arguments,
-        case,
-    };
-    let search = Search {
-        wanted: Wanted::Locals(goal),
-        values,
-        most: u128::MAX,
-    };
-    let found = choices(alloc, &search, bound_of_atoms(Kind::Locals, case) as usize)?;
-    Ok(found)
-}
-
-fn push_rights(
-    rules: &mut Vec<FoRule>,
-    atom: u32,
-    case: u32,
-    choices: Vec<Terms>,
-) -> Result<(), OutOfMemory>
-    ensures { OnOk result (rules.new.items ≡ rules.old.items ++ map (FoRule.Right atom case) choices.items) }
-{
-    for terms in choices {
-        rules.push(FoRule::Right { atom, case, terms })?;
-    }
-    Ok(())
-}
-
-/// Right with each case of a predicate.
-fn push_cases(
-    alloc: Global,
-    rules: &mut Vec<FoRule>,
-    sequent: &FoSequent,
-    values: &[Term],
+    most: usize,
     j: u32,
+    predicate: u16,
     arguments: &Terms,
-    cases: &[FoAtoms],
+    cases: &'a [FoAtoms],
 ) -> Result<(), OutOfMemory>
-    requires values { values.now ≡ subterms_of sequent.now }
+    requires atom { slice_get sequent.now.right j ≡ Some (Predicate predicate arguments.now) }
+    requires cases { cases.now ≡ cases_of theory.now.definitions predicate }
     requires few { length cases.now ≤ 65536 }
-    ensures { OnOk result (rules.new.items
-        ≡ rules.old.items ++ each_place (rights_by sequent.now j arguments.now) cases.now) }
+    ensures { OnOk result (rights_going most theory.now sequent.now all.new.items
+        ≡ rights_going most theory.now sequent.now all.old.items
+        ++ filter (goes_within most theory.now sequent.now) (each_place (rights_by sequent.now j arguments.now) cases.now)) }
 {
     for (c, case) in cases.iter().enumerate() {
-        let choices = terms_for_case(alloc, sequent, values, arguments, case.as_slice())?;
-        push_rights(rules, j, c as u32, choices)?;
+        if case.as_slice().len() <= most {
+            all.push_back(whole_case(alloc, j, c as u32, arguments, case.as_slice())?)?;
+        }
     }
     Ok(())
 }
 
-/// Right, for each atom on the right.
-fn rights(alloc: Global, theory: &FoTheory, sequent: &FoSequent) -> Result<Vec<FoRule>, OutOfMemory>
+/// The cases of the atoms on the right.
+fn cases_left<'a>(
+    alloc: Global,
+    theory: &'a FoTheory,
+    sequent: &FoSequent,
+    most: usize,
+) -> Result<VecDeque<CaseLeft<'a>>, OutOfMemory>
     requires right_fits { length sequent.now.right ≤ MOST_RIGHT }
     requires few_cases { (p : ℕ) → length (cases_of theory.now.definitions p) ≤ 65536 }
-    ensures { IfOk result (λ v. v.items ≡ each_place (rights_at theory.now sequent.now) sequent.now.right) }
+    ensures { IfOk result (λ q. rights_going most theory.now sequent.now q.items
+        ≡ filter (goes_within most theory.now sequent.now) (each_place (rights_at theory.now sequent.now) sequent.now.right)) }
 {
-    let values = subterms(alloc, sequent)?;
-    let mut rules = Vec::new(alloc);
+    let mut all = VecDeque::new(alloc);
     for (j, atom) in sequent.right.as_slice().iter().enumerate() {
         if let FoAtom::Predicate {
             predicate,
@@ -92,40 +67,54 @@ fn rights(alloc: Global, theory: &FoTheory, sequent: &FoSequent) -> Result<Vec<F
         {
             let cases = cases(theory.definitions.as_slice(), *predicate);
             push_cases(
-                alloc, &mut rules, sequent, &values, j as u32, arguments, cases,
+                alloc, &mut all, theory, sequent, most, j as u32, *predicate, arguments, cases,
             )?;
         }
     }
-    Ok(rules)
+    Ok(all)
 }
 
-/// Adds Unfold, for each predicate atom.
-fn push_unfolds(rules: &mut Vec<FoRule>, left: &[FoAtom]) -> Result<(), OutOfMemory>
+/// The places of the predicate atoms on the left.
+fn unfolds(alloc: Global, left: &[FoAtom]) -> Result<VecDeque<u32>, OutOfMemory>
     requires { length left.now ≤ MOST_LEFT }
-    ensures { OnOk result (rules.new.items ≡ rules.old.items ++ each_place unfold_at left.now) }
+    ensures { IfOk result (λ q. map Unfold q.items ≡ each_place unfold_at left.now) }
 {
+    let mut places = VecDeque::new(alloc);
     for (i, atom) in left.iter().enumerate() {
         if let FoAtom::Predicate { .. } = atom {
-            rules.push(FoRule::Unfold(i as u32))?;
+            places.push_back(i as u32)?;
         }
     }
-    Ok(())
+    Ok(places)
 }
 
-/// What is offered where no link is admitted: Right by atom, by case, and by the terms for the case's locals, subterms of
-/// the sequent by first occurrence with which each equation of the case has equal sides or stands on the left; then Unfold
-/// by atom. Those with a fault are left out. The sequent has at most 32 atoms on the left and 16 on the right.
-pub fn rules_after(
+/// What is offered where no link is admitted, but for rules that leave more than `most` premises: Right by atom, by case,
+/// and by the terms for the case's locals, subterms of the sequent by first occurrence with which each equation of the case
+/// has equal sides or stands on the left; then Unfold by atom. Those with a fault are left out. A rule is made when it is
+/// asked for, and no list of terms before. The sequent has at most 32 atoms on the left and 16 on the right.
+pub fn rules_after<'a>(
     alloc: Global,
-    theory: &FoTheory,
+    theory: &'a FoTheory,
     sequent: &FoSequent,
-) -> Result<Vec<FoRule>, OutOfMemory>
+    most: usize,
+) -> Result<RulesAfter<'a>, OutOfMemory>
     requires left_fits { length sequent.now.left ≤ MOST_LEFT }
     requires right_fits { length sequent.now.right ≤ MOST_RIGHT }
     requires few_cases { (p : ℕ) → length (cases_of theory.now.definitions p) ≤ 65536 }
-    ensures { IfOk result (λ v. v.items ≡ offers_after theory.now sequent.now) }
+    ensures { IfOk result (λ r. rules_left r
+        ≡ filter (goes_within most theory.now sequent.now) (offers_after theory.now sequent.now)) }
 {
-    let mut rules = rights(alloc, theory, sequent)?;
-    push_unfolds(&mut rules, sequent.left.as_slice())?;
-    those_that_go(alloc, theory, sequent, rules)
+    let values = subterms(alloc, sequent)?;
+    let mut cases = cases_left(alloc, theory, sequent, most)?;
+    let unfolds = unfolds(alloc, sequent.left.as_slice())?;
+    let current = cases.pop_front();
+    Ok(RulesAfter {
+        theory,
+        sequent: sequent.clone()?,
+        values,
+        most,
+        current,
+        cases,
+        unfolds,
+    })
 }

@@ -1,7 +1,7 @@
-// Terms that are chosen one after another, by depth-first search.
-ghost use Rattle.std.specs.Prelude.{◌≡◌, ◌<◌, ◌≤◌, ◌&&◌, length, IfOk, OnOk};
+// Whether a choice of terms is right, and whether some choice that begins with terms may be.
+ghost use Rattle.std.specs.Prelude.{◌≡◌, ◌&&◌, IfOk};
 ghost use Rattle.std.specs.List.{list_all};
-ghost use Rattle.fo_moves.specs.Choosing.{may_stand as atom_may_stand, may_link as values_may, may_suit as locals_may, may_do as wanted_may, does as wanted_does, if_done, done_after, IsWithin, first_choices, AddsFirst};
+ghost use Rattle.fo_moves.specs.Choosing.{may_stand as atom_may_stand, may_link as values_may, may_suit as locals_may, may_do as wanted_may, does as wanted_does, IsWithin};
 ghost use Rattle.fo_moves.specs.After.{suits as suits_left};
 
 use crate::linking::{is_fit, link_by, paired};
@@ -11,14 +11,6 @@ use cyc_memory::OutOfMemory;
 use fo_formula::{Term, Terms};
 use fo_parts::Change;
 use std::alloc::Global;
-
-/// What terms are chosen from, what for, and how many choices are wanted.
-#[derive(Clone, Copy)]
-pub struct Search<'a> {
-    pub wanted: Wanted<'a>,
-    pub values: &'a [Term],
-    pub most: u128,
-}
 
 fn copy_of(alloc: Global, terms: &[Term]) -> Result<Terms, OutOfMemory>
     ensures { IfOk result (λ ts. ts ≡ terms.now) }
@@ -80,7 +72,8 @@ fn may_suit(alloc: Global, goal: &CaseLocals<'_>, made: &[Term]) -> Result<bool,
     may_all_hold(alloc, &change, goal.left, goal.case)
 }
 
-fn may_do(alloc: Global, wanted: &Wanted<'_>, made: &[Term]) -> Result<bool, OutOfMemory>
+/// Whether some choice that begins with these terms may be right.
+pub fn may_do(alloc: Global, wanted: &Wanted<'_>, made: &[Term]) -> Result<bool, OutOfMemory>
     requires { IsWithin wanted.now }
     ensures { IfOk result (λ b. b ≡ wanted_may wanted.now made.now) }
 {
@@ -105,7 +98,8 @@ fn suits(alloc: Global, goal: &CaseLocals<'_>, terms: &[Term]) -> Result<bool, O
     all_hold(alloc, &change, goal.left, goal.case)
 }
 
-fn does(alloc: Global, wanted: &Wanted<'_>, terms: &[Term]) -> Result<bool, OutOfMemory>
+/// Whether the choice is right.
+pub fn does(alloc: Global, wanted: &Wanted<'_>, terms: &[Term]) -> Result<bool, OutOfMemory>
     requires { IsWithin wanted.now }
     ensures { IfOk result (λ b. b ≡ wanted_does wanted.now terms.now) }
 {
@@ -113,63 +107,4 @@ fn does(alloc: Global, wanted: &Wanted<'_>, terms: &[Term]) -> Result<bool, OutO
         Wanted::Values(goal) => links(alloc, goal, terms),
         Wanted::Locals(goal) => suits(alloc, goal, terms),
     }
-}
-
-/// Adds the choice, if it is right.
-fn add_choice(
-    alloc: Global,
-    search: &Search<'_>,
-    made: &[Term],
-    found: &mut Vec<Terms>,
-) -> Result<(), OutOfMemory>
-    requires within { IsWithin search.now.wanted }
-    requires few { length found.old.items < search.now.most }
-    ensures { OnOk result (AddsFirst search.now.most found.old.items found.new.items
-        (if_done search.now.wanted made.now)) }
-{
-    if does(alloc, &search.wanted, made)? {
-        found.push(copy_of(alloc, made)?)?;
-    }
-    Ok(())
-}
-
-fn choose(
-    alloc: Global,
-    search: &Search<'_>,
-    made: &mut Vec<Term>,
-    count: usize,
-    found: &mut Vec<Terms>,
-) -> Result<(), OutOfMemory>
-    requires within { IsWithin search.now.wanted }
-    requires few { length found.old.items ≤ search.now.most }
-    ensures found { OnOk result (AddsFirst search.now.most found.old.items found.new.items
-        (done_after search.now.wanted made.old.items count search.now.values.now)) }
-    ensures made { OnOk result (made.new.items ≡ made.old.items) }
-{
-    if found.len() as u128 >= search.most {
-        return Ok(());
-    }
-    if !may_do(alloc, &search.wanted, made)? {
-        return Ok(());
-    }
-    if count == 0 {
-        return add_choice(alloc, search, made, found);
-    }
-    for value in search.values {
-        made.push(value.clone()?)?;
-        choose(alloc, search, made, count - 1, found)?;
-        let _ = made.pop();
-    }
-    Ok(())
-}
-
-/// The first right choices of so many terms, in lexicographic order.
-pub fn choices(alloc: Global, search: &Search<'_>, count: usize) -> Result<Vec<Terms>, OutOfMemory>
-    requires { IsWithin search.now.wanted }
-    ensures { IfOk result (λ v. v.items ≡ first_choices search.now.most search.now.wanted count search.now.values.now) }
-{
-    let mut made = Vec::new(alloc);
-    let mut found = Vec::new(alloc);
-    choose(alloc, search, &mut made, count, &mut found)?;
-    Ok(found)
 }

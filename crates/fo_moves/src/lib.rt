@@ -8,13 +8,17 @@ mod choosing;
 pub mod laws;
 mod linking;
 mod links;
+mod rights;
 mod settling;
 mod subterms;
+mod told;
 mod trying;
 mod variables;
+mod walking;
 mod wanted;
 
 pub use after::rules_after;
 pub use before::rules_before;
 pub use cyc_memory::OutOfMemory;
 pub use links::links_to;
+pub use told::RulesAfter;

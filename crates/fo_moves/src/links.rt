@@ -4,10 +4,10 @@ ghost use Rattle.fo_formula.specs.Sizes.{sequent_size};
 ghost use Rattle.fo_moves.specs.Links.{links_to as first_links};
 ghost use Rattle.fo_moves.specs.Choosing.{link_with};
 
-use crate::choosing::{Search, choices};
 use crate::linking::link_by;
 use crate::subterms::subterms;
 use crate::variables::variables;
+use crate::walking::{Search, choices};
 use crate::wanted::{LinkValues, Wanted};
 use cyc_limits::{MOST_LEFT, MOST_RIGHT, MOST_TERMS};
 use cyc_memory::OutOfMemory;
@@ -60,8 +60,7 @@ pub fn links_to(
     let search = Search {
         wanted: Wanted::Values(goal),
         values: &values,
-        most: most as u128,
     };
-    let choices = choices(alloc, &search, sources.len())?;
+    let choices = choices(alloc, &search, sources.len(), most)?;
     links_by(alloc, &goal, &choices)
 }

@@ -2,7 +2,7 @@
 ghost use Rattle.std.specs.Prelude.{◌≡◌, ◌≤◌, IfOk, length, take};
 ghost use Rattle.std.specs.List.{filter};
 ghost use Rattle.fold_offers.specs.Places.{first_that};
-ghost use Rattle.fo_moves.specs.Trying.{goes as goes_at};
+ghost use Rattle.fo_moves.specs.Trying.{goes as goes_at, goes_within as goes_within_at};
 
 use cyc_limits::{MOST_LEFT, MOST_RIGHT};
 use cyc_memory::OutOfMemory;
@@ -29,6 +29,25 @@ fn goes(
     }
 }
 
+/// Whether the rule has no fault and leaves at most so many premises, which are made and dropped.
+pub fn goes_within(
+    alloc: Global,
+    theory: &FoTheory,
+    sequent: &FoSequent,
+    rule: &FoRule,
+    most: usize,
+) -> Result<bool, OutOfMemory>
+    requires left_fits { length sequent.now.left ≤ MOST_LEFT }
+    requires right_fits { length sequent.now.right ≤ MOST_RIGHT }
+    ensures { IfOk result (λ b. b ≡ goes_within_at most theory.now sequent.now rule.now) }
+{
+    match premises(alloc, theory, sequent, rule) {
+        Ok(premises) => Ok(premises.len() <= most),
+        Err(FoRuleError::Fault(_)) => Ok(false),
+        Err(FoRuleError::OutOfMemory) => Err(OutOfMemory),
+    }
+}
+
 /// The first rules without a fault, at most so many.
 fn first_that_go(
     alloc: Global,
@@ -50,21 +69,6 @@ fn first_that_go(
     }
     rules.truncate(kept);
     Ok(rules)
-}
-
-/// The rules without a fault.
-pub fn those_that_go(
-    alloc: Global,
-    theory: &FoTheory,
-    sequent: &FoSequent,
-    rules: Vec<FoRule>,
-) -> Result<Vec<FoRule>, OutOfMemory>
-    requires left_fits { length sequent.now.left ≤ MOST_LEFT }
-    requires right_fits { length sequent.now.right ≤ MOST_RIGHT }
-    ensures { IfOk result (λ v. v.items ≡ filter (goes_at theory.now sequent.now) rules.items) }
-{
-    let most = rules.len();
-    first_that_go(alloc, theory, sequent, rules, most)
 }
 
 /// The first rule without a fault.

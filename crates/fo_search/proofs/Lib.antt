@@ -1,2 +1,3 @@
 pub mod Small
 pub mod Proofs
+pub mod Few

@@ -6,6 +6,7 @@ mod found;
 mod logic;
 mod offering;
 mod prover;
+mod reasons;
 
 pub use cyc_memory::OutOfMemory;
 pub use prover::{FoProved, prove_fo};

@@ -1,5 +1,6 @@
 // First-order logic as a logic whose derivations are searched for.
 use crate::offering::offers_at;
+use crate::reasons::RuleReasons;
 use cyc_memory::OutOfMemory;
 use derivation_search::Offers;
 use derivations::{Effect, Logic, Strategy};
@@ -45,13 +46,25 @@ impl Logic for FirstOrderSearch<'_> {
     }
 }
 
-impl Strategy for FirstOrderSearch<'_> {
+impl<'a> Strategy for FirstOrderSearch<'a> {
+    type RuleCursor = RuleReasons<'a>;
+
     fn offers(
         &self,
         alloc: Global,
         made: &[MadeNode<FoSequent, FoReason>],
         goal: &OpenGoal<FoSequent>,
-    ) -> Result<Offers<FoReason>, OutOfMemory> {
-        offers_at(alloc, self.logic.theory, made, goal)
+    ) -> Result<Offers<FoReason, RuleReasons<'a>>, OutOfMemory> {
+        offers_at(alloc, self.logic.theory, made, goal, usize::MAX)
+    }
+
+    fn offers_within(
+        &self,
+        alloc: Global,
+        made: &[MadeNode<FoSequent, FoReason>],
+        goal: &OpenGoal<FoSequent>,
+        most: usize,
+    ) -> Result<Offers<FoReason, RuleReasons<'a>>, OutOfMemory> {
+        offers_at(alloc, self.logic.theory, made, goal, most)
     }
 }

@@ -4,9 +4,12 @@ ghost use Rattle.fo_formula.specs.declared.nodes.FoReason.TheVariants.{Rule, Lin
 ghost use Rattle.fo_table.specs.Small.{IsSmallSequent};
 ghost use Rattle.tableaux.specs.Fair.{AllOccur};
 ghost use Rattle.fold_offers.specs.Places.{each_place};
-ghost use Rattle.fo_calculus.specs.Calculus.{links_to_node as reasons_to_node, links_at, rules_at};
+ghost use Rattle.derivations.specs.Effects.{LeavesOut};
+ghost use Rattle.fo_calculus.specs.Calculus.{links_to_node as reasons_to_node, links_at, rules_at, calculus_of};
 ghost use Rattle.fo_calculus.specs.Occurring.{MayOccur};
+ghost use Rattle.fo_search.specs.Reasons.{reasons_left};
 
+use crate::reasons::RuleReasons;
 use cyc_limits::MOST_LINKS;
 use cyc_memory::OutOfMemory;
 use derivation_search::Offers;
@@ -74,28 +77,31 @@ fn reasons_by(alloc: Global, rules: Vec<FoRule>) -> Result<VecDeque<FoReason>, O
     Ok(reasons)
 }
 
-/// The links to be tried, and the rules for the case that none of them is admitted.
-pub fn offers_at(
+/// The links to be tried, and the rules for the case that none of them is admitted; of these, some may be left out that leave
+/// more than `most` premises.
+pub fn offers_at<'a>(
     alloc: Global,
-    theory: &FoTheory,
+    theory: &'a FoTheory,
     made: &[MadeNode<FoSequent, FoReason>],
     goal: &OpenGoal<FoSequent>,
-) -> Result<Offers<FoReason>, OutOfMemory>
+    most: usize,
+) -> Result<Offers<FoReason, RuleReasons<'a>>, OutOfMemory>
     requires occur { AllOccur (MayOccur theory.now) made.now goal.now }
     requires few { length made.now < 4294967296 }
     ensures links { IfOk result (λ o. o.links.items ≡ links_at theory.now made.now goal.now) }
-    ensures rules { IfOk result (λ o. o.rules.items ≡ rules_at theory.now made.now goal.now) }
+    ensures rules { IfOk result (λ o. LeavesOut (calculus_of theory.now) made.now goal.now most
+        (rules_at theory.now made.now goal.now) (reasons_left o.rules)) }
 {
     let sequent = &goal.premise.judgement;
     let before = rules_before(alloc, theory, sequent)?;
     if !before.is_empty() {
         return Ok(Offers {
             links: VecDeque::new(alloc),
-            rules: reasons_by(alloc, before)?,
+            rules: RuleReasons::Before(reasons_by(alloc, before)?),
         });
     }
     Ok(Offers {
         links: links_to_nodes(alloc, theory, made, goal)?,
-        rules: reasons_by(alloc, rules_after(alloc, theory, sequent)?)?,
+        rules: RuleReasons::After(rules_after(alloc, theory, sequent, most)?),
     })
 }

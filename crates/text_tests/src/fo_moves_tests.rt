@@ -1,9 +1,11 @@
 // What goals are offered.
-ghost use Rattle.std.specs.Prelude.{IfOk};
+ghost use Rattle.std.specs.Prelude.{ℕ, ◌≤◌, length, IfOk};
+ghost use Rattle.fo_formula.specs.Meaning.{cases_of};
 ghost use Rattle.fo_logic.specs.Files.{IsFoProof};
 
+use derivation_search::Cursor;
 use fo_file::read_fo;
-use fo_formula::{FoFile, FoLink, FoNode, FoReason, FoRule, FoSequent};
+use fo_formula::{FoFile, FoLink, FoNode, FoReason, FoRule, FoSequent, FoTheory};
 use fo_moves::{links_to, rules_after, rules_before};
 use fo_parts::size_of_sequent;
 use std::alloc::Global;
@@ -206,6 +208,23 @@ fn links_are_offered(alloc: Global, companion: &FoSequent, nodes: &[FoNode]) -> 
     Ok(go_by_links(nodes, &links))
 }
 
+/// The rules that come where no link is admitted, the first thousand of them.
+fn all_after(alloc: Global, theory: &FoTheory, goal: &FoSequent) -> Result<Vec<FoRule>, Fail>
+    requires left_fits { length goal.now.left ≤ 32 }
+    requires right_fits { length goal.now.right ≤ 16 }
+    requires few_cases { (p : ℕ) → length (cases_of theory.now.definitions p) ≤ 65536 }
+{
+    let mut left = rules_after(alloc, theory, goal, usize::MAX)?;
+    let mut rules = Vec::new(alloc);
+    for _ in 0..1_000 {
+        match left.next(alloc)? {
+            Some(rule) => rules.push(rule)?,
+            None => break,
+        }
+    }
+    Ok(rules)
+}
+
 fn is_offered(alloc: Global, line: Line, file: &FoFile) -> Result<bool, Fail>
     requires { IsFoProof file.now }
 {
@@ -219,7 +238,7 @@ fn is_offered(alloc: Global, line: Line, file: &FoFile) -> Result<bool, Fail>
     match line {
         Line::Before => Ok(go_by_rules(rest, &rules_before(alloc, &file.theory, goal)?)),
         Line::Links => links_are_offered(alloc, goal, rest),
-        Line::After => Ok(go_by_rules(rest, &rules_after(alloc, &file.theory, goal)?)),
+        Line::After => Ok(go_by_rules(rest, &all_after(alloc, &file.theory, goal)?)),
     }
 }
 

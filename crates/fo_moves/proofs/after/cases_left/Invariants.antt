@@ -1,0 +1,12 @@
+use Rattle.std.proofs.Common.{◌≡◌, ◌++◌, drop}
+use Rattle.std.specs.List.{filter}
+use Rattle.fold_offers.specs.Places.{each_from, each_place}
+use Rattle.fo_moves.specs.After.{rights_at}
+use Rattle.fo_moves.specs.Told.{rights_going}
+use Rattle.fo_moves.specs.Trying.{goes_within}
+use Rattle.fo_moves.proofs.after.cases_left.Given as goal
+
+abbrev pub invariant-loop-j : goal.invariant-loop-j
+invariant-loop-j l =
+    rights_going l.most l.theory l.sequent l.all.items ++ filter (goes_within l.most l.theory l.sequent) (each_from (rights_at l.theory l.sequent) l.j (drop l.j l.sequent.right))
+    ≡ filter (goes_within l.most l.theory l.sequent) (each_place (rights_at l.theory l.sequent) l.sequent.right)
