@@ -1,0 +1,9 @@
+pub mod Expressions
+pub mod Codes
+pub mod Language
+pub mod Inclusions
+pub mod Stages
+pub mod Places
+pub mod Derivatives
+pub mod LogicLaws
+pub mod Searches
