@@ -1,8 +1,13 @@
 // What is known of the values of an antecedent that was unfolded.
+ghost use Rattle.std.specs.Prelude.{◌≡◌, ◌↔◌, ◌⊎◌, ◌++◌, [], ◌∷◌, IsSome, true, false};
+ghost use Rattle.heap_formula.specs.declared.terms.Term.TheVariants.{Nil};
+ghost use Rattle.refute_unfoldings.specs.Consistency.{Known, IsConsistent, AreReplaced, class_in, AreApart, HasCell, JoinsClasses, MustDiffer};
+
 use crate::uses::{OpenAtom, PredicateUse, Replaced};
 use cyc_memory::OutOfMemory;
 use heap_formula::{Args, Heap, Pure, Spatial, Term, bound_of_heap};
 use std::alloc::{AllocError, Global};
+use std::marker::Model;
 
 /// The most cells of an unfolding.
 pub const MOST_CELLS: usize = 64;
@@ -17,8 +22,8 @@ pub struct SymbolicCell {
     pub fields: Args,
 }
 
-/// Universal variables with what is known of their values: which are equal, which differ, and which cells there are. For each
-/// variable `classes` has nil or the least variable that equals it. `atoms` has for each predicate atom that came in by what it was
+/// Universal variables with what is known of their values: which are equal, which differ, and which cells there are. None of it
+/// contradicts the rest. For each variable `classes` has nil or the least variable that equals it. `atoms` has for each predicate atom that came in by what it was
 /// replaced; the first `roots` of them are those of the formula.
 #[derive(Drop)]
 pub struct Unfolding {
@@ -27,6 +32,14 @@ pub struct Unfolding {
     apart: Vec<(Term, Term)>,
     atoms: Vec<Option<Replaced>>,
     roots: usize,
+}
+
+impl Model for Unfolding {
+    ghost Value = { Known };
+
+    ghost view = { λ u. record { classes = u.classes.items; cells = u.cells.items; apart = u.apart.items } };
+
+    ghost invariant = { λ u. IsConsistent (record { classes = u.classes.items; cells = u.cells.items; apart = u.apart.items }) };
 }
 
 impl Clone for Unfolding {
@@ -51,6 +64,17 @@ fn comes_first(t: Term, u: Term) -> bool {
         (Term::Univ(n), Term::Univ(m)) => n < m,
         (Term::Nil, _) => true,
         _ => false,
+    }
+}
+
+/// Puts one class in the place of another.
+fn replace_class(classes: &mut Vec<Term>, gone: Term, kept: Term)
+    ensures { AreReplaced gone kept classes.old.items classes.new.items }
+{
+    for place in 0..classes.len() {
+        if classes[place] == gone {
+            classes[place] = kept;
+        }
     }
 }
 
@@ -94,7 +118,9 @@ impl Unfolding {
     }
 
     /// Nil, or the least variable that equals a variable.
-    pub fn class(&self, term: Term) -> Term {
+    pub fn class(&self, term: Term) -> Term
+        ensures { result ≡ class_in self.now.classes term }
+    {
         match term {
             Term::Univ(n) => match self.classes.get(n as usize) {
                 Some(class) => *class,
@@ -118,7 +144,9 @@ impl Unfolding {
     }
 
     /// The place of the cell at an address.
-    pub fn cell_at(&self, address: Term) -> Option<usize> {
+    pub fn cell_at(&self, address: Term) -> Option<usize>
+        ensures { IsSome result ↔ HasCell self.now (class_in self.now.classes address) }
+    {
         let class = self.class(address);
         for (place, cell) in self.cells.iter().enumerate() {
             if self.class(cell.address) == class {
@@ -128,14 +156,25 @@ impl Unfolding {
         None
     }
 
-    fn is_nil_or_cell(&self, term: Term) -> bool {
+    fn is_nil_or_cell(&self, term: Term) -> bool
+        ensures { (result ≡ true) ↔ ((class_in self.now.classes term ≡ Nil)
+            ⊎ HasCell self.now (class_in self.now.classes term)) }
+    {
         self.class(term) == Term::Nil || self.cell_at(term).is_some()
     }
 
-    fn are_apart(&self, t: Term, u: Term) -> bool {
-        for (left, right) in &self.apart {
-            let (left, right) = (self.class(*left), self.class(*right));
-            if (left == t && right == u) || (left == u && right == t) {
+    fn joins(&self, pair: (Term, Term), t: Term, u: Term) -> bool
+        ensures { (result ≡ true) ↔ JoinsClasses self.now.classes t u pair }
+    {
+        let (left, right) = (self.class(pair.0), self.class(pair.1));
+        (left == t && right == u) || (left == u && right == t)
+    }
+
+    fn are_apart(&self, t: Term, u: Term) -> bool
+        ensures { (result ≡ true) ↔ AreApart self.now t u }
+    {
+        for pair in &self.apart {
+            if self.joins(*pair, t, u) {
                 return true;
             }
         }
@@ -143,23 +182,26 @@ impl Unfolding {
     }
 
     /// Whether two terms differ in each model.
-    pub fn differ(&self, t: Term, u: Term) -> bool {
-        let (t, u) = (self.class(t), self.class(u));
-        t != u && (self.are_apart(t, u) || (self.is_nil_or_cell(t) && self.is_nil_or_cell(u)))
+    pub fn differ(&self, t: Term, u: Term) -> bool
+        ensures { (result ≡ true) ↔ MustDiffer self.now t u }
+    {
+        let (left, right) = (self.class(t), self.class(u));
+        if left == right {
+            return false;
+        }
+        self.are_apart(left, right) || (self.is_nil_or_cell(t) && self.is_nil_or_cell(u))
     }
 
     /// Makes two terms equal; whether that may be.
-    pub fn equate(&mut self, t: Term, u: Term) -> bool {
-        let (t, u) = (self.class(t), self.class(u));
+    pub fn equate(&mut self, t: Term, u: Term) -> bool
+        ensures { (result ≡ false) ↔ MustDiffer self.old t u }
+    {
         if self.differ(t, u) {
             return false;
         }
+        let (t, u) = (self.class(t), self.class(u));
         let (kept, gone) = if comes_first(t, u) { (t, u) } else { (u, t) };
-        for class in self.classes.iter_mut() {
-            if *class == gone {
-                *class = kept;
-            }
-        }
+        replace_class(&mut self.classes, gone, kept);
         true
     }
 
