@@ -128,6 +128,26 @@ fn bare_unfold(alloc: Global, heap: &Heap, place: u32, aim: Aim) -> Result<Move,
     }))
 }
 
+/// Unfold after all pure atoms but this one were weakened, so that a companion asks for it alone.
+fn unfold_keeping(
+    alloc: Global,
+    heap: &Heap,
+    kept: u32,
+    place: u32,
+    aim: Aim,
+) -> Result<Move, OutOfMemory> {
+    let mut rules = vec![in alloc; Rule::Weaken(0); kept as usize]?;
+    for _ in kept as usize + 1..heap.pure().len() {
+        rules.push(Rule::Weaken(1))?;
+    }
+    rules.push(Rule::Unfold(place))?;
+    Ok(Move::Step(Step {
+        rules,
+        side: None,
+        aim,
+    }))
+}
+
 /// Whether a move is none that looks for a link among too many maps.
 fn is_light(draft: &Draft, bud: &Heap, offered: &Move) -> bool {
     match offered {
@@ -192,6 +212,41 @@ impl Refutations<'_> {
                 }
             }
         }
+        Ok(stage_of(moves))
+    }
+
+    /// One atom is unfolded, and of the pure atoms that are about it one is kept.
+    fn push_narrow_unfolds(
+        &self,
+        moves: &mut Vec<Move>,
+        heap: &Heap,
+        unfolding: &Unfolding,
+        fuel: u32,
+    ) -> Result<(), OutOfMemory> {
+        let Some(atom) = heap.spatial_at(unfolding.place) else {
+            return Ok(());
+        };
+        for (k, fact) in heap.pure().iter().enumerate() {
+            let (t, u) = sides(*fact);
+            if mentions(atom, t) || mentions(atom, u) {
+                let aim = Aim::Entail(fuel);
+                let kept = number_of(k);
+                moves.push(unfold_keeping(self.setting.alloc, heap, kept, unfolding.place, aim)?)?;
+            }
+        }
+        Ok(())
+    }
+
+    fn narrow_unfolds(&self, heap: &Heap, fuel: u32) -> Result<Stage, OutOfMemory> {
+        let alloc = self.setting.alloc;
+        let mut moves = Vec::new(alloc);
+        if fuel > 0 && heap.pure().len() > 1 {
+            for unfolding in &ordered_unfoldings(alloc, self.setting.defs, heap)? {
+                if unfolding.is_recursive {
+                    self.push_narrow_unfolds(&mut moves, heap, unfolding, fuel - 1)?;
+                }
+            }
+        }
         Ok(last_stage(moves))
     }
 
@@ -226,11 +281,13 @@ impl Refutations<'_> {
         match stage {
             0 => self.closing(draft, node, heap, fuel),
             1 => self.first_look(heap, fuel),
-            2 if fuel > 0 => self.moves.stage(draft, node, Aim::Entail(fuel), LEMMAS),
-            2 => Ok(stage_of(Vec::new(self.setting.alloc))),
+            2 => self
+                .moves
+                .stage(draft, node, Aim::Entail(fuel.max(1)), LEMMAS),
             3 => self.forced(heap, fuel, usize::MAX),
             4 => self.singles(heap, fuel),
-            _ => self.unfolds(heap, fuel),
+            5 => self.unfolds(heap, fuel),
+            _ => self.narrow_unfolds(heap, fuel),
         }
     }
 }
